@@ -1,0 +1,9 @@
+-- The laws of `algebra`, for any ring and any group that it scales.
+pub mod Choice
+pub mod Sum
+pub mod Matrix
+pub mod Correlation
+pub mod Coding
+pub mod Loop
+pub mod Tests
+pub mod Same

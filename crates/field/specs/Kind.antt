@@ -1,0 +1,37 @@
+-- The two fields as two values of one parameter: the algebra of the field, how a leaf becomes an element, and how the last
+-- eight bytes of a term's block become its coefficient.
+use mathlib.Core.List.{List, [], _∷_}
+use mathlib.Core.Path.{_≡_}
+use Prim.Native.Nat.{ℕ, zero, suc}
+use lib.ListN.{getD}
+use Rattle.algebra.specs.Field.{Field, FieldLaws, Scalar, Value}
+use Rattle.algebra.specs.Group.{Element}
+use Rattle.field.specs.Binary.{binary, blockLeaf}
+use Rattle.field.specs.Prime.{primes, primeLeaf, primeReduce}
+
+pub record Kind : Type 1 where
+  pub field : Field
+  pub leaf : List (List ℕ) → Value field
+  pub coefficient : ℕ → Scalar field
+
+-- field 1: the coefficient is 1
+abbrev pub binaryKind : Kind
+binaryKind = record { field = binary; leaf = blockLeaf; coefficient = λ w. 1 }
+
+-- field 2: the coefficient is the word modulo p
+abbrev pub primeKind : Kind
+primeKind = record { field = primes; leaf = primeLeaf; coefficient = primeReduce }
+
+-- the kind of a field byte: 1 is the binary field, 2 the prime field
+abbrev pub kindOf : ℕ → Kind
+kindOf zero = primeKind
+kindOf (suc zero) = binaryKind
+kindOf (suc (suc n)) = primeKind
+
+-- what both kinds satisfy: the field's laws, leaves and coefficients are elements, and a noise value is one word
+pub record KindLaws (K : Kind) : Type 0 where
+  pub field : FieldLaws (K .field)
+  pub leaf-element : (s : List (List ℕ)) → Element (K .field .scaled .group) (K .leaf s)
+  pub coefficient-element : (word : ℕ) → Element (K .field .ring .group) (K .coefficient word)
+  pub scalar-width : K .field .scalars .width ≡ 1
+  pub scalar-read : (l : List ℕ) (k : ℕ) → K .field .scalars .read l k ≡ K .field .scalars .read (getD l k 0 ∷ []) 0
