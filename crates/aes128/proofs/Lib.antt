@@ -1,0 +1,5 @@
+mod Words
+mod Schedule
+mod Rounds
+pub mod Sizes
+mod Examples

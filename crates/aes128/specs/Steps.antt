@@ -1,0 +1,19 @@
+-- What the inner functions compute; no contract of a public function cites this file.
+use mathlib.Core.List.{List, [], _∷_}
+use Prim.Native.Nat.{ℕ, _+_, _%_}
+use lib.ListN.{getD}
+use Rattle.aes128.specs.State.{four, column, xorWord}
+use Rattle.aes128.specs.Cipher.{rotWord, subWord}
+
+-- a word's bytes moved down one row, the last to row 0
+abbrev pub turned : List ℕ → List ℕ
+turned a = four (λ r. getD a ((r + 3) % 4) 0)
+
+-- the round key after k, whose round constant has the first byte x
+unfoldable pub nextKey : ℕ → List (List ℕ) → List (List ℕ)
+nextKey x k =
+    let w0 = xorWord (column k 0) (xorWord (subWord (rotWord (column k 3))) (x ∷ 0 ∷ 0 ∷ 0 ∷ [])) in
+    let w1 = xorWord (column k 1) w0 in
+    let w2 = xorWord (column k 2) w1 in
+    let w3 = xorWord (column k 3) w2 in
+    w0 ∷ w1 ∷ w2 ∷ w3 ∷ []

@@ -1,0 +1,27 @@
+-- `fips197::plain::sum` is safe and ends. The loop's invariant: i is at most 16. The measure is what is left. Assumes nothing.
+use Prim.Native.Nat.{_≤_, _-_}
+use borrow.Author.Needs.{needs}
+use Rattle.fips197.proofs.plain.sum.Statement.{statement}
+use Rattle.fips197.proofs.plain.sum.Tie as tie
+
+abbrev Inv-loop : tie.InvT-loop
+Inv-loop a b r₀ i₀ r i = i ≤ 16
+
+abbrev μ-loop : tie.MeasureT-loop
+μ-loop a b r₀ i₀ r i = 16 - i
+
+pub sum-spec : {M : Type 1} → statement M
+sum-spec =
+    tie.close
+    (tie.spec
+    Inv-loop
+    μ-loop
+    (λ c. search needs)  -- loop-holds
+    (λ c. search needs)  -- array-read-r
+    (λ c. search needs)  -- array-read-r-2
+    (λ c. search needs)  -- array-write-r
+    (λ c. search needs)  -- add-i
+    (λ c. search needs)  -- loop-less
+    (λ c. search needs)  -- loop-again
+    (λ c. search needs)  -- returns
+    )

@@ -1,0 +1,33 @@
+-- `fips197::schedule_wrong` is safe and ends. The loop's invariant: i is at most 11. The measure is what is left. Assumes nothing.
+use Prim.Native.Nat.{_≤_, _-_}
+use borrow.Author.Needs.{needs}
+use Rattle.fips197.proofs.schedule_wrong.Statement.{statement}
+use Rattle.fips197.proofs.schedule_wrong.Tie as tie
+
+abbrev Inv-loop : tie.InvT-loop
+Inv-loop sbox plain want keys w d₀ i₀ d i = i ≤ 11
+
+abbrev μ-loop : tie.MeasureT-loop
+μ-loop sbox plain want keys w d₀ i₀ d i = 11 - i
+
+pub schedule-wrong-spec : {M : Type 1} → statement M
+schedule-wrong-spec =
+    tie.close
+    (tie.spec
+    Inv-loop
+    μ-loop
+    (λ c κs. search needs)  -- expand-key-requires
+    (λ c κs. search needs)  -- bytes-requires
+    (λ c κs. search needs)  -- expand-requires
+    (λ c. search needs)  -- loop-holds
+    (λ c. search needs)  -- mul-key-wrong
+    (λ c. search needs)  -- array-copy-out-key-wrong
+    (λ c κs. search needs)  -- round-key-requires
+    (λ c. search needs)  -- mul-key-wrong-2
+    (λ c. search needs)  -- array-copy-out-key-wrong-2
+    (λ c κs. search needs)  -- key-wrong-requires
+    (λ c. search needs)  -- add-i
+    (λ c. search needs)  -- loop-less
+    (λ c. search needs)  -- loop-again
+    (λ c. search needs)  -- returns
+    )

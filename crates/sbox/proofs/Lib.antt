@@ -1,0 +1,4 @@
+mod Every
+mod Rules
+pub mod Inverse
+pub mod Bounds
