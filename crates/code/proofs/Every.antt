@@ -1,0 +1,62 @@
+-- Tests at every index below n: what a loop that tests one index a turn knows, and what the test says of an index.
+use mathlib.Core.Bool.{Bool, true, false, _&&_}
+use mathlib.Core.Logic.{⊎-elim}
+use mathlib.Core.Path.{_≡_, refl, sym, ap, _∙_}
+use Prim.Native.Nat.{ℕ, zero, suc, _+_, _≤_, _<_}
+use native.Mathlib.Nat.{le-antisymm, eq-or-lt-of-le, le-of-suc-le-suc}
+use native.Mathlib.Numerals.{add-one}
+use native.Mathlib.Omega.{arith}
+use Rattle.code.specs.Used.{every}
+
+-- both tests hold, or one fails
+and-true : (a b : Bool) → a ≡ true → b ≡ true → (a && b) ≡ true
+and-true a b p q = rw (p, q)
+
+and-first : (a b : Bool) → (a && b) ≡ true → a ≡ true
+and-first true b e = refl
+and-first false b e = e
+
+and-second : (a b : Bool) → (a && b) ≡ true → b ≡ true
+and-second true b e = e
+and-second false true e = refl
+and-second false false e = e
+
+and-false : (a b : Bool) → b ≡ false → (a && b) ≡ false
+and-false true b e = e
+and-false false b e = refl
+
+module _ (test : ℕ → Bool) where
+  pub every-none : every 0 test ≡ true
+  unfolding every
+  every-none = refl
+
+  pub every-more : (i : ℕ) → every i test ≡ true → test i ≡ true → every (i + 1) test ≡ true
+  unfolding every
+  every-more i e t = rw add-one (and-true (every i test) (test i) e t)
+
+  pub every-done : (i n : ℕ) → every i test ≡ true → i ≤ n → n ≤ i → true ≡ every n test
+  every-done i n e h k = sym (ap (λ (m : ℕ). every m test) (le-antisymm {n = n} {m = i} k h) ∙ e)
+
+  -- a test that fails below n
+  pub every-stop : (i n : ℕ) → i < n → test i ≡ false → false ≡ every n test
+  unfolding every
+  every-stop i zero h t = absurd (omega arith)
+  every-stop i (suc n) h t =
+      let earlier : i < n → false ≡ every n test = λ k. every-stop i n k t in
+      ⊎-elim
+      (λ (e : i ≡ n). sym (and-false (every n test) (test n) (ap test (sym e) ∙ t)))
+      (λ k. rw (← earlier k))
+      (eq-or-lt-of-le (le-of-suc-le-suc h))
+
+  -- what holds of every index holds of each
+  pub every-at : (i n : ℕ) → every n test ≡ true → i < n → test i ≡ true
+  unfolding every
+  every-at i zero e h = absurd (omega arith)
+  every-at i (suc n) e h =
+      let earlier : i < n → test i ≡ true = every-at i n (and-first (every n test) (test n) e) in
+      ⊎-elim (λ (q : i ≡ n). ap test q ∙ and-second (every n test) (test n) e) earlier (eq-or-lt-of-le (le-of-suc-le-suc h))
+
+  pub every-all : (n : ℕ) → ((i : ℕ) → i < n → test i ≡ true) → every n test ≡ true
+  unfolding every
+  every-all zero h = refl
+  every-all (suc n) h = and-true (every n test) (test n) (every-all n (λ i k. h i (omega arith))) (h n (omega arith))

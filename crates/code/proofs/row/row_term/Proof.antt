@@ -1,0 +1,17 @@
+-- `code::row::row_term` meets its contract: each callee's result put into the next. Assumes nothing.
+use borrow.Author.Needs.{needs}
+use native.Mathlib.Nat.{mod-lt}
+use Rattle.code.proofs.Terms.{place-is, word-is}
+use Rattle.code.proofs.row.row_term.Statement.{statement}
+use Rattle.code.proofs.row.row_term.Tie as tie
+
+pub row-term-spec : {M : Type 1} → statement M
+row-term-spec =
+    tie.close
+    (tie.spec
+    (λ c κs. search needs)  -- columns-requires
+    (λ c κs. search needs)  -- encrypt-requires
+    (λ c κs. search needs)  -- of-columns-requires
+    (λ c. search needs)  -- rem-t10
+    (λ c. (search place-is, search mod-lt, search word-is))  -- returns
+    )

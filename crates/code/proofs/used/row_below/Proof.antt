@@ -1,0 +1,32 @@
+-- `code::used::row_below` meets its contract. The loop's invariant: the words at the places of the terms before `i` are
+-- below the bound; the measure is what is left of the terms. Assumes nothing.
+use mathlib.Core.Path.{_≡_}
+use mathlib.Core.Bool.{true}
+use Prim.Native.Nat.{_≤_, _-_}
+use borrow.Author.Needs.{needs}
+use Rattle.code.proofs.Tested.{termsBelow, terms-below-none, terms-below-more, terms-below-stop, terms-below-done}
+use Rattle.code.proofs.used.row_below.Statement.{statement}
+use Rattle.code.proofs.used.row_below.Tie as tie
+
+abbrev Inv-loop : tie.InvT-loop
+Inv-loop sbox mix keys size terms x words bound i₀ i = (i ≤ terms) × (termsBelow bound words keys size terms x i ≡ true)
+
+abbrev μ-loop : tie.MeasureT-loop
+μ-loop sbox mix keys size terms x words bound i₀ i = terms - i
+
+pub row-below-spec : {M : Type 1} → statement M
+row-below-spec =
+    tie.close
+    (tie.spec
+    Inv-loop
+    μ-loop
+    (λ c. search (needs, terms-below-none))  -- loop-holds
+    (λ c κs. search needs)  -- row-term-requires
+    (λ c. search needs)  -- mul-if1
+    (λ c. search needs)  -- shared-slice-read-if1
+    (λ c. search terms-below-stop)  -- returns
+    (λ c. search needs)  -- add-i
+    (λ c. search needs)  -- loop-less
+    (λ c. search (needs, terms-below-more))  -- loop-again
+    (λ c. search terms-below-done)  -- returns-2
+    )

@@ -1,0 +1,33 @@
+-- `code::used::rows_below` meets its contract. The loop's invariant: the words that the rows before `k` use are below
+-- the bound; the measure is what is left of the rows. Assumes nothing.
+use mathlib.Core.Path.{_≡_}
+use mathlib.Core.Bool.{true}
+use Prim.Native.Nat.{_≤_, _-_}
+use borrow.Author.Needs.{needs}
+use borrow.Author.Tests.{not-true, not-false}
+use Rattle.code.specs.Used.{usedBelow}
+use Rattle.code.proofs.Tested.{rows-below-none, rows-below-more, rows-below-stop, rows-below-done}
+use Rattle.code.proofs.used.rows_below.Statement.{statement}
+use Rattle.code.proofs.used.rows_below.Tie as tie
+
+abbrev Inv-loop : tie.InvT-loop
+Inv-loop sbox mix keys size terms first count words bound k₀ k = (k ≤ count) × (usedBelow bound words keys size terms first k ≡ true)
+
+abbrev μ-loop : tie.MeasureT-loop
+μ-loop sbox mix keys size terms first count words bound k₀ k = count - k
+
+pub rows-below-spec : {M : Type 1} → statement M
+rows-below-spec =
+    tie.close
+    (tie.spec
+    Inv-loop
+    μ-loop
+    (λ c. search (needs, rows-below-none))  -- loop-holds
+    (λ c. search needs)  -- add-row-below
+    (λ c κs. search needs)  -- row-below-requires
+    (λ c. search (rows-below-stop, not-true))  -- returns
+    (λ c. search needs)  -- add-k
+    (λ c. search needs)  -- loop-less
+    (λ c. search (needs, rows-below-more, not-false))  -- loop-again
+    (λ c. search rows-below-done)  -- returns-2
+    )

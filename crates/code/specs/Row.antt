@@ -1,0 +1,39 @@
+-- Row x of the code (document 01, 'Offline and online'): its terms i = 0 to ℓ − 1, each with a place and a coefficient.
+use mathlib.Core.List.{List}
+use Prim.Native.Nat.{ℕ, _%_}
+use Rattle.algebra.specs.Group.{Ring}
+use Rattle.algebra.specs.Row.{Row}
+use Rattle.aes128.specs.Cipher.{cipher}
+use Rattle.field.specs.Binary.{bitRing}
+use Rattle.field.specs.Bytes.{columnsOf, lowOf, highOf}
+use Rattle.field.specs.Kind.{binaryKind, primeKind}
+use Rattle.field.specs.Prime.{primeRing}
+
+-- encrypt, under the code key's round keys, the block of x (eight bytes LE) and i (eight bytes LE)
+unfoldable pub termBlock : List (List (List ℕ)) → ℕ → ℕ → List (List ℕ)
+termBlock keys x i = cipher keys (columnsOf x i)
+
+-- the place of term i of ℓ: the word modulo N
+unfoldable pub placeOf : ℕ → ℕ → ℕ → ℕ → ℕ
+placeOf N ℓ i word = word % N
+
+-- the place of term i of row x, from the first eight bytes LE
+unfoldable pub termPlace : List (List (List ℕ)) → ℕ → ℕ → ℕ → ℕ → ℕ
+termPlace keys N ℓ x i = placeOf N ℓ i (lowOf (termBlock keys x i))
+
+-- row x: places may repeat, so a row reads at most ℓ places; the coefficient is of the last eight bytes LE
+unfoldable pub rowOf : (R : Ring) → (ℕ → R .group .Of) → List (List (List ℕ)) → ℕ → ℕ → ℕ → Row R
+rowOf R coefficientOf keys N ℓ x =
+    record {
+      terms = ℓ;
+      place = λ i. termPlace keys N ℓ x i;
+      coefficient = λ i. coefficientOf (highOf (termBlock keys x i));
+    }
+
+-- in field 1 the coefficient is 1
+abbrev pub binaryRow : List (List (List ℕ)) → ℕ → ℕ → ℕ → Row bitRing
+binaryRow keys N ℓ x = rowOf bitRing (binaryKind .coefficient) keys N ℓ x
+
+-- in field 2 it is the word modulo p
+abbrev pub primeRow : List (List (List ℕ)) → ℕ → ℕ → ℕ → Row primeRing
+primeRow keys N ℓ x = rowOf primeRing (primeKind .coefficient) keys N ℓ x

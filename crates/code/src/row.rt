@@ -1,0 +1,193 @@
+// A row's terms and a row's output: the sum of coefficient × accumulated value; repeated places count each time.
+ghost use mathlib.Core.Path.{_≡_};
+ghost use Prim.Native.Nat.{ℕ, _+_, _*_, _<_};
+ghost use lib.ListN.{length};
+ghost use Rattle.algebra.specs.Coding.{at};
+ghost use Rattle.algebra.specs.Group.{itself};
+ghost use Rattle.algebra.specs.Row.{output};
+ghost use Rattle.sbox.specs.Table.{Tables};
+ghost use Rattle.field.specs.Binary.{binary, bitRing, blocks};
+ghost use Rattle.field.specs.Bytes.{highOf};
+ghost use Rattle.field.specs.Prime.{primes, primeRing, prime, primeAdd, primeMul};
+ghost use Rattle.code.specs.Row.{termBlock, termPlace, binaryRow, primeRow};
+use aes128::encrypt;
+use field::Block;
+use field::Prime;
+use field::add_bits;
+
+// A row's outputs at the noise end in field 1.
+pub struct BinaryPair {
+    pub u: u64,
+    pub v: Block,
+}
+
+// A row's outputs at the noise end in field 2.
+pub struct PrimePair {
+    pub u: Prime,
+    pub v: Prime,
+}
+
+// A term of a row: its place, and the last eight bytes of its block as a word.
+pub struct Term {
+    pub place: usize,
+    pub word: u64,
+}
+
+// Term i of row x among `size` places, in a row of any length.
+pub fn row_term(
+    sbox: &[u8; 256],
+    mix: &[u32; 256],
+    keys: &[[[u8; 4]; 4]; 11],
+    size: usize,
+    x: usize,
+    i: usize,
+) -> Term
+    requires { ⌜ Tables (now sbox) (now mix) ⌝ }
+    requires { ⌜ 0 < size ⌝ }
+    ensures { λ r. ⌜ ((ℓ : ℕ) → r .place ≡ termPlace (now (keys .entry)) size ℓ x i)
+        × (r .place < size) × (r .word ≡ highOf (termBlock (now (keys .entry)) x i)) ⌝ }
+{
+    let input = Block {
+        low: x as u64,
+        high: i as u64,
+    };
+    let block = Block::of_columns(encrypt(sbox, mix, keys, input.columns()));
+    Term {
+        place: (block.low % (size as u64)) as usize,
+        word: block.high,
+    }
+}
+
+// The element of field 1 at place j.
+fn block_at(v: &[u64], j: usize) -> Block
+    requires { ⌜ j * 2 + 1 < length (now v) ⌝ }
+    ensures { λ r. ⌜ r ≡ at (binary .elements) (now (v .entry)) j ⌝ }
+{
+    let low = j * 2;
+    Block {
+        low: v[low],
+        high: v[low + 1],
+    }
+}
+
+// The total of field 2 with coefficient × the element of a word added.
+fn add_term(total: Prime, coefficient: Prime, word: u64) -> Prime
+    ensures { λ r. ⌜ r ≡ primeAdd total (primeMul coefficient (prime word)) ⌝ }
+{
+    total.add(coefficient.mul(Prime { word: word }))
+}
+
+// Row x of u and v in field 1.
+pub fn noise_row_binary(
+    sbox: &[u8; 256],
+    mix: &[u32; 256],
+    keys: &[[[u8; 4]; 4]; 11],
+    size: usize,
+    terms: usize,
+    x: usize,
+    noise: &[u64],
+    v: &[u64],
+) -> BinaryPair
+    requires { ⌜ Tables (now sbox) (now mix) ⌝ }
+    requires { ⌜ (0 < size) × (length (now noise) ≡ size) × (length (now v) ≡ size * 2) ⌝ }
+    ensures { λ r. ⌜ (r .u ≡ output (itself bitRing) (binaryRow (now (keys .entry)) size terms x) (at (binary .scalars) (now (noise .entry))))
+        × (r .v ≡ output blocks (binaryRow (now (keys .entry)) size terms x) (at (binary .elements) (now (v .entry)))) ⌝ }
+{
+    let mut u: u64 = 0;
+    let mut total = Block::zero();
+    let mut i: usize = 0;
+    while i < terms {
+        let t = row_term(sbox, mix, keys, size, x, i);
+        let j = t.place;
+        u = add_bits(u, noise[j]);
+        let next = total.add(block_at(v, j));
+        total = next;
+        i += 1;
+    }
+    BinaryPair { u: u, v: total }
+}
+
+// Row x of u and v in field 2.
+pub fn noise_row_prime(
+    sbox: &[u8; 256],
+    mix: &[u32; 256],
+    keys: &[[[u8; 4]; 4]; 11],
+    size: usize,
+    terms: usize,
+    x: usize,
+    noise: &[u64],
+    v: &[u64],
+) -> PrimePair
+    requires { ⌜ Tables (now sbox) (now mix) ⌝ }
+    requires { ⌜ (0 < size) × (length (now noise) ≡ size) × (length (now v) ≡ size) ⌝ }
+    ensures { λ r. ⌜ (r .u ≡ output (itself primeRing) (primeRow (now (keys .entry)) size terms x) (at (primes .scalars) (now (noise .entry))))
+        × (r .v ≡ output (itself primeRing) (primeRow (now (keys .entry)) size terms x) (at (primes .elements) (now (v .entry)))) ⌝ }
+{
+    let mut u = Prime::zero();
+    let mut total = Prime::zero();
+    let mut i: usize = 0;
+    while i < terms {
+        let t = row_term(sbox, mix, keys, size, x, i);
+        let j = t.place;
+        let coefficient = Prime::reduce(t.word);
+        let next_u = add_term(u, coefficient, noise[j]);
+        u = next_u;
+        let next = add_term(total, coefficient, v[j]);
+        total = next;
+        i += 1;
+    }
+    PrimePair { u: u, v: total }
+}
+
+// Row x of w in field 1.
+pub fn scalar_row_binary(
+    sbox: &[u8; 256],
+    mix: &[u32; 256],
+    keys: &[[[u8; 4]; 4]; 11],
+    size: usize,
+    terms: usize,
+    x: usize,
+    w: &[u64],
+) -> Block
+    requires { ⌜ Tables (now sbox) (now mix) ⌝ }
+    requires { ⌜ (0 < size) × (length (now w) ≡ size * 2) ⌝ }
+    ensures { λ r. ⌜ r ≡ output blocks (binaryRow (now (keys .entry)) size terms x) (at (binary .elements) (now (w .entry))) ⌝ }
+{
+    let mut total = Block::zero();
+    let mut i: usize = 0;
+    while i < terms {
+        let t = row_term(sbox, mix, keys, size, x, i);
+        let j = t.place;
+        let next = total.add(block_at(w, j));
+        total = next;
+        i += 1;
+    }
+    total
+}
+
+// Row x of w in field 2.
+pub fn scalar_row_prime(
+    sbox: &[u8; 256],
+    mix: &[u32; 256],
+    keys: &[[[u8; 4]; 4]; 11],
+    size: usize,
+    terms: usize,
+    x: usize,
+    w: &[u64],
+) -> Prime
+    requires { ⌜ Tables (now sbox) (now mix) ⌝ }
+    requires { ⌜ (0 < size) × (length (now w) ≡ size) ⌝ }
+    ensures { λ r. ⌜ r ≡ output (itself primeRing) (primeRow (now (keys .entry)) size terms x) (at (primes .elements) (now (w .entry))) ⌝ }
+{
+    let mut total = Prime::zero();
+    let mut i: usize = 0;
+    while i < terms {
+        let t = row_term(sbox, mix, keys, size, x, i);
+        let j = t.place;
+        let coefficient = Prime::reduce(t.word);
+        let next = add_term(total, coefficient, w[j]);
+        total = next;
+        i += 1;
+    }
+    total
+}

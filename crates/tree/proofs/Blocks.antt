@@ -1,0 +1,129 @@
+-- Blocks in bytes: what is written and what is read back.
+use mathlib.Core.Path.{_≡_, refl, ap, sym, _∙_}
+use mathlib.Core.List.{List, [], _∷_, _++_, append-assoc}
+use Prim.Native.Nat.{ℕ, zero, suc, _+_, _*_, _≤_, _<_}
+use native.Mathlib.Nat.{add-assoc, add-zero}
+use native.Mathlib.Omega.{arith}
+use lib.ListN.{length, getD, set, take, drop, length-append, List·getD-append}
+use lib.Seq.{sets, sets-eq, getD-append-add, length-take-le}
+use Rattle.aes128.specs.State.{four, column, byteAt, xorWord, xorState, IsState}
+use Rattle.tree.specs.Columns.{columnsAt, wordBytes, blockBytes, blocksBytes, siblingsAt}
+use Rattle.tree.proofs.Laws.{Each}
+
+pub two-eq : {A : Type 0} {a b x y : A} → a ≡ x → b ≡ y → a ∷ b ∷ [] ≡ x ∷ y ∷ []
+two-eq p q = cc
+
+pub four-eq : {A : Type 0} {a b c d x y z w : A} → a ≡ x → b ≡ y → c ≡ z → d ≡ w → a ∷ b ∷ c ∷ d ∷ [] ≡ x ∷ y ∷ z ∷ w ∷ []
+four-eq p q r s = cc
+
+-- ---- writing
+
+-- stores one after another
+pub sets-append : {A : Type 0} (l : List A) (i : ℕ) (xs ys : List A) → sets (sets l i xs) (i + length xs) ys ≡ sets l i (xs ++ ys)
+sets-append l i [] ys = ap (λ k. sets l k ys) (add-zero i)
+sets-append l i (x ∷ xs) ys = ap (λ k. sets (sets (set l i x) (suc i) xs) k ys) (more i (length xs)) ∙ sets-append (set l i x) (suc i) xs ys
+  where
+    more : (i n : ℕ) → i + suc n ≡ suc i + n
+    more i n = omega arith
+
+-- four columns after one another
+pub sets-block : (l l₁ l₂ l₃ l₄ : List ℕ) (at : ℕ) (s : List (List ℕ))
+    → l₁ ≡ sets l at (wordBytes (column s 0) []) → l₂ ≡ sets l₁ (at + 4) (wordBytes (column s 1) [])
+    → l₃ ≡ sets l₂ (at + 8) (wordBytes (column s 2) []) → l₄ ≡ sets l₃ (at + 12) (wordBytes (column s 3) [])
+    → l₄ ≡ sets l at (blockBytes s)
+unfolding blockBytes
+sets-block l l₁ l₂ l₃ l₄ at s e₁ e₂ e₃ e₄ =
+    let w₁ : List ℕ = wordBytes (column s 0) [] in
+    let w₂ : List ℕ = wordBytes (column s 0) (wordBytes (column s 1) []) in
+    let w₃ : List ℕ = wordBytes (column s 0) (wordBytes (column s 1) (wordBytes (column s 2) [])) in
+    let f₂ : l₂ ≡ sets l at w₂ = e₂ ∙ rw e₁ (sets-append l at w₁ (wordBytes (column s 1) [])) in
+    let f₃ : l₃ ≡ sets l at w₃ = e₃ ∙ rw f₂ (sets-append l at w₂ (wordBytes (column s 2) [])) in
+    e₄ ∙ rw f₃ (sets-append l at w₃ (wordBytes (column s 3) []))
+
+pub length-block : (s : List (List ℕ)) → length (blockBytes s) ≡ 16
+unfolding blockBytes
+length-block s = refl
+
+pub length-blocks : (xs : List (List (List ℕ))) → length (blocksBytes xs) ≡ length xs * 16
+unfolding blocksBytes
+length-blocks [] = refl
+length-blocks (s ∷ xs) = length-append (blockBytes s) (blocksBytes xs) ∙ ap (λ n. length (blockBytes s) + n) (length-blocks xs) ∙ rw length-block (omega arith)
+
+-- ---- reading
+
+-- four columns of four
+pub record Square (s : List (List ℕ)) : Type 0 where
+  pub size : length s ≡ 4
+  pub columns : (c : ℕ) → c < 4 → length (column s c) ≡ 4
+
+pub state-square : (s : List (List ℕ)) → IsState s → Square s
+state-square s h = record { size = h .size; columns = λ c l. h .words c l .size }
+
+is-four : {A : Type 0} (none : A) (l : List A) → length l ≡ 4 → four (λ i. getD l i none) ≡ l
+is-four none [] e = absurd (omega arith)
+is-four none (a ∷ []) e = absurd (omega arith)
+is-four none (a ∷ b ∷ []) e = absurd (omega arith)
+is-four none (a ∷ b ∷ c ∷ []) e = absurd (omega arith)
+is-four none (a ∷ b ∷ c ∷ d ∷ []) e = refl
+is-four none (a ∷ b ∷ c ∷ d ∷ x ∷ l) e = absurd (omega arith)
+
+square-is : (s : List (List ℕ)) → Square s → four (λ c. four (λ r. byteAt s r c)) ≡ s
+square-is s h =
+    four-eq (is-four 0 (column s 0) (h .columns 0 (omega arith))) (is-four 0 (column s 1) (h .columns 1 (omega arith)))
+    (is-four 0 (column s 2) (h .columns 2 (omega arith))) (is-four 0 (column s 3) (h .columns 3 (omega arith)))
+    ∙ is-four [] s (h .size)
+
+-- a byte of a part of a list
+byte-of : (p x q : List ℕ) (at k : ℕ) → length p ≡ at → k < length x → getD (p ++ (x ++ q)) (at + k) 0 ≡ getD x k 0
+byte-of p x q at k e h = rw (← e) (getD-append-add p (x ++ q) k 0 ∙ List·getD-append x q 0 k h)
+
+byte-first : (p x q : List ℕ) (at : ℕ) → length p ≡ at → 0 < length x → getD (p ++ (x ++ q)) at 0 ≡ getD x 0 0
+byte-first p x q at e h = ap (λ k. getD (p ++ (x ++ q)) k 0) (sym (add-zero at)) ∙ byte-of p x q at 0 e h
+
+-- the block that stands between p and q
+pub columns-of : (p q : List ℕ) (at : ℕ) (s : List (List ℕ)) → length p ≡ at → Square s → columnsAt (p ++ (blockBytes s ++ q)) at ≡ s
+unfolding columnsAt blockBytes
+columns-of p q at s e h =
+    four-eq
+    (four-eq (byte-first p (blockBytes s) q at e (omega arith)) (here 1 (omega arith)) (here 2 (omega arith)) (here 3 (omega arith)))
+    (four-eq (here 4 (omega arith)) (next 4 1 (omega arith)) (next 4 2 (omega arith)) (next 4 3 (omega arith)))
+    (four-eq (here 8 (omega arith)) (next 8 1 (omega arith)) (next 8 2 (omega arith)) (next 8 3 (omega arith)))
+    (four-eq (here 12 (omega arith)) (next 12 1 (omega arith)) (next 12 2 (omega arith)) (next 12 3 (omega arith)))
+    ∙ square-is s h
+  where
+    here : (k : ℕ) → k < 16 → getD (p ++ (blockBytes s ++ q)) (at + k) 0 ≡ getD (blockBytes s) k 0
+    here k l = byte-of p (blockBytes s) q at k e l
+
+    next : (j k : ℕ) → j + k < 16 → getD (p ++ (blockBytes s ++ q)) (at + j + k) 0 ≡ getD (blockBytes s) (j + k) 0
+    next j k l = ap (λ i. getD (p ++ (blockBytes s ++ q)) i 0) (add-assoc at j k) ∙ here (j + k) l
+
+-- the blocks that stand between p and q
+pub siblings-of : (p q : List ℕ) (at : ℕ) (xs : List (List (List ℕ))) → length p ≡ at → Each Square xs
+    → siblingsAt (p ++ (blocksBytes xs ++ q)) at (length xs) ≡ xs
+unfolding siblingsAt blocksBytes
+siblings-of p q at [] e h = refl
+siblings-of p q at (s ∷ xs) e h =
+    ap (λ l. columnsAt l at ∷ siblingsAt l (at + 16) (length xs)) (ap (λ l. p ++ l) (append-assoc (blockBytes s) (blocksBytes xs) q))
+    ∙ ap (λ t. t ∷ siblingsAt (p ++ (blockBytes s ++ (blocksBytes xs ++ q))) (at + 16) (length xs)) (columns-of p (blocksBytes xs ++ q) at s e (h .0))
+    ∙ ap (λ l. s ∷ siblingsAt l (at + 16) (length xs)) (sym (append-assoc p (blockBytes s) (blocksBytes xs ++ q)))
+    ∙ ap (λ l. s ∷ l) (siblings-of (p ++ blockBytes s) q (at + 16) xs (length-append p (blockBytes s) ∙ rw (e, length-block)) (h .1))
+
+-- the blocks that were written at a place are read there
+pub siblings-written : (l : List ℕ) (at : ℕ) (xs : List (List (List ℕ))) → at + length xs * 16 ≤ length l → Each Square xs
+    → siblingsAt (sets l at (blocksBytes xs)) at (length xs) ≡ xs
+siblings-written l at xs h e =
+    let fits : at + length (blocksBytes xs) ≤ length l = rw length-blocks h in
+    ap (λ b. siblingsAt b at (length xs)) (sets-eq (blocksBytes xs) l at fits ∙ append-assoc (take at l) (blocksBytes xs) (drop (at + length (blocksBytes xs)) l))
+    ∙ siblings-of (take at l) (drop (at + length (blocksBytes xs)) l) at xs (length-take-le at l (omega arith)) e
+
+-- an exclusive or has four columns of four
+pub xor-square : (s t : List (List ℕ)) → Square (xorState s t)
+unfolding xorState xorWord
+xor-square s t = record { size = refl; columns = col }
+  where
+    col : (c : ℕ) → c < 4 → length (column (xorState s t) c) ≡ 4
+    col zero h = refl
+    col (suc zero) h = refl
+    col (suc (suc zero)) h = refl
+    col (suc (suc (suc zero))) h = refl
+    col (suc (suc (suc (suc c)))) h = absurd (omega arith)

@@ -1,0 +1,5 @@
+-- The definitions of `tree` (document 01, 'Trees').
+pub mod Tree
+pub mod Child
+pub mod Columns
+pub mod Added

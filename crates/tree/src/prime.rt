@@ -1,0 +1,100 @@
+// Leaves added into words in field 2.
+ghost use mathlib.Core.Path.{_≡_};
+ghost use mathlib.Core.List.{[]};
+ghost use Prim.Native.Nat.{_+_, _*_, _^_, _<_, _≤_};
+ghost use lib.ListN.{length};
+ghost use Rattle.sbox.specs.Table.{Tables};
+ghost use Rattle.field.specs.Prime.{primes, primeLeaf};
+ghost use Rattle.tree.specs.Child.{childBy};
+ghost use Rattle.tree.specs.Columns.{siblingsAt};
+ghost use Rattle.tree.specs.Added.{added, leafElement, puncturedElement};
+use crate::columns::columns_at;
+use crate::node::children;
+use field::Prime;
+
+// Adds an element to the one that a word holds.
+fn add_prime(element: Prime, acc: &mut [u64])
+    requires { ⌜ length (now acc) ≡ 1 ⌝ }
+    ensures { λ _. ⌜ now (acc .exit) ≡ added primes 1 (λ j. element) (now (acc .entry)) ⌝ }
+{
+    let old = Prime { word: acc[0] };
+    let sum = old.add(element);
+    acc[0] = sum.word;
+}
+
+// Adds the leaves of the tree below s to the elements of acc.
+pub fn add_leaves_prime(
+    sbox: &[u8; 256],
+    mix: &[u32; 256],
+    left: &[[[u8; 4]; 4]; 11],
+    right: &[[[u8; 4]; 4]; 11],
+    levels: usize,
+    s: [[u8; 4]; 4],
+    acc: &mut [u64],
+)
+    requires { ⌜ Tables (now sbox) (now mix) × (length (now acc) ≡ 2 ^ levels * 1) ⌝ }
+    ensures { λ _. ⌜ now (acc .exit) ≡ added primes (2 ^ levels) (leafElement primeLeaf (childBy (now (left .entry)) (now (right .entry))) levels s) (now (acc .entry)) ⌝ }
+{
+    if levels == 0 {
+        add_prime(Prime::of_columns(s), acc);
+    } else {
+        let both = children(sbox, mix, left, right, s);
+        let mid = acc.len() / 2;
+        add_leaves_prime(sbox, mix, left, right, levels - 1, both[0], &mut acc[..mid]);
+        add_leaves_prime(sbox, mix, left, right, levels - 1, both[1], &mut acc[mid..]);
+    }
+}
+
+// Adds the leaves of a tree punctured at a position to the elements of acc: the correction there, the others from the
+// siblings whose bytes begin at a place.
+pub fn add_punctured_prime(
+    sbox: &[u8; 256],
+    mix: &[u32; 256],
+    left: &[[[u8; 4]; 4]; 11],
+    right: &[[[u8; 4]; 4]; 11],
+    levels: usize,
+    bytes: &[u8],
+    at: usize,
+    position: usize,
+    correction: Prime,
+    acc: &mut [u64],
+)
+    requires { ⌜ Tables (now sbox) (now mix) × (length (now acc) ≡ 2 ^ levels * 1) × (position < 2 ^ levels) × (at + 16 * levels ≤ length (now bytes)) ⌝ }
+    ensures { λ _. ⌜ now (acc .exit) ≡ added primes (2 ^ levels) (puncturedElement primeLeaf (childBy (now (left .entry)) (now (right .entry))) [] (siblingsAt (now (bytes .entry)) at levels) levels position correction) (now (acc .entry)) ⌝ }
+{
+    if levels == 0 {
+        add_prime(correction, acc);
+    } else {
+        let sibling = columns_at(bytes, at);
+        let mid = acc.len() / 2;
+        if position < mid {
+            add_punctured_prime(
+                sbox,
+                mix,
+                left,
+                right,
+                levels - 1,
+                bytes,
+                at + 16,
+                position,
+                correction,
+                &mut acc[..mid],
+            );
+            add_leaves_prime(sbox, mix, left, right, levels - 1, sibling, &mut acc[mid..]);
+        } else {
+            add_leaves_prime(sbox, mix, left, right, levels - 1, sibling, &mut acc[..mid]);
+            add_punctured_prime(
+                sbox,
+                mix,
+                left,
+                right,
+                levels - 1,
+                bytes,
+                at + 16,
+                position - mid,
+                correction,
+                &mut acc[mid..],
+            );
+        }
+    }
+}
