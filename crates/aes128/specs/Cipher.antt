@@ -58,15 +58,16 @@ rotWord a = four (λ r. getD a ((r + 1) % 4) 0)
 abbrev pub subWord : List ℕ → List ℕ
 subWord a = four (λ r. sBox (getD a r 0))
 
--- 5.2: the first byte of Rcon[i], x^(i - 1)
+-- 5.2: x^n
 unfoldable pub power : ℕ → ℕ
 power zero = 1
 power (suc n) = xtime (power n)
 
--- 5.2: the word Rcon[i]
+-- 5.2: the word Rcon[i], whose first byte is x^(i - 1)
 abbrev pub rcon : ℕ → List ℕ
 rcon i = power (i - 1) ∷ 0 ∷ 0 ∷ 0 ∷ []
 
+-- the first word if the test holds, else the second
 abbrev pub pick : Bool → List ℕ → List ℕ → List ℕ
 pick true a b = a
 pick false a b = b

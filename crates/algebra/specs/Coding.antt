@@ -1,4 +1,5 @@
--- Codings of elements in words, and elements written over a buffer's front.
+-- Codings of values in words (document 01, 'Offline and online': an element of v or w takes two words in field 1, one in
+-- field 2), and values written over a buffer's front ('Numbers of the calls': memory past that is untouched).
 use mathlib.Core.Path.{_≡_}
 use mathlib.Core.List.{List, [], _++_}
 use Prim.Native.Nat.{ℕ, zero, suc, _+_, _*_, _≤_}

@@ -11,7 +11,7 @@ use Rattle.algebra.specs.Sum.{sum}
 abbrev pub Rising : ℕ → (ℕ → ℕ) → Type 0
 Rising t position = (i : ℕ) → suc i < t → position i < position (suc i)
 
--- μ: the noise values at their positions and zero elsewhere
+-- μ: the noise values at their positions and zero elsewhere (positions differ; of two equal ones the later value would stand)
 unfoldable pub noise : (R : Ring) → ℕ → (ℕ → ℕ) → (ℕ → R .group .Of) → ℕ → R .group .Of
 noise R zero position value j = R .group .zero
 noise R (suc t) position value j = choose (eqb (position t) j) (value t) (noise R t position value j)

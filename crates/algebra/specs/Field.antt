@@ -9,7 +9,7 @@ pub record Field : Type 1 where
   pub scalars : Coding (ring .group .Of)
   pub elements : Coding (scaled .group .Of)
 
--- the noise values
+-- the noise values, which scale the elements; document 01's scalar Δ is an element
 abbrev pub Scalar : Field → Type 0
 Scalar F = F .ring .group .Of
 
@@ -17,6 +17,7 @@ Scalar F = F .ring .group .Of
 abbrev pub Value : Field → Type 0
 Value F = F .scaled .group .Of
 
+-- the laws of a field
 pub record FieldLaws (F : Field) : Type 0 where
   pub ring : RingLaws (F .ring)
   pub scaled : ScaledLaws (F .ring) (F .scaled)

@@ -1,4 +1,5 @@
--- Commutative groups, commutative rings, and groups that a ring scales: the operations, and the laws apart from them.
+-- Commutative groups, commutative rings, and groups that a ring scales (document 01, 'Questions', the last answer): the
+-- operations, and the laws apart from them.
 -- A carrier may have values that are no elements, as a word of p or more. The operations make elements of whatever they get.
 use mathlib.Core.Path.{_≡_}
 use mathlib.Core.Bool.{Bool, true}
@@ -15,6 +16,7 @@ pub record Group : Type 1 where
 abbrev pub Element : (G : Group) → G .Of → Type 0
 Element G a = G .isElement a ≡ true
 
+-- the laws of a commutative group
 pub record GroupLaws (G : Group) : Type 0 where
   pub zero-element : Element G (G .zero)
   pub add-element : (a b : G .Of) → Element G (G .add a b)
@@ -35,6 +37,7 @@ pub record Scaled (R : Ring) : Type 1 where
   pub group : Group
   pub scale : R .group .Of → group .Of → group .Of
 
+-- the laws of a commutative ring
 pub record RingLaws (R : Ring) : Type 0 where
   pub group : GroupLaws (R .group)
   pub one-element : Element (R .group) (R .one)
@@ -44,6 +47,7 @@ pub record RingLaws (R : Ring) : Type 0 where
   pub one-mul : (a : R .group .Of) → Element (R .group) a → R .mul (R .one) a ≡ a
   pub mul-add : (a b c : R .group .Of) → R .mul a (R .group .add b c) ≡ R .group .add (R .mul a b) (R .mul a c)
 
+-- the laws of a group that a ring scales
 pub record ScaledLaws (R : Ring) (S : Scaled R) : Type 0 where
   pub group : GroupLaws (S .group)
   pub scale-element : (c : R .group .Of) (a : S .group .Of) → Element (S .group) a → Element (S .group) (S .scale c a)

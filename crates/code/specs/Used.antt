@@ -1,4 +1,5 @@
--- Whether every word that a window's rows use is below a bound: 2 for bits, p for elements of field 2.
+-- Whether every word that a window's rows use is below a bound, 2 for bits and p for elements of field 2 (document 01,
+-- 'Offline and online', the last sentence; 'Numbers of the calls', 8).
 use mathlib.Core.Bool.{Bool, true, _&&_}
 use mathlib.Core.List.{List}
 use Prim.Native.Nat.{ℕ, zero, suc, _+_}

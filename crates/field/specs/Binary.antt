@@ -57,6 +57,7 @@ bitRing =
       mul = bitMul;
     }
 
+-- bits scale blocks
 abbrev pub blocks : Scaled bitRing
 blocks = record { group = blockGroup; scale = blockScale }
 

@@ -1,5 +1,5 @@
--- The two fields as two values of one parameter: the algebra of the field, how a leaf becomes an element, and how the last
--- eight bytes of a term's block become its coefficient.
+-- The two fields as two values of one parameter (document 01, 'Two fields'): the algebra, how a leaf becomes an element
+-- ('Trees'), and how the last eight bytes of a term's block become its coefficient ('Offline and online').
 use mathlib.Core.List.{List, [], _∷_}
 use mathlib.Core.Path.{_≡_}
 use Prim.Native.Nat.{ℕ, zero, suc}
@@ -22,7 +22,7 @@ binaryKind = record { field = binary; leaf = blockLeaf; coefficient = λ w. 1 }
 abbrev pub primeKind : Kind
 primeKind = record { field = primes; leaf = primeLeaf; coefficient = primeReduce }
 
--- the kind of a field byte: 1 is the binary field, 2 the prime field
+-- the kind of a field byte: 1 is the binary field, 2 the prime field; no other byte is accepted
 abbrev pub kindOf : ℕ → Kind
 kindOf zero = primeKind
 kindOf (suc zero) = binaryKind

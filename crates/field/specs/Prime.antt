@@ -13,7 +13,7 @@ use Rattle.field.specs.Words.{oneWord}
 abbrev pub modulus : ℕ
 modulus = 2305843009213693951
 
--- the prime of a word
+-- a word as a value of field 2; it is an element if it is below p
 abbrev pub prime : ℕ → Prime
 prime word = record { word = word }
 
@@ -42,7 +42,7 @@ primeMul a b = prime ((a .word * b .word) % modulus)
 abbrev pub primeLeaf : List (List ℕ) → Prime
 primeLeaf columns = primeReduce (lowOf columns)
 
--- the ring of primes: the elements are the words below p
+-- the ring of words modulo p: the elements are the words below p
 abbrev pub primeRing : Ring
 primeRing =
     record {
@@ -57,7 +57,7 @@ primeRing =
       mul = primeMul;
     }
 
--- field 2: noise values and elements are of one kind
+-- field 2: noise values and elements are of one type
 abbrev pub primes : Field
 primes =
     record {

@@ -1,2 +1,3 @@
+-- FIPS 197 (2023): the S-box, and the table that joins it with MixColumns.
 pub mod Byte
 pub mod Table

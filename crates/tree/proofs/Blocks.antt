@@ -7,7 +7,7 @@ use native.Mathlib.Omega.{arith}
 use lib.ListN.{length, getD, set, take, drop, length-append, List·getD-append}
 use lib.Seq.{sets, sets-eq, getD-append-add, length-take-le}
 use Rattle.aes128.specs.State.{four, column, byteAt, xorWord, xorState, IsState}
-use Rattle.tree.specs.Columns.{columnsAt, wordBytes, blockBytes, blocksBytes, siblingsAt}
+use Rattle.tree.specs.Columns.{columnsAt, columnBytes, blockBytes, blocksBytes, siblingsAt}
 use Rattle.tree.proofs.Laws.{Each}
 
 pub two-eq : {A : Type 0} {a b x y : A} → a ≡ x → b ≡ y → a ∷ b ∷ [] ≡ x ∷ y ∷ []
@@ -28,17 +28,17 @@ sets-append l i (x ∷ xs) ys = ap (λ k. sets (sets (set l i x) (suc i) xs) k y
 
 -- four columns after one another
 pub sets-block : (l l₁ l₂ l₃ l₄ : List ℕ) (at : ℕ) (s : List (List ℕ))
-    → l₁ ≡ sets l at (wordBytes (column s 0) []) → l₂ ≡ sets l₁ (at + 4) (wordBytes (column s 1) [])
-    → l₃ ≡ sets l₂ (at + 8) (wordBytes (column s 2) []) → l₄ ≡ sets l₃ (at + 12) (wordBytes (column s 3) [])
+    → l₁ ≡ sets l at (columnBytes (column s 0) []) → l₂ ≡ sets l₁ (at + 4) (columnBytes (column s 1) [])
+    → l₃ ≡ sets l₂ (at + 8) (columnBytes (column s 2) []) → l₄ ≡ sets l₃ (at + 12) (columnBytes (column s 3) [])
     → l₄ ≡ sets l at (blockBytes s)
 unfolding blockBytes
 sets-block l l₁ l₂ l₃ l₄ at s e₁ e₂ e₃ e₄ =
-    let w₁ : List ℕ = wordBytes (column s 0) [] in
-    let w₂ : List ℕ = wordBytes (column s 0) (wordBytes (column s 1) []) in
-    let w₃ : List ℕ = wordBytes (column s 0) (wordBytes (column s 1) (wordBytes (column s 2) [])) in
-    let f₂ : l₂ ≡ sets l at w₂ = e₂ ∙ rw e₁ (sets-append l at w₁ (wordBytes (column s 1) [])) in
-    let f₃ : l₃ ≡ sets l at w₃ = e₃ ∙ rw f₂ (sets-append l at w₂ (wordBytes (column s 2) [])) in
-    e₄ ∙ rw f₃ (sets-append l at w₃ (wordBytes (column s 3) []))
+    let w₁ : List ℕ = columnBytes (column s 0) [] in
+    let w₂ : List ℕ = columnBytes (column s 0) (columnBytes (column s 1) []) in
+    let w₃ : List ℕ = columnBytes (column s 0) (columnBytes (column s 1) (columnBytes (column s 2) [])) in
+    let f₂ : l₂ ≡ sets l at w₂ = e₂ ∙ rw e₁ (sets-append l at w₁ (columnBytes (column s 1) [])) in
+    let f₃ : l₃ ≡ sets l at w₃ = e₃ ∙ rw f₂ (sets-append l at w₂ (columnBytes (column s 2) [])) in
+    e₄ ∙ rw f₃ (sets-append l at w₃ (columnBytes (column s 3) []))
 
 pub length-block : (s : List (List ℕ)) → length (blockBytes s) ≡ 16
 unfolding blockBytes

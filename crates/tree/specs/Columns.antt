@@ -13,13 +13,13 @@ unfoldable pub columnsAt : List ℕ → ℕ → List (List ℕ)
 columnsAt bytes at =
     fourAt bytes at ∷ fourAt bytes (at + 4) ∷ fourAt bytes (at + 8) ∷ fourAt bytes (at + 12) ∷ []
 
--- the four bytes of a word before others
-abbrev pub wordBytes : List ℕ → List ℕ → List ℕ
-wordBytes w after = getD w 0 0 ∷ getD w 1 0 ∷ getD w 2 0 ∷ getD w 3 0 ∷ after
+-- the four bytes of a column before others
+abbrev pub columnBytes : List ℕ → List ℕ → List ℕ
+columnBytes w after = getD w 0 0 ∷ getD w 1 0 ∷ getD w 2 0 ∷ getD w 3 0 ∷ after
 
 -- the sixteen bytes of a block
 unfoldable pub blockBytes : List (List ℕ) → List ℕ
-blockBytes s = wordBytes (column s 0) (wordBytes (column s 1) (wordBytes (column s 2) (wordBytes (column s 3) [])))
+blockBytes s = columnBytes (column s 0) (columnBytes (column s 1) (columnBytes (column s 2) (columnBytes (column s 3) [])))
 
 -- the bytes of blocks, one after another
 unfoldable pub blocksBytes : List (List (List ℕ)) → List ℕ

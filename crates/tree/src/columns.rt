@@ -4,7 +4,7 @@ ghost use mathlib.Core.List.{[]};
 ghost use Prim.Native.Nat.{_+_, _≤_};
 ghost use lib.ListN.{length};
 ghost use lib.Seq.{sets};
-ghost use Rattle.tree.specs.Columns.{fourAt, columnsAt, wordBytes, blockBytes};
+ghost use Rattle.tree.specs.Columns.{fourAt, columnsAt, columnBytes, blockBytes};
 
 // The four bytes that begin at a place.
 fn four_at(bytes: &[u8], at: usize) -> [u8; 4]
@@ -29,7 +29,7 @@ pub fn columns_at(bytes: &[u8], at: usize) -> [[u8; 4]; 4]
 // Writes four bytes from a place on.
 fn put_four(bytes: &mut [u8], at: usize, word: [u8; 4])
     requires { ⌜ at + 4 ≤ length (now bytes) ⌝ }
-    ensures { λ _. ⌜ now (bytes .exit) ≡ sets (now (bytes .entry)) at (wordBytes word []) ⌝ }
+    ensures { λ _. ⌜ now (bytes .exit) ≡ sets (now (bytes .entry)) at (columnBytes word []) ⌝ }
 {
     bytes[at] = word[0];
     bytes[at + 1] = word[1];
