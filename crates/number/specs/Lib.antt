@@ -1,0 +1,3 @@
+-- The number code of records (document 01, 'Key records').
+pub mod Reading
+pub mod Number

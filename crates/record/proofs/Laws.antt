@@ -1,0 +1,192 @@
+-- Key records have one writing for each content: reading the writing of admitted content gives it back, what reads as a content
+-- is exactly the writing of it and is admitted, and no record is read at both ends. The length of a writing. Assumes nothing.
+use Prim.Native.Nat.{ℕ, _+_, _-_, _*_, _^_, _≤_}
+use mathlib.Core.Bool.{false}
+use mathlib.Core.List.{List, [], _∷_, _++_, map}
+use mathlib.Core.Path.{_≡_, refl, sym, ap, _∙_, subst}
+use borrow.Author.Tests.{leb-true, le-ltb, ltb-true, eq-eqb, ne-eqb}
+use native.Mathlib.Nat.{zero-add}
+use native.Mathlib.Omega.{arith}
+use lib.Dec.{leb, ltb}
+use lib.ListN.{length, getD, length-append}
+use Rattle.field.proofs.ByteWords.{length-leBytes}
+use Rattle.field.specs.Bytes.{leBytes, wordAt}
+use Rattle.number.proofs.Laws.{length-number}
+use Rattle.number.proofs.Places.{either, has-front, has-back, has-next, has-byte, whole-has, has-whole}
+use Rattle.number.specs.Number.{writeNumber}
+use Rattle.number.specs.Reading.{Whole, Bytes, Has}
+use Rattle.record.proofs.Exact.{head-reads, head-exact, trees-reads, trees-exact, delta-reads, delta-exact, blocks-reads, blocks-exact, field-exact, within}
+use Rattle.record.proofs.Fields.{and-both}
+use Rattle.record.proofs.Items.{length-flat}
+use Rattle.record.proofs.Parts.{head-parts, noise-parts, scalar-parts}
+use Rattle.record.proofs.Writes.{length-head}
+use Rattle.record.specs.Admitted.{Each, Word, Block, Rising, AdmittedHead, AdmittedTrees, AdmittedNoise, AdmittedScalar}
+use Rattle.record.specs.Content.{Head, NoiseTree, NoisePart, ScalarPart, elementWords}
+use Rattle.record.specs.Reading.{blockAt, readHead, readTrees, readNoise, readScalar}
+use Rattle.record.specs.Writing.{writeWords, writeBlocks, writeHead, writeValue, writeFront, writeTree, writeTrees, writeNoise, writeScalar, valueLength, frontLength, treesLength, noiseLength, scalarLength}
+
+-- the depth of an admitted head
+shallow : {h : Head} → AdmittedHead h → h .depth ≤ 16
+shallow {h} ok = leb-true (h .depth) 16 (and-both (leb 1 (h .depth)) (leb (h .depth) 16) (ok .depth) .1)
+
+-- ---- reading a writing
+
+pub noise-reads : (p : NoisePart) → AdmittedNoise p → readNoise (writeNoise p) ≡ Whole p
+unfolding writeNoise readNoise
+noise-reads p ok =
+    let h : Head = p .head in
+    let H : List ℕ = writeHead 1 h in
+    let R : List ℕ = writeTrees (h .field) 0 (p .trees) in
+    let s : List ℕ = H ++ R in
+    let g : Has s 0 (H ++ R) = whole-has s in
+    let e₀ = head-reads s 1 h (ok .head) (has-front s 0 H R g) in
+    let rest : Has s (length H) R = subst (λ (i : ℕ). Has s i R) (zero-add (length H)) (has-back s 0 H R g) in
+    let e₁ : readTrees (h .field) (h .depth) (h .trees) 0 s (length H) ≡ Whole (p .trees, length H + length R) =
+    ap (λ (n : ℕ). readTrees (h .field) (h .depth) n 0 s (length H)) (sym (ok .count))
+    ∙ trees-reads s (h .field) (h .depth) 0 (length H) (p .trees) (shallow (ok .head)) (ok .trees) rest in
+    let end : ltb (length H + length R) (length s) ≡ false = le-ltb (length H + length R) (length s) (omega (arith, length-append H R)) in
+    simp (e₀, e₁, end)
+
+pub scalar-reads : (p : ScalarPart) → AdmittedScalar p → readScalar (writeScalar p) ≡ Whole p
+unfolding writeScalar readScalar
+scalar-reads p ok =
+    let h : Head = p .head in
+    let H : List ℕ = writeHead 2 h in
+    let D : List ℕ = writeWords (p .delta) in
+    let R : List ℕ = writeBlocks (p .roots) in
+    let s : List ℕ = H ++ (D ++ R) in
+    let g : Has s 0 (H ++ (D ++ R)) = whole-has s in
+    let e₀ = head-reads s 2 h (ok .head) (has-front s 0 H (D ++ R) g) in
+    let rest : Has s (length H) (D ++ R) = subst (λ (i : ℕ). Has s i (D ++ R)) (zero-add (length H)) (has-back s 0 H (D ++ R) g) in
+    let e₁ = delta-reads s (h .field) (length H) (p .delta) (ok .words) (ok .delta) (has-front s (length H) D R rest) in
+    let e₂ = blocks-reads s (length H + length D) (h .trees) (p .roots) (ok .roots .0) (ok .roots .1) (has-back s (length H) D R rest) in
+    let end : ltb (length H + length D + length R) (length s) ≡ false =
+    le-ltb (length H + length D + length R) (length s) (omega (arith, length-append H (D ++ R), length-append D R)) in
+    simp (e₀, e₁, e₂, end)
+
+-- ---- what reads as a content
+
+pub noise-exact : (s : List ℕ) → Bytes s → {p : NoisePart} → readNoise s ≡ Whole p → AdmittedNoise p × (s ≡ writeNoise p)
+unfolding writeNoise
+noise-exact s bytes {p} e =
+    let a = noise-parts s e in
+    let h : Head = p .head in
+    let H : List ℕ = writeHead 1 h in
+    let R : List ℕ = writeTrees (h .field) 0 (p .trees) in
+    let b = head-exact s bytes 1 (a .2) in
+    let place : a .0 ≡ 0 + length H = b .2 ∙ sym (zero-add (length H)) in
+    let c = trees-exact s bytes (h .field) (h .depth) (h .trees) 0 (a .0) (within s 0 H (b .1) place) (a .3) in (
+      record { head = b .0; count = c .0; trees = c .1 },
+      has-whole s (H ++ R) (has-next s 0 H R (b .1) place (c .2))
+          (omega (arith, a .4, b .2, c .3, length-append H R, within s (a .0) R (c .2) (c .3))),
+    )
+
+pub scalar-exact : (s : List ℕ) → Bytes s → {p : ScalarPart} → readScalar s ≡ Whole p → AdmittedScalar p × (s ≡ writeScalar p)
+unfolding writeScalar
+scalar-exact s bytes {p} e =
+    let a = scalar-parts s e in
+    let h : Head = p .head in
+    let H : List ℕ = writeHead 2 h in
+    let D : List ℕ = writeWords (p .delta) in
+    let R : List ℕ = writeBlocks (p .roots) in
+    let b = head-exact s bytes 2 (a .3) in
+    let place : a .0 ≡ 0 + length H = b .2 ∙ sym (zero-add (length H)) in
+    let c = delta-exact s bytes (h .field) (a .0) (a .4) in
+    let d = blocks-exact s bytes (a .1) (h .trees) (a .5) in (
+      record { head = b .0; words = c .0; delta = c .1; roots = (d .0, d .1) },
+      has-whole s (H ++ (D ++ R)) (has-next s 0 H (D ++ R) (b .1) place (has-next s (a .0) D R (c .2) (c .3) (d .2)))
+          (omega (arith, a .6, b .2, c .3, d .3, length-append H (D ++ R), length-append D R, within s (a .1) R (d .2) (d .3))),
+    )
+
+-- an accepted record is the only writing of its content
+pub noise-one : (s u : List ℕ) → Bytes s → Bytes u → {p : NoisePart} → readNoise s ≡ Whole p → readNoise u ≡ Whole p → s ≡ u
+noise-one s u bs bu e f = noise-exact s bs e .1 ∙ sym (noise-exact u bu f .1)
+
+pub scalar-one : (s u : List ℕ) → Bytes s → Bytes u → {p : ScalarPart} → readScalar s ≡ Whole p → readScalar u ≡ Whole p → s ≡ u
+scalar-one s u bs bu e f = scalar-exact s bs e .1 ∙ sym (scalar-exact u bu f .1)
+
+-- no record is accepted at both ends
+first-byte : (end : ℕ) (s : List ℕ) {h : Head} {body : ℕ} → readHead end s ≡ Whole (h, body) → getD s 0 0 ≡ end
+first-byte end s {h} e =
+    let f = field-exact s end (head-parts end s e .field) in
+    has-byte s 0 end (has-front s 0 (end ∷ []) (h .field ∷ []) (f .1)) .1
+
+pub one-end : (s : List ℕ) {p : NoisePart} {q : ScalarPart} → readNoise s ≡ Whole p → readScalar s ≡ Whole q → ⊥
+one-end s e f =
+    let a = first-byte 1 s (noise-parts s e .2) in
+    let b = first-byte 2 s (scalar-parts s f .3) in
+    omega arith
+
+-- ---- lengths
+
+pub length-words : (ws : List ℕ) → Each Word ws → length (writeWords ws) ≡ 8 * length ws
+length-words ws ok = length-flat wordAt 8 (leBytes 8) Word (λ x w. length-leBytes 8 x) ws ok
+
+pub length-blocks : (bs : List (List ℕ)) → Each Block bs → length (writeBlocks bs) ≡ 16 * length bs
+length-blocks bs ok = length-flat blockAt 16 (λ b. b) Block (λ b w. w .0) bs ok
+
+pub length-value : (field value : ℕ) → length (writeValue field value) ≡ valueLength field
+length-value field value = either field 1 (λ f. simp (eq-eqb _ _ f)) (λ f. simp (ne-eqb _ _ f, length-leBytes))
+
+pub length-front : (field base position value : ℕ) (c : List ℕ) → length c ≡ elementWords field → Each Word c
+    → length (writeFront field base position value c) ≡ frontLength field base position
+unfolding writeFront frontLength
+length-front field base position value c e ok =
+    let P : List ℕ = writeNumber (position - base) in
+    let Y : List ℕ = writeValue field value in
+    let C : List ℕ = writeWords c in
+    omega (arith, length-append P (Y ++ C), length-append Y C, length-number (position - base), length-value field value, length-words c ok, ap (λ (n : ℕ). 8 * n) e)
+
+pub length-trees : (field depth base : ℕ) (ts : List NoiseTree) → AdmittedTrees field depth base ts
+    → length (writeTrees field base ts) ≡ treesLength field depth base (map (λ (t : NoiseTree). t .position) ts)
+unfolding writeTrees writeTree treesLength AdmittedTrees
+length-trees field depth base [] ok = refl
+length-trees field depth base (t ∷ ts) ok =
+    let F : List ℕ = writeFront field base (t .position) (t .value) (t .correction) in
+    let B : List ℕ = writeBlocks (t .siblings) in
+    let R : List ℕ = writeTrees field (t .position + 1) ts in
+    omega (
+      arith,
+      length-append (F ++ B) R,
+      length-append F B,
+      length-front field base (t .position) (t .value) (t .correction) (ok .0 .words .0) (ok .0 .words .1),
+      length-blocks (t .siblings) (ok .0 .siblings .1),
+      ap (λ (n : ℕ). 16 * n) (ok .0 .siblings .0),
+      length-trees field depth (t .position + 1) ts (ok .1),
+    )
+
+-- the length of a record, from its sizes and positions
+pub length-noise : (p : NoisePart) → AdmittedNoise p
+    → length (writeNoise p) ≡ noiseLength (p .head .field) (p .head .depth) (p .head .trees) (p .head .terms) (p .head .outputs) (map (λ (t : NoiseTree). t .position) (p .trees))
+unfolding writeNoise noiseLength
+length-noise p ok =
+    omega (
+      arith,
+      length-append (writeHead 1 (p .head)) (writeTrees (p .head .field) 0 (p .trees)),
+      length-head 1 (p .head) (ok .head .codeKey .0),
+      length-trees (p .head .field) (p .head .depth) 0 (p .trees) (ok .trees),
+    )
+
+pub length-scalar : (p : ScalarPart) → AdmittedScalar p
+    → length (writeScalar p) ≡ scalarLength (p .head .field) (p .head .depth) (p .head .trees) (p .head .terms) (p .head .outputs)
+unfolding writeScalar scalarLength
+length-scalar p ok =
+    let H : List ℕ = writeHead 2 (p .head) in
+    let D : List ℕ = writeWords (p .delta) in
+    let R : List ℕ = writeBlocks (p .roots) in
+    omega (
+      arith,
+      length-append H (D ++ R),
+      length-append D R,
+      length-head 2 (p .head) (ok .head .codeKey .0),
+      length-words (p .delta) (ok .words .1),
+      ap (λ (n : ℕ). 8 * n) (ok .words .0),
+      length-blocks (p .roots) (ok .roots .1),
+      ap (λ (n : ℕ). 16 * n) (ok .roots .0),
+    )
+
+-- the positions of admitted trees rise
+pub positions-rise : (field depth base : ℕ) (ts : List NoiseTree) → AdmittedTrees field depth base ts → Rising (2 ^ depth) base (map (λ (t : NoiseTree). t .position) ts)
+unfolding AdmittedTrees Rising
+positions-rise field depth base [] ok = tt
+positions-rise field depth base (t ∷ ts) ok = (ok .0 .rising, ltb-true _ _ (ok .0 .below), positions-rise field depth (t .position + 1) ts (ok .1))

@@ -1,0 +1,12 @@
+mod Again
+pub mod Callers
+pub mod Cases
+pub mod Exact
+mod Fields
+mod Heads
+pub mod Items
+pub mod Laws
+pub mod Parts
+mod Records
+mod Trees
+pub mod Writes

@@ -1,0 +1,20 @@
+-- `record::head::read_field` meets its contract: one law a way out. Assumes nothing.
+use Rattle.record.proofs.Fields.{field-ends-0, other-end, field-ends-1, field-1, field-2, field-unknown}
+use borrow.Author.Needs.{needs}
+use Rattle.record.proofs.head.read_field.Statement.{statement}
+use Rattle.record.proofs.head.read_field.Tie as tie
+
+pub read-field-spec : {M : Type 1} → statement M
+read-field-spec =
+    tie.close
+    (tie.spec
+    (λ c. search field-ends-0)  -- returns
+    (λ c. search needs)  -- shared-slice-read-if2
+    (λ c. search other-end)  -- returns-2
+    (λ c. search field-ends-1)  -- returns-3
+    (λ c. search needs)  -- shared-slice-read-if4
+    (λ c. search field-1)  -- returns-4
+    (λ c. search needs)  -- shared-slice-read-if5
+    (λ c. search field-2)  -- returns-5
+    (λ c. search field-unknown)  -- returns-6
+    )

@@ -1,0 +1,93 @@
+-- What a record may hold (document 01, 'Two fields', 'Sizes', 'Trees', 'Dealing'): the tests of its fields, and the content that
+-- passes them.
+use Prim.Native.Nat.{ℕ, _+_, _-_, _/_, _^_, _≤_, _<_, min}
+use mathlib.Core.Bool.{Bool, true, not, _&&_, _||_}
+use mathlib.Core.List.{List, [], _∷_}
+use mathlib.Core.Path.{_≡_}
+use lib.Dec.{leb, ltb, eqb}
+use lib.ListN.{length, getD}
+use Rattle.field.specs.Prime.{modulus}
+use Rattle.number.specs.Reading.{choose, Bytes}
+use Rattle.record.specs.Content.{Head, NoiseTree, NoisePart, ScalarPart, elementWords}
+
+-- Two fields: 1 is binary, 2 is prime
+abbrev pub isField : ℕ → Bool
+isField field = eqb field 1 || eqb field 2
+
+-- Sizes: 1 to the largest
+abbrev pub isSize : ℕ → ℕ → Bool
+isSize top n = leb 1 n && leb n top
+
+-- Sizes: t is 1 to the smaller of 64 and N = 2^d
+abbrev pub mostTrees : ℕ → ℕ
+mostTrees depth = min 64 (2 ^ depth)
+
+-- Sizes: n is 1 to N / 2
+abbrev pub mostOutputs : ℕ → ℕ
+mostOutputs depth = 2 ^ depth / 2
+
+-- Dealing: a noise value is 1 in field 1, 1 to p − 1 in field 2
+abbrev pub isNoise : ℕ → ℕ → Bool
+isNoise field value = choose (eqb field 1) (eqb value 1) (isSize (modulus - 1) value)
+
+-- Two fields: in field 1 every block is an element, in field 2 a word below p
+abbrev pub isElement : ℕ → List ℕ → Bool
+isElement field words = choose (eqb field 1) true (ltb (getD words 0 0) modulus)
+
+-- Dealing: Δ is an element and never zero
+abbrev pub isScalar : ℕ → List ℕ → Bool
+isScalar field words = isElement field words && not (eqb (getD words 0 0) 0 && eqb (getD words 1 0) 0)
+
+-- Dealing: positions rise strictly and are below N; `base` is one more than the position before
+unfoldable pub Rising : ℕ → ℕ → List ℕ → Type 0
+Rising all base [] = Unit {0}
+Rising all base (p ∷ ps) = (base ≤ p) × (p < all) × Rising all (p + 1) ps
+
+-- every member of a list is such
+unfoldable pub Each : {A : Type 0} → (A → Type 0) → List A → Type 0
+Each P [] = Unit {0}
+Each P (x ∷ xs) = P x × Each P xs
+
+-- a block is 16 bytes
+abbrev pub Block : List ℕ → Type 0
+Block b = (length b ≡ 16) × Bytes b
+
+-- a word is 64 bits
+abbrev pub Word : ℕ → Type 0
+Word w = w < 18446744073709551616
+
+-- Sizes: field, d, t, ℓ, n and the code key of an admitted head
+pub record AdmittedHead (h : Head) : Type 0 where
+  pub field : isField (h .field) ≡ true
+  pub depth : isSize 16 (h .depth) ≡ true
+  pub trees : isSize (mostTrees (h .depth)) (h .trees) ≡ true
+  pub terms : isSize 32 (h .terms) ≡ true
+  pub outputs : isSize (mostOutputs (h .depth)) (h .outputs) ≡ true
+  pub codeKey : Block (h .codeKey)
+
+-- a tree of a record of this field and depth, after positions below `base`
+pub record AdmittedTree (field depth base : ℕ) (t : NoiseTree) : Type 0 where
+  pub rising : base ≤ t .position
+  pub below : ltb (t .position) (2 ^ depth) ≡ true
+  pub value : isNoise field (t .value) ≡ true
+  pub words : (length (t .correction) ≡ elementWords field) × Each Word (t .correction)
+  pub correction : isElement field (t .correction) ≡ true
+  pub siblings : (length (t .siblings) ≡ depth) × Each Block (t .siblings)
+
+-- trees one after the other: positions rise strictly
+unfoldable pub AdmittedTrees : ℕ → ℕ → ℕ → List NoiseTree → Type 0
+AdmittedTrees field depth base [] = Unit {0}
+AdmittedTrees field depth base (t ∷ ts) = AdmittedTree field depth base t × AdmittedTrees field depth (t .position + 1) ts
+
+-- the noise record: t trees
+pub record AdmittedNoise (p : NoisePart) : Type 0 where
+  pub head : AdmittedHead (p .head)
+  pub count : length (p .trees) ≡ p .head .trees
+  pub trees : AdmittedTrees (p .head .field) (p .head .depth) 0 (p .trees)
+
+-- the scalar record: Δ and t roots
+pub record AdmittedScalar (p : ScalarPart) : Type 0 where
+  pub head : AdmittedHead (p .head)
+  pub words : (length (p .delta) ≡ elementWords (p .head .field)) × Each Word (p .delta)
+  pub delta : isScalar (p .head .field) (p .delta) ≡ true
+  pub roots : (length (p .roots) ≡ p .head .trees) × Each Block (p .roots)

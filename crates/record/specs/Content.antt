@@ -1,0 +1,45 @@
+-- The content of key records (document 01, 'Sizes', 'Key records').
+use Prim.Native.Nat.{ℕ}
+use mathlib.Core.List.{List, [], _∷_}
+use lib.Dec.{eqb}
+use Rattle.number.specs.Reading.{choose}
+
+-- the head: field, d, t, ℓ, n and the 16 bytes of the code key
+pub record Head : Type 0 where
+  pub field : ℕ
+  pub depth : ℕ
+  pub trees : ℕ
+  pub terms : ℕ
+  pub outputs : ℕ
+  pub codeKey : List ℕ
+
+-- the head of these
+abbrev pub headWith : ℕ → ℕ → ℕ → ℕ → ℕ → List ℕ → Head
+headWith field depth trees terms outputs codeKey =
+    record { field = field; depth = depth; trees = trees; terms = terms; outputs = outputs; codeKey = codeKey }
+
+-- a punctured tree: position, noise value, the correction as its words, d sibling blocks of 16 bytes, top first
+pub record NoiseTree : Type 0 where
+  pub position : ℕ
+  pub value : ℕ
+  pub correction : List ℕ
+  pub siblings : List (List ℕ)
+
+-- the noise record: the head, then t trees
+pub record NoisePart : Type 0 where
+  pub head : Head
+  pub trees : List NoiseTree
+
+-- the scalar record: the head, then Δ as its words, then t roots of 16 bytes
+pub record ScalarPart : Type 0 where
+  pub head : Head
+  pub delta : List ℕ
+  pub roots : List (List ℕ)
+
+-- an element takes two words in field 1, one in field 2
+abbrev pub elementWords : ℕ → ℕ
+elementWords field = choose (eqb field 1) 2 1
+
+-- the element of a first and a second word
+abbrev pub elementOf : ℕ → ℕ → ℕ → List ℕ
+elementOf field low high = choose (eqb field 1) (low ∷ high ∷ []) (low ∷ [])

@@ -1,0 +1,5 @@
+-- Key records (document 01, 'Key records', 'Numbers of the calls'): content, what is admitted, writing, reading.
+pub mod Content
+pub mod Admitted
+pub mod Writing
+pub mod Reading

@@ -1,0 +1,163 @@
+-- The reading of key records (document 01, 'Numbers of the calls'): front to back, each field whole (10, 11) and then tested,
+-- 12 last.
+use Prim.Native.Nat.{ℕ, zero, suc, _+_, _-_, _*_, _^_}
+use mathlib.Core.List.{List, [], _∷_}
+use lib.Dec.{leb, ltb, eqb}
+use lib.ListN.{length, getD}
+use Rattle.field.specs.Bytes.{wordAt}
+use Rattle.number.specs.Number.{readNumber}
+use Rattle.number.specs.Reading.{Reading, Whole, Refused, Step, then, choose, tested, part, readByte, readBytes}
+use Rattle.record.specs.Admitted.{isField, isSize, mostTrees, mostOutputs, isNoise, isElement, isScalar}
+use Rattle.record.specs.Content.{Head, NoiseTree, NoisePart, ScalarPart, elementWords, elementOf}
+use Rattle.record.specs.declared.Front.{Front}
+use Rattle.record.specs.declared.Opened.{Opened}
+use Rattle.record.specs.declared.Opened.the-variants.{Accepted, Fault}
+use Rattle.record.specs.declared.Tree.{Tree}
+
+-- ---- fields
+
+-- n items of a size each from a place on
+unfoldable pub items : {A : Type 0} → (List ℕ → ℕ → A) → ℕ → List ℕ → ℕ → ℕ → List A
+items item size s at zero = []
+items item size s at (suc n) = item s at ∷ items item size s (at + size) n
+
+-- the same as a field; 10: record ends inside it
+unfoldable pub readItems : {A : Type 0} → (List ℕ → ℕ → A) → ℕ → ℕ → List ℕ → ℕ → Step (List A)
+readItems item size n s at = choose (leb (at + size * n) (length s)) (Whole (items item size s at n, at + size * n)) (Refused 10)
+
+-- a field of a count of bytes that are not looked at; 10: record ends inside it
+unfoldable pub skipped : ℕ → List ℕ → ℕ → Step ℕ
+skipped count s at = choose (leb (at + count) (length s)) (Whole (at, at + count)) (Refused 10)
+
+-- words, 8 bytes LE each
+abbrev pub readWords : ℕ → List ℕ → ℕ → Step (List ℕ)
+readWords n s at = readItems wordAt 8 n s at
+
+-- blocks, 16 bytes each
+abbrev pub blockAt : List ℕ → ℕ → List ℕ
+blockAt s at = part s at 16
+
+abbrev pub readBlocks : ℕ → List ℕ → ℕ → Step (List (List ℕ))
+readBlocks n s at = readItems blockAt 16 n s at
+
+-- a size; 2: outside its range
+unfoldable pub readSize : ℕ → List ℕ → ℕ → Step ℕ
+readSize top s at = tested (readNumber s at) (λ n. isSize top n) 2
+
+-- a position, written less `base`; 4: N or more
+unfoldable pub readPosition : ℕ → ℕ → List ℕ → ℕ → Step ℕ
+readPosition base all s at = tested (then (readNumber s at) λ x next. Whole (base + x, next)) (λ p. ltb p all) 4
+
+-- a noise value, in field 2 only; 5: not admitted
+unfoldable pub readValue : ℕ → List ℕ → ℕ → Step ℕ
+readValue field s at =
+    choose (eqb field 1) (Whole (1, at))
+    (tested (choose (leb (at + 8) (length s)) (Whole (wordAt s at, at + 8)) (Refused 10)) (λ y. isNoise field y) 5)
+
+-- a correction; 8: not an element
+unfoldable pub readCorrection : ℕ → List ℕ → ℕ → Step (List ℕ)
+readCorrection field s at = tested (readWords (elementWords field) s at) (λ c. isElement field c) 8
+
+-- Δ; 6: zero, or not an element
+unfoldable pub readDelta : ℕ → List ℕ → ℕ → Step (List ℕ)
+readDelta field s at = tested (readWords (elementWords field) s at) (λ c. isScalar field c) 6
+
+-- ---- records
+
+-- the end byte; 9: not this end's. The field byte; 1: not 1 or 2
+unfoldable pub readField : ℕ → List ℕ → Step ℕ
+readField end s = then (tested (readByte s 0) (λ e. eqb e end) 9) λ e at. tested (readByte s at) isField 1
+
+-- d, t, ℓ, n and the code key, after the field byte
+unfoldable pub readSizes : ℕ → List ℕ → ℕ → Step Head
+readSizes field s at1 =
+    then (readSize 16 s at1) λ d at2.
+    then (readSize (mostTrees d) s at2) λ t at3.
+    then (readSize 32 s at3) λ l at4.
+    then (readSize (mostOutputs d) s at4) λ n at5.
+    then (readBytes 16 s at5) λ key at6.
+    Whole (record { field = field; depth = d; trees = t; terms = l; outputs = n; codeKey = key }, at6)
+
+-- the head
+unfoldable pub readHead : ℕ → List ℕ → Step Head
+readHead end s = then (readField end s) λ field at. readSizes field s at
+
+-- a tree, after positions below `base`
+unfoldable pub readTree : ℕ → ℕ → ℕ → List ℕ → ℕ → Step NoiseTree
+readTree field depth base s at =
+    then (readPosition base (2 ^ depth) s at) λ position at1.
+    then (readValue field s at1) λ value at2.
+    then (readCorrection field s at2) λ correction at3.
+    then (readBlocks depth s at3) λ siblings at4.
+    Whole (record { position = position; value = value; correction = correction; siblings = siblings }, at4)
+
+-- n trees, one after the other
+unfoldable pub readTrees : ℕ → ℕ → ℕ → ℕ → List ℕ → ℕ → Step (List NoiseTree)
+readTrees field depth zero base s at = Whole ([], at)
+readTrees field depth (suc n) base s at =
+    then (readTree field depth base s at) λ t next.
+    then (readTrees field depth n (t .position + 1) s next) λ ts end.
+    Whole (t ∷ ts, end)
+
+-- the end of a record; 12: bytes after it
+abbrev pub ended : {A : Type 0} → List ℕ → ℕ → A → Reading A
+ended s at x = choose (ltb at (length s)) (Refused 12) (Whole x)
+
+-- the noise record
+unfoldable pub readNoise : List ℕ → Reading NoisePart
+readNoise s =
+    then (readHead 1 s) λ h body.
+    then (readTrees (h .field) (h .depth) (h .trees) 0 s body) λ trees end.
+    ended s end (record { head = h; trees = trees })
+
+-- the scalar record
+unfoldable pub readScalar : List ℕ → Reading ScalarPart
+readScalar s =
+    then (readHead 2 s) λ h body.
+    then (readDelta (h .field) s body) λ delta at.
+    then (readBlocks (h .trees) s at) λ roots end.
+    ended s end (record { head = h; delta = delta; roots = roots })
+
+-- ---- what the answers of the code say
+
+-- the head that its numbers give: the code key is the 16 bytes before the body
+abbrev pub headOf : List ℕ → Front → Head
+headOf s f =
+    record {
+      field = f .field;
+      depth = f .depth;
+      trees = f .trees;
+      terms = f .terms;
+      outputs = f .outputs;
+      codeKey = part s (f .body - 16) 16;
+    }
+
+-- the head and the place of the body, or the number
+abbrev pub opened : List ℕ → Opened → Step Head
+opened s (Accepted f) = Whole (headOf s f, f .body)
+opened s (Fault k) = Refused k
+
+-- the head, where the whole record was read
+abbrev pub frontOf : {A : Type 0} → Reading A → Step Head → Step Head
+frontOf (Whole x) head = head
+frontOf (Refused k) head = Refused k
+
+-- a tree's position and the place after it
+abbrev pub treeFront : Step NoiseTree → Step ℕ
+treeFront (Whole r) = Whole (r .0 .position, r .1)
+treeFront (Refused k) = Refused k
+
+-- an element's first word and the place after it
+abbrev pub firstWord : Step (List ℕ) → Step ℕ
+firstWord (Whole r) = Whole (getD (r .0) 0 0, r .1)
+firstWord (Refused k) = Refused k
+
+-- the tree that its numbers give
+abbrev pub treeOf : List ℕ → ℕ → ℕ → Tree → NoiseTree
+treeOf s field depth k =
+    record {
+      position = k .position;
+      value = k .value;
+      correction = elementOf field (k .low) (k .high);
+      siblings = items blockAt 16 s (k .siblings) depth;
+    }

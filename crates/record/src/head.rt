@@ -1,0 +1,136 @@
+// The head of a record, which both ends share.
+ghost use mathlib.Core.Path.{_≡_};
+ghost use Prim.Native.Nat.{_+_, _^_, _≤_, _<_, min};
+ghost use lib.Dec.{leb};
+ghost use lib.ListN.{length};
+ghost use Rattle.number.specs.Number.{numberRead};
+ghost use Rattle.record.specs.Reading.{skipped, readSize, readField, readSizes, readHead, opened};
+use crate::FIELD_UNKNOWN;
+use crate::Front;
+use crate::OTHER_END;
+use crate::Opened;
+use crate::SIZE_OUTSIDE;
+use number::Number;
+use number::RECORD_ENDS;
+use number::fault_of;
+use number::read_number;
+
+// The number of leaves of a tree.
+pub fn leaves(depth: usize) -> usize
+    requires { ⌜ depth ≤ 16 ⌝ }
+    ensures { λ r. ⌜ r ≡ 2 ^ depth ⌝ }
+{
+    1usize << depth
+}
+
+// The smaller of two numbers.
+fn smaller(a: usize, b: usize) -> usize
+    ensures { λ r. ⌜ r ≡ min a b ⌝ }
+{
+    if a <= b { a } else { b }
+}
+
+// Whether a record has a count of bytes from a place on.
+pub fn has_bytes(source: &[u8], at: usize, count: usize) -> bool
+    ensures { λ r. ⌜ r ≡ leb (at + count) (length (now (source .entry))) ⌝ }
+{
+    if source.len() < count {
+        return false;
+    }
+    at <= source.len() - count
+}
+
+// A field of a count of bytes; the value is its place.
+pub fn skip(source: &[u8], at: usize, count: usize) -> Number
+    ensures { λ r. ⌜ numberRead r ≡ skipped count (now (source .entry)) at ⌝ }
+{
+    if has_bytes(source, at, count) {
+        return Number::Value(at, at + count);
+    }
+    Number::Fault(RECORD_ENDS)
+}
+
+// A size of 1 to `top`.
+pub fn read_size(source: &[u8], at: usize, top: usize) -> Number
+    ensures { λ r. ⌜ numberRead r ≡ readSize top (now (source .entry)) at ⌝ }
+{
+    let r = read_number(source, at);
+    let Number::Value(n, next) = r else {
+        return r;
+    };
+    if n < 1 {
+        return Number::Fault(SIZE_OUTSIDE);
+    }
+    if top < n {
+        return Number::Fault(SIZE_OUTSIDE);
+    }
+    Number::Value(n, next)
+}
+
+// The end byte and the field byte; the value is the field.
+pub fn read_field(source: &[u8], end: u8) -> Number
+    ensures { λ r. ⌜ numberRead r ≡ readField end (now (source .entry)) ⌝ }
+{
+    if source.len() <= 0 {
+        return Number::Fault(RECORD_ENDS);
+    }
+    if source[0] != end {
+        return Number::Fault(OTHER_END);
+    }
+    if source.len() <= 1 {
+        return Number::Fault(RECORD_ENDS);
+    }
+    if source[1] == 1 {
+        return Number::Value(1, 2);
+    }
+    if source[1] == 2 {
+        return Number::Value(2, 2);
+    }
+    Number::Fault(FIELD_UNKNOWN)
+}
+
+// d, t, ℓ, n and the code key.
+fn read_sizes(source: &[u8], at1: usize, field: usize) -> Opened
+    ensures { λ r. ⌜ opened (now (source .entry)) r ≡ readSizes field (now (source .entry)) at1 ⌝ }
+{
+    let r1 = read_size(source, at1, 16);
+    let Number::Value(depth, at2) = r1 else {
+        return Opened::Fault(fault_of(r1));
+    };
+    let all = leaves(depth);
+    let r2 = read_size(source, at2, smaller(64, all));
+    let Number::Value(trees, at3) = r2 else {
+        return Opened::Fault(fault_of(r2));
+    };
+    let r3 = read_size(source, at3, 32);
+    let Number::Value(terms, at4) = r3 else {
+        return Opened::Fault(fault_of(r3));
+    };
+    let r4 = read_size(source, at4, all / 2);
+    let Number::Value(outputs, at5) = r4 else {
+        return Opened::Fault(fault_of(r4));
+    };
+    let r5 = skip(source, at5, 16);
+    let Number::Value(_, body) = r5 else {
+        return Opened::Fault(fault_of(r5));
+    };
+    Opened::Accepted(Front {
+        field: field,
+        depth: depth,
+        trees: trees,
+        terms: terms,
+        outputs: outputs,
+        body: body,
+    })
+}
+
+// The head of a record of this end.
+pub fn read_head(source: &[u8], end: u8) -> Opened
+    ensures { λ r. ⌜ opened (now (source .entry)) r ≡ readHead end (now (source .entry)) ⌝ }
+{
+    let r = read_field(source, end);
+    let Number::Value(field, at) = r else {
+        return Opened::Fault(fault_of(r));
+    };
+    read_sizes(source, at, field)
+}

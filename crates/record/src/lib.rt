@@ -1,0 +1,66 @@
+// Key records: reading the noise record and the scalar record with every test, a second pass over what was accepted, and
+// writing both.
+mod element;
+mod head;
+mod noise;
+mod scalar;
+mod writing;
+
+pub use element::element_length;
+pub use head::leaves;
+pub use noise::known_tree;
+pub use noise::read_noise;
+pub use scalar::read_scalar;
+pub use writing::head_length;
+pub use writing::noise_length;
+pub use writing::scalar_length;
+pub use writing::write_bytes;
+pub use writing::write_element;
+pub use writing::write_front;
+pub use writing::write_head;
+pub use writing::write_scalar;
+
+// Document 01's numbers of refusals in a record, beside those of `number`.
+// Field byte not 1 or 2.
+pub const FIELD_UNKNOWN: u32 = 1;
+// d, t, ℓ or n outside its range.
+pub const SIZE_OUTSIDE: u32 = 2;
+// Position not rising, or N or more.
+pub const POSITION_OUTSIDE: u32 = 4;
+// Noise value not admitted.
+pub const VALUE_NOT_ADMITTED: u32 = 5;
+// Δ zero, or not an element.
+pub const DELTA_NOT_ADMITTED: u32 = 6;
+// Correction not an element.
+pub const NOT_ELEMENT: u32 = 8;
+// End byte not this end's.
+pub const OTHER_END: u32 = 9;
+// Bytes after the record.
+pub const BYTES_AFTER: u32 = 12;
+
+// The head of a record in numbers: field, d, t, ℓ, n, and the place after the code key, where the body begins.
+pub struct Front {
+    pub field: usize,
+    pub depth: usize,
+    pub trees: usize,
+    pub terms: usize,
+    pub outputs: usize,
+    pub body: usize,
+}
+
+// What reading a record gives.
+pub enum Opened {
+    // A record that passed every test.
+    Accepted(Front),
+    // The number that the record is refused with.
+    Fault(u32),
+}
+
+// A tree of an accepted noise record: the correction's first and second word (0 where it has one), the siblings' place.
+pub struct Tree {
+    pub position: usize,
+    pub value: u64,
+    pub low: u64,
+    pub high: u64,
+    pub siblings: usize,
+}

@@ -1,0 +1,117 @@
+// The noise record.
+ghost use mathlib.Core.Bool.{true};
+ghost use mathlib.Core.Path.{_≡_};
+ghost use Prim.Native.Nat.{_+_, _*_, _^_, _≤_, _<_};
+ghost use lib.ListN.{getD};
+ghost use Rattle.number.specs.Number.{numberRead};
+ghost use Rattle.number.specs.Reading.{Whole, isWhole};
+ghost use Rattle.record.specs.Content.{elementOf};
+ghost use Rattle.record.specs.Reading.{readPosition, readTree, readHead, readNoise, treeFront, frontOf, opened, treeOf};
+use crate::BYTES_AFTER;
+use crate::Opened;
+use crate::POSITION_OUTSIDE;
+use crate::Tree;
+use crate::element::read_correction;
+use crate::element::read_value;
+use crate::head::leaves;
+use crate::head::read_head;
+use crate::head::skip;
+use field::word_at;
+use number::Number;
+use number::fault_of;
+use number::known_number;
+use number::read_number;
+
+// A position below `all`, after positions below `base`.
+fn read_position(source: &[u8], at: usize, base: usize, all: usize) -> Number
+    requires { ⌜ base ≤ all ⌝ }
+    ensures { λ r. ⌜ numberRead r ≡ readPosition base all (now (source .entry)) at ⌝ }
+{
+    let r = read_number(source, at);
+    let Number::Value(x, next) = r else {
+        return r;
+    };
+    if all - base <= x {
+        return Number::Fault(POSITION_OUTSIDE);
+    }
+    Number::Value(base + x, next)
+}
+
+// A tree after positions below `base`; the value is its position.
+fn read_tree(source: &[u8], at: usize, base: usize, field: usize, depth: usize) -> Number
+    requires { ⌜ (base ≤ 2 ^ depth) × (depth ≤ 16) ⌝ }
+    ensures { λ r. ⌜ numberRead r ≡ treeFront (readTree field depth base (now (source .entry)) at) ⌝ }
+{
+    let r0 = read_position(source, at, base, leaves(depth));
+    let Number::Value(position, at1) = r0 else {
+        return r0;
+    };
+    let r1 = read_value(source, at1, field);
+    let Number::Value(_, at2) = r1 else {
+        return r1;
+    };
+    let r2 = read_correction(source, at2, field);
+    let Number::Value(_, at3) = r2 else {
+        return r2;
+    };
+    let r3 = skip(source, at3, 16 * depth);
+    let Number::Value(_, at4) = r3 else {
+        return r3;
+    };
+    Number::Value(position, at4)
+}
+
+// The noise record, whole and tested.
+pub fn read_noise(source: &[u8]) -> Opened
+    ensures { λ r. ⌜ opened (now (source .entry)) r ≡ frontOf (readNoise (now (source .entry))) (readHead 1 (now (source .entry))) ⌝ }
+{
+    let r = read_head(source, 1);
+    let Opened::Accepted(front) = r else {
+        return r;
+    };
+    let field = front.field;
+    let depth = front.depth;
+    let trees = front.trees;
+    let mut at = front.body;
+    let mut base: usize = 0;
+    let mut i: usize = 0;
+    while i < trees {
+        let t = read_tree(source, at, base, field, depth);
+        let Number::Value(position, next) = t else {
+            return Opened::Fault(fault_of(t));
+        };
+        base = position + 1;
+        at = next;
+        i += 1;
+    }
+    if at < source.len() {
+        return Opened::Fault(BYTES_AFTER);
+    }
+    Opened::Accepted(front)
+}
+
+// The tree at a place of an accepted noise record, after positions below `base`. The next tree follows its siblings.
+pub fn known_tree(source: &[u8], at: usize, base: usize, field: usize, depth: usize) -> Tree
+    requires { ⌜ (isWhole (readTree field depth base (now source) at) ≡ true) × (depth ≤ 16) ⌝ }
+    ensures { λ r. ⌜ (Whole (treeOf (now (source .entry)) field depth r, r .siblings + 16 * depth) ≡ readTree field depth base (now (source .entry)) at) × (r .high ≡ getD (elementOf field (r .low) (r .high)) 1 0) ⌝ }
+{
+    let number = known_number(source, at);
+    let next = number.next;
+    let position = base + number.number;
+    if field == 1 {
+        return Tree {
+            position: position,
+            value: 1,
+            low: word_at(source, next),
+            high: word_at(source, next + 8),
+            siblings: next + 16,
+        };
+    }
+    Tree {
+        position: position,
+        value: word_at(source, next),
+        low: word_at(source, next + 8),
+        high: 0,
+        siblings: next + 16,
+    }
+}
