@@ -7,4 +7,3 @@ pub mod ByteWords
 pub mod BinaryField
 pub mod PrimeField
 pub mod BothKinds
-pub mod Cases

@@ -1,4 +1,3 @@
-pub mod Cases
 pub mod Laws
 pub mod Places
 mod Steps

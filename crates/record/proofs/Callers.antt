@@ -11,15 +11,17 @@ use lib.Dec.{eqb}
 use lib.ListN.{length, getD, drop}
 use lib.Seq.{getD-drop, drop-drop}
 use Rattle.field.specs.Bytes.{wordAt}
-use Rattle.number.proofs.Places.{refused-whole, whole-is, tested-whole, choose-yes, choose-no}
+use Rattle.field.specs.Prime.{modulus}
+use Rattle.number.proofs.Places.{either, refused-whole, whole-is, tested-whole, choose-yes, choose-no}
 use Rattle.number.specs.Reading.{Reading, Whole, Refused, isWhole, Step}
+use Rattle.record.proofs.Again.{position-parts, value-parts-1, value-parts-2, correction-parts}
 use Rattle.record.proofs.Exact.{field-exact}
 use Rattle.record.proofs.Heads.{size-range}
 use Rattle.record.proofs.Items.{items-whole}
-use Rattle.record.proofs.Parts.{head-parts, trees-parts, noise-parts, scalar-parts}
-use Rattle.record.specs.Admitted.{isField, mostTrees, mostOutputs, isScalar}
+use Rattle.record.proofs.Parts.{head-parts, tree-parts, trees-parts, noise-parts, scalar-parts}
+use Rattle.record.specs.Admitted.{isField, isSize, mostTrees, mostOutputs, isNoise, isElement, isScalar}
 use Rattle.record.specs.Content.{Head, NoiseTree, NoisePart, ScalarPart, elementWords}
-use Rattle.record.specs.Reading.{items, blockAt, readWords, readBlocks, readDelta, readHead, readTree, readTrees, readNoise, readScalar, frontOf}
+use Rattle.record.specs.Reading.{items, blockAt, readWords, readBlocks, readValue, readDelta, readHead, readTree, readTrees, readNoise, readScalar, frontOf}
 
 -- ---- the head
 
@@ -100,6 +102,36 @@ noise-opened s {h} {body} e =
         trees = ap (λ (x : Head × ℕ). readTrees (x .0 .field) (x .0 .depth) (x .0 .trees) 0 s (x .1)) (sym z) ∙ a .3;
       },
     )
+
+-- ---- a tree that was read
+
+pub record TreeRanges (field depth base : ℕ) (s : List ℕ) (t : NoiseTree) (next : ℕ) : Type 0 where
+  pub rising : base ≤ t .position
+  pub below : t .position < 2 ^ depth
+  pub value : isNoise field (t .value) ≡ true
+  pub correction : isElement field (t .correction) ≡ true
+  pub room : next ≤ length s
+
+pub tree-ranges : (field depth base : ℕ) (s : List ℕ) (at : ℕ) {t : NoiseTree} {next : ℕ} → readTree field depth base s at ≡ Whole (t, next)
+    → TreeRanges field depth base s t next
+tree-ranges field depth base s at {t} {next} e =
+    let p = tree-parts field depth base s at e in
+    let a = position-parts base (2 ^ depth) s at (p .position) in
+    let c = correction-parts field s (p .at2) (p .correction) in
+    let b = items-whole blockAt 16 depth s (p .at3) (p .siblings) in
+    record {
+      rising = omega (arith, a .2);
+      below = a .3;
+      value = value-test field s (p .at1) (p .value);
+      correction = c .3;
+      room = omega (arith, b .0, b .2);
+    }
+  where
+    value-test : (f : ℕ) (u : List ℕ) (i : ℕ) {y k : ℕ} → readValue f u i ≡ Whole (y, k) → isNoise f y ≡ true
+    value-test f u i {y} g =
+        either f 1
+        (λ h. choose-yes (eqb y 1) (isSize (modulus - 1) y) (eq-eqb f 1 h) ∙ eq-eqb y 1 (value-parts-1 f u i h g .0))
+        (λ h. value-parts-2 f u i h g .3)
 
 -- ---- the second pass: tree i of an accepted record, where trees 0 to i − 1 have been passed
 

@@ -1,6 +1,5 @@
 mod Again
 pub mod Callers
-pub mod Cases
 pub mod Exact
 mod Fields
 mod Heads

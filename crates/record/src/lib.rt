@@ -11,6 +11,7 @@ pub use head::leaves;
 pub use noise::known_tree;
 pub use noise::read_noise;
 pub use scalar::read_scalar;
+pub use writing::front_length;
 pub use writing::head_length;
 pub use writing::noise_length;
 pub use writing::scalar_length;

@@ -118,7 +118,7 @@ pub fn head_length(depth: usize, trees: usize, terms: usize, outputs: usize) -> 
 }
 
 // How many bytes a tree takes up to its siblings.
-fn front_length(field: usize, base: usize, position: usize) -> usize
+pub fn front_length(field: usize, base: usize, position: usize) -> usize
     requires { ⌜ base ≤ position ⌝ }
     ensures { λ r. ⌜ r ≡ frontLength field base position ⌝ }
 {

@@ -14,26 +14,12 @@ use Rattle.algebra.specs.Choice.{choose}
 use Rattle.tree.specs.Tree.{path, reach, leafAt, siblingAt, listed, siblings, follow, fromSiblings}
 use Rattle.tree.specs.Added.{leafElement, puncturedElement}
 use Rattle.tree.proofs.Paths.{bit, path-none, bit-below, bit-low, bit-high, path-high, mod-suc-bit}
+use Rattle.tree.proofs.Listed.{length-listed, listed-front}
 
 -- a condition on each of a list's values
 abbrev pub Each : {A : Type 0} → (A → Type 0) → List A → Type 0
 Each P [] = Unit {0}
 Each P (x ∷ xs) = P x × Each P xs
-
--- ---- lists by index
-
-length-listed : {A : Type 0} (n : ℕ) (f : ℕ → A) → length (listed n f) ≡ n
-unfolding listed
-length-listed zero f = refl
-length-listed (suc n) f = length-append (listed n f) (f n ∷ []) ∙ ap (λ k. k + 1) (length-listed n f) ∙ one-more n
-  where
-    one-more : (n : ℕ) → n + 1 ≡ suc n
-    one-more n = omega arith
-
-listed-front : {A : Type 0} (n : ℕ) (f : ℕ → A) → listed (suc n) f ≡ f 0 ∷ listed n (λ k. f (suc k))
-unfolding listed
-listed-front zero f = refl
-listed-front (suc n) f = ap (λ l. l ++ (f (suc n) ∷ [])) (listed-front n f)
 
 flip-below : (b : ℕ) → 1 - b < 2
 flip-below b = omega arith

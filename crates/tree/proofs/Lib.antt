@@ -4,5 +4,6 @@ pub mod Laws
 pub mod Added
 pub mod Blocks
 pub mod ChildLaws
+pub mod Listed
 mod Fill
 mod Walked

@@ -1,0 +1,113 @@
+-- The lengths of a dealing's records from its sizes and positions, and the roots as blocks of the input. Assumes nothing.
+use mathlib.Core.Path.{_≡_, refl, sym, ap, ap₂, _∙_}
+use mathlib.Core.List.{List, [], _∷_, _++_}
+use Prim.Native.Nat.{ℕ, zero, suc, _+_, _*_, _^_, _≤_, _<_}
+use native.Mathlib.Omega.{arith}
+use native.Mathlib.Numerals.{add-one}
+use lib.ListN.{length, getD, take, drop, length-append}
+use lib.Seq.{drop-cons}
+use Rattle.field.specs.Bytes.{wordAt}
+use Rattle.number.specs.Reading.{part}
+use Rattle.record.proofs.Writes.{length-head, length-element}
+use Rattle.record.specs.Admitted.{Rising}
+use Rattle.record.specs.Content.{NoiseTree}
+use Rattle.record.specs.Reading.{items, blockAt}
+use Rattle.record.specs.Writing.{flat, writeBlocks, writeHead, writeWords, writeTree, writeTrees, writeNoise, writeScalar, frontLength, treesLength, headLength, elementLength, noiseLength, scalarLength}
+use Rattle.tree.proofs.Blocks.{length-block}
+use Rattle.tree.proofs.Listed.{listed-none, listed-front, listed-cong, listed-getD}
+use Rattle.tree.specs.Columns.{fourAt, columnsAt, columnBytes, blockBytes}
+use Rattle.tree.specs.Tree.{listed}
+use Rattle.dealing.specs.Admitted.{Admitted}
+use Rattle.dealing.specs.Input.{Input, deltaWords}
+use Rattle.dealing.specs.Parts.{noiseTree, noisePart, scalarPart}
+use Rattle.dealing.specs.Vectors.{head, position, root}
+use Rattle.dealing.proofs.Written.{tree-length}
+
+-- ---- the noise record
+
+trees-length : (k d n base : ℕ) (f : ℕ → NoiseTree)
+    → ((i : ℕ) → i < n → (b : ℕ) → length (writeTree k b (f i)) ≡ frontLength k b (f i .position) + 16 * d)
+    → length (writeTrees k base (listed n f)) ≡ treesLength k d base (listed n (λ i. f i .position))
+unfolding writeTrees treesLength
+trees-length k d zero base f each = rw (listed-none f, listed-none (λ i. f i .position))
+trees-length k d (suc n) base f each =
+    ap (λ l. length (writeTrees k base l)) (listed-front n f)
+    ∙ length-append (writeTree k base (f 0)) (writeTrees k (f 0 .position + 1) (listed n (λ i. f (suc i))))
+    ∙ ap₂ (λ a b. a + b) (each 0 (omega arith) base) (trees-length k d n (f 0 .position + 1) (λ i. f (suc i)) (λ i h. each (suc i) (omega arith)))
+    ∙ sym (ap (treesLength k d base) (listed-front n (λ i. f i .position)))
+
+module _ (I : Input) (A : Admitted I) where
+  positions-listed : listed (I .trees) (λ i. noiseTree I i .position) ≡ I .positions
+  unfolding noiseTree
+  positions-listed = ap (λ n. listed n (position I)) (sym (A .positions)) ∙ listed-getD (I .positions) 0
+
+  pub noise-bytes : noiseLength (I .field) (I .depth) (I .trees) (I .terms) (I .outputs) (I .positions) ≡ length (writeNoise (noisePart I))
+  unfolding noiseLength writeNoise noiseTree
+  noise-bytes =
+      sym
+      (length-append (writeHead 1 (head I)) (writeTrees (I .field) 0 (listed (I .trees) (noiseTree I)))
+      ∙ ap₂ (λ a b. a + b) (length-head 1 (head I) (A .codeKey))
+      (trees-length (I .field) (I .depth) (I .trees) 0 (noiseTree I) (λ i h b. tree-length I i b) ∙ ap (treesLength (I .field) (I .depth) 0) positions-listed))
+
+-- ---- the scalar record
+
+blocks-length : (n : ℕ) (f : ℕ → List ℕ) → ((i : ℕ) → i < n → length (f i) ≡ 16) → length (writeBlocks (listed n f)) ≡ 16 * n
+unfolding flat
+blocks-length zero f each = rw listed-none
+blocks-length (suc n) f each =
+    ap (λ l. length (writeBlocks l)) (listed-front n f)
+    ∙ length-append (f 0) (writeBlocks (listed n (λ i. f (suc i))))
+    ∙ ap₂ (λ a b. a + b) (each 0 (omega arith)) (blocks-length n (λ i. f (suc i)) (λ i h. each (suc i) (omega arith)))
+    ∙ omega arith
+
+pub scalar-bytes : (I : Input) → Admitted I → scalarLength (I .field) (I .depth) (I .trees) (I .terms) (I .outputs) ≡ length (writeScalar (scalarPart I))
+unfolding scalarLength writeScalar
+scalar-bytes I A =
+    let blocks = writeBlocks (listed (I .trees) (λ i. blockBytes (root I i))) in
+    sym
+    (length-append (writeHead 2 (head I)) (writeWords (deltaWords I) ++ blocks)
+    ∙ ap₂ (λ a b. a + b) (length-head 2 (head I) (A .codeKey))
+    (length-append (writeWords (deltaWords I)) blocks
+    ∙ ap₂ (λ a b. a + b) (length-element (I .field) (wordAt (I .delta) 0) (wordAt (I .delta) 8))
+    (blocks-length (I .trees) (λ i. blockBytes (root I i)) (λ i h. length-block (root I i)))))
+
+-- the bytes at a place, one by one and four by four
+part-one : (l : List ℕ) (at next n : ℕ) → next ≡ at + 1 → at < length l → part l at (suc n) ≡ getD l at 0 ∷ part l next n
+part-one l at next n e h = ap (take (suc n)) (drop-cons l at 0 h) ∙ ap (λ k. getD l at 0 ∷ part l k n) (sym (e ∙ add-one at))
+
+part-four : (l : List ℕ) (at next n : ℕ) → next ≡ at + 4 → at + 4 ≤ length l
+    → part l at (suc (suc (suc (suc n)))) ≡ getD l at 0 ∷ getD l (at + 1) 0 ∷ getD l (at + 2) 0 ∷ getD l (at + 3) 0 ∷ part l next n
+part-four l at next n e h =
+    part-one l at (at + 1) (suc (suc (suc n))) refl (omega arith)
+    ∙ ap (λ r. getD l at 0 ∷ r)
+    (part-one l (at + 1) (at + 2) (suc (suc n)) (omega arith) (omega arith)
+    ∙ ap (λ r. getD l (at + 1) 0 ∷ r)
+    (part-one l (at + 2) (at + 3) (suc n) (omega arith) (omega arith)
+    ∙ ap (λ r. getD l (at + 2) 0 ∷ r) (part-one l (at + 3) next n (omega arith) (omega arith))))
+
+-- the 16 bytes at a place are those of the block there
+block-part : (l : List ℕ) (at : ℕ) → at + 16 ≤ length l → blockBytes (columnsAt l at) ≡ part l at 16
+unfolding blockBytes columnsAt
+block-part l at h =
+    sym
+    (part-four l at (at + 4) 12 refl (omega arith)
+    ∙ ap (λ r. columnBytes (fourAt l at) r)
+    (part-four l (at + 4) (at + 8) 8 (omega arith) (omega arith)
+    ∙ ap (λ r. columnBytes (fourAt l (at + 4)) r)
+    (part-four l (at + 8) (at + 12) 4 (omega arith) (omega arith)
+    ∙ ap (λ r. columnBytes (fourAt l (at + 8)) r) (part-four l (at + 12) (at + 16) 0 (omega arith) (omega arith)))))
+
+-- items by index
+items-listed : {A : Type 0} (item : List ℕ → ℕ → A) (size : ℕ) (s : List ℕ) (n at : ℕ) → items item size s at n ≡ listed n (λ i. item s (at + size * i))
+unfolding items
+items-listed item size s zero at = sym (listed-none _)
+items-listed item size s (suc n) at =
+    ap₂ (λ x l. x ∷ l) (ap (item s) (omega arith))
+    (items-listed item size s n (at + size) ∙ listed-cong n _ _ (λ i h. ap (item s) (omega arith)))
+    ∙ sym (listed-front n (λ i. item s (at + size * i)))
+
+pub roots-blocks : (I : Input) → Admitted I → items blockAt 16 (I .roots) 0 (I .trees) ≡ listed (I .trees) (λ i. blockBytes (root I i))
+roots-blocks I A =
+    items-listed blockAt 16 (I .roots) (I .trees) 0
+    ∙ listed-cong (I .trees) _ _
+    (λ i h. ap (blockAt (I .roots)) {x = 0 + 16 * i} {y = 16 * i} (omega arith) ∙ sym (block-part (I .roots) (16 * i) (omega (arith, A .roots))))

@@ -1,0 +1,220 @@
+-- Both ends' parts of an admitted dealing are contents that a record may hold.
+use mathlib.Core.Path.{_≡_, refl, sym, ap, ap₂, _∙_}
+use mathlib.Core.Bool.{Bool, true, false, _&&_, _||_}
+use mathlib.Core.List.{List, [], _∷_, _++_, map}
+use mathlib.Core.Logic.{_⊎_, inl, inr, ⊎-elim}
+use Prim.Native.Nat.{ℕ, zero, suc, _+_, _-_, _*_, _%_, _^_, _≤_, _<_}
+use native.Mathlib.Nat.{mod-lt, lt-trans}
+use native.Mathlib.Omega.{arith}
+use borrow.Author.Tests.{lt-ltb, ltb-true, ltb-false}
+use lib.Bits.{xor-lt}
+use lib.Dec.{ltb, eqb, lit<}
+use lib.ListN.{length, getD, List·getD-eq-default}
+use Rattle.algebra.proofs.Tests.{and-left}
+use Rattle.algebra.specs.Expansion.{correction}
+use Rattle.algebra.specs.Field.{Value, Scalar}
+use Rattle.field.proofs.ByteWords.{leNumber-below, lowOf-below, highOf-below}
+use Rattle.field.specs.Bytes.{eightAt, wordAt, lowOf, highOf}
+use Rattle.field.specs.Binary.{block, blockScale}
+use Rattle.field.specs.declared.prime.Prime.{Prime}
+use Rattle.field.specs.Kind.{kindOf}
+use Rattle.field.specs.Prime.{modulus, prime, primeSub, primeMul, primeLeaf}
+use Rattle.aes128.proofs.Sizes.{four-bytes, four-words}
+use Rattle.aes128.specs.State.{column, IsWord, IsState}
+use Rattle.number.specs.Reading.{Bytes}
+use Rattle.record.specs.Admitted.{isField, isNoise, isElement, isScalar, Each, Block, Word, AdmittedHead, AdmittedTree, AdmittedTrees, AdmittedNoise, AdmittedScalar}
+use Rattle.record.specs.Content.{NoiseTree, elementWords, elementOf}
+use Rattle.tree.proofs.Blocks.{length-block}
+use Rattle.tree.proofs.ChildLaws.{leaf-state, siblings-states}
+use Rattle.tree.proofs.Laws as tree
+use Rattle.tree.proofs.Listed.{length-listed, listed-none, listed-front}
+use Rattle.tree.specs.Child.{child}
+use Rattle.tree.specs.Columns.{fourAt, columnsAt, columnBytes, blockBytes}
+use Rattle.tree.specs.Tree.{listed, siblings, leafAt}
+use Rattle.dealing.specs.Admitted.{InMemory, Admitted}
+use Rattle.dealing.specs.Input.{Input, deltaWords, deltaAdmitted}
+use Rattle.dealing.specs.Parts.{noiseTree, noisePart, scalarPart}
+use Rattle.dealing.specs.Vectors.{head, field, position, root, leaf, delta, value, treeCorrection}
+use Rattle.dealing.proofs.Faults.{size-is, field-is, noise-is, delta-is}
+
+-- ---- blocks
+
+-- bytes from a place on are a state
+columns-state : (bytes : List ℕ) (at : ℕ) → ((i : ℕ) → getD bytes i 0 < 256) → IsState (columnsAt bytes at)
+unfolding columnsAt
+columns-state bytes at b = four-words (word at) (word (at + 4)) (word (at + 8)) (word (at + 12))
+  where
+    word : (k : ℕ) → IsWord (fourAt bytes k)
+    word k = four-bytes (b k) (b (k + 1)) (b (k + 2)) (b (k + 3))
+
+bytes-none : Bytes []
+unfolding Bytes
+bytes-none i = lit< tt
+
+bytes-cons : (x : ℕ) (l : List ℕ) → x < 256 → Bytes l → Bytes (x ∷ l)
+unfolding Bytes
+bytes-cons x l h b zero = h
+bytes-cons x l h b (suc i) = b i
+
+-- the bytes of a state
+state-block : (s : List (List ℕ)) → IsState s → Block (blockBytes s)
+unfolding blockBytes
+state-block s h =
+    (refl, next 0 _ (lit< tt) (next 1 _ (lit< tt) (next 2 _ (lit< tt) (next 3 _ (lit< tt) bytes-none))))
+  where
+    next : (c : ℕ) (l : List ℕ) → c < 4 → Bytes l → Bytes (columnBytes (column s c) l)
+    next c l b r =
+        let w = h .words c b .bytes in
+        bytes-cons _ _ (w 0) (bytes-cons _ _ (w 1) (bytes-cons _ _ (w 2) (bytes-cons _ _ (w 3) r)))
+
+states-blocks : (xs : List (List (List ℕ))) → tree.Each IsState xs → Each Block (map blockBytes xs)
+unfolding Each
+states-blocks [] h = tt
+states-blocks (x ∷ xs) h = (state-block x (h .0), states-blocks xs (h .1))
+
+length-map : {A B : Type 0} (f : A → B) (l : List A) → length (map f l) ≡ length l
+length-map f [] = refl
+length-map f (x ∷ l) = ap suc (length-map f l)
+
+-- a condition on each value of a list by index
+each-listed : {A : Type 0} (P : A → Type 0) (n : ℕ) (f : ℕ → A) → ((i : ℕ) → i < n → P (f i)) → Each P (listed n f)
+unfolding Each
+each-listed P zero f h = rw listed-none tt
+each-listed P (suc n) f h = rw listed-front (h 0 (omega arith), each-listed P n (λ k. f (suc k)) (λ i b. h (suc i) (omega arith)))
+
+-- ---- words
+
+eight-bytes : (bytes : List ℕ) (at : ℕ) → ((i : ℕ) → getD bytes i 0 < 256) → Bytes (eightAt bytes at)
+eight-bytes bytes at b =
+    next at _ (next (at + 1) _ (next (at + 2) _ (next (at + 3) _ (next (at + 4) _ (next (at + 5) _ (next (at + 6) _ (next (at + 7) _ bytes-none)))))))
+  where
+    next : (k : ℕ) (l : List ℕ) → Bytes l → Bytes (getD bytes k 0 ∷ l)
+    next k l r = bytes-cons _ l (b k) r
+
+word-below : (bytes : List ℕ) (at : ℕ) → ((i : ℕ) → getD bytes i 0 < 256) → Word (wordAt bytes at)
+unfolding wordAt Bytes
+word-below bytes at b = leNumber-below (eightAt bytes at) (λ k h. eight-bytes bytes at b k)
+
+-- an element of two words
+element-words : (k low high : ℕ) → (k ≡ 1) ⊎ (k ≡ 2) → Word low → Word high
+    → (length (elementOf k low high) ≡ elementWords k) × Each Word (elementOf k low high)
+unfolding Each
+element-words k low high h a b = ⊎-elim (λ e. rw e (refl, (a, (b, tt)))) (λ e. rw e (refl, (a, tt))) h
+
+-- what is known of an element that a record holds
+pub record ElementAdmitted (k : ℕ) (e : List ℕ) : Type 0 where
+  pub words : (length e ≡ elementWords k) × Each Word e
+  pub element : isElement k e ≡ true
+
+state-bytes : (s : List (List ℕ)) → IsState s → (c r : ℕ) → getD (getD s c []) r 0 < 256
+state-bytes s h c r = decide (ltb c 4) refl
+  where
+    decide : (t : Bool) → ltb c 4 ≡ t → getD (getD s c []) r 0 < 256
+    decide true e = h .words c (ltb-true c 4 e) .bytes r
+    decide false e =
+        let out : length s ≤ c = rw (h .size) (ltb-false c 4 e) in
+        rw (List·getD-eq-default s [] out) (lit< tt)
+
+-- a block scaled has words
+scale-words : (y : ℕ) (low high : ℕ) → Word low → Word high → Word (blockScale y (block low high) .low) × Word (blockScale y (block low high) .high)
+unfolding blockScale
+scale-words zero low high a b = (lit< tt, lit< tt)
+scale-words (suc zero) low high a b = (a, b)
+scale-words (suc (suc y)) low high a b = (lit< tt, lit< tt)
+
+-- a difference modulo p
+difference-admitted : (a b : Prime) → ElementAdmitted 2 (primeSub a b .word ∷ [])
+unfolding primeSub Each
+difference-admitted a b =
+    let below : (a .word + (modulus - b .word % modulus)) % modulus < modulus = mod-lt _ (lit< tt) in
+    record { words = (refl, (lt-trans below (lit< tt), tt)); element = lt-ltb _ _ below }
+
+-- a correction is such
+correction-admitted : (k : ℕ) → (k ≡ 1) ⊎ (k ≡ 2) → (low high : ℕ) → Word low → Word high → (s : List (List ℕ)) → IsState s
+    → (y : Scalar (kindOf k .field))
+    → ElementAdmitted k (kindOf k .field .elements .words (correction (kindOf k .field .scaled) (kindOf k .field .elements .read (elementOf k low high) 0) (kindOf k .leaf s) y))
+unfolding correction Each
+correction-admitted zero h low high a b s is y = absurd (⊎-elim (λ e. omega arith) (λ e. omega arith) h)
+correction-admitted (suc zero) h low high a b s is y =
+    let z = scale-words y low high a b in
+    record {
+      words = (refl, (xor-lt 64 _ _ (lowOf-below s (state-bytes s is)) (z .0), (xor-lt 64 _ _ (highOf-below s (state-bytes s is)) (z .1), tt)));
+      element = refl;
+    }
+correction-admitted (suc (suc zero)) h low high a b s is y =
+    difference-admitted (primeLeaf s) (primeMul y (prime low))
+correction-admitted (suc (suc (suc k))) h low high a b s is y = absurd (⊎-elim (λ e. omega arith) (λ e. omega arith) h)
+
+-- ---- parts
+
+-- trees of admitted positions and fields, by index
+trees-admitted : (k d base n : ℕ) (f : ℕ → NoiseTree) → ((i : ℕ) → i < n → (b : ℕ) → b ≤ f i .position → AdmittedTree k d b (f i))
+    → ((i : ℕ) → suc i < n → f i .position < f (suc i) .position) → (0 < n → base ≤ f 0 .position) → AdmittedTrees k d base (listed n f)
+unfolding AdmittedTrees
+trees-admitted k d base zero f each rises least = rw listed-none tt
+trees-admitted k d base (suc n) f each rises least =
+    rw listed-front (
+      each 0 (omega arith) base (least (omega arith)),
+      trees-admitted k d (f 0 .position + 1) n (λ i. f (suc i)) (λ i b. each (suc i) (omega arith)) (λ i b. rises (suc i) (omega arith))
+          (λ b. let r = rises 0 (omega arith) in omega arith),
+    )
+
+module _ (I : Input) (A : Admitted I) (M : InMemory I) where
+  head-admitted : AdmittedHead (head I)
+  unfolding Bytes
+  head-admitted =
+      record {
+        field = field-is (I .field) (A .field);
+        depth = size-is 16 (I .depth) (A .depth .0) (A .depth .1);
+        trees = size-is _ (I .trees) (A .trees .0) (omega (arith, A .trees .1, A .trees .2));
+        terms = size-is 32 (I .terms) (A .terms .0) (A .terms .1);
+        outputs = size-is _ (I .outputs) (A .outputs .0) (A .outputs .1);
+        codeKey = (A .codeKey, M .codeKey);
+      }
+
+  root-state : (i : ℕ) → IsState (root I i)
+  root-state i = columns-state (I .roots) (16 * i) (M .roots)
+
+  tree-admitted : (i : ℕ) → i < I .trees → (base : ℕ) → base ≤ position I i → AdmittedTree (I .field) (I .depth) base (noiseTree I i)
+  unfolding noiseTree
+  tree-admitted i h base b =
+      let c =
+      correction-admitted (I .field) (A .field) _ _ (word-below (I .delta) 0 (M .delta)) (word-below (I .delta) 8 (M .delta))
+      (leafAt child (I .depth) (root I i) (position I i)) (leaf-state (I .depth) (root I i) (position I i) (root-state i)) (value I i)
+      in
+      let beside = siblings child (I .depth) (root I i) (position I i) in
+      record {
+        rising = b;
+        below = lt-ltb _ _ (A .below i h);
+        value = noise-is (I .field) _ (A .field) (A .noise i h);
+        words = c .words;
+        correction = c .element;
+        siblings = (
+          length-map blockBytes beside ∙ tree.length-siblings child (I .depth) (root I i) (position I i),
+          states-blocks beside (siblings-states (I .depth) (root I i) (position I i) (root-state i)),
+        );
+      }
+
+  -- the noise end's part
+  pub noise-admitted : AdmittedNoise (noisePart I)
+  unfolding noiseTree
+  noise-admitted =
+      record {
+        head = head-admitted;
+        count = length-listed (I .trees) (noiseTree I);
+        trees = trees-admitted (I .field) (I .depth) 0 (I .trees) (noiseTree I) tree-admitted (A .rising) (λ b. omega arith);
+      }
+
+  -- the scalar end's part
+  pub scalar-admitted : AdmittedScalar (scalarPart I)
+  unfolding deltaAdmitted
+  scalar-admitted =
+      record {
+        head = head-admitted;
+        words = element-words (I .field) _ _ (A .field) (word-below (I .delta) 0 (M .delta)) (word-below (I .delta) 8 (M .delta));
+        delta = and-left _ _ (delta-is I (A .field) (A .scalar));
+        roots = (
+          length-listed (I .trees) (λ i. blockBytes (root I i)),
+          each-listed Block (I .trees) (λ i. blockBytes (root I i)) (λ i b. state-block (root I i) (root-state i)),
+        );
+      }

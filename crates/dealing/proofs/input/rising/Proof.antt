@@ -1,0 +1,33 @@
+-- `dealing::input::rising` meets its contract. The loop's invariant: what is left of the positions decides; the measure is what is left of them. Assumes nothing.
+use mathlib.Core.Path.{refl}
+use Prim.Native.Nat.{_≤_, _-_}
+use lib.ListN.{length}
+use borrow.Author.Needs.{needs}
+use Rattle.dealing.proofs.Tests.{Left, rising-low, rising-high, rising-next, rising-done}
+use Rattle.dealing.proofs.input.rising.Statement.{statement}
+use Rattle.dealing.proofs.input.rising.Tie as tie
+
+abbrev Inv-loop : tie.InvT-loop
+Inv-loop all positions base₀ i₀ base i = Left all positions base i
+
+abbrev μ-loop : tie.MeasureT-loop
+μ-loop all positions base₀ i₀ base i = length positions - i
+
+pub rising-spec : {M : Type 1} → statement M
+rising-spec =
+    tie.close
+    (tie.spec
+    Inv-loop
+    μ-loop
+    (λ c. refl)  -- loop-holds
+    (λ c. search needs)  -- mul-wide
+    (λ c. search needs)  -- shared-slice-read-wide
+    (λ c κs. search needs)  -- wide-requires
+    (λ c. search rising-low)  -- returns
+    (λ c. search rising-high)  -- returns-2
+    (λ c. search needs)  -- add-base
+    (λ c. search needs)  -- add-i
+    (λ c. search needs)  -- loop-less
+    (λ c. search rising-next)  -- loop-again
+    (λ c. search rising-done)  -- returns-3
+    )

@@ -1,0 +1,83 @@
+-- A dealing's input and its first fault (document 01, 'Sizes', 'Dealing', 'Numbers of the calls').
+use mathlib.Core.Bool.{Bool, true, _&&_, _||_, not}
+use mathlib.Core.List.{List, [], _∷_}
+use Prim.Native.Nat.{ℕ, _+_, _*_, _^_}
+use lib.Dec.{leb, ltb, eqb}
+use lib.ListN.{length}
+use Rattle.algebra.specs.Choice.{choose}
+use Rattle.field.specs.Bytes.{wordAt}
+use Rattle.record.specs.Admitted.{isField, isSize, mostTrees, mostOutputs, isNoise, isScalar}
+use Rattle.record.specs.Content.{elementOf}
+
+-- field, d, t, ℓ, n, t roots of 16 bytes, t positions, t noise values, Δ, the code key
+pub record Input : Type 0 where
+  pub field : ℕ
+  pub depth : ℕ
+  pub trees : ℕ
+  pub terms : ℕ
+  pub outputs : ℕ
+  pub roots : List ℕ
+  pub positions : List ℕ
+  pub values : List ℕ
+  pub delta : List ℕ
+  pub codeKey : List ℕ
+
+abbrev pub inputWith : ℕ → ℕ → ℕ → ℕ → ℕ → List ℕ → List ℕ → List ℕ → List ℕ → List ℕ → Input
+inputWith field depth trees terms outputs roots positions values delta codeKey =
+    record {
+      field = field;
+      depth = depth;
+      trees = trees;
+      terms = terms;
+      outputs = outputs;
+      roots = roots;
+      positions = positions;
+      values = values;
+      delta = delta;
+      codeKey = codeKey;
+    }
+
+-- d is 1 to 16, t 1 to the smaller of 64 and N = 2^d, ℓ 1 to 32, n 1 to N / 2
+unfoldable pub sizesAdmitted : ℕ → ℕ → ℕ → ℕ → Bool
+sizesAdmitted depth trees terms outputs =
+    isSize 16 depth && isSize (mostTrees depth) trees && isSize 32 terms && isSize (mostOutputs depth) outputs
+
+-- every input slice has exactly the length that the sizes call for
+unfoldable pub lengthsAdmitted : ℕ → List ℕ → List ℕ → List ℕ → List ℕ → List ℕ → Bool
+lengthsAdmitted trees roots positions values delta codeKey =
+    eqb (length roots) (16 * trees)
+    && eqb (length positions) trees
+    && eqb (length values) trees
+    && eqb (length delta) 16
+    && eqb (length codeKey) 16
+
+-- positions are `base` or more, strictly rising and below N
+unfoldable pub risingFrom : ℕ → ℕ → List ℕ → Bool
+risingFrom N base [] = true
+risingFrom N base (s ∷ positions) = leb base s && ltb s N && risingFrom N (s + 1) positions
+
+-- every noise value is admitted
+unfoldable pub everyNoise : ℕ → List ℕ → Bool
+everyNoise field [] = true
+everyNoise field (y ∷ values) = isNoise field y && everyNoise field values
+
+-- Δ as its words; field 2 uses the first eight bytes
+abbrev pub wordsOf : ℕ → List ℕ → List ℕ
+wordsOf field delta = elementOf field (wordAt delta 0) (wordAt delta 8)
+
+abbrev pub deltaWords : Input → List ℕ
+deltaWords I = wordsOf (I .field) (I .delta)
+
+-- Δ is an element and not zero; in field 2 its last eight bytes are 00
+unfoldable pub deltaAdmitted : ℕ → List ℕ → Bool
+deltaAdmitted field delta = isScalar field (wordsOf field delta) && (eqb field 1 || eqb (wordAt delta 8) 0)
+
+-- the number of the first fault, in the order 1, 2, 3, 4, 5, 6; 0 where there is none
+unfoldable pub fault : Input → ℕ
+fault I =
+    choose (not (isField (I .field))) 1
+    (choose (not (sizesAdmitted (I .depth) (I .trees) (I .terms) (I .outputs))) 2
+    (choose (not (lengthsAdmitted (I .trees) (I .roots) (I .positions) (I .values) (I .delta) (I .codeKey))) 3
+    (choose (not (risingFrom (2 ^ I .depth) 0 (I .positions))) 4
+    (choose (not (everyNoise (I .field) (I .values))) 5
+    (choose (not (deltaAdmitted (I .field) (I .delta))) 6 0)))))

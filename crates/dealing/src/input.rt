@@ -1,0 +1,188 @@
+// The tests of a dealing's input, in document 01's order: 1, 2, 3, 4, 5, 6.
+ghost use mathlib.Core.Path.{_≡_};
+ghost use Prim.Native.Nat.{_≤_, min};
+ghost use lib.ListN.{length};
+ghost use Rattle.record.specs.Admitted.{isField, isSize, isNoise};
+ghost use Rattle.dealing.specs.Input.{inputWith, sizesAdmitted, lengthsAdmitted, risingFrom, everyNoise, deltaAdmitted, fault};
+use field::Prime;
+use field::word_at;
+use record::DELTA_NOT_ADMITTED;
+use record::FIELD_UNKNOWN;
+use record::POSITION_OUTSIDE;
+use record::SIZE_OUTSIDE;
+use record::VALUE_NOT_ADMITTED;
+use record::leaves;
+use rows::WRONG_LENGTH;
+
+// Whether a byte is a field's.
+fn is_field(field: u8) -> bool
+    ensures { λ r. ⌜ r ≡ isField field ⌝ }
+{
+    field == 1 || field == 2
+}
+
+// Whether a size is 1 to `top`.
+fn is_size(top: usize, size: usize) -> bool
+    ensures { λ r. ⌜ r ≡ isSize top size ⌝ }
+{
+    1 <= size && size <= top
+}
+
+// The smaller of two numbers.
+fn smaller(a: usize, b: usize) -> usize
+    ensures { λ r. ⌜ r ≡ min a b ⌝ }
+{
+    if a <= b { a } else { b }
+}
+
+// Whether d, t, ℓ and n are in their ranges.
+fn sizes_admitted(depth: usize, trees: usize, terms: usize, outputs: usize) -> bool
+    ensures { λ r. ⌜ r ≡ sizesAdmitted depth trees terms outputs ⌝ }
+{
+    if !is_size(16, depth) {
+        return false;
+    }
+    let all = leaves(depth);
+    if !is_size(smaller(64, all), trees) {
+        return false;
+    }
+    if !is_size(32, terms) {
+        return false;
+    }
+    is_size(all / 2, outputs)
+}
+
+// Whether every slice has the length that the sizes call for.
+fn lengths_admitted(
+    trees: usize,
+    roots: &[u8],
+    positions: &[u32],
+    values: &[u64],
+    delta: &[u8],
+    code_key: &[u8],
+) -> bool
+    requires { ⌜ trees ≤ 64 ⌝ }
+    ensures { λ r. ⌜ r ≡ lengthsAdmitted trees (now (roots .entry)) (now (positions .entry)) (now (values .entry)) (now (delta .entry)) (now («code_key» .entry)) ⌝ }
+{
+    if roots.len() != 16 * trees {
+        return false;
+    }
+    if positions.len() != trees {
+        return false;
+    }
+    if values.len() != trees {
+        return false;
+    }
+    if delta.len() != 16 {
+        return false;
+    }
+    code_key.len() == 16
+}
+
+pub fn wide(x: u32) -> usize
+    ensures { λ r. ⌜ r ≡ x ⌝ }
+{
+    x as usize
+}
+
+// Whether the positions are strictly rising and below N.
+fn rising(all: usize, positions: &[u32]) -> bool
+    ensures { λ r. ⌜ r ≡ risingFrom all 0 (now (positions .entry)) ⌝ }
+{
+    let mut base: usize = 0;
+    let mut i: usize = 0;
+    while i < positions.len() {
+        let position = wide(positions[i]);
+        if position < base {
+            return false;
+        }
+        if all <= position {
+            return false;
+        }
+        base = position + 1;
+        i += 1;
+    }
+    true
+}
+
+// Whether a noise value is admitted.
+fn is_noise(field: u8, value: u64) -> bool
+    ensures { λ r. ⌜ r ≡ isNoise field value ⌝ }
+{
+    if field == 1 {
+        return value == 1;
+    }
+    1 <= value && value <= Prime::MODULUS - 1
+}
+
+// Whether every noise value is admitted.
+fn every_noise(field: u8, values: &[u64]) -> bool
+    ensures { λ r. ⌜ r ≡ everyNoise field (now (values .entry)) ⌝ }
+{
+    let mut i: usize = 0;
+    while i < values.len() {
+        if !is_noise(field, values[i]) {
+            return false;
+        }
+        i += 1;
+    }
+    true
+}
+
+// Whether Δ is admitted.
+fn delta_admitted(field: u8, delta: &[u8]) -> bool
+    requires { ⌜ length (now delta) ≡ 16 ⌝ }
+    ensures { λ r. ⌜ r ≡ deltaAdmitted field (now (delta .entry)) ⌝ }
+{
+    let low = word_at(delta, 0);
+    let high = word_at(delta, 8);
+    if field == 1 {
+        if low != 0 {
+            return true;
+        }
+        return high != 0;
+    }
+    if Prime::MODULUS <= low {
+        return false;
+    }
+    if low == 0 {
+        return false;
+    }
+    high == 0
+}
+
+// The number of the first fault, or 0 where there is none.
+pub fn fault(
+    field: u8,
+    depth: usize,
+    trees: usize,
+    terms: usize,
+    outputs: usize,
+    roots: &[u8],
+    positions: &[u32],
+    values: &[u64],
+    delta: &[u8],
+    code_key: &[u8],
+) -> u32
+    ensures { λ r. ⌜ r ≡ fault (inputWith field depth trees terms outputs (now (roots .entry)) (now (positions .entry)) (now (values .entry)) (now (delta .entry)) (now («code_key» .entry))) ⌝ }
+{
+    if !is_field(field) {
+        return FIELD_UNKNOWN;
+    }
+    if !sizes_admitted(depth, trees, terms, outputs) {
+        return SIZE_OUTSIDE;
+    }
+    if !lengths_admitted(trees, roots, positions, values, delta, code_key) {
+        return WRONG_LENGTH;
+    }
+    if !rising(leaves(depth), positions) {
+        return POSITION_OUTSIDE;
+    }
+    if !every_noise(field, values) {
+        return VALUE_NOT_ADMITTED;
+    }
+    if !delta_admitted(field, delta) {
+        return DELTA_NOT_ADMITTED;
+    }
+    0
+}

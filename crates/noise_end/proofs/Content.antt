@@ -1,0 +1,44 @@
+-- What an accepted record's numbers say: its trees stand from the body on, and none of their tests fails again.
+use mathlib.Core.Path.{_≡_, sym, ap, _∙_}
+use mathlib.Core.List.{List}
+use Prim.Native.Nat.{ℕ}
+use Rattle.number.specs.Reading.{Whole, Refused, isWhole}
+use Rattle.record.specs.Content.{NoiseTree, NoisePart}
+use Rattle.record.specs.Reading.{readHead, readTrees, readNoise, headOf, opened, frontOf}
+use Rattle.record.specs.declared.Front.{Front}
+use Rattle.record.specs.declared.Opened.{Opened}
+use Rattle.record.specs.declared.Opened.the-variants.{Accepted, Fault}
+use Rattle.record.proofs.Callers.{head-ranges, noise-refused, noise-opened}
+use Rattle.rows.specs.Words.{faultOf}
+use Rattle.rows.proofs.Sizes.{head-sizes}
+use Rattle.noise_end.specs.Ready.{contentOf, Ready}
+use Rattle.noise_end.specs.Steps.{treesAt}
+
+-- the trees that were read
+pub trees-at : (field depth trees : ℕ) (s : List ℕ) (body : ℕ) {ts : List NoiseTree} {end : ℕ}
+    → readTrees field depth trees 0 s body ≡ Whole (ts, end) → treesAt field s body depth trees ≡ ts
+unfolding treesAt
+trees-at field depth trees s body e = rw e
+
+part-is : {p q : NoisePart} → p .head ≡ q .head → p .trees ≡ q .trees → p ≡ q
+part-is h t = λ i. record { head = h i; trees = t i }
+
+-- what an accepted record is ready for
+pub ready : (s : List ℕ) {r : Opened} {f : Front} → opened s r ≡ frontOf (readNoise s) (readHead 1 s) → r ≡ Accepted f → Ready s f
+ready s {r} {f} e q =
+    let y : Whole (headOf s f, f .body) ≡ frontOf (readNoise s) (readHead 1 s) = rw q at e in
+    let o = noise-opened s (sym y) in
+    let t = trees-at (f .field) (f .depth) (f .trees) s (f .body) (o .2 .trees) in
+    record {
+      read = o .2 .whole ∙ ap Whole (part-is {p = o .0} {q = contentOf s f} (o .2 .same) (sym t));
+      sizes = head-sizes 1 s (o .2 .head);
+      two = head-ranges 1 s (o .2 .head) .field;
+      known = ap isWhole (o .2 .trees);
+    }
+
+-- the number of a refused record
+pub refused-is : (s : List ℕ) {r : Opened} {j k : ℕ} → opened s r ≡ frontOf (readNoise s) (readHead 1 s) → r ≡ Fault j → k ≡ faultOf r
+    → readNoise s ≡ Refused k
+refused-is s {r} {j} {k} e q w =
+    let y : Refused j ≡ frontOf (readNoise s) (readHead 1 s) = rw q at e in
+    noise-refused s (sym y) ∙ ap (λ (n : ℕ). Refused n) (sym (w ∙ ap faultOf q))

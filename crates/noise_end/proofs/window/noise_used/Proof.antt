@@ -1,0 +1,17 @@
+-- `noise_end::window::noise_used` meets its contract, field by field. Assumes nothing.
+use native.Mathlib.Omega.{arith}
+use borrow.Author.Needs.{needs}
+use Rattle.noise_end.proofs.Steps.{noise-binary, noise-prime}
+use Rattle.noise_end.proofs.window.noise_used.Statement.{statement}
+use Rattle.noise_end.proofs.window.noise_used.Tie as tie
+
+pub noise-used-spec : {M : Type 1} → statement M
+noise-used-spec =
+    tie.close
+    (tie.spec
+    (λ c κs. (search needs, (search needs, omega arith, search needs, search needs)))  -- used-below-requires
+    (λ c. search noise-binary)  -- returns
+    (λ c κs. search needs)  -- modulus-requires
+    (λ c κs. (search needs, (search needs, omega arith, search needs, search needs)))  -- used-below-requires-2
+    (λ c. search noise-prime)  -- returns-2
+    )

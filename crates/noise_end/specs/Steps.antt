@@ -1,0 +1,115 @@
+-- What the functions inside the two calls say: the trees that an accepted record has at a place, the accumulated vectors of
+-- those trees, the rows of a window, and the test of the words that they use.
+use mathlib.Core.Bool.{Bool, true, _||_, not}
+use mathlib.Core.Path.{_≡_}
+use mathlib.Core.List.{List, [], _∷_, map}
+use Prim.Native.Nat.{ℕ, _+_, _*_, _^_, _≤_, _<_}
+use lib.Dec.{ltb, eqb}
+use lib.ListN.{getD}
+use Rattle.algebra.specs.Choice.{choose}
+use Rattle.algebra.specs.Coding.{at, flat, over}
+use Rattle.algebra.specs.Expansion.{noise, punctured}
+use Rattle.algebra.specs.Field.{Scalar, Value}
+use Rattle.algebra.specs.Group.{itself}
+use Rattle.algebra.specs.Row.{output}
+use Rattle.algebra.specs.Sum.{accumulate}
+use Rattle.field.specs.Kind.{Kind}
+use Rattle.code.specs.Row.{rowOf, termPlace}
+use Rattle.code.specs.Used.{every}
+use Rattle.number.specs.Reading.{Whole, Refused, Step, isWhole}
+use Rattle.record.specs.Content.{Head, NoiseTree}
+use Rattle.record.specs.Reading.{readTrees}
+use Rattle.record.specs.declared.Front.{Front}
+use Rattle.rows.specs.Head.{fieldOf}
+use Rattle.rows.specs.Usable.{windowUsable}
+use Rattle.rows.specs.Words.{elementWidth}
+use Rattle.noise_end.specs.Online.{Lent, Outcome, refusal, usable, filled}
+use Rattle.tree.specs.Child.{child}
+use Rattle.tree.specs.Columns.{columnsAt}
+use Rattle.tree.specs.Tree.{fromSiblings}
+
+-- the trees of a record of a field, which begin at a place
+unfoldable pub treesAt : ℕ → List ℕ → ℕ → ℕ → ℕ → List NoiseTree
+treesAt field source body depth trees = from (readTrees field depth trees 0 source body)
+  where
+    from : Step (List NoiseTree) → List NoiseTree
+    from (Whole z) = z .0
+    from (Refused k) = []
+
+-- tree i of those; its noise value, its correction, and the element of its leaf j
+abbrev pub treeIn : List NoiseTree → ℕ → NoiseTree
+treeIn ts i = getD ts i (record { position = 0; value = 0; correction = []; siblings = [] })
+
+abbrev pub valueIn : (K : Kind) → List NoiseTree → ℕ → Scalar (K .field)
+valueIn K ts i = K .field .scalars .read (treeIn ts i .value ∷ []) 0
+
+abbrev pub correctionIn : (K : Kind) → List NoiseTree → ℕ → Value (K .field)
+correctionIn K ts i = K .field .elements .read (treeIn ts i .correction) 0
+
+abbrev pub leafIn : (K : Kind) → ℕ → List NoiseTree → ℕ → ℕ → Value (K .field)
+leafIn K depth ts i j =
+    K .leaf (fromSiblings child [] (map (λ s. columnsAt s 0) (treeIn ts i .siblings)) depth (treeIn ts i .position) j)
+
+-- the words of the accumulated noise values of those trees, and of their accumulated sum
+unfoldable pub noiseExpansion : Kind → ℕ → ℕ → List NoiseTree → List ℕ
+noiseExpansion K depth trees ts =
+    flat (K .field .scalars) (2 ^ depth)
+    (accumulate (K .field .ring .group) (noise (K .field .ring) trees (λ i. treeIn ts i .position) (valueIn K ts)))
+
+unfoldable pub vExpansion : Kind → ℕ → ℕ → List NoiseTree → List ℕ
+vExpansion K depth trees ts =
+    flat (K .field .elements) (2 ^ depth)
+    (accumulate (K .field .scaled .group)
+    (punctured (K .field .scaled) trees (λ i. treeIn ts i .position) (correctionIn K ts) (leafIn K depth ts)))
+
+-- outputs k of a window under round keys, on the words of the vectors
+unfoldable pub uOutputAt : (K : Kind) → List (List (List ℕ)) → ℕ → ℕ → ℕ → List ℕ → ℕ → Scalar (K .field)
+uOutputAt K keys size terms first noise k =
+    output (itself (K .field .ring)) (rowOf (K .field .ring) (K .coefficient) keys size terms (first + k)) (at (K .field .scalars) noise)
+
+unfoldable pub outputAt : (K : Kind) → List (List (List ℕ)) → ℕ → ℕ → ℕ → List ℕ → ℕ → Value (K .field)
+outputAt K keys size terms first v k =
+    output (K .field .scaled) (rowOf (K .field .ring) (K .coefficient) keys size terms (first + k)) (at (K .field .elements) v)
+
+-- the windows over the fronts of two buffers
+unfoldable pub uOver : Kind → List (List (List ℕ)) → ℕ → ℕ → ℕ → ℕ → List ℕ → List ℕ → List ℕ
+uOver K keys size terms first count noise buffer = over (K .field .scalars) count (uOutputAt K keys size terms first noise) buffer
+
+unfoldable pub vOver : Kind → List (List (List ℕ)) → ℕ → ℕ → ℕ → ℕ → List ℕ → List ℕ → List ℕ
+vOver K keys size terms first count v buffer = over (K .field .elements) count (outputAt K keys size terms first v) buffer
+
+-- every word of the noise that the window's rows use is a noise value
+unfoldable pub noiseUsed : Kind → List (List (List ℕ)) → ℕ → ℕ → ℕ → ℕ → List ℕ → Bool
+noiseUsed K keys size terms first count noise =
+    every count (λ k. every terms (λ i. K .field .ring .group .isElement (at (K .field .scalars) noise (termPlace keys size terms (first + k) i))))
+
+-- the tests 3, 7 and 13 of an online call on a record that was accepted, from the lengths of the vectors and of the buffers; 0
+-- where all are passed
+unfoldable pub lengthsNumber : Front → ℕ → ℕ → ℕ → ℕ → ℕ → ℕ → ℕ
+lengthsNumber f noise vector first count uRoom room =
+    choose (not (eqb noise (2 ^ f .depth)) || not (eqb vector (2 ^ f .depth * elementWidth (f .field)))) 3
+    (choose (ltb (f .outputs) (first + count)) 7
+    (choose (ltb uRoom count || ltb room (count * elementWidth (f .field))) 13 0))
+
+-- the test 8 and the windows, once the tests 3, 7 and 13 are passed
+unfoldable pub rowsOutcome : Head → Lent → ℕ → ℕ → Outcome
+rowsOutcome h l first count =
+    choose (not (windowUsable (usable (fieldOf h) l) h first count)) (refusal 8 l)
+    (record { number = 0; first = count; second = count * fieldOf h .elements .width; lent = filled h l first count })
+
+-- whole vectors, the elements of a width, a window within the outputs, and room for it
+pub record Fitting (width size first count noise vector uRoom room : ℕ) : Type 0 where
+  pub places : 0 < size
+  pub scalars : noise ≡ size
+  pub whole : vector ≡ size * width
+  pub within : first + count ≤ 32768
+  pub uEnough : count ≤ uRoom
+  pub enough : count * width ≤ room
+
+-- trees of a record that was accepted, and as many words as all noise values and all elements of a width take
+pub record Planted (field width body depth trees : ℕ) (source : List ℕ) (noise v : ℕ) : Type 0 where
+  pub two : (field ≡ 1 → ⊥) → field ≡ 2
+  pub levels : depth ≤ 16
+  pub known : isWhole (readTrees field depth trees 0 source body) ≡ true
+  pub scalars : noise ≡ 2 ^ depth
+  pub whole : v ≡ 2 ^ depth * width

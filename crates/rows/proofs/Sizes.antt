@@ -1,0 +1,35 @@
+-- The sizes of a head that was read are in their ranges, and its code key is the 16 bytes before the body.
+use mathlib.Core.Path.{_≡_, ap}
+use mathlib.Core.List.{List}
+use Prim.Native.Nat.{ℕ, _+_, _^_, _≤_}
+use native.Mathlib.Omega.{arith}
+use lib.Dec.{leb}
+use lib.ListN.{length}
+use lib.Pow.{pow-mono}
+use borrow.Author.Tests.{leb-true}
+use Rattle.number.specs.Reading.{Whole, part, readBytes}
+use Rattle.number.proofs.Places.{choose-whole}
+use Rattle.record.specs.Content.{Head}
+use Rattle.record.specs.Reading.{readHead}
+use Rattle.record.proofs.Callers.{head-ranges}
+use Rattle.record.proofs.Parts.{head-parts}
+use Rattle.rows.specs.Sizes.{Sizes}
+
+pub head-sizes : (end : ℕ) (s : List ℕ) {h : Head} {body : ℕ} → readHead end s ≡ Whole (h, body) → Sizes s h body
+unfolding readBytes
+head-sizes end s {h} {body} e =
+    let p = head-parts end s e in
+    let r = head-ranges end s e in
+    let c = choose-whole (leb (p .at5 + 16) (length s)) (part s (p .at5) 16, p .at5 + 16) 10 (p .codeKey) in
+    let b : p .at5 + 16 ≡ body = ap (λ (z : List ℕ × ℕ). z .1) (c .1) in
+    let k : p .at5 + 16 ≤ length s = leb-true _ _ (c .0) in
+    let w : 2 ^ h .depth ≤ 65536 = pow-mono (r .depth-most) in
+    record {
+      depth = r .depth-most;
+      places = w;
+      trees = r .trees-most;
+      terms = r .terms-most;
+      outputs = omega (arith, r .outputs-most);
+      key = omega arith;
+      room = omega arith;
+    }

@@ -1,0 +1,86 @@
+-- Laws shaped like what the functions of `rows` are asked.
+use mathlib.Core.Path.{_≡_, refl, sym, ap, _∙_}
+use mathlib.Core.Bool.{Bool, true, false}
+use mathlib.Core.List.{List, _++_, append-nil}
+use Prim.Native.Nat.{ℕ, zero, suc, _+_, _-_, _*_, _≤_, _<_}
+use native.Mathlib.Nat.{mul-one}
+use native.Mathlib.Omega.{arith}
+use lib.Dec.{ltb}
+use lib.ListN.{length, drop, replicate, set, length-set}
+use lib.Seq.{drop-length}
+use borrow.Author.Fill.{fill-none, fill-more}
+use borrow.Author.Tests.{ltb-true, lt-ltb}
+use Rattle.algebra.specs.Coding.{put}
+use Rattle.aes128.specs.Cipher.{keyExpansion}
+use Rattle.field.specs.declared.block.Block.{Block}
+use Rattle.field.specs.Binary.{binary, block}
+use Rattle.field.specs.Kind.{kindOf, primeKind}
+use Rattle.field.specs.Prime.{modulus}
+use Rattle.field.proofs.Words.{put-two}
+use Rattle.record.specs.Reading.{blockAt}
+use Rattle.tree.specs.Columns.{columnsAt}
+use Rattle.code.specs.Used.{rowBelow, usedBelow}
+use Rattle.rows.specs.Testing.{elementsUsed}
+use Rattle.rows.proofs.Rows.{every-true}
+use Rattle.rows.proofs.Blocks.{columns-part}
+
+-- tests that hold together have one value
+same : (s t : Bool) → (s ≡ true → t ≡ true) → (t ≡ true → s ≡ true) → s ≡ t
+same true t f g = sym (f refl)
+same false true f g = g refl
+same false false f g = refl
+
+pub past-by-first : (first count end : ℕ) → count ≤ end → ltb (end - count) first ≡ ltb end (first + count)
+past-by-first first count end h =
+    same (ltb (end - count) first) (ltb end (first + count))
+    (λ e. lt-ltb end (first + count) (omega (arith, ltb-true (end - count) first e)))
+    (λ e. lt-ltb (end - count) first (omega (arith, ltb-true end (first + count) e)))
+
+pub past-by-count : (first count end : ℕ) → end < count → true ≡ ltb end (first + count)
+past-by-count first count end h = sym (lt-ltb end (first + count) (omega arith))
+
+pub keys-at : (s : List ℕ) (at : ℕ) {c : List (List ℕ)} {r : List (List (List ℕ))} → c ≡ columnsAt s at → r ≡ keyExpansion c
+    → r ≡ keyExpansion (columnsAt (blockAt s at) 0)
+keys-at s at e q = q ∙ ap keyExpansion (e ∙ sym (columns-part s at))
+
+-- the first i words of b are zeroed
+pub record Zeroed (b w : List ℕ) (i : ℕ) : Type 0 where
+  pub words : w ≡ replicate i 0 ++ drop i b
+  pub size : length w ≡ length b
+
+module _ {b : List ℕ} where
+  pub zero-start : Zeroed b b 0
+  zero-start = record { words = fill-none b 0; size = refl }
+
+  pub zero-turn : {w : List ℕ} {i : ℕ} → Zeroed b w i → i < length w → Zeroed b (set w i 0) (i + 1)
+  zero-turn {w} {i} z h =
+      record {
+        words = ap (λ (l : List ℕ). set l i 0) (z .words) ∙ fill-more i 0 b (omega (arith, z .size));
+        size = length-set w i 0 ∙ z .size;
+      }
+
+  pub zero-end : {w : List ℕ} {i : ℕ} → Zeroed b w i → i ≤ length w → length w ≤ i → w ≡ replicate (length b) 0
+  zero-end {w} {i} z h k =
+      let m : i ≡ length b = omega (arith, z .size) in
+      z .words ∙ ap (λ (n : ℕ). replicate n 0 ++ drop n b) m ∙ rw drop-length (append-nil (replicate (length b) 0))
+
+pub put-block-is : (l : List ℕ) (i : ℕ) (b : Block) → i * 2 + 2 ≤ length l
+    → set (set l (i * 2) (b .low)) (i * 2 + 1) (b .high) ≡ put (binary .elements) l i b
+put-block-is l i b h = sym (put-two (λ b. b .low) (λ b. b .high) block l i b h)
+
+-- ---- the words that rows use
+
+module _ (keys : List (List (List ℕ))) (size terms first count : ℕ) (w : List ℕ) where
+  pub used-binary : (field : ℕ) → field ≡ 1 → true ≡ elementsUsed (kindOf field) keys size terms first count w
+  unfolding elementsUsed
+  used-binary field e = rw e (sym (every-true count _ (λ k b. every-true terms _ (λ i c. refl))))
+
+  used-at-prime : usedBelow modulus w keys size terms first count ≡ elementsUsed primeKind keys size terms first count w
+  unfolding usedBelow rowBelow elementsUsed
+  used-at-prime = simp mul-one
+
+  pub used-prime : (field : ℕ) → (field ≡ 1 → ⊥) → {bound : ℕ} → bound ≡ modulus → {r : Bool}
+      → r ≡ usedBelow bound w keys size terms first count → r ≡ elementsUsed (kindOf field) keys size terms first count w
+  used-prime zero h e q = q ∙ rw e used-at-prime
+  used-prime (suc zero) h e q = absurd (h refl)
+  used-prime (suc (suc n)) h e q = q ∙ rw e used-at-prime

@@ -1,0 +1,25 @@
+-- The field, N, and the rows of the code, from a record's head (document 01, 'Sizes', 'Offline and online').
+use mathlib.Core.List.{List}
+use Prim.Native.Nat.{ℕ, _^_}
+use Rattle.algebra.specs.Field.{Field}
+use Rattle.algebra.specs.Row.{Row}
+use Rattle.field.specs.Kind.{Kind, kindOf}
+use Rattle.aes128.specs.Cipher.{keyExpansion}
+use Rattle.tree.specs.Columns.{columnsAt}
+use Rattle.code.specs.Row.{rowOf}
+use Rattle.record.specs.Content.{Head}
+
+-- the field of a record
+abbrev pub kind : Head → Kind
+kind h = kindOf (h .field)
+
+abbrev pub fieldOf : Head → Field
+fieldOf h = kind h .field
+
+-- N
+abbrev pub places : Head → ℕ
+places h = 2 ^ h .depth
+
+-- row x of the code, under the code key
+abbrev pub row : (h : Head) → ℕ → Row (fieldOf h .ring)
+row h x = rowOf (fieldOf h .ring) (kind h .coefficient) (keyExpansion (columnsAt (h .codeKey) 0)) (places h) (h .terms) x

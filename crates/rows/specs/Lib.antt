@@ -1,0 +1,7 @@
+-- The field, the places and the rows that the head of a record gives, the sizes of one that was read, and the test of the words
+-- that rows use.
+pub mod Head
+pub mod Sizes
+pub mod Usable
+pub mod Words
+pub mod Testing

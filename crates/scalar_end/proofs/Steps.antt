@@ -1,0 +1,125 @@
+-- Laws shaped like what the functions inside the two calls are asked: what each field gives at its kind, and the same at the
+-- kind of a field byte.
+use mathlib.Core.Path.{_≡_, refl, _∙_}
+use mathlib.Core.List.{List, [], _∷_, _++_}
+use Prim.Native.Nat.{ℕ, zero, suc, _+_, _*_, _≤_, _<_}
+use native.Mathlib.Omega.{arith}
+use lib.ListN.{length, set, drop}
+use borrow.Author.Tests.{ne-eqb}
+use Rattle.algebra.specs.Coding.{at, put}
+use Rattle.algebra.specs.Group.{itself}
+use Rattle.algebra.specs.Row.{output}
+use Rattle.code.specs.Row.{binaryRow, primeRow}
+use Rattle.field.specs.declared.block.Block.{Block}
+use Rattle.field.specs.declared.prime.Prime.{Prime}
+use Rattle.field.specs.Bytes.{wordAt}
+use Rattle.field.specs.Binary.{binary, blocks}
+use Rattle.field.specs.Kind.{kindOf, binaryKind, primeKind}
+use Rattle.field.specs.Prime.{primes, primeRing, prime}
+use Rattle.field.proofs.BinaryField.{binaryLaws}
+use Rattle.field.proofs.PrimeField.{primeLaws}
+use Rattle.rows.specs.Words.{elementWidth}
+use Rattle.rows.proofs.Widths.{width-binary, width-prime}
+use Rattle.rows.proofs.Windows.{Written, written-none, written-more, written-word, written-all}
+use Rattle.scalar_end.specs.Steps.{Fitting, Rooted, expansion, deltaAt, outputAt, windowOver}
+
+-- ---- a window, at the kind of a field byte
+
+module _ (field size first count vector room : ℕ) (fits : Fitting (elementWidth field) size first count vector room) where
+  pub fits-binary : field ≡ 1 → Fitting 2 size first count vector room
+  fits-binary e = rw (width-binary field e) at fits
+
+  pub fits-prime : (field ≡ 1 → ⊥) → Fitting 1 size first count vector room
+  fits-prime e = rw (width-prime field e) at fits
+
+-- ---- trees, at the kind of a field byte
+
+module _ (field place depth trees source words : ℕ) (roots : Rooted (elementWidth field) place depth trees source words) where
+  pub roots-binary : field ≡ 1 → Rooted 2 place depth trees source words
+  roots-binary e = rw (width-binary field e) at roots
+
+  pub roots-prime : (field ≡ 1 → ⊥) → Rooted 1 place depth trees source words
+  roots-prime e = rw (width-prime field e) at roots
+
+module _ (source : List ℕ) (place depth trees : ℕ) where
+  pub expanded-binary : (field : ℕ) → field ≡ 1 → {v : List ℕ} → v ≡ expansion binaryKind source place depth trees
+      → v ≡ expansion (kindOf field) source place depth trees
+  expanded-binary field e q = rw e q
+
+  pub expanded-prime : (field : ℕ) → (field ≡ 1 → ⊥) → {v : List ℕ} → v ≡ expansion primeKind source place depth trees
+      → v ≡ expansion (kindOf field) source place depth trees
+  expanded-prime zero h q = q
+  expanded-prime (suc zero) h q = absurd (h refl)
+  expanded-prime (suc (suc n)) h q = q
+
+-- ---- Δ
+
+pub first-room : (field place n : ℕ) → place + 8 * elementWidth field ≤ n → place + 8 ≤ n
+unfolding elementWidth
+first-room zero place n h = h
+first-room (suc zero) place n h = omega arith
+first-room (suc (suc k)) place n h = h
+
+pub second-room : (field place n : ℕ) → field ≡ 1 → place + 8 * elementWidth field ≤ n → place + 8 + 8 ≤ n
+second-room field place n e h = let k = width-binary field e in omega arith
+
+two-stores : (d : List ℕ) (a b : ℕ) → 2 ≤ length d → set (set d 0 a) 1 b ≡ (a ∷ b ∷ []) ++ drop 2 d
+two-stores [] a b h = absurd (omega arith)
+two-stores (x ∷ []) a b h = absurd (omega arith)
+two-stores (x ∷ y ∷ d) a b h = refl
+
+module _ (s : List ℕ) (place field : ℕ) (d : List ℕ) (room : 2 ≤ length d) {a : ℕ} (first : a ≡ wordAt s place) where
+  pub delta-binary : field ≡ 1 → {b : ℕ} → b ≡ wordAt s (place + 8) → set (set d 0 a) 1 b ≡ deltaAt field s place ++ drop 2 d
+  unfolding deltaAt
+  delta-binary e {b} q = two-stores d a b room ∙ rw (first, q, e)
+
+  pub delta-prime : (field ≡ 1 → ⊥) → set (set d 0 a) 1 0 ≡ deltaAt field s place ++ drop 2 d
+  unfolding deltaAt
+  delta-prime e = two-stores d a 0 room ∙ rw (first, ne-eqb field 1 e)
+
+-- ---- the window written in one field, at the kind of a field byte
+
+module _ (keys : List (List (List ℕ))) (size terms first count : ℕ) (w : List ℕ) where
+  pub filled-binary : (field : ℕ) → field ≡ 1 → (b : List ℕ) {v : List ℕ} → v ≡ windowOver binaryKind keys size terms first count w b
+      → v ≡ windowOver (kindOf field) keys size terms first count w b
+  filled-binary field e b q = rw e q
+
+  pub filled-prime : (field : ℕ) → (field ≡ 1 → ⊥) → (b : List ℕ) {v : List ℕ} → v ≡ windowOver primeKind keys size terms first count w b
+      → v ≡ windowOver (kindOf field) keys size terms first count w b
+  filled-prime zero h b q = q
+  filled-prime (suc zero) h b q = absurd (h refl)
+  filled-prime (suc (suc n)) h b q = q
+
+-- ---- a window written one output a turn
+
+module _ (keys : List (List (List ℕ))) (size terms first : ℕ) (w b : List ℕ) where
+  pub binary-none : Written (binary .elements) (outputAt binaryKind keys size terms first w) b b 0
+  binary-none = written-none (binary .elements) (binaryLaws .elements) (outputAt binaryKind keys size terms first w) b
+
+  pub binary-more : {v next : List ℕ} {k count vector : ℕ} {x : Block} → Written (binary .elements) (outputAt binaryKind keys size terms first w) b v k
+      → next ≡ put (binary .elements) v k x → x ≡ output blocks (binaryRow keys size terms (first + k)) (at (binary .elements) w)
+      → k < count → Fitting 2 size first count vector (length b)
+      → Written (binary .elements) (outputAt binaryKind keys size terms first w) b next (k + 1)
+  unfolding outputAt
+  binary-more a p e h fits =
+      written-more (binary .elements) (binaryLaws .elements) (outputAt binaryKind keys size terms first w) b a e (omega (arith, a .size)) p
+
+  pub binary-all : {v : List ℕ} {k count : ℕ} → Written (binary .elements) (outputAt binaryKind keys size terms first w) b v k → k ≤ count → count ≤ k
+      → v ≡ windowOver binaryKind keys size terms first count w b
+  unfolding windowOver
+  binary-all = written-all (binary .elements) (binaryLaws .elements) (outputAt binaryKind keys size terms first w) b
+
+  pub prime-none : Written (primes .elements) (outputAt primeKind keys size terms first w) b b 0
+  prime-none = written-none (primes .elements) (primeLaws .elements) (outputAt primeKind keys size terms first w) b
+
+  pub prime-more : {v : List ℕ} {k count vector : ℕ} {x : Prime} → Written (primes .elements) (outputAt primeKind keys size terms first w) b v k
+      → x ≡ output (itself primeRing) (primeRow keys size terms (first + k)) (at (primes .elements) w)
+      → k < count → Fitting 1 size first count vector (length b)
+      → Written (primes .elements) (outputAt primeKind keys size terms first w) b (set v k (x .word)) (k + 1)
+  unfolding outputAt
+  prime-more a e h fits = written-word (λ x. x .word) prime (primeLaws .elements) (outputAt primeKind keys size terms first w) b a e (omega (arith, a .size))
+
+  pub prime-all : {v : List ℕ} {k count : ℕ} → Written (primes .elements) (outputAt primeKind keys size terms first w) b v k → k ≤ count → count ≤ k
+      → v ≡ windowOver primeKind keys size terms first count w b
+  unfolding windowOver
+  prime-all = written-all (primes .elements) (primeLaws .elements) (outputAt primeKind keys size terms first w) b

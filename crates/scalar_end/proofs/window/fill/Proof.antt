@@ -1,0 +1,17 @@
+-- `scalar_end::window::fill` meets its contract, field by field. Assumes nothing.
+use borrow.Author.Needs.{needs}
+use Rattle.scalar_end.proofs.Steps.{fits-binary, fits-prime, filled-binary, filled-prime}
+use Rattle.scalar_end.proofs.window.fill.Statement.{statement}
+use Rattle.scalar_end.proofs.window.fill.Tie as tie
+
+pub fill-spec : {M : Type 1} → statement M
+fill-spec =
+    tie.close
+    (tie.spec
+    (λ c κs. (search needs, search fits-binary))  -- fill-binary-requires
+    (λ c κs. (search needs, search fits-prime))  -- fill-prime-requires
+    (λ c. search needs)  -- same-length
+    (λ c. search filled-binary)  -- returns
+    (λ c. search needs)  -- same-length-2
+    (λ c. search filled-prime)  -- returns-2
+    )

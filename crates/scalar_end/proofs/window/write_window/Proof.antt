@@ -1,0 +1,16 @@
+-- `scalar_end::window::write_window` meets its contract: one law a way out. Assumes nothing.
+use borrow.Author.Needs.{needs}
+use Rattle.scalar_end.proofs.Calls.{not-passed, fitting, rows-left}
+use Rattle.scalar_end.proofs.window.write_window.Statement.{statement}
+use Rattle.scalar_end.proofs.window.write_window.Tie as tie
+
+pub write-window-spec : {M : Type 1} → statement M
+write-window-spec =
+    tie.close
+    (tie.spec
+    (λ c κs. search needs)  -- lengths-number-requires
+    (λ c. search not-passed)  -- returns
+    (λ c κs. (search needs, search fitting))  -- write-rows-requires
+    (λ c. search needs)  -- same-length
+    (λ c. search rows-left)  -- returns-2
+    )

@@ -1,0 +1,30 @@
+-- An accepted record by its numbers: its content stands at the places that they give.
+use mathlib.Core.Path.{_≡_}
+use mathlib.Core.List.{List}
+use Prim.Native.Nat.{ℕ, _+_, _*_, _≤_}
+use lib.ListN.{length}
+use Rattle.field.specs.Bytes.{wordAt}
+use Rattle.number.specs.Reading.{Whole}
+use Rattle.record.specs.Content.{ScalarPart}
+use Rattle.record.specs.Reading.{items, blockAt, headOf, readScalar}
+use Rattle.record.specs.declared.Front.{Front}
+use Rattle.rows.specs.Sizes.{Sizes}
+use Rattle.rows.specs.Words.{elementWidth}
+
+-- where Δ ends and the roots begin
+abbrev pub rootsAt : Front → ℕ
+rootsAt f = f .body + 8 * elementWidth (f .field)
+
+-- the content of an accepted record
+abbrev pub contentOf : List ℕ → Front → ScalarPart
+contentOf s f =
+    record {
+      head = headOf s f;
+      delta = items wordAt 8 s (f .body) (elementWidth (f .field));
+      roots = items blockAt 16 s (rootsAt f) (f .trees);
+    }
+
+pub record Ready (s : List ℕ) (f : Front) : Type 0 where
+  pub read : readScalar s ≡ Whole (contentOf s f)
+  pub sizes : Sizes s (headOf s f) (f .body)
+  pub room : rootsAt f + 16 * f .trees ≤ length s

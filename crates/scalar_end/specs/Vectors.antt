@@ -1,0 +1,27 @@
+-- w0 and Δ, from the content of a scalar record alone (document 01, 'Trees', 'Offline and online').
+use mathlib.Core.List.{List, [], _∷_}
+use Prim.Native.Nat.{ℕ}
+use lib.ListN.{getD}
+use Rattle.algebra.specs.Expansion.{whole}
+use Rattle.algebra.specs.Field.{Value}
+use Rattle.record.specs.Content.{ScalarPart}
+use Rattle.rows.specs.Head.{kind, fieldOf}
+use Rattle.tree.specs.Child.{child}
+use Rattle.tree.specs.Columns.{columnsAt}
+use Rattle.tree.specs.Tree.{leafAt}
+
+-- Δ, the scalar
+abbrev pub delta : (P : ScalarPart) → Value (fieldOf (P .head))
+delta P = fieldOf (P .head) .elements .read (P .delta) 0
+
+-- the element of leaf j of tree i
+abbrev pub leaf : (P : ScalarPart) → ℕ → ℕ → Value (fieldOf (P .head))
+leaf P i j = kind (P .head) .leaf (leafAt child (P .head .depth) (columnsAt (getD (P .roots) i []) 0) j)
+
+-- w0
+unfoldable pub w0 : (P : ScalarPart) → ℕ → Value (fieldOf (P .head))
+w0 P = whole (fieldOf (P .head) .scaled) (P .head .trees) (leaf P)
+
+-- the two words of Δ; in field 2 the second is 0
+abbrev pub deltaWords : ScalarPart → List ℕ
+deltaWords P = getD (P .delta) 0 0 ∷ getD (P .delta) 1 0 ∷ []
