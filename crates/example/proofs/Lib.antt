@@ -1,0 +1,2 @@
+-- The computed examples.
+pub mod Computed

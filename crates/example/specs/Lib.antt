@@ -1,0 +1,2 @@
+-- One computed example in each field.
+pub mod Example

@@ -1,0 +1,1 @@
+// One computed example in each field, from a dealing's input to the words that both ends hand out; no code.

@@ -1,0 +1,109 @@
+-- The vectors that each end's part of a dealing gives are the dealing's own.
+use mathlib.Core.Path.{_≡_, refl, sym, ap, ap₂, _∙_}
+use mathlib.Core.List.{List, [], _∷_, _++_, map, append-nil}
+use Prim.Native.Nat.{ℕ, zero, suc, _+_, _*_, _^_, _<_}
+use native.Mathlib.Omega.{arith}
+use lib.ListN.{length, getD}
+use Rattle.algebra.proofs.Same.{noise-same, punctured-same, whole-same}
+use Rattle.algebra.specs.Coding.{Coding, CodingLaws}
+use Rattle.algebra.specs.Field.{Scalar, Value}
+use Rattle.field.proofs.BothKinds.{kindLaws}
+use Rattle.field.specs.Kind.{KindLaws}
+use Rattle.aes128.specs.State.{column}
+use Rattle.aes128.specs.Cipher.{aes}
+use Rattle.record.specs.Content.{NoiseTree}
+use Rattle.rows.specs.Head.{kind}
+use Rattle.tree.proofs.Blocks.{Square, columns-of, xor-square}
+use Rattle.tree.proofs.Listed.{listed-at}
+use Rattle.tree.proofs.Laws.{Each, from-siblings, siblings-have}
+use Rattle.tree.specs.Child.{child, childKey}
+use Rattle.tree.specs.Columns.{columnsAt, blockBytes}
+use Rattle.tree.specs.Tree.{siblings, leafAt, fromSiblings}
+use Rattle.dealing.specs.Admitted.{Admitted}
+use Rattle.dealing.specs.Input.{Input}
+use Rattle.dealing.specs.Parts.{noiseTree, noisePart, scalarPart}
+use Rattle.dealing.specs.Vectors.{head, field, position, value, root, leaf, treeCorrection, mu, v0, w0}
+use Rattle.noise_end.specs.Vectors as noiseEnd
+use Rattle.scalar_end.specs.Vectors as scalarEnd
+
+-- a block's bytes read back
+block-back : (s : List (List ℕ)) → Square s → columnsAt (blockBytes s) 0 ≡ s
+block-back s q = ap (λ l. columnsAt l 0) (sym (append-nil (blockBytes s))) ∙ columns-of [] [] 0 s refl q
+
+blocks-back : (xs : List (List (List ℕ))) → Each Square xs → map (λ s. columnsAt s 0) (map blockBytes xs) ≡ xs
+blocks-back [] q = refl
+blocks-back (x ∷ xs) q = ap₂ (λ a l. a ∷ l) (block-back x (q .0)) (blocks-back xs (q .1))
+
+-- an element's words read back
+words-back : {A : Type 0} (C : Coding A) → CodingLaws C → (a : A) → C .read (C .words a) 0 ≡ a
+words-back C L a = ap (λ l. C .read l 0) (sym (append-nil (C .words a))) ∙ L .read-words [] a []
+
+child-square : (c : ℕ) → c < 2 → (s : List (List ℕ)) → Square s → Square (child c s)
+unfolding child
+child-square c h s q = xor-square (aes (childKey c) s) s
+
+root-square : (I : Input) (i : ℕ) → Square (root I i)
+unfolding columnsAt
+root-square I i = record { size = refl; columns = four }
+  where
+    four : (c : ℕ) → c < 4 → length (column (root I i) c) ≡ 4
+    four zero h = refl
+    four (suc zero) h = refl
+    four (suc (suc zero)) h = refl
+    four (suc (suc (suc zero))) h = refl
+    four (suc (suc (suc (suc c)))) h = absurd (omega arith)
+
+module _ (I : Input) (A : Admitted I) where
+  laws : KindLaws (kind (head I))
+  laws = kindLaws (I .field)
+
+  -- tree i of the noise end's part
+  tree-at : (i : ℕ) → i < I .trees → noiseEnd.tree (noisePart I) i ≡ noiseTree I i
+  tree-at i h = listed-at (I .trees) (noiseTree I) _ i h
+
+  position-at : (i : ℕ) → i < I .trees → noiseEnd.tree (noisePart I) i .position ≡ position I i
+  unfolding noiseTree
+  position-at i h = ap (λ t. t .position) (tree-at i h)
+
+  value-at : (i : ℕ) → i < I .trees → noiseEnd.value (noisePart I) i ≡ value I i
+  unfolding noiseTree
+  value-at i h =
+      ap (λ t. field I .scalars .read (t .value ∷ []) 0) (tree-at i h) ∙ sym (laws .scalar-read (I .values) i)
+
+  correction-at : (i : ℕ) → i < I .trees → noiseEnd.correction (noisePart I) i ≡ treeCorrection I i
+  unfolding noiseTree
+  correction-at i h =
+      ap (λ t. field I .elements .read (t .correction) 0) (tree-at i h)
+      ∙ words-back (field I .elements) (laws .field .elements) (treeCorrection I i)
+
+  leaf-at : (i j : ℕ) → i < I .trees → j < 2 ^ I .depth → (position I i ≡ j → ⊥) → noiseEnd.leaf (noisePart I) i j ≡ leaf I i j
+  unfolding noiseTree
+  leaf-at i j h b n =
+      ap
+      (λ t. kind (head I) .leaf (fromSiblings child [] (map (λ s. columnsAt s 0) (t .siblings)) (I .depth) (t .position) j))
+      (tree-at i h)
+      ∙ ap (λ l. kind (head I) .leaf (fromSiblings child [] l (I .depth) (position I i) j))
+      (blocks-back (siblings child (I .depth) (root I i) (position I i))
+      (siblings-have child Square child-square (I .depth) (root I i) (position I i) (root-square I i)))
+      ∙ ap (kind (head I) .leaf) (from-siblings child [] (I .depth) (root I i) (position I i) j (A .below i h) b n)
+
+  -- μ of the noise end's part is the dealing's
+  pub mu-dealt : (j : ℕ) → noiseEnd.mu (noisePart I) j ≡ mu I j
+  unfolding noiseEnd.mu mu
+  mu-dealt j = noise-same (field I .ring) (I .trees) _ (position I) _ (value I) position-at value-at j
+
+  -- so is v0
+  pub v0-dealt : (j : ℕ) → j < 2 ^ I .depth → noiseEnd.v0 (noisePart I) j ≡ v0 I j
+  unfolding noiseEnd.v0 v0
+  v0-dealt j b =
+      punctured-same (field I .ring) (field I .scaled) (I .trees) _ (position I) _ (treeCorrection I) _ (leaf I) j
+      position-at correction-at (λ i h n. leaf-at i j h b n)
+
+  -- and w0 of the scalar end's part
+  pub w0-dealt : (j : ℕ) → scalarEnd.w0 (scalarPart I) j ≡ w0 I j
+  unfolding scalarEnd.w0 w0
+  w0-dealt j =
+      whole-same (field I .ring) (field I .scaled) (I .trees) _ (leaf I) j
+      (λ i h.
+      ap (λ b. kind (head I) .leaf (leafAt child (I .depth) (columnsAt b 0) j)) (listed-at (I .trees) (λ i. blockBytes (root I i)) [] i h)
+      ∙ ap (λ r. kind (head I) .leaf (leafAt child (I .depth) r j)) (block-back (root I i) (root-square I i)))

@@ -1,0 +1,80 @@
+-- The inhabitants of the statements about the seven calls together: records, demand 3 entire, and what is accepted.
+use mathlib.Core.Path.{_≡_, refl, ap, _∙_}
+use mathlib.Core.List.{List}
+use Prim.Native.Nat.{ℕ, _+_, _*_, _≤_, _<_}
+use borrow.Author.Tests.{le-ltb}
+use lib.ListN.{length}
+use Rattle.algebra.proofs.Tests.{or-neither}
+use Rattle.dealing.proofs.Laws as dealing
+use Rattle.dealing.specs.Vectors.{field}
+use Rattle.noise_end.proofs.Laws as noiseLaws
+use Rattle.record.proofs.Laws as records
+use Rattle.scalar_end.proofs.Laws as scalarLaws
+use Rattle.expander.specs.Acceptance.{Acceptance}
+use Rattle.expander.specs.Correlation.{Setting, NoiseCall, noiseStep, noiseStart, ScalarCall, scalarStep, scalarStart, Claim, Outputs, Lists, Pads, Demand3}
+use Rattle.expander.specs.Records.{Records}
+use Rattle.expander.proofs.Lists.{claim, noise-number, scalar-number}
+use Rattle.expander.proofs.Outputs.{admitted-correlated}
+use Rattle.expander.proofs.Pads.{admitted-pads}
+
+pub record-laws : Records
+record-laws =
+    record {
+      noise-back = λ I M a b z. dealing.noise-reads I a b z M;
+      scalar-back = λ I M a b z. dealing.scalar-reads I a b z M;
+      noise-one = λ s h p e. records.noise-exact s h e;
+      scalar-one = λ s h p e. records.scalar-exact s h e;
+      noise-accepted = records.noise-reads;
+      scalar-accepted = records.scalar-reads;
+      one-end = λ s p q e f. records.one-end s e f;
+    }
+
+pub outputs : Outputs
+outputs I M a b z x h = admitted-correlated I (dealing.deal-number I a b z .admitted) x
+
+-- every two lists
+pub lists : Lists
+lists S =
+    claim S (dealing.deal-number (S .input) (S .noiseRecord) (S .scalarRecord) (S .dealt) .admitted)
+    (dealing.noise-reads (S .input) (S .noiseRecord) (S .scalarRecord) (S .dealt) (S .inMemory))
+    (dealing.scalar-reads (S .input) (S .noiseRecord) (S .scalarRecord) (S .dealt) (S .inMemory))
+
+pub pads : Pads
+pads I M one a b z first count vs choices out noise-accepted first′ count′ ws Δs out′ scalar-accepted x h in-noise in-scalar lent =
+    admitted-pads first count vs choices out noise-accepted first′ count′ ws Δs out′ scalar-accepted x in-noise in-scalar I
+    (dealing.deal-number I a b z .admitted) one lent
+
+pub demand3 : Demand3
+demand3 = record { outputs = outputs; lists = lists; pads = pads }
+
+-- ---- what is accepted
+
+module _ (S : Setting) where
+  noise-listed : (c : NoiseCall) → noiseStep (noiseStart S) c .number ≡ Rattle.expander.specs.Correlation.listedNoiseNumber (S .input) c
+  noise-listed =
+      noise-number S (dealing.deal-number (S .input) (S .noiseRecord) (S .scalarRecord) (S .dealt) .admitted)
+      (dealing.noise-reads (S .input) (S .noiseRecord) (S .scalarRecord) (S .dealt) (S .inMemory))
+      (dealing.scalar-reads (S .input) (S .noiseRecord) (S .scalarRecord) (S .dealt) (S .inMemory))
+
+  scalar-listed : (c : ScalarCall) → scalarStep (scalarStart S) c .number ≡ Rattle.expander.specs.Correlation.listedScalarNumber (S .input) c
+  scalar-listed =
+      scalar-number S (dealing.deal-number (S .input) (S .noiseRecord) (S .scalarRecord) (S .dealt) .admitted)
+      (dealing.noise-reads (S .input) (S .noiseRecord) (S .scalarRecord) (S .dealt) (S .inMemory))
+      (dealing.scalar-reads (S .input) (S .noiseRecord) (S .scalarRecord) (S .dealt) (S .inMemory))
+
+pub acceptance : Acceptance
+acceptance =
+    record {
+      dealing = λ I a b. (
+        (λ h. ap (λ d. d .number) (dealing.deal-accepted I a b (record { admitted = h .0; noise-room = h .1; scalar-room = h .2 }))),
+        (λ z. let A = dealing.deal-number I a b z in (A .admitted, A .noise-room, A .scalar-room)),
+      );
+      noise-offline = λ I M a b z noise v h k. noiseLaws.offline-accepts _ noise v (dealing.noise-reads I a b z M) h k .number;
+      scalar-offline = λ I M a b z w delta h k. scalarLaws.offline-accepts _ w delta (dealing.scalar-reads I a b z M) h k .number;
+      noise-window = λ S c a h k.
+          noise-listed S c
+          ∙ rw (le-ltb (S .input .outputs) (c .first + c .count) a, le-ltb (length (c .uOut)) (c .count) h, le-ltb (length (c .vOut)) (c .count * field (S .input) .elements .width) k);
+      scalar-window = λ S c a h.
+          scalar-listed S c
+          ∙ rw (le-ltb (S .input .outputs) (c .first + c .count) a, le-ltb (length (c .wOut)) (c .count * field (S .input) .elements .width) h);
+    }

@@ -1,0 +1,7 @@
+-- The proofs of the statements of specs/, one inhabitant each in Entire and Starred.
+mod Dealt
+mod Outputs
+mod Lists
+mod Pads
+pub mod Entire
+pub mod Starred

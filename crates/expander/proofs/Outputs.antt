@@ -1,0 +1,52 @@
+-- w = Δu + v at each output of an admitted dealing, from the one argument over any ring and any group that it scales.
+use mathlib.Core.Path.{_≡_, refl, sym, ap, _∙_}
+use mathlib.Core.Bool.{true}
+use mathlib.Core.List.{List}
+use mathlib.Core.Logic.{_⊎_, inl, inr, ⊎-elim}
+use Prim.Native.Nat.{ℕ, zero, suc, _<_}
+use native.Mathlib.Omega.{arith}
+use borrow.Author.Tests.{lt-ltb}
+use lib.ListN.{getD}
+use Rattle.algebra.proofs.Correlation.{matrix-correlated}
+use Rattle.algebra.specs.Expansion.{Correlated}
+use Rattle.algebra.specs.Group.{Element}
+use Rattle.field.proofs.BothKinds.{kindLaws}
+use Rattle.field.specs.Bytes.{wordAt}
+use Rattle.field.specs.Kind.{kindOf}
+use Rattle.field.specs.Prime.{modulus}
+use Rattle.record.specs.Content.{elementOf}
+use Rattle.rows.proofs.Rows.{row-within}
+use Rattle.rows.specs.Head.{kind, places, row}
+use Rattle.tree.specs.Child.{child}
+use Rattle.tree.specs.Tree.{leafAt}
+use Rattle.dealing.specs.Admitted.{Admitted, NoiseAdmitted, DeltaAdmitted}
+use Rattle.dealing.specs.Input.{Input}
+use Rattle.dealing.specs.Vectors.{head, field, position, value, root, leaf, delta, treeCorrection, mu, v0, w0, u, v, w}
+
+-- an admitted noise value is an element
+noise-element : (f : ℕ) (l : List ℕ) (i : ℕ) → (f ≡ 1) ⊎ (f ≡ 2) → NoiseAdmitted f (getD l i 0)
+    → Element (kindOf f .field .ring .group) (kindOf f .field .scalars .read l i)
+noise-element zero l i h A = absurd (⊎-elim (λ e. omega arith) (λ e. omega arith) h)
+noise-element (suc zero) l i h A = lt-ltb (getD l i 0) 2 (omega (arith, A .binary refl))
+noise-element (suc (suc zero)) l i h A = lt-ltb (getD l i 0) modulus (omega (arith, A .prime refl .1))
+noise-element (suc (suc (suc n))) l i h A = absurd (⊎-elim (λ e. omega arith) (λ e. omega arith) h)
+
+-- Δ is an element
+delta-element : (f low high : ℕ) → (f ≡ 1) ⊎ (f ≡ 2) → (f ≡ 2 → low < modulus)
+    → Element (kindOf f .field .scaled .group) (kindOf f .field .elements .read (elementOf f low high) 0)
+delta-element zero low high h A = absurd (⊎-elim (λ e. omega arith) (λ e. omega arith) h)
+delta-element (suc zero) low high h A = refl
+delta-element (suc (suc zero)) low high h A = lt-ltb low modulus (A refl)
+delta-element (suc (suc (suc n))) low high h A = absurd (⊎-elim (λ e. omega arith) (λ e. omega arith) h)
+
+pub admitted-correlated : (I : Input) → Admitted I → (x : ℕ) → Correlated (field I .scaled) (delta I) (u I x) (v I x) (w I x)
+unfolding mu v0 w0 u v w
+admitted-correlated I A x =
+    let laws = kindLaws (I .field) in
+    matrix-correlated (field I .ring) (field I .scaled) (laws .field .ring) (laws .field .scaled) (delta I)
+    (delta-element (I .field) (wordAt (I .delta) 0) (wordAt (I .delta) 8) (A .field) (λ e. A .scalar .prime e .1))
+    (I .trees) (position I) (A .rising)
+    (value I) (λ i h. noise-element (I .field) (I .values) i (A .field) (A .noise i h))
+    (leaf I) (λ i j. laws .leaf-element (leafAt child (I .depth) (root I i) j))
+    (treeCorrection I) (λ i h. refl)
+    (places (head I)) (row (head I) x) (row-within (head I) x)

@@ -1,0 +1,54 @@
+-- The choice bit names the matching pad: the choice law of `pads`, at the outputs of an admitted dealing of field 1.
+use mathlib.Core.Path.{_≡_, refl, sym, ap, _∙_}
+use mathlib.Core.List.{List, [], _∷_}
+use Prim.Native.Nat.{ℕ, zero, suc, _+_, _-_, _*_, _<_}
+use native.Mathlib.Omega.{arith}
+use lib.ListN.{getD}
+use Rattle.algebra.specs.Expansion.{Correlated}
+use Rattle.algebra.specs.Field.{Scalar, Value}
+use Rattle.field.specs.Bytes.{wordAt}
+use Rattle.field.specs.Kind.{kindOf}
+use Rattle.record.specs.Content.{elementOf}
+use Rattle.pads.proofs.Choice.{choice}
+use Rattle.pads.specs.Calls.{noisePads, scalarPads}
+use Rattle.pads.specs.Choice.{InWindow, padAt, messageAt}
+use Rattle.pads.specs.Pad.{pad}
+use Rattle.dealing.specs.Admitted.{Admitted}
+use Rattle.dealing.specs.Input.{Input}
+use Rattle.dealing.specs.Vectors.{u, v, w, delta}
+use Rattle.expander.specs.Correlation.{PadsLent}
+use Rattle.expander.proofs.Outputs.{admitted-correlated}
+
+-- two accepted pad calls and an index in both windows
+module _ (first count : ℕ) (vs choices pads : List ℕ) (noise-accepted : noisePads first count vs choices pads .number ≡ 0)
+    (first′ count′ : ℕ) (ws Δs pads′ : List ℕ) (scalar-accepted : scalarPads first′ count′ ws Δs pads′ .number ≡ 0)
+    (x : ℕ) (in-noise : InWindow first count x) (in-scalar : InWindow first′ count′ x) where
+  -- in the field of byte f, which is 1
+  by-field : (f : ℕ) → f ≡ 1 → (u : Scalar (kindOf f .field)) (v w Δ : Value (kindOf f .field))
+      → Correlated (kindOf f .field .scaled) Δ u v w
+      → kindOf f .field .elements .read (wordAt vs ((x - first) * 16) ∷ wordAt vs ((x - first) * 16 + 8) ∷ []) 0 ≡ v
+      → kindOf f .field .scalars .read choices (x - first) ≡ u
+      → kindOf f .field .elements .read (wordAt ws ((x - first′) * 16) ∷ wordAt ws ((x - first′) * 16 + 8) ∷ []) 0 ≡ w
+      → kindOf f .field .elements .read (elementOf f (wordAt Δs 0) (wordAt Δs 8)) 0 ≡ Δ
+      → padAt (noisePads first count vs choices pads .pads) first x
+      ≡ messageAt (scalarPads first′ count′ ws Δs pads′ .pads) first′ x (getD choices (x - first) 0)
+  by-field zero e u v w Δ c a b d g = absurd (omega arith)
+  by-field (suc zero) e u v w Δ c a b d g =
+      choice pad first count vs choices pads noise-accepted first′ count′ ws Δs pads′ scalar-accepted x in-noise in-scalar
+      v w Δ (getD choices (x - first) 0)
+      (record {
+        v-lent = a;
+        u-lent = refl;
+        w-lent = d;
+        Δ-lent = g;
+        correlated = c ∙ ap (λ s. Rattle.field.specs.Binary.blockAdd (Rattle.field.specs.Binary.blockScale s Δ) v) (sym b);
+      })
+  by-field (suc (suc n)) e u v w Δ c a b d g = absurd (omega arith)
+
+  pub admitted-pads : (I : Input) → Admitted I → I .field ≡ 1 → PadsLent I x first vs choices first′ ws Δs
+      → padAt (noisePads first count vs choices pads .pads) first x
+      ≡ messageAt (scalarPads first′ count′ ws Δs pads′ .pads) first′ x (getD choices (x - first) 0)
+  admitted-pads I A one L =
+      by-field (I .field) one (u I x) (v I x) (w I x) (delta I) (admitted-correlated I A x)
+      (L .v-lent) (L .u-lent) (L .w-lent)
+      (ap (λ l. kindOf (I .field) .field .elements .read (elementOf (I .field) (wordAt l 0) (wordAt l 8)) 0) (L .Δ-lent))

@@ -1,0 +1,36 @@
+-- What is accepted (document 01, 'Questions': an expander that refuses every record): admitted input with long enough
+-- buffers, the dealt records, and every window within n. So nothing that `Correlation` asks is unmet.
+use mathlib.Core.Path.{_≡_}
+use mathlib.Core.List.{List}
+use mathlib.Core.Logic.{_↔_}
+use Prim.Native.Nat.{ℕ, _+_, _*_, _^_, _≤_}
+use lib.ListN.{length, take}
+use Rattle.dealing.specs.Admitted.{Admitted, InMemory}
+use Rattle.dealing.specs.Deal.{deal}
+use Rattle.dealing.specs.Input.{Input}
+use Rattle.dealing.specs.Parts.{noisePart, scalarPart}
+use Rattle.dealing.specs.Vectors.{field}
+use Rattle.noise_end.specs.Offline as noiseOffline
+use Rattle.record.specs.Writing.{writeNoise, writeScalar}
+use Rattle.scalar_end.specs.Offline as scalarOffline
+use Rattle.expander.specs.Correlation.{Setting, NoiseCall, noiseStep, noiseStart, ScalarCall, scalarStep, scalarStart}
+
+pub record Acceptance : Type 0 where
+  -- the dealing returns 0 exactly for admitted input with room for both records
+  pub dealing : (I : Input) (a b : List ℕ)
+      → (Admitted I × (length (writeNoise (noisePart I)) ≤ length a) × (length (writeScalar (scalarPart I)) ≤ length b))
+      ↔ deal I a b .number ≡ 0
+  -- each end's offline call on its own record, with room for the vectors
+  pub noise-offline : (I : Input) → InMemory I → (a b : List ℕ) → deal I a b .number ≡ 0 → (noise v : List ℕ)
+      → 2 ^ I .depth ≤ length noise → 2 ^ I .depth * field I .elements .width ≤ length v
+      → noiseOffline.offline (take (deal I a b .first) (deal I a b .noiseRecord)) noise v .number ≡ 0
+  pub scalar-offline : (I : Input) → InMemory I → (a b : List ℕ) → deal I a b .number ≡ 0 → (w delta : List ℕ)
+      → 2 ^ I .depth * field I .elements .width ≤ length w → 2 ≤ length delta
+      → scalarOffline.offline (take (deal I a b .second) (deal I a b .scalarRecord)) w delta .number ≡ 0
+  -- a window within n, with room for its outputs
+  pub noise-window : (S : Setting) (c : NoiseCall) → c .first + c .count ≤ S .input .outputs
+      → c .count ≤ length (c .uOut) → c .count * field (S .input) .elements .width ≤ length (c .vOut)
+      → noiseStep (noiseStart S) c .number ≡ 0
+  pub scalar-window : (S : Setting) (c : ScalarCall) → c .first + c .count ≤ S .input .outputs
+      → c .count * field (S .input) .elements .width ≤ length (c .wOut)
+      → scalarStep (scalarStart S) c .number ≡ 0

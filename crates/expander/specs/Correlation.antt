@@ -1,0 +1,267 @@
+-- Demand 3 (document 01, 'Lists of calls at both ends'): the statements, about the definitions that the calls' contracts cite.
+use mathlib.Core.Path.{_≡_}
+use mathlib.Core.Bool.{_||_}
+use mathlib.Core.List.{List, [], _∷_}
+use Prim.Native.Nat.{ℕ, _+_, _-_, _*_, _<_}
+use lib.Dec.{ltb}
+use lib.ListN.{length, getD, take}
+use Rattle.algebra.specs.Choice.{choose}
+use Rattle.algebra.specs.Coding.{at}
+use Rattle.algebra.specs.Expansion.{Correlated}
+use Rattle.algebra.specs.Field.{Scalar, Value}
+use Rattle.dealing.specs.Admitted.{InMemory}
+use Rattle.dealing.specs.Deal.{Dealt, deal}
+use Rattle.dealing.specs.Input.{Input}
+use Rattle.dealing.specs.Vectors.{field, delta, u, v, w}
+use Rattle.field.specs.Bytes.{wordAt}
+use Rattle.noise_end.specs.Offline as noiseOffline
+use Rattle.noise_end.specs.Online as noiseOnline
+use Rattle.pads.specs.Calls.{noisePads, scalarPads}
+use Rattle.pads.specs.Choice.{InWindow, padAt, messageAt}
+use Rattle.scalar_end.specs.Offline as scalarOffline
+use Rattle.scalar_end.specs.Online as scalarOnline
+
+-- w = Δu + v at each output of every accepted dealing
+abbrev pub Outputs : Type 0
+Outputs =
+    (I : Input) → InMemory I → (a b : List ℕ) → deal I a b .number ≡ 0
+    → (x : ℕ) → x < I .outputs → Correlated (field I .scaled) (delta I) (u I x) (v I x) (w I x)
+
+-- ---- before the lists: an accepted dealing, and an accepted offline call of each end on its own record
+
+pub record Setting : Type 0 where
+  -- the dealing's input, and the buffers lent for its records
+  pub input : Input
+  pub inMemory : InMemory input
+  pub noiseRecord : List ℕ
+  pub scalarRecord : List ℕ
+  pub dealt : deal input noiseRecord scalarRecord .number ≡ 0
+  -- the buffers lent to the noise end's offline call
+  pub noise : List ℕ
+  pub v : List ℕ
+  pub noiseAccepted :
+      noiseOffline.offline
+      (take (deal input noiseRecord scalarRecord .first) (deal input noiseRecord scalarRecord .noiseRecord)) noise v .number
+      ≡ 0
+  -- the buffers lent to the scalar end's offline call
+  pub w : List ℕ
+  pub delta : List ℕ
+  pub scalarAccepted :
+      scalarOffline.offline
+      (take (deal input noiseRecord scalarRecord .second) (deal input noiseRecord scalarRecord .scalarRecord)) w delta .number
+      ≡ 0
+
+-- what the dealing left
+abbrev pub dealing : Setting → Dealt
+dealing S = deal (S .input) (S .noiseRecord) (S .scalarRecord)
+
+-- each end's own record: the front of its buffer, of the returned length
+abbrev pub noiseSource : Setting → List ℕ
+noiseSource S = take (dealing S .first) (dealing S .noiseRecord)
+
+abbrev pub scalarSource : Setting → List ℕ
+scalarSource S = take (dealing S .second) (dealing S .scalarRecord)
+
+-- ---- the noise end's list of calls
+
+-- the record and the accumulated vectors in memory
+pub record NoiseMemory : Type 0 where
+  pub source : List ℕ
+  pub noise : List ℕ
+  pub v : List ℕ
+
+-- a listed call: a window, and output buffers of any length and content
+pub record NoiseCall : Type 0 where
+  pub first : ℕ
+  pub count : ℕ
+  pub uOut : List ℕ
+  pub vOut : List ℕ
+
+-- the online call on memory
+abbrev pub noiseStep : NoiseMemory → NoiseCall → noiseOnline.Outcome
+noiseStep m c =
+    noiseOnline.online
+    (record { source = m .source; noise = m .noise; v = m .v; uOut = c .uOut; vOut = c .vOut })
+    (c .first)
+    (c .count)
+
+-- the memory that a call leaves
+abbrev pub noiseLeft : noiseOnline.Outcome → NoiseMemory
+noiseLeft o = record { source = o .lent .source; noise = o .lent .noise; v = o .lent .v }
+
+-- the outcome of each call of a list, every call on the memory that the call before left
+unfoldable pub noiseRun : NoiseMemory → List NoiseCall → List noiseOnline.Outcome
+noiseRun m [] = []
+noiseRun m (c ∷ calls) = noiseStep m c ∷ noiseRun (noiseLeft (noiseStep m c)) calls
+
+-- the record and the vectors after the last call of the list
+unfoldable pub noiseLast : NoiseMemory → List NoiseCall → NoiseMemory
+noiseLast m [] = m
+noiseLast m (c ∷ calls) = noiseLast (noiseLeft (noiseStep m c)) calls
+
+-- what the noise end's offline call left
+abbrev pub noiseExpanded : Setting → noiseOffline.Expanded
+noiseExpanded S = noiseOffline.offline (noiseSource S) (S .noise) (S .v)
+
+-- the memory as the offline call left it: the record, and the fronts of the returned lengths
+abbrev pub noiseStart : Setting → NoiseMemory
+noiseStart S =
+    record {
+      source = noiseExpanded S .source;
+      noise = take (noiseExpanded S .first) (noiseExpanded S .noise);
+      v = take (noiseExpanded S .second) (noiseExpanded S .v);
+    }
+
+-- the number of a listed call: 7 if its window passes n, else 13 if an output buffer is too short for c, else 0
+abbrev pub listedNoiseNumber : Input → NoiseCall → ℕ
+listedNoiseNumber I c =
+    choose (ltb (I .outputs) (c .first + c .count)) 7
+    (choose (ltb (length (c .uOut)) (c .count) || ltb (length (c .vOut)) (c .count * field I .elements .width)) 13 0)
+
+-- an outcome hands out u and v at index x: word k of the first output buffer and element k of the second on return, at
+-- index first + k for k below c; a refused call hands out nothing
+pub record NoiseHands (I : Input) (c : NoiseCall) (o : noiseOnline.Outcome) (x : ℕ) (u : Scalar (field I)) (v : Value (field I)) : Type 0 where
+  pub accepted : o .number ≡ 0
+  pub k : ℕ
+  pub within : k < c .count
+  pub index : x ≡ c .first + k
+  pub u-word : u ≡ at (field I .scalars) (o .lent .uOut) k
+  pub v-element : v ≡ at (field I .elements) (o .lent .vOut) k
+
+-- ---- the scalar end's list of calls
+
+-- the record and the accumulated vector in memory
+pub record ScalarMemory : Type 0 where
+  pub source : List ℕ
+  pub w : List ℕ
+
+-- a listed call: a window, and an output buffer of any length and content
+pub record ScalarCall : Type 0 where
+  pub first : ℕ
+  pub count : ℕ
+  pub wOut : List ℕ
+
+-- the online call on memory
+abbrev pub scalarStep : ScalarMemory → ScalarCall → scalarOnline.Outcome
+scalarStep m c = scalarOnline.online (record { source = m .source; w = m .w; wOut = c .wOut }) (c .first) (c .count)
+
+-- the memory that a call leaves
+abbrev pub scalarLeft : scalarOnline.Outcome → ScalarMemory
+scalarLeft o = record { source = o .lent .source; w = o .lent .w }
+
+-- the outcome of each call of a list, every call on the memory that the call before left
+unfoldable pub scalarRun : ScalarMemory → List ScalarCall → List scalarOnline.Outcome
+scalarRun m [] = []
+scalarRun m (c ∷ calls) = scalarStep m c ∷ scalarRun (scalarLeft (scalarStep m c)) calls
+
+-- the record and the vector after the last call of the list
+unfoldable pub scalarLast : ScalarMemory → List ScalarCall → ScalarMemory
+scalarLast m [] = m
+scalarLast m (c ∷ calls) = scalarLast (scalarLeft (scalarStep m c)) calls
+
+-- what the scalar end's offline call left
+abbrev pub scalarExpanded : Setting → scalarOffline.Expanded
+scalarExpanded S = scalarOffline.offline (scalarSource S) (S .w) (S .delta)
+
+-- the memory as the offline call left it: the record, and the front of the returned length
+abbrev pub scalarStart : Setting → ScalarMemory
+scalarStart S = record { source = scalarExpanded S .source; w = take (scalarExpanded S .first) (scalarExpanded S .w) }
+
+-- Δ as the offline call left it
+abbrev pub scalarDelta : Setting → List ℕ
+scalarDelta S = take (scalarExpanded S .second) (scalarExpanded S .delta)
+
+-- the number of a listed call: 7, else 13, else 0, as at the noise end
+abbrev pub listedScalarNumber : Input → ScalarCall → ℕ
+listedScalarNumber I c =
+    choose (ltb (I .outputs) (c .first + c .count)) 7 (choose (ltb (length (c .wOut)) (c .count * field I .elements .width)) 13 0)
+
+-- an outcome hands out w at index x: element k of the output buffer on return, at index first + k for k below c; a refused
+-- call hands out nothing
+pub record ScalarHands (I : Input) (c : ScalarCall) (o : scalarOnline.Outcome) (x : ℕ) (w : Value (field I)) : Type 0 where
+  pub accepted : o .number ≡ 0
+  pub k : ℕ
+  pub within : k < c .count
+  pub index : x ≡ c .first + k
+  pub w-element : w ≡ at (field I .elements) (o .lent .wOut) k
+
+-- ---- the single claim about every two lists
+
+-- the call at place i of a list, and its outcome
+abbrev pub noiseCall : List NoiseCall → ℕ → NoiseCall
+noiseCall calls i = getD calls i (record { first = 0; count = 0; uOut = []; vOut = [] })
+
+abbrev pub noiseOutcome : Setting → List NoiseCall → ℕ → noiseOnline.Outcome
+noiseOutcome S calls i =
+    getD (noiseRun (noiseStart S) calls) i
+    (noiseOnline.refusal 13 (record { source = []; noise = []; v = []; uOut = []; vOut = [] }))
+
+abbrev pub scalarCall : List ScalarCall → ℕ → ScalarCall
+scalarCall calls i = getD calls i (record { first = 0; count = 0; wOut = [] })
+
+abbrev pub scalarOutcome : Setting → List ScalarCall → ℕ → scalarOnline.Outcome
+scalarOutcome S calls i =
+    getD (scalarRun (scalarStart S) calls) i (scalarOnline.refusal 13 (record { source = []; w = []; wOut = [] }))
+
+-- what demand 3 says of two lists, one at each end, together
+pub record Claim (S : Setting) (noiseCalls : List NoiseCall) (scalarCalls : List ScalarCall) : Type 0 where
+  -- every call returns the number of a listed call
+  pub noise-numbers : (i : ℕ) → i < length noiseCalls
+      → noiseOutcome S noiseCalls i .number ≡ listedNoiseNumber (S .input) (noiseCall noiseCalls i)
+  pub scalar-numbers : (i : ℕ) → i < length scalarCalls
+      → scalarOutcome S scalarCalls i .number ≡ listedScalarNumber (S .input) (scalarCall scalarCalls i)
+  -- what is handed out at x is the dealing's u and v, or w, at x
+  pub noise-values : (i : ℕ) → i < length noiseCalls → (x : ℕ) (u′ : Scalar (field (S .input))) (v′ : Value (field (S .input)))
+      → NoiseHands (S .input) (noiseCall noiseCalls i) (noiseOutcome S noiseCalls i) x u′ v′
+      → (u′ ≡ u (S .input) x) × (v′ ≡ v (S .input) x)
+  pub scalar-values : (i : ℕ) → i < length scalarCalls → (x : ℕ) (w′ : Value (field (S .input)))
+      → ScalarHands (S .input) (scalarCall scalarCalls i) (scalarOutcome S scalarCalls i) x w′
+      → w′ ≡ w (S .input) x
+  -- the scalar end's Δ, as its offline call left it, is the dealing's
+  pub scalar-delta : at (field (S .input) .elements) (scalarDelta S) 0 ≡ Rattle.dealing.specs.Vectors.delta (S .input)
+  -- the record and the vectors end as they began
+  pub noise-memory : noiseLast (noiseStart S) noiseCalls ≡ noiseStart S
+  pub scalar-memory : scalarLast (scalarStart S) scalarCalls ≡ scalarStart S
+  -- w = Δu + v at each index that both ends hand out
+  pub correlated : (i j : ℕ) → i < length noiseCalls → j < length scalarCalls
+      → (x : ℕ) (u′ : Scalar (field (S .input))) (v′ w′ : Value (field (S .input)))
+      → NoiseHands (S .input) (noiseCall noiseCalls i) (noiseOutcome S noiseCalls i) x u′ v′
+      → ScalarHands (S .input) (scalarCall scalarCalls j) (scalarOutcome S scalarCalls j) x w′
+      → Correlated (field (S .input) .scaled) (Rattle.dealing.specs.Vectors.delta (S .input)) u′ v′ w′
+
+-- for every two lists, one at each end
+abbrev pub Lists : Type 0
+Lists = (S : Setting) (noiseCalls : List NoiseCall) (scalarCalls : List ScalarCall) → Claim S noiseCalls scalarCalls
+
+-- ---- pads, which stand in no list
+
+-- the element of field 1 whose 16 bytes are those at an output's place: its two words, each LE
+abbrev pub lentElement : (I : Input) → List ℕ → ℕ → Value (field I)
+lentElement I bytes k = field I .elements .read (wordAt bytes (k * 16) ∷ wordAt bytes (k * 16 + 8) ∷ []) 0
+
+-- the bytes lent for x are the v and u, and at the scalar end the w, of output x, with the dealing's Δ; all others are
+-- arbitrary
+pub record PadsLent (I : Input) (x first : ℕ) (vs choices : List ℕ) (first′ : ℕ) (ws Δ : List ℕ) : Type 0 where
+  pub v-lent : lentElement I vs (x - first) ≡ v I x
+  pub u-lent : field I .scalars .read choices (x - first) ≡ u I x
+  pub w-lent : lentElement I ws (x - first′) ≡ w I x
+  pub Δ-lent : Δ ≡ I .delta
+
+-- for any accepted pad call of each end, on one dealing of field 1, and any index x below n in both windows, the noise end's
+-- 16 bytes for x are those of the message that the choice bit names
+abbrev pub Pads : Type 0
+Pads =
+    (I : Input) → InMemory I → I .field ≡ 1 → (a b : List ℕ) → deal I a b .number ≡ 0
+    → (first count : ℕ) (vs choices pads : List ℕ) → noisePads first count vs choices pads .number ≡ 0
+    → (first′ count′ : ℕ) (ws Δ pads′ : List ℕ) → scalarPads first′ count′ ws Δ pads′ .number ≡ 0
+    → (x : ℕ) → x < I .outputs → InWindow first count x → InWindow first′ count′ x
+    → PadsLent I x first vs choices first′ ws Δ
+    → padAt (noisePads first count vs choices pads .pads) first x
+    ≡ messageAt (scalarPads first′ count′ ws Δ pads′ .pads) first′ x (getD choices (x - first) 0)
+
+-- ---- demand 3, entire
+
+pub record Demand3 : Type 0 where
+  pub outputs : Outputs
+  pub lists : Lists
+  pub pads : Pads

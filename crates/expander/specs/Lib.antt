@@ -1,0 +1,5 @@
+-- The statements about the seven calls together, to be read without the proofs.
+pub mod Records
+pub mod Correlation
+pub mod Acceptance
+pub mod Cases

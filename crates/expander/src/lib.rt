@@ -1,0 +1,126 @@
+// The seven public calls under their exported names. Each meets the contract of the call that it passes on to.
+ghost use mathlib.Core.Path.{_≡_};
+ghost use Rattle.dealing.specs.Deal.{deal, dealt};
+ghost use Rattle.noise_end.specs.Offline as noiseOffline;
+ghost use Rattle.noise_end.specs.Online as noiseOnline;
+ghost use Rattle.pads.specs.Calls.{outcome, noisePads, scalarPads};
+ghost use Rattle.scalar_end.specs.Offline as scalarOffline;
+ghost use Rattle.scalar_end.specs.Online as scalarOnline;
+use answer::OneLength;
+use answer::TwoLengths;
+
+// Deals both records from field, sizes, roots, positions, noise values, Δ and code key.
+#[no_mangle]
+pub extern "C" fn expander_deal(
+    field: u8,
+    depth: usize,
+    trees: usize,
+    terms: usize,
+    outputs: usize,
+    roots: &[u8],
+    positions: &[u32],
+    values: &[u64],
+    delta: &[u8],
+    code_key: &[u8],
+    noise_record: &mut [u8],
+    scalar_record: &mut [u8],
+) -> TwoLengths
+    ensures { λ r. ⌜ dealt r (now («noise_record» .exit)) (now («scalar_record» .exit)) ≡ deal (record { field = field; depth = depth; trees = trees; terms = terms; outputs = outputs; roots = now (roots .entry); positions = now (positions .entry); values = now (values .entry); delta = now (delta .entry); codeKey = now («code_key» .entry) }) (now («noise_record» .entry)) (now («scalar_record» .entry)) ⌝ }
+{
+    dealing::deal(
+        field,
+        depth,
+        trees,
+        terms,
+        outputs,
+        roots,
+        positions,
+        values,
+        delta,
+        code_key,
+        noise_record,
+        scalar_record,
+    )
+}
+
+// The noise end's offline call: the accumulated noise and v.
+#[no_mangle]
+pub extern "C" fn expander_noise_offline(
+    source: &[u8],
+    noise: &mut [u64],
+    v: &mut [u64],
+) -> TwoLengths
+    ensures { λ r. ⌜ noiseOffline.expanded r (now (source .exit)) (now (noise .exit)) (now (v .exit)) ≡ noiseOffline.offline (now (source .entry)) (now (noise .entry)) (now (v .entry)) ⌝ }
+{
+    noise_end::offline(source, noise, v)
+}
+
+// The scalar end's offline call: the accumulated w, and Δ.
+#[no_mangle]
+pub extern "C" fn expander_scalar_offline(
+    source: &[u8],
+    w: &mut [u64],
+    delta: &mut [u64],
+) -> TwoLengths
+    ensures { λ r. ⌜ scalarOffline.expanded r (now (source .exit)) (now (w .exit)) (now (delta .exit)) ≡ scalarOffline.offline (now (source .entry)) (now (w .entry)) (now (delta .entry)) ⌝ }
+{
+    scalar_end::offline(source, w, delta)
+}
+
+// The noise end's online call: a window of u and v.
+#[no_mangle]
+pub extern "C" fn expander_noise_online(
+    source: &[u8],
+    noise: &[u64],
+    v: &[u64],
+    first: usize,
+    count: usize,
+    u_out: &mut [u64],
+    v_out: &mut [u64],
+) -> TwoLengths
+    ensures { λ r. ⌜ noiseOnline.outcome r (record { source = now (source .exit); noise = now (noise .exit); v = now (v .exit); uOut = now («u_out» .exit); vOut = now («v_out» .exit) }) ≡ noiseOnline.online (record { source = now (source .entry); noise = now (noise .entry); v = now (v .entry); uOut = now («u_out» .entry); vOut = now («v_out» .entry) }) first count ⌝ }
+{
+    noise_end::online(source, noise, v, first, count, u_out, v_out)
+}
+
+// The scalar end's online call: a window of w.
+#[no_mangle]
+pub extern "C" fn expander_scalar_online(
+    source: &[u8],
+    w: &[u64],
+    first: usize,
+    count: usize,
+    w_out: &mut [u64],
+) -> OneLength
+    ensures { λ r. ⌜ scalarOnline.outcome r (record { source = now (source .exit); w = now (w .exit); wOut = now («w_out» .exit) }) ≡ scalarOnline.online (record { source = now (source .entry); w = now (w .entry); wOut = now («w_out» .entry) }) first count ⌝ }
+{
+    scalar_end::online(source, w, first, count, w_out)
+}
+
+// The noise end's pads of a window.
+#[no_mangle]
+pub extern "C" fn expander_noise_pads(
+    first: usize,
+    count: usize,
+    v: &[u8],
+    choices: &[u8],
+    pads: &mut [u8],
+) -> u32
+    ensures { λ r. ⌜ outcome r (now (pads .exit)) ≡ noisePads first count (now (v .entry)) (now (choices .entry)) (now (pads .entry)) ⌝ }
+{
+    pads::noise_pads(first, count, v, choices, pads)
+}
+
+// The scalar end's pads of a window, both messages of each output.
+#[no_mangle]
+pub extern "C" fn expander_scalar_pads(
+    first: usize,
+    count: usize,
+    w: &[u8],
+    delta: &[u8],
+    pads: &mut [u8],
+) -> u32
+    ensures { λ r. ⌜ outcome r (now (pads .exit)) ≡ scalarPads first count (now (w .entry)) (now (delta .entry)) (now (pads .entry)) ⌝ }
+{
+    pads::scalar_pads(first, count, w, delta, pads)
+}

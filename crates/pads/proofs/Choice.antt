@@ -1,0 +1,100 @@
+-- The choice law holds for any rule: w is v under choice 0, and w exclusive-or Δ is v under choice 1.
+use mathlib.Core.Path.{_≡_, sym, ap, _∙_}
+use mathlib.Core.List.{List, _++_, append-assoc}
+use Prim.Native.Nat.{ℕ, zero, suc, _+_, _-_, _*_, _≤_, _<_}
+use native.Mathlib.Omega.{arith}
+use lib.Bits.{bitXor, xor-zero-l, xor-comm}
+use lib.ListN.{take, drop}
+use lib.Seq.{take-at, drop-at, drop-drop}
+use Rattle.algebra.specs.Coding.{Coding, at, over}
+use Rattle.field.specs.declared.block.Block.{Block}
+use Rattle.field.specs.Binary.{blockAdd, blockScale}
+use Rattle.field.proofs.Xor.{xor-back}
+use Rattle.pads.specs.Bytes.{Messages, blockBytes, messageBytes}
+use Rattle.pads.specs.Pad.{Rule, messages}
+use Rattle.pads.specs.Calls.{noisePadsBy, scalarPadsBy}
+use Rattle.pads.specs.Admitted.{NoiseAdmitted}
+use Rattle.pads.specs.Choice.{InWindow, padAt, messageAt, Choice}
+use Rattle.pads.proofs.Numbers.{answer-written}
+use Rattle.pads.proofs.Written.{Wide, drop-flat, wide-block, wide-messages}
+use Rattle.pads.proofs.Accepts.{accepts}
+
+-- what lies from value k on, in a buffer that n values were written over
+drop-over : {A : Type 0} (C : Coding A) → Wide C → (n : ℕ) (f : ℕ → A) (b : List ℕ) (k : ℕ) → k < n
+    → drop (k * C .width) (over C n f b) ≡ C .words (f k) ++ drop (suc k * C .width) (over C n f b)
+unfolding over
+drop-over C wide n f b k h = drop-flat C wide f n k (drop (n * C .width) b) h
+
+-- value k again
+value-over : {A : Type 0} (C : Coding A) → Wide C → (n : ℕ) (f : ℕ → A) (b : List ℕ) (k j : ℕ) → k < n → j ≡ k * C .width
+    → take (C .width) (drop j (over C n f b)) ≡ C .words (f k)
+value-over C wide n f b k j h e = rw (e, drop-over C wide n f b k h) (take-at (C .words (f k)) _ (C .width) (wide (f k)))
+
+-- the noise end's bytes for an index of its window are those of its pad
+noise-bytes : (rule : Rule) (first count : ℕ) (vs choices pads : List ℕ) → noisePadsBy rule first count vs choices pads .number ≡ 0
+    → (x : ℕ) → InWindow first count x
+    → padAt (noisePadsBy rule first count vs choices pads .pads) first x ≡ blockBytes .words (rule x (at blockBytes vs (x - first)))
+unfolding noisePadsBy
+noise-bytes rule first count vs choices pads e x i =
+    let f : ℕ → Block = λ k. rule (first + k) (at blockBytes vs k) in
+    let here : first + (x - first) ≡ x = omega arith in
+    ap (λ (l : List ℕ). padAt l first x) (answer-written _ _ pads e)
+    ∙ value-over blockBytes wide-block count f pads (x - first) (16 * (x - first)) (omega arith) (omega arith)
+    ∙ ap (λ (y : ℕ). blockBytes .words (rule y (at blockBytes vs (x - first)))) here
+
+-- message 0 or 1 of two
+abbrev named : ℕ → Messages → Block
+named zero m = m .message0
+named (suc u) m = m .message1
+
+-- the 16 bytes of each of two messages
+message-bytes : (m : Messages) (rest : List ℕ) (u : ℕ) → u ≤ 1
+    → take 16 (drop (16 * u) (messageBytes .words m ++ rest)) ≡ blockBytes .words (named u m)
+message-bytes m rest zero h =
+    rw
+    (append-assoc (blockBytes .words (m .message0)) (blockBytes .words (m .message1)) rest)
+    (take-at (blockBytes .words (m .message0)) _ 16 (wide-block (m .message0)))
+message-bytes m rest (suc zero) h =
+    rw (
+      append-assoc (blockBytes .words (m .message0)) (blockBytes .words (m .message1)) rest,
+      drop-at (blockBytes .words (m .message0)) _ 16 (wide-block (m .message0)),
+    )
+    (take-at (blockBytes .words (m .message1)) rest 16 (wide-block (m .message1)))
+message-bytes m rest (suc (suc u)) h = absurd (omega arith)
+
+-- the scalar end's bytes of message u for an index of its window are those of that message
+scalar-bytes : (rule : Rule) (first count : ℕ) (ws delta pads : List ℕ) → scalarPadsBy rule first count ws delta pads .number ≡ 0
+    → (x : ℕ) → InWindow first count x → (u : ℕ) → u ≤ 1
+    → messageAt (scalarPadsBy rule first count ws delta pads .pads) first x u
+    ≡ blockBytes .words (named u (messages rule x (at blockBytes ws (x - first)) (at blockBytes delta 0)))
+unfolding scalarPadsBy
+scalar-bytes rule first count ws delta pads e x i u h =
+    let Δ = at blockBytes delta 0 in
+    let f : ℕ → Messages = λ k. messages rule (first + k) (at blockBytes ws k) Δ in
+    let here : first + (x - first) ≡ x = omega arith in
+    let place : 32 * (x - first) ≡ (x - first) * 32 = omega arith in
+    ap (λ (l : List ℕ). messageAt l first x u) (answer-written _ _ pads e)
+    ∙ rw
+    (place, ← drop-drop (16 * u), drop-over messageBytes wide-messages count f pads (x - first) (omega arith))
+    (message-bytes (f (x - first)) _ u h)
+    ∙ ap (λ (y : ℕ). blockBytes .words (named u (messages rule y (at blockBytes ws (x - first)) Δ))) here
+
+-- Δ added twice is nothing added
+cancel : (d v : ℕ) → bitXor (bitXor d v) d ≡ v
+cancel d v = xor-comm (bitXor d v) d ∙ ap (bitXor d) (xor-comm d v) ∙ xor-back v d
+
+-- where w = Δu + v, the pad of v is message u
+named-pad : (rule : Rule) (x : ℕ) (v Δ : Block) (u : ℕ) → u ≤ 1 → rule x v ≡ named u (messages rule x (blockAdd (blockScale u Δ) v) Δ)
+unfolding messages blockScale
+named-pad rule x v Δ zero h = simp xor-zero-l
+named-pad rule x v Δ (suc zero) h = simp cancel
+named-pad rule x v Δ (suc (suc u)) h = absurd (omega arith)
+
+pub choice : (rule : Rule) → Choice rule
+choice rule first count vs choices pads e first′ count′ ws delta pads′ e′ x i i′ v w Δ u lent =
+    let admitted : NoiseAdmitted first count vs choices pads = accepts rule .noise first count vs choices pads .1 e in
+    let bit : u ≤ 1 = omega (arith, admitted .bits (x - first) (omega arith)) in
+    noise-bytes rule first count vs choices pads e x i
+    ∙ ap (λ (b : Block). blockBytes .words (rule x b)) (lent .v-lent)
+    ∙ ap (blockBytes .words) (named-pad rule x v Δ u bit)
+    ∙ rw (← lent .correlated, ← lent .w-lent, ← lent .Δ-lent) (sym (scalar-bytes rule first′ count′ ws delta pads′ e′ x i′ u bit))

@@ -1,0 +1,54 @@
+-- The loops of both calls: before the first turn, after one turn more, and after the last.
+use mathlib.Core.Path.{_≡_, _∙_}
+use mathlib.Core.List.{List}
+use Prim.Native.Nat.{ℕ, suc, _+_, _*_, _≤_, _<_}
+use native.Mathlib.Omega.{arith}
+use native.Mathlib.Nat.{mul-le-mul-right, mul-comm}
+use native.Mathlib.Numerals.{add-one}
+use lib.ListN.{length}
+use lib.Seq.{sets}
+use Rattle.algebra.specs.Coding.{Coding, at, over}
+use Rattle.field.specs.declared.block.Block.{Block}
+use Rattle.pads.specs.Bytes.{Messages, blockBytes, messageBytes, withBlock, withMessages}
+use Rattle.pads.specs.Pad.{pad, messages}
+use Rattle.pads.proofs.Written.{Wide, over-none, over-more, wide-block, wide-messages}
+
+-- the pad, and the messages, of output k of a window
+abbrev pub padOf : ℕ → List ℕ → ℕ → Block
+padOf first vs k = pad (first + k) (at blockBytes vs k)
+
+abbrev pub messagesOf : ℕ → List ℕ → Block → ℕ → Messages
+messagesOf first ws Δ k = messages pad (first + k) (at blockBytes ws k) Δ
+
+-- before the first turn
+pub pads-none : (first : ℕ) (vs b : List ℕ) → b ≡ over blockBytes 0 (padOf first vs) b
+pads-none first vs b = over-none blockBytes wide-block (padOf first vs) b
+
+pub messages-none : (first : ℕ) (ws b : List ℕ) (Δ : Block) → b ≡ over messageBytes 0 (messagesOf first ws Δ) b
+messages-none first ws b Δ = over-none messageBytes wide-messages (messagesOf first ws Δ) b
+
+-- one turn more
+turn : {A : Type 0} (C : Coding A) → Wide C → (f : ℕ → A) (k count : ℕ) (b l l′ : List ℕ) → k < count → count * C .width ≤ length b
+    → l ≡ over C k f b → l′ ≡ sets l (k * C .width) (C .words (f k)) → l′ ≡ over C (k + 1) f b
+turn C wide f k count b l l′ h room e g =
+    let m : suc k * C .width ≤ count * C .width = mul-le-mul-right (C .width) h in
+    g ∙ rw (e, add-one) (over-more C wide f k b (omega arith))
+
+pub pads-more : (first k count : ℕ) (vs b l l′ : List ℕ) (w p : Block) → k < count → count * 16 ≤ length b
+    → l ≡ over blockBytes k (padOf first vs) b → w ≡ blockBytes .read vs (16 * k) → p ≡ pad (first + k) w
+    → l′ ≡ withBlock l (16 * k) p → l′ ≡ over blockBytes (k + 1) (padOf first vs) b
+unfolding withBlock
+pads-more first k count vs b l l′ w p h room e we pe g =
+    turn blockBytes wide-block (padOf first vs) k count b l l′ h room e (g ∙ rw (pe, we, mul-comm 16 k))
+
+pub messages-more : (first k count : ℕ) (ws b l l′ : List ℕ) (w Δ : Block) → k < count → count * 32 ≤ length b
+    → l ≡ over messageBytes k (messagesOf first ws Δ) b → w ≡ blockBytes .read ws (16 * k)
+    → l′ ≡ withMessages l (32 * k) (messages pad (first + k) w Δ) → l′ ≡ over messageBytes (k + 1) (messagesOf first ws Δ) b
+unfolding withMessages
+messages-more first k count ws b l l′ w Δ h room e we g =
+    turn messageBytes wide-messages (messagesOf first ws Δ) k count b l l′ h room e (g ∙ rw (we, mul-comm 32 k, mul-comm 16 k))
+
+-- after the last
+pub all-turns : {A : Type 0} (C : Coding A) (f : ℕ → A) (k count : ℕ) (b l : List ℕ) → k ≤ count → count ≤ k
+    → l ≡ over C k f b → l ≡ over C count f b
+all-turns C f k count b l h m e = let s : count ≡ k = omega arith in rw s e

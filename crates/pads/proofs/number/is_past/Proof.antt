@@ -1,0 +1,12 @@
+-- `pads::number::is_past` meets its contract, by cases of the first index.
+use Rattle.pads.proofs.Needs.{past-by-count, past-by-first}
+use Rattle.pads.proofs.number.is_past.Statement.{statement}
+use Rattle.pads.proofs.number.is_past.Tie as tie
+
+pub is-past-spec : {M : Type 1} → statement M
+is-past-spec =
+    tie.close
+    (tie.spec
+    (λ c. search past-by-count)  -- returns
+    (λ c. search past-by-first)  -- returns-2
+    )

@@ -1,0 +1,20 @@
+-- `pads::scalar_pads` meets its contract: refused by its number, or accepted with the messages written.
+use borrow.Author.Needs.{needs}
+use Rattle.pads.proofs.Outcomes.{scalar-refused, scalar-fits, scalar-delta, scalar-accepted}
+use Rattle.pads.proofs.scalar_pads.Statement.{statement}
+use Rattle.pads.proofs.scalar_pads.Tie as tie
+
+pub scalar-pads-spec : {M : Type 1} → statement M
+scalar-pads-spec =
+    tie.close
+    (tie.spec
+    (λ c κs. search needs)  -- scalar-number-requires
+    (λ c. search scalar-refused)  -- returns
+    (λ c κs. search needs)  -- table-requires
+    (λ c κs. search needs)  -- mix-table-requires
+    (λ c κs. search needs)  -- pad-keys-requires
+    (λ c κs. search scalar-delta)  -- block-at-requires
+    (λ c κs. (search needs, search scalar-fits))  -- write-messages-requires
+    (λ c. search needs)  -- same-length
+    (λ c. search scalar-accepted)  -- returns-2
+    )

@@ -1,0 +1,39 @@
+-- Blocks in bytes (document 01, 'Pads': a block's bytes are its two words, each LE).
+use mathlib.Core.List.{List, _++_}
+use Prim.Native.Nat.{ℕ, _+_}
+use lib.Seq.{sets}
+use Rattle.algebra.specs.Coding.{Coding}
+use Rattle.field.specs.declared.block.Block.{Block}
+use Rattle.field.specs.Binary.{block}
+use Rattle.field.specs.Bytes.{leBytes, wordAt}
+
+-- a block takes 16 bytes: its two words, each LE
+abbrev pub blockBytes : Coding Block
+blockBytes =
+    record {
+      width = 16;
+      words = λ b. leBytes 8 (b .low) ++ leBytes 8 (b .high);
+      read = λ l k. block (wordAt l k) (wordAt l (k + 8));
+    }
+
+-- the bytes with the 16 bytes of a block written from a place on
+unfoldable pub withBlock : List ℕ → ℕ → Block → List ℕ
+withBlock bytes at b = sets bytes at (blockBytes .words b)
+
+-- messages 0 and 1 of an output
+pub record Messages : Type 0 where
+  pub message0 : Block
+  pub message1 : Block
+
+-- they take 32 bytes: message 0, then message 1
+abbrev pub messageBytes : Coding Messages
+messageBytes =
+    record {
+      width = 32;
+      words = λ m. blockBytes .words (m .message0) ++ blockBytes .words (m .message1);
+      read = λ l k. record { message0 = blockBytes .read l k; message1 = blockBytes .read l (k + 16) };
+    }
+
+-- the bytes with the 32 bytes of messages written from a place on
+unfoldable pub withMessages : List ℕ → ℕ → Messages → List ℕ
+withMessages bytes at m = sets bytes at (messageBytes .words m)

@@ -1,0 +1,94 @@
+-- Both pad calls (document 01, 'Pads' and 'Numbers of the calls'): what stands on return, from everything lent. They test
+-- 3, 7, 6, 13, 8. The calls are defined over any rule; the calls' own is `pad`.
+use mathlib.Core.Bool.{Bool, false, not, _&&_, _||_}
+use mathlib.Core.List.{List, [], _∷_}
+use Prim.Native.Nat.{ℕ, zero, suc, _+_, _*_}
+use lib.Dec.{ltb, eqb}
+use lib.ListN.{length}
+use Rattle.algebra.specs.Choice.{choose}
+use Rattle.algebra.specs.Coding.{at, over}
+use Rattle.pads.specs.Bytes.{blockBytes, messageBytes}
+use Rattle.pads.specs.Pad.{Rule, pad, messages}
+
+-- the number returned, and the output buffer on return
+pub record PadsOutcome : Type 0 where
+  pub number : ℕ
+  pub pads : List ℕ
+
+abbrev pub outcome : ℕ → List ℕ → PadsOutcome
+outcome number pads = record { number = number; pads = pads }
+
+-- an accepted call, of number 0, leaves what it wrote; a refused one the buffer as it was
+unfoldable pub answer : ℕ → List ℕ → List ℕ → PadsOutcome
+answer zero written pads = outcome 0 written
+answer (suc n) written pads = outcome (suc n) pads
+
+-- some byte is above a limit
+unfoldable pub anyAbove : ℕ → List ℕ → Bool
+anyAbove limit [] = false
+anyAbove limit (byte ∷ bytes) = ltb limit byte || anyAbove limit bytes
+
+-- the numbers of the table: an input slice not exactly the length that c calls for
+abbrev pub wrongLength : ℕ
+wrongLength = 3
+
+-- Δ zero
+abbrev pub zeroDelta : ℕ
+zeroDelta = 6
+
+-- window past its end
+abbrev pub pastEnd : ℕ
+pastEnd = 7
+
+-- choice byte above 1
+abbrev pub badChoice : ℕ
+badChoice = 8
+
+-- output buffer too short
+abbrev pub shortOutput : ℕ
+shortOutput = 13
+
+-- first + c is at most 32,768
+abbrev pub windowEnd : ℕ
+windowEnd = 32768
+
+-- the noise end's number, with v of 16 bytes an output and a choice byte each, and room for as many pads
+unfoldable pub noiseNumber : ℕ → ℕ → List ℕ → List ℕ → ℕ → ℕ
+noiseNumber first count v choices room =
+    choose (not (eqb (length v) (16 * count) && eqb (length choices) count)) wrongLength
+    (choose (ltb windowEnd (first + count)) pastEnd
+    (choose (ltb room (16 * count)) shortOutput
+    (choose (anyAbove 1 choices) badChoice
+    0)))
+
+-- the scalar end's number, with w of 16 bytes an output and Δ of 16 bytes, and room for two pads an output
+unfoldable pub scalarNumber : ℕ → ℕ → List ℕ → List ℕ → ℕ → ℕ
+scalarNumber first count w delta room =
+    choose (not (eqb (length w) (16 * count) && eqb (length delta) 16)) wrongLength
+    (choose (ltb windowEnd (first + count)) pastEnd
+    (choose (not (anyAbove 0 delta)) zeroDelta
+    (choose (ltb room (32 * count)) shortOutput
+    0)))
+
+-- the noise end writes the pad of v, 16 bytes an output
+unfoldable pub noisePadsBy : Rule → ℕ → ℕ → List ℕ → List ℕ → List ℕ → PadsOutcome
+noisePadsBy rule first count v choices pads =
+    answer
+    (noiseNumber first count v choices (length pads))
+    (over blockBytes count (λ k. rule (first + k) (at blockBytes v k)) pads)
+    pads
+
+-- the scalar end writes the pad of w, then that of w exclusive-or Δ, 32 bytes an output
+unfoldable pub scalarPadsBy : Rule → ℕ → ℕ → List ℕ → List ℕ → List ℕ → PadsOutcome
+scalarPadsBy rule first count w delta pads =
+    answer
+    (scalarNumber first count w delta (length pads))
+    (over messageBytes count (λ k. messages rule (first + k) (at blockBytes w k) (at blockBytes delta 0)) pads)
+    pads
+
+-- both calls
+abbrev pub noisePads : ℕ → ℕ → List ℕ → List ℕ → List ℕ → PadsOutcome
+noisePads = noisePadsBy pad
+
+abbrev pub scalarPads : ℕ → ℕ → List ℕ → List ℕ → List ℕ → PadsOutcome
+scalarPads = scalarPadsBy pad

@@ -1,0 +1,38 @@
+-- The pad rule (document 01, 'Pads'). A rule is any function of the index and the block; the index counts from the start of
+-- the dealing's outputs.
+use mathlib.Core.List.{List}
+use Prim.Native.Nat.{ℕ}
+use Rattle.aes128.specs.State.{four, xorState}
+use Rattle.aes128.specs.Cipher.{aes}
+use Rattle.field.specs.declared.block.Block.{Block}
+use Rattle.field.specs.Binary.{block, blockAdd, blockLeaf}
+use Rattle.field.specs.Bytes.{columnsOf}
+use Rattle.pads.specs.Bytes.{Messages}
+
+-- what gives the pad of an index and a block
+abbrev pub Rule : Type 0
+Rule = ℕ → Block → Block
+
+-- 16 bytes FF
+unfoldable pub padKey : List (List ℕ)
+padKey = four (λ c. four (λ r. 255))
+
+-- the 16-byte LE block of an index, which is a word
+abbrev pub indexBlock : ℕ → Block
+indexBlock x = block x 0
+
+-- the 16 bytes of a block as the cipher's state
+abbrev pub state : Block → List (List ℕ)
+state b = columnsOf (b .low) (b .high)
+
+-- E(16 bytes FF, z) exclusive-or z
+unfoldable pub hash : Block → Block
+hash z = blockLeaf (xorState (aes padKey (state z)) (state z))
+
+-- the pad of index x and block w: that of z, where z is w exclusive-or the 16-byte LE block of x
+unfoldable pub pad : Rule
+pad x w = hash (blockAdd w (indexBlock x))
+
+-- messages 0 and 1 of index x: the pad of w, then that of w exclusive-or Δ
+unfoldable pub messages : Rule → ℕ → Block → Block → Messages
+messages rule x w Δ = record { message0 = rule x w; message1 = rule x (blockAdd w Δ) }

@@ -1,0 +1,41 @@
+// Blocks in bytes.
+ghost use mathlib.Core.Path.{_≡_};
+ghost use Prim.Native.Nat.{_+_, _≤_};
+ghost use lib.ListN.{length};
+ghost use Rattle.pads.specs.Bytes.{blockBytes, withBlock};
+ghost use Rattle.pads.specs.Calls.{anyAbove};
+use field::Block;
+
+// The block whose 16 bytes begin at a place.
+pub fn block_at(bytes: &[u8], at: usize) -> Block
+    requires { ⌜ at + 16 ≤ length (now bytes) ⌝ }
+    ensures { λ r. ⌜ r ≡ blockBytes .read (now (bytes .entry)) at ⌝ }
+{
+    Block {
+        low: field::word_at(bytes, at),
+        high: field::word_at(bytes, at + 8),
+    }
+}
+
+// Writes the 16 bytes of a block from a place on.
+pub fn put_block(bytes: &mut [u8], at: usize, b: Block)
+    requires { ⌜ at + 16 ≤ length (now bytes) ⌝ }
+    ensures { λ _. ⌜ now (bytes .exit) ≡ withBlock (now (bytes .entry)) at b ⌝ }
+{
+    field::put_word(bytes, at, b.low);
+    field::put_word(bytes, at + 8, b.high);
+}
+
+// Whether some byte is above a limit.
+pub fn any_above(limit: u8, bytes: &[u8]) -> bool
+    ensures { λ r. ⌜ r ≡ anyAbove limit (now (bytes .entry)) ⌝ }
+{
+    let mut i: usize = 0;
+    while i < bytes.len() {
+        if bytes[i] > limit {
+            return true;
+        }
+        i += 1;
+    }
+    false
+}

@@ -1,0 +1,34 @@
+// The pad rule, on tables and round keys that the caller lends.
+ghost use mathlib.Core.Path.{_≡_};
+ghost use Rattle.sbox.specs.Table.{SBoxTable};
+ghost use Rattle.aes128.specs.Cipher.{keyExpansion};
+ghost use Rattle.pads.specs.Pad.{padKey, pad};
+ghost use Rattle.pads.specs.Steps.{Ready};
+use field::Block;
+
+// The round keys of the pads' key, 16 bytes FF.
+pub fn pad_keys(sbox: &[u8; 256]) -> [[[u8; 4]; 4]; 11]
+    requires { ⌜ SBoxTable (now sbox) ⌝ }
+    ensures { λ r. ⌜ r ≡ keyExpansion padKey ⌝ }
+{
+    let column: [u8; 4] = [255, 255, 255, 255];
+    aes128::expand_key(sbox, [column, column, column, column])
+}
+
+// The pad of an index and a block.
+pub fn pad_of(
+    sbox: &[u8; 256],
+    mix: &[u32; 256],
+    keys: &[[[u8; 4]; 4]; 11],
+    x: usize,
+    w: Block,
+) -> Block
+    requires { ⌜ Ready (now sbox) (now mix) (now keys) ⌝ }
+    ensures { λ r. ⌜ r ≡ pad x w ⌝ }
+{
+    let z = w.add(Block {
+        low: x as u64,
+        high: 0,
+    });
+    Block::of_columns(aes128::encrypt_xor(sbox, mix, keys, z.columns()))
+}

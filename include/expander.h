@@ -1,0 +1,316 @@
+/* Correlation expander: dealing, the noise end and the scalar end, pads.
+ *
+ * A dealing makes two key records. The noise end expands its record to u and v, the scalar end
+ * expands its own to w, and w = Delta * u + v at every index below n. In field 1 the pad calls turn
+ * v and u, or w and Delta, into oblivious transfer: at each index the scalar end holds two messages
+ * and the noise end the one that u names.
+ *
+ * Sizes
+ *   d  depth of a tree, 1 to 16; N is 2^d
+ *   t  trees, each with one noise place, 1 to the smaller of 64 and N
+ *   l  terms in a row of the code, 1 to 32
+ *   n  outputs, 1 to N / 2
+ *
+ * Fields
+ *   1, binary  Noise is 0 or 1. An element is a block of 16 bytes, as two words, least byte first;
+ *              addition is exclusive or.
+ *   2, prime   Noise and elements are words below p = 2^61 - 1; arithmetic is modulo p.
+ *   W stands below for the words that an element takes: 2 in field 1, 1 in field 2. Every block is
+ *   an element in field 1; in field 2 a word of p or more is none.
+ *
+ * Rules for every call
+ *   Lent memory   A buffer is a pointer and its length, counted in what the pointer points to. A
+ *                 pointer is never NULL, even if its length is 0, and has its type's alignment. An
+ *                 output buffer (Out) must not overlap anything else lent to the same call; input
+ *                 buffers (In) may overlap one another. Nobody writes lent memory, or reads an
+ *                 output buffer, until the call returns.
+ *   Accepted      The number is 0. Each output buffer holds the result from its start, and the
+ *                 lengths returned say how much of it; what lies past that is untouched.
+ *   Refused       The number is that of the first test that failed, tests being taken in the order
+ *                 listed. The lengths returned are 0 and all memory is as it was before the call.
+ *   In both cases every input buffer is as it was before the call. No call allocates, or keeps
+ *   anything between calls, so calls on different output buffers may run at the same time. Sums and
+ *   products of what the caller passes do not wrap: first and count may have any value.
+ */
+#ifndef EXPANDER_H
+#define EXPANDER_H
+
+#include <stddef.h>
+#include <stdint.h>
+
+#ifdef __cplusplus
+extern "C" {
+#endif
+
+/* Fields. */
+#define EXPANDER_BINARY 1
+#define EXPANDER_PRIME 2
+
+/* The modulus p of field 2, 2^61 - 1. */
+#define EXPANDER_MODULUS ((((uint64_t)1) << 61) - 1)
+
+/* Numbers that the calls return. */
+#define EXPANDER_ACCEPTED 0u         /* the result is written */
+#define EXPANDER_BAD_FIELD 1u        /* field byte not 1 or 2 */
+#define EXPANDER_BAD_SIZE 2u         /* d, t, l or n outside its range */
+#define EXPANDER_BAD_LENGTH 3u       /* input buffer not exactly of the length called for */
+#define EXPANDER_BAD_POSITION 4u     /* position not rising, or N or more */
+#define EXPANDER_BAD_NOISE 5u        /* noise value not admitted */
+#define EXPANDER_BAD_DELTA 6u        /* Delta zero or not an element */
+#define EXPANDER_WINDOW_PAST_END 7u  /* first + count too large */
+#define EXPANDER_NOT_ELEMENT 8u      /* word not an element, binary noise or choice above 1 */
+#define EXPANDER_WRONG_END 9u        /* end byte not this end's */
+#define EXPANDER_RECORD_ENDS 10u     /* record ends inside a field */
+#define EXPANDER_BAD_NUMBER 11u      /* number in a record not in its shortest form, or too long */
+#define EXPANDER_BYTES_AFTER 12u     /* bytes after the record */
+#define EXPANDER_BUFFER_SHORT 13u    /* output buffer too short */
+
+/* Lengths in bytes that no record exceeds. */
+#define EXPANDER_NOISE_RECORD_MAX 17624
+#define EXPANDER_SCALAR_RECORD_MAX 1064
+
+/* A number, and what was written to the first and to the second output buffer. */
+struct expander_two_lengths {
+    uint32_t number;
+    size_t first;
+    size_t second;
+};
+
+/* A number, and what was written to the one output buffer. */
+struct expander_one_length {
+    uint32_t number;
+    size_t first;
+};
+
+/** Make a noise record and a scalar record of one dealing.
+ *
+ *  The caller draws roots, positions, values, delta and code_key at random, and sends each end its
+ *  record alone.
+ *
+ *  Returns:  a number, and the bytes written to noise_record and to scalar_record.
+ *             0: accepted
+ *             1: field is not 1 or 2
+ *             2: depth, trees, terms or outputs (in this order) is outside its range
+ *             3: roots, positions, values, delta or code_key does not have its exact length
+ *             4: a position is not above the one before, or is N or more (all positions are tested
+ *                before any value)
+ *             5: a value is not 1 (field 1), or is 0, or p or more (field 2)
+ *             6: delta is zero; in field 2 also: its first eight bytes give p or more, or one of
+ *                its last eight is not 00
+ *            13: noise_record or scalar_record is too short for its record
+ *  In:       field:         1 binary, 2 prime
+ *            depth:         d
+ *            trees:         t
+ *            terms:         l
+ *            outputs:       n
+ *            roots:         t roots of 16 bytes; roots_len = 16 t
+ *            positions:     t noise places, strictly rising, below N; positions_len = t
+ *            values:        the noise at those places, each 1 in field 1, 1 to p - 1 in field 2;
+ *                           values_len = t
+ *            delta:         the scalar Delta, not zero: a block in field 1; in field 2 a word below
+ *                           p, least byte first, then eight bytes 00; delta_len = 16
+ *            code_key:      the key of the code that both ends use; code_key_len = 16
+ *  Out:      noise_record:  the noise record; EXPANDER_NOISE_RECORD_MAX bytes are always enough
+ *            scalar_record: the scalar record; EXPANDER_SCALAR_RECORD_MAX bytes are always enough
+ *  Refused:  both output buffers are as they were.
+ *  Overlap:  noise_record and scalar_record overlap neither each other nor any input buffer.
+ */
+struct expander_two_lengths expander_deal(
+    uint8_t field, size_t depth, size_t trees, size_t terms, size_t outputs,
+    const uint8_t *roots, size_t roots_len,
+    const uint32_t *positions, size_t positions_len,
+    const uint64_t *values, size_t values_len,
+    const uint8_t *delta, size_t delta_len,
+    const uint8_t *code_key, size_t code_key_len,
+    uint8_t *noise_record, size_t noise_record_len,
+    uint8_t *scalar_record, size_t scalar_record_len);
+
+/** Expand a noise record to the noise end's accumulated vectors.
+ *
+ *  Returns:  a number, and the words written to noise (N) and to v (W N).
+ *             0: accepted
+ *            Reading source from front to back, each field first read whole and then tested:
+ *            10: source ends inside a field, or before it
+ *             9: the end byte is not 1
+ *             1: the field byte is not 1 or 2
+ *            11: d, t, l or n (each 11 and then 2, before the next) is not in its shortest form, or
+ *                its third byte has the top bit set
+ *             2: d, t, l or n is outside its range
+ *            then for each tree:
+ *            11: the position's number is not in its shortest form, or its third byte has the top
+ *                bit set
+ *             4: the position is N or more
+ *             5: the noise value is 0, or p or more (field 2; field 1 has none)
+ *             8: the correction is p or more (field 2)
+ *            and at the end:
+ *            12: bytes follow the record
+ *            13: noise_len is below N, or v_len below W N
+ *  In:       source: a noise record, of exactly source_len bytes
+ *  Out:      noise:  the accumulated noise, N words
+ *            v:      the accumulated v0, N elements of W words
+ *  Refused:  both output buffers are as they were.
+ *  Overlap:  noise and v overlap neither each other nor source.
+ */
+struct expander_two_lengths expander_noise_offline(
+    const uint8_t *source, size_t source_len,
+    uint64_t *noise, size_t noise_len,
+    uint64_t *v, size_t v_len);
+
+/** Expand a scalar record to the scalar end's accumulated vector and Delta.
+ *
+ *  Returns:  a number, and the words written to w (W N) and to delta (2).
+ *             0: accepted
+ *            Reading source from front to back, each field first read whole and then tested:
+ *            10: source ends inside a field, or before it
+ *             9: the end byte is not 2
+ *             1: the field byte is not 1 or 2
+ *            11: d, t, l or n (each 11 and then 2, before the next) is not in its shortest form, or
+ *                its third byte has the top bit set
+ *             2: d, t, l or n is outside its range
+ *             6: Delta is zero, or is p or more (field 2)
+ *            and at the end:
+ *            12: bytes follow the record
+ *            13: w_len is below W N, or delta_len below 2
+ *  In:       source: a scalar record, of exactly source_len bytes
+ *  Out:      w:      the accumulated w0, N elements of W words
+ *            delta:  Delta, two words; in field 2 the second is 0
+ *  Refused:  both output buffers are as they were.
+ *  Overlap:  w and delta overlap neither each other nor source.
+ */
+struct expander_two_lengths expander_scalar_offline(
+    const uint8_t *source, size_t source_len,
+    uint64_t *w, size_t w_len,
+    uint64_t *delta, size_t delta_len);
+
+/** Give the noise end's outputs u and v at the indices first to first + count - 1.
+ *
+ *  Returns:  a number, and the words written to u_out (count) and to v_out (W count).
+ *             0: accepted
+ *            Reading source from front to back, each field first read whole and then tested:
+ *            10: source ends inside a field, or before it
+ *             9: the end byte is not 1
+ *             1: the field byte is not 1 or 2
+ *            11: d, t, l or n (each 11 and then 2, before the next) is not in its shortest form, or
+ *                its third byte has the top bit set
+ *             2: d, t, l or n is outside its range
+ *            then for each tree:
+ *            11: the position's number is not in its shortest form, or its third byte has the top
+ *                bit set
+ *             4: the position is N or more
+ *             5: the noise value is 0, or p or more (field 2; field 1 has none)
+ *             8: the correction is p or more (field 2)
+ *            and at the end:
+ *            12: bytes follow the record
+ *             3: noise or v does not have its exact length
+ *             7: first + count is above n
+ *            13: u_out_len is below count, or v_out_len below W count
+ *             8: a word of noise or v at a place that the window's rows use is above 1 (field 1,
+ *                noise only) or p or more (field 2)
+ *  In:       source: the noise record, of exactly source_len bytes
+ *            noise:  the accumulated noise as expander_noise_offline wrote it; noise_len = N
+ *            v:      the accumulated v0 as expander_noise_offline wrote it; v_len = W N
+ *            first:  the window's first index
+ *            count:  the window's number of indices; with 0 the same tests are made, and nothing is
+ *                    written
+ *  Out:      u_out:  u at each index of the window, count words
+ *            v_out:  v at each index of the window, count elements of W words
+ *  Refused:  both output buffers are as they were.
+ *  Overlap:  u_out and v_out overlap neither each other nor source, noise or v.
+ */
+struct expander_two_lengths expander_noise_online(
+    const uint8_t *source, size_t source_len,
+    const uint64_t *noise, size_t noise_len,
+    const uint64_t *v, size_t v_len,
+    size_t first, size_t count,
+    uint64_t *u_out, size_t u_out_len,
+    uint64_t *v_out, size_t v_out_len);
+
+/** Give the scalar end's outputs w at the indices first to first + count - 1.
+ *
+ *  Returns:  a number, and the words written to w_out (W count).
+ *             0: accepted
+ *            Reading source from front to back, each field first read whole and then tested:
+ *            10: source ends inside a field, or before it
+ *             9: the end byte is not 2
+ *             1: the field byte is not 1 or 2
+ *            11: d, t, l or n (each 11 and then 2, before the next) is not in its shortest form, or
+ *                its third byte has the top bit set
+ *             2: d, t, l or n is outside its range
+ *             6: Delta is zero, or is p or more (field 2)
+ *            and at the end:
+ *            12: bytes follow the record
+ *             3: w does not have its exact length
+ *             7: first + count is above n
+ *            13: w_out_len is below W count
+ *             8: a word of w at a place that the window's rows use is p or more (field 2)
+ *  In:       source: the scalar record, of exactly source_len bytes
+ *            w:      the accumulated w0 as expander_scalar_offline wrote it; w_len = W N
+ *            first:  the window's first index
+ *            count:  the window's number of indices; with 0 the same tests are made, and nothing is
+ *                    written
+ *  Out:      w_out:  w at each index of the window, count elements of W words
+ *  Refused:  the output buffer is as it was.
+ *  Overlap:  w_out overlaps neither source nor w.
+ */
+struct expander_one_length expander_scalar_online(
+    const uint8_t *source, size_t source_len,
+    const uint64_t *w, size_t w_len,
+    size_t first, size_t count,
+    uint64_t *w_out, size_t w_out_len);
+
+/** Give the noise end's pads at the indices first to first + count - 1: of each index the message
+ *  that its choice names. Field 1 only; no record is read.
+ *
+ *  Returns:  a number alone; an accepted call has written 16 count bytes to pads.
+ *             0: accepted
+ *             3: v or choices does not have its exact length
+ *             7: first + count is above 32768
+ *            13: pads_len is below 16 count
+ *             8: a choice is above 1
+ *  In:       first:   the window's first index
+ *            count:   the window's number of indices; with 0 the same tests are made, and nothing
+ *                     is written
+ *            v:       v at each index of the window, 16 bytes each: the two words of
+ *                     expander_noise_online, each least byte first; v_len = 16 count
+ *            choices: u at each index of the window, as one byte 0 or 1; choices_len = count
+ *  Out:      pads:    16 bytes an index: message 0 or 1, as the choice says
+ *  Refused:  the output buffer is as it was.
+ *  Overlap:  pads overlaps neither v nor choices.
+ */
+uint32_t expander_noise_pads(
+    size_t first, size_t count,
+    const uint8_t *v, size_t v_len,
+    const uint8_t *choices, size_t choices_len,
+    uint8_t *pads, size_t pads_len);
+
+/** Give the scalar end's pads at the indices first to first + count - 1: of each index both
+ *  messages. Field 1 only; no record is read.
+ *
+ *  Returns:  a number alone; an accepted call has written 32 count bytes to pads.
+ *             0: accepted
+ *             3: w or delta does not have its exact length
+ *             7: first + count is above 32768
+ *             6: delta is zero
+ *            13: pads_len is below 32 count
+ *  In:       first: the window's first index
+ *            count: the window's number of indices; with 0 the same tests are made, and nothing is
+ *                   written
+ *            w:     w at each index of the window, 16 bytes each: the two words of
+ *                   expander_scalar_online, each least byte first; w_len = 16 count
+ *            delta: Delta, the two words of expander_scalar_offline, each least byte first;
+ *                   delta_len = 16
+ *  Out:      pads:  32 bytes an index: message 0, then message 1
+ *  Refused:  the output buffer is as it was.
+ *  Overlap:  pads overlaps neither w nor delta.
+ */
+uint32_t expander_scalar_pads(
+    size_t first, size_t count,
+    const uint8_t *w, size_t w_len,
+    const uint8_t *delta, size_t delta_len,
+    uint8_t *pads, size_t pads_len);
+
+#ifdef __cplusplus
+}
+#endif
+
+#endif

@@ -1,0 +1,55 @@
+/* One dealing in field 1, both ends, and the correlation at one output. */
+#include "expander.h"
+
+#include <stdio.h>
+
+enum { DEPTH = 10, N = 1 << DEPTH, TREES = 4, TERMS = 8, OUTPUTS = N / 2, INDEX = 123 };
+
+static uint8_t noise_record[EXPANDER_NOISE_RECORD_MAX];
+static uint8_t scalar_record[EXPANDER_SCALAR_RECORD_MAX];
+static uint64_t noise[N], v[2 * N]; /* the noise end's vectors */
+static uint64_t w[2 * N], delta[2]; /* the scalar end's vector and Delta */
+
+int main(void)
+{
+    /* In use, all of these are drawn at random. */
+    static const uint8_t roots[16 * TREES] = {3, 1, 4, 1, 5, 9, 2, 6};
+    static const uint32_t positions[TREES] = {17, 170, 400, 999};
+    static const uint64_t values[TREES] = {1, 1, 1, 1};
+    static const uint8_t scalar[16] = {2, 7, 1, 8}, code_key[16] = {1, 6, 1, 8};
+    struct expander_two_lengths records, lengths;
+    struct expander_one_length length;
+    uint64_t u_at, v_at[2], w_at[2];
+
+    records = expander_deal(EXPANDER_BINARY, DEPTH, TREES, TERMS, OUTPUTS,
+                            roots, sizeof roots, positions, TREES, values, TREES,
+                            scalar, sizeof scalar, code_key, sizeof code_key,
+                            noise_record, sizeof noise_record,
+                            scalar_record, sizeof scalar_record);
+    if (records.number != EXPANDER_ACCEPTED)
+        return 1;
+
+    /* The noise end: records.first bytes of noise_record are all it needs. */
+    lengths = expander_noise_offline(noise_record, records.first, noise, N, v, 2 * N);
+    if (lengths.number != EXPANDER_ACCEPTED)
+        return 1;
+    lengths = expander_noise_online(noise_record, records.first, noise, N, v, 2 * N,
+                                    INDEX, 1, &u_at, 1, v_at, 2);
+    if (lengths.number != EXPANDER_ACCEPTED)
+        return 1;
+
+    /* The scalar end: records.second bytes of scalar_record are all it needs. */
+    lengths = expander_scalar_offline(scalar_record, records.second, w, 2 * N, delta, 2);
+    if (lengths.number != EXPANDER_ACCEPTED)
+        return 1;
+    length = expander_scalar_online(scalar_record, records.second, w, 2 * N, INDEX, 1, w_at, 2);
+    if (length.number != EXPANDER_ACCEPTED)
+        return 1;
+
+    /* w = Delta * u + v, where + is exclusive or and u is 0 or 1. */
+    for (int k = 0; k < 2; k++)
+        if (w_at[k] != (v_at[k] ^ (u_at == 1 ? delta[k] : 0)))
+            return 1;
+    printf("output %d: u = %d, w = Delta * u + v\n", INDEX, (int)u_at);
+    return 0;
+}

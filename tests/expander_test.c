@@ -1,0 +1,1199 @@
+/* The library's seven calls held to the plain implementation, through expander.h.
+ *
+ * Each call is made twice, by the library and by the plain implementation, on memory of the same
+ * content. Number and lengths must agree, and so must every byte of every lent buffer and of the
+ * guards around it; what a call does not write must be as it was. Some buffers begin or end at a
+ * page that cannot be touched, so that a read outside them is noticed too.
+ */
+#define _GNU_SOURCE
+#include "dealing.h"
+#include "expander.h"
+#include "plain.h"
+
+#include <stdarg.h>
+#include <stdio.h>
+#include <stdlib.h>
+#include <string.h>
+#include <sys/mman.h>
+
+#define P PLAIN_P
+
+typedef struct plain_result result;
+typedef struct plain_block block;
+
+/* ---- What is counted ---- */
+
+enum call { DEAL, NOISE_OFFLINE, SCALAR_OFFLINE, NOISE_ONLINE, SCALAR_ONLINE, NOISE_PADS,
+            SCALAR_PADS, CALLS };
+enum { NUMBERS = 14 };
+
+static const char *const call_names[CALLS] = {"deal", "noise_offline", "scalar_offline",
+                                              "noise_online", "scalar_online", "noise_pads",
+                                              "scalar_pads"};
+
+/* The numbers that document 01 lets each call give, a bit each. */
+#define BIT(n) (1u << (n))
+#define HEAD_NUMBERS (BIT(1) | BIT(2) | BIT(9) | BIT(10) | BIT(11) | BIT(12))
+static const unsigned allowed[CALLS] = {
+    BIT(0) | BIT(1) | BIT(2) | BIT(3) | BIT(4) | BIT(5) | BIT(6) | BIT(13),
+    BIT(0) | HEAD_NUMBERS | BIT(4) | BIT(5) | BIT(8) | BIT(13),
+    BIT(0) | HEAD_NUMBERS | BIT(6) | BIT(13),
+    BIT(0) | HEAD_NUMBERS | BIT(4) | BIT(5) | BIT(8) | BIT(3) | BIT(7) | BIT(13),
+    BIT(0) | HEAD_NUMBERS | BIT(6) | BIT(3) | BIT(7) | BIT(13) | BIT(8),
+    BIT(0) | BIT(3) | BIT(7) | BIT(13) | BIT(8),
+    BIT(0) | BIT(3) | BIT(7) | BIT(6) | BIT(13),
+};
+
+static unsigned long agreed[CALLS][NUMBERS];
+static unsigned long facts; /* further facts that held of the library's results */
+static unsigned long wrong;
+
+static char context[400]; /* the call being made */
+
+static void describe(const char *format, ...)
+{
+    va_list list;
+    va_start(list, format);
+    vsnprintf(context, sizeof context, format, list);
+    va_end(list);
+}
+
+static void complain(const char *format, ...)
+{
+    va_list list;
+    if (++wrong > 20)
+        return;
+    fprintf(stderr, "%s: ", context);
+    va_start(list, format);
+    vfprintf(stderr, format, list);
+    va_end(list);
+    fputc('\n', stderr);
+}
+
+#define EXPECT(fact) expect((fact), #fact, __LINE__)
+
+static void expect(int holds, const char *fact, int line)
+{
+    if (holds)
+        facts++;
+    else
+        complain("not so (expander_test.c:%d): %s", line, fact);
+}
+
+/* ---- Lent memory ---- */
+
+enum { SLOTS = 7, GUARD = 64, PAGE = 4096, ROOM = (1 << 20) + (1 << 16) };
+
+/* A buffer of the current call: the same bytes for the library, for the plain implementation, and
+ * as they were before the call. */
+static struct lent {
+    unsigned char *room[3];
+    unsigned char *library, *plain, *before;
+    size_t bytes, guard_low, guard_high;
+} lent[SLOTS];
+
+static void make_rooms(void)
+{
+    for (int k = 0; k < SLOTS; k++)
+        for (int copy = 0; copy < 3; copy++) {
+            unsigned char *pages = mmap(NULL, ROOM + 2 * PAGE, PROT_NONE,
+                                        MAP_PRIVATE | MAP_ANONYMOUS, -1, 0);
+            if (pages == MAP_FAILED || mprotect(pages + PAGE, ROOM, PROT_READ | PROT_WRITE) != 0) {
+                perror("expander_test: memory");
+                exit(2);
+            }
+            lent[k].room[copy] = pages + PAGE;
+        }
+}
+
+/* Lend count things of `size` bytes: with this content, or with random bytes if it is NULL. */
+static void lend(int slot, const void *content, size_t count, size_t size)
+{
+    struct lent *l = &lent[slot];
+    size_t at;
+    l->bytes = count * size;
+    if (l->bytes > ROOM - 32 * GUARD) {
+        fprintf(stderr, "expander_test: buffer of %zu bytes\n", l->bytes);
+        exit(2);
+    }
+    l->guard_low = l->guard_high = GUARD;
+    switch (random_below(3)) {
+    case 0: /* from the first byte that can be touched */
+        at = l->guard_low = 0;
+        break;
+    case 1: /* up to the last one */
+        at = ROOM - l->bytes;
+        l->guard_high = 0;
+        break;
+    default:
+        at = GUARD + size * random_below(16);
+    }
+    l->library = l->room[0] + at;
+    l->plain = l->room[1] + at;
+    l->before = l->room[2] + at;
+    random_bytes(l->before - l->guard_low, l->guard_low);
+    random_bytes(l->before + l->bytes, l->guard_high);
+    if (content == NULL)
+        random_bytes(l->before, l->bytes);
+    else
+        memcpy(l->before, content, l->bytes);
+    at = l->guard_low + l->bytes + l->guard_high;
+    memcpy(l->library - l->guard_low, l->before - l->guard_low, at);
+    memcpy(l->plain - l->guard_low, l->before - l->guard_low, at);
+}
+
+/* Both copies of the buffer agree whole, guards included, and past the bytes written, as before. */
+static int held(int slot, size_t written)
+{
+    const struct lent *l = &lent[slot];
+    size_t all = l->guard_low + l->bytes + l->guard_high;
+    for (size_t k = 0; k < all; k += k + PAGE < all ? PAGE : all - k) {
+        size_t n = all - k < PAGE ? all - k : PAGE;
+        const unsigned char *mine = l->library - l->guard_low + k;
+        const unsigned char *other = l->plain - l->guard_low + k;
+        if (memcmp(mine, other, n) == 0)
+            continue;
+        for (n = 0; mine[n] == other[n]; n++)
+            ;
+        complain("buffer %d of %zu bytes: byte %ld is %02x, the plain implementation has %02x",
+                 slot, l->bytes, (long)(k + n) - (long)l->guard_low, mine[n], other[n]);
+        return 0;
+    }
+    if (written > l->bytes
+        || memcmp(l->plain - l->guard_low, l->before - l->guard_low, l->guard_low) != 0
+        || memcmp(l->plain + written, l->before + written, l->bytes + l->guard_high - written)) {
+        complain("buffer %d: the plain implementation wrote past its %zu bytes", slot, written);
+        return 0;
+    }
+    return 1;
+}
+
+/* Compare what the call returned and what it left; inputs stand before outputs. first and second
+ * are the bytes that an accepted call writes to the last two buffers, or to the last one. */
+static void settle(enum call call, result mine, result plain, int inputs, int outputs,
+                   size_t first, size_t second)
+{
+    int well = 1;
+    if (mine.number != plain.number || mine.first != plain.first || mine.second != plain.second) {
+        complain("returned %u, %zu, %zu; the plain implementation %u, %zu, %zu", mine.number,
+                 mine.first, mine.second, plain.number, plain.first, plain.second);
+        well = 0;
+    }
+    for (int k = 0; k < inputs; k++)
+        well &= held(k, 0);
+    well &= held(inputs, plain.number == 0 ? first : 0);
+    if (outputs == 2)
+        well &= held(inputs + 1, plain.number == 0 ? second : 0);
+    if (plain.number != 0 && (plain.first != 0 || plain.second != 0)) {
+        complain("the plain implementation refused with lengths");
+        well = 0;
+    }
+    if (plain.number >= NUMBERS || !(allowed[call] & BIT(plain.number))) {
+        complain("number %u is not this call's", plain.number);
+        well = 0;
+    }
+    if (well)
+        agreed[call][plain.number]++;
+}
+
+#define LIBRARY(slot, type) ((type *)(void *)lent[slot].library)
+#define PLAIN(slot, type) ((type *)(void *)lent[slot].plain)
+
+static result two(struct expander_two_lengths r)
+{
+    result same = {r.number, r.first, r.second};
+    return same;
+}
+
+static result one(struct expander_one_length r)
+{
+    result same = {r.number, r.first, 0};
+    return same;
+}
+
+static result alone(uint32_t number)
+{
+    result same = {number, 0, 0};
+    return same;
+}
+
+/* ---- The calls, each made by both; what the library wrote goes to *_out, if not NULL ---- */
+
+static void keep(void *out, int slot, size_t bytes)
+{
+    if (out != NULL)
+        memcpy(out, lent[slot].library, bytes);
+}
+
+/* How much a dealing lends of each input, and of its two buffers. */
+struct deal_lengths {
+    size_t roots, positions, values, delta, code_key, noise, scalar;
+};
+
+static result try_deal(const struct dealing *x, const struct deal_lengths *n, uint8_t *noise_out,
+                       uint8_t *scalar_out)
+{
+    result mine, plain;
+    describe("deal(field %u, d %zu, t %zu, l %zu, n %zu, lengths %zu %zu %zu %zu %zu, %zu %zu)",
+             x->field, x->depth, x->trees, x->terms, x->outputs, n->roots, n->positions, n->values,
+             n->delta, n->code_key, n->noise, n->scalar);
+    lend(0, x->roots, n->roots, 1);
+    lend(1, x->positions, n->positions, 4);
+    lend(2, x->values, n->values, 8);
+    lend(3, x->delta, n->delta, 1);
+    lend(4, x->code_key, n->code_key, 1);
+    lend(5, NULL, n->noise, 1);
+    lend(6, NULL, n->scalar, 1);
+    mine = two(expander_deal(x->field, x->depth, x->trees, x->terms, x->outputs,
+                             LIBRARY(0, uint8_t), n->roots, LIBRARY(1, uint32_t), n->positions,
+                             LIBRARY(2, uint64_t), n->values, LIBRARY(3, uint8_t), n->delta,
+                             LIBRARY(4, uint8_t), n->code_key, LIBRARY(5, uint8_t), n->noise,
+                             LIBRARY(6, uint8_t), n->scalar));
+    plain = plain_deal(x->field, x->depth, x->trees, x->terms, x->outputs,
+                       PLAIN(0, uint8_t), n->roots, PLAIN(1, uint32_t), n->positions,
+                       PLAIN(2, uint64_t), n->values, PLAIN(3, uint8_t), n->delta,
+                       PLAIN(4, uint8_t), n->code_key, PLAIN(5, uint8_t), n->noise,
+                       PLAIN(6, uint8_t), n->scalar);
+    settle(DEAL, mine, plain, 5, 2, plain.first, plain.second);
+    keep(noise_out, 5, plain.first);
+    keep(scalar_out, 6, plain.second);
+    return mine;
+}
+
+static result try_offline(int end, const uint8_t *record, size_t len, size_t first_len,
+                          size_t second_len, uint64_t *first_out, uint64_t *second_out)
+{
+    result mine, plain;
+    enum call call = end == 1 ? NOISE_OFFLINE : SCALAR_OFFLINE;
+    describe("%s(record of %zu bytes, %zu, %zu)", call_names[call], len, first_len, second_len);
+    lend(0, record, len, 1);
+    lend(1, NULL, first_len, 8);
+    lend(2, NULL, second_len, 8);
+    mine = two((end == 1 ? expander_noise_offline : expander_scalar_offline)(
+        LIBRARY(0, uint8_t), len, LIBRARY(1, uint64_t), first_len, LIBRARY(2, uint64_t),
+        second_len));
+    plain = (end == 1 ? plain_noise_offline : plain_scalar_offline)(
+        PLAIN(0, uint8_t), len, PLAIN(1, uint64_t), first_len, PLAIN(2, uint64_t), second_len);
+    settle(call, mine, plain, 1, 2, 8 * plain.first, 8 * plain.second);
+    keep(first_out, 1, 8 * plain.first);
+    keep(second_out, 2, 8 * plain.second);
+    return mine;
+}
+
+static result try_noise_online(const uint8_t *record, size_t len, const uint64_t *noise,
+                               size_t noise_len, const uint64_t *v, size_t v_len, size_t first,
+                               size_t count, size_t u_len, size_t v_out_len, uint64_t *u_out,
+                               uint64_t *v_out)
+{
+    result mine, plain;
+    describe("noise_online(record of %zu bytes, %zu, %zu, window %zu and %zu, %zu, %zu)", len,
+             noise_len, v_len, first, count, u_len, v_out_len);
+    lend(0, record, len, 1);
+    lend(1, noise, noise_len, 8);
+    lend(2, v, v_len, 8);
+    lend(3, NULL, u_len, 8);
+    lend(4, NULL, v_out_len, 8);
+    mine = two(expander_noise_online(LIBRARY(0, uint8_t), len, LIBRARY(1, uint64_t), noise_len,
+                                     LIBRARY(2, uint64_t), v_len, first, count,
+                                     LIBRARY(3, uint64_t), u_len, LIBRARY(4, uint64_t),
+                                     v_out_len));
+    plain = plain_noise_online(PLAIN(0, uint8_t), len, PLAIN(1, uint64_t), noise_len,
+                               PLAIN(2, uint64_t), v_len, first, count, PLAIN(3, uint64_t), u_len,
+                               PLAIN(4, uint64_t), v_out_len);
+    settle(NOISE_ONLINE, mine, plain, 3, 2, 8 * plain.first, 8 * plain.second);
+    keep(u_out, 3, 8 * plain.first);
+    keep(v_out, 4, 8 * plain.second);
+    return mine;
+}
+
+static result try_scalar_online(const uint8_t *record, size_t len, const uint64_t *w, size_t w_len,
+                                size_t first, size_t count, size_t w_out_len, uint64_t *w_out)
+{
+    result mine, plain;
+    describe("scalar_online(record of %zu bytes, %zu, window %zu and %zu, %zu)", len, w_len, first,
+             count, w_out_len);
+    lend(0, record, len, 1);
+    lend(1, w, w_len, 8);
+    lend(2, NULL, w_out_len, 8);
+    mine = one(expander_scalar_online(LIBRARY(0, uint8_t), len, LIBRARY(1, uint64_t), w_len, first,
+                                      count, LIBRARY(2, uint64_t), w_out_len));
+    plain = plain_scalar_online(PLAIN(0, uint8_t), len, PLAIN(1, uint64_t), w_len, first, count,
+                                PLAIN(2, uint64_t), w_out_len);
+    settle(SCALAR_ONLINE, mine, plain, 2, 1, 8 * plain.first, 0);
+    keep(w_out, 2, 8 * plain.first);
+    return mine;
+}
+
+static uint32_t try_noise_pads(size_t first, size_t count, const uint8_t *v, size_t v_len,
+                               const uint8_t *choices, size_t choices_len, size_t pads_len,
+                               uint8_t *pads_out)
+{
+    result mine, plain;
+    describe("noise_pads(window %zu and %zu, %zu, %zu, %zu)", first, count, v_len, choices_len,
+             pads_len);
+    lend(0, v, v_len, 1);
+    lend(1, choices, choices_len, 1);
+    lend(2, NULL, pads_len, 1);
+    mine = alone(expander_noise_pads(first, count, LIBRARY(0, uint8_t), v_len, LIBRARY(1, uint8_t),
+                                     choices_len, LIBRARY(2, uint8_t), pads_len));
+    plain = alone(plain_noise_pads(first, count, PLAIN(0, uint8_t), v_len, PLAIN(1, uint8_t),
+                                   choices_len, PLAIN(2, uint8_t), pads_len));
+    settle(NOISE_PADS, mine, plain, 2, 1, 16 * count, 0);
+    if (plain.number == 0)
+        keep(pads_out, 2, 16 * count);
+    return mine.number;
+}
+
+static uint32_t try_scalar_pads(size_t first, size_t count, const uint8_t *w, size_t w_len,
+                                const uint8_t *delta, size_t delta_len, size_t pads_len,
+                                uint8_t *pads_out)
+{
+    result mine, plain;
+    describe("scalar_pads(window %zu and %zu, %zu, %zu, %zu)", first, count, w_len, delta_len,
+             pads_len);
+    lend(0, w, w_len, 1);
+    lend(1, delta, delta_len, 1);
+    lend(2, NULL, pads_len, 1);
+    mine = alone(expander_scalar_pads(first, count, LIBRARY(0, uint8_t), w_len,
+                                      LIBRARY(1, uint8_t), delta_len, LIBRARY(2, uint8_t),
+                                      pads_len));
+    plain = alone(plain_scalar_pads(first, count, PLAIN(0, uint8_t), w_len, PLAIN(1, uint8_t),
+                                    delta_len, PLAIN(2, uint8_t), pads_len));
+    settle(SCALAR_PADS, mine, plain, 2, 1, 32 * count, 0);
+    if (plain.number == 0)
+        keep(pads_out, 2, 32 * count);
+    return mine.number;
+}
+
+/* ---- One dealing and what its ends hold ---- */
+
+enum { MOST = 1 << 16 };
+
+static struct dealing x;
+static uint8_t noise_record[EXPANDER_NOISE_RECORD_MAX + 8];
+static uint8_t scalar_record[EXPANDER_SCALAR_RECORD_MAX + 8];
+static size_t noise_record_len, scalar_record_len;
+static size_t leaves, width;
+static uint64_t noise[MOST + 8], v[2 * MOST + 8], w[2 * MOST + 8], delta[2];
+static uint64_t u_all[MOST / 2], v_all[MOST], w_all[MOST]; /* outputs 0 to n - 1 */
+
+static struct deal_lengths exact_lengths(void)
+{
+    struct deal_lengths n = {16 * x.trees, x.trees, x.trees, 16, 16, noise_record_len,
+                             scalar_record_len};
+    return n;
+}
+
+/* Deal x. Both records are kept. */
+static result deal(void)
+{
+    struct deal_lengths n = {16 * x.trees, x.trees, x.trees, 16, 16,
+                             EXPANDER_NOISE_RECORD_MAX, EXPANDER_SCALAR_RECORD_MAX};
+    result r = try_deal(&x, &n, noise_record, scalar_record);
+    noise_record_len = r.first;
+    scalar_record_len = r.second;
+    leaves = (size_t)1 << x.depth;
+    width = x.field == 1 ? 2 : 1;
+    return r;
+}
+
+static void offline(void)
+{
+    result r = try_offline(1, noise_record, noise_record_len, leaves, width * leaves, noise, v);
+    EXPECT(r.number == 0 && r.first == leaves && r.second == width * leaves);
+    r = try_offline(2, scalar_record, scalar_record_len, width * leaves, 2, w, delta);
+    EXPECT(r.number == 0 && r.first == width * leaves && r.second == 2);
+}
+
+static uint32_t noise_window(size_t first, size_t count, size_t u_len, size_t v_len,
+                             uint64_t *u_out, uint64_t *v_out)
+{
+    return try_noise_online(noise_record, noise_record_len, noise, leaves, v, width * leaves,
+                            first, count, u_len, v_len, u_out, v_out).number;
+}
+
+static uint32_t scalar_window(size_t first, size_t count, size_t w_len, uint64_t *w_out)
+{
+    return try_scalar_online(scalar_record, scalar_record_len, w, width * leaves, first, count,
+                             w_len, w_out).number;
+}
+
+static block element(const uint64_t *words, size_t k)
+{
+    block b = {words[width * k], width == 2 ? words[2 * k + 1] : 0};
+    return b;
+}
+
+/* w = Delta u + v at index k of these. */
+static int correlated(const uint64_t *u_at, const uint64_t *v_at, const uint64_t *w_at, size_t k)
+{
+    block scalar = {delta[0], delta[1]};
+    block sum = plain_add(x.field, plain_scale(x.field, scalar, u_at[k]), element(v_at, k));
+    block other = element(w_at, k);
+    return sum.lo == other.lo && sum.hi == other.hi;
+}
+
+/* A deal with each buffer one short, one long, empty. */
+static void vary_deal(void)
+{
+    for (int which = 0; which < 2; which++)
+        for (int how = 0; how < 4; how++) {
+            struct deal_lengths n = exact_lengths();
+            size_t *len = which == 0 ? &n.noise : &n.scalar;
+            *len = how == 0 ? *len - 1 : how == 1 ? *len + 1 : how == 2 ? 0 : *len;
+            EXPECT(try_deal(&x, &n, NULL, NULL).number == (how % 2 == 0 ? 13 : 0));
+        }
+}
+
+/* Each end's offline call with each buffer one short, one long, empty. */
+static void vary_offline(int end, int accepted_too)
+{
+    const uint8_t *record = end == 1 ? noise_record : scalar_record;
+    size_t len = end == 1 ? noise_record_len : scalar_record_len;
+    size_t a = end == 1 ? leaves : width * leaves, b = end == 1 ? width * leaves : 2;
+    EXPECT(try_offline(end, record, len, a - 1, b, NULL, NULL).number == 13);
+    EXPECT(try_offline(end, record, len, a, b - 1, NULL, NULL).number == 13);
+    EXPECT(try_offline(end, record, len, 0, b + 1, NULL, NULL).number == 13);
+    EXPECT(try_offline(end, record, len, a + 1, 0, NULL, NULL).number == 13);
+    EXPECT(try_offline(end, record, len, 0, 0, NULL, NULL).number == 13);
+    if (accepted_too) {
+        EXPECT(try_offline(end, record, len, a + 1, b, NULL, NULL).number == 0);
+        EXPECT(try_offline(end, record, len, a, b + 1 + random_below(9), NULL, NULL).number == 0);
+    }
+}
+
+/* Windows at and past every bound, sums that would wrap among them. */
+static void vary_windows(void)
+{
+    size_t n = x.outputs, top = (size_t)1 << 63, far = (size_t)1 << 32;
+    const size_t windows[][2] = {
+        {0, 0}, {n, 0}, {n + 1, 0}, {0, n + 1}, {n - 1, 1}, {n - 1, 2}, {n, 1}, {1, n},
+        {SIZE_MAX, 0}, {0, SIZE_MAX}, {SIZE_MAX, 1}, {1, SIZE_MAX}, {SIZE_MAX, SIZE_MAX},
+        {SIZE_MAX - n + 1, n}, {n, SIZE_MAX - n + 1}, {top, top}, {top, 0}, {0, top},
+        {far, 0}, {0, far}, {far, 1}, {1, far}, {far - 1, 1},
+    };
+    for (size_t k = 0; k < sizeof windows / sizeof *windows; k++) {
+        size_t first = windows[k][0], count = windows[k][1];
+        uint32_t number = first > n || count > n - first ? 7 : 0;
+        size_t room = number == 7 ? random_below(5) : count;
+        EXPECT(noise_window(first, count, room, width * room, NULL, NULL) == number);
+        EXPECT(scalar_window(first, count, width * room, NULL) == number);
+    }
+}
+
+/* Vectors and output buffers one short, one long, empty. */
+static void vary_lengths(void)
+{
+    size_t n = x.outputs, c = 1 + random_below(n < 40 ? n : 40), first = random_below(n - c + 1);
+    size_t vl = width * leaves, vc = width * c;
+    const size_t odd[][2] = {{leaves - 1, vl}, {leaves + 1, vl}, {0, vl}, {leaves, vl - 1},
+                             {leaves, vl + 1}, {leaves, 0}, {0, 0}};
+    for (size_t k = 0; k < sizeof odd / sizeof *odd; k++) {
+        EXPECT(try_noise_online(noise_record, noise_record_len, noise, odd[k][0], v, odd[k][1],
+                                first, random_below(2) ? c : n + 1, c, vc, NULL, NULL).number == 3);
+        if (odd[k][1] != vl)
+            EXPECT(try_scalar_online(scalar_record, scalar_record_len, w, odd[k][1], first,
+                                     random_below(2) ? c : n + 1, vc, NULL).number == 3);
+    }
+    EXPECT(noise_window(first, c, c - 1, vc, NULL, NULL) == 13);
+    EXPECT(noise_window(first, c, c, vc - 1, NULL, NULL) == 13);
+    EXPECT(noise_window(first, c, 0, vc, NULL, NULL) == 13);
+    EXPECT(noise_window(first, c, c, 0, NULL, NULL) == 13);
+    EXPECT(noise_window(first, c, c + 1, vc, NULL, NULL) == 0);
+    EXPECT(noise_window(first, c, c, vc + 1 + random_below(9), NULL, NULL) == 0);
+    EXPECT(noise_window(first, n - first + 1, 0, 0, NULL, NULL) == 7);
+    EXPECT(noise_window(first, 0, 0, 0, NULL, NULL) == 0);
+    EXPECT(scalar_window(first, c, vc - 1, NULL) == 13);
+    EXPECT(scalar_window(first, c, 0, NULL) == 13);
+    EXPECT(scalar_window(first, c, vc + 1 + random_below(9), NULL) == 0);
+    EXPECT(scalar_window(first, n - first + 1, 0, NULL) == 7);
+    EXPECT(scalar_window(first, 0, 0, NULL) == 0);
+}
+
+/* Words that are not elements, at places that the window's rows use and at others. */
+static void vary_words(int rounds)
+{
+    static unsigned char used[MOST];
+    struct plain_key code;
+    plain_expand_key(&code, x.code_key);
+    for (int round = 0; round < rounds; round++) {
+        size_t n = x.outputs, most = n < 6 ? n : 6, c = random_below(most + 1);
+        size_t first = random_below(n - c + 1), place = random_below(leaves);
+        const uint64_t bad[] = {P, P + 1, (uint64_t)1 << 61, UINT64_MAX};
+        const uint64_t bad_bit[] = {2, 3, (uint64_t)1 << 32, UINT64_MAX};
+        uint64_t word = bad[random_below(4)], kept, coefficient;
+        uint32_t number;
+
+        memset(used, 0, leaves);
+        for (size_t k = first; k < first + c; k++)
+            for (size_t i = 0; i < x.terms; i++)
+                used[plain_term(&code, x.field, (unsigned)x.depth, k, i, &coefficient)] = 1;
+        if (c > 0 && random_below(2))
+            place = plain_term(&code, x.field, (unsigned)x.depth, first + random_below(c),
+                               random_below(x.terms), &coefficient);
+        number = used[place] ? 8 : 0;
+
+        kept = noise[place];
+        noise[place] = x.field == 1 ? bad_bit[random_below(4)] : word;
+        EXPECT(noise_window(first, c, c, width * c, NULL, NULL) == number);
+        if (c > 0)
+            EXPECT(noise_window(first, c, c - 1, width * c, NULL, NULL) == 13);
+        noise[place] = kept;
+
+        place = width * place + random_below(width);
+        number = x.field == 2 ? number : 0;
+        kept = v[place];
+        v[place] = word;
+        EXPECT(noise_window(first, c, c, width * c, NULL, NULL) == number);
+        v[place] = kept;
+        kept = w[place];
+        w[place] = word;
+        EXPECT(scalar_window(first, c, width * c, NULL) == number);
+        if (c > 0)
+            EXPECT(scalar_window(first, c, width * c - 1, NULL) == 13);
+        w[place] = kept;
+    }
+}
+
+/* A list of windows at each end: whatever is handed out at an index is output there. */
+static void lists(int calls)
+{
+    static uint64_t u_part[MOST / 2], v_part[MOST], w_part[MOST];
+    for (int k = 0; k < calls; k++) {
+        size_t n = x.outputs, most = n < 200 ? n : 200;
+        size_t first = random_below(n + 1), c = random_below(most + 1);
+        size_t u_len = random_below(8) ? c + random_below(3) : random_below(c + 1);
+        size_t v_len = random_below(8) ? width * c + random_below(3) : random_below(width * c + 1);
+        uint32_t number = first + c > n ? 7 : u_len < c || v_len < width * c ? 13 : 0;
+        EXPECT(noise_window(first, c, u_len, v_len, u_part, v_part) == number);
+        if (number == 0) {
+            EXPECT(memcmp(u_part, u_all + first, 8 * c) == 0);
+            EXPECT(memcmp(v_part, v_all + width * first, 8 * width * c) == 0);
+        }
+        number = first + c > n ? 7 : v_len < width * c ? 13 : 0;
+        EXPECT(scalar_window(first, c, v_len, w_part) == number);
+        if (number == 0)
+            EXPECT(memcmp(w_part, w_all + width * first, 8 * width * c) == 0);
+    }
+}
+
+static uint8_t v_bytes[16 * (MOST / 2 + 2)], w_bytes[16 * (MOST / 2 + 2)];
+static uint8_t choices[MOST / 2 + 2], one_pad[16 * (MOST / 2)], both_pads[32 * (MOST / 2)];
+
+/* The pads of a window of outputs: the noise end's is the message that the choice names. */
+static void pads_agree(size_t first, size_t c)
+{
+    for (size_t k = 0; k < c; k++) {
+        plain_store(v_bytes + 16 * k, element(v_all, first + k));
+        plain_store(w_bytes + 16 * k, element(w_all, first + k));
+        choices[k] = (uint8_t)u_all[first + k];
+    }
+    EXPECT(try_noise_pads(first, c, v_bytes, 16 * c, choices, c, 16 * c, one_pad) == 0);
+    EXPECT(try_scalar_pads(first, c, w_bytes, 16 * c, x.delta, 16, 32 * c, both_pads) == 0);
+    for (size_t k = 0; k < c; k++)
+        EXPECT(memcmp(one_pad + 16 * k, both_pads + 32 * k + 16 * choices[k], 16) == 0);
+}
+
+/* Everything that can be asked of one accepted dealing. */
+static void whole_dealing(int light)
+{
+    size_t n;
+    EXPECT(deal().number == 0);
+    n = x.outputs;
+    vary_deal();
+    offline();
+    for (int end = 1; end <= 2; end++)
+        vary_offline(end, !light);
+    EXPECT(noise_window(0, n, n, width * n, u_all, v_all) == 0);
+    EXPECT(scalar_window(0, n, width * n, w_all) == 0);
+    for (size_t k = 0; k < n; k++)
+        EXPECT(correlated(u_all, v_all, w_all, k));
+    vary_windows();
+    vary_lengths();
+    vary_words(light ? 2 : 6);
+    lists(light ? 4 : 12);
+    if (x.field == 1) {
+        size_t c = random_below(n + 1), first = random_below(n - c + 1);
+        pads_agree(0, n);
+        pads_agree(first, c);
+    }
+}
+
+/* ---- Dealings with faults ---- */
+
+/* Put one random fault into a dealing of x, of so many trees at first, with lengths n. */
+static void spoil_deal(struct deal_lengths *n, size_t trees)
+{
+    size_t far = (size_t)1 << 32, i = random_below(x.trees - 1 < MAX_TREES ? x.trees : 1);
+    size_t *const lengths[] = {&n->roots, &n->positions, &n->values, &n->delta, &n->code_key,
+                               &n->noise, &n->scalar};
+    const size_t whole[] = {16 * trees, trees, trees, 16, 16};
+    size_t *len;
+    switch (random_below(14)) {
+    case 0:
+        x.field = (uint8_t)(random_below(2) ? 0 : 3 + random_below(253));
+        break;
+    case 1:
+        x.depth = (size_t[]){0, 17, 64, SIZE_MAX, far + x.depth, far}[random_below(6)];
+        break;
+    case 2:
+        x.trees = (size_t[]){0, (leaves < MAX_TREES ? leaves : MAX_TREES) + 1, 65, SIZE_MAX,
+                             far + x.trees, far}[random_below(6)];
+        break;
+    case 3:
+        x.terms = (size_t[]){0, 33, SIZE_MAX, far + x.terms, far}[random_below(5)];
+        break;
+    case 4:
+        x.outputs = (size_t[]){0, leaves / 2 + 1, SIZE_MAX, far + x.outputs, far}[random_below(5)];
+        break;
+    case 5:
+    case 6: /* an input length one short, one long, empty */
+        i = random_below(5);
+        *lengths[i] = (size_t[]){0, whole[i] - 1, whole[i] + 1}[random_below(3)];
+        break;
+    case 7:
+    case 8:
+        x.positions[i] = (uint32_t[]){(uint32_t)leaves, UINT32_MAX, x.positions[i ? i - 1 : 0],
+                                      0, (uint32_t)leaves - 1}[random_below(5)];
+        break;
+    case 9:
+    case 10:
+        x.values[i] = (uint64_t[]){0, 2, P, P + 1, UINT64_MAX, P - 1, (uint64_t)1 << 61}[
+            random_below(7)];
+        break;
+    case 11:
+        if (random_below(2)) {
+            memset(x.delta, 0, 16);
+        } else {
+            memset(x.delta, 0xff, 8);
+            x.delta[7] = 0x1f;
+            x.delta[0] = (uint8_t)(0xfe + random_below(2)); /* p - 1 or p */
+        }
+        if (random_below(4) == 0)
+            x.delta[8 + random_below(8)] = (uint8_t)(1 + random_below(255));
+        break;
+    case 12:
+        x.delta[7] = (uint8_t)(random_below(2) ? 0x1f : 0x20);
+        if (random_below(2))
+            x.delta[8 + random_below(8)] = (uint8_t)(1 + random_below(255));
+        break;
+    case 13:
+        len = lengths[5 + random_below(2)];
+        *len = random_below(2) ? 0 : *len - (*len > 0);
+        break;
+    }
+}
+
+static void faulty_deals(int rounds)
+{
+    for (int round = 0; round < rounds; round++) {
+        struct deal_lengths n;
+        size_t trees;
+        make_any_dealing(&x, 1 + (unsigned)random_below(2), 1 + random_below(8));
+        if (random_below(16) == 0) /* every leaf taken where N is at most 64 */
+            make_dealing(&x, x.field, x.depth, most_trees(x.depth), x.terms, x.outputs);
+        leaves = (size_t)1 << x.depth;
+        noise_record_len = EXPANDER_NOISE_RECORD_MAX;
+        scalar_record_len = EXPANDER_SCALAR_RECORD_MAX;
+        if (random_below(2))
+            EXPECT(deal().number == 0);
+        n = exact_lengths();
+        trees = x.trees;
+        for (size_t faults = 1 + random_below(3); faults > 0; faults--)
+            spoil_deal(&n, trees);
+        try_deal(&x, &n, NULL, NULL);
+    }
+}
+
+/* Every size at its bounds and one past them. */
+static void sizes_at_bounds(void)
+{
+    for (unsigned field = 1; field <= 2; field++)
+        for (size_t d = 1; d <= 16; d++) {
+            const size_t most[4] = {16, most_trees(d), 32, (size_t)1 << (d - 1)};
+            for (int which = 1; which < 4; which++)
+                for (int how = 0; how < 4; how++) {
+                    size_t size[4] = {d, 1, 1, 1};
+                    const size_t value[4] = {0, 1, most[which], most[which] + 1};
+                    struct deal_lengths n = {0, 0, 0, 16, 16, EXPANDER_NOISE_RECORD_MAX,
+                                             EXPANDER_SCALAR_RECORD_MAX};
+                    size[which] = value[how];
+                    make_dealing(&x, field, d, most_trees(d), 1, 1);
+                    x.trees = size[1];
+                    x.terms = size[2];
+                    x.outputs = size[3];
+                    n.positions = n.values = x.trees;
+                    n.roots = 16 * x.trees;
+                    EXPECT(try_deal(&x, &n, NULL, NULL).number == (how % 3 == 0 ? 2 : 0));
+                }
+        }
+}
+
+/* ---- Damaged records ---- */
+
+/* Lend a record to its end's offline and online call, with buffers that suit the dealing. */
+static result try_record(int end, const uint8_t *record, size_t len)
+{
+    size_t n = x.outputs, c = random_below((n < 4 ? n : 4) + 1);
+    if (random_below(2))
+        return end == 1
+            ? try_offline(1, record, len, leaves, width * leaves, NULL, NULL)
+            : try_offline(2, record, len, width * leaves, 2, NULL, NULL);
+    return end == 1
+        ? try_noise_online(record, len, noise, leaves, v, width * leaves, 0, c, c, width * c, NULL,
+                           NULL)
+        : try_scalar_online(record, len, w, width * leaves, 0, c, width * c, NULL);
+}
+
+static void damaged_records(void)
+{
+    static uint8_t copy[EXPANDER_NOISE_RECORD_MAX + 8];
+    EXPECT(deal().number == 0);
+    offline();
+    for (int end = 1; end <= 2; end++) {
+        const uint8_t *record = end == 1 ? noise_record : scalar_record;
+        size_t len = end == 1 ? noise_record_len : scalar_record_len;
+        memcpy(copy, record, len);
+        for (size_t cut = 0; cut < len; cut++)
+            EXPECT(try_record(end, copy, cut).number == 10);
+        for (size_t more = 1; more <= 3; more++) {
+            copy[len + more - 1] = (uint8_t)random_word();
+            EXPECT(try_record(end, copy, len + more).number == 12);
+        }
+        EXPECT(try_record(3 - end, copy, len).number == 9);
+        for (size_t at = 0; at < len; at++) {
+            const uint8_t values[] = {0x00, 0x01, 0x7f, 0x80, 0xff,
+                                      (uint8_t)(copy[at] ^ 1 << random_below(8)),
+                                      (uint8_t)(copy[at] + 1)};
+            size_t tries = at < 24 ? sizeof values : 2, from = random_below(sizeof values);
+            for (size_t k = 0; k < tries; k++) {
+                copy[at] = values[(from + k) % sizeof values];
+                try_record(end, copy, len);
+            }
+            copy[at] = record[at];
+        }
+        for (int round = 0; round < 20; round++) { /* several bytes at once, and another length */
+            size_t n = len - random_below(3) + random_below(3);
+            for (size_t k = random_below(4); k > 0; k--)
+                copy[random_below(len)] = (uint8_t)random_word();
+            try_record(end, copy, n);
+            memcpy(copy, record, len);
+        }
+    }
+}
+
+/* ---- Records made field by field, some fields odd ---- */
+
+static uint8_t raw[EXPANDER_NOISE_RECORD_MAX + 2048];
+static size_t raw_len;
+static int oddness; /* one field in so many is odd */
+
+static int odd(void)
+{
+    return oddness > 0 && random_below((size_t)oddness) == 0;
+}
+
+static void raw_word(uint64_t word)
+{
+    for (int k = 0; k < 8; k++)
+        raw[raw_len++] = (uint8_t)(word >> (8 * k));
+}
+
+static void raw_any(size_t bytes)
+{
+    random_bytes(raw + raw_len, bytes);
+    raw_len += bytes;
+}
+
+/* A number below 2^21, at times longer than its shortest form, or without an end. */
+static void raw_number(uint32_t value)
+{
+    size_t n = plain_write_number(raw + raw_len, value);
+    if (odd()) {
+        size_t longer = n + 1 + random_below(2);
+        for (; n < longer; n++) {
+            raw[raw_len + n - 1] |= 0x80;
+            raw[raw_len + n] = 0;
+        }
+        if (random_below(4) == 0)
+            raw[raw_len + n - 1] = (uint8_t)random_word();
+    }
+    raw_len += n;
+}
+
+/* A size that is to be 1 to most: `value`, or one at or past a bound. Returns what was written. */
+static size_t raw_size(size_t value, size_t most)
+{
+    if (odd()) {
+        const size_t others[] = {0, most, most + 1, 127, 128, 300, 16384, 32768, 32769, 65536,
+                                 2097151};
+        value = others[random_below(random_below(2) ? 3 : sizeof others / sizeof *others)];
+    }
+    raw_number((uint32_t)value);
+    return value;
+}
+
+/* A word that is to be an element, at times zero, near p, or none. */
+static void raw_element_word(void)
+{
+    const uint64_t others[] = {0, 1, P - 1, P, P + 1, (uint64_t)1 << 61, UINT64_MAX};
+    raw_word(odd() ? others[random_below(7)] : random_word() % P);
+}
+
+static void raw_delta(unsigned field)
+{
+    if (field == 2) {
+        raw_element_word();
+    } else if (odd()) {
+        memset(raw + raw_len, 0, 16);
+        if (random_below(2))
+            raw[raw_len + random_below(16)] = 1;
+        raw_len += 16;
+    } else {
+        raw_any(16);
+    }
+}
+
+static void raw_record(int end, unsigned field, size_t d, size_t t, size_t n)
+{
+    size_t next = 0, all;
+    raw_len = 0;
+    raw[raw_len++] = (uint8_t)(odd() ? (unsigned)random_below(4) : (unsigned)end);
+    raw[raw_len++] = (uint8_t)(odd() ? (unsigned)random_below(4) : field);
+    d = raw_size(d, 16) & 31;
+    t = raw_size(t, d <= 16 ? most_trees(d) : 64);
+    raw_size(1 + random_below(32), 32);
+    raw_size(n, d >= 1 && d <= 16 ? (size_t)1 << (d - 1) : 1);
+    raw_any(16);
+    if (d > 16)
+        d = 16;
+    if (t > MAX_TREES)
+        t = MAX_TREES;
+    all = (size_t)1 << d;
+    if (end == 1) {
+        for (size_t i = 0; i < t; i++) {
+            size_t left = all > next ? all - next : 0, later = t - i - 1;
+            size_t place = left > later ? random_below(left - later) : 0;
+            if (random_below(3) == 0)
+                place = 0;
+            if (odd()) {
+                const size_t others[] = {left, left > 0 ? left - 1 : 0, all, 65535, 65536, 2097151};
+                place = others[random_below(6)];
+            }
+            raw_number((uint32_t)place);
+            next += place + 1;
+            if (field == 2)
+                raw_element_word();
+            if (field == 2)
+                raw_element_word();
+            else
+                raw_any(16);
+            raw_any(16 * d);
+            if (odd()) { /* a leaf's word at the edges of the reduction modulo p */
+                const uint64_t others[] = {0, P - 1, P, P + 1, 2 * P - 1, 2 * P, 7 * P, 8 * P,
+                                           8 * P + 1, UINT64_MAX};
+                raw_len -= 16;
+                raw_word(others[random_below(10)]);
+                raw_len += 8;
+            }
+        }
+    } else {
+        raw_delta(field);
+        raw_any(16 * t);
+    }
+    if (odd())
+        raw_any(1 + random_below(2));
+    else if (odd())
+        raw_len -= 1 + random_below(raw_len < 40 ? raw_len : 40);
+}
+
+static void odd_records(int rounds)
+{
+    for (int round = 0; round < rounds; round++) {
+        int end = 1 + (int)random_below(2);
+        unsigned field = 1 + (unsigned)random_below(2);
+        size_t d = random_below(8) ? 1 + random_below(5) : 6 + random_below(2);
+        size_t t = random_below(6) ? 1 + random_below(3) : 1 + random_below(most_trees(d));
+        size_t n;
+        if (t > most_trees(d))
+            t = most_trees(d);
+        leaves = (size_t)1 << d;
+        width = field == 1 ? 2 : 1;
+        x.outputs = n = 1 + random_below(leaves / 2);
+        oddness = (int[]){0, 8, 16, 16, 40, 40}[random_below(6)];
+        raw_record(end, field, d, t, n);
+        for (size_t j = 0; j < leaves; j++) {
+            noise[j] = field == 1 ? random_word() & 1 : random_word() % P;
+            v[j] = random_word() % P;
+            w[j] = random_word() % P;
+            v[leaves + j] = w[leaves + j] = random_word();
+        }
+        try_record(end, raw, raw_len);
+    }
+}
+
+/* a to the power e, modulo p. */
+static uint64_t power(uint64_t a, uint64_t e)
+{
+    block r = {1, 0}, square = {a, 0};
+    for (; e > 0; e >>= 1) {
+        if (e & 1)
+            r = plain_scale(2, r, square.lo);
+        square = plain_scale(2, square, square.lo);
+    }
+    return r.lo;
+}
+
+/* Field 2: products at the edges of the reduction modulo p. */
+static void edge_products(void)
+{
+    const uint64_t elements[] = {1, 2, 3, (uint64_t)1 << 60, P / 2, P - 2, P - 1};
+    for (size_t a = 0; a < 7; a++)
+        for (size_t b = 0; b < 7; b++) { /* Delta times a noise value */
+            make_dealing(&x, 2, 1, 1, 1, 1);
+            for (int k = 0; k < 8; k++)
+                x.delta[k] = (uint8_t)(elements[a] >> (8 * k));
+            x.values[0] = elements[b];
+            EXPECT(deal().number == 0);
+        }
+    for (size_t a = 0; a < 7; a++)
+        for (size_t b = 0; b < 7; b++) { /* words that make these the products of a row's terms */
+            struct plain_key code;
+            uint64_t first, second, out;
+            size_t i, j;
+            do {
+                make_dealing(&x, 2, 4, 1, 2, 1);
+                plain_expand_key(&code, x.code_key);
+                i = plain_term(&code, 2, 4, 0, 0, &first);
+                j = plain_term(&code, 2, 4, 0, 1, &second);
+            } while (i == j);
+            EXPECT(deal().number == 0);
+            memset(noise, 0, 8 * leaves);
+            memset(v, 0, 8 * leaves);
+            memset(w, 0, 8 * leaves);
+            w[i] = noise[i] = plain_scale(2, (block){elements[a], 0}, power(first, P - 2)).lo;
+            w[j] = noise[j] = plain_scale(2, (block){elements[b], 0}, power(second, P - 2)).lo;
+            EXPECT(scalar_window(0, 1, 1, &out) == 0 && out == (elements[a] + elements[b]) % P);
+            EXPECT(noise_window(0, 1, 1, 1, &out, NULL) == 0
+                   && out == (elements[a] + elements[b]) % P);
+        }
+}
+
+/* Field 2, one level, noise at both leaves: sums and leaf words at the edges of the reduction. */
+static void edge_sums(void)
+{
+    const uint64_t elements[] = {0, 1, 7, P / 2, P - 8, P - 7, P - 2, P - 1};
+    const uint64_t words[] = {0, 1, P - 1, P, P + 1, 2 * P - 1, 2 * P, 2 * P + 1, 7 * P - 1, 7 * P,
+                              8 * P - 1, 8 * P, 8 * P + 1, UINT64_MAX};
+    static const uint8_t head[] = {1, 2, 1, 2, 5, 1};
+    leaves = 2;
+    width = 1;
+    for (size_t a = 0; a < sizeof elements / sizeof *elements; a++)
+        for (size_t b = 0; b < sizeof words / sizeof *words; b++) {
+            uint64_t correction = elements[a], other = elements[random_below(8)];
+            uint64_t leaf = words[b], last = words[random_below(14)];
+            uint64_t value = elements[1 + random_below(7)];
+            oddness = 0;
+            memcpy(raw, head, sizeof head);
+            raw_len = sizeof head;
+            raw_any(16);
+            raw_number(0); /* the tree with noise at 0 gives leaf 1 */
+            raw_word(value);
+            raw_word(correction);
+            raw_word(last);
+            raw_any(8);
+            raw_number(0); /* the tree with noise at 1 gives leaf 0 */
+            raw_word(P - value);
+            raw_word(other);
+            raw_word(leaf);
+            raw_any(8);
+            EXPECT(try_offline(1, raw, raw_len, 2, 2, noise, v).number == 0);
+            EXPECT(noise[0] == value && noise[1] == 0);
+            EXPECT(v[0] == (correction + leaf % P) % P);
+            EXPECT(v[1] == (v[0] + other + last % P) % P);
+            noise[0] = elements[random_below(8)];
+            v[0] = elements[random_below(8)];
+            v[1] = elements[random_below(8)];
+            EXPECT(try_noise_online(raw, raw_len, noise, 2, v, 2, 0, 1, 1, 1, NULL, NULL).number
+                   == 0);
+        }
+}
+
+/* ---- Pads with faults ---- */
+
+static void faulty_pads(int rounds)
+{
+    static const size_t spots[] = {0, 1, 255, 256, 32767, 32768, 32769, 65536,
+                                   (size_t)1 << 32, (size_t)1 << 63, SIZE_MAX - 1, SIZE_MAX};
+    for (int round = 0; round < rounds; round++) {
+        size_t c = random_below(20), first = random_below(32769 - c), room, a, b;
+        uint8_t scalar[17];
+        random_bytes(v_bytes, 16 * 20 + 16);
+        random_bytes(w_bytes, 16 * 20 + 16);
+        random_bytes(scalar, 17);
+        for (size_t k = 0; k <= c; k++)
+            choices[k] = random_word() & 1;
+        a = 16 * c;
+        b = c;
+        room = 1;
+        for (size_t faults = random_below(4); faults > 0; faults--)
+            switch (random_below(7)) {
+            case 0:
+                first = spots[random_below(sizeof spots / sizeof *spots)];
+                break;
+            case 1:
+                first = 32768 - c + random_below(3);
+                break;
+            case 2: /* lengths one short, one long, empty */
+                a = (size_t[]){a + 1, a - (a > 0), 0, a}[random_below(4)];
+                b = (size_t[]){b + 1, b - (b > 0), 0, b}[random_below(4)];
+                break;
+            case 3:
+                room = random_below(4);
+                break;
+            case 4:
+                choices[random_below(c + 1)] = (uint8_t)(2 + random_below(254));
+                break;
+            case 5:
+                memset(scalar, 0, 16);
+                if (random_below(2))
+                    scalar[random_below(16)] = 1;
+                break;
+            case 6: /* only the last byte of Delta is not 00 */
+                memset(scalar, 0, 15);
+                break;
+            }
+        room = room == 0 ? 0 : room == 1 ? 32 * c : room == 2 ? 32 * c - (c > 0) : 32 * c + 1;
+        try_scalar_pads(first, c, w_bytes, a, scalar,
+                        random_below(12) ? 16 : 15 + 2 * random_below(2), room, NULL);
+        room = room == 0 ? 0 : room - 16 * c;
+        try_noise_pads(first, c, v_bytes, a, choices, b, room, NULL);
+    }
+    /* Counts whose products with 16 or 32 would wrap. */
+    for (size_t k = 0; k < sizeof spots / sizeof *spots; k++)
+        for (int shift = 57; shift < 64; shift++) {
+            size_t c = (size_t)1 << shift;
+            EXPECT(try_scalar_pads(spots[k], c, w_bytes, 0, x.delta, 16, 0, NULL) == 3);
+            EXPECT(try_noise_pads(spots[k], c, v_bytes, 0, choices, 0, 0, NULL) == 3);
+            EXPECT(try_scalar_pads(spots[k], c + 1, w_bytes, 16, x.delta, 16, 32, NULL) == 3);
+            EXPECT(try_noise_pads(spots[k], c + 1, v_bytes, 16, choices, 1, 16, NULL) == 3);
+        }
+    EXPECT(try_scalar_pads(0, SIZE_MAX, w_bytes, 16, x.delta, 16, 32, NULL) == 3);
+    EXPECT(try_noise_pads(0, SIZE_MAX, v_bytes, 16, choices, 1, 16, NULL) == 3);
+}
+
+/* ---- Document 01's cases ---- */
+
+static void cases(void)
+{
+    for (unsigned field = 1; field <= 2; field++) {
+        result r;
+        make_dealing(&x, field, 1, 1, 1, 1);
+        r = deal();
+        EXPECT(r.number == 0 && r.first == 55 && r.second == (field == 1 ? 54 : 46));
+        EXPECT(try_offline(1, noise_record, 54, 8, 8, NULL, NULL).number == 10);
+        noise_record[55] = 0;
+        EXPECT(try_offline(1, noise_record, 56, 8, 8, NULL, NULL).number == 12);
+        noise_record[2] = 0x80; /* d as 80 00 */
+        noise_record[3] = 0x00;
+        EXPECT(try_offline(1, noise_record, 55, 8, 8, NULL, NULL).number == 11);
+
+        make_dealing(&x, field, 3, 3, 2, 4);
+        x.positions[0] = 1;
+        x.positions[1] = 4;
+        x.positions[2] = 5;
+        EXPECT(deal().number == 0);
+        EXPECT(noise_record[22] == 1 && noise_record[22 + 65] == 2
+               && noise_record[22 + 2 * 65] == 0);
+        offline();
+        EXPECT(noise_window(3, 1, 1, width, NULL, NULL) == 0);
+        EXPECT(noise_window(3, 2, 2, 2 * width, NULL, NULL) == 7);
+        EXPECT(noise_window(4, 0, 0, 0, NULL, NULL) == 0);
+        EXPECT(scalar_window(3, 1, width, NULL) == 0);
+        EXPECT(scalar_window(3, 2, 2 * width, NULL) == 7);
+        EXPECT(scalar_window(4, 0, 0, NULL) == 0);
+        x.outputs = 5;
+        EXPECT(deal().number == 2);
+        x.outputs = 4;
+        x.positions[2] = 4;
+        EXPECT(deal().number == 4);
+
+        /* Noise at 1 and 4, accumulated. */
+        make_dealing(&x, field, 3, 2, 1, 4);
+        x.positions[0] = 1;
+        x.positions[1] = 4;
+        x.values[0] = field == 1 ? 1 : 5;
+        x.values[1] = field == 1 ? 1 : P - 2;
+        EXPECT(deal().number == 0);
+        offline();
+        for (size_t j = 0; j < 8; j++)
+            EXPECT(noise[j] == (j == 0 ? 0 : j < 4 ? x.values[0] : field == 1 ? 0 : 3));
+    }
+}
+
+/* ---- The table ---- */
+
+static void table(void)
+{
+    printf("%-15s", "number");
+    for (int n = 0; n < NUMBERS; n++)
+        printf("%7d", n);
+    putchar('\n');
+    for (int call = 0; call < CALLS; call++) {
+        printf("%-15s", call_names[call]);
+        for (int n = 0; n < NUMBERS; n++) {
+            if (allowed[call] & BIT(n))
+                printf("%7lu", agreed[call][n]);
+            else
+                printf("%7s", "-");
+            if ((allowed[call] & BIT(n)) && agreed[call][n] == 0) {
+                describe("%s", call_names[call]);
+                complain("number %d was not met", n);
+            }
+        }
+        putchar('\n');
+    }
+}
+
+int main(void)
+{
+    unsigned long calls = 0;
+    make_rooms();
+    cases();
+    sizes_at_bounds();
+    faulty_deals(8000);
+    faulty_pads(8000);
+    edge_products();
+    edge_sums();
+    odd_records(40000);
+    for (unsigned field = 1; field <= 2; field++) {
+        for (size_t depth = 1; depth <= 4; depth++)
+            for (int round = 0; round < 6; round++) {
+                make_dealing(&x, field, depth, 1 + random_below(2), 1 + random_below(4),
+                             (size_t)1 << (depth - 1));
+                damaged_records();
+            }
+        for (size_t depth = 1; depth <= 10; depth++)
+            for (int round = 0; round < (depth <= 7 ? 12 : 3); round++) {
+                make_any_dealing(&x, field, depth);
+                whole_dealing(0);
+            }
+        for (size_t depth = 11; depth <= 16; depth++) {
+            make_dealing(&x, field, depth, 1 + random_below(8), 1 + random_below(32),
+                         1 + random_below((size_t)1 << (depth - 1)));
+            whole_dealing(1);
+        }
+        make_dealing(&x, field, 16, 64, 32, 32768);
+        whole_dealing(1);
+    }
+    table();
+    for (int call = 0; call < CALLS; call++)
+        for (int n = 0; n < NUMBERS; n++)
+            calls += agreed[call][n];
+    if (wrong > 0) {
+        printf("%lu disagreements\n", wrong);
+        return 1;
+    }
+    printf("%lu calls agree with the plain implementation; %lu further facts hold\n", calls, facts);
+    return 0;
+}

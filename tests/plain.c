@@ -1,0 +1,840 @@
+/* A plain second implementation of document 01 (plain.h). */
+#include "plain.h"
+
+#include <string.h>
+
+__extension__ typedef unsigned __int128 wide;
+
+#define P PLAIN_P
+#define MAX_TREES 64
+#define MAX_PAD_INDEX 32768
+
+typedef struct plain_block block;
+typedef struct plain_key round_keys;
+typedef struct plain_result result;
+
+/* ---- AES-128 (FIPS 197), by tables that are worked out at the first call ---- */
+
+static uint8_t sbox[256];
+static uint32_t mix[4][256]; /* SubBytes and MixColumns of a byte in row 0, 1, 2, 3 */
+static round_keys child_keys[2], pad_key;
+static int ready;
+
+static uint8_t xtime(uint8_t a)
+{
+    return (uint8_t)((a << 1) ^ ((a >> 7) * 0x1b));
+}
+
+static uint8_t byte_product(uint8_t a, uint8_t b)
+{
+    uint8_t r = 0;
+    for (; b != 0; b >>= 1, a = xtime(a))
+        if (b & 1)
+            r ^= a;
+    return r;
+}
+
+/* The inverse (0 for 0), which is the power 254, and then the affine step. */
+static uint8_t sbox_rule(uint8_t a)
+{
+    uint8_t inverse = 1, r = 0;
+    for (int k = 0; k < 254; k++)
+        inverse = byte_product(inverse, a);
+    for (int i = 0; i < 8; i++) {
+        int bit = inverse >> i ^ inverse >> (i + 4) % 8 ^ inverse >> (i + 5) % 8
+                ^ inverse >> (i + 6) % 8 ^ inverse >> (i + 7) % 8 ^ 0x63 >> i;
+        r |= (uint8_t)((bit & 1) << i);
+    }
+    return r;
+}
+
+static uint32_t rotate_left(uint32_t x, unsigned bits)
+{
+    return x << bits | x >> (32 - bits);
+}
+
+static void start(void)
+{
+    uint8_t key[16];
+    if (ready)
+        return;
+    for (unsigned x = 0; x < 256; x++) {
+        uint8_t s = sbox_rule((uint8_t)x);
+        uint8_t twice = xtime(s);
+        sbox[x] = s;
+        mix[0][x] = (uint32_t)twice | (uint32_t)s << 8 | (uint32_t)s << 16
+                  | (uint32_t)(twice ^ s) << 24;
+        for (unsigned row = 1; row < 4; row++)
+            mix[row][x] = rotate_left(mix[0][x], 8 * row);
+    }
+    ready = 1;
+    memset(key, 0x00, 16);
+    plain_expand_key(&child_keys[0], key);
+    memset(key, 0x01, 16);
+    plain_expand_key(&child_keys[1], key);
+    memset(key, 0xff, 16);
+    plain_expand_key(&pad_key, key);
+}
+
+uint8_t plain_sbox(uint8_t x)
+{
+    start();
+    return sbox[x];
+}
+
+static uint32_t byte_of(uint32_t column, unsigned row)
+{
+    return column >> (8 * row) & 0xff;
+}
+
+static uint64_t load_word(const uint8_t *bytes)
+{
+    uint64_t x = 0;
+    for (int k = 7; k >= 0; k--)
+        x = x << 8 | bytes[k];
+    return x;
+}
+
+static void store_word(uint8_t *bytes, uint64_t x)
+{
+    for (int k = 0; k < 8; k++)
+        bytes[k] = (uint8_t)(x >> (8 * k));
+}
+
+block plain_load(const uint8_t bytes[16])
+{
+    block b = {load_word(bytes), load_word(bytes + 8)};
+    return b;
+}
+
+void plain_store(uint8_t bytes[16], block b)
+{
+    store_word(bytes, b.lo);
+    store_word(bytes + 8, b.hi);
+}
+
+void plain_expand_key(round_keys *key, const uint8_t bytes[16])
+{
+    uint32_t *w = key->column;
+    uint8_t rcon = 1;
+    start();
+    for (unsigned i = 0; i < 4; i++)
+        w[i] = (uint32_t)(load_word(bytes + 8 * (i / 2)) >> (32 * (i % 2)));
+    for (unsigned i = 4; i < 44; i++) {
+        uint32_t t = w[i - 1];
+        if (i % 4 == 0) {
+            t = rotate_left(t, 24);
+            t = (uint32_t)sbox[byte_of(t, 0)] | (uint32_t)sbox[byte_of(t, 1)] << 8
+              | (uint32_t)sbox[byte_of(t, 2)] << 16 | (uint32_t)sbox[byte_of(t, 3)] << 24;
+            t ^= rcon;
+            rcon = xtime(rcon);
+        }
+        w[i] = w[i - 4] ^ t;
+    }
+}
+
+static uint32_t mixed(uint32_t a, uint32_t b, uint32_t c, uint32_t d)
+{
+    return mix[0][byte_of(a, 0)] ^ mix[1][byte_of(b, 1)]
+         ^ mix[2][byte_of(c, 2)] ^ mix[3][byte_of(d, 3)];
+}
+
+static uint32_t shifted(uint32_t a, uint32_t b, uint32_t c, uint32_t d)
+{
+    return (uint32_t)sbox[byte_of(a, 0)] | (uint32_t)sbox[byte_of(b, 1)] << 8
+         | (uint32_t)sbox[byte_of(c, 2)] << 16 | (uint32_t)sbox[byte_of(d, 3)] << 24;
+}
+
+block plain_encrypt(const round_keys *key, block b)
+{
+    const uint32_t *k = key->column;
+    uint32_t s0 = (uint32_t)b.lo ^ k[0];
+    uint32_t s1 = (uint32_t)(b.lo >> 32) ^ k[1];
+    uint32_t s2 = (uint32_t)b.hi ^ k[2];
+    uint32_t s3 = (uint32_t)(b.hi >> 32) ^ k[3];
+    block r;
+    for (unsigned round = 1; round < 10; round++) {
+        uint32_t t0, t1, t2, t3;
+        k += 4;
+        t0 = mixed(s0, s1, s2, s3) ^ k[0];
+        t1 = mixed(s1, s2, s3, s0) ^ k[1];
+        t2 = mixed(s2, s3, s0, s1) ^ k[2];
+        t3 = mixed(s3, s0, s1, s2) ^ k[3];
+        s0 = t0, s1 = t1, s2 = t2, s3 = t3;
+    }
+    k += 4;
+    r.lo = (shifted(s0, s1, s2, s3) ^ k[0]) | (uint64_t)(shifted(s1, s2, s3, s0) ^ k[1]) << 32;
+    r.hi = (shifted(s2, s3, s0, s1) ^ k[2]) | (uint64_t)(shifted(s3, s0, s1, s2) ^ k[3]) << 32;
+    return r;
+}
+
+/* ---- Fields ---- */
+
+static int is_zero(block a)
+{
+    return a.lo == 0 && a.hi == 0;
+}
+
+static block exclusive_or(block a, block b)
+{
+    block r = {a.lo ^ b.lo, a.hi ^ b.hi};
+    return r;
+}
+
+static uint64_t add_mod(uint64_t a, uint64_t b)
+{
+    uint64_t r = a + b;
+    return r >= P ? r - P : r;
+}
+
+/* x modulo p, for x below 2^122: 2^61 is 1 modulo p. */
+static uint64_t reduce_wide(wide x)
+{
+    uint64_t r = ((uint64_t)x & P) + (uint64_t)(x >> 61);
+    return r >= P ? r - P : r;
+}
+
+static uint64_t multiply_mod(uint64_t a, uint64_t b)
+{
+    return reduce_wide((wide)a * b);
+}
+
+uint64_t plain_reduce(uint64_t x)
+{
+    return x % P;
+}
+
+block plain_add(unsigned field, block a, block b)
+{
+    block r = {0, 0};
+    if (field == 1)
+        return exclusive_or(a, b);
+    r.lo = add_mod(a.lo, b.lo);
+    return r;
+}
+
+block plain_subtract(unsigned field, block a, block b)
+{
+    block r = {0, 0};
+    if (field == 1)
+        return exclusive_or(a, b);
+    r.lo = add_mod(a.lo, P - b.lo);
+    return r;
+}
+
+/* a × u: u is a noise value or a coefficient. */
+block plain_scale(unsigned field, block a, uint64_t u)
+{
+    block r = {0, 0};
+    if (field == 1)
+        return u == 1 ? a : r;
+    r.lo = multiply_mod(a.lo, u);
+    return r;
+}
+
+static unsigned width_of(unsigned field)
+{
+    return field == 1 ? 2 : 1;
+}
+
+static unsigned element_bytes(unsigned field)
+{
+    return 8 * width_of(field);
+}
+
+static int is_element(unsigned field, uint64_t word)
+{
+    return field == 1 || word < P;
+}
+
+static block load_element(unsigned field, const uint8_t *bytes)
+{
+    block b = {load_word(bytes), field == 1 ? load_word(bytes + 8) : 0};
+    return b;
+}
+
+/* ---- Trees ---- */
+
+static block child(unsigned side, block s)
+{
+    return exclusive_or(plain_encrypt(&child_keys[side], s), s);
+}
+
+block plain_child(unsigned side, block s)
+{
+    start();
+    return child(side, s);
+}
+
+static block leaf_element(unsigned field, block leaf)
+{
+    if (field == 2) {
+        leaf.lo %= P;
+        leaf.hi = 0;
+    }
+    return leaf;
+}
+
+static void add_element(unsigned field, uint64_t *sum, block a)
+{
+    if (field == 1) {
+        sum[0] ^= a.lo;
+        sum[1] ^= a.hi;
+    } else {
+        sum[0] = add_mod(sum[0], a.lo);
+    }
+}
+
+/* Add the elements of all leaves below s, which is `levels` above them, to sum. */
+static void add_subtree(unsigned field, block s, unsigned levels, uint64_t *sum)
+{
+    if (levels == 0) {
+        add_element(field, sum, leaf_element(field, s));
+        return;
+    }
+    add_subtree(field, child(0, s), levels - 1, sum);
+    add_subtree(field, child(1, s), levels - 1,
+                sum + ((size_t)width_of(field) << (levels - 1)));
+}
+
+/* ---- Records ---- */
+
+struct tree {
+    uint32_t position;
+    uint64_t value;
+    block correction;
+    const uint8_t *siblings; /* d blocks */
+};
+
+struct record {
+    unsigned field, depth, trees, terms, outputs;
+    const uint8_t *code_key;
+    struct tree tree[MAX_TREES]; /* noise record */
+    block delta;                 /* scalar record */
+    const uint8_t *roots;        /* scalar record: t blocks */
+};
+
+/* What is left to read. */
+struct reader {
+    const uint8_t *at;
+    size_t left;
+};
+
+static const uint8_t *take(struct reader *in, size_t bytes)
+{
+    const uint8_t *at = in->at;
+    if (in->left < bytes)
+        return NULL;
+    in->at += bytes;
+    in->left -= bytes;
+    return at;
+}
+
+static uint32_t take_number(struct reader *in, uint32_t *x)
+{
+    *x = 0;
+    for (unsigned k = 0; k < 3; k++) {
+        const uint8_t *byte = take(in, 1);
+        if (byte == NULL)
+            return 10;
+        *x |= (uint32_t)(*byte & 0x7f) << (7 * k);
+        if (*byte < 0x80)
+            return *byte == 0 && k > 0 ? 11 : 0;
+    }
+    return 11;
+}
+
+size_t plain_write_number(uint8_t bytes[3], uint32_t x)
+{
+    size_t n = 0;
+    for (; x >= 0x80; x >>= 7)
+        bytes[n++] = (uint8_t)(x | 0x80);
+    bytes[n++] = (uint8_t)x;
+    return n;
+}
+
+static size_t number_length(uint32_t x)
+{
+    uint8_t bytes[3];
+    return plain_write_number(bytes, x);
+}
+
+static int depth_admitted(size_t d)
+{
+    return d >= 1 && d <= 16;
+}
+
+static int trees_admitted(size_t d, size_t t)
+{
+    size_t leaves = (size_t)1 << d;
+    return t >= 1 && t <= (leaves < MAX_TREES ? leaves : MAX_TREES);
+}
+
+static int terms_admitted(size_t l)
+{
+    return l >= 1 && l <= 32;
+}
+
+static int outputs_admitted(size_t d, size_t n)
+{
+    return n >= 1 && n <= (size_t)1 << (d - 1);
+}
+
+static uint32_t read_head(struct reader *in, unsigned end, struct record *r)
+{
+    const uint8_t *byte;
+    uint32_t number;
+    if ((byte = take(in, 1)) == NULL)
+        return 10;
+    if (*byte != end)
+        return 9;
+    if ((byte = take(in, 1)) == NULL)
+        return 10;
+    if (*byte != 1 && *byte != 2)
+        return 1;
+    r->field = *byte;
+    if ((number = take_number(in, &r->depth)) != 0)
+        return number;
+    if (!depth_admitted(r->depth))
+        return 2;
+    if ((number = take_number(in, &r->trees)) != 0)
+        return number;
+    if (!trees_admitted(r->depth, r->trees))
+        return 2;
+    if ((number = take_number(in, &r->terms)) != 0)
+        return number;
+    if (!terms_admitted(r->terms))
+        return 2;
+    if ((number = take_number(in, &r->outputs)) != 0)
+        return number;
+    if (!outputs_admitted(r->depth, r->outputs))
+        return 2;
+    if ((r->code_key = take(in, 16)) == NULL)
+        return 10;
+    return 0;
+}
+
+static uint32_t read_noise_record(const uint8_t *source, size_t source_len, struct record *r)
+{
+    struct reader in = {source, source_len};
+    const uint8_t *bytes;
+    uint32_t number, x, next = 0;
+    if ((number = read_head(&in, 1, r)) != 0)
+        return number;
+    for (unsigned i = 0; i < r->trees; i++) {
+        struct tree *tree = &r->tree[i];
+        if ((number = take_number(&in, &x)) != 0)
+            return number;
+        tree->position = next + x;
+        if (tree->position >= (uint32_t)1 << r->depth)
+            return 4;
+        next = tree->position + 1;
+        tree->value = 1;
+        if (r->field == 2) {
+            if ((bytes = take(&in, 8)) == NULL)
+                return 10;
+            tree->value = load_word(bytes);
+            if (tree->value == 0 || tree->value >= P)
+                return 5;
+        }
+        if ((bytes = take(&in, element_bytes(r->field))) == NULL)
+            return 10;
+        tree->correction = load_element(r->field, bytes);
+        if (!is_element(r->field, tree->correction.lo))
+            return 8;
+        if ((tree->siblings = take(&in, 16 * (size_t)r->depth)) == NULL)
+            return 10;
+    }
+    return in.left > 0 ? 12 : 0;
+}
+
+static uint32_t read_scalar_record(const uint8_t *source, size_t source_len, struct record *r)
+{
+    struct reader in = {source, source_len};
+    const uint8_t *bytes;
+    uint32_t number;
+    if ((number = read_head(&in, 2, r)) != 0)
+        return number;
+    if ((bytes = take(&in, element_bytes(r->field))) == NULL)
+        return 10;
+    r->delta = load_element(r->field, bytes);
+    if (is_zero(r->delta) || !is_element(r->field, r->delta.lo))
+        return 6;
+    if ((r->roots = take(&in, 16 * (size_t)r->trees)) == NULL)
+        return 10;
+    return in.left > 0 ? 12 : 0;
+}
+
+/* ---- Dealing ---- */
+
+static result refused(uint32_t number)
+{
+    result r = {number, 0, 0};
+    return r;
+}
+
+static result accepted(size_t first, size_t second)
+{
+    result r = {0, first, second};
+    return r;
+}
+
+static uint8_t *put(uint8_t *to, const uint8_t *bytes, size_t n)
+{
+    memcpy(to, bytes, n);
+    return to + n;
+}
+
+static uint8_t *put_element(uint8_t *to, unsigned field, block a)
+{
+    uint8_t bytes[16];
+    plain_store(bytes, a);
+    return put(to, bytes, element_bytes(field));
+}
+
+static uint8_t *put_head(uint8_t *to, uint8_t end, uint8_t field, const uint32_t sizes[4],
+                         const uint8_t *code_key)
+{
+    *to++ = end;
+    *to++ = field;
+    for (unsigned k = 0; k < 4; k++)
+        to += plain_write_number(to, sizes[k]);
+    return put(to, code_key, 16);
+}
+
+result plain_deal(
+    uint8_t field, size_t depth, size_t trees, size_t terms, size_t outputs,
+    const uint8_t *roots, size_t roots_len, const uint32_t *positions, size_t positions_len,
+    const uint64_t *values, size_t values_len, const uint8_t *delta, size_t delta_len,
+    const uint8_t *code_key, size_t code_key_len, uint8_t *noise_record, size_t noise_record_len,
+    uint8_t *scalar_record, size_t scalar_record_len)
+{
+    size_t head_len, noise_len, scalar_len;
+    uint32_t sizes[4];
+    block scalar;
+    uint8_t *to;
+
+    start();
+    if (field != 1 && field != 2)
+        return refused(1);
+    if (!depth_admitted(depth) || !trees_admitted(depth, trees) || !terms_admitted(terms)
+        || !outputs_admitted(depth, outputs))
+        return refused(2);
+    if (roots_len != 16 * trees || positions_len != trees || values_len != trees
+        || delta_len != 16 || code_key_len != 16)
+        return refused(3);
+    for (size_t i = 0; i < trees; i++)
+        if (positions[i] >= (uint32_t)1 << depth || (i > 0 && positions[i] <= positions[i - 1]))
+            return refused(4);
+    for (size_t i = 0; i < trees; i++)
+        if (field == 1 ? values[i] != 1 : values[i] == 0 || values[i] >= P)
+            return refused(5);
+    scalar = plain_load(delta);
+    if (is_zero(scalar) || (field == 2 && (scalar.lo == 0 || scalar.lo >= P || scalar.hi != 0)))
+        return refused(6);
+
+    sizes[0] = (uint32_t)depth;
+    sizes[1] = (uint32_t)trees;
+    sizes[2] = (uint32_t)terms;
+    sizes[3] = (uint32_t)outputs;
+    head_len = 2 + 16;
+    for (unsigned k = 0; k < 4; k++)
+        head_len += number_length(sizes[k]);
+    scalar_len = head_len + element_bytes(field) + 16 * trees;
+    noise_len = head_len + trees * ((field == 2 ? 8 : 0) + element_bytes(field) + 16 * depth);
+    for (size_t i = 0; i < trees; i++)
+        noise_len += number_length(i == 0 ? positions[0] : positions[i] - positions[i - 1] - 1);
+    if (noise_record_len < noise_len || scalar_record_len < scalar_len)
+        return refused(13);
+
+    to = put_head(noise_record, 1, field, sizes, code_key);
+    for (size_t i = 0; i < trees; i++) {
+        uint32_t s = positions[i];
+        block node = plain_load(roots + 16 * i);
+        block siblings[16];
+        for (size_t k = 0; k < depth; k++) {
+            unsigned side = s >> (depth - 1 - k) & 1;
+            siblings[k] = child(1 - side, node);
+            node = child(side, node);
+        }
+        to += plain_write_number(to, i == 0 ? s : s - positions[i - 1] - 1);
+        if (field == 2) {
+            store_word(to, values[i]);
+            to += 8;
+        }
+        to = put_element(to, field,
+                         plain_subtract(field, leaf_element(field, node),
+                                        plain_scale(field, scalar, values[i])));
+        for (size_t k = 0; k < depth; k++) {
+            plain_store(to, siblings[k]);
+            to += 16;
+        }
+    }
+    to = put_head(scalar_record, 2, field, sizes, code_key);
+    to = put_element(to, field, scalar);
+    put(to, roots, 16 * trees);
+    return accepted(noise_len, scalar_len);
+}
+
+/* ---- Offline ---- */
+
+/* Place j becomes the sum of places 0 to j. */
+static void accumulate(unsigned field, uint64_t *a, size_t n)
+{
+    size_t width = width_of(field);
+    for (size_t j = 1; j < n; j++) {
+        block before = {a[width * (j - 1)], field == 1 ? a[width * (j - 1) + 1] : 0};
+        add_element(field, a + width * j, before);
+    }
+}
+
+void plain_accumulate_noise(unsigned field, uint64_t *noise, size_t n)
+{
+    for (size_t j = 1; j < n; j++)
+        noise[j] = field == 1 ? noise[j - 1] ^ noise[j] : add_mod(noise[j - 1], noise[j]);
+}
+
+result plain_noise_offline(
+    const uint8_t *source, size_t source_len, uint64_t *noise, size_t noise_len,
+    uint64_t *v, size_t v_len)
+{
+    struct record r;
+    size_t leaves, width;
+    uint32_t number = read_noise_record(source, source_len, &r);
+    start();
+    if (number != 0)
+        return refused(number);
+    leaves = (size_t)1 << r.depth;
+    width = width_of(r.field);
+    if (noise_len < leaves || v_len < width * leaves)
+        return refused(13);
+
+    memset(noise, 0, 8 * leaves);
+    memset(v, 0, 8 * width * leaves);
+    for (unsigned i = 0; i < r.trees; i++) {
+        const struct tree *tree = &r.tree[i];
+        noise[tree->position] = tree->value;
+        for (unsigned k = 0; k < r.depth; k++) {
+            unsigned levels = r.depth - 1 - k;
+            size_t from = (size_t)(tree->position >> levels ^ 1) << levels;
+            add_subtree(r.field, plain_load(tree->siblings + 16 * k), levels, v + width * from);
+        }
+        add_element(r.field, v + width * tree->position, tree->correction);
+    }
+    plain_accumulate_noise(r.field, noise, leaves);
+    accumulate(r.field, v, leaves);
+    return accepted(leaves, width * leaves);
+}
+
+result plain_scalar_offline(
+    const uint8_t *source, size_t source_len, uint64_t *w, size_t w_len,
+    uint64_t *delta, size_t delta_len)
+{
+    struct record r;
+    size_t leaves, width;
+    uint32_t number = read_scalar_record(source, source_len, &r);
+    start();
+    if (number != 0)
+        return refused(number);
+    leaves = (size_t)1 << r.depth;
+    width = width_of(r.field);
+    if (w_len < width * leaves || delta_len < 2)
+        return refused(13);
+
+    memset(w, 0, 8 * width * leaves);
+    for (unsigned i = 0; i < r.trees; i++)
+        add_subtree(r.field, plain_load(r.roots + 16 * i), r.depth, w);
+    accumulate(r.field, w, leaves);
+    delta[0] = r.delta.lo;
+    delta[1] = r.delta.hi;
+    return accepted(width * leaves, 2);
+}
+
+/* ---- Online ---- */
+
+size_t plain_term(const round_keys *code, unsigned field, unsigned depth, uint64_t x, uint64_t i,
+                  uint64_t *coefficient)
+{
+    block in = {x, i};
+    block out = plain_encrypt(code, in);
+    *coefficient = field == 1 ? 1 : out.hi % P;
+    return (size_t)(out.lo & (((uint64_t)1 << depth) - 1));
+}
+
+static int noise_word_admitted(unsigned field, uint64_t word)
+{
+    return field == 1 ? word <= 1 : word < P;
+}
+
+/* Whether each word that the window's rows use is admitted. noise is NULL at the scalar end. */
+static int words_admitted(const struct record *r, const round_keys *code, const uint64_t *noise,
+                          const uint64_t *elements, size_t first, size_t count)
+{
+    size_t leaves = (size_t)1 << r->depth, j;
+    uint64_t coefficient;
+
+    /* Where no word at all is wrong there is no need to look at the rows. */
+    for (j = 0; j < leaves; j++)
+        if ((noise != NULL && !noise_word_admitted(r->field, noise[j]))
+            || (r->field == 2 && !is_element(2, elements[j])))
+            break;
+    if (j == leaves)
+        return 1;
+
+    for (size_t x = first; x < first + count; x++)
+        for (unsigned i = 0; i < r->terms; i++) {
+            j = plain_term(code, r->field, r->depth, x, i, &coefficient);
+            if ((noise != NULL && !noise_word_admitted(r->field, noise[j]))
+                || (r->field == 2 && !is_element(2, elements[j])))
+                return 0;
+        }
+    return 1;
+}
+
+static int window_past(size_t first, size_t count, size_t end)
+{
+    return first > end || count > end - first;
+}
+
+result plain_noise_online(
+    const uint8_t *source, size_t source_len, const uint64_t *noise, size_t noise_len,
+    const uint64_t *v, size_t v_len, size_t first, size_t count,
+    uint64_t *u_out, size_t u_out_len, uint64_t *v_out, size_t v_out_len)
+{
+    struct record r;
+    round_keys code;
+    size_t leaves, width;
+    uint32_t number = read_noise_record(source, source_len, &r);
+    if (number != 0)
+        return refused(number);
+    leaves = (size_t)1 << r.depth;
+    width = width_of(r.field);
+    if (noise_len != leaves || v_len != width * leaves)
+        return refused(3);
+    if (window_past(first, count, r.outputs))
+        return refused(7);
+    if (u_out_len < count || v_out_len < width * count)
+        return refused(13);
+    plain_expand_key(&code, r.code_key);
+    if (!words_admitted(&r, &code, noise, v, first, count))
+        return refused(8);
+
+    for (size_t k = 0; k < count; k++) {
+        uint64_t coefficient, u = 0;
+        block sum = {0, 0};
+        for (unsigned i = 0; i < r.terms; i++) {
+            size_t j = plain_term(&code, r.field, r.depth, first + k, i, &coefficient);
+            if (r.field == 1) {
+                u ^= noise[j];
+                sum.lo ^= v[2 * j];
+                sum.hi ^= v[2 * j + 1];
+            } else {
+                u = add_mod(u, multiply_mod(coefficient, noise[j]));
+                sum.lo = add_mod(sum.lo, multiply_mod(coefficient, v[j]));
+            }
+        }
+        u_out[k] = u;
+        v_out[width * k] = sum.lo;
+        if (r.field == 1)
+            v_out[2 * k + 1] = sum.hi;
+    }
+    return accepted(count, width * count);
+}
+
+result plain_scalar_online(
+    const uint8_t *source, size_t source_len, const uint64_t *w, size_t w_len,
+    size_t first, size_t count, uint64_t *w_out, size_t w_out_len)
+{
+    struct record r;
+    round_keys code;
+    size_t leaves, width;
+    uint32_t number = read_scalar_record(source, source_len, &r);
+    if (number != 0)
+        return refused(number);
+    leaves = (size_t)1 << r.depth;
+    width = width_of(r.field);
+    if (w_len != width * leaves)
+        return refused(3);
+    if (window_past(first, count, r.outputs))
+        return refused(7);
+    if (w_out_len < width * count)
+        return refused(13);
+    plain_expand_key(&code, r.code_key);
+    if (!words_admitted(&r, &code, NULL, w, first, count))
+        return refused(8);
+
+    for (size_t k = 0; k < count; k++) {
+        uint64_t coefficient;
+        block sum = {0, 0};
+        for (unsigned i = 0; i < r.terms; i++) {
+            size_t j = plain_term(&code, r.field, r.depth, first + k, i, &coefficient);
+            if (r.field == 1) {
+                sum.lo ^= w[2 * j];
+                sum.hi ^= w[2 * j + 1];
+            } else {
+                sum.lo = add_mod(sum.lo, multiply_mod(coefficient, w[j]));
+            }
+        }
+        w_out[width * k] = sum.lo;
+        if (r.field == 1)
+            w_out[2 * k + 1] = sum.hi;
+    }
+    return accepted(width * count, 0);
+}
+
+/* ---- Pads ---- */
+
+/* Whether len is size × count, as whole numbers. */
+static int is_multiple(size_t len, size_t size, size_t count)
+{
+    return len % size == 0 && len / size == count;
+}
+
+/* E(FF.., z) exclusive-or z, where z is b exclusive-or the block of x. */
+static block pad(size_t x, block b)
+{
+    b.lo ^= x;
+    return exclusive_or(plain_encrypt(&pad_key, b), b);
+}
+
+uint32_t plain_noise_pads(
+    size_t first, size_t count, const uint8_t *v, size_t v_len,
+    const uint8_t *choices, size_t choices_len, uint8_t *pads, size_t pads_len)
+{
+    start();
+    if (!is_multiple(v_len, 16, count) || choices_len != count)
+        return 3;
+    if (window_past(first, count, MAX_PAD_INDEX))
+        return 7;
+    if (pads_len < 16 * count)
+        return 13;
+    for (size_t k = 0; k < count; k++)
+        if (choices[k] > 1)
+            return 8;
+    for (size_t k = 0; k < count; k++)
+        plain_store(pads + 16 * k, pad(first + k, plain_load(v + 16 * k)));
+    return 0;
+}
+
+uint32_t plain_scalar_pads(
+    size_t first, size_t count, const uint8_t *w, size_t w_len,
+    const uint8_t *delta, size_t delta_len, uint8_t *pads, size_t pads_len)
+{
+    block d;
+    start();
+    if (!is_multiple(w_len, 16, count) || delta_len != 16)
+        return 3;
+    if (window_past(first, count, MAX_PAD_INDEX))
+        return 7;
+    d = plain_load(delta);
+    if (is_zero(d))
+        return 6;
+    if (pads_len < 32 * count)
+        return 13;
+    for (size_t k = 0; k < count; k++) {
+        block b = plain_load(w + 16 * k);
+        plain_store(pads + 32 * k, pad(first + k, b));
+        plain_store(pads + 32 * k + 16, pad(first + k, exclusive_or(b, d)));
+    }
+    return 0;
+}

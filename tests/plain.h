@@ -1,0 +1,73 @@
+/* A plain second implementation of document 01, to hold the library to. Written from that document
+ * and FIPS 197 alone. Parameters lie as in expander.h.
+ */
+#ifndef PLAIN_H
+#define PLAIN_H
+
+#include <stddef.h>
+#include <stdint.h>
+
+#define PLAIN_P ((((uint64_t)1) << 61) - 1)
+
+/* A number, and what was written to the first and the second output buffer. */
+struct plain_result {
+    uint32_t number;
+    size_t first, second;
+};
+
+/* Sixteen bytes as two words, each least byte first; in field 2 an element has hi = 0. */
+struct plain_block {
+    uint64_t lo, hi;
+};
+
+/* AES-128 round keys: eleven times four columns, the least byte of each in row 0. */
+struct plain_key {
+    uint32_t column[44];
+};
+
+/* The cipher, the number code and the fields' arithmetic, for the tests' own use. */
+uint8_t plain_sbox(uint8_t x);
+struct plain_block plain_load(const uint8_t bytes[16]);
+void plain_store(uint8_t bytes[16], struct plain_block b);
+void plain_expand_key(struct plain_key *key, const uint8_t bytes[16]);
+struct plain_block plain_encrypt(const struct plain_key *key, struct plain_block b);
+struct plain_block plain_child(unsigned side, struct plain_block b);
+size_t plain_write_number(uint8_t bytes[3], uint32_t x);
+uint64_t plain_reduce(uint64_t x);
+struct plain_block plain_add(unsigned field, struct plain_block a, struct plain_block b);
+struct plain_block plain_subtract(unsigned field, struct plain_block a, struct plain_block b);
+struct plain_block plain_scale(unsigned field, struct plain_block a, uint64_t u);
+void plain_accumulate_noise(unsigned field, uint64_t *noise, size_t n);
+
+/* The place and the coefficient of term i of row x, for N = 2^depth. */
+size_t plain_term(const struct plain_key *code, unsigned field, unsigned depth, uint64_t x,
+                  uint64_t i, uint64_t *coefficient);
+
+/* The seven calls. */
+struct plain_result plain_deal(
+    uint8_t field, size_t depth, size_t trees, size_t terms, size_t outputs,
+    const uint8_t *roots, size_t roots_len, const uint32_t *positions, size_t positions_len,
+    const uint64_t *values, size_t values_len, const uint8_t *delta, size_t delta_len,
+    const uint8_t *code_key, size_t code_key_len, uint8_t *noise_record, size_t noise_record_len,
+    uint8_t *scalar_record, size_t scalar_record_len);
+struct plain_result plain_noise_offline(
+    const uint8_t *source, size_t source_len, uint64_t *noise, size_t noise_len,
+    uint64_t *v, size_t v_len);
+struct plain_result plain_scalar_offline(
+    const uint8_t *source, size_t source_len, uint64_t *w, size_t w_len,
+    uint64_t *delta, size_t delta_len);
+struct plain_result plain_noise_online(
+    const uint8_t *source, size_t source_len, const uint64_t *noise, size_t noise_len,
+    const uint64_t *v, size_t v_len, size_t first, size_t count,
+    uint64_t *u_out, size_t u_out_len, uint64_t *v_out, size_t v_out_len);
+struct plain_result plain_scalar_online(
+    const uint8_t *source, size_t source_len, const uint64_t *w, size_t w_len,
+    size_t first, size_t count, uint64_t *w_out, size_t w_out_len);
+uint32_t plain_noise_pads(
+    size_t first, size_t count, const uint8_t *v, size_t v_len,
+    const uint8_t *choices, size_t choices_len, uint8_t *pads, size_t pads_len);
+uint32_t plain_scalar_pads(
+    size_t first, size_t count, const uint8_t *w, size_t w_len,
+    const uint8_t *delta, size_t delta_len, uint8_t *pads, size_t pads_len);
+
+#endif

@@ -1,0 +1,368 @@
+/* The plain implementation held to FIPS 197, to document 01's cases, and, on random dealings, to
+ * document 01's definitions written out place by place.
+ */
+#include "dealing.h"
+#include "plain.h"
+
+#include <stdio.h>
+#include <stdlib.h>
+#include <string.h>
+
+typedef struct plain_block block;
+
+static unsigned long checks;
+
+#define CHECK(fact) check((fact), #fact, __LINE__)
+
+static void check(int holds, const char *fact, int line)
+{
+    checks++;
+    if (!holds) {
+        fprintf(stderr, "plain_test.c:%d: not so: %s\n", line, fact);
+        exit(1);
+    }
+}
+
+/* ---- FIPS 197, byte by byte ---- */
+
+static uint8_t xtime(uint8_t a)
+{
+    return (uint8_t)(a & 0x80 ? a << 1 ^ 0x1b : a << 1);
+}
+
+static uint8_t multiply(uint8_t a, uint8_t b)
+{
+    uint8_t r = 0;
+    for (int k = 7; k >= 0; k--)
+        r = (uint8_t)(xtime(r) ^ (b >> k & 1 ? a : 0));
+    return r;
+}
+
+/* Equations 5.1 to 5.2: the inverse by search, the affine step by turning the byte. */
+static uint8_t sub_byte(uint8_t a)
+{
+    unsigned b = 0, turned;
+    while (a != 0 && multiply(a, (uint8_t)b) != 1)
+        b++;
+    turned = b << 8 | b;
+    return (uint8_t)(b ^ turned >> 4 ^ turned >> 5 ^ turned >> 6 ^ turned >> 7 ^ 0x63);
+}
+
+static uint8_t s_box[256];
+
+/* Cipher() and KeyExpansion(); byte r of column c of the state is in[r + 4 c]. */
+static void encrypt_bytes(const uint8_t key[16], const uint8_t in[16], uint8_t out[16])
+{
+    uint8_t w[176], s[16], t[16], rcon = 1;
+    memcpy(w, key, 16);
+    for (int i = 16; i < 176; i += 4) {
+        uint8_t temp[4] = {w[i - 4], w[i - 3], w[i - 2], w[i - 1]};
+        if (i % 16 == 0) {
+            uint8_t first = temp[0];
+            temp[0] = s_box[temp[1]] ^ rcon;
+            temp[1] = s_box[temp[2]];
+            temp[2] = s_box[temp[3]];
+            temp[3] = s_box[first];
+            rcon = xtime(rcon);
+        }
+        for (int k = 0; k < 4; k++)
+            w[i + k] = w[i - 16 + k] ^ temp[k];
+    }
+    for (int k = 0; k < 16; k++)
+        s[k] = in[k] ^ w[k];
+    for (int round = 1; round <= 10; round++) {
+        for (int c = 0; c < 4; c++) /* SubBytes and ShiftRows */
+            for (int r = 0; r < 4; r++)
+                t[r + 4 * c] = s_box[s[r + 4 * ((c + r) % 4)]];
+        for (int c = 0; c < 4; c++) /* MixColumns, but for the last round */
+            for (int r = 0; r < 4; r++)
+                s[r + 4 * c] = round == 10 ? t[r + 4 * c]
+                    : (uint8_t)(multiply(2, t[r + 4 * c]) ^ multiply(3, t[(r + 1) % 4 + 4 * c])
+                                ^ t[(r + 2) % 4 + 4 * c] ^ t[(r + 3) % 4 + 4 * c]);
+        for (int k = 0; k < 16; k++)
+            s[k] ^= w[16 * round + k];
+    }
+    memcpy(out, s, 16);
+}
+
+static int encrypts(const uint8_t key[16], const uint8_t in[16], const uint8_t out[16])
+{
+    struct plain_key round_keys;
+    uint8_t bytes[16];
+    plain_expand_key(&round_keys, key);
+    plain_store(bytes, plain_encrypt(&round_keys, plain_load(in)));
+    return memcmp(bytes, out, 16) == 0;
+}
+
+static void test_cipher(void)
+{
+    static const uint8_t c1_key[16] = {0, 1, 2, 3, 4, 5, 6, 7, 8, 9, 10, 11, 12, 13, 14, 15};
+    static const uint8_t c1_in[16] = {0x00, 0x11, 0x22, 0x33, 0x44, 0x55, 0x66, 0x77,
+                                      0x88, 0x99, 0xaa, 0xbb, 0xcc, 0xdd, 0xee, 0xff};
+    static const uint8_t c1_out[16] = {0x69, 0xc4, 0xe0, 0xd8, 0x6a, 0x7b, 0x04, 0x30,
+                                       0xd8, 0xcd, 0xb7, 0x80, 0x70, 0xb4, 0xc5, 0x5a};
+    static const uint8_t b_key[16] = {0x2b, 0x7e, 0x15, 0x16, 0x28, 0xae, 0xd2, 0xa6,
+                                      0xab, 0xf7, 0x15, 0x88, 0x09, 0xcf, 0x4f, 0x3c};
+    static const uint8_t b_in[16] = {0x32, 0x43, 0xf6, 0xa8, 0x88, 0x5a, 0x30, 0x8d,
+                                     0x31, 0x31, 0x98, 0xa2, 0xe0, 0x37, 0x07, 0x34};
+    static const uint8_t b_out[16] = {0x39, 0x25, 0x84, 0x1d, 0x02, 0xdc, 0x09, 0xfb,
+                                      0xdc, 0x11, 0x85, 0x97, 0x19, 0x6a, 0x0b, 0x32};
+    struct plain_key round_keys;
+    uint8_t key[16], in[16], out[16];
+
+    for (unsigned x = 0; x < 256; x++) {
+        s_box[x] = sub_byte((uint8_t)x);
+        CHECK(plain_sbox((uint8_t)x) == s_box[x]);
+    }
+    CHECK(plain_sbox(0x00) == 0x63);
+    CHECK(plain_sbox(0x53) == 0xed);
+    CHECK(encrypts(c1_key, c1_in, c1_out));
+    CHECK(encrypts(b_key, b_in, b_out));
+    plain_expand_key(&round_keys, b_key);
+    CHECK(round_keys.column[4] == 0x17fefaa0);  /* w4 is a0fafe17 */
+    CHECK(round_keys.column[43] == 0xa60c63b6); /* w43 is b6630ca6 */
+    for (int k = 0; k < 20000; k++) {
+        random_bytes(key, 16);
+        random_bytes(in, 16);
+        encrypt_bytes(key, in, out);
+        CHECK(encrypts(key, in, out));
+    }
+}
+
+/* ---- Cases ---- */
+
+static int writes_number(uint32_t x, size_t n, uint8_t a, uint8_t b, uint8_t c)
+{
+    uint8_t bytes[3] = {0, 0, 0};
+    return plain_write_number(bytes, x) == n && bytes[0] == a && bytes[1] == b && bytes[2] == c;
+}
+
+static struct plain_result deal(const struct dealing *x, uint8_t *noise, uint8_t *scalar)
+{
+    return plain_deal(x->field, x->depth, x->trees, x->terms, x->outputs, x->roots, 16 * x->trees,
+                      x->positions, x->trees, x->values, x->trees, x->delta, 16, x->code_key, 16,
+                      noise, 17624, scalar, 1064);
+}
+
+static int is(struct plain_result r, uint32_t number, size_t first, size_t second)
+{
+    return r.number == number && r.first == first && r.second == second;
+}
+
+static block element(uint64_t x)
+{
+    block b = {x, 0};
+    return b;
+}
+
+static void test_cases(void)
+{
+    static uint8_t noise[17624], scalar[1064];
+    static struct dealing x;
+    static const struct {
+        size_t first, count;
+        uint32_t number;
+    } windows[] = {{3, 1, 0}, {3, 2, 7}, {4, 0, 0}, {5, 0, 7}, {SIZE_MAX, 1, 7}};
+    uint64_t words[8], v[16], u_out[4], v_out[8];
+    const uint64_t p = PLAIN_P;
+    struct plain_result r;
+
+    CHECK(writes_number(127, 1, 0x7f, 0, 0));
+    CHECK(writes_number(128, 2, 0x80, 0x01, 0));
+    CHECK(writes_number(300, 2, 0xac, 0x02, 0));
+    CHECK(writes_number(16384, 3, 0x80, 0x80, 0x01));
+
+    CHECK(plain_scale(2, element((uint64_t)1 << 60), 2).lo == 1);
+    CHECK(plain_scale(2, element(p - 1), p - 1).lo == 1);
+    CHECK(plain_reduce(UINT64_MAX) == 7);
+    CHECK(plain_reduce(p) == 0);
+    CHECK(plain_subtract(2, element(7), plain_scale(2, element(3), 5)).lo == p - 8);
+
+    memset(words, 0, sizeof words);
+    words[1] = words[4] = 1;
+    plain_accumulate_noise(1, words, 8);
+    CHECK(memcmp(words, ((uint64_t[]){0, 1, 1, 1, 0, 0, 0, 0}), sizeof words) == 0);
+    memset(words, 0, sizeof words);
+    words[1] = 5;
+    words[4] = p - 2;
+    plain_accumulate_noise(2, words, 8);
+    CHECK(memcmp(words, ((uint64_t[]){0, 5, 5, 5, 3, 3, 3, 3}), sizeof words) == 0);
+
+    for (unsigned field = 1; field <= 2; field++) {
+        make_dealing(&x, field, 1, 1, 1, 1);
+        CHECK(is(deal(&x, noise, scalar), 0, 55, field == 1 ? 54 : 46));
+        CHECK(is(plain_noise_offline(noise, 55, words, 8, v, 16), 0, 2, field == 1 ? 4 : 2));
+        CHECK(is(plain_noise_offline(noise, 54, words, 8, v, 16), 10, 0, 0));
+        noise[55] = 0;
+        CHECK(is(plain_noise_offline(noise, 56, words, 8, v, 16), 12, 0, 0));
+        noise[2] = 0x80; /* d as 80 00 */
+        noise[3] = 0x00;
+        CHECK(is(plain_noise_offline(noise, 55, words, 8, v, 16), 11, 0, 0));
+
+        make_dealing(&x, field, 3, 3, 2, 4);
+        x.positions[0] = 1;
+        x.positions[1] = 4;
+        x.positions[2] = 5;
+        r = deal(&x, noise, scalar);
+        CHECK(r.number == 0);
+        /* A tree takes 16 bytes of value and correction and three siblings after its position. */
+        CHECK(noise[22] == 1 && noise[22 + 65] == 2 && noise[22 + 2 * 65] == 0);
+        CHECK(plain_noise_offline(noise, r.first, words, 8, v, 16).number == 0);
+        for (size_t k = 0; k < sizeof windows / sizeof *windows; k++)
+            CHECK(plain_noise_online(noise, r.first, words, 8, v, field == 1 ? 16 : 8,
+                                     windows[k].first, windows[k].count, u_out, 4, v_out, 8)
+                      .number == windows[k].number);
+        x.outputs = 5;
+        CHECK(is(deal(&x, noise, scalar), 2, 0, 0));
+        x.outputs = 4;
+        x.positions[2] = 4;
+        CHECK(is(deal(&x, noise, scalar), 4, 0, 0));
+    }
+}
+
+/* ---- Definitions ---- */
+
+/* Leaf j by the bits of j, highest of the d first. */
+static block leaf(const struct dealing *x, size_t tree, size_t j)
+{
+    uint8_t key[16], node[16], next[16];
+    memcpy(node, x->roots + 16 * tree, 16);
+    for (size_t k = x->depth; k-- > 0;) {
+        memset(key, j >> k & 1 ? 0x01 : 0x00, 16);
+        encrypt_bytes(key, node, next);
+        for (int b = 0; b < 16; b++)
+            node[b] ^= next[b];
+    }
+    if (x->field == 2)
+        return element(plain_load(node).lo % PLAIN_P);
+    return plain_load(node);
+}
+
+static block element_at(unsigned field, const uint64_t *words, size_t j)
+{
+    block two = {words[2 * j], words[2 * j + 1]};
+    return field == 1 ? two : element(words[j]);
+}
+
+static int same(block a, block b)
+{
+    return a.lo == b.lo && a.hi == b.hi;
+}
+
+static block pad(uint64_t index, block b)
+{
+    uint8_t key[16], z[16], out[16];
+    memset(key, 0xff, 16);
+    b.lo ^= index;
+    plain_store(z, b);
+    encrypt_bytes(key, z, out);
+    for (int k = 0; k < 16; k++)
+        out[k] ^= z[k];
+    return plain_load(out);
+}
+
+static void test_definitions(unsigned field, size_t depth)
+{
+    enum { N = 256 };
+    static struct dealing x;
+    static uint8_t noise_record[17624], scalar_record[1064];
+    static uint64_t mu[N], noise[N], v[2 * N], w[2 * N], delta[2], u_out[N], v_out[2 * N],
+        w_out[2 * N];
+    static block v0[N], w0[N];
+    static uint8_t v_bytes[16 * N], w_bytes[16 * N], choices[N], one[16 * N], both[32 * N];
+    size_t leaves = (size_t)1 << depth, width = field == 1 ? 2 : 1, n;
+    struct plain_result r;
+    block scalar, sum_v = {0, 0}, sum_w = {0, 0};
+    uint64_t sum_mu = 0;
+
+    make_any_dealing(&x, field, depth);
+    n = x.outputs;
+    scalar = plain_load(x.delta);
+    r = deal(&x, noise_record, scalar_record);
+    CHECK(r.number == 0);
+    CHECK(is(plain_noise_offline(noise_record, r.first, noise, N, v, 2 * N), 0, leaves,
+             width * leaves));
+    CHECK(is(plain_scalar_offline(scalar_record, r.second, w, 2 * N, delta, 2), 0, width * leaves,
+             2));
+    CHECK(delta[0] == scalar.lo && delta[1] == scalar.hi);
+    CHECK(is(plain_noise_online(noise_record, r.first, noise, leaves, v, width * leaves, 0, n,
+                                u_out, N, v_out, 2 * N), 0, n, width * n));
+    CHECK(is(plain_scalar_online(scalar_record, r.second, w, width * leaves, 0, n, w_out, 2 * N),
+             0, width * n, 0));
+
+    /* mu, v0 and w0, and what the offline calls say of their accumulation. */
+    memset(mu, 0, sizeof mu);
+    for (size_t j = 0; j < leaves; j++) {
+        v0[j] = w0[j] = element(0);
+        for (size_t i = 0; i < x.trees; i++) {
+            block at = leaf(&x, i, j);
+            w0[j] = plain_add(field, w0[j], at);
+            if (j == x.positions[i]) {
+                mu[j] = x.values[i];
+                at = plain_subtract(field, at, plain_scale(field, scalar, x.values[i]));
+            }
+            v0[j] = plain_add(field, v0[j], at);
+        }
+        sum_mu = field == 1 ? sum_mu ^ mu[j] : (sum_mu + mu[j]) % PLAIN_P;
+        sum_v = plain_add(field, sum_v, v0[j]);
+        sum_w = plain_add(field, sum_w, w0[j]);
+        CHECK(noise[j] == sum_mu);
+        CHECK(same(element_at(field, v, j), sum_v));
+        CHECK(same(element_at(field, w, j), sum_w));
+    }
+
+    /* u, v and w as the code matrix times mu, v0 and w0, and the correlation. */
+    for (size_t k = 0; k < n; k++) {
+        block u = {0, 0}, sum = {0, 0}, sum2 = {0, 0};
+        for (size_t j = 0; j < leaves; j++) {
+            uint64_t entry = 0;
+            for (uint64_t i = 0; i < x.terms; i++) {
+                uint8_t in[16], out[16];
+                plain_store(in, (block){k, i});
+                encrypt_bytes(x.code_key, in, out);
+                if (plain_load(out).lo % leaves >= j)
+                    entry = field == 1 ? entry ^ 1
+                                       : (entry + plain_load(out).hi % PLAIN_P) % PLAIN_P;
+            }
+            u = plain_add(field, u, plain_scale(field, element(mu[j]), entry));
+            sum = plain_add(field, sum, plain_scale(field, v0[j], entry));
+            sum2 = plain_add(field, sum2, plain_scale(field, w0[j], entry));
+        }
+        CHECK(u_out[k] == u.lo);
+        CHECK(same(element_at(field, v_out, k), sum));
+        CHECK(same(element_at(field, w_out, k), sum2));
+        CHECK(same(sum2, plain_add(field, plain_scale(field, scalar, u.lo), sum)));
+    }
+
+    if (field == 2)
+        return;
+    for (size_t k = 0; k < n; k++) {
+        plain_store(v_bytes + 16 * k, element_at(1, v_out, k));
+        plain_store(w_bytes + 16 * k, element_at(1, w_out, k));
+        choices[k] = (uint8_t)u_out[k];
+    }
+    CHECK(plain_noise_pads(0, n, v_bytes, 16 * n, choices, n, one, 16 * n) == 0);
+    CHECK(plain_scalar_pads(0, n, w_bytes, 16 * n, x.delta, 16, both, 32 * n) == 0);
+    for (size_t k = 0; k < n; k++) {
+        block at = element_at(1, w_out, k);
+        CHECK(same(plain_load(both + 32 * k), pad(k, at)));
+        CHECK(same(plain_load(both + 32 * k + 16), pad(k, plain_add(1, at, scalar))));
+        CHECK(memcmp(one + 16 * k, both + 32 * k + 16 * choices[k], 16) == 0);
+    }
+}
+
+int main(void)
+{
+    unsigned long cipher, cases;
+    test_cipher();
+    cipher = checks;
+    test_cases();
+    cases = checks;
+    for (int round = 0; round < 6; round++)
+        for (size_t depth = 1; depth <= 5; depth++)
+            for (unsigned field = 1; field <= 2; field++)
+                test_definitions(field, depth);
+    printf("plain implementation: %lu facts of the cipher, %lu of cases, %lu of dealings hold\n",
+           cipher, cases - cipher, checks - cases);
+    return 0;
+}
