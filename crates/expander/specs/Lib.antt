@@ -2,4 +2,5 @@
 pub mod Records
 pub mod Correlation
 pub mod Acceptance
+pub mod Pairing
 pub mod Cases

@@ -1,0 +1,15 @@
+-- The pair program on a dealing's own records (document 01, 'Cases'): every output tried is held.
+use mathlib.Core.Path.{_≡_}
+use mathlib.Core.List.{List}
+use Prim.Native.Nat.{ℕ, _^_, _≤_}
+use lib.ListN.{take}
+use Rattle.dealing.specs.Admitted.{InMemory}
+use Rattle.dealing.specs.Deal.{deal}
+use Rattle.dealing.specs.Input.{Input}
+use Rattle.pairing.specs.AllHeld.{AllHeld}
+
+-- for an accepted dealing of at most 1,024 leaves all n outputs are found to hold, and the line is `checked n held n`
+abbrev pub Held : Type 0
+Held =
+    (I : Input) → InMemory I → (a b : List ℕ) → deal I a b .number ≡ 0 → 2 ^ I .depth ≤ 1024
+    → AllHeld (take (deal I a b .first) (deal I a b .noiseRecord)) (take (deal I a b .second) (deal I a b .scalarRecord)) (I .outputs)

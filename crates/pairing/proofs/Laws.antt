@@ -1,0 +1,102 @@
+-- What is found of two records, case by case, and that correlated records are found to hold at every output. Assumes nothing.
+use mathlib.Core.Path.{_≡_, refl, sym, ap, ap₂, _∙_}
+use mathlib.Core.Bool.{Bool, true, false, _||_, not}
+use mathlib.Core.List.{List, _++_}
+use Prim.Native.Nat.{ℕ, zero, suc, _+_, _^_, _≤_, _<_}
+use native.Mathlib.Omega.{arith}
+use native.Mathlib.Numerals.{add-one}
+use lib.Dec.{ltb}
+use lib.ListN.{length, take, drop, length-append}
+use lib.Seq.{length-take-le}
+use borrow.Author.Tests.{le-ltb, lt-ltb}
+use Rattle.algebra.specs.Choice.{choose}
+use Rattle.algebra.proofs.Choice.{choose-true, choose-false}
+use Rattle.algebra.proofs.Tests.{or-neither}
+use Rattle.number.specs.Reading.{Whole, Refused}
+use Rattle.record.specs.Content.{Head, NoisePart, ScalarPart}
+use Rattle.record.specs.Reading.{readNoise, readScalar}
+use Rattle.rows.specs.Head.{fieldOf, places}
+use Rattle.pairing.specs.AllHeld.{Correlated, AllHeld, CorrelatedHeld}
+use Rattle.pairing.specs.Line.{text}
+use Rattle.pairing.specs.Steps.{printed}
+use Rattle.pairing.specs.Verdict.{Verdict, Refusal, TooLarge, Different, Checked, sameDealing, uAt, vAt, wAt, heldAt, heldOf, paired, verdict}
+use Rattle.pairing.proofs.Same.{same-refl, same-dealing}
+
+-- ---- a record is refused
+
+pub noise-refusal : (noise scalar : List ℕ) {k : ℕ} → readNoise noise ≡ Refused k → verdict noise scalar ≡ Refusal k
+unfolding verdict
+noise-refusal noise scalar e = rw e
+
+pub scalar-refusal : (noise scalar : List ℕ) {P : NoisePart} {k : ℕ} → readNoise noise ≡ Whole P → readScalar scalar ≡ Refused k
+    → verdict noise scalar ≡ Refusal k
+unfolding verdict
+scalar-refusal noise scalar e f = rw (e, f)
+
+-- ---- both are accepted
+
+module _ (noise scalar : List ℕ) {P : NoisePart} {Q : ScalarPart} (read : readNoise noise ≡ Whole P) (other : readScalar scalar ≡ Whole Q) where
+  both : verdict noise scalar ≡ paired P Q
+  unfolding verdict
+  both = rw (read, other)
+
+  pub noise-large : 1024 < places (P .head) → verdict noise scalar ≡ TooLarge
+  unfolding paired
+  noise-large h = both ∙ rw (lt-ltb 1024 (places (P .head)) h)
+
+  pub scalar-large : places (P .head) ≤ 1024 → 1024 < places (Q .head) → verdict noise scalar ≡ TooLarge
+  unfolding paired
+  scalar-large h g = both ∙ rw (le-ltb 1024 (places (P .head)) h, lt-ltb 1024 (places (Q .head)) g)
+
+  module _ (small : places (P .head) ≤ 1024) (small-too : places (Q .head) ≤ 1024) where
+    pub not-same : sameDealing (P .head) (Q .head) ≡ false → verdict noise scalar ≡ Different
+    unfolding paired
+    not-same e = both ∙ rw (le-ltb 1024 (places (P .head)) small, le-ltb 1024 (places (Q .head)) small-too, e)
+
+    pub same-checked : sameDealing (P .head) (Q .head) ≡ true
+        → verdict noise scalar ≡ Checked (P .head .outputs) (heldOf P Q (P .head .outputs))
+    unfolding paired
+    same-checked e = both ∙ rw (le-ltb 1024 (places (P .head)) small, le-ltb 1024 (places (Q .head)) small-too, e)
+
+-- ---- correlated records
+
+-- equal words of both sides are held
+pub held-at : (P : NoisePart) (Q : ScalarPart) (x : ℕ)
+    → fieldOf (Q .head) .elements .words (wAt Q x)
+    ≡ fieldOf (P .head) .elements .words
+    (fieldOf (P .head) .scaled .group .add
+    (fieldOf (P .head) .scaled .scale (uAt P x) (fieldOf (P .head) .elements .read (Q .delta) 0))
+    (vAt P x))
+    → heldAt P Q x ≡ true
+unfolding heldAt
+held-at P Q x e = rw e (same-refl _)
+
+-- where all of the first n hold, n are counted
+pub all-counted : (P : NoisePart) (Q : ScalarPart) (n : ℕ) → ((x : ℕ) → x < n → heldAt P Q x ≡ true) → heldOf P Q n ≡ n
+unfolding heldOf
+all-counted P Q zero h = refl
+all-counted P Q (suc n) h =
+    ap₂ (λ (a b : ℕ). a + b) (all-counted P Q n (λ x k. h x (omega arith))) (choose-true (heldAt P Q n) 1 0 (h n (omega arith))) ∙ add-one n
+
+pub correlated-held : CorrelatedHeld
+unfolding text
+correlated-held noise scalar P Q read other C =
+    let small-too : places (Q .head) ≤ 1024 = rw (C .head) (C .small) in
+    let same : sameDealing (P .head) (Q .head) ≡ true = rw (C .head) (same-dealing (P .head)) in
+    let found : verdict noise scalar ≡ Checked (P .head .outputs) (P .head .outputs) =
+    same-checked noise scalar read other (C .small) small-too same
+    ∙ ap (Checked (P .head .outputs)) (all-counted P Q (P .head .outputs) (C .held)) in
+    record { found = found; line = ap text found }
+
+-- ---- the line
+
+-- a line that was written lies in its buffer
+pub line-in : (v : Verdict) (out : List ℕ) {b : List ℕ} {r : ℕ} → (b, r) ≡ printed v out → r ≤ length b
+unfolding printed
+line-in v out e =
+    let l = ap (λ (x : List ℕ × ℕ). length (x .0)) e ∙ length-append (text v) (drop (length (text v)) out) in
+    let k = ap (λ (x : List ℕ × ℕ). x .1) e in
+    omega (arith, l, k)
+
+pub line-front : (v : Verdict) (out : List ℕ) {b : List ℕ} {r : ℕ} → (b, r) ≡ printed v out → r ≡ length (take r b)
+line-front v out {b} {r} e = let m = line-in v out e in sym (length-take-le r b m)

@@ -1,0 +1,7 @@
+mod Digits
+mod Judged
+pub mod Laws
+mod Lines
+mod Outputs
+mod Same
+mod Turns

@@ -1,0 +1,27 @@
+-- Two accepted records of one dealing where w = Δu + v at every output: what is found of them, and their line.
+use mathlib.Core.Path.{_≡_}
+use mathlib.Core.Bool.{true}
+use mathlib.Core.List.{List, _++_}
+use Prim.Native.Nat.{ℕ, _≤_, _<_}
+use Rattle.number.specs.Reading.{Whole}
+use Rattle.record.specs.Content.{NoisePart, ScalarPart}
+use Rattle.record.specs.Reading.{readNoise, readScalar}
+use Rattle.rows.specs.Head.{places}
+use Rattle.pairing.specs.Verdict.{Verdict, Checked, heldAt, verdict}
+use Rattle.pairing.specs.Line.{decimal, checkedText, heldText, text}
+
+-- one dealing, at most 1,024 leaves, and w = Δu + v at each of its outputs
+pub record Correlated (P : NoisePart) (Q : ScalarPart) : Type 0 where
+  pub head : Q .head ≡ P .head
+  pub small : places (P .head) ≤ 1024
+  pub held : (x : ℕ) → x < P .head .outputs → heldAt P Q x ≡ true
+
+-- all outputs are found to hold, and the line is `checked n held n`
+pub record AllHeld (noise scalar : List ℕ) (n : ℕ) : Type 0 where
+  pub found : verdict noise scalar ≡ Checked n n
+  pub line : text (verdict noise scalar) ≡ checkedText ++ (decimal n ++ (heldText ++ decimal n))
+
+-- the claim
+abbrev pub CorrelatedHeld : Type 0
+CorrelatedHeld = (noise scalar : List ℕ) (P : NoisePart) (Q : ScalarPart) → readNoise noise ≡ Whole P → readScalar scalar ≡ Whole Q
+    → Correlated P Q → AllHeld noise scalar (P .head .outputs)

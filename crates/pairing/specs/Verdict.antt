@@ -1,0 +1,84 @@
+-- What the pair program finds of two records (document 01, 'Cases', the pair program), in the order of its answers.
+use mathlib.Core.Bool.{Bool, true, false, _&&_, _||_, not}
+use mathlib.Core.List.{List, [], _∷_}
+use Prim.Native.Nat.{ℕ, zero, suc, _+_}
+use lib.Dec.{ltb, eqb}
+use Rattle.algebra.specs.Choice.{choose}
+use Rattle.algebra.specs.Field.{Scalar, Value}
+use Rattle.algebra.specs.Group.{itself}
+use Rattle.algebra.specs.Row.{output}
+use Rattle.algebra.specs.Sum.{accumulate}
+use Rattle.number.specs.Reading.{Reading, Whole, Refused}
+use Rattle.record.specs.Content.{Head, NoisePart, ScalarPart}
+use Rattle.record.specs.Reading.{readNoise, readScalar}
+use Rattle.rows.specs.Head.{fieldOf, places, row}
+use Rattle.noise_end.specs.Vectors as noiseEnd
+use Rattle.scalar_end.specs.Vectors as scalarEnd
+
+pub data Verdict : Type 0 where
+  -- a record is refused with this number
+  Refusal : ℕ → Verdict
+  -- a record has more than 1,024 leaves
+  TooLarge : Verdict
+  -- field, sizes and code key are not all equal
+  Different : Verdict
+  -- the outputs tried, and those where w = Δu + v
+  Checked : ℕ → ℕ → Verdict
+
+-- two lists of numbers are equal
+unfoldable pub sameList : List ℕ → List ℕ → Bool
+sameList [] [] = true
+sameList [] (b ∷ m) = false
+sameList (a ∷ l) [] = false
+sameList (a ∷ l) (b ∷ m) = eqb a b && sameList l m
+
+-- the same dealing: field, sizes and code key all equal
+unfoldable pub sameDealing : Head → Head → Bool
+sameDealing h k =
+    eqb (h .field) (k .field)
+    && eqb (h .depth) (k .depth)
+    && eqb (h .trees) (k .trees)
+    && eqb (h .terms) (k .terms)
+    && eqb (h .outputs) (k .outputs)
+    && sameList (h .codeKey) (k .codeKey)
+
+-- u and v at output x, from the noise record alone, and w, from the scalar record alone
+abbrev pub uAt : (P : NoisePart) → ℕ → Scalar (fieldOf (P .head))
+uAt P x = output (itself (fieldOf (P .head) .ring)) (row (P .head) x) (accumulate (fieldOf (P .head) .ring .group) (noiseEnd.mu P))
+
+abbrev pub vAt : (P : NoisePart) → ℕ → Value (fieldOf (P .head))
+vAt P x = output (fieldOf (P .head) .scaled) (row (P .head) x) (accumulate (fieldOf (P .head) .scaled .group) (noiseEnd.v0 P))
+
+abbrev pub wAt : (Q : ScalarPart) → ℕ → Value (fieldOf (Q .head))
+wAt Q x = output (fieldOf (Q .head) .scaled) (row (Q .head) x) (accumulate (fieldOf (Q .head) .scaled .group) (scalarEnd.w0 Q))
+
+-- w = Δu + v at output x, in the words of both sides
+unfoldable pub heldAt : NoisePart → ScalarPart → ℕ → Bool
+heldAt P Q x =
+    sameList
+    (fieldOf (Q .head) .elements .words (wAt Q x))
+    (fieldOf (P .head) .elements .words
+    (fieldOf (P .head) .scaled .group .add
+    (fieldOf (P .head) .scaled .scale (uAt P x) (fieldOf (P .head) .elements .read (Q .delta) 0))
+    (vAt P x)))
+
+-- how many of the outputs 0 to n − 1 hold
+unfoldable pub heldOf : NoisePart → ScalarPart → ℕ → ℕ
+heldOf P Q zero = 0
+heldOf P Q (suc n) = heldOf P Q n + choose (heldAt P Q n) 1 0
+
+-- two accepted records
+unfoldable pub paired : NoisePart → ScalarPart → Verdict
+paired P Q =
+    choose (ltb 1024 (places (P .head)) || ltb 1024 (places (Q .head))) TooLarge
+    (choose (not (sameDealing (P .head) (Q .head))) Different
+    (Checked (P .head .outputs) (heldOf P Q (P .head .outputs))))
+
+-- the noise record's number if both are refused
+unfoldable pub verdict : List ℕ → List ℕ → Verdict
+verdict noise scalar = from (readNoise noise) (readScalar scalar)
+  where
+    from : Reading NoisePart → Reading ScalarPart → Verdict
+    from (Refused k) r = Refusal k
+    from (Whole P) (Refused k) = Refusal k
+    from (Whole P) (Whole Q) = paired P Q
