@@ -1,5 +1,5 @@
 -- One computed example in each field in which values are handed out: d = t = ℓ = n = 1, from the dealing's input through both
--- ends' offline and online calls to the words in the output buffers.
+-- ends' offline and online calls to the words in the output buffers (document 01, 'Lists of calls at both ends').
 use mathlib.Core.Path.{_≡_}
 use mathlib.Core.List.{List, [], _∷_, _++_}
 use Prim.Native.Nat.{ℕ}

@@ -1,5 +1,5 @@
--- Both pad calls (document 01, 'Pads' and 'Numbers of the calls'): what stands on return, from everything lent. They test
--- 3, 7, 6, 13, 8. The calls are defined over any rule; the calls' own is `pad`.
+-- Both pad calls (document 01, 'Pads' and 'Numbers of the calls'): what stands on return, from everything lent. The input
+-- slices are lent by `&`, so they stand as they were. They test 3, 7, 6, 13, 8. The calls are defined over any rule; the calls' own is `pad`.
 use mathlib.Core.Bool.{Bool, false, not, _&&_, _||_}
 use mathlib.Core.List.{List, [], _∷_}
 use Prim.Native.Nat.{ℕ, zero, suc, _+_, _*_}

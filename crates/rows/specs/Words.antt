@@ -1,4 +1,5 @@
--- What the functions that both ends share say: how many words an element takes, and the number of a refused record.
+-- What the functions that both ends share say (document 01, 'Offline and online', 'Numbers of the calls'): how many words an
+-- element takes, and the number of a refused record.
 use Prim.Native.Nat.{ℕ}
 use Rattle.field.specs.Kind.{kindOf}
 use Rattle.record.specs.declared.Opened.{Opened}
