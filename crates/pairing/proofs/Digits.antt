@@ -9,7 +9,6 @@ use mir.Syntax.{w64}
 use mir.Val.{Fits}
 use lib.Seq.{sets, length-sets}
 use borrow.Author.Tests.{le-ltb, lt-ltb}
-use Rattle.algebra.specs.Choice.{choose}
 use Rattle.algebra.proofs.Choice.{choose-true, choose-false, choose-either}
 use Rattle.record.proofs.Writes.{after}
 use Rattle.pairing.specs.Line.{digits}

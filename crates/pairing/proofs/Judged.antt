@@ -1,12 +1,12 @@
 -- What the readings of both records say of the verdict, test by test. Assumes nothing.
-use mathlib.Core.Path.{_≡_, refl, sym, ap, _∙_}
+use mathlib.Core.Path.{_≡_, sym, ap, _∙_}
 use mathlib.Core.Bool.{Bool, true, false, not}
 use mathlib.Core.List.{List}
 use Prim.Native.Nat.{ℕ, _^_, _≤_, _<_}
 use native.Mathlib.Omega.{arith}
 use lib.ListN.{length}
 use borrow.Author.Tests.{not-true, not-false}
-use Rattle.number.specs.Reading.{Whole, Refused}
+use Rattle.number.specs.Reading.{Refused}
 use Rattle.record.specs.Content.{Head, NoisePart, ScalarPart}
 use Rattle.record.specs.Reading.{readHead, readNoise, readScalar, headOf, opened, frontOf}
 use Rattle.record.specs.declared.Front.{Front}
@@ -19,7 +19,7 @@ use Rattle.rows.specs.Words.{faultOf}
 use Rattle.rows.proofs.Sizes.{head-sizes}
 use Rattle.pairing.specs.declared.Finding.the-variants as finding
 use Rattle.pairing.specs.Steps.{verdictOf, Paired}
-use Rattle.pairing.specs.Verdict.{Verdict, sameDealing, verdict}
+use Rattle.pairing.specs.Verdict.{sameDealing, verdict}
 use Rattle.pairing.proofs.Laws.{noise-refusal, scalar-refusal, noise-large, scalar-large, not-same}
 use Rattle.pairing.proofs.Same.{dealing-equal}
 

@@ -1,24 +1,20 @@
 -- What is found of two records, case by case, and that correlated records are found to hold at every output. Assumes nothing.
 use mathlib.Core.Path.{_≡_, refl, sym, ap, ap₂, _∙_}
-use mathlib.Core.Bool.{Bool, true, false, _||_, not}
-use mathlib.Core.List.{List, _++_}
-use Prim.Native.Nat.{ℕ, zero, suc, _+_, _^_, _≤_, _<_}
+use mathlib.Core.Bool.{true, false}
+use mathlib.Core.List.{List}
+use Prim.Native.Nat.{ℕ, zero, suc, _+_, _≤_, _<_}
 use native.Mathlib.Omega.{arith}
 use native.Mathlib.Numerals.{add-one}
-use lib.Dec.{ltb}
 use lib.ListN.{length, take, drop, length-append}
 use lib.Seq.{length-take-le}
 use borrow.Author.Tests.{le-ltb, lt-ltb}
-use Rattle.algebra.specs.Choice.{choose}
-use Rattle.algebra.proofs.Choice.{choose-true, choose-false}
-use Rattle.algebra.proofs.Tests.{or-neither}
+use Rattle.algebra.proofs.Choice.{choose-true}
 use Rattle.number.specs.Reading.{Whole, Refused}
-use Rattle.record.specs.Content.{Head, NoisePart, ScalarPart}
+use Rattle.record.specs.Content.{NoisePart, ScalarPart}
 use Rattle.record.specs.Reading.{readNoise, readScalar}
 use Rattle.rows.specs.Head.{fieldOf, places}
-use Rattle.pairing.specs.AllHeld.{Correlated, AllHeld, CorrelatedHeld}
-use Rattle.pairing.specs.Line.{text}
-use Rattle.pairing.specs.Steps.{printed}
+use Rattle.pairing.specs.AllHeld.{CorrelatedHeld}
+use Rattle.pairing.specs.Line.{text, printed}
 use Rattle.pairing.specs.Verdict.{Verdict, Refusal, TooLarge, Different, Checked, sameDealing, uAt, vAt, wAt, heldAt, heldOf, paired, verdict}
 use Rattle.pairing.proofs.Same.{same-refl, same-dealing}
 

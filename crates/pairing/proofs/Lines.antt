@@ -1,18 +1,18 @@
 -- A line's parts written one after the other are the line over the buffer's front. Assumes nothing.
 use mathlib.Core.Path.{_≡_, refl, sym, ap, ap₂, _∙_}
-use mathlib.Core.List.{List, [], _∷_, _++_, append-assoc}
-use Prim.Native.Nat.{ℕ, _+_, _^_, _≤_, _<_}
+use mathlib.Core.List.{List, _++_, append-assoc}
+use Prim.Native.Nat.{ℕ, _+_, _≤_, _<_}
 use native.Mathlib.Omega.{arith}
 use native.Mathlib.Nat.{zero-add}
-use lib.ListN.{length, take, drop, length-append}
+use lib.ListN.{length, drop, length-append}
 use lib.Seq.{sets, sets-eq, length-sets}
 use mir.Syntax.{w64}
 use mir.Val.{Fits}
 use Rattle.record.proofs.Writes.{after}
 use Rattle.pairing.specs.declared.Finding.{Finding}
 use Rattle.pairing.specs.declared.Finding.the-variants as finding
-use Rattle.pairing.specs.Line.{digits, decimal, refusedText, tooLargeText, differentText, checkedText, heldText, text}
-use Rattle.pairing.specs.Steps.{verdictOf, printed}
+use Rattle.pairing.specs.Line.{digits, decimal, refusedText, tooLargeText, differentText, checkedText, heldText, text, printed}
+use Rattle.pairing.specs.Steps.{verdictOf}
 use Rattle.pairing.specs.Verdict.{Verdict, Refusal, TooLarge, Different, Checked}
 use Rattle.pairing.proofs.Digits.{digits-most}
 

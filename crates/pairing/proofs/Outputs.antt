@@ -1,30 +1,24 @@
 -- Both ends' calls on two accepted records of one dealing: each is accepted, and the words that they leave hold where the
 -- definition does. Assumes nothing.
 use mathlib.Core.Path.{_≡_, refl, sym, ap, ap₂, _∙_}
-use mathlib.Core.Bool.{Bool, true, false}
 use mathlib.Core.List.{List, [], _∷_}
-use Prim.Native.Nat.{ℕ, zero, suc, _+_, _*_, _/_, _^_, _≤_, _<_, min}
+use Prim.Native.Nat.{ℕ, zero, suc, _+_, _*_, _≤_, _<_}
 use native.Mathlib.Omega.{arith}
 use native.Mathlib.Nat.{min-le-right, mul-le-mul-left, zero-add, mul-one}
-use lib.Dec.{ltb}
 use lib.ListN.{length, take, getD, replicate, length-take}
 use lib.Seq.{take-all}
 use borrow.Author.Tests.{le-ltb}
-use Rattle.algebra.specs.Choice.{choose}
-use Rattle.algebra.specs.Coding.{at, flat}
+use Rattle.algebra.specs.Coding.{at}
 use Rattle.algebra.specs.Field.{Scalar, Value}
 use Rattle.algebra.specs.Group.{Element}
 use Rattle.algebra.specs.Sum.{accumulate}
 use Rattle.algebra.proofs.Coding.{length-flat}
 use Rattle.algebra.proofs.Sum.{sum-element}
-use Rattle.algebra.proofs.Tests.{or-neither}
 use Rattle.answer.specs.declared.OneLength.{OneLength}
 use Rattle.answer.specs.declared.TwoLengths.{TwoLengths}
 use Rattle.field.proofs.BothKinds.{kindLaws}
 use Rattle.field.specs.Kind.{kindOf}
-use Rattle.number.specs.Reading.{Whole}
-use Rattle.record.specs.Content.{Head, NoisePart, ScalarPart}
-use Rattle.record.specs.Reading.{readNoise}
+use Rattle.record.specs.Content.{Head}
 use Rattle.record.proofs.Callers.{head-ranges}
 use Rattle.record.proofs.Parts.{noise-parts}
 use Rattle.rows.specs.Head.{fieldOf, places}
@@ -37,7 +31,7 @@ use Rattle.scalar_end.specs.Offline as scalarOffline
 use Rattle.scalar_end.specs.Online as scalarOnline
 use Rattle.scalar_end.specs.Vectors as scalarVectors
 use Rattle.pairing.specs.Steps.{Paired, counted, holds, holdsAt, heldWords}
-use Rattle.pairing.specs.Verdict.{Verdict, Checked, sameList, uAt, vAt, wAt, heldAt, heldOf, verdict}
+use Rattle.pairing.specs.Verdict.{Checked, sameList, uAt, vAt, wAt, heldAt, heldOf, verdict}
 use Rattle.pairing.proofs.Laws.{same-checked}
 use Rattle.pairing.proofs.Same.{same-dealing}
 

@@ -7,11 +7,11 @@ use Rattle.number.specs.Reading.{Whole}
 use Rattle.record.specs.Content.{NoisePart, ScalarPart}
 use Rattle.record.specs.Reading.{readNoise, readScalar}
 use Rattle.rows.specs.Head.{places}
-use Rattle.pairing.specs.Verdict.{Verdict, Checked, heldAt, verdict}
+use Rattle.pairing.specs.Verdict.{Checked, heldAt, verdict}
 use Rattle.pairing.specs.Line.{decimal, checkedText, heldText, text}
 
 -- one dealing, at most 1,024 leaves, and w = Δu + v at each of its outputs
-pub record Correlated (P : NoisePart) (Q : ScalarPart) : Type 0 where
+pub record CorrelatedParts (P : NoisePart) (Q : ScalarPart) : Type 0 where
   pub head : Q .head ≡ P .head
   pub small : places (P .head) ≤ 1024
   pub held : (x : ℕ) → x < P .head .outputs → heldAt P Q x ≡ true
@@ -24,4 +24,4 @@ pub record AllHeld (noise scalar : List ℕ) (n : ℕ) : Type 0 where
 -- the claim
 abbrev pub CorrelatedHeld : Type 0
 CorrelatedHeld = (noise scalar : List ℕ) (P : NoisePart) (Q : ScalarPart) → readNoise noise ≡ Whole P → readScalar scalar ≡ Whole Q
-    → Correlated P Q → AllHeld noise scalar (P .head .outputs)
+    → CorrelatedParts P Q → AllHeld noise scalar (P .head .outputs)

@@ -1,7 +1,8 @@
--- The line that the pair program prints, in bytes.
+-- The line that the pair program prints, in bytes (document 01, 'Cases').
 use mathlib.Core.List.{List, [], _∷_, _++_}
 use Prim.Native.Nat.{ℕ, zero, suc, _+_, _/_, _%_}
 use lib.Dec.{ltb}
+use lib.ListN.{length, drop}
 use Rattle.algebra.specs.Choice.{choose}
 use Rattle.pairing.specs.Verdict.{Verdict, Refusal, TooLarge, Different, Checked}
 
@@ -36,3 +37,7 @@ text (Refusal k) = refusedText ++ decimal k
 text TooLarge = tooLargeText
 text Different = differentText
 text (Checked n held) = checkedText ++ (decimal n ++ (heldText ++ decimal held))
+
+-- the buffer with the line over its front and the rest as it was, and the line's length
+unfoldable pub printed : Verdict → List ℕ → List ℕ × ℕ
+printed v out = (text v ++ drop (length (text v)) out, length (text v))

@@ -1,9 +1,8 @@
--- What the functions inside the call say: the verdict of a finding, the buffer with the line in it, and how many outputs hold.
+-- What the functions inside the call say: the verdict of a finding, two records that are checked, and how many outputs hold.
 use mathlib.Core.Path.{_≡_}
 use mathlib.Core.Bool.{Bool}
-use mathlib.Core.List.{List, _++_}
+use mathlib.Core.List.{List}
 use Prim.Native.Nat.{ℕ, zero, suc, _+_, _≤_}
-use lib.ListN.{length, drop}
 use Rattle.algebra.specs.Choice.{choose}
 use Rattle.algebra.specs.Coding.{at}
 use Rattle.algebra.specs.Field.{Field, Scalar, Value}
@@ -14,7 +13,6 @@ use Rattle.rows.specs.Head.{places}
 use Rattle.pairing.specs.declared.Finding.{Finding}
 use Rattle.pairing.specs.declared.Finding.the-variants as finding
 use Rattle.pairing.specs.Verdict.{Verdict, Refusal, TooLarge, Different, Checked, sameList}
-use Rattle.pairing.specs.Line.{text}
 
 -- what each case of a finding says
 abbrev pub verdictOf : Finding → Verdict
@@ -22,10 +20,6 @@ verdictOf (finding.Refused k) = Refusal k
 verdictOf finding.TooLarge = TooLarge
 verdictOf finding.Different = Different
 verdictOf (finding.Checked n held) = Checked n held
-
--- the buffer with the line over its front and the rest as it was, and the line's length
-unfoldable pub printed : Verdict → List ℕ → List ℕ × ℕ
-printed v out = (text v ++ drop (length (text v)) out, length (text v))
 
 -- two accepted records of one dealing of at most 1,024 leaves, of this field and this count of outputs
 pub record Paired (noise scalar : List ℕ) (field outputs : ℕ) : Type 0 where

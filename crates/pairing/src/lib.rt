@@ -1,6 +1,6 @@
 // The pair program's work: from the bytes of both records to the line that it prints.
 ghost use mathlib.Core.Path.{_≡_};
-ghost use Rattle.pairing.specs.Steps.{printed};
+ghost use Rattle.pairing.specs.Line.{printed};
 ghost use Rattle.pairing.specs.Verdict.{verdict};
 
 mod heads;

@@ -3,8 +3,6 @@ use borrow.Author.Needs.{needs}
 use Rattle.pairing.proofs.Turns.{low-differs, high-differs, block-same}
 use Rattle.pairing.proofs.held.block_holds.Statement.{statement}
 use Rattle.pairing.proofs.held.block_holds.Tie as tie
-use Rattle.field.proofs.block.Block.add.Reads as add-reads
-use Rattle.field.proofs.block.Block.scale.Reads as scale-reads
 
 pub block-holds-spec : {M : Type 1} → statement M
 block-holds-spec =

@@ -3,8 +3,6 @@ use borrow.Author.Needs.{needs}
 use Rattle.pairing.proofs.Turns.{word-differs, word-same}
 use Rattle.pairing.proofs.held.prime_holds.Statement.{statement}
 use Rattle.pairing.proofs.held.prime_holds.Tie as tie
-use Rattle.field.proofs.prime.Prime.add.Reads as add-reads
-use Rattle.field.proofs.prime.Prime.mul.Reads as mul-reads
 
 pub prime-holds-spec : {M : Type 1} → statement M
 prime-holds-spec =
