@@ -1,7 +1,6 @@
 -- FIPS 197's worked examples, computed by the definitions: A.1, B and C.1. Assumes nothing.
 use mathlib.Core.Path.{_≡_, refl}
-use mathlib.Core.List.{List, [], _∷_}
-use Prim.Native.Nat.{ℕ}
+use mathlib.Core.List.{[], _∷_}
 use lib.ListN.{getD}
 use Rattle.sbox.specs.Byte.{xtime, multiples, product, squares, inverse, fromBits, affine, sBox}
 use Rattle.aes128.specs.State.{xorWord, xorState}

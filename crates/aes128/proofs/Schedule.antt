@@ -1,6 +1,6 @@
 -- The key schedule's words follow FIPS 197's recurrence, and four of them at a time are `nextKey`. Assumes nothing.
-use mathlib.Core.Path.{_≡_, refl, _∙_, sym, ap}
-use mathlib.Core.List.{List, [], _∷_, _++_}
+use mathlib.Core.Path.{_≡_, _∙_, sym, ap}
+use mathlib.Core.List.{List, [], _∷_}
 use Prim.Native.Nat.{ℕ, zero, suc, _+_, _-_, _*_, _/_, _%_, _<_, _≤_}
 use native.Mathlib.Nat.{zero-add, suc-add}
 use native.Mathlib.Omega.{arith}
@@ -8,7 +8,7 @@ use borrow.Author.Tests.{ne-eqb}
 use lib.ListN.{length, getD, length-append, List·getD-append}
 use lib.Seq.{getD-at}
 use Rattle.sbox.specs.Byte.{xtime}
-use Rattle.aes128.specs.State.{four, column, xorWord}
+use Rattle.aes128.specs.State.{xorWord}
 use Rattle.aes128.specs.Cipher.{rotWord, subWord, power, temp, nextWord, words, keyOf, keysOf, keyExpansion}
 use Rattle.aes128.specs.Steps.{nextKey}
 use Rattle.aes128.proofs.Words.{is-four, four-eq}

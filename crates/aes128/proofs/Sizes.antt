@@ -1,9 +1,9 @@
 -- The results of the definitions are words and states: four columns of four bytes. Assumes nothing.
-use mathlib.Core.Path.{_≡_, refl, _∙_}
+use mathlib.Core.Path.{_≡_, refl}
 use mathlib.Core.Bool.{Bool, true, false}
 use mathlib.Core.List.{List, [], _∷_, _++_}
 use mathlib.Core.Logic.{⊎-elim}
-use Prim.Native.Nat.{ℕ, zero, suc, _+_, _-_, _*_, _/_, _%_, _<_, _≤_}
+use Prim.Native.Nat.{ℕ, zero, suc, _+_, _-_, _%_, _<_, _≤_}
 use native.Mathlib.Nat.{eq-or-lt-of-le}
 use native.Mathlib.Omega.{arith}
 use lib.Bits.{bitXor, xor-lt}
@@ -12,8 +12,8 @@ use lib.ListN.{length, getD, length-append, List·getD-append}
 use lib.Seq.{getD-at}
 use Rattle.sbox.specs.Byte.{sBox}
 use Rattle.sbox.proofs.Bounds.{xtime-lt, sbox-lt}
-use Rattle.aes128.specs.State.{four, column, xorWord, xorState, IsWord, IsState}
-use Rattle.aes128.specs.Cipher.{subBytes, shiftRows, roundKey, cipher, rotWord, subWord, power, pick, temp, nextWord, words, keyOf, keysOf, keyExpansion, aes}
+use Rattle.aes128.specs.State.{column, xorWord, xorState, IsWord, IsState}
+use Rattle.aes128.specs.Cipher.{subBytes, shiftRows, roundKey, cipher, power, pick, temp, words, keysOf, keyExpansion, aes}
 use Rattle.aes128.proofs.Schedule.{words-size}
 
 pub four-bytes : {a b x y : ℕ} → a < 256 → b < 256 → x < 256 → y < 256 → IsWord (a ∷ b ∷ x ∷ y ∷ [])

@@ -1,14 +1,14 @@
 -- Laws of four-byte words and of their numbers. Assumes nothing.
 use mathlib.Core.Path.{_≡_, refl, _∙_, sym, ap}
 use mathlib.Core.List.{List, [], _∷_}
-use Prim.Native.Nat.{ℕ, zero, suc, _+_, _*_, _/_, _%_, _^_, _<_}
+use Prim.Native.Nat.{ℕ, _+_, _*_, _/_, _%_, _^_, _<_}
 use native.Mathlib.Omega.{arith}
 use lib.Bits.{bitXor, xor-shr, xor-mod}
 use lib.ListN.{length, getD}
 use lib.Pow.{shr-shr}
-use Rattle.sbox.specs.Byte.{product, sBox}
+use Rattle.sbox.specs.Byte.{sBox}
 use Rattle.sbox.specs.Table.{bytesOf, mixed}
-use Rattle.aes128.specs.State.{four, column, xorWord, xorState}
+use Rattle.aes128.specs.State.{four, xorWord}
 use Rattle.aes128.specs.Cipher.{mixColumn}
 use Rattle.aes128.specs.Steps.{turned}
 

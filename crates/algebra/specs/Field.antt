@@ -1,6 +1,6 @@
 -- One of document 01's two fields ('Two fields'), as one parameter: the ring of noise values, the group of elements that it
 -- scales, and how both lie in words.
-use Rattle.algebra.specs.Group.{Group, Ring, Scaled, RingLaws, ScaledLaws}
+use Rattle.algebra.specs.Group.{Ring, Scaled, RingLaws, ScaledLaws}
 use Rattle.algebra.specs.Coding.{Coding, CodingLaws}
 
 pub record Field : Type 1 where

@@ -2,7 +2,7 @@
 use Prim.Native.Nat.{ℕ, _<_}
 use lib.Dec.{leb}
 use Rattle.algebra.specs.Choice.{choose}
-use Rattle.algebra.specs.Group.{Group, Element, Ring, Scaled}
+use Rattle.algebra.specs.Group.{Element, Ring, Scaled}
 use Rattle.algebra.specs.Sum.{sum}
 
 -- a row: how many terms it has, and the place and the coefficient of each

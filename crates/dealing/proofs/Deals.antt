@@ -1,11 +1,9 @@
 -- Each way out of `deal` gives what the definition says there, and what its steps ask. Assumes nothing.
 use mathlib.Core.Path.{_≡_, refl, sym, ap, ap₂, _∙_}
-use mathlib.Core.Bool.{Bool, true, false, _||_}
-use mathlib.Core.List.{List, [], _∷_, _++_}
-use Prim.Native.Nat.{ℕ, zero, suc, _+_, _*_, _^_, _≤_, _<_}
+use mathlib.Core.List.{List, [], _∷_}
+use Prim.Native.Nat.{ℕ, suc, _+_, _*_, _^_, _≤_, _<_}
 use native.Mathlib.Omega.{arith}
-use borrow.Author.Tests.{ne-eqb, eq-eqb, lt-ltb, le-ltb}
-use lib.Dec.{ltb}
+use borrow.Author.Tests.{ne-eqb, lt-ltb, le-ltb}
 use lib.ListN.{length, getD}
 use lib.Seq.{sets}
 use Rattle.field.specs.Bytes.{wordAt}
@@ -16,7 +14,7 @@ use Rattle.record.specs.Writing.{Writable, writeNoise, writeScalar, noiseLength
 use Rattle.dealing.specs.Admitted.{Admitted}
 use Rattle.dealing.specs.Deal.{Dealt, dealt, refusedDeal, deal, front}
 use Rattle.dealing.specs.Input.{Input, fault}
-use Rattle.dealing.specs.Parts.{noisePart, scalarPart}
+use Rattle.dealing.specs.Parts.{noisePart}
 use Rattle.dealing.specs.Steps.{Ready}
 use Rattle.dealing.specs.Vectors.{head}
 use Rattle.dealing.proofs.Faults.{fault-none}

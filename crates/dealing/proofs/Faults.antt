@@ -1,22 +1,21 @@
 -- A dealing has no fault exactly where document 01 admits its input.
-use mathlib.Core.Path.{_≡_, refl, sym, ap, _∙_}
-use mathlib.Core.Bool.{Bool, true, false, _&&_, _||_, not, true≢false}
+use mathlib.Core.Path.{_≡_, refl, sym}
+use mathlib.Core.Bool.{Bool, true, _&&_, _||_, not, true≢false}
 use mathlib.Core.List.{List, [], _∷_}
 use mathlib.Core.Logic.{_⊎_, inl, inr, ⊎-elim}
-use Prim.Native.Nat.{ℕ, zero, suc, _+_, _-_, _*_, _/_, _^_, _≤_, _<_, min}
+use Prim.Native.Nat.{ℕ, zero, suc, _+_, _-_, _*_, _^_, _≤_, _<_}
 use native.Mathlib.Omega.{arith}
 use native.Mathlib.Nat.{le-of-suc-le-suc, not-suc-le-zero}
-use borrow.Author.Tests.{ltb-true, leb-true, eqb-true, eqb-false, lt-ltb, le-leb, eq-eqb, ne-eqb}
+use borrow.Author.Tests.{ltb-true, leb-true, eqb-true, lt-ltb, le-leb, eq-eqb, ne-eqb}
 use lib.Dec.{leb, ltb, eqb}
 use lib.ListN.{length, getD}
 use Rattle.algebra.proofs.Tests.{and-left, and-right, and-both, or-cases, passed, passes}
-use Rattle.algebra.specs.Choice.{choose}
 use Rattle.field.specs.Bytes.{wordAt}
 use Rattle.field.specs.Prime.{modulus}
-use Rattle.record.specs.Admitted.{isField, isSize, mostTrees, mostOutputs, isNoise, isElement, isScalar}
+use Rattle.record.specs.Admitted.{isField, isSize, mostTrees, mostOutputs, isNoise, isScalar}
 use Rattle.record.specs.Content.{elementOf}
 use Rattle.dealing.specs.Admitted.{Admitted, DeltaAdmitted, NoiseAdmitted}
-use Rattle.dealing.specs.Input.{Input, sizesAdmitted, lengthsAdmitted, risingFrom, everyNoise, deltaWords, deltaAdmitted, fault}
+use Rattle.dealing.specs.Input.{Input, sizesAdmitted, lengthsAdmitted, risingFrom, everyNoise, deltaAdmitted, fault}
 
 -- ---- single tests
 

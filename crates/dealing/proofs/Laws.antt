@@ -1,21 +1,20 @@
 -- What an accepted dealing gives: admitted input, room in both buffers, and records that are the writings of both ends' parts
 -- and read as those parts.
-use mathlib.Core.Path.{_≡_, refl, sym, ap, _∙_}
-use mathlib.Core.Bool.{Bool, true, false, _||_}
-use mathlib.Core.List.{List, _++_}
-use Prim.Native.Nat.{ℕ, zero, suc, _≤_}
+use mathlib.Core.Path.{_≡_, refl, ap, _∙_}
+use mathlib.Core.Bool.{Bool, true, false}
+use mathlib.Core.List.{List}
+use Prim.Native.Nat.{ℕ, _≤_}
 use native.Mathlib.Omega.{arith}
 use borrow.Author.Tests.{ltb-false, le-ltb, eq-eqb, eqb-true, eqb-false}
 use lib.Dec.{ltb, eqb}
 use lib.ListN.{length, take}
 use lib.Seq.{take-append-seam}
-use Rattle.algebra.proofs.Tests.{or-none, or-neither}
 use Rattle.number.specs.Reading.{Whole}
 use Rattle.record.proofs.Laws.{noise-reads as record-noise, scalar-reads as record-scalar}
 use Rattle.record.specs.Reading.{readNoise, readScalar}
 use Rattle.record.specs.Writing.{writeNoise, writeScalar}
 use Rattle.dealing.specs.Admitted.{InMemory, Admitted}
-use Rattle.dealing.specs.Deal.{Dealt, deal, front, refusedDeal, writeBoth}
+use Rattle.dealing.specs.Deal.{Dealt, deal, front, writeBoth}
 use Rattle.dealing.specs.Input.{Input, fault}
 use Rattle.dealing.specs.Parts.{noisePart, scalarPart}
 use Rattle.dealing.proofs.Faults.{fault-none, admitted-none}

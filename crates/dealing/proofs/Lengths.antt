@@ -1,18 +1,17 @@
 -- The lengths of a dealing's records from its sizes and positions, and the roots as blocks of the input. Assumes nothing.
 use mathlib.Core.Path.{_≡_, refl, sym, ap, ap₂, _∙_}
-use mathlib.Core.List.{List, [], _∷_, _++_}
-use Prim.Native.Nat.{ℕ, zero, suc, _+_, _*_, _^_, _≤_, _<_}
+use mathlib.Core.List.{List, _∷_, _++_}
+use Prim.Native.Nat.{ℕ, zero, suc, _+_, _*_, _≤_, _<_}
 use native.Mathlib.Omega.{arith}
 use native.Mathlib.Numerals.{add-one}
-use lib.ListN.{length, getD, take, drop, length-append}
+use lib.ListN.{length, getD, take, length-append}
 use lib.Seq.{drop-cons}
 use Rattle.field.specs.Bytes.{wordAt}
 use Rattle.number.specs.Reading.{part}
 use Rattle.record.proofs.Writes.{length-head, length-element}
-use Rattle.record.specs.Admitted.{Rising}
 use Rattle.record.specs.Content.{NoiseTree}
 use Rattle.record.specs.Reading.{items, blockAt}
-use Rattle.record.specs.Writing.{flat, writeBlocks, writeHead, writeWords, writeTree, writeTrees, writeNoise, writeScalar, frontLength, treesLength, headLength, elementLength, noiseLength, scalarLength}
+use Rattle.record.specs.Writing.{flat, writeBlocks, writeHead, writeWords, writeTree, writeTrees, writeNoise, writeScalar, frontLength, treesLength, noiseLength, scalarLength}
 use Rattle.tree.proofs.Blocks.{length-block}
 use Rattle.tree.proofs.Listed.{listed-none, listed-front, listed-cong, listed-getD}
 use Rattle.tree.specs.Columns.{fourAt, columnsAt, columnBytes, blockBytes}

@@ -1,20 +1,20 @@
 -- Both ends' parts of an admitted dealing are contents that a record may hold.
-use mathlib.Core.Path.{_≡_, refl, sym, ap, ap₂, _∙_}
-use mathlib.Core.Bool.{Bool, true, false, _&&_, _||_}
-use mathlib.Core.List.{List, [], _∷_, _++_, map}
-use mathlib.Core.Logic.{_⊎_, inl, inr, ⊎-elim}
-use Prim.Native.Nat.{ℕ, zero, suc, _+_, _-_, _*_, _%_, _^_, _≤_, _<_}
+use mathlib.Core.Path.{_≡_, refl, ap, _∙_}
+use mathlib.Core.Bool.{Bool, true, false}
+use mathlib.Core.List.{List, [], _∷_, map}
+use mathlib.Core.Logic.{_⊎_, ⊎-elim}
+use Prim.Native.Nat.{ℕ, zero, suc, _+_, _-_, _*_, _%_, _≤_, _<_}
 use native.Mathlib.Nat.{mod-lt, lt-trans}
 use native.Mathlib.Omega.{arith}
 use borrow.Author.Tests.{lt-ltb, ltb-true, ltb-false}
 use lib.Bits.{xor-lt}
-use lib.Dec.{ltb, eqb, lit<}
+use lib.Dec.{ltb, lit<}
 use lib.ListN.{length, getD, List·getD-eq-default}
 use Rattle.algebra.proofs.Tests.{and-left}
 use Rattle.algebra.specs.Expansion.{correction}
-use Rattle.algebra.specs.Field.{Value, Scalar}
+use Rattle.algebra.specs.Field.{Scalar}
 use Rattle.field.proofs.ByteWords.{leNumber-below, lowOf-below, highOf-below}
-use Rattle.field.specs.Bytes.{eightAt, wordAt, lowOf, highOf}
+use Rattle.field.specs.Bytes.{eightAt, wordAt}
 use Rattle.field.specs.Binary.{block, blockScale}
 use Rattle.field.specs.declared.prime.Prime.{Prime}
 use Rattle.field.specs.Kind.{kindOf}
@@ -22,9 +22,8 @@ use Rattle.field.specs.Prime.{modulus, prime, primeSub, primeMul, primeLeaf}
 use Rattle.aes128.proofs.Sizes.{four-bytes, four-words}
 use Rattle.aes128.specs.State.{column, IsWord, IsState}
 use Rattle.number.specs.Reading.{Bytes}
-use Rattle.record.specs.Admitted.{isField, isNoise, isElement, isScalar, Each, Block, Word, AdmittedHead, AdmittedTree, AdmittedTrees, AdmittedNoise, AdmittedScalar}
+use Rattle.record.specs.Admitted.{isElement, Each, Block, Word, AdmittedHead, AdmittedTree, AdmittedTrees, AdmittedNoise, AdmittedScalar}
 use Rattle.record.specs.Content.{NoiseTree, elementWords, elementOf}
-use Rattle.tree.proofs.Blocks.{length-block}
 use Rattle.tree.proofs.ChildLaws.{leaf-state, siblings-states}
 use Rattle.tree.proofs.Laws as tree
 use Rattle.tree.proofs.Listed.{length-listed, listed-none, listed-front}
@@ -32,9 +31,9 @@ use Rattle.tree.specs.Child.{child}
 use Rattle.tree.specs.Columns.{fourAt, columnsAt, columnBytes, blockBytes}
 use Rattle.tree.specs.Tree.{listed, siblings, leafAt}
 use Rattle.dealing.specs.Admitted.{InMemory, Admitted}
-use Rattle.dealing.specs.Input.{Input, deltaWords, deltaAdmitted}
+use Rattle.dealing.specs.Input.{Input, deltaAdmitted}
 use Rattle.dealing.specs.Parts.{noiseTree, noisePart, scalarPart}
-use Rattle.dealing.specs.Vectors.{head, field, position, root, leaf, delta, value, treeCorrection}
+use Rattle.dealing.specs.Vectors.{head, field, position, root, leaf, delta, value}
 use Rattle.dealing.proofs.Faults.{size-is, field-is, noise-is, delta-is}
 
 -- ---- blocks

@@ -1,20 +1,19 @@
 -- Each way out of the tests of a dealing's input gives what the definition says there. Assumes nothing.
 use mathlib.Core.Path.{_≡_, refl, sym, ap, _∙_}
-use mathlib.Core.Bool.{Bool, true, false, _&&_, _||_, not}
-use mathlib.Core.List.{List, [], _∷_}
-use Prim.Native.Nat.{ℕ, zero, suc, _+_, _*_, _/_, _^_, _≤_, _<_, min}
+use mathlib.Core.Bool.{Bool, true, false, _&&_, not}
+use mathlib.Core.List.{List}
+use Prim.Native.Nat.{ℕ, _+_, _*_, _/_, _^_, _≤_, _<_, min}
 use native.Mathlib.Nat.{min-le-left}
 use native.Mathlib.Numerals.{add-one}
 use native.Mathlib.Omega.{arith}
-use borrow.Author.Tests.{ltb-true, leb-true, eqb-true, lt-ltb, le-ltb, le-leb, lt-leb, eq-eqb, ne-eqb}
+use borrow.Author.Tests.{leb-true, eqb-true, lt-ltb, le-ltb, le-leb, lt-leb, eq-eqb, ne-eqb}
 use lib.Dec.{leb, ltb, eqb}
 use lib.ListN.{length, getD, drop, drop-of-length-le}
 use lib.Seq.{drop-cons}
 use Rattle.algebra.proofs.Tests.{and-left, and-right}
 use Rattle.field.specs.Bytes.{wordAt}
 use Rattle.field.specs.Prime.{modulus}
-use Rattle.record.specs.Admitted.{isField, isSize, mostTrees, mostOutputs, isNoise, isScalar}
-use Rattle.record.specs.Content.{elementOf}
+use Rattle.record.specs.Admitted.{isField, isSize, mostTrees, mostOutputs, isNoise}
 use Rattle.dealing.specs.Input.{Input, sizesAdmitted, lengthsAdmitted, risingFrom, everyNoise, deltaAdmitted, fault}
 
 -- ---- numbers

@@ -2,15 +2,14 @@
 use mathlib.Core.Path.{_≡_, refl, sym, ap, ap₂, _∙_}
 use mathlib.Core.Bool.{Bool, true, false}
 use mathlib.Core.List.{List, [], _∷_, _++_, map, append-assoc, append-nil}
-use mathlib.Core.Logic.{_⊎_, inl, inr, ⊎-elim, _≢_}
 use Prim.Native.Nat.{ℕ, zero, suc, _+_, _-_, _*_, _^_, _≤_, _<_}
 use native.Mathlib.Nat.{add-zero, zero-add, le-of-eq, mul-comm}
 use native.Mathlib.Omega.{arith}
-use borrow.Author.Tests.{eq-eqb, ne-eqb}
+use borrow.Author.Tests.{ne-eqb}
 use lib.Dec.{eqb}
 use mir.Syntax.{w64}
 use mir.Val.{Fits}
-use lib.ListN.{length, getD, take, drop, set, length-append}
+use lib.ListN.{length, getD, drop, set, length-append}
 use lib.Seq.{sets, sets-eq, set-comm, length-sets}
 use Rattle.algebra.specs.Expansion.{correction}
 use Rattle.algebra.specs.Group.{itself}
@@ -22,7 +21,6 @@ use Rattle.field.specs.Kind.{kindOf}
 use Rattle.field.specs.Prime.{prime, primeSub, primeMul, primeRing, primeLeaf}
 use Rattle.field.specs.declared.block.Block.{Block}
 use Rattle.field.specs.declared.prime.Prime.{Prime}
-use Rattle.number.proofs.Places.{sets-append}
 use Rattle.number.proofs.Laws.{length-number}
 use Rattle.number.specs.Number.{writeNumber}
 use Rattle.number.specs.Reading.{choose}

@@ -1,6 +1,5 @@
 -- Which input a dealing admits (document 01, 'Sizes', 'Dealing'), apart from the numbers of the call.
 use mathlib.Core.Path.{_≡_}
-use mathlib.Core.List.{List}
 use mathlib.Core.Logic.{_⊎_}
 use Prim.Native.Nat.{ℕ, suc, _-_, _*_, _/_, _^_, _≤_, _<_}
 use lib.ListN.{length, getD}

@@ -1,6 +1,6 @@
 -- The dealing call (document 01, 'Dealing', 'Numbers of the calls'): from everything lent to everything that stands on
 -- return. The input slices are lent by `&`, so they stand as they were.
-use mathlib.Core.Bool.{Bool, _||_}
+use mathlib.Core.Bool.{_||_}
 use mathlib.Core.List.{List, _++_}
 use Prim.Native.Nat.{ℕ}
 use lib.Dec.{ltb, eqb}

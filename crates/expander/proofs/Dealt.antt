@@ -1,17 +1,15 @@
 -- The vectors that each end's part of a dealing gives are the dealing's own.
 use mathlib.Core.Path.{_≡_, refl, sym, ap, ap₂, _∙_}
-use mathlib.Core.List.{List, [], _∷_, _++_, map, append-nil}
-use Prim.Native.Nat.{ℕ, zero, suc, _+_, _*_, _^_, _<_}
+use mathlib.Core.List.{List, [], _∷_, map, append-nil}
+use Prim.Native.Nat.{ℕ, zero, suc, _^_, _<_}
 use native.Mathlib.Omega.{arith}
-use lib.ListN.{length, getD}
+use lib.ListN.{length}
 use Rattle.algebra.proofs.Same.{noise-same, punctured-same, whole-same}
 use Rattle.algebra.specs.Coding.{Coding, CodingLaws}
-use Rattle.algebra.specs.Field.{Scalar, Value}
 use Rattle.field.proofs.BothKinds.{kindLaws}
 use Rattle.field.specs.Kind.{KindLaws}
 use Rattle.aes128.specs.State.{column}
 use Rattle.aes128.specs.Cipher.{aes}
-use Rattle.record.specs.Content.{NoiseTree}
 use Rattle.rows.specs.Head.{kind}
 use Rattle.tree.proofs.Blocks.{Square, columns-of, xor-square}
 use Rattle.tree.proofs.Listed.{listed-at}

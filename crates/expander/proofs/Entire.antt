@@ -1,17 +1,15 @@
 -- The inhabitants of the statements about the seven calls together: records, demand 3 entire, and what is accepted.
-use mathlib.Core.Path.{_≡_, refl, ap, _∙_}
-use mathlib.Core.List.{List}
-use Prim.Native.Nat.{ℕ, _+_, _*_, _≤_, _<_}
+use mathlib.Core.Path.{_≡_, ap, _∙_}
+use Prim.Native.Nat.{_+_, _*_}
 use borrow.Author.Tests.{le-ltb}
 use lib.ListN.{length}
-use Rattle.algebra.proofs.Tests.{or-neither}
 use Rattle.dealing.proofs.Laws as dealing
 use Rattle.dealing.specs.Vectors.{field}
 use Rattle.noise_end.proofs.Laws as noiseLaws
 use Rattle.record.proofs.Laws as records
 use Rattle.scalar_end.proofs.Laws as scalarLaws
 use Rattle.expander.specs.Acceptance.{Acceptance}
-use Rattle.expander.specs.Correlation.{Setting, NoiseCall, noiseStep, noiseStart, ScalarCall, scalarStep, scalarStart, Claim, Outputs, Lists, Pads, Demand3}
+use Rattle.expander.specs.Correlation.{Setting, NoiseCall, noiseStep, noiseStart, ScalarCall, scalarStep, scalarStart, Outputs, Lists, Pads, Demand3}
 use Rattle.expander.specs.Records.{Records}
 use Rattle.expander.proofs.Lists.{claim, noise-number, scalar-number}
 use Rattle.expander.proofs.Outputs.{admitted-correlated}

@@ -2,16 +2,15 @@
 use mathlib.Core.Path.{_≡_, refl, sym, ap, ap₂, _∙_}
 use mathlib.Core.List.{List, [], _∷_}
 use mathlib.Core.Logic.{_⊎_, ⊎-elim}
-use Prim.Native.Nat.{ℕ, zero, suc, _+_, _*_, _^_, _<_}
+use Prim.Native.Nat.{ℕ, zero, suc, _+_, _^_, _<_}
 use native.Mathlib.Nat.{not-suc-le-zero, le-of-suc-le-suc}
 use native.Mathlib.Omega.{arith}
-use lib.ListN.{length, getD, take}
+use lib.ListN.{length, getD}
 use Rattle.algebra.proofs.Coding.{flat-cong}
 use Rattle.algebra.proofs.Matrix.{output-is-matrix}
 use Rattle.algebra.proofs.Same.{accumulate-same}
 use Rattle.algebra.proofs.Sum.{sum-element, itself-laws}
 use Rattle.algebra.specs.Coding.{at, flat}
-use Rattle.algebra.specs.Expansion.{Correlated}
 use Rattle.algebra.specs.Field.{Scalar, Value}
 use Rattle.algebra.specs.Group.{Element, itself}
 use Rattle.algebra.specs.Row.{output}
@@ -25,7 +24,6 @@ use Rattle.record.specs.Reading.{readNoise, readScalar}
 use Rattle.rows.proofs.Rows.{row-within}
 use Rattle.rows.specs.Head.{places, row}
 use Rattle.dealing.specs.Admitted.{Admitted}
-use Rattle.dealing.specs.Input.{Input}
 use Rattle.dealing.specs.Parts.{noisePart, scalarPart}
 use Rattle.dealing.specs.Vectors as dealt
 use Rattle.dealing.specs.Vectors.{head, field, mu, v0, w0}

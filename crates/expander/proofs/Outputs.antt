@@ -1,8 +1,7 @@
 -- w = Δu + v at each output of an admitted dealing, from the one argument over any ring and any group that it scales.
-use mathlib.Core.Path.{_≡_, refl, sym, ap, _∙_}
-use mathlib.Core.Bool.{true}
+use mathlib.Core.Path.{_≡_, refl}
 use mathlib.Core.List.{List}
-use mathlib.Core.Logic.{_⊎_, inl, inr, ⊎-elim}
+use mathlib.Core.Logic.{_⊎_, ⊎-elim}
 use Prim.Native.Nat.{ℕ, zero, suc, _<_}
 use native.Mathlib.Omega.{arith}
 use borrow.Author.Tests.{lt-ltb}
@@ -16,10 +15,10 @@ use Rattle.field.specs.Kind.{kindOf}
 use Rattle.field.specs.Prime.{modulus}
 use Rattle.record.specs.Content.{elementOf}
 use Rattle.rows.proofs.Rows.{row-within}
-use Rattle.rows.specs.Head.{kind, places, row}
+use Rattle.rows.specs.Head.{places, row}
 use Rattle.tree.specs.Child.{child}
 use Rattle.tree.specs.Tree.{leafAt}
-use Rattle.dealing.specs.Admitted.{Admitted, NoiseAdmitted, DeltaAdmitted}
+use Rattle.dealing.specs.Admitted.{Admitted, NoiseAdmitted}
 use Rattle.dealing.specs.Input.{Input}
 use Rattle.dealing.specs.Vectors.{head, field, position, value, root, leaf, delta, treeCorrection, mu, v0, w0, u, v, w}
 

@@ -1,7 +1,7 @@
 -- The pair program finds every output of a dealing's own records held.
 use mathlib.Core.Path.{_≡_, refl, sym, ap, ap₂, _∙_}
 use mathlib.Core.Bool.{true}
-use Prim.Native.Nat.{ℕ, _<_, _≤_, _^_}
+use Prim.Native.Nat.{ℕ}
 use Rattle.algebra.proofs.Matrix.{output-is-matrix}
 use Rattle.algebra.proofs.Same.{accumulate-same, output-same}
 use Rattle.algebra.proofs.Sum.{itself-laws}

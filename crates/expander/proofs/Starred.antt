@@ -1,6 +1,5 @@
 -- The starred cases hold, by computation.
 use mathlib.Core.Path.{refl}
-use lib.ListN.{replicate}
 use Rattle.algebra.specs.Coding.{flat}
 use Rattle.algebra.specs.Expansion.{noise, correction}
 use Rattle.algebra.specs.Sum.{sum, accumulate}

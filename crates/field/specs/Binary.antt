@@ -1,6 +1,6 @@
 -- Field 1, binary (document 01, 'Two fields'): noise values 0 and 1, elements 16-byte blocks as two LE words, addition
 -- exclusive or.
-use mathlib.Core.Bool.{Bool, true}
+use mathlib.Core.Bool.{true}
 use mathlib.Core.List.{List}
 use Prim.Native.Nat.{ℕ, zero, suc, _+_, _*_, _%_}
 use lib.Bits.{bitXor}

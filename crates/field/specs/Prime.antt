@@ -1,9 +1,8 @@
 -- Field 2, prime (document 01, 'Two fields'): noise and elements are words below p = 2^61 − 1, arithmetic is modulo p.
-use mathlib.Core.Bool.{Bool}
 use mathlib.Core.List.{List}
 use Prim.Native.Nat.{ℕ, _+_, _-_, _*_, _%_}
 use lib.Dec.{ltb}
-use Rattle.algebra.specs.Group.{Group, Ring, itself}
+use Rattle.algebra.specs.Group.{Ring, itself}
 use Rattle.algebra.specs.Field.{Field}
 use Rattle.field.specs.declared.prime.Prime.{Prime}
 use Rattle.field.specs.Bytes.{lowOf}

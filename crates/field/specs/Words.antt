@@ -1,5 +1,5 @@
 -- The coding of a value in one word and in two (document 01, 'Offline and online').
-use mathlib.Core.List.{List, [], _∷_}
+use mathlib.Core.List.{[], _∷_}
 use Prim.Native.Nat.{ℕ, _+_}
 use lib.ListN.{getD}
 use Rattle.algebra.specs.Coding.{Coding}

@@ -11,7 +11,7 @@ use borrow.Author.Tests.{eqb-true, eqb-false}
 use Rattle.algebra.specs.Choice.{choose}
 use Rattle.algebra.specs.Coding.{Coding, CodingLaws, at, flat, put}
 use Rattle.algebra.specs.Group.{Group}
-use Rattle.algebra.specs.Sum.{sum, accumulate}
+use Rattle.algebra.specs.Sum.{accumulate}
 use Rattle.algebra.proofs.Coding.{flat-cong, length-flat, at-flat, ext-at, length-put, at-put-same, at-put-other}
 use Rattle.algebra.proofs.Sum.{sum-cong}
 

@@ -1,5 +1,4 @@
 -- The field, N, and the rows of the code, from a record's head (document 01, 'Sizes', 'Offline and online').
-use mathlib.Core.List.{List}
 use Prim.Native.Nat.{ℕ, _^_}
 use Rattle.algebra.specs.Field.{Field}
 use Rattle.algebra.specs.Row.{Row}

@@ -1,10 +1,9 @@
 -- The results of the byte arithmetic are bytes. Assumes nothing.
-use mathlib.Core.Path.{_≡_}
 use Prim.Native.Nat.{ℕ, zero, suc, _+_, _*_, _/_, _%_, _^_, _<_}
 use native.Mathlib.Nat.{add-comm, mul-comm, pow-suc, mod-lt}
 use native.Mathlib.Omega.{arith}
 use lib.Arith.{digits-lt}
-use lib.Bits.{bitXor, xor-lt}
+use lib.Bits.{xor-lt}
 use lib.Dec.{lit<}
 use Rattle.sbox.specs.Byte.{xtime, affineBit, bit, fromBits, affine, inverse, sBox}
 

@@ -1,12 +1,12 @@
 -- The tables' rules, each from one computed test over its 256 entries. Assumes nothing.
-use mathlib.Core.Path.{_≡_, ap, ap₂}
+use mathlib.Core.Path.{_≡_}
 use mathlib.Core.Bool.{Bool}
 use mathlib.Core.List.{List, [], _∷_}
 use Prim.Native.Nat.{ℕ, _/_, _%_, _^_}
 use lib.Dec.{T, eqb, eqb→eq}
 use lib.ListN.{getD}
 use Rattle.sbox.specs.Byte.{product, sBox}
-use Rattle.sbox.specs.Table.{SBoxTable, MixTable, bytesOf, mixed}
+use Rattle.sbox.specs.Table.{SBoxTable, MixTable, bytesOf}
 use Rattle.sbox.proofs.Every.{both, both-left, both-right, passes, at}
 
 abbrev pub isSub : ℕ → ℕ → Bool

@@ -1,6 +1,6 @@
 -- The scalar end's offline call (document 01, 'Offline and online', 'Numbers of the calls': the record, then 13): from
 -- everything lent to everything that stands on return.
-use mathlib.Core.Bool.{Bool, _||_}
+use mathlib.Core.Bool.{_||_}
 use mathlib.Core.List.{List, _++_}
 use Prim.Native.Nat.{ℕ, _*_}
 use lib.Dec.{ltb}

@@ -3,7 +3,6 @@
 use mathlib.Core.Path.{_≡_}
 use mathlib.Core.List.{List}
 use Prim.Native.Nat.{ℕ, _-_, _≤_}
-use native.Mathlib.Omega.{arith}
 use borrow.Author.Needs.{needs}
 use Rattle.aes128.specs.Cipher.{rounds}
 use Rattle.aes128.proofs.Rounds.{rounds-none, rounds-more, rounds-all}

@@ -1,9 +1,6 @@
 -- `aes128::encrypt_xor` meets its contract. Assumes nothing.
-use mathlib.Core.Path.{_∙_, ap}
-use mathlib.Core.List.{List}
-use Prim.Native.Nat.{ℕ}
+use mathlib.Core.Path.{_∙_}
 use borrow.Author.Needs.{needs}
-use Rattle.aes128.specs.State.{xorState}
 use Rattle.aes128.proofs.encrypt_xor.Statement.{statement}
 use Rattle.aes128.proofs.encrypt_xor.Tie as tie
 

@@ -1,7 +1,7 @@
 -- `code::accumulation::accumulate_blocks` meets its contract. The loop's invariant: the values before `i` are
 -- accumulated; the measure is what is left. Assumes nothing.
 use Prim.Native.Nat.{_≤_, _-_}
-use lib.ListN.{length, length-set}
+use lib.ListN.{length-set}
 use native.Mathlib.Omega.{arith}
 use borrow.Author.Needs.{needs}
 use Rattle.field.specs.Binary.{binary, blockGroup}

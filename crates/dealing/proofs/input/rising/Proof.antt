@@ -1,6 +1,6 @@
 -- `dealing::input::rising` meets its contract. The loop's invariant: what is left of the positions decides; the measure is what is left of them. Assumes nothing.
 use mathlib.Core.Path.{refl}
-use Prim.Native.Nat.{_≤_, _-_}
+use Prim.Native.Nat.{_-_}
 use lib.ListN.{length}
 use borrow.Author.Needs.{needs}
 use Rattle.dealing.proofs.Tests.{Left, rising-low, rising-high, rising-next, rising-done}
