@@ -57,10 +57,6 @@ module _ {R : Ring} (S : Scaled R) (row : Row R) (f : ℕ → S .group .Of) wher
 word-at : (l : List ℕ) {j k : ℕ} → j ≡ k → getD l j 0 ≡ getD l (k * 1) 0
 word-at l {j} {k} e = ap (λ (n : ℕ). getD l n 0) (e ∙ sym (mul-one k))
 
--- a total with one term more
-pub term-added : (t c e : Prime) {m r : Prime} → m ≡ primeMul c e → r ≡ primeAdd t m → r ≡ primeAdd t (primeMul c e)
-term-added t c e p q = q ∙ ap (primeAdd t) p
-
 module _ (keys : List (List (List ℕ))) (N ℓ x : ℕ) (words : List ℕ) where
   -- the sums of u, and of v or w, in field 1 and in field 2
   unfoldable pub bitsSum : ℕ → ℕ
@@ -80,9 +76,9 @@ module _ (keys : List (List (List ℕ))) (N ℓ x : ℕ) (words : List ℕ) wher
   unfolding blocksSum
   blocks-none e = e ∙ terms-none blocks (binaryRow keys N ℓ x) (at (binary .elements) words)
 
-  pub primes-none : {a : Prime} → a ≡ primeZero → a ≡ primesSum 0
-  unfolding primesSum
-  primes-none e = e ∙ terms-none (itself primeRing) (primeRow keys N ℓ x) (at (primes .elements) words)
+  pub primes-none : primeReduce 0 ≡ primesSum 0
+  unfolding primesSum primeReduce
+  primes-none = terms-none (itself primeRing) (primeRow keys N ℓ x) (at (primes .elements) words)
 
   module _ (i : ℕ) where
     pub bits-done : {a : ℕ} → a ≡ bitsSum i → i ≤ ℓ → ℓ ≤ i → a ≡ output (itself bitRing) (binaryRow keys N ℓ x) (at (binary .scalars) words)
@@ -93,9 +89,10 @@ module _ (keys : List (List (List ℕ))) (N ℓ x : ℕ) (words : List ℕ) wher
     unfolding rowOf blocksSum
     blocks-done = terms-done blocks (binaryRow keys N ℓ x) (at (binary .elements) words) i
 
-    pub primes-done : {a : Prime} → a ≡ primesSum i → i ≤ ℓ → ℓ ≤ i → a ≡ output (itself primeRing) (primeRow keys N ℓ x) (at (primes .elements) words)
+    pub primes-done : (a : ℕ) {r : Prime} → primeReduce a ≡ primesSum i → i ≤ ℓ → ℓ ≤ i → r ≡ primeReduce a
+        → r ≡ output (itself primeRing) (primeRow keys N ℓ x) (at (primes .elements) words)
     unfolding rowOf primesSum
-    primes-done = terms-done (itself primeRing) (primeRow keys N ℓ x) (at (primes .elements) words) i
+    primes-done a e h k p = p ∙ terms-done (itself primeRing) (primeRow keys N ℓ x) (at (primes .elements) words) i e h k
 
     module _ {j : ℕ} (named : (m : ℕ) → j ≡ termPlace keys N m x i) where
       pub bits-more : {u next : ℕ} → u ≡ bitsSum i → next ≡ bitAdd u (getD words j 0) → next ≡ bitsSum (i + 1)
@@ -111,10 +108,10 @@ module _ (keys : List (List (List ℕ))) (N ℓ x : ℕ) (words : List ℕ) wher
           terms-more blocks (binaryRow keys N ℓ x) (at (binary .elements) words) i e
           (p ∙ ap (at (binary .elements) words) (named ℓ)) q
 
-      pub primes-more : {a c next : Prime} {word : ℕ} → a ≡ primesSum i → word ≡ highOf (termBlock keys x i) → c ≡ primeReduce word
-          → next ≡ primeAdd a (primeMul c (prime (getD words j 0))) → next ≡ primesSum (i + 1)
+      pub primes-more : (a next word : ℕ) → primeReduce a ≡ primesSum i → word ≡ highOf (termBlock keys x i)
+          → primeReduce next ≡ primeAdd (primeReduce a) (primeMul (primeReduce word) (prime (getD words j 0)))
+          → primeReduce next ≡ primesSum (i + 1)
       unfolding rowOf primesSum
-      primes-more e p r q =
+      primes-more a next word e p q =
           terms-more (itself primeRing) (primeRow keys N ℓ x) (at (primes .elements) words) i e
-          (ap₂ primeMul (r ∙ ap primeReduce p)
-          (ap prime (word-at words (named ℓ)))) q
+          (ap₂ primeMul (ap primeReduce p) (ap prime (word-at words (named ℓ)))) q

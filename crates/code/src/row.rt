@@ -1,4 +1,5 @@
-// A row's terms and a row's output: the sum of coefficient × accumulated value; repeated places count each time.
+// A row's terms and a row's output: the sum of coefficient × accumulated value; repeated places count each time. In field 2 the
+// sums of a row are folded term by term and reduced at its end.
 ghost use mathlib.Core.Path.{_≡_};
 ghost use Prim.Native.Nat.{ℕ, _+_, _*_, _<_};
 ghost use lib.ListN.{length};
@@ -70,13 +71,6 @@ fn block_at(v: &[u64], j: usize) -> Block
     }
 }
 
-// The total of field 2 with coefficient × the element of a word added.
-fn add_term(total: Prime, coefficient: Prime, word: u64) -> Prime
-    ensures { λ r. ⌜ r ≡ primeAdd total (primeMul coefficient (prime word)) ⌝ }
-{
-    total.add(coefficient.mul(Prime { word: word }))
-}
-
 // Row x of u and v in field 1.
 pub fn noise_row_binary(
     sbox: &[u8; 256],
@@ -123,20 +117,20 @@ pub fn noise_row_prime(
     ensures { λ r. ⌜ (r .u ≡ output (itself primeRing) (primeRow (now (keys .entry)) size terms x) (at (primes .scalars) (now (noise .entry))))
         × (r .v ≡ output (itself primeRing) (primeRow (now (keys .entry)) size terms x) (at (primes .elements) (now (v .entry)))) ⌝ }
 {
-    let mut u = Prime::zero();
-    let mut total = Prime::zero();
+    let mut u: u64 = 0;
+    let mut total: u64 = 0;
     let mut i: usize = 0;
     while i < terms {
         let t = row_term(sbox, mix, keys, size, x, i);
         let j = t.place;
-        let coefficient = Prime::reduce(t.word);
-        let next_u = add_term(u, coefficient, noise[j]);
-        u = next_u;
-        let next = add_term(total, coefficient, v[j]);
-        total = next;
+        u = Prime::add_product(u, t.word, noise[j]);
+        total = Prime::add_product(total, t.word, v[j]);
         i += 1;
     }
-    PrimePair { u: u, v: total }
+    PrimePair {
+        u: Prime::reduce(u),
+        v: Prime::reduce(total),
+    }
 }
 
 // Row x of w in field 1.
@@ -179,15 +173,13 @@ pub fn scalar_row_prime(
     requires { ⌜ (0 < size) × (length (now w) ≡ size) ⌝ }
     ensures { λ r. ⌜ r ≡ output (itself primeRing) (primeRow (now (keys .entry)) size terms x) (at (primes .elements) (now (w .entry))) ⌝ }
 {
-    let mut total = Prime::zero();
+    let mut total: u64 = 0;
     let mut i: usize = 0;
     while i < terms {
         let t = row_term(sbox, mix, keys, size, x, i);
         let j = t.place;
-        let coefficient = Prime::reduce(t.word);
-        let next = add_term(total, coefficient, w[j]);
-        total = next;
+        total = Prime::add_product(total, t.word, w[j]);
         i += 1;
     }
-    total
+    Prime::reduce(total)
 }

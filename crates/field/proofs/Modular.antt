@@ -1,6 +1,6 @@
 -- Arithmetic modulo p = 2^61 − 1: folding a word keeps its class, sums and products may be reduced first, and the product of
 -- two numbers from their halves of 31 bits.
-use mathlib.Core.Path.{_≡_, sym, ap, _∙_}
+use mathlib.Core.Path.{_≡_, sym, ap, ap₂, _∙_}
 use Prim.Native.Nat.{ℕ, _+_, _-_, _*_, _/_, _%_, _<_, _≤_}
 use native.Mathlib.Nat.{mod-eq-of-lt, mod-eq-sub-mod, mod-add-mod, add-mod-mod, add-mod, div-add-mod', mul-add-mod-self-right, mul-comm, mul-le-mul, add-assoc, mul-assoc, mul-add}
 use native.Mathlib.Omega.{arith}
@@ -69,11 +69,31 @@ pub reduced-word : (x : ℕ) (t : Prime) → t ≡ primeReduce x → t .word < m
 unfolding primeReduce
 reduced-word x t e = rw e (omega arith)
 
-pub multiplied : (a b : Prime) (x y : Prime) (z : ℕ) (r : Prime) → x ≡ primeReduce (a .word) → y ≡ primeReduce (b .word) → z % modulus ≡ (x .word * y .word) % modulus → r ≡ primeReduce z → r ≡ primeMul a b
+-- a folded word is at most p + 7
+pub folded-most : (x f : ℕ) → f ≡ folded x → x < 18446744073709551616 → f ≤ modulus + 7
+folded-most x f e w = omega arith
+
+-- a product of folded factors
+folded-product : (x y f g : ℕ) → f ≡ folded x → g ≡ folded y → (f * g) % modulus ≡ (x * y) % modulus
+folded-product x y f g e₁ e₂ =
+    let p : f % modulus ≡ x % modulus = rw e₁ (fold-mod x) in
+    let q : g % modulus ≡ y % modulus = rw e₂ (fold-mod y) in
+    sym (mod-mul-mod f g modulus) ∙ ap (λ (k : ℕ). (k * g) % modulus) p ∙ mod-mul-mod x g modulus
+    ∙ sym (mul-mod-mod x g modulus) ∙ ap (λ (k : ℕ). (x * k) % modulus) q ∙ mul-mod-mod x y modulus
+
+pub multiplied : (a b : Prime) (f g z : ℕ) (r : Prime) → f ≡ folded (a .word) → g ≡ folded (b .word) → z % modulus ≡ (f * g) % modulus → r ≡ primeReduce z → r ≡ primeMul a b
 unfolding primeReduce primeMul
-multiplied a b x y z r e₁ e₂ p e =
-    let q : (x .word * y .word) % modulus ≡ (a .word % modulus * (b .word % modulus)) % modulus = rw (e₁, e₂) in
-    e ∙ ap prime (p ∙ q ∙ mul-mod-mod (a .word % modulus) (b .word) modulus ∙ mod-mul-mod (a .word) (b .word) modulus)
+multiplied a b f g z r e₁ e₂ p e = e ∙ ap prime (p ∙ folded-product (a .word) (b .word) f g e₁ e₂)
+
+-- what `add_product` returns
+pub product-added : (t a b f g h z k : ℕ) → f ≡ folded t → g ≡ folded a → h ≡ folded b → z % modulus ≡ (g * h) % modulus → k ≡ folded z
+    → primeReduce (f + k) ≡ primeAdd (primeReduce t) (primeMul (primeReduce a) (prime b))
+unfolding primeReduce primeAdd primeMul
+product-added t a b f g h z k e₁ e₂ e₃ p e =
+    let x : f % modulus ≡ t % modulus = rw e₁ (fold-mod t) in
+    let y : k % modulus ≡ (a % modulus * b) % modulus =
+    rw e (fold-mod z) ∙ p ∙ folded-product a b g h e₂ e₃ ∙ sym (mod-mul-mod a b modulus) in
+    ap prime (add-mod f k modulus ∙ ap₂ (λ (i j : ℕ). (i + j) % modulus) x y)
 
 -- the product from halves of 31 bits: 2^62 is 2 and 2^61 is 1 modulo p
 halves : (a₁ a₀ b₁ b₀ m₁ m₀ : ℕ) → m₁ * 1073741824 + m₀ ≡ a₁ * b₀ + a₀ * b₁
@@ -102,15 +122,15 @@ product-mod a b =
 
 -- no step of the product passes a word
 pub record Within (a b : ℕ) : Type 0 where
-  pub high-low : a / 2147483648 * (b % 2147483648) ≤ 1073741823 * 2147483647
-  pub low-high : a % 2147483648 * (b / 2147483648) ≤ 2147483647 * 1073741823
-  pub high-high : a / 2147483648 * (b / 2147483648) ≤ 1073741823 * 1073741823
+  pub high-low : a / 2147483648 * (b % 2147483648) ≤ 1073741824 * 2147483647
+  pub low-high : a % 2147483648 * (b / 2147483648) ≤ 2147483647 * 1073741824
+  pub high-high : a / 2147483648 * (b / 2147483648) ≤ 1073741824 * 1073741824
   pub low-low : a % 2147483648 * (b % 2147483648) ≤ 2147483647 * 2147483647
 
-pub within : (a b : ℕ) → a < modulus → b < modulus → Within a b
+pub within : (a b : ℕ) → a ≤ modulus + 7 → b ≤ modulus + 7 → Within a b
 within a b h k =
-    let a₁ : a / 2147483648 ≤ 1073741823 = omega arith in
+    let a₁ : a / 2147483648 ≤ 1073741824 = omega arith in
     let a₀ : a % 2147483648 ≤ 2147483647 = omega arith in
-    let b₁ : b / 2147483648 ≤ 1073741823 = omega arith in
+    let b₁ : b / 2147483648 ≤ 1073741824 = omega arith in
     let b₀ : b % 2147483648 ≤ 2147483647 = omega arith in
     record { high-low = mul-le-mul a₁ b₀; low-high = mul-le-mul a₀ b₁; high-high = mul-le-mul a₁ b₁; low-low = mul-le-mul a₀ b₀ }

@@ -69,13 +69,18 @@ impl Prime {
         Prime::reduce(fold(self.word) + (Prime::MODULUS - taken.word))
     }
 
-    // The product modulo p, from halves of 31 bits: 2^62 is 2 and 2^61 is 1 modulo p.
+    // The product modulo p.
     pub fn mul(self, other: Prime) -> Prime
         ensures { λ r. ⌜ r ≡ primeMul self other ⌝ }
     {
-        let a = Prime::reduce(self.word);
-        let b = Prime::reduce(other.word);
-        Prime::reduce(product(a.word, b.word))
+        Prime::reduce(product(fold(self.word), fold(other.word)))
+    }
+
+    // A word whose reduction is total + a × b. It is folded and not reduced, so that a sum of products is reduced once, at its end.
+    pub fn add_product(total: u64, a: u64, b: u64) -> u64
+        ensures { λ r. ⌜ primeReduce r ≡ primeAdd (primeReduce total) (primeMul (primeReduce a) (prime b)) ⌝ }
+    {
+        fold(total) + fold(product(fold(a), fold(b)))
     }
 
     // The element of a leaf: its first eight bytes modulo p.
@@ -93,9 +98,9 @@ fn fold(word: u64) -> u64
     word / 2305843009213693952 + word % 2305843009213693952
 }
 
-// A word that equals a × b modulo p.
+// A word that equals a × b modulo p, for folded a and b, from halves of 31 bits: 2^62 is 2 and 2^61 is 1 modulo p.
 fn product(a: u64, b: u64) -> u64
-    requires { ⌜ (a < modulus) × (b < modulus) ⌝ }
+    requires { ⌜ (a ≤ modulus + 7) × (b ≤ modulus + 7) ⌝ }
     ensures { λ r. ⌜ r % modulus ≡ (a * b) % modulus ⌝ }
 {
     let a1 = a / 2147483648;

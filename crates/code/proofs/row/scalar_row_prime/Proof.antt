@@ -3,12 +3,13 @@
 use mathlib.Core.Path.{_≡_}
 use Prim.Native.Nat.{_≤_, _-_}
 use borrow.Author.Needs.{needs}
+use Rattle.field.specs.Prime.{primeReduce}
 use Rattle.code.proofs.Terms.{primesSum, primes-none, primes-more, primes-done}
 use Rattle.code.proofs.row.scalar_row_prime.Statement.{statement}
 use Rattle.code.proofs.row.scalar_row_prime.Tie as tie
 
 abbrev Inv-loop : tie.InvT-loop
-Inv-loop sbox mix keys size terms x w total₀ i₀ total i = (i ≤ terms) × (total ≡ primesSum keys size terms x w i)
+Inv-loop sbox mix keys size terms x w total₀ i₀ total i = (i ≤ terms) × (primeReduce total ≡ primesSum keys size terms x w i)
 
 abbrev μ-loop : tie.MeasureT-loop
 μ-loop sbox mix keys size terms x w total₀ i₀ total i = terms - i
@@ -19,15 +20,14 @@ scalar-row-prime-spec =
     (tie.spec
     Inv-loop
     μ-loop
-    (λ c κs. search needs)  -- zero-requires
     (λ c. search (needs, primes-none))  -- loop-holds
     (λ c κs. search needs)  -- row-term-requires
-    (λ c κs. search needs)  -- reduce-requires
-    (λ c. search needs)  -- mul-add-term
-    (λ c. search needs)  -- shared-slice-read-add-term
-    (λ c κs. search needs)  -- add-term-requires
+    (λ c. search needs)  -- mul-add-product
+    (λ c. search needs)  -- shared-slice-read-add-product
+    (λ c κs. search needs)  -- add-product-requires
     (λ c. search needs)  -- add-i
     (λ c. search needs)  -- loop-less
     (λ c. search (needs, primes-more))  -- loop-again
+    (λ c κs. search needs)  -- reduce-requires
     (λ c. search primes-done)  -- returns
     )
