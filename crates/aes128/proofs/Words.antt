@@ -7,11 +7,10 @@ use lib.Bits.{bitXor, xor-shr, xor-mod}
 use lib.ListN.{length, getD}
 use lib.Pow.{shr-shr}
 use Rattle.sbox.specs.Byte.{sBox}
-use Rattle.sbox.specs.Table.{bytesOf, MixTable}
+use Rattle.sbox.specs.Table.{bytesOf, mixed}
 use Rattle.aes128.specs.State.{four, xorWord}
 use Rattle.aes128.specs.Cipher.{mixColumn}
-use Rattle.aes128.specs.declared.Columns.{Columns}
-use Rattle.aes128.specs.Steps.{turned, stateOf}
+use Rattle.aes128.specs.Steps.{turned}
 
 module _ {A : Type 0} where
   -- a list of four is its four entries
@@ -55,19 +54,13 @@ bytes-turned w h =
     = omega (arith, shr-shr w 8 8, shr-shr w 16 8) in
     ap bytesOf e ∙ bytes-packed _ _ _ _ (omega arith) (omega arith) (omega arith) (omega arith)
 
--- a column of MixColumns and AddRoundKey, from the joined table's entries at four bytes
-pub mixed-column : (t : List ℕ) (a b x y ub ux vx uy vy wy p : ℕ) {k : List ℕ} → MixTable t → a < 256 → b < 256 → x < 256 → y < 256
-    → bytesOf ub ≡ turned (bytesOf (getD t b 0))
-    → bytesOf ux ≡ turned (bytesOf (getD t x 0)) → bytesOf vx ≡ turned (bytesOf ux)
-    → bytesOf uy ≡ turned (bytesOf (getD t y 0)) → bytesOf vy ≡ turned (bytesOf uy) → bytesOf wy ≡ turned (bytesOf vy)
-    → bytesOf p ≡ k
-    → bytesOf (bitXor (bitXor (bitXor (bitXor (getD t a 0) ub) vx) wy) p) ≡ xorWord (mixColumn (sBox a ∷ sBox b ∷ sBox x ∷ sBox y ∷ [])) k
+-- a column of MixColumns and AddRoundKey, from the joined table's words at four bytes
+pub mixed-column : (a b x y ta tb tx ty ub ux vx uy vy wy p : ℕ) {k r : List ℕ}
+    → bytesOf ta ≡ mixed a → bytesOf tb ≡ mixed b → bytesOf tx ≡ mixed x → bytesOf ty ≡ mixed y
+    → bytesOf ub ≡ turned (bytesOf tb)
+    → bytesOf ux ≡ turned (bytesOf tx) → bytesOf vx ≡ turned (bytesOf ux)
+    → bytesOf uy ≡ turned (bytesOf ty) → bytesOf vy ≡ turned (bytesOf uy) → bytesOf wy ≡ turned (bytesOf vy)
+    → bytesOf p ≡ k → r ≡ bytesOf (bitXor (bitXor (bitXor (bitXor ta ub) vx) wy) p)
+    → r ≡ xorWord (mixColumn (sBox a ∷ sBox b ∷ sBox x ∷ sBox y ∷ [])) k
 unfolding xorWord mixColumn
-mixed-column t a b x y ub ux vx uy vy wy p T ha hb hx hy fb fx gx fy gy ky ek =
-    simp (bytes-xor, T .entry a ha, fb, T .entry b hb, gx, fx, T .entry x hx, ky, gy, fy, T .entry y hy, ek)
-
--- a state from the numbers of its columns
-pub state-packed : (s : List (List ℕ)) (r : Columns) → length s ≡ 4 → bytesOf (r .c0) ≡ getD s 0 [] → bytesOf (r .c1) ≡ getD s 1 []
-    → bytesOf (r .c2) ≡ getD s 2 [] → bytesOf (r .c3) ≡ getD s 3 [] → stateOf r ≡ s
-unfolding stateOf
-state-packed s r e p q x y = four-eq p q x y ∙ sym (is-four [] s e)
+mixed-column a b x y ta tb tx ty ub ux vx uy vy wy p ea eb ex ey fb fx gx fy gy hy ek er = er ∙ simp (bytes-xor, ea, fb, eb, gx, fx, ex, hy, gy, fy, ey, ek)

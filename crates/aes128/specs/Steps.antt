@@ -2,18 +2,12 @@
 use mathlib.Core.List.{List, [], _∷_}
 use Prim.Native.Nat.{ℕ, _+_, _%_}
 use lib.ListN.{getD}
-use Rattle.sbox.specs.Table.{bytesOf}
-use Rattle.aes128.specs.declared.Columns.{Columns}
 use Rattle.aes128.specs.State.{four, column, xorWord}
 use Rattle.aes128.specs.Cipher.{rotWord, subWord}
 
 -- a word's bytes moved down one row, the last to row 0
 abbrev pub turned : List ℕ → List ℕ
 turned a = four (λ r. getD a ((r + 3) % 4) 0)
-
--- the state whose columns' numbers are given
-unfoldable pub stateOf : Columns → List (List ℕ)
-stateOf s = bytesOf (s .c0) ∷ bytesOf (s .c1) ∷ bytesOf (s .c2) ∷ bytesOf (s .c3) ∷ []
 
 -- the round key after k, whose round constant has the first byte x
 unfoldable pub nextKey : ℕ → List (List ℕ) → List (List ℕ)

@@ -1,20 +1,12 @@
 // FIPS 197 for a key of 128 bits: key expansion and encryption, on tables and round keys that the caller lends.
 ghost use mathlib.Core.Path.{_≡_};
 ghost use mathlib.Core.List.{[], _∷_};
-ghost use Prim.Native.Nat.{_<_, _/_, _%_, _^_};
+ghost use Prim.Native.Nat.{_<_};
 ghost use Rattle.sbox.specs.Byte.{sBox};
 ghost use Rattle.sbox.specs.Table.{SBoxTable, MixTable, Tables, bytesOf};
 ghost use Rattle.aes128.specs.State.{xorWord, xorState};
 ghost use Rattle.aes128.specs.Cipher.{subBytes, shiftRows, mixColumn, mixColumns, addRoundKey, cipher, keyExpansion};
-ghost use Rattle.aes128.specs.Steps.{turned, stateOf, nextKey};
-
-// A state as four numbers, one for each column: the form that the rounds work on.
-struct Columns {
-    c0: u32,
-    c1: u32,
-    c2: u32,
-    c3: u32,
-}
+ghost use Rattle.aes128.specs.Steps.{turned, nextKey};
 
 // The S-box at a byte.
 fn sub(sbox: &[u8; 256], x: u8) -> u8
@@ -92,6 +84,18 @@ fn wide(x: u8) -> u32
     x as u32
 }
 
+// The bytes of a number, least first.
+fn unpack(w: u32) -> [u8; 4]
+    ensures { λ r. ⌜ r ≡ bytesOf w ⌝ }
+{
+    [
+        (w % 0x100) as u8,
+        (w / 0x100 % 0x100) as u8,
+        (w / 0x1_0000 % 0x100) as u8,
+        (w / 0x100_0000 % 0x100) as u8,
+    ]
+}
+
 // The bytes moved down one row, the last to row 0.
 fn turn(w: u32) -> u32
     ensures { λ r. ⌜ bytesOf r ≡ turned (bytesOf w) ⌝ }
@@ -99,69 +103,55 @@ fn turn(w: u32) -> u32
     w % 0x100_0000 * 0x100 + w / 0x100_0000
 }
 
-// The numbers of a state's columns.
-fn pack_state(s: [[u8; 4]; 4]) -> Columns
-    ensures { λ r. ⌜ stateOf r ≡ s ⌝ }
-{
-    Columns {
-        c0: pack(s[0]),
-        c1: pack(s[1]),
-        c2: pack(s[2]),
-        c3: pack(s[3]),
-    }
-}
-
-// A column of a round: SubBytes and MixColumns of row 0 of a, row 1 of b, row 2 of c and row 3 of d, and the round key's column.
-fn mix_column(mix: &[u32; 256], a: u32, b: u32, c: u32, d: u32, k: [u8; 4]) -> u32
+// A column of a round: SubBytes and MixColumns of four bytes, and the round key's column.
+fn mix_column(mix: &[u32; 256], a: u8, b: u8, c: u8, d: u8, k: [u8; 4]) -> [u8; 4]
     requires { ⌜ MixTable (now mix) ⌝ }
-    ensures { λ r. ⌜ bytesOf r ≡ xorWord (mixColumn (sBox (a % 2 ^ 8) ∷ sBox (b / 2 ^ 8 % 2 ^ 8) ∷ sBox (c / 2 ^ 16 % 2 ^ 8) ∷ sBox (d / 2 ^ 24 % 2 ^ 8) ∷ [])) k ⌝ }
+    ensures { λ r. ⌜ r ≡ xorWord (mixColumn (sBox a ∷ sBox b ∷ sBox c ∷ sBox d ∷ [])) k ⌝ }
 {
-    let x = mix[(a % 0x100) as usize];
-    let y = turn(mix[(b / 0x100 % 0x100) as usize]);
-    let z = turn(turn(mix[(c / 0x1_0000 % 0x100) as usize]));
-    let w = turn(turn(turn(mix[(d / 0x100_0000 % 0x100) as usize])));
-    x ^ y ^ z ^ w ^ pack(k)
+    let x = mix[a as usize];
+    let y = turn(mix[b as usize]);
+    let z = turn(turn(mix[c as usize]));
+    let w = turn(turn(turn(mix[d as usize])));
+    unpack(x ^ y ^ z ^ w ^ pack(k))
 }
 
 // A round with all four steps.
-fn full_round(mix: &[u32; 256], s: Columns, k: [[u8; 4]; 4]) -> Columns
+fn full_round(mix: &[u32; 256], s: [[u8; 4]; 4], k: [[u8; 4]; 4]) -> [[u8; 4]; 4]
     requires { ⌜ MixTable (now mix) ⌝ }
-    ensures { λ r. ⌜ stateOf r ≡ addRoundKey (mixColumns (shiftRows (subBytes (stateOf s)))) k ⌝ }
+    ensures { λ r. ⌜ r ≡ addRoundKey (mixColumns (shiftRows (subBytes s))) k ⌝ }
 {
-    Columns {
-        c0: mix_column(mix, s.c0, s.c1, s.c2, s.c3, k[0]),
-        c1: mix_column(mix, s.c1, s.c2, s.c3, s.c0, k[1]),
-        c2: mix_column(mix, s.c2, s.c3, s.c0, s.c1, k[2]),
-        c3: mix_column(mix, s.c3, s.c0, s.c1, s.c2, k[3]),
-    }
+    let c0 = mix_column(mix, s[0][0], s[1][1], s[2][2], s[3][3], k[0]);
+    let c1 = mix_column(mix, s[1][0], s[2][1], s[3][2], s[0][3], k[1]);
+    let c2 = mix_column(mix, s[2][0], s[3][1], s[0][2], s[1][3], k[2]);
+    let c3 = mix_column(mix, s[3][0], s[0][1], s[1][2], s[2][3], k[3]);
+    [c0, c1, c2, c3]
 }
 
-// A column of the last round: SubBytes of the same four bytes, and the round key's column.
-fn last_column(sbox: &[u8; 256], a: u32, b: u32, c: u32, d: u32, k: [u8; 4]) -> [u8; 4]
+// A column of the last round.
+fn last_column(sbox: &[u8; 256], a: u8, b: u8, c: u8, d: u8, k: [u8; 4]) -> [u8; 4]
     requires { ⌜ SBoxTable (now sbox) ⌝ }
-    ensures { λ r. ⌜ r ≡ xorWord (sBox (a % 2 ^ 8) ∷ sBox (b / 2 ^ 8 % 2 ^ 8) ∷ sBox (c / 2 ^ 16 % 2 ^ 8) ∷ sBox (d / 2 ^ 24 % 2 ^ 8) ∷ []) k ⌝ }
+    ensures { λ r. ⌜ r ≡ xorWord (sBox a ∷ sBox b ∷ sBox c ∷ sBox d ∷ []) k ⌝ }
 {
-    let x = sub(sbox, (a % 0x100) as u8);
-    let y = sub(sbox, (b / 0x100 % 0x100) as u8);
-    let z = sub(sbox, (c / 0x1_0000 % 0x100) as u8);
-    let w = sub(sbox, (d / 0x100_0000 % 0x100) as u8);
+    let x = sub(sbox, a);
+    let y = sub(sbox, b);
+    let z = sub(sbox, c);
+    let w = sub(sbox, d);
     xor_word([x, y, z, w], k)
 }
 
 // The last round, which has no MixColumns.
-fn last_round(sbox: &[u8; 256], s: Columns, k: [[u8; 4]; 4]) -> [[u8; 4]; 4]
+fn last_round(sbox: &[u8; 256], s: [[u8; 4]; 4], k: [[u8; 4]; 4]) -> [[u8; 4]; 4]
     requires { ⌜ SBoxTable (now sbox) ⌝ }
-    ensures { λ r. ⌜ r ≡ addRoundKey (shiftRows (subBytes (stateOf s))) k ⌝ }
+    ensures { λ r. ⌜ r ≡ addRoundKey (shiftRows (subBytes s)) k ⌝ }
 {
-    [
-        last_column(sbox, s.c0, s.c1, s.c2, s.c3, k[0]),
-        last_column(sbox, s.c1, s.c2, s.c3, s.c0, k[1]),
-        last_column(sbox, s.c2, s.c3, s.c0, s.c1, k[2]),
-        last_column(sbox, s.c3, s.c0, s.c1, s.c2, k[3]),
-    ]
+    let c0 = last_column(sbox, s[0][0], s[1][1], s[2][2], s[3][3], k[0]);
+    let c1 = last_column(sbox, s[1][0], s[2][1], s[3][2], s[0][3], k[1]);
+    let c2 = last_column(sbox, s[2][0], s[3][1], s[0][2], s[1][3], k[2]);
+    let c3 = last_column(sbox, s[3][0], s[0][1], s[1][2], s[2][3], k[3]);
+    [c0, c1, c2, c3]
 }
 
-// Cipher, for any round keys.
+// Cipher, for any round keys. Nine rounds one after the other and no loop: so the compiler keeps each column in one register.
 pub fn encrypt(
     sbox: &[u8; 256],
     mix: &[u32; 256],
@@ -171,14 +161,17 @@ pub fn encrypt(
     requires { ⌜ Tables (now sbox) (now mix) ⌝ }
     ensures { λ r. ⌜ r ≡ cipher (now (keys .entry)) s ⌝ }
 {
-    let mut t = pack_state(xor_state(s, keys[0]));
-    let mut i: usize = 0;
-    while i < 9 {
-        i += 1;
-        let next = full_round(mix, t, keys[i]);
-        t = next;
-    }
-    last_round(sbox, t, keys[10])
+    let t0 = xor_state(s, keys[0]);
+    let t1 = full_round(mix, t0, keys[1]);
+    let t2 = full_round(mix, t1, keys[2]);
+    let t3 = full_round(mix, t2, keys[3]);
+    let t4 = full_round(mix, t3, keys[4]);
+    let t5 = full_round(mix, t4, keys[5]);
+    let t6 = full_round(mix, t5, keys[6]);
+    let t7 = full_round(mix, t6, keys[7]);
+    let t8 = full_round(mix, t7, keys[8]);
+    let t9 = full_round(mix, t8, keys[9]);
+    last_round(sbox, t9, keys[10])
 }
 
 // Cipher's result exclusive-or its input.

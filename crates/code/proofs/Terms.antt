@@ -17,6 +17,7 @@ use Rattle.field.specs.declared.prime.Prime.{Prime}
 use Rattle.field.specs.Binary.{binary, bitRing, blocks, blockZero, blockAdd, blockLeaf, blockScale, bitAdd, bitMul}
 use Rattle.field.specs.Bytes.{columnsOf, highOf}
 use Rattle.field.specs.Prime.{primes, primeRing, prime, primeZero, primeReduce, primeAdd, primeMul}
+use Rattle.field.proofs.PrimeField.{reduced-add, reduced-mul}
 use Rattle.code.specs.Row.{termBlock, placeOf, termPlace, rowOf, binaryRow, primeRow}
 
 -- a term, from what the cipher and the words in bytes give
@@ -109,9 +110,10 @@ module _ (keys : List (List (List ℕ))) (N ℓ x : ℕ) (words : List ℕ) wher
           (p ∙ ap (at (binary .elements) words) (named ℓ)) q
 
       pub primes-more : (a next word : ℕ) → primeReduce a ≡ primesSum i → word ≡ highOf (termBlock keys x i)
-          → primeReduce next ≡ primeAdd (primeReduce a) (primeMul (primeReduce word) (prime (getD words j 0)))
+          → primeReduce next ≡ primeAdd (prime a) (primeMul (prime word) (prime (getD words j 0)))
           → primeReduce next ≡ primesSum (i + 1)
       unfolding rowOf primesSum
       primes-more a next word e p q =
           terms-more (itself primeRing) (primeRow keys N ℓ x) (at (primes .elements) words) i e
-          (ap₂ primeMul (ap primeReduce p) (ap prime (word-at words (named ℓ)))) q
+          (reduced-mul word (prime (getD words j 0)) ∙ ap₂ primeMul (ap primeReduce p) (ap prime (word-at words (named ℓ))))
+          (q ∙ reduced-add a (primeMul (prime word) (prime (getD words j 0))))

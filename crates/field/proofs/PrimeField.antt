@@ -1,16 +1,17 @@
 -- The laws of field 2.
-use mathlib.Core.Path.{_≡_, refl, ap, _∙_}
+use mathlib.Core.Path.{_≡_, refl, sym, ap, _∙_}
 use mathlib.Core.Bool.{true}
 use Prim.Native.Nat.{ℕ, _+_, _-_, _*_, _%_, _<_}
 use native.Mathlib.Omega.{arith}
-use native.Mathlib.Nat.{mod-eq-of-lt, mul-comm, add-comm, add-mod-mod, add-mod-right}
+use native.Mathlib.Nat.{mod-eq-of-lt, mul-comm, add-comm, mod-add-mod, add-mod-mod, add-mod-right}
 use lib.Dec.{ltb}
 use borrow.Author.Tests.{lt-ltb, ltb-true}
 use Rattle.algebra.specs.Group.{RingLaws}
 use Rattle.algebra.specs.Field.{FieldLaws}
 use Rattle.algebra.proofs.Sum.{itself-laws}
+use Rattle.field.specs.declared.prime.Prime.{Prime}
 use Rattle.field.specs.Prime.{modulus, prime, primeReduce, primeAdd, primeSub, primeMul, primeRing, primes}
-use Rattle.field.proofs.Modular.{mod-mul-assoc, mod-mul-add, mod-add-assoc}
+use Rattle.field.proofs.Modular.{mod-mul-mod, mod-mul-assoc, mod-mul-add, mod-add-assoc}
 use Rattle.field.proofs.Words.{one-word-laws}
 
 -- what is reduced modulo p is an element
@@ -52,6 +53,15 @@ primeRingLaws =
 pub reduce-element : (x : ℕ) → ltb (primeReduce x .word) modulus ≡ true
 unfolding primeReduce
 reduce-element x = reduced x
+
+-- a word of a sum or of a product may be reduced first
+pub reduced-add : (a : ℕ) (b : Prime) → primeAdd (prime a) b ≡ primeAdd (primeReduce a) b
+unfolding primeAdd primeReduce
+reduced-add a b = ap prime (sym (mod-add-mod a modulus (b .word)))
+
+pub reduced-mul : (a : ℕ) (b : Prime) → primeMul (prime a) b ≡ primeMul (primeReduce a) b
+unfolding primeMul primeReduce
+reduced-mul a b = ap prime (sym (mod-mul-mod a (b .word) modulus))
 
 -- field 2 obeys the laws
 pub primeLaws : FieldLaws primes

@@ -76,9 +76,9 @@ impl Prime {
         Prime::reduce(product(fold(self.word), fold(other.word)))
     }
 
-    // A word whose reduction is total + a × b. It is folded and not reduced, so that a sum of products is reduced once, at its end.
+    // A word that reduces to total + a × b. Which one is left to the program, so that a sum of products is reduced once, at its end.
     pub fn add_product(total: u64, a: u64, b: u64) -> u64
-        ensures { λ r. ⌜ primeReduce r ≡ primeAdd (primeReduce total) (primeMul (primeReduce a) (prime b)) ⌝ }
+        ensures { λ r. ⌜ primeReduce r ≡ primeAdd (prime total) (primeMul (prime a) (prime b)) ⌝ }
     {
         fold(total) + fold(product(fold(a), fold(b)))
     }

@@ -1,25 +1,55 @@
--- `aes128::full_round` meets its contract: column by column. Assumes nothing.
+-- `aes128::full_round` meets its contract. Assumes nothing.
 use borrow.Author.Needs.{needs}
 use Rattle.aes128.specs.State.{xorState}
 use Rattle.aes128.specs.Cipher.{subBytes, shiftRows, mixColumns}
-use Rattle.sbox.specs.Table.{bytesOf}
-use Rattle.aes128.specs.Steps.{stateOf}
 use Rattle.aes128.proofs.Words.{four-eq}
 use Rattle.aes128.proofs.full_round.Statement.{statement}
 use Rattle.aes128.proofs.full_round.Tie as tie
 
 pub full-round-spec : {M : Type 1} → statement M
-unfolding xorState mixColumns shiftRows subBytes stateOf bytesOf
+unfolding xorState mixColumns shiftRows subBytes
 full-round-spec =
     tie.close
     (tie.spec
+    (λ c. search needs)  -- index-1-mix-column
+    (λ c. search needs)  -- index-2-mix-column
+    (λ c. search needs)  -- index-1-mix-column-2
+    (λ c. search needs)  -- index-2-mix-column-2
+    (λ c. search needs)  -- index-1-mix-column-3
+    (λ c. search needs)  -- index-2-mix-column-3
+    (λ c. search needs)  -- index-1-mix-column-4
+    (λ c. search needs)  -- index-2-mix-column-4
     (λ c. search needs)  -- array-copy-out-mix-column
     (λ c κs. search needs)  -- mix-column-requires
+    (λ c. search needs)  -- index-1-mix-column-5
+    (λ c. search needs)  -- index-2-mix-column-5
+    (λ c. search needs)  -- index-1-mix-column-6
+    (λ c. search needs)  -- index-2-mix-column-6
+    (λ c. search needs)  -- index-1-mix-column-7
+    (λ c. search needs)  -- index-2-mix-column-7
+    (λ c. search needs)  -- index-1-mix-column-8
+    (λ c. search needs)  -- index-2-mix-column-8
     (λ c. search needs)  -- array-copy-out-mix-column-2
     (λ c κs. search needs)  -- mix-column-requires-2
+    (λ c. search needs)  -- index-1-mix-column-9
+    (λ c. search needs)  -- index-2-mix-column-9
+    (λ c. search needs)  -- index-1-mix-column-10
+    (λ c. search needs)  -- index-2-mix-column-10
+    (λ c. search needs)  -- index-1-mix-column-11
+    (λ c. search needs)  -- index-2-mix-column-11
+    (λ c. search needs)  -- index-1-mix-column-12
+    (λ c. search needs)  -- index-2-mix-column-12
     (λ c. search needs)  -- array-copy-out-mix-column-3
     (λ c κs. search needs)  -- mix-column-requires-3
+    (λ c. search needs)  -- index-1-mix-column-13
+    (λ c. search needs)  -- index-2-mix-column-13
+    (λ c. search needs)  -- index-1-mix-column-14
+    (λ c. search needs)  -- index-2-mix-column-14
+    (λ c. search needs)  -- index-1-mix-column-15
+    (λ c. search needs)  -- index-2-mix-column-15
+    (λ c. search needs)  -- index-1-mix-column-16
+    (λ c. search needs)  -- index-2-mix-column-16
     (λ c. search needs)  -- array-copy-out-mix-column-4
     (λ c κs. search needs)  -- mix-column-requires-4
-    (λ c. four-eq (c .before .before .before .before .before .before .mix-column .ensures) (c .before .before .before .before .mix-column2 .ensures) (c .before .before .mix-column3 .ensures) (c .mix-column4 .ensures))  -- returns
+    (λ c. four-eq (c .before .before .before .before .before .before .before .before .before .before .before .before .before .before .before .before .before .before .mix-column .ensures) (c .before .before .before .before .before .before .before .before .before .before .before .before .mix-column2 .ensures) (c .before .before .before .before .before .before .mix-column3 .ensures) (c .mix-column4 .ensures))  -- returns
     )

@@ -7,13 +7,9 @@ pub last-column-spec : {M : Type 1} → statement M
 last-column-spec =
     tie.close
     (tie.spec
-    (λ c. search needs)  -- cast-sub
     (λ c κs. search needs)  -- sub-requires
-    (λ c. search needs)  -- cast-sub-2
     (λ c κs. search needs)  -- sub-requires-2
-    (λ c. search needs)  -- cast-sub-3
     (λ c κs. search needs)  -- sub-requires-3
-    (λ c. search needs)  -- cast-sub-4
     (λ c κs. search needs)  -- sub-requires-4
     (λ c κs. search needs)  -- xor-word-requires
     (λ c. cc)  -- returns
