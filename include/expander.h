@@ -56,17 +56,17 @@ extern "C" {
 #define EXPANDER_BAD_LENGTH 3u       /* input buffer not exactly of the length called for */
 #define EXPANDER_BAD_POSITION 4u     /* position not rising, or N or more */
 #define EXPANDER_BAD_NOISE 5u        /* noise value not admitted */
-#define EXPANDER_BAD_DELTA 6u        /* Delta zero or not an element */
+#define EXPANDER_BAD_DELTA 6u        /* Delta zero, or not as its field wants it */
 #define EXPANDER_WINDOW_PAST_END 7u  /* first + count too large */
-#define EXPANDER_NOT_ELEMENT 8u      /* word not an element, binary noise or choice above 1 */
+#define EXPANDER_NOT_ELEMENT 8u      /* correction or used word no element; bit or choice above 1 */
 #define EXPANDER_WRONG_END 9u        /* end byte not this end's */
 #define EXPANDER_RECORD_ENDS 10u     /* record ends inside a field */
 #define EXPANDER_BAD_NUMBER 11u      /* number in a record not in its shortest form, or too long */
 #define EXPANDER_BYTES_AFTER 12u     /* bytes after the record */
 #define EXPANDER_BUFFER_SHORT 13u    /* output buffer too short */
 
-/* Lengths in bytes that no record exceeds. */
-#define EXPANDER_NOISE_RECORD_MAX 17624
+/* Bytes of the longest records. */
+#define EXPANDER_NOISE_RECORD_MAX 17563
 #define EXPANDER_SCALAR_RECORD_MAX 1064
 
 /* A number, and what was written to the first and to the second output buffer. */
@@ -130,7 +130,8 @@ struct expander_two_lengths expander_deal(
  *  Returns:  a number, and the words written to noise (N) and to v (W N).
  *             0: accepted
  *            Reading source from front to back, each field first read whole and then tested:
- *            10: source ends inside a field, or before it
+ *            10: source ends before a field or inside it; tested at every field (code key and
+ *                siblings too), before that field's own tests
  *             9: the end byte is not 1
  *             1: the field byte is not 1 or 2
  *            11: d, t, l or n (each 11 and then 2, before the next) is not in its shortest form, or
@@ -161,7 +162,8 @@ struct expander_two_lengths expander_noise_offline(
  *  Returns:  a number, and the words written to w (W N) and to delta (2).
  *             0: accepted
  *            Reading source from front to back, each field first read whole and then tested:
- *            10: source ends inside a field, or before it
+ *            10: source ends before a field or inside it; tested at every field (code key and
+ *                roots too), before that field's own tests
  *             9: the end byte is not 2
  *             1: the field byte is not 1 or 2
  *            11: d, t, l or n (each 11 and then 2, before the next) is not in its shortest form, or
@@ -187,7 +189,8 @@ struct expander_two_lengths expander_scalar_offline(
  *  Returns:  a number, and the words written to u_out (count) and to v_out (W count).
  *             0: accepted
  *            Reading source from front to back, each field first read whole and then tested:
- *            10: source ends inside a field, or before it
+ *            10: source ends before a field or inside it; tested at every field (code key and
+ *                siblings too), before that field's own tests
  *             9: the end byte is not 1
  *             1: the field byte is not 1 or 2
  *            11: d, t, l or n (each 11 and then 2, before the next) is not in its shortest form, or
@@ -230,7 +233,8 @@ struct expander_two_lengths expander_noise_online(
  *  Returns:  a number, and the words written to w_out (W count).
  *             0: accepted
  *            Reading source from front to back, each field first read whole and then tested:
- *            10: source ends inside a field, or before it
+ *            10: source ends before a field or inside it; tested at every field (code key and
+ *                roots too), before that field's own tests
  *             9: the end byte is not 2
  *             1: the field byte is not 1 or 2
  *            11: d, t, l or n (each 11 and then 2, before the next) is not in its shortest form, or
@@ -258,8 +262,9 @@ struct expander_one_length expander_scalar_online(
     size_t first, size_t count,
     uint64_t *w_out, size_t w_out_len);
 
-/** Give the noise end's pads at the indices first to first + count - 1: of each index the message
- *  that its choice names. Field 1 only; no record is read.
+/** Give the noise end's pads at the indices first to first + count - 1: of each index the pad of v.
+ *  Where v and the choice are v and u of one dealing's index, that is the scalar end's message that
+ *  the choice names. Field 1 only; no record is read.
  *
  *  Returns:  a number alone; an accepted call has written 16 count bytes to pads.
  *             0: accepted
@@ -273,7 +278,7 @@ struct expander_one_length expander_scalar_online(
  *            v:       v at each index of the window, 16 bytes each: the two words of
  *                     expander_noise_online, each least byte first; v_len = 16 count
  *            choices: u at each index of the window, as one byte 0 or 1; choices_len = count
- *  Out:      pads:    16 bytes an index: message 0 or 1, as the choice says
+ *  Out:      pads:    the pad of v, 16 bytes an index
  *  Refused:  the output buffer is as it was.
  *  Overlap:  pads overlaps neither v nor choices.
  */

@@ -729,6 +729,19 @@ static void sizes_at_bounds(void)
         }
 }
 
+/* The lengths that the header gives for the longest records are met. */
+static void longest_records(void)
+{
+    for (unsigned field = 1; field <= 2; field++) {
+        make_dealing(&x, field, 16, MAX_TREES, 32, MOST / 2);
+        for (uint32_t i = 0; i < MAX_TREES; i++) /* three numbers of three bytes, then of two */
+            x.positions[i] = i < 3 ? 16384 + 16385 * i : 49154 + 129 * (i - 2);
+        EXPECT(deal().number == 0);
+        EXPECT(noise_record_len == EXPANDER_NOISE_RECORD_MAX);
+        EXPECT(field == 2 || scalar_record_len == EXPANDER_SCALAR_RECORD_MAX);
+    }
+}
+
 /* ---- Damaged records ---- */
 
 /* Lend a record to its end's offline and online call, with buffers that suit the dealing. */
@@ -1161,6 +1174,7 @@ int main(void)
     make_rooms();
     cases();
     sizes_at_bounds();
+    longest_records();
     faulty_deals(8000);
     faulty_pads(8000);
     edge_products();

@@ -141,7 +141,7 @@ static struct plain_result deal(const struct dealing *x, uint8_t *noise, uint8_t
 {
     return plain_deal(x->field, x->depth, x->trees, x->terms, x->outputs, x->roots, 16 * x->trees,
                       x->positions, x->trees, x->values, x->trees, x->delta, 16, x->code_key, 16,
-                      noise, 17624, scalar, 1064);
+                      noise, 17563, scalar, 1064);
 }
 
 static int is(struct plain_result r, uint32_t number, size_t first, size_t second)
@@ -157,7 +157,7 @@ static block element(uint64_t x)
 
 static void test_cases(void)
 {
-    static uint8_t noise[17624], scalar[1064];
+    static uint8_t noise[17563], scalar[1064];
     static struct dealing x;
     static const struct {
         size_t first, count;
@@ -265,7 +265,7 @@ static void test_definitions(unsigned field, size_t depth)
 {
     enum { N = 256 };
     static struct dealing x;
-    static uint8_t noise_record[17624], scalar_record[1064];
+    static uint8_t noise_record[17563], scalar_record[1064];
     static uint64_t mu[N], noise[N], v[2 * N], w[2 * N], delta[2], u_out[N], v_out[2 * N],
         w_out[2 * N];
     static block v0[N], w0[N];
