@@ -248,7 +248,7 @@ pub record PadsLent (I : Input) (x first : ℕ) (vs choices : List ℕ) (first�
   pub Δ-lent : Δ ≡ I .delta
 
 -- for any accepted pad call of each end, on one dealing of field 1, and any index x below n in both windows, the noise end's
--- 16 bytes for x are those of the message that the choice bit names
+-- 16 bytes for x are those of the message that the choice bit names: the byte lent for x, which by `u-lent` is u at x
 abbrev pub Pads : Type 0
 Pads =
     (I : Input) → InMemory I → I .field ≡ 1 → (a b : List ℕ) → deal I a b .number ≡ 0

@@ -106,7 +106,8 @@ pub extern "C" fn expander_noise_pads(
     choices: &[u8],
     pads: &mut [u8],
 ) -> u32
-    ensures { λ r. ⌜ outcome r (now (pads .exit)) ≡ noisePads first count (now (v .entry)) (now (choices .entry)) (now (pads .entry)) ⌝ }
+    ensures { λ r. ⌜ outcome r (now (v .exit)) (now (choices .exit)) (now (pads .exit))
+        ≡ noisePads first count (now (v .entry)) (now (choices .entry)) (now (pads .entry)) ⌝ }
 {
     pads::noise_pads(first, count, v, choices, pads)
 }
@@ -120,7 +121,8 @@ pub extern "C" fn expander_scalar_pads(
     delta: &[u8],
     pads: &mut [u8],
 ) -> u32
-    ensures { λ r. ⌜ outcome r (now (pads .exit)) ≡ scalarPads first count (now (w .entry)) (now (delta .entry)) (now (pads .entry)) ⌝ }
+    ensures { λ r. ⌜ outcome r (now (w .exit)) (now (delta .exit)) (now (pads .exit))
+        ≡ scalarPads first count (now (w .entry)) (now (delta .entry)) (now (pads .entry)) ⌝ }
 {
     pads::scalar_pads(first, count, w, delta, pads)
 }

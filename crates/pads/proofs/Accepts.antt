@@ -106,11 +106,11 @@ unfolding noisePadsBy scalarPadsBy
 accepts rule =
     record {
       noise = λ first count v choices pads. (
-        λ a. answer-number _ _ _ ∙ noise-zero first count v choices pads a,
-        λ e. noise-number first count v choices pads (sym (answer-number _ _ _) ∙ e),
+        λ a. answer-number _ _ _ _ _ ∙ noise-zero first count v choices pads a,
+        λ e. noise-number first count v choices pads (sym (answer-number _ _ _ _ _) ∙ e),
       );
       scalar = λ first count w delta pads. (
-        λ a. answer-number _ _ _ ∙ scalar-zero first count w delta pads a,
-        λ e. scalar-number first count w delta pads (sym (answer-number _ _ _) ∙ e),
+        λ a. answer-number _ _ _ _ _ ∙ scalar-zero first count w delta pads a,
+        λ e. scalar-number first count w delta pads (sym (answer-number _ _ _ _ _) ∙ e),
       );
     }

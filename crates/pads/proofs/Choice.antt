@@ -38,7 +38,7 @@ unfolding noisePadsBy
 noise-bytes rule first count vs choices pads e x i =
     let f : ℕ → Block = λ k. rule (first + k) (at blockBytes vs k) in
     let here : first + (x - first) ≡ x = omega arith in
-    ap (λ (l : List ℕ). padAt l first x) (answer-written _ _ pads e)
+    ap (λ (l : List ℕ). padAt l first x) (answer-written _ _ pads _ _ e)
     ∙ value-over blockBytes wide-block count f pads (x - first) (16 * (x - first)) (omega arith) (omega arith)
     ∙ ap (λ (y : ℕ). blockBytes .words (rule y (at blockBytes vs (x - first)))) here
 
@@ -73,7 +73,7 @@ scalar-bytes rule first count ws delta pads e x i u h =
     let f : ℕ → Messages = λ k. messages rule (first + k) (at blockBytes ws k) Δ in
     let here : first + (x - first) ≡ x = omega arith in
     let place : 32 * (x - first) ≡ (x - first) * 32 = omega arith in
-    ap (λ (l : List ℕ). messageAt l first x u) (answer-written _ _ pads e)
+    ap (λ (l : List ℕ). messageAt l first x u) (answer-written _ _ pads _ _ e)
     ∙ rw
     (place, ← drop-drop (16 * u), drop-over messageBytes wide-messages count f pads (x - first) (omega arith))
     (message-bytes (f (x - first)) _ u h)

@@ -34,15 +34,16 @@ neither true b e = absurd (true≢false e)
 neither false b e = (refl, e)
 
 -- the number and the buffer of an answer
-pub answer-number : (n : ℕ) (written pads : List ℕ) → answer n written pads .number ≡ n
-unfolding answer
-answer-number zero written pads = refl
-answer-number (suc n) written pads = refl
+module _ (values other pads written : List ℕ) where
+  pub answer-number : (n : ℕ) → answer n values other pads written .number ≡ n
+  unfolding answer
+  answer-number zero = refl
+  answer-number (suc n) = refl
 
-pub answer-written : (n : ℕ) (written pads : List ℕ) → answer n written pads .number ≡ 0 → answer n written pads .pads ≡ written
-unfolding answer
-answer-written zero written pads e = refl
-answer-written (suc n) written pads e = absurd (omega arith)
+  pub answer-written : (n : ℕ) → answer n values other pads written .number ≡ 0 → answer n values other pads written .pads ≡ written
+  unfolding answer
+  answer-written zero e = refl
+  answer-written (suc n) e = absurd (omega arith)
 
 -- no byte is above a limit
 pub none-above : (limit : ℕ) (bytes : List ℕ) → anyAbove limit bytes ≡ false → (k : ℕ) → getD bytes k 0 ≤ limit

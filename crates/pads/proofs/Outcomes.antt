@@ -13,19 +13,20 @@ use Rattle.pads.proofs.Accepts.{noise-number, scalar-number}
 use Rattle.pads.proofs.Turns.{padOf, messagesOf}
 
 -- an answer by its number
-refused : (n : ℕ) (written pads : List ℕ) → (n ≡ 0 → ⊥) → outcome n pads ≡ answer n written pads
-unfolding answer
-refused zero written pads h = absurd (h refl)
-refused (suc n) written pads h = refl
+module _ (values other pads written : List ℕ) where
+  refused : (n : ℕ) → (n ≡ 0 → ⊥) → outcome n values other pads ≡ answer n values other pads written
+  unfolding answer
+  refused zero h = absurd (h refl)
+  refused (suc n) h = refl
 
-accepted : (n : ℕ) (written pads : List ℕ) → n ≡ 0 → outcome 0 written ≡ answer n written pads
-unfolding answer
-accepted n written pads e = rw e
+  accepted : (n : ℕ) → n ≡ 0 → outcome 0 values other written ≡ answer n values other pads written
+  unfolding answer
+  accepted n e = rw e
 
 module _ (first count : ℕ) (v choices pads : List ℕ) (n : ℕ) (tested : n ≡ noiseNumber first count v choices (length pads)) where
-  pub noise-refused : (n ≡ 0 → ⊥) → outcome n pads ≡ noisePads first count v choices pads
+  pub noise-refused : (n ≡ 0 → ⊥) → outcome n v choices pads ≡ noisePads first count v choices pads
   unfolding noisePadsBy
-  noise-refused h = rw (← tested) (refused n (over blockBytes count (padOf first v) pads) pads h)
+  noise-refused h = rw (← tested) (refused v choices pads (over blockBytes count (padOf first v) pads) n h)
 
   module _ (zero-n : n ≡ 0) where
     pub noise-fits : Fitting first count (length v) 16 (length pads)
@@ -34,15 +35,15 @@ module _ (first count : ℕ) (v choices pads : List ℕ) (n : ℕ) (tested : n �
         record { window = a .window; blocks = omega arith; outputs = omega arith }
 
     pub noise-accepted : (written : List ℕ) → written ≡ over blockBytes count (padOf first v) pads
-        → outcome 0 written ≡ noisePads first count v choices pads
+        → outcome 0 v choices written ≡ noisePads first count v choices pads
     unfolding noisePadsBy
     noise-accepted written e =
-        rw (← tested, e) (accepted n (over blockBytes count (padOf first v) pads) pads zero-n)
+        rw (← tested, e) (accepted v choices pads (over blockBytes count (padOf first v) pads) n zero-n)
 
 module _ (first count : ℕ) (w delta pads : List ℕ) (n : ℕ) (tested : n ≡ scalarNumber first count w delta (length pads)) where
-  pub scalar-refused : (n ≡ 0 → ⊥) → outcome n pads ≡ scalarPads first count w delta pads
+  pub scalar-refused : (n ≡ 0 → ⊥) → outcome n w delta pads ≡ scalarPads first count w delta pads
   unfolding scalarPadsBy
-  scalar-refused h = rw (← tested) (refused n (over messageBytes count (messagesOf first w (blockBytes .read delta 0)) pads) pads h)
+  scalar-refused h = rw (← tested) (refused w delta pads (over messageBytes count (messagesOf first w (blockBytes .read delta 0)) pads) n h)
 
   module _ (zero-n : n ≡ 0) where
     pub scalar-fits : Fitting first count (length w) 32 (length pads)
@@ -54,7 +55,7 @@ module _ (first count : ℕ) (w delta pads : List ℕ) (n : ℕ) (tested : n ≡
     scalar-delta = let a = scalar-number first count w delta pads (sym tested ∙ zero-n) in omega arith
 
     pub scalar-accepted : (written : List ℕ) (Δ : Block) → Δ ≡ blockBytes .read delta 0
-        → written ≡ over messageBytes count (messagesOf first w Δ) pads → outcome 0 written ≡ scalarPads first count w delta pads
+        → written ≡ over messageBytes count (messagesOf first w Δ) pads → outcome 0 w delta written ≡ scalarPads first count w delta pads
     unfolding scalarPadsBy
     scalar-accepted written Δ d e =
-        rw (← tested, e, d) (accepted n (over messageBytes count (messagesOf first w (blockBytes .read delta 0)) pads) pads zero-n)
+        rw (← tested, e, d) (accepted w delta pads (over messageBytes count (messagesOf first w (blockBytes .read delta 0)) pads) n zero-n)

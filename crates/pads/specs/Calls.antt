@@ -1,5 +1,5 @@
--- Both pad calls (document 01, 'Pads' and 'Numbers of the calls'): what stands on return, from everything lent. The input
--- slices are lent by `&`, so they stand as they were. They test 3, 7, 6, 13, 8. The calls are defined over any rule; the calls' own is `pad`.
+-- Both pad calls (document 01, 'Pads' and 'Numbers of the calls'): from everything lent to everything that stands on return,
+-- the input slices too. They test 3, 7, 6, 13, 8. The calls are defined over any rule; the calls' own is `pad`.
 use mathlib.Core.Bool.{Bool, false, not, _&&_, _||_}
 use mathlib.Core.List.{List, [], _∷_}
 use Prim.Native.Nat.{ℕ, zero, suc, _+_, _*_}
@@ -10,18 +10,22 @@ use Rattle.algebra.specs.Coding.{at, over}
 use Rattle.pads.specs.Bytes.{blockBytes, messageBytes}
 use Rattle.pads.specs.Pad.{Rule, pad, messages}
 
--- the number returned, and the output buffer on return
+-- the number returned, and all that is lent: v at the noise end or w at the scalar end, the choices or Δ, the output buffer
 pub record PadsOutcome : Type 0 where
   pub number : ℕ
+  pub values : List ℕ
+  pub choicesOrDelta : List ℕ
   pub pads : List ℕ
 
-abbrev pub outcome : ℕ → List ℕ → PadsOutcome
-outcome number pads = record { number = number; pads = pads }
+-- what a number and all that is lent at exit say
+abbrev pub outcome : ℕ → List ℕ → List ℕ → List ℕ → PadsOutcome
+outcome number values choicesOrDelta pads =
+    record { number = number; values = values; choicesOrDelta = choicesOrDelta; pads = pads }
 
--- an accepted call, of number 0, leaves what it wrote; a refused one the buffer as it was
-unfoldable pub answer : ℕ → List ℕ → List ℕ → PadsOutcome
-answer zero written pads = outcome 0 written
-answer (suc n) written pads = outcome (suc n) pads
+-- an accepted call, of number 0, leaves what it wrote and the input slices as they were; a refused one all as it was
+unfoldable pub answer : ℕ → List ℕ → List ℕ → List ℕ → List ℕ → PadsOutcome
+answer zero values choicesOrDelta pads written = outcome 0 values choicesOrDelta written
+answer (suc n) values choicesOrDelta pads written = outcome (suc n) values choicesOrDelta pads
 
 -- some byte is above a limit
 unfoldable pub anyAbove : ℕ → List ℕ → Bool
@@ -73,18 +77,14 @@ scalarNumber first count w delta room =
 -- the noise end writes the pad of v, 16 bytes an output
 unfoldable pub noisePadsBy : Rule → ℕ → ℕ → List ℕ → List ℕ → List ℕ → PadsOutcome
 noisePadsBy rule first count v choices pads =
-    answer
-    (noiseNumber first count v choices (length pads))
+    answer (noiseNumber first count v choices (length pads)) v choices pads
     (over blockBytes count (λ k. rule (first + k) (at blockBytes v k)) pads)
-    pads
 
 -- the scalar end writes the pad of w, then that of w exclusive-or Δ, 32 bytes an output
 unfoldable pub scalarPadsBy : Rule → ℕ → ℕ → List ℕ → List ℕ → List ℕ → PadsOutcome
 scalarPadsBy rule first count w delta pads =
-    answer
-    (scalarNumber first count w delta (length pads))
+    answer (scalarNumber first count w delta (length pads)) w delta pads
     (over messageBytes count (λ k. messages rule (first + k) (at blockBytes w k) (at blockBytes delta 0)) pads)
-    pads
 
 -- both calls
 abbrev pub noisePads : ℕ → ℕ → List ℕ → List ℕ → List ℕ → PadsOutcome

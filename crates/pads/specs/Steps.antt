@@ -1,4 +1,4 @@
--- What the inner functions ask of their callers; no contract of a public function cites this file.
+-- What the inner functions ask of their callers; no contract of an exported call cites this file.
 use mathlib.Core.Path.{_≡_}
 use mathlib.Core.List.{List}
 use Prim.Native.Nat.{ℕ, _+_, _*_, _≤_}

@@ -16,7 +16,8 @@ use write::write_pads;
 
 // The noise end's pads: of each block of v, 16 bytes an output. The first output's index is `first`.
 pub fn noise_pads(first: usize, count: usize, v: &[u8], choices: &[u8], pads: &mut [u8]) -> u32
-    ensures { λ r. ⌜ outcome r (now (pads .exit)) ≡ noisePads first count (now (v .entry)) (now (choices .entry)) (now (pads .entry)) ⌝ }
+    ensures { λ r. ⌜ outcome r (now (v .exit)) (now (choices .exit)) (now (pads .exit))
+        ≡ noisePads first count (now (v .entry)) (now (choices .entry)) (now (pads .entry)) ⌝ }
 {
     let number = noise_number(first, count, v, choices, pads.len());
     if number != 0 {
@@ -31,7 +32,8 @@ pub fn noise_pads(first: usize, count: usize, v: &[u8], choices: &[u8], pads: &m
 
 // The scalar end's pads: of each block of w, then of its sum with Δ, 32 bytes an output. The first output's index is `first`.
 pub fn scalar_pads(first: usize, count: usize, w: &[u8], delta: &[u8], pads: &mut [u8]) -> u32
-    ensures { λ r. ⌜ outcome r (now (pads .exit)) ≡ scalarPads first count (now (w .entry)) (now (delta .entry)) (now (pads .entry)) ⌝ }
+    ensures { λ r. ⌜ outcome r (now (w .exit)) (now (delta .exit)) (now (pads .exit))
+        ≡ scalarPads first count (now (w .entry)) (now (delta .entry)) (now (pads .entry)) ⌝ }
 {
     let number = scalar_number(first, count, w, delta, pads.len());
     if number != 0 {
