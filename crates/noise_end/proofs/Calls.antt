@@ -33,7 +33,7 @@ use Rattle.noise_end.specs.Vectors.{mu, v0}
 use Rattle.noise_end.specs.Offline as off
 use Rattle.noise_end.specs.Online as on
 use Rattle.noise_end.specs.Online.{Lent}
-use Rattle.noise_end.specs.Steps.{Fitting, Planted, treesAt, noiseExpansion, vExpansion, uOutputAt, outputAt, uOver, vOver, noiseUsed, lengthsNumber, rowsOutcome}
+use Rattle.noise_end.specs.Steps.{Fitting, TreesFit, treesAt, noiseExpansion, vExpansion, uOutputAt, outputAt, uOver, vOver, noiseUsed, lengthsNumber, rowsOutcome}
 use Rattle.noise_end.specs.Ready.{contentOf, Ready}
 use Rattle.noise_end.proofs.Content.{ready, refused-is}
 use Rattle.noise_end.proofs.Steps.{every-both}
@@ -50,9 +50,9 @@ module _ (s : List ℕ) (f : Front) (accepted : Ready s f) where
           let m : size * width ≤ 65536 * 2 = rw (se, we) (mul-le-mul z (width-most (f .field))) in
           record { fits = omega arith }
 
-      pub planted : (noise v : List ℕ) → size ≤ length noise → size * width ≤ length v
-          → Planted (f .field) (elementWidth (f .field)) (f .body) (f .depth) (f .trees) s (length (take size noise)) (length (take (size * width) v))
-      planted noise v h k =
+      pub trees-fit : (noise v : List ℕ) → size ≤ length noise → size * width ≤ length v
+          → TreesFit (f .field) (elementWidth (f .field)) (f .body) (f .depth) (f .trees) s (length (take size noise)) (length (take (size * width) v))
+      trees-fit noise v h k =
           record {
             two = accepted .two;
             levels = accepted .sizes .depth;

@@ -22,7 +22,7 @@ use Rattle.field.proofs.PrimeField.{primeLaws}
 use Rattle.rows.specs.Words.{elementWidth}
 use Rattle.rows.proofs.Widths.{width-binary, width-prime}
 use Rattle.rows.proofs.Windows.{Written, written-none, written-more, written-word, written-all}
-use Rattle.noise_end.specs.Steps.{Fitting, Planted, treesAt, noiseExpansion, vExpansion, uOutputAt, outputAt, uOver, vOver, noiseUsed}
+use Rattle.noise_end.specs.Steps.{Fitting, TreesFit, treesAt, noiseExpansion, vExpansion, uOutputAt, outputAt, uOver, vOver, noiseUsed}
 
 module _ (field size first count noise vector uRoom room : ℕ) (fits : Fitting (elementWidth field) size first count noise vector uRoom room) where
   pub fits-binary : field ≡ 1 → Fitting 2 size first count noise vector uRoom room
@@ -33,14 +33,14 @@ module _ (field size first count noise vector uRoom room : ℕ) (fits : Fitting 
 
 -- ---- the trees, at the kind of a field byte
 
-module _ (field body depth trees : ℕ) (source : List ℕ) (n m : ℕ) (planted : Planted field (elementWidth field) body depth trees source n m) where
-  pub planted-binary : field ≡ 1 → Planted 1 2 body depth trees source n m
+module _ (field body depth trees : ℕ) (source : List ℕ) (n m : ℕ) (trees-fit : TreesFit field (elementWidth field) body depth trees source n m) where
+  pub trees-fit-binary : field ≡ 1 → TreesFit 1 2 body depth trees source n m
   unfolding elementWidth
-  planted-binary e = rw e at planted
+  trees-fit-binary e = rw e at trees-fit
 
-  pub planted-prime : (field ≡ 1 → ⊥) → Planted 2 1 body depth trees source n m
+  pub trees-fit-prime : (field ≡ 1 → ⊥) → TreesFit 2 1 body depth trees source n m
   unfolding elementWidth
-  planted-prime h = rw (planted .two h) at planted
+  trees-fit-prime h = rw (trees-fit .two h) at trees-fit
 
   pub noise-expanded-binary : field ≡ 1 → {w : List ℕ} → w ≡ noiseExpansion binaryKind depth trees (treesAt 1 source body depth trees)
       → w ≡ noiseExpansion (kindOf field) depth trees (treesAt field source body depth trees)
@@ -52,11 +52,11 @@ module _ (field body depth trees : ℕ) (source : List ℕ) (n m : ℕ) (planted
 
   pub noise-expanded-prime : (field ≡ 1 → ⊥) → {w : List ℕ} → w ≡ noiseExpansion primeKind depth trees (treesAt 2 source body depth trees)
       → w ≡ noiseExpansion (kindOf field) depth trees (treesAt field source body depth trees)
-  noise-expanded-prime h q = rw (planted .two h) q
+  noise-expanded-prime h q = rw (trees-fit .two h) q
 
   pub expanded-prime : (field ≡ 1 → ⊥) → {v : List ℕ} → v ≡ vExpansion primeKind depth trees (treesAt 2 source body depth trees)
       → v ≡ vExpansion (kindOf field) depth trees (treesAt field source body depth trees)
-  expanded-prime h q = rw (planted .two h) q
+  expanded-prime h q = rw (trees-fit .two h) q
 
 -- ---- the words that rows use
 

@@ -39,7 +39,8 @@ use Rattle.tree.proofs.ChildLaws.{added-punctured-by}
 use Rattle.rows.proofs.Blocks.{columns-part}
 use Rattle.rows.proofs.Flats.{flat-accumulated, put-flat}
 use Rattle.rows.proofs.Sums.{treesSum, length-trees, trees-none, trees-more, trees-accumulated}
-use Rattle.noise_end.specs.Steps.{Planted, treesAt, treeIn, valueIn, correctionIn, leafIn, noiseExpansion, vExpansion}
+use Rattle.noise_end.specs.Vectors.{treeIn, valueIn, correctionIn, leafIn}
+use Rattle.noise_end.specs.Steps.{TreesFit, treesAt, noiseExpansion, vExpansion}
 use Rattle.noise_end.proofs.Content.{trees-at}
 
 -- ---- what is left of the record
@@ -177,7 +178,7 @@ pub record Zeros (K : Kind) : Type 0 where
   pub element : K .field .elements .words (K .field .scaled .group .zero) ≡ replicate (K .field .elements .width) 0
 
 module _ {K : Kind} (L : KindLaws K) {field depth trees : ℕ} {s : List ℕ} where
-  pub grown-none : Zeros K → {body n m : ℕ} {w v : List ℕ} → Planted field (K .field .elements .width) body depth trees s n m
+  pub grown-none : Zeros K → {body n m : ℕ} {w v : List ℕ} → TreesFit field (K .field .elements .width) body depth trees s n m
       → w ≡ replicate n 0 → v ≡ replicate m 0 → Grown K field depth trees s (treesAt field s body depth trees) body 0 0 w v
   grown-none zeros {body} p ww vv =
       record {

@@ -2,10 +2,9 @@
 -- those trees, the rows of a window, and the test of the words that they use.
 use mathlib.Core.Bool.{Bool, true, _||_, not}
 use mathlib.Core.Path.{_≡_}
-use mathlib.Core.List.{List, [], _∷_, map}
+use mathlib.Core.List.{List, []}
 use Prim.Native.Nat.{ℕ, _+_, _*_, _^_, _≤_, _<_}
 use lib.Dec.{ltb, eqb}
-use lib.ListN.{getD}
 use Rattle.algebra.specs.Choice.{choose}
 use Rattle.algebra.specs.Coding.{at, flat, over}
 use Rattle.algebra.specs.Expansion.{noise, punctured}
@@ -23,10 +22,8 @@ use Rattle.record.specs.declared.Front.{Front}
 use Rattle.rows.specs.Head.{fieldOf}
 use Rattle.rows.specs.Usable.{windowUsable}
 use Rattle.rows.specs.Words.{elementWidth}
+use Rattle.noise_end.specs.Vectors.{treeIn, valueIn, correctionIn, leafIn}
 use Rattle.noise_end.specs.Online.{Lent, Outcome, refusal, usable, filled}
-use Rattle.tree.specs.Child.{child}
-use Rattle.tree.specs.Columns.{columnsAt}
-use Rattle.tree.specs.Tree.{fromSiblings}
 
 -- the trees of a record of a field, which begin at a place
 unfoldable pub treesAt : ℕ → List ℕ → ℕ → ℕ → ℕ → List NoiseTree
@@ -35,20 +32,6 @@ treesAt field source body depth trees = from (readTrees field depth trees 0 sour
     from : Step (List NoiseTree) → List NoiseTree
     from (Whole z) = z .0
     from (Refused k) = []
-
--- tree i of those; its noise value, its correction, and the element of its leaf j
-abbrev pub treeIn : List NoiseTree → ℕ → NoiseTree
-treeIn ts i = getD ts i (record { position = 0; value = 0; correction = []; siblings = [] })
-
-abbrev pub valueIn : (K : Kind) → List NoiseTree → ℕ → Scalar (K .field)
-valueIn K ts i = K .field .scalars .read (treeIn ts i .value ∷ []) 0
-
-abbrev pub correctionIn : (K : Kind) → List NoiseTree → ℕ → Value (K .field)
-correctionIn K ts i = K .field .elements .read (treeIn ts i .correction) 0
-
-abbrev pub leafIn : (K : Kind) → ℕ → List NoiseTree → ℕ → ℕ → Value (K .field)
-leafIn K depth ts i j =
-    K .leaf (fromSiblings child [] (map (λ s. columnsAt s 0) (treeIn ts i .siblings)) depth (treeIn ts i .position) j)
 
 -- the words of the accumulated noise values of those trees, and of their accumulated sum
 unfoldable pub noiseExpansion : Kind → ℕ → ℕ → List NoiseTree → List ℕ
@@ -107,7 +90,7 @@ pub record Fitting (width size first count noise vector uRoom room : ℕ) : Type
   pub enough : count * width ≤ room
 
 -- trees of a record that was accepted, and as many words as all noise values and all elements of a width take
-pub record Planted (field width body depth trees : ℕ) (source : List ℕ) (noise v : ℕ) : Type 0 where
+pub record TreesFit (field width body depth trees : ℕ) (source : List ℕ) (noise v : ℕ) : Type 0 where
   pub two : (field ≡ 1 → ⊥) → field ≡ 2
   pub levels : depth ≤ 16
   pub known : isWhole (readTrees field depth trees 0 source body) ≡ true

@@ -1,30 +1,42 @@
 -- μ and v0, from the content of a noise record alone (document 01, 'Trees', 'Offline and online').
-use mathlib.Core.List.{[], _∷_, map}
+use mathlib.Core.List.{List, [], _∷_, map}
 use Prim.Native.Nat.{ℕ}
 use lib.ListN.{getD}
 use Rattle.algebra.specs.Expansion.{noise, punctured}
 use Rattle.algebra.specs.Field.{Scalar, Value}
+use Rattle.field.specs.Kind.{Kind}
 use Rattle.tree.specs.Child.{child}
 use Rattle.tree.specs.Columns.{columnsAt}
 use Rattle.tree.specs.Tree.{fromSiblings}
 use Rattle.record.specs.Content.{NoiseTree, NoisePart}
 use Rattle.rows.specs.Head.{kind, fieldOf}
 
--- tree i of the record
-abbrev pub tree : NoisePart → ℕ → NoiseTree
-tree P i = getD (P .trees) i (record { position = 0; value = 0; correction = []; siblings = [] })
+-- tree i of a list of trees; its noise value, its correction, and the element of its leaf j, which follows from the siblings
+abbrev pub treeIn : List NoiseTree → ℕ → NoiseTree
+treeIn ts i = getD ts i (record { position = 0; value = 0; correction = []; siblings = [] })
 
--- its noise value, its correction, and the element of its leaf j, which follows from the siblings
+abbrev pub valueIn : (K : Kind) → List NoiseTree → ℕ → Scalar (K .field)
+valueIn K ts i = K .field .scalars .read (treeIn ts i .value ∷ []) 0
+
+abbrev pub correctionIn : (K : Kind) → List NoiseTree → ℕ → Value (K .field)
+correctionIn K ts i = K .field .elements .read (treeIn ts i .correction) 0
+
+abbrev pub leafIn : (K : Kind) → ℕ → List NoiseTree → ℕ → ℕ → Value (K .field)
+leafIn K depth ts i j =
+    K .leaf (fromSiblings child [] (map (λ s. columnsAt s 0) (treeIn ts i .siblings)) depth (treeIn ts i .position) j)
+
+-- the same of a record's content
+abbrev pub tree : NoisePart → ℕ → NoiseTree
+tree P i = treeIn (P .trees) i
+
 abbrev pub value : (P : NoisePart) → ℕ → Scalar (fieldOf (P .head))
-value P i = fieldOf (P .head) .scalars .read (tree P i .value ∷ []) 0
+value P i = valueIn (kind (P .head)) (P .trees) i
 
 abbrev pub correction : (P : NoisePart) → ℕ → Value (fieldOf (P .head))
-correction P i = fieldOf (P .head) .elements .read (tree P i .correction) 0
+correction P i = correctionIn (kind (P .head)) (P .trees) i
 
 abbrev pub leaf : (P : NoisePart) → ℕ → ℕ → Value (fieldOf (P .head))
-leaf P i j =
-    kind (P .head) .leaf
-    (fromSiblings child [] (map (λ s. columnsAt s 0) (tree P i .siblings)) (P .head .depth) (tree P i .position) j)
+leaf P i j = leafIn (kind (P .head)) (P .head .depth) (P .trees) i j
 
 -- μ
 unfoldable pub mu : (P : NoisePart) → ℕ → Scalar (fieldOf (P .head))

@@ -4,7 +4,7 @@ ghost use lib.ListN.{length};
 ghost use Rattle.sbox.specs.Table.{Tables};
 ghost use Rattle.field.specs.Kind.{kindOf, binaryKind, primeKind};
 ghost use Rattle.rows.specs.Words.{elementWidth};
-ghost use Rattle.noise_end.specs.Steps.{Planted, treesAt, noiseExpansion, vExpansion};
+ghost use Rattle.noise_end.specs.Steps.{TreesFit, treesAt, noiseExpansion, vExpansion};
 ghost use Rattle.noise_end.specs.Offline.{expanded, expand};
 ghost use Rattle.noise_end.specs.Ready.{Ready, contentOf};
 use answer::TwoLengths;
@@ -36,7 +36,7 @@ fn expand_binary(
     v: &mut [u64],
 )
     requires { ⌜ Tables (now sbox) (now mix) ⌝ }
-    requires { ⌜ Planted 1 2 body depth trees (now source) (length (now noise)) (length (now v)) ⌝ }
+    requires { ⌜ TreesFit 1 2 body depth trees (now source) (length (now noise)) (length (now v)) ⌝ }
     ensures { λ _. ⌜ (now (noise .exit) ≡ noiseExpansion binaryKind depth trees (treesAt 1 (now (source .entry)) body depth trees))
         × (now (v .exit) ≡ vExpansion binaryKind depth trees (treesAt 1 (now (source .entry)) body depth trees)) ⌝ }
 {
@@ -88,7 +88,7 @@ fn expand_prime(
     v: &mut [u64],
 )
     requires { ⌜ Tables (now sbox) (now mix) ⌝ }
-    requires { ⌜ Planted 2 1 body depth trees (now source) (length (now noise)) (length (now v)) ⌝ }
+    requires { ⌜ TreesFit 2 1 body depth trees (now source) (length (now noise)) (length (now v)) ⌝ }
     ensures { λ _. ⌜ (now (noise .exit) ≡ noiseExpansion primeKind depth trees (treesAt 2 (now (source .entry)) body depth trees))
         × (now (v .exit) ≡ vExpansion primeKind depth trees (treesAt 2 (now (source .entry)) body depth trees)) ⌝ }
 {
@@ -134,7 +134,7 @@ fn expand_trees(
     noise: &mut [u64],
     v: &mut [u64],
 )
-    requires { ⌜ Planted field (elementWidth field) body depth trees (now source) (length (now noise)) (length (now v)) ⌝ }
+    requires { ⌜ TreesFit field (elementWidth field) body depth trees (now source) (length (now noise)) (length (now v)) ⌝ }
     ensures { λ _. ⌜ (now (noise .exit) ≡ noiseExpansion (kindOf field) depth trees (treesAt field (now (source .entry)) body depth trees))
         × (now (v .exit) ≡ vExpansion (kindOf field) depth trees (treesAt field (now (source .entry)) body depth trees)) ⌝ }
 {

@@ -41,7 +41,7 @@ use Rattle.scalar_end.specs.Vectors.{leaf, w0, deltaWords}
 use Rattle.scalar_end.specs.Offline as off
 use Rattle.scalar_end.specs.Online as on
 use Rattle.scalar_end.specs.Online.{Lent}
-use Rattle.scalar_end.specs.Steps.{Fitting, Rooted, expansion, deltaAt, outputAt, windowOver, lengthsNumber, rowsOutcome}
+use Rattle.scalar_end.specs.Steps.{Fitting, RootsFit, expansion, deltaAt, outputAt, windowOver, lengthsNumber, rowsOutcome}
 use Rattle.scalar_end.specs.Ready.{rootsAt, contentOf, Ready}
 use Rattle.scalar_end.proofs.Content.{ready, refused-is}
 use Rattle.scalar_end.proofs.Laws.{offline-whole, offline-refused, online-whole, online-refused}
@@ -95,9 +95,9 @@ module _ (s : List ℕ) (f : Front) (accepted : Ready s f) where
           let m : size * width ≤ 65536 * 2 = rw (se, we) (mul-le-mul z (width-most (f .field))) in
           record { fits = omega arith }
 
-      pub rooted : (w : List ℕ) → size * width ≤ length w
-          → Rooted (elementWidth (f .field)) (f .body + 8 * width) (f .depth) (f .trees) (length s) (length (take (size * width) w))
-      rooted w h = record { roots = rw we (accepted .room); whole = length-take-le (size * width) w h ∙ rw (se, we) }
+      pub roots-fit : (w : List ℕ) → size * width ≤ length w
+          → RootsFit (elementWidth (f .field)) (f .body + 8 * width) (f .depth) (f .trees) (length s) (length (take (size * width) w))
+      roots-fit w h = record { roots = rw we (accepted .room); whole = length-take-le (size * width) w h ∙ rw (se, we) }
 
   -- a window that fits
   pub length-fits : (size first count n m : ℕ) → Fitting (elementWidth (f .field)) size first count n m

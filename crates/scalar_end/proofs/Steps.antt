@@ -21,7 +21,7 @@ use Rattle.field.proofs.PrimeField.{primeLaws}
 use Rattle.rows.specs.Words.{elementWidth}
 use Rattle.rows.proofs.Widths.{width-binary, width-prime}
 use Rattle.rows.proofs.Windows.{Written, written-none, written-more, written-word, written-all}
-use Rattle.scalar_end.specs.Steps.{Fitting, Rooted, expansion, deltaAt, outputAt, windowOver}
+use Rattle.scalar_end.specs.Steps.{Fitting, RootsFit, expansion, deltaAt, outputAt, windowOver}
 
 -- ---- a window, at the kind of a field byte
 
@@ -34,11 +34,11 @@ module _ (field size first count vector room : ℕ) (fits : Fitting (elementWidt
 
 -- ---- trees, at the kind of a field byte
 
-module _ (field place depth trees source words : ℕ) (roots : Rooted (elementWidth field) place depth trees source words) where
-  pub roots-binary : field ≡ 1 → Rooted 2 place depth trees source words
+module _ (field place depth trees source words : ℕ) (roots : RootsFit (elementWidth field) place depth trees source words) where
+  pub roots-binary : field ≡ 1 → RootsFit 2 place depth trees source words
   roots-binary e = rw (width-binary field e) at roots
 
-  pub roots-prime : (field ≡ 1 → ⊥) → Rooted 1 place depth trees source words
+  pub roots-prime : (field ≡ 1 → ⊥) → RootsFit 1 place depth trees source words
   roots-prime e = rw (width-prime field e) at roots
 
 module _ (source : List ℕ) (place depth trees : ℕ) where

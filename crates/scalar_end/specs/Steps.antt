@@ -68,6 +68,6 @@ pub record Fitting (width size first count vector room : ℕ) : Type 0 where
   pub enough : count * width ≤ room
 
 -- roots of 16 bytes from a place on, and as many words as all elements of a width take
-pub record Rooted (width at depth trees source words : ℕ) : Type 0 where
+pub record RootsFit (width at depth trees source words : ℕ) : Type 0 where
   pub roots : at + 16 * trees ≤ source
   pub whole : words ≡ 2 ^ depth * width

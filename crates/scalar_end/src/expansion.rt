@@ -6,7 +6,7 @@ ghost use lib.ListN.{length, drop};
 ghost use Rattle.sbox.specs.Table.{Tables};
 ghost use Rattle.field.specs.Kind.{kindOf, binaryKind, primeKind};
 ghost use Rattle.rows.specs.Words.{elementWidth};
-ghost use Rattle.scalar_end.specs.Steps.{Rooted, expansion, deltaAt};
+ghost use Rattle.scalar_end.specs.Steps.{RootsFit, expansion, deltaAt};
 ghost use Rattle.scalar_end.specs.Offline.{expanded, expand};
 ghost use Rattle.scalar_end.specs.Ready.{Ready, contentOf};
 use answer::TwoLengths;
@@ -35,7 +35,7 @@ fn expand_binary(
     w: &mut [u64],
 )
     requires { ⌜ Tables (now sbox) (now mix) ⌝ }
-    requires { ⌜ Rooted 2 at depth trees (length (now source)) (length (now w)) ⌝ }
+    requires { ⌜ RootsFit 2 at depth trees (length (now source)) (length (now w)) ⌝ }
     ensures { λ _. ⌜ now (w .exit) ≡ expansion binaryKind (now (source .entry)) at depth trees ⌝ }
 {
     let left = left_keys(sbox);
@@ -62,7 +62,7 @@ fn expand_prime(
     w: &mut [u64],
 )
     requires { ⌜ Tables (now sbox) (now mix) ⌝ }
-    requires { ⌜ Rooted 1 at depth trees (length (now source)) (length (now w)) ⌝ }
+    requires { ⌜ RootsFit 1 at depth trees (length (now source)) (length (now w)) ⌝ }
     ensures { λ _. ⌜ now (w .exit) ≡ expansion primeKind (now (source .entry)) at depth trees ⌝ }
 {
     let left = left_keys(sbox);
@@ -79,7 +79,7 @@ fn expand_prime(
 
 // Writes the accumulated w0 of the trees whose roots begin at a place.
 fn expand_trees(source: &[u8], at: usize, field: usize, depth: usize, trees: usize, w: &mut [u64])
-    requires { ⌜ Rooted (elementWidth field) at depth trees (length (now source)) (length (now w)) ⌝ }
+    requires { ⌜ RootsFit (elementWidth field) at depth trees (length (now source)) (length (now w)) ⌝ }
     ensures { λ _. ⌜ now (w .exit) ≡ expansion (kindOf field) (now (source .entry)) at depth trees ⌝ }
 {
     let sb = sbox::table();

@@ -1,6 +1,6 @@
 -- `noise_end::expansion::write_vectors` meets its contract: one law a way out. Assumes nothing.
 use borrow.Author.Needs.{needs}
-use Rattle.noise_end.proofs.Calls.{words-fit, front-length, planted, short-noise, short-v, vectors-written}
+use Rattle.noise_end.proofs.Calls.{words-fit, front-length, trees-fit, short-noise, short-v, vectors-written}
 use Rattle.noise_end.proofs.expansion.write_vectors.Statement.{statement}
 use Rattle.noise_end.proofs.expansion.write_vectors.Tie as tie
 
@@ -17,7 +17,7 @@ write-vectors-spec =
     (λ c. search front-length)  -- slice-aggregate-expand-trees
     (λ c. search needs)  -- slice-relend-prefix-expand-trees-2
     (λ c. search front-length)  -- slice-aggregate-expand-trees-2
-    (λ c κs. search planted)  -- expand-trees-requires
+    (λ c κs. search trees-fit)  -- expand-trees-requires
     (λ c. search needs)  -- same-length
     (λ c. search needs)  -- same-length-2
     (λ c. search vectors-written)  -- returns-3

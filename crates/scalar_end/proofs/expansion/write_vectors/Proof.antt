@@ -1,6 +1,6 @@
 -- `scalar_end::expansion::write_vectors` meets its contract: one law a way out. Assumes nothing.
 use borrow.Author.Needs.{needs}
-use Rattle.scalar_end.proofs.Calls.{words-fit, front-length, rooted, short-w, short-delta, vectors-written}
+use Rattle.scalar_end.proofs.Calls.{words-fit, front-length, roots-fit, short-w, short-delta, vectors-written}
 use Rattle.scalar_end.proofs.expansion.write_vectors.Statement.{statement}
 use Rattle.scalar_end.proofs.expansion.write_vectors.Tie as tie
 
@@ -17,7 +17,7 @@ write-vectors-spec =
     (λ c. search needs)  -- add-roots
     (λ c. search needs)  -- slice-relend-prefix-expand-trees
     (λ c. search front-length)  -- slice-aggregate-expand-trees
-    (λ c κs. search rooted)  -- expand-trees-requires
+    (λ c κs. search roots-fit)  -- expand-trees-requires
     (λ c κs. search needs)  -- write-delta-requires
     (λ c. search needs)  -- same-length
     (λ c. search needs)  -- same-length-2
