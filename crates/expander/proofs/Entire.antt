@@ -28,7 +28,7 @@ record-laws =
     }
 
 pub outputs : Outputs
-outputs I M a b z x h = admitted-correlated I (dealing.deal-number I a b z .admitted) x
+outputs I a b z x h = admitted-correlated I (dealing.deal-number I a b z .admitted) x
 
 -- every two lists
 pub lists : Lists
@@ -38,7 +38,7 @@ lists S =
     (dealing.scalar-reads (S .input) (S .noiseRecord) (S .scalarRecord) (S .dealt) (S .inMemory))
 
 pub pads : Pads
-pads I M one a b z first count vs choices out noise-accepted first′ count′ ws Δs out′ scalar-accepted x h in-noise in-scalar lent =
+pads I one a b z first count vs choices out noise-accepted first′ count′ ws Δs out′ scalar-accepted x h in-noise in-scalar lent =
     admitted-pads first count vs choices out noise-accepted first′ count′ ws Δs out′ scalar-accepted x in-noise in-scalar I
     (dealing.deal-number I a b z .admitted) one lent
 

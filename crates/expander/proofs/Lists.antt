@@ -104,16 +104,16 @@ module _ (S : Setting) (A : Admitted (S .input))
   -- the memory that each offline call left holds the record and them
   noise-start : readNoise (noiseStart S .source) ≡ Whole (noisePart (S .input))
   noise-start =
-      ap readNoise (noiseLaws.offline-accepted (noiseSource S) (S .noise) (S .v) noise-reads (S .noiseAccepted) .record-kept) ∙ noise-reads
+      ap readNoise (noiseLaws.offline-accepted (noiseSource S) (S .noiseBuffer) (S .vBuffer) noise-reads (S .noiseAccepted) .record-kept) ∙ noise-reads
 
   scalar-start : readScalar (scalarStart S .source) ≡ Whole (scalarPart (S .input))
   scalar-start =
-      ap readScalar (scalarLaws.offline-accepted (scalarSource S) (S .w) (S .delta) scalar-reads (S .scalarAccepted) .record-kept) ∙ scalar-reads
+      ap readScalar (scalarLaws.offline-accepted (scalarSource S) (S .wBuffer) (S .deltaBuffer) scalar-reads (S .scalarAccepted) .record-kept) ∙ scalar-reads
 
   noise-words : noiseStart S .noise ≡ flat (field (S .input) .scalars) (2 ^ S .input .depth) accMu
   unfolding accMu
   noise-words =
-      noiseLaws.offline-accepted (noiseSource S) (S .noise) (S .v) noise-reads (S .noiseAccepted) .noise
+      noiseLaws.offline-accepted (noiseSource S) (S .noiseBuffer) (S .vBuffer) noise-reads (S .noiseAccepted) .noise
       ∙ flat-cong (field (S .input) .scalars) (kindLaws (S .input .field) .field .scalars) (2 ^ S .input .depth) _ _
       (accumulate-same (field (S .input) .ring .group) (2 ^ S .input .depth) (noisePartVectors.mu (noisePart (S .input))) (mu (S .input))
       (λ j h. mu-dealt (S .input) A j))
@@ -121,7 +121,7 @@ module _ (S : Setting) (A : Admitted (S .input))
   v-words : noiseStart S .v ≡ flat (field (S .input) .elements) (2 ^ S .input .depth) accV0
   unfolding accV0
   v-words =
-      noiseLaws.offline-accepted (noiseSource S) (S .noise) (S .v) noise-reads (S .noiseAccepted) .v
+      noiseLaws.offline-accepted (noiseSource S) (S .noiseBuffer) (S .vBuffer) noise-reads (S .noiseAccepted) .v
       ∙ flat-cong (field (S .input) .elements) (kindLaws (S .input .field) .field .elements) (2 ^ S .input .depth) _ _
       (accumulate-same (field (S .input) .scaled .group) (2 ^ S .input .depth) (noisePartVectors.v0 (noisePart (S .input))) (v0 (S .input))
       (v0-dealt (S .input) A))
@@ -129,7 +129,7 @@ module _ (S : Setting) (A : Admitted (S .input))
   w-words : scalarStart S .w ≡ flat (field (S .input) .elements) (2 ^ S .input .depth) accW0
   unfolding accW0
   w-words =
-      scalarLaws.offline-accepted (scalarSource S) (S .w) (S .delta) scalar-reads (S .scalarAccepted) .w
+      scalarLaws.offline-accepted (scalarSource S) (S .wBuffer) (S .deltaBuffer) scalar-reads (S .scalarAccepted) .w
       ∙ flat-cong (field (S .input) .elements) (kindLaws (S .input .field) .field .elements) (2 ^ S .input .depth) _ _
       (accumulate-same (field (S .input) .scaled .group) (2 ^ S .input .depth) (scalarPartVectors.w0 (scalarPart (S .input))) (w0 (S .input))
       (λ j h. w0-dealt (S .input) A j))
@@ -217,7 +217,7 @@ module _ (S : Setting) (A : Admitted (S .input))
           scalar-values = scalar-values;
           scalar-delta =
               ap (λ l. at (field (S .input) .elements) l 0)
-              (scalarLaws.offline-accepted (scalarSource S) (S .w) (S .delta) scalar-reads (S .scalarAccepted) .delta)
+              (scalarLaws.offline-accepted (scalarSource S) (S .wBuffer) (S .deltaBuffer) scalar-reads (S .scalarAccepted) .delta)
               ∙ delta-back (S .input .field) (wordAt (S .input .delta) 0) (wordAt (S .input .delta) 8) (A .field);
           noise-memory = noise-end (noiseStart S) noiseCalls;
           scalar-memory = scalar-end (scalarStart S) scalarCalls;

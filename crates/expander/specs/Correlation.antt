@@ -24,7 +24,7 @@ use Rattle.scalar_end.specs.Online as scalarOnline
 -- w = Δu + v at each output of every accepted dealing
 abbrev pub Outputs : Type 0
 Outputs =
-    (I : Input) → InMemory I → (a b : List ℕ) → deal I a b .number ≡ 0
+    (I : Input) (a b : List ℕ) → deal I a b .number ≡ 0
     → (x : ℕ) → x < I .outputs → Correlated (field I .scaled) (delta I) (u I x) (v I x) (w I x)
 
 -- ---- before the lists: an accepted dealing, and an accepted offline call of each end on its own record
@@ -37,18 +37,18 @@ pub record Setting : Type 0 where
   pub scalarRecord : List ℕ
   pub dealt : deal input noiseRecord scalarRecord .number ≡ 0
   -- the buffers lent to the noise end's offline call
-  pub noise : List ℕ
-  pub v : List ℕ
+  pub noiseBuffer : List ℕ
+  pub vBuffer : List ℕ
   pub noiseAccepted :
       noiseOffline.offline
-      (take (deal input noiseRecord scalarRecord .first) (deal input noiseRecord scalarRecord .noiseRecord)) noise v .number
+      (take (deal input noiseRecord scalarRecord .first) (deal input noiseRecord scalarRecord .noiseRecord)) noiseBuffer vBuffer .number
       ≡ 0
   -- the buffers lent to the scalar end's offline call
-  pub w : List ℕ
-  pub delta : List ℕ
+  pub wBuffer : List ℕ
+  pub deltaBuffer : List ℕ
   pub scalarAccepted :
       scalarOffline.offline
-      (take (deal input noiseRecord scalarRecord .second) (deal input noiseRecord scalarRecord .scalarRecord)) w delta .number
+      (take (deal input noiseRecord scalarRecord .second) (deal input noiseRecord scalarRecord .scalarRecord)) wBuffer deltaBuffer .number
       ≡ 0
 
 -- what the dealing left
@@ -101,7 +101,7 @@ noiseLast m (c ∷ calls) = noiseLast (noiseLeft (noiseStep m c)) calls
 
 -- what the noise end's offline call left
 abbrev pub noiseExpanded : Setting → noiseOffline.Expanded
-noiseExpanded S = noiseOffline.offline (noiseSource S) (S .noise) (S .v)
+noiseExpanded S = noiseOffline.offline (noiseSource S) (S .noiseBuffer) (S .vBuffer)
 
 -- the memory as the offline call left it: the record, and the fronts of the returned lengths
 abbrev pub noiseStart : Setting → NoiseMemory
@@ -120,13 +120,13 @@ listedNoiseNumber I c =
 
 -- an outcome hands out u and v at index x: word k of the first output buffer and element k of the second on return, at
 -- index first + k for k below c; a refused call hands out nothing
-pub record NoiseHands (I : Input) (c : NoiseCall) (o : noiseOnline.Outcome) (x : ℕ) (u : Scalar (field I)) (v : Value (field I)) : Type 0 where
+pub record NoiseHands (I : Input) (c : NoiseCall) (o : noiseOnline.Outcome) (x : ℕ) (u′ : Scalar (field I)) (v′ : Value (field I)) : Type 0 where
   pub accepted : o .number ≡ 0
   pub k : ℕ
   pub within : k < c .count
   pub index : x ≡ c .first + k
-  pub u-word : u ≡ at (field I .scalars) (o .lent .uOut) k
-  pub v-element : v ≡ at (field I .elements) (o .lent .vOut) k
+  pub u-word : u′ ≡ at (field I .scalars) (o .lent .uOut) k
+  pub v-element : v′ ≡ at (field I .elements) (o .lent .vOut) k
 
 -- ---- the scalar end's list of calls
 
@@ -161,7 +161,7 @@ scalarLast m (c ∷ calls) = scalarLast (scalarLeft (scalarStep m c)) calls
 
 -- what the scalar end's offline call left
 abbrev pub scalarExpanded : Setting → scalarOffline.Expanded
-scalarExpanded S = scalarOffline.offline (scalarSource S) (S .w) (S .delta)
+scalarExpanded S = scalarOffline.offline (scalarSource S) (S .wBuffer) (S .deltaBuffer)
 
 -- the memory as the offline call left it: the record, and the front of the returned length
 abbrev pub scalarStart : Setting → ScalarMemory
@@ -178,12 +178,12 @@ listedScalarNumber I c =
 
 -- an outcome hands out w at index x: element k of the output buffer on return, at index first + k for k below c; a refused
 -- call hands out nothing
-pub record ScalarHands (I : Input) (c : ScalarCall) (o : scalarOnline.Outcome) (x : ℕ) (w : Value (field I)) : Type 0 where
+pub record ScalarHands (I : Input) (c : ScalarCall) (o : scalarOnline.Outcome) (x : ℕ) (w′ : Value (field I)) : Type 0 where
   pub accepted : o .number ≡ 0
   pub k : ℕ
   pub within : k < c .count
   pub index : x ≡ c .first + k
-  pub w-element : w ≡ at (field I .elements) (o .lent .wOut) k
+  pub w-element : w′ ≡ at (field I .elements) (o .lent .wOut) k
 
 -- ---- the single claim about every two lists
 
@@ -218,7 +218,7 @@ pub record Claim (S : Setting) (noiseCalls : List NoiseCall) (scalarCalls : List
       → ScalarHands (S .input) (scalarCall scalarCalls i) (scalarOutcome S scalarCalls i) x w′
       → w′ ≡ w (S .input) x
   -- the scalar end's Δ, as its offline call left it, is the dealing's
-  pub scalar-delta : at (field (S .input) .elements) (scalarDelta S) 0 ≡ Rattle.dealing.specs.Vectors.delta (S .input)
+  pub scalar-delta : at (field (S .input) .elements) (scalarDelta S) 0 ≡ delta (S .input)
   -- the record and the vectors end as they began
   pub noise-memory : noiseLast (noiseStart S) noiseCalls ≡ noiseStart S
   pub scalar-memory : scalarLast (scalarStart S) scalarCalls ≡ scalarStart S
@@ -227,7 +227,7 @@ pub record Claim (S : Setting) (noiseCalls : List NoiseCall) (scalarCalls : List
       → (x : ℕ) (u′ : Scalar (field (S .input))) (v′ w′ : Value (field (S .input)))
       → NoiseHands (S .input) (noiseCall noiseCalls i) (noiseOutcome S noiseCalls i) x u′ v′
       → ScalarHands (S .input) (scalarCall scalarCalls j) (scalarOutcome S scalarCalls j) x w′
-      → Correlated (field (S .input) .scaled) (Rattle.dealing.specs.Vectors.delta (S .input)) u′ v′ w′
+      → Correlated (field (S .input) .scaled) (delta (S .input)) u′ v′ w′
 
 -- for every two lists, one at each end
 abbrev pub Lists : Type 0
@@ -251,7 +251,7 @@ pub record PadsLent (I : Input) (x first : ℕ) (vs choices : List ℕ) (first�
 -- 16 bytes for x are those of the message that the choice bit names: the byte lent for x, which by `u-lent` is u at x
 abbrev pub Pads : Type 0
 Pads =
-    (I : Input) → InMemory I → I .field ≡ 1 → (a b : List ℕ) → deal I a b .number ≡ 0
+    (I : Input) → I .field ≡ 1 → (a b : List ℕ) → deal I a b .number ≡ 0
     → (first count : ℕ) (vs choices pads : List ℕ) → noisePads first count vs choices pads .number ≡ 0
     → (first′ count′ : ℕ) (ws Δ pads′ : List ℕ) → scalarPads first′ count′ ws Δ pads′ .number ≡ 0
     → (x : ℕ) → x < I .outputs → InWindow first count x → InWindow first′ count′ x

@@ -1,5 +1,5 @@
--- What demand 2 says of records (document 01, 'Key records'): each record that a dealing writes reads back as that end's part
--- of it, and an accepted record is the only writing of its content.
+-- What document 01 says of records ('Key records', 'Numbers of the calls'): each record that a dealing writes reads back as
+-- that end's part of it, an accepted record is the only writing of its content, and none is accepted at both ends.
 use mathlib.Core.Path.{_≡_}
 use mathlib.Core.List.{List}
 use Prim.Native.Nat.{ℕ}
