@@ -31,7 +31,8 @@ small field value delta =
 abbrev pub records : Input → Dealt
 records I = deal I (replicate 64 0) (replicate 64 0)
 
--- the noise end: offline into 2 and 4 words, then window 0 and 1 into 1 and 2 words; what stands on return, the number first
+-- the noise end: offline into 2 and 4 words, then window 0 and 1 into 1 and `width` words; what stands on return, the number
+-- first
 abbrev pub noiseGiven : ℕ → Input → List ℕ
 noiseGiven width I =
     let source = take (records I .first) (records I .noiseRecord) in

@@ -21,7 +21,7 @@ pub record AllHeld (noise scalar : List ℕ) (n : ℕ) : Type 0 where
   pub found : verdict noise scalar ≡ Checked n n
   pub line : text (verdict noise scalar) ≡ checkedText ++ (decimal n ++ (heldText ++ decimal n))
 
--- the claim
+-- any two records that read as such parts are found to hold at all n outputs, and print `checked n held n`
 abbrev pub CorrelatedHeld : Type 0
 CorrelatedHeld = (noise scalar : List ℕ) (P : NoisePart) (Q : ScalarPart) → readNoise noise ≡ Whole P → readScalar scalar ≡ Whole Q
     → CorrelatedParts P Q → AllHeld noise scalar (P .head .outputs)
