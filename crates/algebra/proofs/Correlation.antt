@@ -11,7 +11,7 @@ use Rattle.algebra.specs.Choice.{choose}
 use Rattle.algebra.specs.Group.{Element, Ring, Scaled, RingLaws, ScaledLaws, itself}
 use Rattle.algebra.specs.Sum.{sum, accumulate}
 use Rattle.algebra.specs.Row.{Row, RowWithin, output, entry, rowTimes}
-use Rattle.algebra.specs.Expansion.{Rising, noise, correction, punctured, whole, Correlated}
+use Rattle.algebra.specs.Expansion.{Rising, noise, NoiseIs, correction, punctured, whole, Correlated}
 use Rattle.algebra.proofs.Choice.{choose-true, choose-false, choose-either}
 use Rattle.algebra.proofs.Sum.{sum-cong, sum-element, sum-add, sum-zeros, add-zero, sum-scale, itself-laws}
 use Rattle.algebra.proofs.Matrix.{output-is-matrix}
@@ -47,6 +47,9 @@ module _ (R : Ring) where
   noise-elsewhere (suc t) position value j n =
       choose-false (eqb (position t) j) (value t) _ (ne-eqb (position t) j (n t (omega arith)))
       ∙ noise-elsewhere t position value j (λ i h. n i (omega arith))
+
+  pub noise-is : NoiseIs R
+  noise-is = record { at-positions = noise-at; elsewhere = noise-elsewhere }
 
   module _ (RL : RingLaws R) where
     pub noise-element : (t : ℕ) (position : ℕ → ℕ) (value : ℕ → R .group .Of) → ((i : ℕ) → i < t → Element (R .group) (value i))

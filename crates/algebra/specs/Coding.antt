@@ -11,6 +11,7 @@ pub record Coding (A : Type 0) : Type 0 where
   pub words : A → List ℕ
   pub read : List ℕ → ℕ → A
 
+-- the laws of a coding: every value takes as many words as the width says, and reading and writing undo each other
 pub record CodingLaws {A : Type 0} (C : Coding A) : Type 0 where
   pub length-words : (a : A) → length (C .words a) ≡ C .width
   pub read-words : (before : List ℕ) (a : A) (after : List ℕ) → C .read (before ++ (C .words a ++ after)) (length before) ≡ a

@@ -16,6 +16,13 @@ unfoldable pub noise : (R : Ring) → ℕ → (ℕ → ℕ) → (ℕ → R .grou
 noise R zero position value j = R .group .zero
 noise R (suc t) position value j = choose (eqb (position t) j) (value t) (noise R t position value j)
 
+-- μ is the vector with the noise values at their positions, which rise strictly, and zero elsewhere ('Offline and online')
+pub record NoiseIs (R : Ring) : Type 0 where
+  pub at-positions : (t : ℕ) (position : ℕ → ℕ) (value : ℕ → R .group .Of) → Rising t position
+      → (i : ℕ) → i < t → noise R t position value (position i) ≡ value i
+  pub elsewhere : (t : ℕ) (position : ℕ → ℕ) (value : ℕ → R .group .Of)
+      → (j : ℕ) → ((i : ℕ) → i < t → position i ≡ j → ⊥) → noise R t position value j ≡ R .group .zero
+
 -- the correction of a tree: the leaf element at its position minus Δ × value
 unfoldable pub correction : {R : Ring} (S : Scaled R) → S .group .Of → S .group .Of → R .group .Of → S .group .Of
 correction S Δ leaf y = S .group .sub leaf (S .scale y Δ)

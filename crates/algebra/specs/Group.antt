@@ -1,5 +1,5 @@
--- Commutative groups, commutative rings, and groups that a ring scales (document 01, 'Questions', the last answer): the
--- operations, and the laws apart from them.
+-- Commutative groups, commutative rings, and groups that a ring scales (document 01, 'Questions a reader of the promises may
+-- put', the last answer): the operations, and the laws apart from them.
 -- A carrier may have values that are no elements, as a word of p or more. The operations make elements of whatever they get.
 use mathlib.Core.Path.{_≡_}
 use mathlib.Core.Bool.{Bool, true}

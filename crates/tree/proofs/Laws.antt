@@ -12,6 +12,7 @@ use lib.ListN.{length}
 use borrow.Author.Tests.{eq-eqb, ne-eqb, eqb-true, eqb-false}
 use Rattle.algebra.specs.Choice.{choose}
 use Rattle.tree.specs.Tree.{path, reach, leafAt, siblingAt, listed, siblings, follow, fromSiblings}
+use Rattle.tree.specs.Follows.{FromSiblings}
 use Rattle.tree.specs.Added.{leafElement, puncturedElement}
 use Rattle.tree.proofs.Paths.{bit, path-none, bit-below, bit-low, bit-high, path-high, mod-suc-bit}
 use Rattle.tree.proofs.Listed.{length-listed, listed-front}
@@ -139,8 +140,7 @@ module _ {A : Type 0} (child : ℕ → A → A) where
             (flipped (bit d s) (bit d j) (bit-below d s) (bit-below d j) (eqb-false (bit d s) (bit d j) e))
 
     -- from the siblings of root at s, every leaf but s comes out as root's own leaf
-    pub from-siblings : (d : ℕ) (root : A) (s j : ℕ) → s < 2 ^ d → j < 2 ^ d → s ≢ j
-        → fromSiblings child none (siblings child d root s) d s j ≡ leafAt child d root j
+    pub from-siblings : FromSiblings child none
     from-siblings d root s j hs hj h =
         from-siblings-mod d root s j (λ e. h (sym (mod-eq-of-lt hs) ∙ e ∙ mod-eq-of-lt hj))
 

@@ -1,5 +1,6 @@
 -- The definitions of `tree` (document 01, 'Trees').
 pub mod Tree
+pub mod Follows
 pub mod Child
 pub mod Columns
 pub mod Added
