@@ -95,19 +95,19 @@ module _ (keys : List (List (List ℕ))) (N ℓ x : ℕ) (words : List ℕ) wher
     unfolding rowOf primesSum
     primes-done a e h k p = p ∙ terms-done (itself primeRing) (primeRow keys N ℓ x) (at (primes .elements) words) i e h k
 
-    module _ {j : ℕ} (named : (m : ℕ) → j ≡ termPlace keys N m x i) where
+    module _ {j : ℕ} (named : j ≡ termPlace keys N ℓ x i) where
       pub bits-more : {u next : ℕ} → u ≡ bitsSum i → next ≡ bitAdd u (getD words j 0) → next ≡ bitsSum (i + 1)
       unfolding rowOf bitsSum
       bits-more {u} {next} e q =
           let one : bitMul 1 (getD words j 0) ≡ bitMul 1 (at (binary .scalars) words (termPlace keys N ℓ x i)) =
-          ap (bitMul 1) (word-at words (named ℓ)) in
+          ap (bitMul 1) (word-at words named) in
           terms-more (itself bitRing) (binaryRow keys N ℓ x) (at (binary .scalars) words) i e one (omega arith)
 
       pub blocks-more : {a e next : Block} → a ≡ blocksSum i → e ≡ at (binary .elements) words j → next ≡ blockAdd a e → next ≡ blocksSum (i + 1)
       unfolding rowOf blockScale blocksSum
       blocks-more e p q =
           terms-more blocks (binaryRow keys N ℓ x) (at (binary .elements) words) i e
-          (p ∙ ap (at (binary .elements) words) (named ℓ)) q
+          (p ∙ ap (at (binary .elements) words) named) q
 
       pub primes-more : (a next word : ℕ) → primeReduce a ≡ primesSum i → word ≡ highOf (termBlock keys x i)
           → primeReduce next ≡ primeAdd (prime a) (primeMul (prime word) (prime (getD words j 0)))
@@ -115,5 +115,5 @@ module _ (keys : List (List (List ℕ))) (N ℓ x : ℕ) (words : List ℕ) wher
       unfolding rowOf primesSum
       primes-more a next word e p q =
           terms-more (itself primeRing) (primeRow keys N ℓ x) (at (primes .elements) words) i e
-          (reduced-mul word (prime (getD words j 0)) ∙ ap₂ primeMul (ap primeReduce p) (ap prime (word-at words (named ℓ))))
+          (reduced-mul word (prime (getD words j 0)) ∙ ap₂ primeMul (ap primeReduce p) (ap prime (word-at words named)))
           (q ∙ reduced-add a (primeMul (prime word) (prime (getD words j 0))))

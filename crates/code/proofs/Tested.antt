@@ -29,18 +29,18 @@ module _ (bound : ℕ) (words : List ℕ) (keys : List (List (List ℕ))) (N ℓ
     unfolding termsBelow rowBelow
     terms-below-done i = every-done (λ k. wordBelow bound words (termPlace keys N ℓ x k)) i ℓ
 
-    module _ (i : ℕ) {j : ℕ} (named : (m : ℕ) → j ≡ termPlace keys N m x i) where
+    module _ (i : ℕ) {j : ℕ} (named : j ≡ termPlace keys N ℓ x i) where
       pub terms-below-more : termsBelow bound words keys N ℓ x i ≡ true → getD words j 0 < bound → termsBelow bound words keys N ℓ x (i + 1) ≡ true
       unfolding termsBelow
       terms-below-more e h =
           every-more (λ k. wordBelow bound words (termPlace keys N ℓ x k)) i e
-          (ap (wordBelow bound words) (sym (named ℓ)) ∙ lt-ltb (getD words j 0) bound h)
+          (ap (wordBelow bound words) (sym named) ∙ lt-ltb (getD words j 0) bound h)
 
       pub terms-below-stop : i < ℓ → bound ≤ getD words j 0 → false ≡ rowBelow bound words keys N ℓ x
       unfolding rowBelow
       terms-below-stop k h =
           every-stop (λ k. wordBelow bound words (termPlace keys N ℓ x k)) i ℓ k
-          (ap (wordBelow bound words) (sym (named ℓ)) ∙ le-ltb (getD words j 0) bound h)
+          (ap (wordBelow bound words) (sym named) ∙ le-ltb (getD words j 0) bound h)
 
   module _ (first : ℕ) where
     pub rows-below-none : usedBelow bound words keys N ℓ first 0 ≡ true

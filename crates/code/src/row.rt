@@ -1,7 +1,7 @@
 // A row's terms and a row's output: the sum of coefficient × accumulated value; repeated places count each time. In field 2 the
 // sums of a row are folded term by term and reduced at its end.
 ghost use mathlib.Core.Path.{_≡_};
-ghost use Prim.Native.Nat.{ℕ, _+_, _*_, _<_};
+ghost use Prim.Native.Nat.{_+_, _*_, _<_};
 ghost use lib.ListN.{length};
 ghost use Rattle.algebra.specs.Coding.{at};
 ghost use Rattle.algebra.specs.Group.{itself};
@@ -34,18 +34,19 @@ pub struct Term {
     pub word: u64,
 }
 
-// Term i of row x among `size` places, in a row of any length.
+// Term i of row x among `size` places, in a row of `terms` terms.
 pub fn row_term(
     sbox: &[u8; 256],
     mix: &[u32; 256],
     keys: &[[[u8; 4]; 4]; 11],
     size: usize,
+    terms: usize,
     x: usize,
     i: usize,
 ) -> Term
     requires { ⌜ Tables (now sbox) (now mix) ⌝ }
     requires { ⌜ 0 < size ⌝ }
-    ensures { λ r. ⌜ ((ℓ : ℕ) → r .place ≡ termPlace (now (keys .entry)) size ℓ x i)
+    ensures { λ r. ⌜ (r .place ≡ termPlace (now (keys .entry)) size terms x i)
         × (r .place < size) × (r .word ≡ highOf (termBlock (now (keys .entry)) x i)) ⌝ }
 {
     let input = Block {
@@ -91,7 +92,7 @@ pub fn noise_row_binary(
     let mut total = Block::zero();
     let mut i: usize = 0;
     while i < terms {
-        let t = row_term(sbox, mix, keys, size, x, i);
+        let t = row_term(sbox, mix, keys, size, terms, x, i);
         let j = t.place;
         u = add_bits(u, noise[j]);
         let next = total.add(block_at(v, j));
@@ -121,7 +122,7 @@ pub fn noise_row_prime(
     let mut total: u64 = 0;
     let mut i: usize = 0;
     while i < terms {
-        let t = row_term(sbox, mix, keys, size, x, i);
+        let t = row_term(sbox, mix, keys, size, terms, x, i);
         let j = t.place;
         u = Prime::add_product(u, t.word, noise[j]);
         total = Prime::add_product(total, t.word, v[j]);
@@ -150,7 +151,7 @@ pub fn scalar_row_binary(
     let mut total = Block::zero();
     let mut i: usize = 0;
     while i < terms {
-        let t = row_term(sbox, mix, keys, size, x, i);
+        let t = row_term(sbox, mix, keys, size, terms, x, i);
         let j = t.place;
         let next = total.add(block_at(w, j));
         total = next;
@@ -176,7 +177,7 @@ pub fn scalar_row_prime(
     let mut total: u64 = 0;
     let mut i: usize = 0;
     while i < terms {
-        let t = row_term(sbox, mix, keys, size, x, i);
+        let t = row_term(sbox, mix, keys, size, terms, x, i);
         let j = t.place;
         total = Prime::add_product(total, t.word, w[j]);
         i += 1;

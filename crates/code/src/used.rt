@@ -23,7 +23,7 @@ fn row_below(
 {
     let mut i: usize = 0;
     while i < terms {
-        let t = row_term(sbox, mix, keys, size, x, i);
+        let t = row_term(sbox, mix, keys, size, terms, x, i);
         let j = t.place;
         if bound <= words[j] {
             return false;

@@ -80,7 +80,7 @@ rowsOutcome h l first count =
     choose (not (windowUsable (usable (fieldOf h) l) h first count)) (refusal 8 l)
     (record { number = 0; first = count; second = count * fieldOf h .elements .width; lent = filled h l first count })
 
--- whole vectors, the elements of a width, a window within the outputs, and room for it
+-- whole vectors, the elements of a width, a window that ends at 32768 (the largest n) or before, and room for it
 pub record Fitting (width size first count noise vector uRoom room : ℕ) : Type 0 where
   pub places : 0 < size
   pub scalars : noise ≡ size

@@ -13,7 +13,7 @@ unfoldable pub elementsUsed : Kind → List (List (List ℕ)) → ℕ → ℕ �
 elementsUsed K keys size terms first count w =
     every count (λ k. every terms (λ i. K .field .scaled .group .isElement (at (K .field .elements) w (termPlace keys size terms (first + k) i))))
 
--- a whole vector of elements of a width, a window within the outputs, and rows of at most 32 terms
+-- a whole vector of elements of a width, a window that ends at 32768 (the largest n) or before, and rows of at most 32 terms
 pub record Testing (width size terms first count vector : ℕ) : Type 0 where
   pub places : 0 < size
   pub whole : vector ≡ size * width

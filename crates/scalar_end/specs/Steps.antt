@@ -60,7 +60,7 @@ rowsOutcome h l first count =
     choose (not (windowUsable (usable (fieldOf h) l) h first count)) (refusal 8 l)
     (record { number = 0; first = count * fieldOf h .elements .width; lent = filled h l first count })
 
--- a whole vector of elements of a width, a window within the outputs, and room for it
+-- a whole vector of elements of a width, a window that ends at 32768 (the largest n) or before, and room for it
 pub record Fitting (width size first count vector room : ℕ) : Type 0 where
   pub places : 0 < size
   pub whole : vector ≡ size * width
