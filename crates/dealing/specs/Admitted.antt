@@ -26,7 +26,6 @@ pub record NoiseAdmitted (field value : ℕ) : Type 0 where
   pub prime : field ≡ 2 → (1 ≤ value) × (value ≤ modulus - 1)
 
 -- admitted input: sizes, lengths, positions, noise values, Δ
--- admitted input: sizes, lengths, positions, noise values, Δ
 pub record Admitted (I : Input) : Type 0 where
   pub field : (I .field ≡ 1) ⊎ (I .field ≡ 2)
   pub depth : (1 ≤ I .depth) × (I .depth ≤ 16)

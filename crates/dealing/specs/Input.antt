@@ -22,6 +22,7 @@ pub record Input : Type 0 where
   pub delta : List ℕ
   pub codeKey : List ℕ
 
+-- the input of these parts
 abbrev pub inputWith : ℕ → ℕ → ℕ → ℕ → ℕ → List ℕ → List ℕ → List ℕ → List ℕ → List ℕ → Input
 inputWith field depth trees terms outputs roots positions values delta codeKey =
     record {
@@ -65,6 +66,7 @@ everyNoise field (y ∷ values) = isNoise field y && everyNoise field values
 abbrev pub wordsOf : ℕ → List ℕ → List ℕ
 wordsOf field delta = elementOf field (wordAt delta 0) (wordAt delta 8)
 
+-- Δ of an input as its words
 abbrev pub deltaWords : Input → List ℕ
 deltaWords I = wordsOf (I .field) (I .delta)
 

@@ -57,11 +57,9 @@ unfoldable pub mu : (I : Input) → ℕ → Scalar (field I)
 mu I = noise (field I .ring) (I .trees) (position I) (value I)
 
 -- v0: the leaves at each place, the correction standing in for the punctured leaf
--- v0: the leaves at each place, the correction standing in for the punctured leaf
 unfoldable pub v0 : (I : Input) → ℕ → Value (field I)
 v0 I = punctured (field I .scaled) (I .trees) (position I) (treeCorrection I) (leaf I)
 
--- w0: all leaves at each place
 -- w0: all leaves at each place
 unfoldable pub w0 : (I : Input) → ℕ → Value (field I)
 w0 I = whole (field I .scaled) (I .trees) (leaf I)

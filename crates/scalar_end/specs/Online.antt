@@ -29,8 +29,6 @@ pub record Outcome : Type 0 where
   pub lent : Lent
 
 -- what an answer and all that is lent at exit say
--- what an answer and all that is lent at exit say
--- what an answer and all that is lent at exit say
 abbrev pub outcome : OneLength → Lent → Outcome
 outcome r l = record { number = r .number; first = r .first; lent = l }
 
@@ -60,13 +58,9 @@ abbrev pub wrongLength : Head → Lent → Bool
 wrongLength h l = not (eqb (length (l .w)) (places h * fieldOf h .elements .width))
 
 -- 7: a window is a first index and a count c; first + c, as whole numbers, is more than n
--- 7: a window is a first index and a count c; first + c, as whole numbers, is more than n
--- 7: a window is a first index and a count c; first + c, as whole numbers, is more than n
 abbrev pub pastEnd : Head → ℕ → ℕ → Bool
 pastEnd h first count = ltb (h .outputs) (first + count)
 
--- 13: the output buffer is too short for c elements of w
--- 13: the output buffer is too short for c elements of w
 -- 13: the output buffer is too short for c elements of w
 abbrev pub tooShort : Head → Lent → ℕ → Bool
 tooShort h l count = ltb (length (l .wOut)) (count * fieldOf h .elements .width)
