@@ -26,7 +26,7 @@ write-noise-spec =
     (λ c κs. search needs)  -- mix-table-requires
     (λ c κs. search needs)  -- left-keys-requires
     (λ c κs. search needs)  -- right-keys-requires
-    (λ c κs. (head-writable (c .before .before .before .before .before .before .before .before .before .before .before .before .before .pre), head-room (c .before .before .before .before .before .before .before .before .before .before .before .before .before .pre)))  -- write-head-requires
+    (λ c κs. let start = c .before .before .before .before .before .before .before .before .before .before .before .before .before in (head-writable (start .pre), head-room (start .pre)))  -- write-head-requires
     (λ c. turn-start (c .before .before .before .before .before .before .before .before .before .before .before .before .before .before .before .before .pre) (c .before .before .write-head .ensures .0))  -- loop-holds
     (λ c κs. (record { tables = search needs; left-keys = search needs; right-keys = search needs }, turn-asks (c .before .before .before .before .before .before .before .before .before .before .before .before .before .before .before .before .before .before .before .before .before .before .before .pre) (c .before .before .before .before .before .before .before .before .before .write-head .ensures .1) (c .before .before .before .before .before .before .loop .inv) (c .before .before .before .before .before .loop-test .taken)))  -- write-tree-requires
     (λ c. turn-fits (c .before .before .before .before .before .before .before .before .before .before .before .before .before .before .before .before .before .before .before .before .before .before .before .before .before .before .pre) (c .before .before .before .before .before .before .before .before .before .before .before .before .write-head .ensures .1) (c .before .before .before .before .before .before .before .before .before .loop .inv) (c .before .before .before .before .before .before .before .before .loop-test .taken))  -- mul-wide

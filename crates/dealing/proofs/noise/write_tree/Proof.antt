@@ -22,11 +22,11 @@ write-tree-spec =
     (λ c. search (next-fits, needs))  -- add-next
     (λ c κs. (search needs, search needs, search walk-room))  -- walk-requires
     (λ c κs. search needs)  -- correction-binary-requires
-    (λ c κs. (search needs, search needs, front-room _ _ _ _ _ _ _ _ _ (c .before .before .before .before .before .before .before .before .before .before .before .before .before .before .before .before .before .pre .0) (c .before .before .before .before .before .before .before .before .before .before .before .before .before .before .before .before .before .pre .1) (c .before .before .before .before .before .before .before .before .before .wide .ensures) (c .before .before .before .before .before .before .before .front-length .ensures) (c .before .before .before .before .before .before .before .before .before .before .before .columns-at .ensures) (c .before .before .before .before .before .walk .ensures)))  -- write-front-requires
+    (λ c κs. (search needs, search needs, let start = c .before .before .before .before .before .before .before .before .before .before .before .before .before .before .before .before .before in front-room _ _ _ _ _ _ _ _ _ (start .pre .0) (start .pre .1) (c .before .before .before .before .before .before .before .before .before .wide .ensures) (c .before .before .before .before .before .before .before .front-length .ensures) (c .before .before .before .before .before .before .before .before .before .before .before .columns-at .ensures) (c .before .before .before .before .before .walk .ensures)))  -- write-front-requires
     (λ c. search needs)  -- same-length
-    (λ c. (search tree-place, wrote-binary _ _ _ _ _ _ _ _ _ (c .before .before .before .before .before .before .before .before .before .before .before .before .before .before .before .before .before .before .before .before .pre .0) (c .before .before .before .before .before .before .before .before .before .before .before .before .before .before .before .before .before .before .before .before .pre .1) (c .before .before .before .before .before .before .before .before .before .before .before .before .wide .ensures) (c .before .before .before .before .before .before .before .before .before .before .front-length .ensures) (c .before .before .before .before .before .before .before .before .before .before .before .before .before .before .columns-at .ensures) (c .before .before .before .before .before .before .before .before .walk .ensures) refl (c .before .before .before .before .before .if1 .taken) (c .before .before .before .before .correction-binary .ensures) (c .before .before .write-front .ensures)))  -- returns
+    (λ c. (search tree-place, let start = c .before .before .before .before .before .before .before .before .before .before .before .before .before .before .before .before .before .before .before .before in wrote-binary _ _ _ _ _ _ _ _ _ (start .pre .0) (start .pre .1) (c .before .before .before .before .before .before .before .before .before .before .before .before .wide .ensures) (c .before .before .before .before .before .before .before .before .before .before .front-length .ensures) (c .before .before .before .before .before .before .before .before .before .before .before .before .before .before .columns-at .ensures) (c .before .before .before .before .before .before .before .before .walk .ensures) refl (c .before .before .before .before .before .if1 .taken) (c .before .before .before .before .correction-binary .ensures) (c .before .before .write-front .ensures)))  -- returns
     (λ c κs. search needs)  -- correction-prime-requires
-    (λ c κs. (search needs, search needs, front-room _ _ _ _ _ _ _ _ _ (c .before .before .before .before .before .before .before .before .before .before .before .before .before .before .before .before .before .pre .0) (c .before .before .before .before .before .before .before .before .before .before .before .before .before .before .before .before .before .pre .1) (c .before .before .before .before .before .before .before .before .before .wide .ensures) (c .before .before .before .before .before .before .before .front-length .ensures) (c .before .before .before .before .before .before .before .before .before .before .before .columns-at .ensures) (c .before .before .before .before .before .walk .ensures)))  -- write-front-requires-2
+    (λ c κs. (search needs, search needs, let start = c .before .before .before .before .before .before .before .before .before .before .before .before .before .before .before .before .before in front-room _ _ _ _ _ _ _ _ _ (start .pre .0) (start .pre .1) (c .before .before .before .before .before .before .before .before .before .wide .ensures) (c .before .before .before .before .before .before .before .front-length .ensures) (c .before .before .before .before .before .before .before .before .before .before .before .columns-at .ensures) (c .before .before .before .before .before .walk .ensures)))  -- write-front-requires-2
     (λ c. search needs)  -- same-length-2
-    (λ c. (search tree-place, wrote-prime _ _ _ _ _ _ _ _ _ (c .before .before .before .before .before .before .before .before .before .before .before .before .before .before .before .before .before .before .before .before .pre .0) (c .before .before .before .before .before .before .before .before .before .before .before .before .before .before .before .before .before .before .before .before .pre .1) (c .before .before .before .before .before .before .before .before .before .before .before .before .wide .ensures) (c .before .before .before .before .before .before .before .before .before .before .front-length .ensures) (c .before .before .before .before .before .before .before .before .before .before .before .before .before .before .columns-at .ensures) (c .before .before .before .before .before .before .before .before .walk .ensures) refl (c .before .before .before .before .before .if1 .left) (c .before .before .before .before .correction-prime .ensures) (c .before .before .write-front2 .ensures)))  -- returns-2
+    (λ c. (search tree-place, let start = c .before .before .before .before .before .before .before .before .before .before .before .before .before .before .before .before .before .before .before .before in wrote-prime _ _ _ _ _ _ _ _ _ (start .pre .0) (start .pre .1) (c .before .before .before .before .before .before .before .before .before .before .before .before .wide .ensures) (c .before .before .before .before .before .before .before .before .before .before .front-length .ensures) (c .before .before .before .before .before .before .before .before .before .before .before .before .before .before .columns-at .ensures) (c .before .before .before .before .before .before .before .before .walk .ensures) refl (c .before .before .before .before .before .if1 .left) (c .before .before .before .before .correction-prime .ensures) (c .before .before .write-front2 .ensures)))  -- returns-2
     )

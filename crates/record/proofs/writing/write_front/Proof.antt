@@ -9,13 +9,13 @@ write-front-spec =
     tie.close
     (tie.spec
     (λ c. search needs)  -- sub-write-number
-    (λ c κs. front-ask (c .before .before .args .buffer .now) _ _ _ _ (c .before .before .pre .0) (c .before .before .pre .1) (c .before .before .pre .2))  -- write-number-requires
-    (λ c κs. front-ask-1 (c .before .before .before .before .before .before .before .args .buffer .now) _ _ _ _ (c .before .before .before .before .before .before .before .pre .0) (c .before .before .before .before .before .before .before .pre .1) (c .before .before .before .before .before .before .before .pre .2) (c .before .before .before .before .write-number .ensures) (c .before .if1 .taken))  -- write-element-requires
+    (λ c κs. let start = c .before .before in front-ask (start .args .buffer .now) _ _ _ _ (start .pre .0) (start .pre .1) (start .pre .2))  -- write-number-requires
+    (λ c κs. let start = c .before .before .before .before .before .before .before in front-ask-1 (start .args .buffer .now) _ _ _ _ (start .pre .0) (start .pre .1) (start .pre .2) (c .before .before .before .before .write-number .ensures) (c .before .if1 .taken))  -- write-element-requires
     (λ c. search needs)  -- same-length
-    (λ c. front-wrote-1 (c .before .before .before .before .before .before .before .before .before .before .args .buffer .now) _ _ _ _ (c .before .before .before .before .before .before .before .before .before .before .pre .0) (c .before .before .before .before .before .before .before .before .before .before .pre .1) (c .before .before .before .before .before .before .before .before .before .before .pre .2) (c .before .before .before .before .before .before .before .write-number .ensures) (c .before .before .before .before .if1 .taken) _ _ (c .before .before .write-element .ensures))  -- returns
-    (λ c κs. front-ask-2 (c .before .before .before .before .before .before .before .args .buffer .now) _ _ _ _ (c .before .before .before .before .before .before .before .pre .0) (c .before .before .before .before .before .before .before .pre .1) (c .before .before .before .before .before .before .before .pre .2) (c .before .before .before .before .write-number .ensures) (c .before .if1 .left))  -- put-word-requires
-    (λ c. front-fits (c .before .before .before .before .before .before .before .before .before .before .before .args .buffer .now) _ _ _ _ (c .before .before .before .before .before .before .before .before .before .before .before .pre .0) (c .before .before .before .before .before .before .before .before .before .before .before .pre .1) (c .before .before .before .before .before .before .before .before .before .before .before .pre .2) (c .before .before .before .before .before .before .before .before .write-number .ensures) (c .before .before .before .before .before .if1 .left) (c .before .before .before .before .before .before .before .before .before .before .before .good .0 .0))  -- add-write-element
-    (λ c κs. front-ask-3 (c .before .before .before .before .before .before .before .before .before .before .before .args .buffer .now) _ _ _ _ (c .before .before .before .before .before .before .before .before .before .before .before .pre .0) (c .before .before .before .before .before .before .before .before .before .before .before .pre .1) (c .before .before .before .before .before .before .before .before .before .before .before .pre .2) (c .before .before .before .before .before .before .before .before .write-number .ensures) (c .before .before .before .before .before .if1 .left) _ (c .before .before .before .put-word .ensures))  -- write-element-requires-2
+    (λ c. let start = c .before .before .before .before .before .before .before .before .before .before in front-wrote-1 (start .args .buffer .now) _ _ _ _ (start .pre .0) (start .pre .1) (start .pre .2) (c .before .before .before .before .before .before .before .write-number .ensures) (c .before .before .before .before .if1 .taken) _ _ (c .before .before .write-element .ensures))  -- returns
+    (λ c κs. let start = c .before .before .before .before .before .before .before in front-ask-2 (start .args .buffer .now) _ _ _ _ (start .pre .0) (start .pre .1) (start .pre .2) (c .before .before .before .before .write-number .ensures) (c .before .if1 .left))  -- put-word-requires
+    (λ c. let start = c .before .before .before .before .before .before .before .before .before .before .before in front-fits (start .args .buffer .now) _ _ _ _ (start .pre .0) (start .pre .1) (start .pre .2) (c .before .before .before .before .before .before .before .before .write-number .ensures) (c .before .before .before .before .before .if1 .left) (start .good .0 .0))  -- add-write-element
+    (λ c κs. let start = c .before .before .before .before .before .before .before .before .before .before .before in front-ask-3 (start .args .buffer .now) _ _ _ _ (start .pre .0) (start .pre .1) (start .pre .2) (c .before .before .before .before .before .before .before .before .write-number .ensures) (c .before .before .before .before .before .if1 .left) _ (c .before .before .before .put-word .ensures))  -- write-element-requires-2
     (λ c. search needs)  -- same-length-2
-    (λ c. front-wrote-2 (c .before .before .before .before .before .before .before .before .before .before .before .before .before .before .args .buffer .now) _ _ _ _ (c .before .before .before .before .before .before .before .before .before .before .before .before .before .before .pre .0) (c .before .before .before .before .before .before .before .before .before .before .before .before .before .before .pre .1) (c .before .before .before .before .before .before .before .before .before .before .before .before .before .before .pre .2) (c .before .before .before .before .before .before .before .before .before .before .before .write-number .ensures) (c .before .before .before .before .before .before .before .before .if1 .left) _ (c .before .before .before .before .before .before .put-word .ensures) _ (c .before .before .write-element2 .ensures))  -- returns-2
+    (λ c. let start = c .before .before .before .before .before .before .before .before .before .before .before .before .before .before in front-wrote-2 (start .args .buffer .now) _ _ _ _ (start .pre .0) (start .pre .1) (start .pre .2) (c .before .before .before .before .before .before .before .before .before .before .before .write-number .ensures) (c .before .before .before .before .before .before .before .before .if1 .left) _ (c .before .before .before .before .before .before .put-word .ensures) _ (c .before .before .write-element2 .ensures))  -- returns-2
     )

@@ -8,12 +8,12 @@ pub write-scalar-spec : {M : Type 1} → statement M
 write-scalar-spec =
     tie.close
     (tie.spec
-    (λ c κs. scalar-ask-1 (c .before .before .before .before .args .buffer .now) _ _ _ _ _ _ (c .before .before .before .before .args .roots .now) (c .before .before .before .before .pre .0) (c .before .before .before .before .pre .1) (c .before .before .before .before .pre .2))  -- write-head-requires
-    (λ c κs. scalar-ask-2 (c .before .before .before .before .before .before .before .before .args .buffer .now) _ _ _ _ _ _ (c .before .before .before .before .before .before .before .before .args .roots .now) (c .before .before .before .before .before .before .before .before .pre .0) (c .before .before .before .before .before .before .before .before .pre .1) (c .before .before .before .before .before .before .before .before .pre .2) (c .before .before .before .write-head .ensures))  -- write-element-requires
+    (λ c κs. let start = c .before .before .before .before in scalar-ask-1 (start .args .buffer .now) _ _ _ _ _ _ (start .args .roots .now) (start .pre .0) (start .pre .1) (start .pre .2))  -- write-head-requires
+    (λ c κs. let start = c .before .before .before .before .before .before .before .before in scalar-ask-2 (start .args .buffer .now) _ _ _ _ _ _ (start .args .roots .now) (start .pre .0) (start .pre .1) (start .pre .2) (c .before .before .before .write-head .ensures))  -- write-element-requires
     (λ c. omega (arith, c .before .before .before .before .before .before .before .before .before .before .before .before .pre .1))  -- mul-write-bytes
-    (λ c κs. scalar-ask-3 (c .before .before .before .before .before .before .before .before .before .before .before .before .args .buffer .now) _ _ _ _ _ _ (c .before .before .before .before .before .before .before .before .before .before .before .before .args .roots .now) (c .before .before .before .before .before .before .before .before .before .before .before .before .pre .0) (c .before .before .before .before .before .before .before .before .before .before .before .before .pre .1) (c .before .before .before .before .before .before .before .before .before .before .before .before .pre .2) (c .before .before .before .before .before .before .before .write-head .ensures) _ _ (c .before .before .before .write-element .ensures))  -- write-bytes-requires
+    (λ c κs. let start = c .before .before .before .before .before .before .before .before .before .before .before .before in scalar-ask-3 (start .args .buffer .now) _ _ _ _ _ _ (start .args .roots .now) (start .pre .0) (start .pre .1) (start .pre .2) (c .before .before .before .before .before .before .before .write-head .ensures) _ _ (c .before .before .before .write-element .ensures))  -- write-bytes-requires
     (λ c. omega (arith, c .before .before .before .before .before .before .before .before .before .before .before .before .before .before .before .pre .1))  -- mul-result
-    (λ c. scalar-fits-2 (c .before .before .before .before .before .before .before .before .before .before .before .before .before .before .before .args .buffer .now) _ _ _ _ _ _ (c .before .before .before .before .before .before .before .before .before .before .before .before .before .before .before .args .roots .now) (c .before .before .before .before .before .before .before .before .before .before .before .before .before .before .before .pre .0) (c .before .before .before .before .before .before .before .before .before .before .before .before .before .before .before .pre .1) (c .before .before .before .before .before .before .before .before .before .before .before .before .before .before .before .pre .2) (c .before .before .before .before .before .before .before .before .before .before .write-head .ensures) _ _ (c .before .before .before .before .before .before .write-element .ensures) (c .before .before .before .before .before .before .before .before .before .before .before .before .before .before .before .good .0 .0))  -- add-result
-    (λ c. scalar-same (c .before .before .before .before .before .before .before .before .before .before .before .before .before .before .before .args .buffer .now) _ _ _ _ _ _ (c .before .before .before .before .before .before .before .before .before .before .before .before .before .before .before .args .roots .now) (c .before .before .before .before .before .before .before .before .before .before .before .before .before .before .before .pre .0) (c .before .before .before .before .before .before .before .before .before .before .before .before .before .before .before .pre .1) (c .before .before .before .before .before .before .before .before .before .before .before .before .before .before .before .pre .2) (c .before .before .before .before .before .before .before .before .before .before .write-head .ensures) _ _ (c .before .before .before .before .before .before .write-element .ensures) (c .before .before .write-bytes .ensures))  -- same-length
-    (λ c. scalar-wrote (c .before .before .before .before .before .before .before .before .before .before .before .before .before .before .before .args .buffer .now) _ _ _ _ _ _ (c .before .before .before .before .before .before .before .before .before .before .before .before .before .before .before .args .roots .now) (c .before .before .before .before .before .before .before .before .before .before .before .before .before .before .before .pre .0) (c .before .before .before .before .before .before .before .before .before .before .before .before .before .before .before .pre .1) (c .before .before .before .before .before .before .before .before .before .before .before .before .before .before .before .pre .2) (c .before .before .before .before .before .before .before .before .before .before .write-head .ensures) _ _ (c .before .before .before .before .before .before .write-element .ensures) (c .before .before .write-bytes .ensures))  -- returns
+    (λ c. let start = c .before .before .before .before .before .before .before .before .before .before .before .before .before .before .before in scalar-fits-2 (start .args .buffer .now) _ _ _ _ _ _ (start .args .roots .now) (start .pre .0) (start .pre .1) (start .pre .2) (c .before .before .before .before .before .before .before .before .before .before .write-head .ensures) _ _ (c .before .before .before .before .before .before .write-element .ensures) (start .good .0 .0))  -- add-result
+    (λ c. let start = c .before .before .before .before .before .before .before .before .before .before .before .before .before .before .before in scalar-same (start .args .buffer .now) _ _ _ _ _ _ (start .args .roots .now) (start .pre .0) (start .pre .1) (start .pre .2) (c .before .before .before .before .before .before .before .before .before .before .write-head .ensures) _ _ (c .before .before .before .before .before .before .write-element .ensures) (c .before .before .write-bytes .ensures))  -- same-length
+    (λ c. let start = c .before .before .before .before .before .before .before .before .before .before .before .before .before .before .before in scalar-wrote (start .args .buffer .now) _ _ _ _ _ _ (start .args .roots .now) (start .pre .0) (start .pre .1) (start .pre .2) (c .before .before .before .before .before .before .before .before .before .before .write-head .ensures) _ _ (c .before .before .before .before .before .before .write-element .ensures) (c .before .before .write-bytes .ensures))  -- returns
     )
