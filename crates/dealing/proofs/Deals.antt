@@ -18,7 +18,7 @@ use Rattle.dealing.specs.Parts.{noisePart}
 use Rattle.dealing.specs.Steps.{Ready}
 use Rattle.dealing.specs.Vectors.{head}
 use Rattle.dealing.proofs.Faults.{fault-none}
-use Rattle.dealing.proofs.Laws.{noiseWriting, scalarWriting, deal-accepted}
+use Rattle.dealing.proofs.Laws.{noiseWriting, scalarWriting, acceptedDeal, deal-accepted}
 use Rattle.dealing.proofs.Lengths.{noise-bytes, scalar-bytes, roots-blocks}
 use Rattle.dealing.proofs.Turns.{head-writable}
 use Rattle.dealing.proofs.Written.{sets-front}
@@ -36,11 +36,13 @@ rises N base (s ∷ l) below rising least = (
 )
 
 -- an outcome by its parts
-outcome : {f s : ℕ} {a b : List ℕ} (d : Dealt) → 0 ≡ d .number → f ≡ d .first → s ≡ d .second → a ≡ d .noiseRecord → b ≡ d .scalarRecord → dealt (record { number = 0; first = f; second = s }) a b ≡ d
-outcome d n f s a b = λ i. record { number = n i; first = f i; second = s i; noiseRecord = a i; scalarRecord = b i }
+outcome : {f s : ℕ} {a b : List ℕ} (d : Dealt) → 0 ≡ d .number → f ≡ d .first → s ≡ d .second → a ≡ d .noiseRecord → b ≡ d .scalarRecord
+    → dealt (record { number = 0; first = f; second = s }) (d .input) a b ≡ d
+outcome d n f s a b =
+    λ i. record { number = n i; first = f i; second = s i; input = d .input; noiseRecord = a i; scalarRecord = b i }
 
 module _ (I : Input) {n : ℕ} (tested : n ≡ fault I) where
-  pub deal-refused : (a b : List ℕ) → (n ≡ 0 → ⊥) → refusedDeal n a b ≡ deal I a b
+  pub deal-refused : (a b : List ℕ) → (n ≡ 0 → ⊥) → refusedDeal n I a b ≡ deal I a b
   unfolding deal
   deal-refused a b e = rw (← tested, ne-eqb n 0 e)
 
@@ -73,14 +75,14 @@ module _ (I : Input) {n : ℕ} (tested : n ≡ fault I) where
       scalar-long : s ≡ length (scalarWriting I)
       scalar-long = second ∙ scalar-bytes I A
 
-      pub noise-short : (a b : List ℕ) → length a < f → refusedDeal 13 a b ≡ deal I a b
+      pub noise-short : (a b : List ℕ) → length a < f → refusedDeal 13 I a b ≡ deal I a b
       unfolding deal
       noise-short a b h =
           let short : length a < length (noiseWriting I) = omega (arith, noise-long) in
           rw (← tested, none, lt-ltb (length a) (length (noiseWriting I)) short)
 
       module _ (a b : List ℕ) (noise-room : f ≤ length a) where
-        pub scalar-short : length b < s → refusedDeal 13 a b ≡ deal I a b
+        pub scalar-short : length b < s → refusedDeal 13 I a b ≡ deal I a b
         unfolding deal
         scalar-short h =
             let long : length (noiseWriting I) ≤ length a = omega (arith, noise-long) in
@@ -99,12 +101,12 @@ module _ (I : Input) {n : ℕ} (tested : n ≡ fault I) where
           pub deal-written : {low high r : ℕ} {a₁ b₁ : List ℕ} → a₁ ≡ front (writeNoise (noisePart I)) a → low ≡ wordAt (I .delta) 0 → high ≡ wordAt (I .delta) 8
               → (r ≡ scalarLength (I .field) (I .depth) (I .trees) (I .terms) (I .outputs))
               × (b₁ ≡ sets b 0 (writeScalar (record { head = headWith (I .field) (I .depth) (I .trees) (I .terms) (I .outputs) (I .codeKey); delta = elementOf (I .field) low high; roots = items blockAt 16 (I .roots) 0 (I .trees) })))
-              → dealt (record { number = 0; first = f; second = s }) a₁ b₁ ≡ deal I a b
+              → dealt (record { number = 0; first = f; second = s }) I a₁ b₁ ≡ deal I a b
           deal-written {low} {high} {r} {a₁} {b₁} noise l h scalar =
               let fits : length (scalarWriting I) ≤ length b = omega (arith, scalar-long) in
               let same : writeScalar (record { head = head I; delta = elementOf (I .field) low high; roots = items blockAt 16 (I .roots) 0 (I .trees) }) ≡ scalarWriting I =
               ap₂ (λ x y. writeScalar (record { head = head I; delta = elementOf (I .field) x y; roots = items blockAt 16 (I .roots) 0 (I .trees) })) l h
               ∙ ap (λ x. writeScalar (record { head = head I; delta = elementOf (I .field) (wordAt (I .delta) 0) (wordAt (I .delta) 8); roots = x })) (roots-blocks I A)
               in
-              outcome _ refl noise-long scalar-long noise (scalar .1 ∙ ap (sets b 0) same ∙ sets-front (scalarWriting I) b fits)
+              outcome (acceptedDeal I a b) refl noise-long scalar-long noise (scalar .1 ∙ ap (sets b 0) same ∙ sets-front (scalarWriting I) b fits)
               ∙ sym (deal-accepted I a b (record { admitted = A; noise-room = omega (arith, noise-long); scalar-room = fits }))

@@ -34,6 +34,7 @@ acceptedDeal I a b =
       number = 0;
       first = length (noiseWriting I);
       second = length (scalarWriting I);
+      input = I;
       noiseRecord = front (noiseWriting I) a;
       scalarRecord = front (scalarWriting I) b;
     }
@@ -54,10 +55,10 @@ deal-accepted I a b A =
       le-ltb (length b) (length (scalarWriting I)) (A .scalar-room),
     )
 
-both-number : (n s a b : List ℕ) → writeBoth n s a b .number ≡ 0 → (length n ≤ length a) × (length s ≤ length b)
-both-number n s a b = decide (ltb (length a) (length n)) (ltb (length b) (length s)) refl refl
+both-number : (I : Input) (n s a b : List ℕ) → writeBoth I n s a b .number ≡ 0 → (length n ≤ length a) × (length s ≤ length b)
+both-number I n s a b = decide (ltb (length a) (length n)) (ltb (length b) (length s)) refl refl
   where
-    decide : (t u : Bool) → ltb (length a) (length n) ≡ t → ltb (length b) (length s) ≡ u → writeBoth n s a b .number ≡ 0
+    decide : (t u : Bool) → ltb (length a) (length n) ≡ t → ltb (length b) (length s) ≡ u → writeBoth I n s a b .number ≡ 0
         → (length n ≤ length a) × (length s ≤ length b)
     decide true u p q e = absurd (omega (arith, rw p at e))
     decide false true p q e = absurd (omega (arith, rw (p, q) at e))
@@ -70,7 +71,7 @@ deal-number I a b = decide (eqb (fault I) 0) refl
   where
     decide : (t : Bool) → eqb (fault I) 0 ≡ t → deal I a b .number ≡ 0 → Accepted I a b
     decide true p e =
-        let r = both-number (noiseWriting I) (scalarWriting I) a b (rw p at e) in
+        let r = both-number I (noiseWriting I) (scalarWriting I) a b (rw p at e) in
         record { admitted = fault-none I (eqb-true _ _ p); noise-room = r .0; scalar-room = r .1 }
     decide false p e = absurd (eqb-false _ _ p (rw p at e))
 

@@ -3,7 +3,7 @@ ghost use mathlib.Core.List.{List};
 ghost use mathlib.Core.Path.{_≡_};
 ghost use Prim.Native.Nat.{ℕ};
 ghost use Rattle.dealing.specs.Deal.{dealt, refusedDeal, deal};
-ghost use Rattle.dealing.specs.Input.{inputWith};
+ghost use Rattle.dealing.specs.Input.{Input, inputWith};
 
 mod input;
 mod noise;
@@ -19,7 +19,7 @@ use rows::SHORT_OUTPUT;
 
 // The answer of a refused call.
 fn refusal(number: u32) -> TwoLengths
-    ensures { λ r. ⌜ ((a b : List ℕ) → dealt r a b ≡ refusedDeal number a b) ⌝ }
+    ensures { λ r. ⌜ ((I : Input) (a b : List ℕ) → dealt r I a b ≡ refusedDeal number I a b) ⌝ }
 {
     TwoLengths {
         number: number,
@@ -43,7 +43,12 @@ pub fn deal(
     noise_record: &mut [u8],
     scalar_record: &mut [u8],
 ) -> TwoLengths
-    ensures { λ r. ⌜ dealt r (now («noise_record» .exit)) (now («scalar_record» .exit)) ≡ deal (inputWith field depth trees terms outputs (now (roots .entry)) (now (positions .entry)) (now (values .entry)) (now (delta .entry)) (now («code_key» .entry))) (now («noise_record» .entry)) (now («scalar_record» .entry)) ⌝ }
+    ensures { λ r. ⌜ dealt r
+        (inputWith field depth trees terms outputs (now (roots .exit)) (now (positions .exit)) (now (values .exit)) (now (delta .exit)) (now («code_key» .exit)))
+        (now («noise_record» .exit)) (now («scalar_record» .exit))
+        ≡ deal
+        (inputWith field depth trees terms outputs (now (roots .entry)) (now (positions .entry)) (now (values .entry)) (now (delta .entry)) (now («code_key» .entry)))
+        (now («noise_record» .entry)) (now («scalar_record» .entry)) ⌝ }
 {
     let number = fault(
         field,

@@ -1,6 +1,7 @@
 // The seven public calls under their exported names. Each meets the contract of the call that it passes on to.
 ghost use mathlib.Core.Path.{_≡_};
 ghost use Rattle.dealing.specs.Deal.{deal, dealt};
+ghost use Rattle.dealing.specs.Input.{inputWith};
 ghost use Rattle.noise_end.specs.Offline as noiseOffline;
 ghost use Rattle.noise_end.specs.Online as noiseOnline;
 ghost use Rattle.pads.specs.Calls.{outcome, noisePads, scalarPads};
@@ -25,7 +26,12 @@ pub extern "C" fn expander_deal(
     noise_record: &mut [u8],
     scalar_record: &mut [u8],
 ) -> TwoLengths
-    ensures { λ r. ⌜ dealt r (now («noise_record» .exit)) (now («scalar_record» .exit)) ≡ deal (record { field = field; depth = depth; trees = trees; terms = terms; outputs = outputs; roots = now (roots .entry); positions = now (positions .entry); values = now (values .entry); delta = now (delta .entry); codeKey = now («code_key» .entry) }) (now («noise_record» .entry)) (now («scalar_record» .entry)) ⌝ }
+    ensures { λ r. ⌜ dealt r
+        (inputWith field depth trees terms outputs (now (roots .exit)) (now (positions .exit)) (now (values .exit)) (now (delta .exit)) (now («code_key» .exit)))
+        (now («noise_record» .exit)) (now («scalar_record» .exit))
+        ≡ deal
+        (inputWith field depth trees terms outputs (now (roots .entry)) (now (positions .entry)) (now (values .entry)) (now (delta .entry)) (now («code_key» .entry)))
+        (now («noise_record» .entry)) (now («scalar_record» .entry)) ⌝ }
 {
     dealing::deal(
         field,
@@ -50,7 +56,8 @@ pub extern "C" fn expander_noise_offline(
     noise: &mut [u64],
     v: &mut [u64],
 ) -> TwoLengths
-    ensures { λ r. ⌜ noiseOffline.expanded r (now (source .exit)) (now (noise .exit)) (now (v .exit)) ≡ noiseOffline.offline (now (source .entry)) (now (noise .entry)) (now (v .entry)) ⌝ }
+    ensures { λ r. ⌜ noiseOffline.expanded r (now (source .exit)) (now (noise .exit)) (now (v .exit))
+        ≡ noiseOffline.offline (now (source .entry)) (now (noise .entry)) (now (v .entry)) ⌝ }
 {
     noise_end::offline(source, noise, v)
 }
@@ -62,7 +69,8 @@ pub extern "C" fn expander_scalar_offline(
     w: &mut [u64],
     delta: &mut [u64],
 ) -> TwoLengths
-    ensures { λ r. ⌜ scalarOffline.expanded r (now (source .exit)) (now (w .exit)) (now (delta .exit)) ≡ scalarOffline.offline (now (source .entry)) (now (w .entry)) (now (delta .entry)) ⌝ }
+    ensures { λ r. ⌜ scalarOffline.expanded r (now (source .exit)) (now (w .exit)) (now (delta .exit))
+        ≡ scalarOffline.offline (now (source .entry)) (now (w .entry)) (now (delta .entry)) ⌝ }
 {
     scalar_end::offline(source, w, delta)
 }
@@ -78,7 +86,10 @@ pub extern "C" fn expander_noise_online(
     u_out: &mut [u64],
     v_out: &mut [u64],
 ) -> TwoLengths
-    ensures { λ r. ⌜ noiseOnline.outcome r (record { source = now (source .exit); noise = now (noise .exit); v = now (v .exit); uOut = now («u_out» .exit); vOut = now («v_out» .exit) }) ≡ noiseOnline.online (record { source = now (source .entry); noise = now (noise .entry); v = now (v .entry); uOut = now («u_out» .entry); vOut = now («v_out» .entry) }) first count ⌝ }
+    ensures { λ r. ⌜ noiseOnline.outcome r
+        (record { source = now (source .exit); noise = now (noise .exit); v = now (v .exit); uOut = now («u_out» .exit); vOut = now («v_out» .exit) })
+        ≡ noiseOnline.online
+        (record { source = now (source .entry); noise = now (noise .entry); v = now (v .entry); uOut = now («u_out» .entry); vOut = now («v_out» .entry) }) first count ⌝ }
 {
     noise_end::online(source, noise, v, first, count, u_out, v_out)
 }
@@ -92,7 +103,8 @@ pub extern "C" fn expander_scalar_online(
     count: usize,
     w_out: &mut [u64],
 ) -> OneLength
-    ensures { λ r. ⌜ scalarOnline.outcome r (record { source = now (source .exit); w = now (w .exit); wOut = now («w_out» .exit) }) ≡ scalarOnline.online (record { source = now (source .entry); w = now (w .entry); wOut = now («w_out» .entry) }) first count ⌝ }
+    ensures { λ r. ⌜ scalarOnline.outcome r (record { source = now (source .exit); w = now (w .exit); wOut = now («w_out» .exit) })
+        ≡ scalarOnline.online (record { source = now (source .entry); w = now (w .entry); wOut = now («w_out» .entry) }) first count ⌝ }
 {
     scalar_end::online(source, w, first, count, w_out)
 }
