@@ -18,12 +18,12 @@ deal-spec =
     (λ c κs. search needs)  -- refusal-requires-2
     (λ c. c .refusal2 .ensures _ _ _ ∙ noise-short _ (c .before .before .before .before .before .fault .ensures) (c .before .before .before .before .if1 .left) (c .before .before .before .noise-length .ensures) (c .before .before .scalar-length .ensures) _ _ (c .before .if2 .taken))  -- returns-2
     (λ c κs. search needs)  -- refusal-requires-3
-    (λ c. let start = c .before .before .before .before .before .before .before .before .before .before .before .before .before .before in c .refusal3 .ensures _ _ _ ∙ scalar-short _ (c .before .before .before .before .before .before .fault .ensures) (c .before .before .before .before .before .if1 .left) (c .before .before .before .before .noise-length .ensures) (c .before .before .before .scalar-length .ensures) (start .args .noise-record .now) (start .args .scalar-record .now) (c .before .before .if2 .left) (c .before .if3 .taken))  -- returns-3
-    (λ c κs. let start = c .before .before .before .before .before .before .before .before .before .before .before .before .before .before in ready _ (c .before .before .before .before .before .before .fault .ensures) (c .before .before .before .before .before .if1 .left) (c .before .before .before .before .noise-length .ensures) (c .before .before .before .scalar-length .ensures) (start .args .noise-record .now) (start .args .scalar-record .now) (c .before .before .if2 .left))  -- write-noise-requires
+    (λ c. c .refusal3 .ensures _ _ _ ∙ scalar-short _ (c .before .before .before .before .before .before .fault .ensures) (c .before .before .before .before .before .if1 .left) (c .before .before .before .before .noise-length .ensures) (c .before .before .before .scalar-length .ensures) _ _ (c .before .before .if2 .left) (c .before .if3 .taken))  -- returns-3
+    (λ c κs. ready _ (c .before .before .before .before .before .before .fault .ensures) (c .before .before .before .before .before .if1 .left) (c .before .before .before .before .noise-length .ensures) (c .before .before .before .scalar-length .ensures) _ (c .before .before .before .before .before .before .before .before .before .before .before .before .before .before .args .scalar-record .now) (c .before .before .if2 .left))  -- write-noise-requires
     (λ c κs. omega (arith, delta-long _ (c .before .before .before .before .before .before .before .before .before .fault .ensures) (c .before .before .before .before .before .before .before .before .if1 .left)))  -- word-at-requires
     (λ c κs. omega (arith, delta-long _ (c .before .before .before .before .before .before .before .before .before .before .fault .ensures) (c .before .before .before .before .before .before .before .before .before .if1 .left)))  -- word-at-requires-2
     (λ c κs. let start = c .before .before .before .before .before .before .before .before .before .before .before .before .before .before .before .before .before .before .before .before in scalar-asks _ (c .before .before .before .before .before .before .before .before .before .before .before .before .fault .ensures) (c .before .before .before .before .before .before .before .before .before .before .before .if1 .left) (c .before .before .before .before .before .before .before .before .before .before .noise-length .ensures) (c .before .before .before .before .before .before .before .before .before .scalar-length .ensures) (start .args .noise-record .now) (start .args .scalar-record .now) (c .before .before .before .before .before .before .before .before .if2 .left) (c .before .before .before .before .before .before .before .if3 .left))  -- write-scalar-requires
     (λ c. search needs)  -- same-length
     (λ c. search needs)  -- same-length-2
-    (λ c. let start = c .before .before .before .before .before .before .before .before .before .before .before .before .before .before .before .before .before .before .before .before .before .before .before in deal-written _ (c .before .before .before .before .before .before .before .before .before .before .before .before .before .before .before .fault .ensures) (c .before .before .before .before .before .before .before .before .before .before .before .before .before .before .if1 .left) (c .before .before .before .before .before .before .before .before .before .before .before .before .before .noise-length .ensures) (c .before .before .before .before .before .before .before .before .before .before .before .before .scalar-length .ensures) (start .args .noise-record .now) (start .args .scalar-record .now) (c .before .before .before .before .before .before .before .before .before .before .before .if2 .left) (c .before .before .before .before .before .before .before .before .before .before .if3 .left) (c .before .before .before .before .before .before .before .before .write-noise .ensures) (c .before .before .before .before .before .word-at .ensures) (c .before .before .before .before .word-at2 .ensures) (c .before .before .write-scalar .ensures))  -- returns-4
+    (λ c. deal-written _ (c .before .before .before .before .before .before .before .before .before .before .before .before .before .before .before .fault .ensures) (c .before .before .before .before .before .before .before .before .before .before .before .before .before .before .if1 .left) (c .before .before .before .before .before .before .before .before .before .before .before .before .before .noise-length .ensures) (c .before .before .before .before .before .before .before .before .before .before .before .before .scalar-length .ensures) _ _ (c .before .before .before .before .before .before .before .before .before .before .before .if2 .left) (c .before .before .before .before .before .before .before .before .before .before .if3 .left) (c .before .before .before .before .before .before .before .before .write-noise .ensures) (c .before .before .before .before .before .word-at .ensures) (c .before .before .before .before .word-at2 .ensures) (c .before .before .write-scalar .ensures))  -- returns-4
     )
