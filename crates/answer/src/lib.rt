@@ -1,6 +1,34 @@
 // What the calls answer: document 01's number, and the lengths written to each output buffer. A refused call has zero for
 // each length.
 
+// The numbers of document 01's table, under the names of the C header.
+// Field byte not 1 or 2.
+pub const BAD_FIELD: u32 = 1;
+// d, t, ℓ or n outside its range.
+pub const BAD_SIZE: u32 = 2;
+// An input slice not exactly the length that the sizes or the count call for.
+pub const BAD_LENGTH: u32 = 3;
+// Position not rising, or N or more.
+pub const BAD_POSITION: u32 = 4;
+// Noise value not admitted.
+pub const BAD_NOISE: u32 = 5;
+// Δ zero, or not an element.
+pub const BAD_DELTA: u32 = 6;
+// Window past its end.
+pub const WINDOW_PAST_END: u32 = 7;
+// Correction, or a word that the window's rows use, not an element, or in binary noise above 1; choice byte above 1.
+pub const NOT_ELEMENT: u32 = 8;
+// End byte not this end's.
+pub const WRONG_END: u32 = 9;
+// Record ends inside a field.
+pub const RECORD_ENDS: u32 = 10;
+// Number not shortest, or its third byte's top bit set.
+pub const BAD_NUMBER: u32 = 11;
+// Bytes after the record.
+pub const BYTES_AFTER: u32 = 12;
+// Output buffer too short.
+pub const BUFFER_SHORT: u32 = 13;
+
 // The answer of a call with two output buffers.
 #[repr(C)]
 pub struct TwoLengths {

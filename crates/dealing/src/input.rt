@@ -4,15 +4,15 @@ ghost use Prim.Native.Nat.{_≤_, min};
 ghost use lib.ListN.{length};
 ghost use Rattle.record.specs.Admitted.{isField, isSize, isNoise};
 ghost use Rattle.dealing.specs.Input.{inputWith, sizesAdmitted, lengthsAdmitted, risingFrom, everyNoise, deltaAdmitted, fault};
+use answer::BAD_DELTA;
+use answer::BAD_FIELD;
+use answer::BAD_LENGTH;
+use answer::BAD_NOISE;
+use answer::BAD_POSITION;
+use answer::BAD_SIZE;
 use field::Prime;
 use field::word_at;
-use record::DELTA_NOT_ADMITTED;
-use record::FIELD_UNKNOWN;
-use record::POSITION_OUTSIDE;
-use record::SIZE_OUTSIDE;
-use record::VALUE_NOT_ADMITTED;
 use record::leaves;
-use rows::WRONG_LENGTH;
 
 // Whether a byte is a field's.
 fn is_field(field: u8) -> bool
@@ -167,22 +167,22 @@ pub fn fault(
     ensures { λ r. ⌜ r ≡ fault (inputWith field depth trees terms outputs (now (roots .entry)) (now (positions .entry)) (now (values .entry)) (now (delta .entry)) (now («code_key» .entry))) ⌝ }
 {
     if !is_field(field) {
-        return FIELD_UNKNOWN;
+        return BAD_FIELD;
     }
     if !sizes_admitted(depth, trees, terms, outputs) {
-        return SIZE_OUTSIDE;
+        return BAD_SIZE;
     }
     if !lengths_admitted(trees, roots, positions, values, delta, code_key) {
-        return WRONG_LENGTH;
+        return BAD_LENGTH;
     }
     if !rising(leaves(depth), positions) {
-        return POSITION_OUTSIDE;
+        return BAD_POSITION;
     }
     if !every_noise(field, values) {
-        return VALUE_NOT_ADMITTED;
+        return BAD_NOISE;
     }
     if !delta_admitted(field, delta) {
-        return DELTA_NOT_ADMITTED;
+        return BAD_DELTA;
     }
     0
 }

@@ -8,6 +8,7 @@ ghost use Rattle.dealing.specs.Input.{Input, inputWith};
 mod input;
 mod noise;
 
+use answer::BUFFER_SHORT;
 use answer::TwoLengths;
 use field::word_at;
 use input::fault;
@@ -15,7 +16,6 @@ use noise::write_noise;
 use record::noise_length;
 use record::scalar_length;
 use record::write_scalar;
-use rows::SHORT_OUTPUT;
 
 // The answer of a refused call.
 fn refusal(number: u32) -> TwoLengths
@@ -69,10 +69,10 @@ pub fn deal(
     let first = noise_length(kind, depth, trees, terms, outputs, positions);
     let second = scalar_length(kind, depth, trees, terms, outputs);
     if noise_record.len() < first {
-        return refusal(SHORT_OUTPUT);
+        return refusal(BUFFER_SHORT);
     }
     if scalar_record.len() < second {
-        return refusal(SHORT_OUTPUT);
+        return refusal(BUFFER_SHORT);
     }
     write_noise(
         kind,

@@ -32,8 +32,8 @@ use Rattle.rows.proofs.Widths.{width-most}
 use Rattle.noise_end.specs.Vectors.{mu, v0}
 use Rattle.noise_end.specs.Offline as off
 use Rattle.noise_end.specs.Online as on
-use Rattle.noise_end.specs.Online.{Lent}
-use Rattle.noise_end.specs.Steps.{Fitting, TreesFit, treesAt, noiseExpansion, vExpansion, uOutputAt, outputAt, uOver, vOver, noiseUsed, lengthsNumber, rowsOutcome}
+use Rattle.noise_end.specs.Online.{Lent, rowsOutcome}
+use Rattle.noise_end.specs.Steps.{Fitting, TreesFit, treesAt, noiseExpansion, vExpansion, uOutputAt, outputAt, uOver, vOver, noiseUsed, lengthsNumber}
 use Rattle.noise_end.specs.Ready.{contentOf, Ready}
 use Rattle.noise_end.proofs.Content.{ready, refused-is}
 use Rattle.noise_end.proofs.Steps.{every-both}
@@ -248,7 +248,7 @@ module _ (s noise v uOut vOut : List ℕ) (first count : ℕ) (f : Front)
   -- all tests passed: the rows are left
   pub rows-left : number ≡ 0 → {o : on.Outcome} → o ≡ rowsOutcome (headOf s f) (lent s noise v uOut vOut) first count
       → o ≡ on.window (headOf s f) (lent s noise v uOut vOut) first count
-  unfolding on.window rowsOutcome elementWidth wrong short
+  unfolding on.window elementWidth wrong short
   rows-left z q = q ∙ sym (rw (passed z .0, passed z .1, passed z .2))
 
   pub fitting : Ready s f → number ≡ 0

@@ -28,7 +28,7 @@ use Rattle.rows.proofs.Rows.{window-usable, row-output}
 use Rattle.noise_end.specs.Vectors.{mu, v0}
 use Rattle.noise_end.specs.Offline.{Expanded, refusal, vWords, expand, offline}
 use Rattle.noise_end.specs.Online as on
-use Rattle.noise_end.specs.Online.{Lent, Outcome, usable, uAt, vAt, filled, wrongLengths, pastEnd, tooShort, window, online}
+use Rattle.noise_end.specs.Online.{Lent, Outcome, usable, uAt, vAt, filled, wrongLengths, pastEnd, tooShort, rowsOutcome, window, online}
 
 -- ---- offline
 
@@ -121,7 +121,7 @@ refusal-kept : (l : Lent) (k : ℕ) → Kept l (on.refusal k l)
 refusal-kept l k = record { source = refl; noise = refl; v = refl }
 
 window-kept : (h : Head) (l : Lent) (first count : ℕ) → Kept l (window h l first count)
-unfolding window filled
+unfolding window rowsOutcome filled
 window-kept h l first count =
     choose-either (Kept l) (wrongLengths h l) _ _ (refusal-kept l 3)
     (choose-either (Kept l) (pastEnd h first count) _ _ (refusal-kept l 7)
@@ -180,7 +180,7 @@ module _ (l : Lent) (P : NoisePart) (f : ℕ → Scalar (fieldOf (P .head))) (g 
 
   listed : online l first count
       ≡ choose (pastEnd (P .head) first count) (on.refusal 7 l) (choose (tooShort (P .head) l count) (on.refusal 13 l) accepted)
-  unfolding window accepted
+  unfolding window rowsOutcome accepted
   listed = online-whole l first count read ∙ rw (right-lengths, all-usable)
 
   -- 7 if the window passes n, else 13 if a buffer is too short, else 0

@@ -16,14 +16,11 @@ use Rattle.field.specs.Kind.{Kind}
 use Rattle.code.specs.Row.{rowOf, termPlace}
 use Rattle.code.specs.Used.{every}
 use Rattle.number.specs.Reading.{Whole, Refused, Step, isWhole}
-use Rattle.record.specs.Content.{Head, NoiseTree}
+use Rattle.record.specs.Content.{NoiseTree}
 use Rattle.record.specs.Reading.{readTrees}
 use Rattle.record.specs.declared.Front.{Front}
-use Rattle.rows.specs.Head.{fieldOf}
-use Rattle.rows.specs.Usable.{windowUsable}
 use Rattle.rows.specs.Words.{elementWidth}
 use Rattle.noise_end.specs.Vectors.{treeIn, valueIn, correctionIn, leafIn}
-use Rattle.noise_end.specs.Online.{Lent, Outcome, refusal, usable, filled}
 
 -- the trees of a record of a field, which begin at a place
 unfoldable pub treesAt : ℕ → List ℕ → ℕ → ℕ → ℕ → List NoiseTree
@@ -73,12 +70,6 @@ lengthsNumber f noise vector first count uRoom room =
     choose (not (eqb noise (2 ^ f .depth)) || not (eqb vector (2 ^ f .depth * elementWidth (f .field)))) 3
     (choose (ltb (f .outputs) (first + count)) 7
     (choose (ltb uRoom count || ltb room (count * elementWidth (f .field))) 13 0))
-
--- the test 8 and the windows, once the tests 3, 7 and 13 are passed
-unfoldable pub rowsOutcome : Head → Lent → ℕ → ℕ → Outcome
-rowsOutcome h l first count =
-    choose (not (windowUsable (usable (fieldOf h) l) h first count)) (refusal 8 l)
-    (record { number = 0; first = count; second = count * fieldOf h .elements .width; lent = filled h l first count })
 
 -- whole vectors, the elements of a width, a window that ends at 32768 (the largest n) or before, and room for it
 pub record Fitting (width size first count noise vector uRoom room : ℕ) : Type 0 where

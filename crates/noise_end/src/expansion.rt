@@ -7,6 +7,7 @@ ghost use Rattle.rows.specs.Words.{elementWidth};
 ghost use Rattle.noise_end.specs.Steps.{TreesFit, treesAt, noiseExpansion, vExpansion};
 ghost use Rattle.noise_end.specs.Offline.{expanded, expand};
 ghost use Rattle.noise_end.specs.Ready.{Ready, contentOf};
+use answer::BUFFER_SHORT;
 use answer::TwoLengths;
 use code::accumulate_bits;
 use code::accumulate_blocks;
@@ -16,7 +17,6 @@ use field::Prime;
 use record::Front;
 use record::known_tree;
 use record::leaves;
-use rows::SHORT_OUTPUT;
 use rows::element_width;
 use rows::zero_words;
 use tree::add_punctured_binary;
@@ -157,14 +157,14 @@ pub fn write_vectors(source: &[u8], front: Front, noise: &mut [u64], v: &mut [u6
     let words = size * width;
     if noise.len() < size {
         return TwoLengths {
-            number: SHORT_OUTPUT,
+            number: BUFFER_SHORT,
             first: 0,
             second: 0,
         };
     }
     if v.len() < words {
         return TwoLengths {
-            number: SHORT_OUTPUT,
+            number: BUFFER_SHORT,
             first: 0,
             second: 0,
         };

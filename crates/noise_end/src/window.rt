@@ -6,21 +6,21 @@ ghost use Rattle.sbox.specs.Table.{Tables};
 ghost use Rattle.field.specs.Kind.{kindOf, binaryKind, primeKind};
 ghost use Rattle.rows.specs.Testing.{Testing};
 ghost use Rattle.rows.specs.Words.{elementWidth};
-ghost use Rattle.noise_end.specs.Steps.{Fitting, noiseUsed, uOver, vOver, lengthsNumber, rowsOutcome};
+ghost use Rattle.noise_end.specs.Steps.{Fitting, noiseUsed, uOver, vOver, lengthsNumber};
 ghost use Rattle.record.specs.Reading.{headOf};
-ghost use Rattle.noise_end.specs.Online.{Lent, outcome, window};
+ghost use Rattle.noise_end.specs.Online.{Lent, outcome, rowsOutcome, window};
 ghost use Rattle.noise_end.specs.Ready.{Ready};
+use answer::BAD_LENGTH;
+use answer::BUFFER_SHORT;
+use answer::NOT_ELEMENT;
 use answer::TwoLengths;
+use answer::WINDOW_PAST_END;
 use code::noise_row_binary;
 use code::noise_row_prime;
 use code::used_below;
 use field::Prime;
 use record::Front;
 use record::leaves;
-use rows::NOT_USABLE;
-use rows::PAST_END;
-use rows::SHORT_OUTPUT;
-use rows::WRONG_LENGTH;
 use rows::code_keys;
 use rows::element_width;
 use rows::elements_used;
@@ -199,7 +199,7 @@ fn write_rows(
         noise,
     ) {
         return TwoLengths {
-            number: NOT_USABLE,
+            number: NOT_ELEMENT,
             first: 0,
             second: 0,
         };
@@ -216,7 +216,7 @@ fn write_rows(
         v,
     ) {
         return TwoLengths {
-            number: NOT_USABLE,
+            number: NOT_ELEMENT,
             first: 0,
             second: 0,
         };
@@ -257,20 +257,20 @@ fn lengths_number(
 {
     let size = leaves(front.depth);
     if noise != size {
-        return WRONG_LENGTH;
+        return BAD_LENGTH;
     }
     let width = element_width(front.field);
     if vector != size * width {
-        return WRONG_LENGTH;
+        return BAD_LENGTH;
     }
     if past_end(first, count, front.outputs) {
-        return PAST_END;
+        return WINDOW_PAST_END;
     }
     if u_room < count {
-        return SHORT_OUTPUT;
+        return BUFFER_SHORT;
     }
     if room < count * width {
-        return SHORT_OUTPUT;
+        return BUFFER_SHORT;
     }
     0
 }

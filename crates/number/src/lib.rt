@@ -6,17 +6,14 @@ ghost use lib.ListN.{length};
 ghost use lib.Seq.{sets};
 ghost use Rattle.number.specs.Reading.{Whole, isWhole};
 ghost use Rattle.number.specs.Number.{numbers, writeNumber, numberLength, readNumber, numberRead, faultOf};
-
-// Record ends inside a field.
-pub const RECORD_ENDS: u32 = 10;
-// Number not shortest, or its third byte's top bit set.
-pub const NUMBER_MALFORMED: u32 = 11;
+use answer::BAD_NUMBER;
+use answer::RECORD_ENDS;
 
 // What reading a number gives.
 pub enum Number {
     // The number, and the place after its last byte.
     Value(usize, usize),
-    // RECORD_ENDS or NUMBER_MALFORMED.
+    // RECORD_ENDS or BAD_NUMBER.
     Fault(u32),
 }
 
@@ -56,7 +53,7 @@ pub fn read_number(source: &[u8], at: usize) -> Number
     let at2 = at1 + 1;
     if b < 128 {
         if b == 0 {
-            return Number::Fault(NUMBER_MALFORMED);
+            return Number::Fault(BAD_NUMBER);
         }
         return Number::Value(a - 128 + b * 128, at2);
     }
@@ -67,11 +64,11 @@ pub fn read_number(source: &[u8], at: usize) -> Number
     let at3 = at2 + 1;
     if c < 128 {
         if c == 0 {
-            return Number::Fault(NUMBER_MALFORMED);
+            return Number::Fault(BAD_NUMBER);
         }
         return Number::Value(a - 128 + (b - 128) * 128 + c * 16384, at3);
     }
-    Number::Fault(NUMBER_MALFORMED)
+    Number::Fault(BAD_NUMBER)
 }
 
 // A number that has been read before, and the place after it.

@@ -10,7 +10,7 @@ use mir.Syntax.{w64}
 use mir.Val.{Fits}
 use borrow.Author.Tests.{ltb-false, lt-ltb, le-ltb, eq-eqb, ne-eqb, not-true, not-false}
 use Rattle.algebra.specs.Choice.{choose}
-use Rattle.pads.specs.Calls.{answer, anyAbove, wrongLength, zeroDelta, pastEnd, badChoice, shortOutput, windowEnd, noiseNumber, scalarNumber}
+use Rattle.pads.specs.Calls.{answer, anyAbove, noiseNumber, scalarNumber}
 
 -- a chain of tests gives 0 only if the first test fails and the rest gives 0
 pub passed : (t : Bool) (n rest : ℕ) → choose t (suc n) rest ≡ 0 → (t ≡ false) × (rest ≡ 0)
@@ -60,22 +60,22 @@ above-none limit (b ∷ bytes) all =
 
 -- the noise end's number, test by test, as the code has them
 module _ (first count : ℕ) (v choices : List ℕ) (room : ℕ) (t : Bool) (blocks : t ≡ eqb (length v) (16 * count)) where
-  pub noise-wrong-v : not t ≡ true → wrongLength ≡ noiseNumber first count v choices room
+  pub noise-wrong-v : not t ≡ true → 3 ≡ noiseNumber first count v choices room
   unfolding noiseNumber
   noise-wrong-v n = rw (← blocks, not-true t n)
 
   module _ (yes-v : not t ≡ false) where
-    pub noise-wrong-choices : (length choices ≡ count → ⊥) → wrongLength ≡ noiseNumber first count v choices room
+    pub noise-wrong-choices : (length choices ≡ count → ⊥) → 3 ≡ noiseNumber first count v choices room
     unfolding noiseNumber
     noise-wrong-choices n = rw (← blocks, not-false t yes-v, ne-eqb (length choices) count n)
 
-    module _ (bytes : length choices ≡ count) (p : Bool) (window : p ≡ ltb windowEnd (first + count)) where
-      pub noise-past : p ≡ true → pastEnd ≡ noiseNumber first count v choices room
+    module _ (bytes : length choices ≡ count) (p : Bool) (window : p ≡ ltb 32768 (first + count)) where
+      pub noise-past : p ≡ true → 7 ≡ noiseNumber first count v choices room
       unfolding noiseNumber
       noise-past e = rw (← blocks, not-false t yes-v, eq-eqb (length choices) count bytes, ← window, e)
 
       module _ (inside : p ≡ false) where
-        pub noise-short : room < 16 * count → shortOutput ≡ noiseNumber first count v choices room
+        pub noise-short : room < 16 * count → 13 ≡ noiseNumber first count v choices room
         unfolding noiseNumber
         noise-short h =
             rw (
@@ -88,7 +88,7 @@ module _ (first count : ℕ) (v choices : List ℕ) (room : ℕ) (t : Bool) (blo
             )
 
         module _ (fits : 16 * count ≤ room) (a : Bool) (above : a ≡ anyAbove 1 choices) where
-          pub noise-bad : a ≡ true → badChoice ≡ noiseNumber first count v choices room
+          pub noise-bad : a ≡ true → 8 ≡ noiseNumber first count v choices room
           unfolding noiseNumber
           noise-bad e =
               rw (
@@ -118,22 +118,22 @@ module _ (first count : ℕ) (v choices : List ℕ) (room : ℕ) (t : Bool) (blo
 
 -- the scalar end's number, test by test, as the code has them
 module _ (first count : ℕ) (v delta : List ℕ) (room : ℕ) (t : Bool) (blocks : t ≡ eqb (length v) (16 * count)) where
-  pub scalar-wrong-w : not t ≡ true → wrongLength ≡ scalarNumber first count v delta room
+  pub scalar-wrong-w : not t ≡ true → 3 ≡ scalarNumber first count v delta room
   unfolding scalarNumber
   scalar-wrong-w n = rw (← blocks, not-true t n)
 
   module _ (yes-w : not t ≡ false) where
-    pub scalar-wrong-delta : (length delta ≡ 16 → ⊥) → wrongLength ≡ scalarNumber first count v delta room
+    pub scalar-wrong-delta : (length delta ≡ 16 → ⊥) → 3 ≡ scalarNumber first count v delta room
     unfolding scalarNumber
     scalar-wrong-delta n = rw (← blocks, not-false t yes-w, ne-eqb (length delta) 16 n)
 
-    module _ (bytes : length delta ≡ 16) (p : Bool) (window : p ≡ ltb windowEnd (first + count)) where
-      pub scalar-past : p ≡ true → pastEnd ≡ scalarNumber first count v delta room
+    module _ (bytes : length delta ≡ 16) (p : Bool) (window : p ≡ ltb 32768 (first + count)) where
+      pub scalar-past : p ≡ true → 7 ≡ scalarNumber first count v delta room
       unfolding scalarNumber
       scalar-past e = rw (← blocks, not-false t yes-w, eq-eqb (length delta) 16 bytes, ← window, e)
 
       module _ (inside : p ≡ false) (a : Bool) (above : a ≡ anyAbove 0 delta) where
-        pub scalar-zero : not a ≡ true → zeroDelta ≡ scalarNumber first count v delta room
+        pub scalar-zero : not a ≡ true → 6 ≡ scalarNumber first count v delta room
         unfolding scalarNumber
         scalar-zero e =
             rw (
@@ -147,7 +147,7 @@ module _ (first count : ℕ) (v delta : List ℕ) (room : ℕ) (t : Bool) (block
             )
 
         module _ (nonzero : not a ≡ false) where
-          pub scalar-short : room < 32 * count → shortOutput ≡ scalarNumber first count v delta room
+          pub scalar-short : room < 32 * count → 13 ≡ scalarNumber first count v delta room
           unfolding scalarNumber
           scalar-short h =
               rw (
@@ -176,8 +176,8 @@ module _ (first count : ℕ) (v delta : List ℕ) (room : ℕ) (t : Bool) (block
               )
 
 -- the bytes of a window's outputs are a number that does not wrap
-pub fits-16 : (first count : ℕ) (p : Bool) → p ≡ ltb windowEnd (first + count) → p ≡ false → Fits w64 (16 * count)
-fits-16 first count p window inside = omega (arith, ltb-false windowEnd (first + count) (sym window ∙ inside))
+pub fits-16 : (first count : ℕ) (p : Bool) → p ≡ ltb 32768 (first + count) → p ≡ false → Fits w64 (16 * count)
+fits-16 first count p window inside = omega (arith, ltb-false 32768 (first + count) (sym window ∙ inside))
 
-pub fits-32 : (first count : ℕ) (p : Bool) → p ≡ ltb windowEnd (first + count) → p ≡ false → Fits w64 (32 * count)
-fits-32 first count p window inside = omega (arith, ltb-false windowEnd (first + count) (sym window ∙ inside))
+pub fits-32 : (first count : ℕ) (p : Bool) → p ≡ ltb 32768 (first + count) → p ≡ false → Fits w64 (32 * count)
+fits-32 first count p window inside = omega (arith, ltb-false 32768 (first + count) (sym window ∙ inside))

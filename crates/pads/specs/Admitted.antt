@@ -8,13 +8,13 @@ use Rattle.algebra.specs.Coding.{at}
 use Rattle.field.specs.Binary.{blockZero}
 use Rattle.pads.specs.Bytes.{blockBytes}
 use Rattle.pads.specs.Pad.{Rule}
-use Rattle.pads.specs.Calls.{noisePadsBy, scalarPadsBy, windowEnd}
+use Rattle.pads.specs.Calls.{noisePadsBy, scalarPadsBy}
 
 -- v has 16 bytes an output and choices one byte, 0 or 1; the window ends by 32,768; the buffer has room
 pub record NoiseAdmitted (first count : ℕ) (v choices pads : List ℕ) : Type 0 where
   pub v-length : length v ≡ 16 * count
   pub choices-length : length choices ≡ count
-  pub window : first + count ≤ windowEnd
+  pub window : first + count ≤ 32768
   pub room : 16 * count ≤ length pads
   pub bits : (k : ℕ) → k < count → getD choices k 0 ≤ 1
 
@@ -22,7 +22,7 @@ pub record NoiseAdmitted (first count : ℕ) (v choices pads : List ℕ) : Type 
 pub record ScalarAdmitted (first count : ℕ) (w delta pads : List ℕ) : Type 0 where
   pub w-length : length w ≡ 16 * count
   pub delta-length : length delta ≡ 16
-  pub window : first + count ≤ windowEnd
+  pub window : first + count ≤ 32768
   pub delta-nonzero : at blockBytes delta 0 ≡ blockZero → ⊥
   pub room : 32 * count ≤ length pads
 

@@ -32,46 +32,22 @@ unfoldable pub anyAbove : ℕ → List ℕ → Bool
 anyAbove limit [] = false
 anyAbove limit (byte ∷ bytes) = ltb limit byte || anyAbove limit bytes
 
--- the numbers of the table: an input slice not exactly the length that c calls for
-abbrev pub wrongLength : ℕ
-wrongLength = 3
-
--- Δ zero
-abbrev pub zeroDelta : ℕ
-zeroDelta = 6
-
--- window past its end
-abbrev pub pastEnd : ℕ
-pastEnd = 7
-
--- choice byte above 1
-abbrev pub badChoice : ℕ
-badChoice = 8
-
--- output buffer too short
-abbrev pub shortOutput : ℕ
-shortOutput = 13
-
--- first + c is at most 32,768
-abbrev pub windowEnd : ℕ
-windowEnd = 32768
-
 -- the noise end's number, with v of 16 bytes an output and a choice byte each, and room for as many pads
 unfoldable pub noiseNumber : ℕ → ℕ → List ℕ → List ℕ → ℕ → ℕ
 noiseNumber first count v choices room =
-    choose (not (eqb (length v) (16 * count) && eqb (length choices) count)) wrongLength
-    (choose (ltb windowEnd (first + count)) pastEnd
-    (choose (ltb room (16 * count)) shortOutput
-    (choose (anyAbove 1 choices) badChoice
+    choose (not (eqb (length v) (16 * count) && eqb (length choices) count)) 3
+    (choose (ltb 32768 (first + count)) 7
+    (choose (ltb room (16 * count)) 13
+    (choose (anyAbove 1 choices) 8
     0)))
 
 -- the scalar end's number, with w of 16 bytes an output and Δ of 16 bytes, and room for two pads an output
 unfoldable pub scalarNumber : ℕ → ℕ → List ℕ → List ℕ → ℕ → ℕ
 scalarNumber first count w delta room =
-    choose (not (eqb (length w) (16 * count) && eqb (length delta) 16)) wrongLength
-    (choose (ltb windowEnd (first + count)) pastEnd
-    (choose (not (anyAbove 0 delta)) zeroDelta
-    (choose (ltb room (32 * count)) shortOutput
+    choose (not (eqb (length w) (16 * count) && eqb (length delta) 16)) 3
+    (choose (ltb 32768 (first + count)) 7
+    (choose (not (anyAbove 0 delta)) 6
+    (choose (ltb room (32 * count)) 13
     0)))
 
 -- the noise end writes the pad of v, 16 bytes an output

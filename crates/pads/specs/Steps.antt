@@ -5,7 +5,6 @@ use Prim.Native.Nat.{ℕ, _+_, _*_, _≤_}
 use Rattle.sbox.specs.Table.{Tables}
 use Rattle.aes128.specs.Cipher.{keyExpansion}
 use Rattle.pads.specs.Pad.{padKey}
-use Rattle.pads.specs.Calls.{windowEnd}
 
 -- the cipher's tables, and the round keys of the pads' key
 pub record Ready (sbox mix : List ℕ) (keys : List (List (List ℕ))) : Type 0 where
@@ -14,6 +13,6 @@ pub record Ready (sbox mix : List ℕ) (keys : List (List (List ℕ))) : Type 0 
 
 -- a window with 16 bytes an output lent, and room for its outputs
 pub record Fitting (first count lent width room : ℕ) : Type 0 where
-  pub window : first + count ≤ windowEnd
+  pub window : first + count ≤ 32768
   pub blocks : 16 * count ≤ lent
   pub outputs : count * width ≤ room

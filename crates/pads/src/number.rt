@@ -2,19 +2,13 @@
 ghost use mathlib.Core.Path.{_≡_};
 ghost use Prim.Native.Nat.{_+_, _*_};
 ghost use lib.Dec.{ltb, eqb};
-ghost use Rattle.pads.specs.Calls.{windowEnd, noiseNumber, scalarNumber};
+ghost use Rattle.pads.specs.Calls.{noiseNumber, scalarNumber};
 use crate::bytes::any_above;
-
-// An input slice not exactly the length that the count calls for.
-const WRONG_LENGTH: u32 = 3;
-// Δ zero.
-const ZERO_DELTA: u32 = 6;
-// Window past its end.
-const PAST_END: u32 = 7;
-// Choice byte above 1.
-const BAD_CHOICE: u32 = 8;
-// Output buffer too short.
-const SHORT_OUTPUT: u32 = 13;
+use answer::BAD_DELTA;
+use answer::BAD_LENGTH;
+use answer::BUFFER_SHORT;
+use answer::NOT_ELEMENT;
+use answer::WINDOW_PAST_END;
 
 // Where a window ends at the latest.
 const WINDOW_END: usize = 32768;
@@ -32,7 +26,7 @@ fn is_blocks(len: usize, count: usize) -> bool
 
 // Whether a window passes its end, for any two numbers.
 fn is_past(first: usize, count: usize) -> bool
-    ensures { λ r. ⌜ r ≡ ltb windowEnd (first + count) ⌝ }
+    ensures { λ r. ⌜ r ≡ ltb 32768 (first + count) ⌝ }
 {
     if first <= WINDOW_END {
         count > WINDOW_END - first
@@ -46,19 +40,19 @@ pub fn noise_number(first: usize, count: usize, v: &[u8], choices: &[u8], room: 
     ensures { λ r. ⌜ r ≡ noiseNumber first count (now (v .entry)) (now (choices .entry)) room ⌝ }
 {
     if !is_blocks(v.len(), count) {
-        return WRONG_LENGTH;
+        return BAD_LENGTH;
     }
     if choices.len() != count {
-        return WRONG_LENGTH;
+        return BAD_LENGTH;
     }
     if is_past(first, count) {
-        return PAST_END;
+        return WINDOW_PAST_END;
     }
     if room < 16 * count {
-        return SHORT_OUTPUT;
+        return BUFFER_SHORT;
     }
     if any_above(1, choices) {
-        return BAD_CHOICE;
+        return NOT_ELEMENT;
     }
     0
 }
@@ -68,19 +62,19 @@ pub fn scalar_number(first: usize, count: usize, w: &[u8], delta: &[u8], room: u
     ensures { λ r. ⌜ r ≡ scalarNumber first count (now (w .entry)) (now (delta .entry)) room ⌝ }
 {
     if !is_blocks(w.len(), count) {
-        return WRONG_LENGTH;
+        return BAD_LENGTH;
     }
     if delta.len() != 16 {
-        return WRONG_LENGTH;
+        return BAD_LENGTH;
     }
     if is_past(first, count) {
-        return PAST_END;
+        return WINDOW_PAST_END;
     }
     if !any_above(0, delta) {
-        return ZERO_DELTA;
+        return BAD_DELTA;
     }
     if room < 32 * count {
-        return SHORT_OUTPUT;
+        return BUFFER_SHORT;
     }
     0
 }

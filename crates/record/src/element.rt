@@ -4,14 +4,14 @@ ghost use Prim.Native.Nat.{_+_};
 ghost use Rattle.number.specs.Number.{numberRead};
 ghost use Rattle.record.specs.Reading.{readValue, readCorrection, readDelta, firstWord};
 ghost use Rattle.record.specs.Writing.{elementLength};
-use crate::DELTA_NOT_ADMITTED;
-use crate::NOT_ELEMENT;
-use crate::VALUE_NOT_ADMITTED;
 use crate::head::has_bytes;
+use answer::BAD_DELTA;
+use answer::BAD_NOISE;
+use answer::NOT_ELEMENT;
+use answer::RECORD_ENDS;
 use field::Prime;
 use field::word_at;
 use number::Number;
-use number::RECORD_ENDS;
 
 // How many bytes an element takes.
 pub fn element_length(field: usize) -> usize
@@ -30,12 +30,12 @@ pub fn read_value(source: &[u8], at: usize, field: usize) -> Number
     if has_bytes(source, at, 8) {
         let value = word_at(source, at);
         if value == 0 {
-            return Number::Fault(VALUE_NOT_ADMITTED);
+            return Number::Fault(BAD_NOISE);
         }
         if value < Prime::MODULUS {
             return Number::Value(value as usize, at + 8);
         }
-        return Number::Fault(VALUE_NOT_ADMITTED);
+        return Number::Fault(BAD_NOISE);
     }
     Number::Fault(RECORD_ENDS)
 }
@@ -69,7 +69,7 @@ pub fn read_delta(source: &[u8], at: usize, field: usize) -> Number
             let low = word_at(source, at);
             if low == 0 {
                 if word_at(source, at + 8) == 0 {
-                    return Number::Fault(DELTA_NOT_ADMITTED);
+                    return Number::Fault(BAD_DELTA);
                 }
                 return Number::Value(0, at + 16);
             }
@@ -80,12 +80,12 @@ pub fn read_delta(source: &[u8], at: usize, field: usize) -> Number
     if has_bytes(source, at, 8) {
         let delta = word_at(source, at);
         if delta == 0 {
-            return Number::Fault(DELTA_NOT_ADMITTED);
+            return Number::Fault(BAD_DELTA);
         }
         if delta < Prime::MODULUS {
             return Number::Value(delta as usize, at + 8);
         }
-        return Number::Fault(DELTA_NOT_ADMITTED);
+        return Number::Fault(BAD_DELTA);
     }
     Number::Fault(RECORD_ENDS)
 }

@@ -5,13 +5,13 @@ ghost use lib.Dec.{leb};
 ghost use lib.ListN.{length};
 ghost use Rattle.number.specs.Number.{numberRead};
 ghost use Rattle.record.specs.Reading.{skipped, readSize, readField, readSizes, readHead, opened};
-use crate::FIELD_UNKNOWN;
 use crate::Front;
-use crate::OTHER_END;
 use crate::Opened;
-use crate::SIZE_OUTSIDE;
+use answer::BAD_FIELD;
+use answer::BAD_SIZE;
+use answer::RECORD_ENDS;
+use answer::WRONG_END;
 use number::Number;
-use number::RECORD_ENDS;
 use number::fault_of;
 use number::read_number;
 
@@ -59,10 +59,10 @@ pub fn read_size(source: &[u8], at: usize, top: usize) -> Number
         return r;
     };
     if n < 1 {
-        return Number::Fault(SIZE_OUTSIDE);
+        return Number::Fault(BAD_SIZE);
     }
     if top < n {
-        return Number::Fault(SIZE_OUTSIDE);
+        return Number::Fault(BAD_SIZE);
     }
     Number::Value(n, next)
 }
@@ -75,7 +75,7 @@ pub fn read_field(source: &[u8], end: u8) -> Number
         return Number::Fault(RECORD_ENDS);
     }
     if source[0] != end {
-        return Number::Fault(OTHER_END);
+        return Number::Fault(WRONG_END);
     }
     if source.len() <= 1 {
         return Number::Fault(RECORD_ENDS);
@@ -86,7 +86,7 @@ pub fn read_field(source: &[u8], end: u8) -> Number
     if source[1] == 2 {
         return Number::Value(2, 2);
     }
-    Number::Fault(FIELD_UNKNOWN)
+    Number::Fault(BAD_FIELD)
 }
 
 // d, t, ℓ, n and the code key.

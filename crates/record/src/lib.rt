@@ -21,24 +21,6 @@ pub use writing::write_front;
 pub use writing::write_head;
 pub use writing::write_scalar;
 
-// Document 01's numbers of refusals in a record, beside those of `number`.
-// Field byte not 1 or 2.
-pub const FIELD_UNKNOWN: u32 = 1;
-// d, t, ℓ or n outside its range.
-pub const SIZE_OUTSIDE: u32 = 2;
-// Position not rising, or N or more.
-pub const POSITION_OUTSIDE: u32 = 4;
-// Noise value not admitted.
-pub const VALUE_NOT_ADMITTED: u32 = 5;
-// Δ zero, or not an element.
-pub const DELTA_NOT_ADMITTED: u32 = 6;
-// Correction not an element.
-pub const NOT_ELEMENT: u32 = 8;
-// End byte not this end's.
-pub const OTHER_END: u32 = 9;
-// Bytes after the record.
-pub const BYTES_AFTER: u32 = 12;
-
 // The head of a record in numbers: field, d, t, ℓ, n, and the place after the code key, where the body begins.
 pub struct Front {
     pub field: usize,

@@ -7,15 +7,15 @@ ghost use Rattle.number.specs.Number.{numberRead};
 ghost use Rattle.number.specs.Reading.{Whole, isWhole};
 ghost use Rattle.record.specs.Content.{elementOf};
 ghost use Rattle.record.specs.Reading.{readPosition, readTree, readHead, readNoise, treeFront, frontOf, opened, treeOf};
-use crate::BYTES_AFTER;
 use crate::Opened;
-use crate::POSITION_OUTSIDE;
 use crate::Tree;
 use crate::element::read_correction;
 use crate::element::read_value;
 use crate::head::leaves;
 use crate::head::read_head;
 use crate::head::skip;
+use answer::BAD_POSITION;
+use answer::BYTES_AFTER;
 use field::word_at;
 use number::Number;
 use number::fault_of;
@@ -32,7 +32,7 @@ fn read_position(source: &[u8], at: usize, base: usize, all: usize) -> Number
         return r;
     };
     if all - base <= x {
-        return Number::Fault(POSITION_OUTSIDE);
+        return Number::Fault(BAD_POSITION);
     }
     Number::Value(base + x, next)
 }

@@ -1,11 +1,11 @@
 // The scalar record.
 ghost use mathlib.Core.Path.{_≡_};
 ghost use Rattle.record.specs.Reading.{readHead, readScalar, frontOf, opened};
-use crate::BYTES_AFTER;
 use crate::Opened;
 use crate::element::read_delta;
 use crate::head::read_head;
 use crate::head::skip;
+use answer::BYTES_AFTER;
 use number::Number;
 use number::fault_of;
 

@@ -19,15 +19,6 @@ use field::Prime;
 use record::Opened;
 use tree::columns_at;
 
-// A vector not exactly as long as the sizes call for.
-pub const WRONG_LENGTH: u32 = 3;
-// Window past its end.
-pub const PAST_END: u32 = 7;
-// A word that the window's rows use is not an element, or in binary noise above 1.
-pub const NOT_USABLE: u32 = 8;
-// Output buffer too short.
-pub const SHORT_OUTPUT: u32 = 13;
-
 // The number that a record is refused with.
 pub fn fault_of(r: Opened) -> u32
     ensures { λ k. ⌜ k ≡ faultOf r ⌝ }

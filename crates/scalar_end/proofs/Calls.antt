@@ -40,8 +40,8 @@ use Rattle.rows.proofs.Widths.{width-most}
 use Rattle.scalar_end.specs.Vectors.{leaf, w0, deltaWords}
 use Rattle.scalar_end.specs.Offline as off
 use Rattle.scalar_end.specs.Online as on
-use Rattle.scalar_end.specs.Online.{Lent}
-use Rattle.scalar_end.specs.Steps.{Fitting, RootsFit, expansion, deltaAt, outputAt, windowOver, lengthsNumber, rowsOutcome}
+use Rattle.scalar_end.specs.Online.{Lent, rowsOutcome}
+use Rattle.scalar_end.specs.Steps.{Fitting, RootsFit, expansion, deltaAt, outputAt, windowOver, lengthsNumber}
 use Rattle.scalar_end.specs.Ready.{rootsAt, contentOf, Ready}
 use Rattle.scalar_end.proofs.Content.{ready, refused-is}
 use Rattle.scalar_end.proofs.Laws.{offline-whole, offline-refused, online-whole, online-refused}
@@ -235,7 +235,7 @@ module _ (s w out : List ℕ) (first count : ℕ) (f : Front) {number : ℕ} (ne
   -- all tests passed: the rows are left
   pub rows-left : number ≡ 0 → {o : on.Outcome} → o ≡ rowsOutcome (headOf s f) (lent s w out) first count
       → o ≡ on.window (headOf s f) (lent s w out) first count
-  unfolding on.window rowsOutcome elementWidth
+  unfolding on.window elementWidth
   rows-left z q = q ∙ sym (rw (passed z .0, passed z .1, passed z .2))
 
   pub fitting : Ready s f → number ≡ 0 → Fitting (elementWidth (f .field)) (2 ^ f .depth) first count (length w) (length out)

@@ -27,7 +27,7 @@ use Rattle.rows.proofs.Rows.{window-usable, row-output}
 use Rattle.scalar_end.specs.Vectors.{w0, deltaWords}
 use Rattle.scalar_end.specs.Offline.{Expanded, refusal, wWords, expand, offline}
 use Rattle.scalar_end.specs.Online as on
-use Rattle.scalar_end.specs.Online.{Lent, Outcome, usable, wAt, filled, wrongLength, pastEnd, tooShort, window, online}
+use Rattle.scalar_end.specs.Online.{Lent, Outcome, usable, wAt, filled, wrongLength, pastEnd, tooShort, rowsOutcome, window, online}
 
 -- ---- offline
 
@@ -106,7 +106,7 @@ refusal-kept : (l : Lent) (k : ℕ) → Kept l (on.refusal k l)
 refusal-kept l k = record { source = refl; w = refl }
 
 window-kept : (h : Head) (l : Lent) (first count : ℕ) → Kept l (window h l first count)
-unfolding window filled
+unfolding window rowsOutcome filled
 window-kept h l first count =
     choose-either (Kept l) (wrongLength h l) _ _ (refusal-kept l 3)
     (choose-either (Kept l) (pastEnd h first count) _ _ (refusal-kept l 7)
@@ -148,7 +148,7 @@ module _ (l : Lent) (P : ScalarPart) (f : ℕ → Value (fieldOf (P .head))) (re
       ≡ choose (pastEnd (P .head) first count) (on.refusal 7 l)
       (choose (tooShort (P .head) l count) (on.refusal 13 l)
       (record { number = 0; first = count * fieldOf (P .head) .elements .width; lent = filled (P .head) l first count }))
-  unfolding window
+  unfolding window rowsOutcome
   listed = online-whole l first count read ∙ rw (right-length, all-usable)
 
   -- 7 if the window passes n, else 13 if the buffer is too short, else 0

@@ -65,14 +65,19 @@ pastEnd h first count = ltb (h .outputs) (first + count)
 abbrev pub tooShort : Head → Lent → ℕ → Bool
 tooShort h l count = ltb (length (l .wOut)) (count * fieldOf h .elements .width)
 
--- the tests 3, 7, 13, 8, and the window
+-- the test 8, and the window
+unfoldable pub rowsOutcome : Head → Lent → ℕ → ℕ → Outcome
+rowsOutcome h l first count =
+    choose (not (windowUsable (usable (fieldOf h) l) h first count)) (refusal 8 l)
+    (record { number = 0; first = count * fieldOf h .elements .width; lent = filled h l first count })
+
+-- the tests 3, 7, 13, then 8 and the window
 unfoldable pub window : Head → Lent → ℕ → ℕ → Outcome
 window h l first count =
     choose (wrongLength h l) (refusal 3 l)
     (choose (pastEnd h first count) (refusal 7 l)
     (choose (tooShort h l count) (refusal 13 l)
-    (choose (not (windowUsable (usable (fieldOf h) l) h first count)) (refusal 8 l)
-    (record { number = 0; first = count * fieldOf h .elements .width; lent = filled h l first count }))))
+    (rowsOutcome h l first count)))
 
 -- the call: the record's number, or the window
 unfoldable pub online : Lent → ℕ → ℕ → Outcome

@@ -14,12 +14,8 @@ use Rattle.algebra.specs.Sum.{accumulate}
 use Rattle.field.specs.Bytes.{wordAt}
 use Rattle.field.specs.Kind.{Kind}
 use Rattle.code.specs.Row.{rowOf}
-use Rattle.record.specs.Content.{Head}
 use Rattle.record.specs.declared.Front.{Front}
-use Rattle.rows.specs.Head.{fieldOf}
-use Rattle.rows.specs.Usable.{windowUsable}
 use Rattle.rows.specs.Words.{elementWidth}
-use Rattle.scalar_end.specs.Online.{Lent, Outcome, refusal, usable, filled}
 use Rattle.tree.specs.Added.{leafElement}
 use Rattle.tree.specs.Child.{child}
 use Rattle.tree.specs.Columns.{columnsAt}
@@ -53,12 +49,6 @@ lengthsNumber f vector first count room =
     choose (not (eqb vector (2 ^ f .depth * elementWidth (f .field)))) 3
     (choose (ltb (f .outputs) (first + count)) 7
     (choose (ltb room (count * elementWidth (f .field))) 13 0))
-
--- the test 8 and the window, once the tests 3, 7 and 13 are passed
-unfoldable pub rowsOutcome : Head → Lent → ℕ → ℕ → Outcome
-rowsOutcome h l first count =
-    choose (not (windowUsable (usable (fieldOf h) l) h first count)) (refusal 8 l)
-    (record { number = 0; first = count * fieldOf h .elements .width; lent = filled h l first count })
 
 -- a whole vector of elements of a width, a window that ends at 32768 (the largest n) or before, and room for it
 pub record Fitting (width size first count vector room : ℕ) : Type 0 where

@@ -9,13 +9,13 @@ ghost use Rattle.rows.specs.Words.{elementWidth};
 ghost use Rattle.scalar_end.specs.Steps.{RootsFit, expansion, deltaAt};
 ghost use Rattle.scalar_end.specs.Offline.{expanded, expand};
 ghost use Rattle.scalar_end.specs.Ready.{Ready, contentOf};
+use answer::BUFFER_SHORT;
 use answer::TwoLengths;
 use code::accumulate_blocks;
 use code::accumulate_primes;
 use field::word_at;
 use record::Front;
 use record::leaves;
-use rows::SHORT_OUTPUT;
 use rows::element_width;
 use rows::zero_words;
 use tree::add_leaves_binary;
@@ -113,14 +113,14 @@ pub fn write_vectors(source: &[u8], front: Front, w: &mut [u64], delta: &mut [u6
     let words = leaves(front.depth) * width;
     if w.len() < words {
         return TwoLengths {
-            number: SHORT_OUTPUT,
+            number: BUFFER_SHORT,
             first: 0,
             second: 0,
         };
     }
     if delta.len() < 2 {
         return TwoLengths {
-            number: SHORT_OUTPUT,
+            number: BUFFER_SHORT,
             first: 0,
             second: 0,
         };

@@ -5,19 +5,19 @@ ghost use lib.ListN.{length};
 ghost use Rattle.sbox.specs.Table.{Tables};
 ghost use Rattle.field.specs.Kind.{kindOf, binaryKind, primeKind};
 ghost use Rattle.rows.specs.Words.{elementWidth};
-ghost use Rattle.scalar_end.specs.Steps.{Fitting, windowOver, lengthsNumber, rowsOutcome};
+ghost use Rattle.scalar_end.specs.Steps.{Fitting, windowOver, lengthsNumber};
 ghost use Rattle.record.specs.Reading.{headOf};
-ghost use Rattle.scalar_end.specs.Online.{outcome, window};
+ghost use Rattle.scalar_end.specs.Online.{outcome, rowsOutcome, window};
 ghost use Rattle.scalar_end.specs.Ready.{Ready};
+use answer::BAD_LENGTH;
+use answer::BUFFER_SHORT;
+use answer::NOT_ELEMENT;
 use answer::OneLength;
+use answer::WINDOW_PAST_END;
 use code::scalar_row_binary;
 use code::scalar_row_prime;
 use record::Front;
 use record::leaves;
-use rows::NOT_USABLE;
-use rows::PAST_END;
-use rows::SHORT_OUTPUT;
-use rows::WRONG_LENGTH;
 use rows::code_keys;
 use rows::element_width;
 use rows::elements_used;
@@ -127,7 +127,7 @@ fn write_rows(
         w,
     ) {
         return OneLength {
-            number: NOT_USABLE,
+            number: NOT_ELEMENT,
             first: 0,
         };
     }
@@ -156,13 +156,13 @@ fn lengths_number(front: Front, vector: usize, first: usize, count: usize, room:
 {
     let width = element_width(front.field);
     if vector != leaves(front.depth) * width {
-        return WRONG_LENGTH;
+        return BAD_LENGTH;
     }
     if past_end(first, count, front.outputs) {
-        return PAST_END;
+        return WINDOW_PAST_END;
     }
     if room < count * width {
-        return SHORT_OUTPUT;
+        return BUFFER_SHORT;
     }
     0
 }
