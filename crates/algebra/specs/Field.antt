@@ -6,12 +6,12 @@ use Rattle.algebra.specs.Coding.{Coding, CodingLaws}
 pub record Field : Type 1 where
   pub ring : Ring
   pub scaled : Scaled ring
-  pub scalars : Coding (ring .group .Of)
+  pub noiseValues : Coding (ring .group .Of)
   pub elements : Coding (scaled .group .Of)
 
 -- the noise values, which scale the elements; document 01's scalar Δ is an element
-abbrev pub Scalar : Field → Type 0
-Scalar F = F .ring .group .Of
+abbrev pub NoiseValue : Field → Type 0
+NoiseValue F = F .ring .group .Of
 
 -- the elements
 abbrev pub Value : Field → Type 0
@@ -21,5 +21,5 @@ Value F = F .scaled .group .Of
 pub record FieldLaws (F : Field) : Type 0 where
   pub ring : RingLaws (F .ring)
   pub scaled : ScaledLaws (F .ring) (F .scaled)
-  pub scalars : CodingLaws (F .scalars)
+  pub noiseValues : CodingLaws (F .noiseValues)
   pub elements : CodingLaws (F .elements)

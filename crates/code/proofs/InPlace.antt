@@ -59,16 +59,16 @@ module _ (G : Group) (word : G .Of → ℕ) (make : ℕ → G .Of) (L : CodingLa
 
 module _ {b : List ℕ} where
   -- noise words of field 1
-  pub bits-start : Accumulated (bitRing .group) (binary .scalars) b b 0 0
-  bits-start = start (bitRing .group) (binary .scalars) (binaryLaws .scalars) b refl
+  pub bits-start : Accumulated (bitRing .group) (binary .noiseValues) b b 0 0
+  bits-start = start (bitRing .group) (binary .noiseValues) (binaryLaws .noiseValues) b refl
 
-  pub bits-turn : {v : List ℕ} {t x i : ℕ} → Accumulated (bitRing .group) (binary .scalars) b v t i → i < length v
-      → x ≡ bitAdd t (getD v i 0) → Accumulated (bitRing .group) (binary .scalars) b (set v i x) x (i + 1)
-  bits-turn = more-one (bitRing .group) (λ a. a) (λ w. w) (binaryLaws .scalars) b
+  pub bits-turn : {v : List ℕ} {t x i : ℕ} → Accumulated (bitRing .group) (binary .noiseValues) b v t i → i < length v
+      → x ≡ bitAdd t (getD v i 0) → Accumulated (bitRing .group) (binary .noiseValues) b (set v i x) x (i + 1)
+  bits-turn = more-one (bitRing .group) (λ a. a) (λ w. w) (binaryLaws .noiseValues) b
 
-  pub bits-end : {v : List ℕ} {t i : ℕ} → Accumulated (bitRing .group) (binary .scalars) b v t i → i ≤ length v → length v ≤ i
-      → v ≡ flat (binary .scalars) (length b) (accumulate (bitRing .group) (at (binary .scalars) b))
-  bits-end = done-one (bitRing .group) (λ a. a) (λ w. w) (binaryLaws .scalars) b
+  pub bits-end : {v : List ℕ} {t i : ℕ} → Accumulated (bitRing .group) (binary .noiseValues) b v t i → i ≤ length v → length v ≤ i
+      → v ≡ flat (binary .noiseValues) (length b) (accumulate (bitRing .group) (at (binary .noiseValues) b))
+  bits-end = done-one (bitRing .group) (λ a. a) (λ w. w) (binaryLaws .noiseValues) b
 
   -- elements of field 2
   pub primes-start : {t : Prime} → t ≡ primeZero → Accumulated (primeRing .group) (primes .elements) b b t 0

@@ -42,11 +42,11 @@ unfolding allBelow
 all-true bound words below = every-all (wordBelow bound words) (length words) (λ j h. lt-ltb _ _ (below j h))
 
 -- the words of accumulated vectors: bits in field 1, elements in field 2
-pub accumulated-bits : (f : ℕ → ℕ) (n j : ℕ) → j < n → getD (flat (binary .scalars) n (accumulate (bitRing .group) f)) j 0 < 2
+pub accumulated-bits : (f : ℕ → ℕ) (n j : ℕ) → j < n → getD (flat (binary .noiseValues) n (accumulate (bitRing .group) f)) j 0 < 2
 unfolding accumulate
 accumulated-bits f n j h =
-    let e = sym (at-one (λ b. b) (λ w. w) (flat (binary .scalars) n (accumulate (bitRing .group) f)) j)
-    ∙ at-flat (binary .scalars) (binaryLaws .scalars) n (accumulate (bitRing .group) f) j h in
+    let e = sym (at-one (λ b. b) (λ w. w) (flat (binary .noiseValues) n (accumulate (bitRing .group) f)) j)
+    ∙ at-flat (binary .noiseValues) (binaryLaws .noiseValues) n (accumulate (bitRing .group) f) j h in
     rw e (ltb-true _ _ (sum-element (bitRing .group) (bitLaws .group) (suc j) f))
 
 pub accumulated-primes : (f : ℕ → Prime) (n j : ℕ) → j < n → getD (flat (primes .elements) n (accumulate (primeRing .group) f)) j 0 < modulus
@@ -104,8 +104,8 @@ module _ (keys : List (List (List ℕ))) (N ℓ : ℕ) where
 
   -- so the test never fails on accumulated vectors
   module _ (first count : ℕ) (h : 0 < N) where
-    pub used-bits : (f : ℕ → ℕ) → usedBelow 2 (flat (binary .scalars) N (accumulate (bitRing .group) f)) keys N ℓ first count ≡ true
-    used-bits f = used-true 2 (flat (binary .scalars) N (accumulate (bitRing .group) f)) first count h (accumulated-bits f N)
+    pub used-bits : (f : ℕ → ℕ) → usedBelow 2 (flat (binary .noiseValues) N (accumulate (bitRing .group) f)) keys N ℓ first count ≡ true
+    used-bits f = used-true 2 (flat (binary .noiseValues) N (accumulate (bitRing .group) f)) first count h (accumulated-bits f N)
 
     pub used-primes : (f : ℕ → Prime) → usedBelow modulus (flat (primes .elements) N (accumulate (primeRing .group) f)) keys N ℓ first count ≡ true
     used-primes f = used-true modulus (flat (primes .elements) N (accumulate (primeRing .group) f)) first count h (accumulated-primes f N)

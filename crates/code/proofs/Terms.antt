@@ -61,7 +61,7 @@ word-at l {j} {k} e = ap (λ (n : ℕ). getD l n 0) (e ∙ sym (mul-one k))
 module _ (keys : List (List (List ℕ))) (N ℓ x : ℕ) (words : List ℕ) where
   -- the sums of u, and of v or w, in field 1 and in field 2
   unfoldable pub bitsSum : ℕ → ℕ
-  bitsSum n = termsSum (itself bitRing) (binaryRow keys N ℓ x) (at (binary .scalars) words) n
+  bitsSum n = termsSum (itself bitRing) (binaryRow keys N ℓ x) (at (binary .noiseValues) words) n
 
   unfoldable pub blocksSum : ℕ → Block
   blocksSum n = termsSum blocks (binaryRow keys N ℓ x) (at (binary .elements) words) n
@@ -71,7 +71,7 @@ module _ (keys : List (List (List ℕ))) (N ℓ x : ℕ) (words : List ℕ) wher
 
   pub bits-none : 0 ≡ bitsSum 0
   unfolding bitsSum
-  bits-none = terms-none (itself bitRing) (binaryRow keys N ℓ x) (at (binary .scalars) words)
+  bits-none = terms-none (itself bitRing) (binaryRow keys N ℓ x) (at (binary .noiseValues) words)
 
   pub blocks-none : {a : Block} → a ≡ blockZero → a ≡ blocksSum 0
   unfolding blocksSum
@@ -82,9 +82,9 @@ module _ (keys : List (List (List ℕ))) (N ℓ x : ℕ) (words : List ℕ) wher
   primes-none = terms-none (itself primeRing) (primeRow keys N ℓ x) (at (primes .elements) words)
 
   module _ (i : ℕ) where
-    pub bits-done : {a : ℕ} → a ≡ bitsSum i → i ≤ ℓ → ℓ ≤ i → a ≡ output (itself bitRing) (binaryRow keys N ℓ x) (at (binary .scalars) words)
+    pub bits-done : {a : ℕ} → a ≡ bitsSum i → i ≤ ℓ → ℓ ≤ i → a ≡ output (itself bitRing) (binaryRow keys N ℓ x) (at (binary .noiseValues) words)
     unfolding rowOf bitsSum
-    bits-done = terms-done (itself bitRing) (binaryRow keys N ℓ x) (at (binary .scalars) words) i
+    bits-done = terms-done (itself bitRing) (binaryRow keys N ℓ x) (at (binary .noiseValues) words) i
 
     pub blocks-done : {a : Block} → a ≡ blocksSum i → i ≤ ℓ → ℓ ≤ i → a ≡ output blocks (binaryRow keys N ℓ x) (at (binary .elements) words)
     unfolding rowOf blocksSum
@@ -99,9 +99,9 @@ module _ (keys : List (List (List ℕ))) (N ℓ x : ℕ) (words : List ℕ) wher
       pub bits-more : {u next : ℕ} → u ≡ bitsSum i → next ≡ bitAdd u (getD words j 0) → next ≡ bitsSum (i + 1)
       unfolding rowOf bitsSum
       bits-more {u} {next} e q =
-          let one : bitMul 1 (getD words j 0) ≡ bitMul 1 (at (binary .scalars) words (termPlace keys N ℓ x i)) =
+          let one : bitMul 1 (getD words j 0) ≡ bitMul 1 (at (binary .noiseValues) words (termPlace keys N ℓ x i)) =
           ap (bitMul 1) (word-at words named) in
-          terms-more (itself bitRing) (binaryRow keys N ℓ x) (at (binary .scalars) words) i e one (omega arith)
+          terms-more (itself bitRing) (binaryRow keys N ℓ x) (at (binary .noiseValues) words) i e one (omega arith)
 
       pub blocks-more : {a e next : Block} → a ≡ blocksSum i → e ≡ at (binary .elements) words j → next ≡ blockAdd a e → next ≡ blocksSum (i + 1)
       unfolding rowOf blockScale blocksSum

@@ -12,7 +12,7 @@ use field::add_bits;
 
 // Accumulates noise words of field 1.
 pub fn accumulate_bits(v: &mut [u64])
-    ensures { λ _. ⌜ now (v .exit) ≡ flat (binary .scalars) (length (now (v .entry))) (accumulate (bitRing .group) (at (binary .scalars) (now (v .entry)))) ⌝ }
+    ensures { λ _. ⌜ now (v .exit) ≡ flat (binary .noiseValues) (length (now (v .entry))) (accumulate (bitRing .group) (at (binary .noiseValues) (now (v .entry)))) ⌝ }
 {
     let mut total: u64 = 0;
     let mut i: usize = 0;

@@ -85,7 +85,7 @@ pub fn noise_row_binary(
 ) -> BinaryPair
     requires { ⌜ Tables (now sbox) (now mix) ⌝ }
     requires { ⌜ (0 < size) × (length (now noise) ≡ size) × (length (now v) ≡ size * 2) ⌝ }
-    ensures { λ r. ⌜ (r .u ≡ output (itself bitRing) (binaryRow (now (keys .entry)) size terms x) (at (binary .scalars) (now (noise .entry))))
+    ensures { λ r. ⌜ (r .u ≡ output (itself bitRing) (binaryRow (now (keys .entry)) size terms x) (at (binary .noiseValues) (now (noise .entry))))
         × (r .v ≡ output blocks (binaryRow (now (keys .entry)) size terms x) (at (binary .elements) (now (v .entry)))) ⌝ }
 {
     let mut u: u64 = 0;
@@ -115,7 +115,7 @@ pub fn noise_row_prime(
 ) -> PrimePair
     requires { ⌜ Tables (now sbox) (now mix) ⌝ }
     requires { ⌜ (0 < size) × (length (now noise) ≡ size) × (length (now v) ≡ size) ⌝ }
-    ensures { λ r. ⌜ (r .u ≡ output (itself primeRing) (primeRow (now (keys .entry)) size terms x) (at (primes .scalars) (now (noise .entry))))
+    ensures { λ r. ⌜ (r .u ≡ output (itself primeRing) (primeRow (now (keys .entry)) size terms x) (at (primes .noiseValues) (now (noise .entry))))
         × (r .v ≡ output (itself primeRing) (primeRow (now (keys .entry)) size terms x) (at (primes .elements) (now (v .entry)))) ⌝ }
 {
     let mut u: u64 = 0;

@@ -12,7 +12,7 @@ use lib.Dec.{ltb, lit<}
 use lib.ListN.{length, getD, List·getD-eq-default}
 use Rattle.algebra.proofs.Tests.{and-left}
 use Rattle.algebra.specs.Expansion.{correction}
-use Rattle.algebra.specs.Field.{Scalar}
+use Rattle.algebra.specs.Field.{NoiseValue}
 use Rattle.field.proofs.ByteWords.{leNumber-below, lowOf-below, highOf-below}
 use Rattle.field.specs.Bytes.{eightAt, wordAt}
 use Rattle.field.specs.Binary.{block, blockScale}
@@ -130,7 +130,7 @@ difference-admitted a b =
 
 -- a correction is such
 correction-admitted : (k : ℕ) → (k ≡ 1) ⊎ (k ≡ 2) → (low high : ℕ) → Word low → Word high → (s : List (List ℕ)) → IsState s
-    → (y : Scalar (kindOf k .field))
+    → (y : NoiseValue (kindOf k .field))
     → ElementAdmitted k (kindOf k .field .elements .words (correction (kindOf k .field .scaled) (kindOf k .field .elements .read (elementOf k low high) 0) (kindOf k .leaf s) y))
 unfolding correction Each
 correction-admitted zero h low high a b s is y = absurd (⊎-elim (λ e. omega arith) (λ e. omega arith) h)

@@ -111,7 +111,7 @@ module _ (field : ℕ) (f : ℕ → NoiseTree) where
 pub correction-1 : (k low high : ℕ) (s : List (List ℕ)) (values : List ℕ) (i : ℕ) → k ≡ 1
     → (let c = correction blocks (block low high) (blockLeaf s) (getD values i 0) in elementOf k (c .low) (c .high))
     ≡ kindOf k .field .elements .words
-    (correction (kindOf k .field .scaled) (kindOf k .field .elements .read (elementOf k low high) 0) (kindOf k .leaf s) (kindOf k .field .scalars .read values i))
+    (correction (kindOf k .field .scaled) (kindOf k .field .elements .read (elementOf k low high) 0) (kindOf k .leaf s) (kindOf k .field .noiseValues .read values i))
 correction-1 zero low high s values i e = absurd (omega arith)
 correction-1 (suc zero) low high s values i e = refl
 correction-1 (suc (suc k)) low high s values i e = absurd (omega arith)
@@ -119,7 +119,7 @@ correction-1 (suc (suc k)) low high s values i e = absurd (omega arith)
 pub correction-2 : (k low high : ℕ) (s : List (List ℕ)) (values : List ℕ) (i : ℕ) → (k ≡ 1 → ⊥)
     → elementOf k (correction (itself primeRing) (prime low) (primeLeaf s) (prime (getD values i 0)) .word) 0
     ≡ kindOf k .field .elements .words
-    (correction (kindOf k .field .scaled) (kindOf k .field .elements .read (elementOf k low high) 0) (kindOf k .leaf s) (kindOf k .field .scalars .read values i))
+    (correction (kindOf k .field .scaled) (kindOf k .field .elements .read (elementOf k low high) 0) (kindOf k .leaf s) (kindOf k .field .noiseValues .read values i))
 correction-2 zero low high s values i e = refl
 correction-2 (suc zero) low high s values i e = absurd (e refl)
 correction-2 (suc (suc k)) low high s values i e = rw (ne-eqb (suc (suc k)) 1 (λ b. omega arith))

@@ -4,7 +4,7 @@ use mathlib.Core.List.{List}
 use Prim.Native.Nat.{ℕ, _*_}
 use lib.ListN.{getD}
 use Rattle.algebra.specs.Expansion.{noise, correction, punctured, whole}
-use Rattle.algebra.specs.Field.{Field, Scalar, Value}
+use Rattle.algebra.specs.Field.{Field, NoiseValue, Value}
 use Rattle.algebra.specs.Group.{itself}
 use Rattle.algebra.specs.Row.{output, entry, rowTimes}
 use Rattle.algebra.specs.Sum.{accumulate}
@@ -35,8 +35,8 @@ field I = fieldOf (head I)
 abbrev pub position : Input → ℕ → ℕ
 position I i = getD (I .positions) i 0
 
-abbrev pub value : (I : Input) → ℕ → Scalar (field I)
-value I i = field I .scalars .read (I .values) i
+abbrev pub value : (I : Input) → ℕ → NoiseValue (field I)
+value I i = field I .noiseValues .read (I .values) i
 
 abbrev pub root : Input → ℕ → List (List ℕ)
 root I i = columnsAt (I .roots) (16 * i)
@@ -53,7 +53,7 @@ abbrev pub treeCorrection : (I : Input) → ℕ → Value (field I)
 treeCorrection I i = correction (field I .scaled) (delta I) (leaf I i (position I i)) (value I i)
 
 -- μ, the dealt noise
-unfoldable pub mu : (I : Input) → ℕ → Scalar (field I)
+unfoldable pub mu : (I : Input) → ℕ → NoiseValue (field I)
 mu I = noise (field I .ring) (I .trees) (position I) (value I)
 
 -- v0: the leaves at each place, the correction standing in for the punctured leaf
@@ -65,7 +65,7 @@ unfoldable pub w0 : (I : Input) → ℕ → Value (field I)
 w0 I = whole (field I .scaled) (I .trees) (leaf I)
 
 -- u: the code matrix times the dealt noise
-unfoldable pub u : (I : Input) → ℕ → Scalar (field I)
+unfoldable pub u : (I : Input) → ℕ → NoiseValue (field I)
 u I x = rowTimes (itself (field I .ring)) (places (head I)) (entry (row (head I) x)) (mu I)
 
 -- v and w: the outputs of the accumulated v0 and w0

@@ -11,7 +11,7 @@ use Rattle.algebra.proofs.Matrix.{output-is-matrix}
 use Rattle.algebra.proofs.Same.{accumulate-same}
 use Rattle.algebra.proofs.Sum.{sum-element, itself-laws}
 use Rattle.algebra.specs.Coding.{at, flat}
-use Rattle.algebra.specs.Field.{Scalar, Value}
+use Rattle.algebra.specs.Field.{NoiseValue, Value}
 use Rattle.algebra.specs.Group.{Element, itself}
 use Rattle.algebra.specs.Row.{output}
 use Rattle.algebra.specs.Sum.{accumulate}
@@ -92,7 +92,7 @@ module _ (S : Setting) (A : Admitted (S .input))
     (noise-reads : readNoise (noiseSource S) ≡ Whole (noisePart (S .input)))
     (scalar-reads : readScalar (scalarSource S) ≡ Whole (scalarPart (S .input))) where
   -- the accumulated vectors of the dealing
-  accMu : ℕ → Scalar (field (S .input))
+  accMu : ℕ → NoiseValue (field (S .input))
   accMu = accumulate (field (S .input) .ring .group) (mu (S .input))
 
   accV0 : ℕ → Value (field (S .input))
@@ -110,11 +110,11 @@ module _ (S : Setting) (A : Admitted (S .input))
   scalar-start =
       ap readScalar (scalarLaws.offline-accepted (scalarSource S) (S .wBuffer) (S .deltaBuffer) scalar-reads (S .scalarAccepted) .record-kept) ∙ scalar-reads
 
-  noise-words : noiseStart S .noise ≡ flat (field (S .input) .scalars) (2 ^ S .input .depth) accMu
+  noise-words : noiseStart S .noise ≡ flat (field (S .input) .noiseValues) (2 ^ S .input .depth) accMu
   unfolding accMu
   noise-words =
       noiseLaws.offline-accepted (noiseSource S) (S .noiseBuffer) (S .vBuffer) noise-reads (S .noiseAccepted) .noise
-      ∙ flat-cong (field (S .input) .scalars) (kindLaws (S .input .field) .field .scalars) (2 ^ S .input .depth) _ _
+      ∙ flat-cong (field (S .input) .noiseValues) (kindLaws (S .input .field) .field .noiseValues) (2 ^ S .input .depth) _ _
       (accumulate-same (field (S .input) .ring .group) (2 ^ S .input .depth) (noisePartVectors.mu (noisePart (S .input))) (mu (S .input))
       (λ j h. mu-dealt (S .input) A j))
 
@@ -161,7 +161,7 @@ module _ (S : Setting) (A : Admitted (S .input))
         (record { source = noiseStart S .source; noise = noiseStart S .noise; v = noiseStart S .v; uOut = c .uOut; vOut = c .vOut })
         (noisePart (S .input)) accMu accV0 noise-start noise-words v-words accMu-element accV0-element (c .first) (c .count)
 
-    noise-hands : (x : ℕ) (u′ : Scalar (field (S .input))) (v′ : Value (field (S .input)))
+    noise-hands : (x : ℕ) (u′ : NoiseValue (field (S .input))) (v′ : Value (field (S .input)))
         → NoiseHands (S .input) c (noiseStep (noiseStart S) c) x u′ v′ → (u′ ≡ dealt.u (S .input) x) × (v′ ≡ dealt.v (S .input) x)
     unfolding accV0 dealt.v
     noise-hands x u′ v′ H =
@@ -199,7 +199,7 @@ module _ (S : Setting) (A : Admitted (S .input))
     scalar-at : (i : ℕ) → i < length scalarCalls → scalarOutcome S scalarCalls i ≡ scalarStep (scalarStart S) (scalarCall scalarCalls i)
     scalar-at i h = scalar-run (scalarStart S) scalarCalls _ _ i h
 
-    noise-values : (i : ℕ) → i < length noiseCalls → (x : ℕ) (u′ : Scalar (field (S .input))) (v′ : Value (field (S .input)))
+    noise-values : (i : ℕ) → i < length noiseCalls → (x : ℕ) (u′ : NoiseValue (field (S .input))) (v′ : Value (field (S .input)))
         → NoiseHands (S .input) (noiseCall noiseCalls i) (noiseOutcome S noiseCalls i) x u′ v′
         → (u′ ≡ dealt.u (S .input) x) × (v′ ≡ dealt.v (S .input) x)
     noise-values i h x u′ v′ H = noise-hands (noiseCall noiseCalls i) x u′ v′ (rw (noise-at i h) at H)

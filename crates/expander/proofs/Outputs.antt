@@ -24,7 +24,7 @@ use Rattle.dealing.specs.Vectors.{head, field, position, value, root, leaf, del
 
 -- an admitted noise value is an element
 noise-element : (f : ℕ) (l : List ℕ) (i : ℕ) → (f ≡ 1) ⊎ (f ≡ 2) → NoiseAdmitted f (getD l i 0)
-    → Element (kindOf f .field .ring .group) (kindOf f .field .scalars .read l i)
+    → Element (kindOf f .field .ring .group) (kindOf f .field .noiseValues .read l i)
 noise-element zero l i h A = absurd (⊎-elim (λ e. omega arith) (λ e. omega arith) h)
 noise-element (suc zero) l i h A = lt-ltb (getD l i 0) 2 (omega (arith, A .binary refl))
 noise-element (suc (suc zero)) l i h A = lt-ltb (getD l i 0) modulus (omega (arith, A .prime refl .1))

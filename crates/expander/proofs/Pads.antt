@@ -5,7 +5,7 @@ use Prim.Native.Nat.{ℕ, zero, suc, _+_, _-_, _*_}
 use native.Mathlib.Omega.{arith}
 use lib.ListN.{getD}
 use Rattle.algebra.specs.Expansion.{Correlated}
-use Rattle.algebra.specs.Field.{Scalar, Value}
+use Rattle.algebra.specs.Field.{NoiseValue, Value}
 use Rattle.field.specs.Bytes.{wordAt}
 use Rattle.field.specs.Kind.{kindOf}
 use Rattle.record.specs.Content.{elementOf}
@@ -24,10 +24,10 @@ module _ (first count : ℕ) (vs choices pads : List ℕ) (noise-accepted : nois
     (first′ count′ : ℕ) (ws Δs pads′ : List ℕ) (scalar-accepted : scalarPads first′ count′ ws Δs pads′ .number ≡ 0)
     (x : ℕ) (in-noise : InWindow first count x) (in-scalar : InWindow first′ count′ x) where
   -- in the field of byte f, which is 1
-  by-field : (f : ℕ) → f ≡ 1 → (u : Scalar (kindOf f .field)) (v w Δ : Value (kindOf f .field))
+  by-field : (f : ℕ) → f ≡ 1 → (u : NoiseValue (kindOf f .field)) (v w Δ : Value (kindOf f .field))
       → Correlated (kindOf f .field .scaled) Δ u v w
       → kindOf f .field .elements .read (wordAt vs ((x - first) * 16) ∷ wordAt vs ((x - first) * 16 + 8) ∷ []) 0 ≡ v
-      → kindOf f .field .scalars .read choices (x - first) ≡ u
+      → kindOf f .field .noiseValues .read choices (x - first) ≡ u
       → kindOf f .field .elements .read (wordAt ws ((x - first′) * 16) ∷ wordAt ws ((x - first′) * 16 + 8) ∷ []) 0 ≡ w
       → kindOf f .field .elements .read (elementOf f (wordAt Δs 0) (wordAt Δs 8)) 0 ≡ Δ
       → padAt (noisePads first count vs choices pads .pads) first x

@@ -38,11 +38,11 @@ two a b (suc i) = b
 
 -- the accumulated noise of N = 8 places with two trees
 abbrev accumulatedBinary : List ℕ
-accumulatedBinary = flat (binary .scalars) 8 (accumulate (binary .ring .group) (noise (binary .ring) 2 (two 1 4) (two 1 1)))
+accumulatedBinary = flat (binary .noiseValues) 8 (accumulate (binary .ring .group) (noise (binary .ring) 2 (two 1 4) (two 1 1)))
 
 abbrev accumulatedPrime : List ℕ
 accumulatedPrime =
-    flat (primes .scalars) 8
+    flat (primes .noiseValues) 8
     (accumulate (primes .ring .group) (noise (primes .ring) 2 (two 1 4) (two (prime 5) (prime (modulus - 2)))))
 
 -- d = t = ℓ = n = 1, all bytes zero

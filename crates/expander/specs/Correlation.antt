@@ -8,7 +8,7 @@ use lib.ListN.{length, getD, take}
 use Rattle.algebra.specs.Choice.{choose}
 use Rattle.algebra.specs.Coding.{at}
 use Rattle.algebra.specs.Expansion.{Correlated}
-use Rattle.algebra.specs.Field.{Scalar, Value}
+use Rattle.algebra.specs.Field.{NoiseValue, Value}
 use Rattle.dealing.specs.Admitted.{InMemory}
 use Rattle.dealing.specs.Deal.{Dealt, deal}
 use Rattle.dealing.specs.Input.{Input}
@@ -120,12 +120,12 @@ listedNoiseNumber I c =
 
 -- an outcome hands out u and v at index x: word k of the first output buffer and element k of the second on return, at
 -- index first + k for k below c; a refused call hands out nothing
-pub record NoiseHands (I : Input) (c : NoiseCall) (o : noiseOnline.Outcome) (x : ℕ) (u′ : Scalar (field I)) (v′ : Value (field I)) : Type 0 where
+pub record NoiseHands (I : Input) (c : NoiseCall) (o : noiseOnline.Outcome) (x : ℕ) (u′ : NoiseValue (field I)) (v′ : Value (field I)) : Type 0 where
   pub accepted : o .number ≡ 0
   pub k : ℕ
   pub within : k < c .count
   pub index : x ≡ c .first + k
-  pub u-word : u′ ≡ at (field I .scalars) (o .lent .uOut) k
+  pub u-word : u′ ≡ at (field I .noiseValues) (o .lent .uOut) k
   pub v-element : v′ ≡ at (field I .elements) (o .lent .vOut) k
 
 -- ---- the scalar end's list of calls
@@ -211,7 +211,7 @@ pub record Claim (S : Setting) (noiseCalls : List NoiseCall) (scalarCalls : List
   pub scalar-numbers : (i : ℕ) → i < length scalarCalls
       → scalarOutcome S scalarCalls i .number ≡ listedScalarNumber (S .input) (scalarCall scalarCalls i)
   -- what is handed out at x is the dealing's u and v, or w, at x
-  pub noise-values : (i : ℕ) → i < length noiseCalls → (x : ℕ) (u′ : Scalar (field (S .input))) (v′ : Value (field (S .input)))
+  pub noise-values : (i : ℕ) → i < length noiseCalls → (x : ℕ) (u′ : NoiseValue (field (S .input))) (v′ : Value (field (S .input)))
       → NoiseHands (S .input) (noiseCall noiseCalls i) (noiseOutcome S noiseCalls i) x u′ v′
       → (u′ ≡ u (S .input) x) × (v′ ≡ v (S .input) x)
   pub scalar-values : (i : ℕ) → i < length scalarCalls → (x : ℕ) (w′ : Value (field (S .input)))
@@ -224,7 +224,7 @@ pub record Claim (S : Setting) (noiseCalls : List NoiseCall) (scalarCalls : List
   pub scalar-memory : scalarLast (scalarStart S) scalarCalls ≡ scalarStart S
   -- w = Δu + v at each index that both ends hand out
   pub correlated : (i j : ℕ) → i < length noiseCalls → j < length scalarCalls
-      → (x : ℕ) (u′ : Scalar (field (S .input))) (v′ w′ : Value (field (S .input)))
+      → (x : ℕ) (u′ : NoiseValue (field (S .input))) (v′ w′ : Value (field (S .input)))
       → NoiseHands (S .input) (noiseCall noiseCalls i) (noiseOutcome S noiseCalls i) x u′ v′
       → ScalarHands (S .input) (scalarCall scalarCalls j) (scalarOutcome S scalarCalls j) x w′
       → Correlated (field (S .input) .scaled) (delta (S .input)) u′ v′ w′
@@ -243,7 +243,7 @@ lentElement I bytes k = field I .elements .read (wordAt bytes (k * 16) ∷ wordA
 -- arbitrary
 pub record PadsLent (I : Input) (x first : ℕ) (vs choices : List ℕ) (first′ : ℕ) (ws Δ : List ℕ) : Type 0 where
   pub v-lent : lentElement I vs (x - first) ≡ v I x
-  pub u-lent : field I .scalars .read choices (x - first) ≡ u I x
+  pub u-lent : field I .noiseValues .read choices (x - first) ≡ u I x
   pub w-lent : lentElement I ws (x - first′) ≡ w I x
   pub Δ-lent : Δ ≡ I .delta
 

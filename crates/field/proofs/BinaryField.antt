@@ -104,6 +104,6 @@ binaryLaws =
     record {
       ring = bitLaws;
       scaled = blockScaledLaws;
-      scalars = one-word-laws (λ b. b) (λ w. w) (λ b. refl) (λ w. refl);
+      noiseValues = one-word-laws (λ b. b) (λ w. w) (λ b. refl) (λ w. refl);
       elements = two-word-laws (λ b. b .low) (λ b. b .high) block (λ b. refl) (λ x y. refl) (λ x y. refl);
     }

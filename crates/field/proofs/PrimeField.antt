@@ -69,6 +69,6 @@ primeLaws =
     record {
       ring = primeRingLaws;
       scaled = itself-laws primeRing primeRingLaws;
-      scalars = one-word-laws (λ a. a .word) prime (λ a. refl) (λ w. refl);
+      noiseValues = one-word-laws (λ a. a .word) prime (λ a. refl) (λ w. refl);
       elements = one-word-laws (λ a. a .word) prime (λ a. refl) (λ w. refl);
     }

@@ -67,6 +67,6 @@ binary =
     record {
       ring = bitRing;
       scaled = blocks;
-      scalars = oneWord (λ b. b) (λ w. w);
+      noiseValues = oneWord (λ b. b) (λ w. w);
       elements = twoWords (λ b. b .low) (λ b. b .high) block;
     }

@@ -4,7 +4,7 @@ use mathlib.Core.List.{List, [], _∷_}
 use mathlib.Core.Path.{_≡_}
 use Prim.Native.Nat.{ℕ, zero, suc}
 use lib.ListN.{getD}
-use Rattle.algebra.specs.Field.{Field, FieldLaws, Scalar, Value}
+use Rattle.algebra.specs.Field.{Field, FieldLaws, NoiseValue, Value}
 use Rattle.algebra.specs.Group.{Element}
 use Rattle.field.specs.Binary.{binary, blockLeaf}
 use Rattle.field.specs.Prime.{primes, primeLeaf, primeReduce}
@@ -12,7 +12,7 @@ use Rattle.field.specs.Prime.{primes, primeLeaf, primeReduce}
 pub record Kind : Type 1 where
   pub field : Field
   pub leaf : List (List ℕ) → Value field
-  pub coefficient : ℕ → Scalar field
+  pub coefficient : ℕ → NoiseValue field
 
 -- field 1: the coefficient is 1
 abbrev pub binaryKind : Kind
@@ -33,5 +33,5 @@ pub record KindLaws (K : Kind) : Type 0 where
   pub field : FieldLaws (K .field)
   pub leaf-element : (s : List (List ℕ)) → Element (K .field .scaled .group) (K .leaf s)
   pub coefficient-element : (word : ℕ) → Element (K .field .ring .group) (K .coefficient word)
-  pub scalar-width : K .field .scalars .width ≡ 1
-  pub scalar-read : (l : List ℕ) (k : ℕ) → K .field .scalars .read l k ≡ K .field .scalars .read (getD l k 0 ∷ []) 0
+  pub scalar-width : K .field .noiseValues .width ≡ 1
+  pub scalar-read : (l : List ℕ) (k : ℕ) → K .field .noiseValues .read l k ≡ K .field .noiseValues .read (getD l k 0 ∷ []) 0

@@ -62,6 +62,6 @@ primes =
     record {
       ring = primeRing;
       scaled = itself primeRing;
-      scalars = oneWord (λ a. a .word) prime;
+      noiseValues = oneWord (λ a. a .word) prime;
       elements = oneWord (λ a. a .word) prime;
     }

@@ -57,7 +57,7 @@ module _ (s : List ℕ) (f : Front) (accepted : Ready s f) where
             two = accepted .two;
             levels = accepted .sizes .depth;
             known = accepted .known;
-            scalars = length-take-le size noise h ∙ se;
+            noiseValues = length-take-le size noise h ∙ se;
             whole = length-take-le (size * width) v k ∙ rw (se, we);
           }
 
@@ -72,7 +72,7 @@ module _ (s : List ℕ) (f : Front) (accepted : Ready s f) where
   module _ (first count j n k m : ℕ) (fits : Fitting (elementWidth (f .field)) (2 ^ f .depth) first count j n k m) {size : ℕ} (se : size ≡ 2 ^ f .depth) where
     pub noise-testing : Testing 1 size (f .terms) first count j
     noise-testing =
-        rw se (record { places = fits .places; whole = fits .scalars ∙ sym (mul-one (2 ^ f .depth)); within = fits .within; few = accepted .sizes .terms })
+        rw se (record { places = fits .places; whole = fits .noiseValues ∙ sym (mul-one (2 ^ f .depth)); within = fits .within; few = accepted .sizes .terms })
 
     pub testing : Testing (elementWidth (f .field)) size (f .terms) first count n
     testing = rw se (record { places = fits .places; whole = fits .whole; within = fits .within; few = accepted .sizes .terms })
@@ -113,10 +113,10 @@ module _ (s noise v : List ℕ) (f : Front) {width size : ℕ} (we : width ≡ e
       ≡ off.expand (contentOf s f) s noise v
   unfolding off.expand over noiseExpansion vExpansion mu v0
   vectors-written h k {a} {b} p q =
-      let n : size ≡ 2 ^ f .depth * fieldOf (headOf s f) .scalars .width = se ∙ sym (one-word (headOf s f) (2 ^ f .depth)) in
+      let n : size ≡ 2 ^ f .depth * fieldOf (headOf s f) .noiseValues .width = se ∙ sym (one-word (headOf s f) (2 ^ f .depth)) in
       let x : a ++ drop size noise
-      ≡ flat (fieldOf (headOf s f) .scalars) (2 ^ f .depth) (accumulate (fieldOf (headOf s f) .ring .group) (mu (contentOf s f)))
-      ++ drop (2 ^ f .depth * fieldOf (headOf s f) .scalars .width) noise = cc (p, n) in
+      ≡ flat (fieldOf (headOf s f) .noiseValues) (2 ^ f .depth) (accumulate (fieldOf (headOf s f) .ring .group) (mu (contentOf s f)))
+      ++ drop (2 ^ f .depth * fieldOf (headOf s f) .noiseValues .width) noise = cc (p, n) in
       sym (rw (le-ltb (length noise) (2 ^ f .depth) (rw se at h), le-ltb (length v) (off.vWords (contentOf s f)) (rw words at k)) (cc (x, q, words, se)))
 
 -- ---- online
@@ -170,9 +170,9 @@ module _ (f : Front) (depth : f .depth ≤ 16) (outputs : f .outputs ≤ 32768) 
     vector-words : size * width ≡ 2 ^ f .depth * elementWidth (f .field)
     vector-words = rw (se, we)
 
-    module _ (scalars : noise ≡ size) where
+    module _ (noiseValues : noise ≡ size) where
       right-noise : eqb noise (2 ^ f .depth) ≡ true
-      right-noise = eq-eqb noise (2 ^ f .depth) (scalars ∙ se)
+      right-noise = eq-eqb noise (2 ^ f .depth) (noiseValues ∙ se)
 
       pub wrong-length : (vector ≡ size * width → ⊥) → 3 ≡ lengthsNumber f noise vector first count uRoom room
       unfolding lengthsNumber
@@ -260,7 +260,7 @@ module _ (s noise v uOut vOut : List ℕ) (first count : ℕ) (f : Front)
       let b = or-none (ltb (length uOut) count) (ltb (length vOut) (count * elementWidth (f .field))) (passed z .2) in
       record {
         places = pow-pos (f .depth);
-        scalars = is-equal (length noise) (2 ^ f .depth) (a .0);
+        noiseValues = is-equal (length noise) (2 ^ f .depth) (a .0);
         whole = is-equal (length v) (2 ^ f .depth * elementWidth (f .field)) (a .1);
         within = omega (arith, accepted .sizes .outputs);
         uEnough = ltb-false (length uOut) count (b .0);

@@ -11,7 +11,7 @@ use lib.ListN.{length, take}
 use borrow.Author.Tests.{le-ltb, eq-eqb}
 use Rattle.algebra.specs.Choice.{choose}
 use Rattle.algebra.specs.Coding.{CodingLaws, at, flat, over}
-use Rattle.algebra.specs.Field.{Scalar, Value}
+use Rattle.algebra.specs.Field.{NoiseValue, Value}
 use Rattle.algebra.specs.Group.{Element, itself}
 use Rattle.algebra.specs.Row.{output}
 use Rattle.algebra.specs.Sum.{accumulate}
@@ -48,7 +48,7 @@ pub record Accepted (P : NoisePart) (source : List ℕ) (o : Expanded) : Type 0 
   pub number : o .number ≡ 0
   pub first : o .first ≡ places (P .head)
   pub second : o .second ≡ vWords P
-  pub noise : take (o .first) (o .noise) ≡ flat (fieldOf (P .head) .scalars) (places (P .head)) (accumulate (fieldOf (P .head) .ring .group) (mu P))
+  pub noise : take (o .first) (o .noise) ≡ flat (fieldOf (P .head) .noiseValues) (places (P .head)) (accumulate (fieldOf (P .head) .ring .group) (mu P))
   pub v : take (o .second) (o .v) ≡ flat (fieldOf (P .head) .elements) (places (P .head)) (accumulate (fieldOf (P .head) .scaled .group) (v0 P))
 
 -- one of the buffers is too short
@@ -56,7 +56,7 @@ abbrev short : NoisePart → List ℕ → List ℕ → Bool
 short P noise v = ltb (length noise) (places (P .head)) || ltb (length v) (vWords P)
 
 -- a noise value takes one word
-pub one-word : (h : Head) (n : ℕ) → n * fieldOf h .scalars .width ≡ n
+pub one-word : (h : Head) (n : ℕ) → n * fieldOf h .noiseValues .width ≡ n
 one-word h n = ap (λ w. n * w) (kindLaws (h .field) .scalar-width) ∙ mul-one n
 
 expand-accepted : (P : NoisePart) (source noise v : List ℕ) → short P noise v ≡ false → Accepted P source (expand P source noise v)
@@ -68,9 +68,9 @@ expand-accepted P source noise v e =
       first = refl;
       second = refl;
       noise =
-          ap (λ n. take n (over (fieldOf (P .head) .scalars) (places (P .head)) (accumulate (fieldOf (P .head) .ring .group) (mu P)) noise))
+          ap (λ n. take n (over (fieldOf (P .head) .noiseValues) (places (P .head)) (accumulate (fieldOf (P .head) .ring .group) (mu P)) noise))
           (sym (one-word (P .head) (places (P .head))))
-          ∙ take-over (fieldOf (P .head) .scalars) (kindLaws (P .head .field) .field .scalars) (places (P .head))
+          ∙ take-over (fieldOf (P .head) .noiseValues) (kindLaws (P .head .field) .field .noiseValues) (places (P .head))
           (accumulate (fieldOf (P .head) .ring .group) (mu P)) noise;
       v = take-over (fieldOf (P .head) .elements) (kindLaws (P .head .field) .field .elements) (places (P .head))
           (accumulate (fieldOf (P .head) .scaled .group) (v0 P)) v;
@@ -138,21 +138,21 @@ online-kept l first count = cases (readNoise (l .source)) refl
     cases (Refused k) e = rw (online-refused l first count e) (refusal-kept l k)
 
 -- a call on the record of P and the words of vectors f and g of elements
-module _ (l : Lent) (P : NoisePart) (f : ℕ → Scalar (fieldOf (P .head))) (g : ℕ → Value (fieldOf (P .head)))
+module _ (l : Lent) (P : NoisePart) (f : ℕ → NoiseValue (fieldOf (P .head))) (g : ℕ → Value (fieldOf (P .head)))
     (read : readNoise (l .source) ≡ Whole P)
-    (noise-whole : l .noise ≡ flat (fieldOf (P .head) .scalars) (places (P .head)) f)
+    (noise-whole : l .noise ≡ flat (fieldOf (P .head) .noiseValues) (places (P .head)) f)
     (v-whole : l .v ≡ flat (fieldOf (P .head) .elements) (places (P .head)) g)
-    (scalars : (j : ℕ) → j < places (P .head) → Element (fieldOf (P .head) .ring .group) (f j))
+    (noiseValues : (j : ℕ) → j < places (P .head) → Element (fieldOf (P .head) .ring .group) (f j))
     (elements : (j : ℕ) → j < places (P .head) → Element (fieldOf (P .head) .scaled .group) (g j))
     (first count : ℕ) where
-  scalar-coding : CodingLaws (fieldOf (P .head) .scalars)
-  scalar-coding = kindLaws (P .head .field) .field .scalars
+  scalar-coding : CodingLaws (fieldOf (P .head) .noiseValues)
+  scalar-coding = kindLaws (P .head .field) .field .noiseValues
 
   coding : CodingLaws (fieldOf (P .head) .elements)
   coding = kindLaws (P .head .field) .field .elements
 
-  noise-at : (j : ℕ) → j < places (P .head) → at (fieldOf (P .head) .scalars) (l .noise) j ≡ f j
-  noise-at j h = rw noise-whole (at-flat (fieldOf (P .head) .scalars) scalar-coding (places (P .head)) f j h)
+  noise-at : (j : ℕ) → j < places (P .head) → at (fieldOf (P .head) .noiseValues) (l .noise) j ≡ f j
+  noise-at j h = rw noise-whole (at-flat (fieldOf (P .head) .noiseValues) scalar-coding (places (P .head)) f j h)
 
   v-at : (j : ℕ) → j < places (P .head) → at (fieldOf (P .head) .elements) (l .v) j ≡ g j
   v-at j h = rw v-whole (at-flat (fieldOf (P .head) .elements) coding (places (P .head)) g j h)
@@ -161,7 +161,7 @@ module _ (l : Lent) (P : NoisePart) (f : ℕ → Scalar (fieldOf (P .head))) (g 
   right-lengths =
       or-neither
       (ap not (eq-eqb (length (l .noise)) (places (P .head))
-      (ap length noise-whole ∙ length-flat (fieldOf (P .head) .scalars) scalar-coding (places (P .head)) f ∙ one-word (P .head) (places (P .head)))))
+      (ap length noise-whole ∙ length-flat (fieldOf (P .head) .noiseValues) scalar-coding (places (P .head)) f ∙ one-word (P .head) (places (P .head)))))
       (ap not (eq-eqb (length (l .v)) (places (P .head) * fieldOf (P .head) .elements .width)
       (ap length v-whole ∙ length-flat (fieldOf (P .head) .elements) coding (places (P .head)) g)))
 
@@ -171,7 +171,7 @@ module _ (l : Lent) (P : NoisePart) (f : ℕ → Scalar (fieldOf (P .head))) (g 
       window-usable (usable (fieldOf (P .head)) l) (P .head) first count
       (λ j h.
       and-both
-      (ap (fieldOf (P .head) .ring .group .isElement) (noise-at j h) ∙ scalars j h)
+      (ap (fieldOf (P .head) .ring .group .isElement) (noise-at j h) ∙ noiseValues j h)
       (ap (fieldOf (P .head) .scaled .group .isElement) (v-at j h) ∙ elements j h))
 
   -- what an accepted call returns
@@ -199,13 +199,13 @@ module _ (l : Lent) (P : NoisePart) (f : ℕ → Scalar (fieldOf (P .head))) (g 
 
   -- an accepted call's word k of u and element k of v are the outputs of row first + k
   pub online-u : online l first count .number ≡ 0 → (k : ℕ) → k < count
-      → at (fieldOf (P .head) .scalars) (online l first count .lent .uOut) k
+      → at (fieldOf (P .head) .noiseValues) (online l first count .lent .uOut) k
       ≡ output (itself (fieldOf (P .head) .ring)) (row (P .head) (first + k)) f
   unfolding filled accepted
   online-u n k h =
       rw (passed n (pastEnd (P .head) first count) (tooShort (P .head) l count) refl refl)
-      (at-over (fieldOf (P .head) .scalars) scalar-coding count (λ i. uAt (P .head) l (first + i)) (l .uOut) k h
-      ∙ row-output (P .head) (first + k) (itself (fieldOf (P .head) .ring)) (at (fieldOf (P .head) .scalars) (l .noise)) f noise-at)
+      (at-over (fieldOf (P .head) .noiseValues) scalar-coding count (λ i. uAt (P .head) l (first + i)) (l .uOut) k h
+      ∙ row-output (P .head) (first + k) (itself (fieldOf (P .head) .ring)) (at (fieldOf (P .head) .noiseValues) (l .noise)) f noise-at)
 
   pub online-v : online l first count .number ≡ 0 → (k : ℕ) → k < count
       → at (fieldOf (P .head) .elements) (online l first count .lent .vOut) k

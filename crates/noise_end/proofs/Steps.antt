@@ -117,20 +117,20 @@ module _ (keys : List (List (List ℕ))) (size terms first count : ℕ) (w b : L
 -- ---- a window written one output a turn
 
 module _ (keys : List (List (List ℕ))) (size terms first : ℕ) (w b : List ℕ) where
-  pub u-binary-none : Written (binary .scalars) (uOutputAt binaryKind keys size terms first w) b b 0
-  u-binary-none = written-none (binary .scalars) (binaryLaws .scalars) (uOutputAt binaryKind keys size terms first w) b
+  pub u-binary-none : Written (binary .noiseValues) (uOutputAt binaryKind keys size terms first w) b b 0
+  u-binary-none = written-none (binary .noiseValues) (binaryLaws .noiseValues) (uOutputAt binaryKind keys size terms first w) b
 
-  pub u-binary-more : {v : List ℕ} {k count noise vector room x : ℕ} → Written (binary .scalars) (uOutputAt binaryKind keys size terms first w) b v k
-      → x ≡ output (itself bitRing) (binaryRow keys size terms (first + k)) (at (binary .scalars) w)
+  pub u-binary-more : {v : List ℕ} {k count noise vector room x : ℕ} → Written (binary .noiseValues) (uOutputAt binaryKind keys size terms first w) b v k
+      → x ≡ output (itself bitRing) (binaryRow keys size terms (first + k)) (at (binary .noiseValues) w)
       → k < count → Fitting 2 size first count noise vector (length b) room
-      → Written (binary .scalars) (uOutputAt binaryKind keys size terms first w) b (set v k x) (k + 1)
+      → Written (binary .noiseValues) (uOutputAt binaryKind keys size terms first w) b (set v k x) (k + 1)
   unfolding uOutputAt
-  u-binary-more a e h fits = written-word (λ x. x) (λ x. x) (binaryLaws .scalars) (uOutputAt binaryKind keys size terms first w) b a e (omega (arith, a .size))
+  u-binary-more a e h fits = written-word (λ x. x) (λ x. x) (binaryLaws .noiseValues) (uOutputAt binaryKind keys size terms first w) b a e (omega (arith, a .size))
 
-  pub u-binary-all : {v : List ℕ} {k count : ℕ} → Written (binary .scalars) (uOutputAt binaryKind keys size terms first w) b v k → k ≤ count → count ≤ k
+  pub u-binary-all : {v : List ℕ} {k count : ℕ} → Written (binary .noiseValues) (uOutputAt binaryKind keys size terms first w) b v k → k ≤ count → count ≤ k
       → v ≡ uOver binaryKind keys size terms first count w b
   unfolding uOver
-  u-binary-all = written-all (binary .scalars) (binaryLaws .scalars) (uOutputAt binaryKind keys size terms first w) b
+  u-binary-all = written-all (binary .noiseValues) (binaryLaws .noiseValues) (uOutputAt binaryKind keys size terms first w) b
 
   pub binary-none : Written (binary .elements) (outputAt binaryKind keys size terms first w) b b 0
   binary-none = written-none (binary .elements) (binaryLaws .elements) (outputAt binaryKind keys size terms first w) b
@@ -159,7 +159,7 @@ module _ (keys : List (List (List ℕ))) (size terms first : ℕ) (w b : List �
   prime-more a e h = written-word (λ x. x .word) prime (primeLaws .elements) (outputAt primeKind keys size terms first w) b a e (omega (arith, a .size))
 
   pub u-prime-more : {v : List ℕ} {k count noise vector room : ℕ} {x : Prime} → Written (primes .elements) (outputAt primeKind keys size terms first w) b v k
-      → x ≡ output (itself primeRing) (primeRow keys size terms (first + k)) (at (primes .scalars) w)
+      → x ≡ output (itself primeRing) (primeRow keys size terms (first + k)) (at (primes .noiseValues) w)
       → k < count → Fitting 1 size first count noise vector (length b) room
       → Written (primes .elements) (outputAt primeKind keys size terms first w) b (set v k (x .word)) (k + 1)
   u-prime-more a e h fits = prime-more a e (omega arith)

@@ -68,11 +68,11 @@ left-start field depth trees s body known = cases (readTrees field depth trees 0
 
 -- the words of the noise after i trees
 unfoldable pub Noise : Kind → ℕ → List NoiseTree → ℕ → List ℕ
-Noise K depth ts i = flat (K .field .scalars) (2 ^ depth) (noise (K .field .ring) i (λ k. treeIn ts k .position) (valueIn K ts))
+Noise K depth ts i = flat (K .field .noiseValues) (2 ^ depth) (noise (K .field .ring) i (λ k. treeIn ts k .position) (valueIn K ts))
 
 -- a noise value is stored as its word
 abbrev pub Stores : Kind → Type 0
-Stores K = (l : List ℕ) (p x : ℕ) → p < length l → set l p x ≡ put (K .field .scalars) l p (K .field .scalars .read (x ∷ []) 0)
+Stores K = (l : List ℕ) (p x : ℕ) → p < length l → set l p x ≡ put (K .field .noiseValues) l p (K .field .noiseValues .read (x ∷ []) 0)
 
 pub binary-stores : Stores binaryKind
 binary-stores l p x h = sym (put-one (λ b. b) (λ w. w) l p x h)
@@ -82,41 +82,41 @@ prime-stores l p x h = sym (put-one (λ a. a .word) prime l p (prime x) h)
 
 -- noise values as the elements of a field
 abbrev scalarField : Field → Field
-scalarField F = record { ring = F .ring; scaled = itself (F .ring); scalars = F .scalars; elements = F .scalars }
+scalarField F = record { ring = F .ring; scaled = itself (F .ring); noiseValues = F .noiseValues; elements = F .noiseValues }
 
 scalar-laws : (F : Field) → FieldLaws F → FieldLaws (scalarField F)
-scalar-laws F L = record { ring = L .ring; scaled = itself-laws (F .ring) (L .ring); scalars = L .scalars; elements = L .scalars }
+scalar-laws F L = record { ring = L .ring; scaled = itself-laws (F .ring) (L .ring); noiseValues = L .noiseValues; elements = L .noiseValues }
 
 module _ (K : Kind) (L : KindLaws K) (depth : ℕ) (ts : List NoiseTree) where
   length-noise : (i : ℕ) {w : List ℕ} → w ≡ Noise K depth ts i → length w ≡ 2 ^ depth
   unfolding Noise
   length-noise i e =
-      ap length e ∙ length-flat (K .field .scalars) (L .field .scalars) (2 ^ depth) (noise (K .field .ring) i (λ k. treeIn ts k .position) (valueIn K ts))
+      ap length e ∙ length-flat (K .field .noiseValues) (L .field .noiseValues) (2 ^ depth) (noise (K .field .ring) i (λ k. treeIn ts k .position) (valueIn K ts))
       ∙ ap (λ (n : ℕ). 2 ^ depth * n) (L .scalar-width) ∙ mul-one (2 ^ depth)
 
   noise-below : (i : ℕ) {w : List ℕ} → w ≡ Noise K depth ts i → (p : ℕ) → p < 2 ^ depth → p < length w
   noise-below i e p h = omega (arith, length-noise i e)
 
-  noise-none : K .field .scalars .words (K .field .ring .group .zero) ≡ replicate (K .field .scalars .width) 0
+  noise-none : K .field .noiseValues .words (K .field .ring .group .zero) ≡ replicate (K .field .noiseValues .width) 0
       → {n : ℕ} {w : List ℕ} → w ≡ replicate n 0 → n ≡ 2 ^ depth → w ≡ Noise K depth ts 0
   unfolding Noise noise treesSum
   noise-none zeros z h =
       trees-none (scalarField (K .field)) (scalar-laws (K .field) (L .field)) (2 ^ depth) (λ k j. K .field .ring .group .zero) zeros z
       (h ∙ sym (ap (λ (n : ℕ). 2 ^ depth * n) (L .scalar-width) ∙ mul-one (2 ^ depth)))
-      ∙ flat-cong (K .field .scalars) (L .field .scalars) (2 ^ depth) _ _ (λ j b. sum-none (K .field .ring .group) (λ k. K .field .ring .group .zero))
+      ∙ flat-cong (K .field .noiseValues) (L .field .noiseValues) (2 ^ depth) _ _ (λ j b. sum-none (K .field .ring .group) (λ k. K .field .ring .group .zero))
 
   noise-stored : Stores K → (i : ℕ) {w : List ℕ} → w ≡ Noise K depth ts i → (s : List ℕ) (field : ℕ) (t : Tree) → treeIn ts i ≡ treeOf s field depth t
       → t .position < 2 ^ depth → set w (t .position) (t .value) ≡ Noise K depth ts (i + 1)
   unfolding Noise noise
   noise-stored store i {w} e s field t same below =
-      let C = K .field .scalars in
+      let C = K .field .noiseValues in
       let f = noise (K .field .ring) i (λ k. treeIn ts k .position) (valueIn K ts) in
       let p : t .position ≡ treeIn ts i .position = ap (λ (x : NoiseTree). x .position) (sym same) in
       let v : C .read (t .value ∷ []) 0 ≡ valueIn K ts i = ap (λ (x : NoiseTree). C .read (x .value ∷ []) 0) (sym same) in
       store w (t .position) (t .value) (noise-below i e (t .position) below)
       ∙ ap₂ (λ (l : List ℕ) (k : ℕ). put C l k (C .read (t .value ∷ []) 0)) e p
       ∙ ap (put C (flat C (2 ^ depth) f) (treeIn ts i .position)) v
-      ∙ put-flat C (L .field .scalars) (2 ^ depth) f (treeIn ts i .position) (valueIn K ts i) (rw (← p) below)
+      ∙ put-flat C (L .field .noiseValues) (2 ^ depth) f (treeIn ts i .position) (valueIn K ts i) (rw (← p) below)
       ∙ ap (λ (n : ℕ). flat C (2 ^ depth) (noise (K .field .ring) n (λ k. treeIn ts k .position) (valueIn K ts))) (sym (add-one i))
 
 -- ---- the punctured trees added
@@ -174,7 +174,7 @@ pub record Grown (K : Kind) (field depth trees : ℕ) (s : List ℕ) (ts : List 
 
 -- words of zero are noise values and elements of zero
 pub record Zeros (K : Kind) : Type 0 where
-  pub scalar : K .field .scalars .words (K .field .ring .group .zero) ≡ replicate (K .field .scalars .width) 0
+  pub scalar : K .field .noiseValues .words (K .field .ring .group .zero) ≡ replicate (K .field .noiseValues .width) 0
   pub element : K .field .elements .words (K .field .scaled .group .zero) ≡ replicate (K .field .elements .width) 0
 
 module _ {K : Kind} (L : KindLaws K) {field depth trees : ℕ} {s : List ℕ} where
@@ -185,7 +185,7 @@ module _ {K : Kind} (L : KindLaws K) {field depth trees : ℕ} {s : List ℕ} wh
         levels = p .levels;
         within = omega arith;
         left = left-start field depth trees s body (p .known);
-        noise = noise-none K L depth (treesAt field s body depth trees) (zeros .scalar) ww (p .scalars);
+        noise = noise-none K L depth (treesAt field s body depth trees) (zeros .scalar) ww (p .noiseValues);
         added = tree-none K L depth (treesAt field s body depth trees) (zeros .element) vv (p .whole);
       }
 
@@ -228,10 +228,10 @@ module _ {K : Kind} (L : KindLaws K) {field depth trees : ℕ} {s : List ℕ} wh
             }
 
     -- the lengths are those of the buffers lent
-    pub same-noise : {next : List ℕ} → next ≡ flat (K .field .scalars) (length w) (accumulate (K .field .ring .group) (at (K .field .scalars) w))
+    pub same-noise : {next : List ℕ} → next ≡ flat (K .field .noiseValues) (length w) (accumulate (K .field .ring .group) (at (K .field .noiseValues) w))
         → {n : ℕ} → n ≡ 2 ^ depth → length next ≡ n
     same-noise q e =
-        ap length q ∙ length-flat (K .field .scalars) (L .field .scalars) (length w) _
+        ap length q ∙ length-flat (K .field .noiseValues) (L .field .noiseValues) (length w) _
         ∙ ap (λ (k : ℕ). length w * k) (L .scalar-width) ∙ mul-one (length w) ∙ length-noise K L depth ts i (g .noise) ∙ sym e
 
     pub same-v : (m : ℕ) {next : List ℕ} → next ≡ flat (K .field .elements) m (accumulate (K .field .scaled .group) (at (K .field .elements) v))
@@ -242,14 +242,14 @@ module _ {K : Kind} (L : KindLaws K) {field depth trees : ℕ} {s : List ℕ} wh
       same : i ≡ trees
       same = le-antisymm {n = i} {m = trees} (g .within) done
 
-      pub grown-noise : {next : List ℕ} → next ≡ flat (K .field .scalars) (length w) (accumulate (K .field .ring .group) (at (K .field .scalars) w))
+      pub grown-noise : {next : List ℕ} → next ≡ flat (K .field .noiseValues) (length w) (accumulate (K .field .ring .group) (at (K .field .noiseValues) w))
           → next ≡ noiseExpansion K depth trees ts
       unfolding Noise noiseExpansion
       grown-noise q =
           rw (← same)
-          (flat-accumulated (K .field .ring .group) (K .field .scalars) (L .field .scalars) (2 ^ depth)
+          (flat-accumulated (K .field .ring .group) (K .field .noiseValues) (L .field .noiseValues) (2 ^ depth)
           (noise (K .field .ring) i (λ k. treeIn ts k .position) (valueIn K ts)) (g .noise)
-          (q ∙ ap (λ (m : ℕ). flat (K .field .scalars) m (accumulate (K .field .ring .group) (at (K .field .scalars) w))) (length-noise K L depth ts i (g .noise))))
+          (q ∙ ap (λ (m : ℕ). flat (K .field .noiseValues) m (accumulate (K .field .ring .group) (at (K .field .noiseValues) w))) (length-noise K L depth ts i (g .noise))))
 
       pub grown-v : (n : ℕ) → n ≡ 2 ^ depth → {next : List ℕ}
           → next ≡ flat (K .field .elements) n (accumulate (K .field .scaled .group) (at (K .field .elements) v)) → next ≡ vExpansion K depth trees ts

@@ -46,7 +46,7 @@ expand P source noise v =
       first = places (P .head);
       second = vWords P;
       source = source;
-      noise = over (fieldOf (P .head) .scalars) (places (P .head)) (accumulate (fieldOf (P .head) .ring .group) (mu P)) noise;
+      noise = over (fieldOf (P .head) .noiseValues) (places (P .head)) (accumulate (fieldOf (P .head) .ring .group) (mu P)) noise;
       v = over (fieldOf (P .head) .elements) (places (P .head)) (accumulate (fieldOf (P .head) .scaled .group) (v0 P)) v;
     })
 

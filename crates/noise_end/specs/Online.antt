@@ -7,7 +7,7 @@ use lib.Dec.{ltb, eqb}
 use lib.ListN.{length}
 use Rattle.algebra.specs.Choice.{choose}
 use Rattle.algebra.specs.Coding.{at, over}
-use Rattle.algebra.specs.Field.{Field, Scalar, Value}
+use Rattle.algebra.specs.Field.{Field, NoiseValue, Value}
 use Rattle.algebra.specs.Group.{itself}
 use Rattle.algebra.specs.Row.{output}
 use Rattle.answer.specs.declared.TwoLengths.{TwoLengths}
@@ -42,11 +42,11 @@ refusal k l = record { number = k; first = 0; second = 0; lent = l }
 
 -- 8: the words at a place are elements: that of the accumulated noise (in field 1 it is 0 or 1) and those of v
 unfoldable pub usable : Field → Lent → ℕ → Bool
-usable F l j = F .ring .group .isElement (at (F .scalars) (l .noise) j) && F .scaled .group .isElement (at (F .elements) (l .v) j)
+usable F l j = F .ring .group .isElement (at (F .noiseValues) (l .noise) j) && F .scaled .group .isElement (at (F .elements) (l .v) j)
 
 -- u and v at index x: the outputs of row x on the accumulated vectors
-abbrev pub uAt : (h : Head) → Lent → ℕ → Scalar (fieldOf h)
-uAt h l x = output (itself (fieldOf h .ring)) (row h x) (at (fieldOf h .scalars) (l .noise))
+abbrev pub uAt : (h : Head) → Lent → ℕ → NoiseValue (fieldOf h)
+uAt h l x = output (itself (fieldOf h .ring)) (row h x) (at (fieldOf h .noiseValues) (l .noise))
 
 abbrev pub vAt : (h : Head) → Lent → ℕ → Value (fieldOf h)
 vAt h l x = output (fieldOf h .scaled) (row h x) (at (fieldOf h .elements) (l .v))
@@ -58,7 +58,7 @@ filled h l first count =
       source = l .source;
       noise = l .noise;
       v = l .v;
-      uOut = over (fieldOf h .scalars) count (λ k. uAt h l (first + k)) (l .uOut);
+      uOut = over (fieldOf h .noiseValues) count (λ k. uAt h l (first + k)) (l .uOut);
       vOut = over (fieldOf h .elements) count (λ k. vAt h l (first + k)) (l .vOut);
     }
 

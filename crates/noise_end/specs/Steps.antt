@@ -8,7 +8,7 @@ use lib.Dec.{ltb, eqb}
 use Rattle.algebra.specs.Choice.{choose}
 use Rattle.algebra.specs.Coding.{at, flat, over}
 use Rattle.algebra.specs.Expansion.{noise, punctured}
-use Rattle.algebra.specs.Field.{Scalar, Value}
+use Rattle.algebra.specs.Field.{NoiseValue, Value}
 use Rattle.algebra.specs.Group.{itself}
 use Rattle.algebra.specs.Row.{output}
 use Rattle.algebra.specs.Sum.{accumulate}
@@ -33,7 +33,7 @@ treesAt field source body depth trees = from (readTrees field depth trees 0 sour
 -- the words of the accumulated noise values of those trees, and of their accumulated sum
 unfoldable pub noiseExpansion : Kind → ℕ → ℕ → List NoiseTree → List ℕ
 noiseExpansion K depth trees ts =
-    flat (K .field .scalars) (2 ^ depth)
+    flat (K .field .noiseValues) (2 ^ depth)
     (accumulate (K .field .ring .group) (noise (K .field .ring) trees (λ i. treeIn ts i .position) (valueIn K ts)))
 
 unfoldable pub vExpansion : Kind → ℕ → ℕ → List NoiseTree → List ℕ
@@ -43,9 +43,9 @@ vExpansion K depth trees ts =
     (punctured (K .field .scaled) trees (λ i. treeIn ts i .position) (correctionIn K ts) (leafIn K depth ts)))
 
 -- outputs k of a window under round keys, on the words of the vectors
-unfoldable pub uOutputAt : (K : Kind) → List (List (List ℕ)) → ℕ → ℕ → ℕ → List ℕ → ℕ → Scalar (K .field)
+unfoldable pub uOutputAt : (K : Kind) → List (List (List ℕ)) → ℕ → ℕ → ℕ → List ℕ → ℕ → NoiseValue (K .field)
 uOutputAt K keys size terms first noise k =
-    output (itself (K .field .ring)) (rowOf (K .field .ring) (K .coefficient) keys size terms (first + k)) (at (K .field .scalars) noise)
+    output (itself (K .field .ring)) (rowOf (K .field .ring) (K .coefficient) keys size terms (first + k)) (at (K .field .noiseValues) noise)
 
 unfoldable pub outputAt : (K : Kind) → List (List (List ℕ)) → ℕ → ℕ → ℕ → List ℕ → ℕ → Value (K .field)
 outputAt K keys size terms first v k =
@@ -53,7 +53,7 @@ outputAt K keys size terms first v k =
 
 -- the windows over the fronts of two buffers
 unfoldable pub uOver : Kind → List (List (List ℕ)) → ℕ → ℕ → ℕ → ℕ → List ℕ → List ℕ → List ℕ
-uOver K keys size terms first count noise buffer = over (K .field .scalars) count (uOutputAt K keys size terms first noise) buffer
+uOver K keys size terms first count noise buffer = over (K .field .noiseValues) count (uOutputAt K keys size terms first noise) buffer
 
 unfoldable pub vOver : Kind → List (List (List ℕ)) → ℕ → ℕ → ℕ → ℕ → List ℕ → List ℕ → List ℕ
 vOver K keys size terms first count v buffer = over (K .field .elements) count (outputAt K keys size terms first v) buffer
@@ -61,7 +61,7 @@ vOver K keys size terms first count v buffer = over (K .field .elements) count (
 -- every word of the noise that the window's rows use is a noise value
 unfoldable pub noiseUsed : Kind → List (List (List ℕ)) → ℕ → ℕ → ℕ → ℕ → List ℕ → Bool
 noiseUsed K keys size terms first count noise =
-    every count (λ k. every terms (λ i. K .field .ring .group .isElement (at (K .field .scalars) noise (termPlace keys size terms (first + k) i))))
+    every count (λ k. every terms (λ i. K .field .ring .group .isElement (at (K .field .noiseValues) noise (termPlace keys size terms (first + k) i))))
 
 -- the tests 3, 7 and 13 of an online call on a record that was accepted, from the lengths of the vectors and of the buffers; 0
 -- where all are passed
@@ -74,7 +74,7 @@ lengthsNumber f noise vector first count uRoom room =
 -- whole vectors, the elements of a width, a window that ends at 32768 (the largest n) or before, and room for it
 pub record Fitting (width size first count noise vector uRoom room : ℕ) : Type 0 where
   pub places : 0 < size
-  pub scalars : noise ≡ size
+  pub noiseValues : noise ≡ size
   pub whole : vector ≡ size * width
   pub within : first + count ≤ 32768
   pub uEnough : count ≤ uRoom
@@ -85,5 +85,5 @@ pub record TreesFit (field width body depth trees : ℕ) (source : List ℕ) (no
   pub two : (field ≡ 1 → ⊥) → field ≡ 2
   pub levels : depth ≤ 16
   pub known : isWhole (readTrees field depth trees 0 source body) ≡ true
-  pub scalars : noise ≡ 2 ^ depth
+  pub noiseValues : noise ≡ 2 ^ depth
   pub whole : v ≡ 2 ^ depth * width

@@ -3,7 +3,7 @@ use mathlib.Core.List.{List, [], _∷_, map}
 use Prim.Native.Nat.{ℕ}
 use lib.ListN.{getD}
 use Rattle.algebra.specs.Expansion.{noise, punctured}
-use Rattle.algebra.specs.Field.{Scalar, Value}
+use Rattle.algebra.specs.Field.{NoiseValue, Value}
 use Rattle.field.specs.Kind.{Kind}
 use Rattle.tree.specs.Child.{child}
 use Rattle.tree.specs.Columns.{columnsAt}
@@ -15,8 +15,8 @@ use Rattle.rows.specs.Head.{kind, fieldOf}
 abbrev pub treeIn : List NoiseTree → ℕ → NoiseTree
 treeIn ts i = getD ts i (record { position = 0; value = 0; correction = []; siblings = [] })
 
-abbrev pub valueIn : (K : Kind) → List NoiseTree → ℕ → Scalar (K .field)
-valueIn K ts i = K .field .scalars .read (treeIn ts i .value ∷ []) 0
+abbrev pub valueIn : (K : Kind) → List NoiseTree → ℕ → NoiseValue (K .field)
+valueIn K ts i = K .field .noiseValues .read (treeIn ts i .value ∷ []) 0
 
 abbrev pub correctionIn : (K : Kind) → List NoiseTree → ℕ → Value (K .field)
 correctionIn K ts i = K .field .elements .read (treeIn ts i .correction) 0
@@ -29,7 +29,7 @@ leafIn K depth ts i j =
 abbrev pub tree : NoisePart → ℕ → NoiseTree
 tree P i = treeIn (P .trees) i
 
-abbrev pub value : (P : NoisePart) → ℕ → Scalar (fieldOf (P .head))
+abbrev pub value : (P : NoisePart) → ℕ → NoiseValue (fieldOf (P .head))
 value P i = valueIn (kind (P .head)) (P .trees) i
 
 abbrev pub correction : (P : NoisePart) → ℕ → Value (fieldOf (P .head))
@@ -39,7 +39,7 @@ abbrev pub leaf : (P : NoisePart) → ℕ → ℕ → Value (fieldOf (P .head))
 leaf P i j = leafIn (kind (P .head)) (P .head .depth) (P .trees) i j
 
 -- μ
-unfoldable pub mu : (P : NoisePart) → ℕ → Scalar (fieldOf (P .head))
+unfoldable pub mu : (P : NoisePart) → ℕ → NoiseValue (fieldOf (P .head))
 mu P = noise (fieldOf (P .head) .ring) (P .head .trees) (λ i. tree P i .position) (value P)
 
 -- v0

@@ -9,7 +9,7 @@ use lib.ListN.{length, take, getD, replicate, length-take}
 use lib.Seq.{take-all}
 use borrow.Author.Tests.{le-ltb}
 use Rattle.algebra.specs.Coding.{at}
-use Rattle.algebra.specs.Field.{Scalar, Value}
+use Rattle.algebra.specs.Field.{NoiseValue, Value}
 use Rattle.algebra.specs.Group.{Element}
 use Rattle.algebra.specs.Sum.{accumulate}
 use Rattle.algebra.proofs.Coding.{length-flat}
@@ -47,7 +47,7 @@ front-in : (k : ℕ) (l : List ℕ) → k ≡ length (take k l) → k ≤ length
 front-in k l e = omega (arith, length-take k l, min-le-right k (length l))
 
 -- an accumulated value is an element
-scalar-element : (h : Head) (f : ℕ → Scalar (fieldOf h)) (j : ℕ) → Element (fieldOf h .ring .group) (accumulate (fieldOf h .ring .group) f j)
+scalar-element : (h : Head) (f : ℕ → NoiseValue (fieldOf h)) (j : ℕ) → Element (fieldOf h .ring .group) (accumulate (fieldOf h .ring .group) f j)
 unfolding accumulate
 scalar-element h f j = sum-element (fieldOf h .ring .group) (kindLaws (h .field) .field .ring .group) (suc j) f
 
@@ -89,7 +89,7 @@ module _ {s t : List ℕ} {field outputs : ℕ} (A : Paired s t field outputs) w
     noise-front =
         noise-accepted .first
         ∙ sym (ap length (noise-accepted .noise)
-        ∙ length-flat (fieldOf (A .P .head) .scalars) (kindLaws (A .P .head .field) .field .scalars) (places (A .P .head)) _
+        ∙ length-flat (fieldOf (A .P .head) .noiseValues) (kindLaws (A .P .head .field) .field .noiseValues) (places (A .P .head)) _
         ∙ ap (λ (w : ℕ). places (A .P .head) * w) (kindLaws (A .P .head .field) .scalar-width) ∙ mul-one (places (A .P .head)))
 
     pub noise-in : r .first ≤ length n
@@ -111,7 +111,7 @@ module _ {s t : List ℕ} {field outputs : ℕ} (A : Paired s t field outputs) w
       lent : noiseOnline.Lent
       lent = record { source = s; noise = take (r .first) n; v = take (r .second) v; uOut = replicate 512 0; vOut = replicate 1024 0 }
 
-      mu : ℕ → Scalar (fieldOf (A .P .head))
+      mu : ℕ → NoiseValue (fieldOf (A .P .head))
       mu = accumulate (fieldOf (A .P .head) .ring .group) (noiseVectors.mu (A .P))
 
       v0 : ℕ → Value (fieldOf (A .P .head))
@@ -127,10 +127,10 @@ module _ {s t : List ℕ} {field outputs : ℕ} (A : Paired s t field outputs) w
           room : outputs * fieldOf (A .P .head) .elements .width ≤ 1024
           room = let m = mul-le-mul-left outputs (width-most (A .P .head .field)) in omega (arith, few)
 
-      pub u-values : (x : ℕ) → x < outputs → at (fieldOf (A .P .head) .scalars) u x ≡ uAt (A .P) x
+      pub u-values : (x : ℕ) → x < outputs → at (fieldOf (A .P .head) .noiseValues) u x ≡ uAt (A .P) x
       unfolding lent mu v0
       u-values x h =
-          ap (λ (l : noiseOnline.Outcome). at (fieldOf (A .P .head) .scalars) (l .lent .uOut) x) window
+          ap (λ (l : noiseOnline.Outcome). at (fieldOf (A .P .head) .noiseValues) (l .lent .uOut) x) window
           ∙ noiseLaws.online-u lent (A .P) mu v0 (A .read) (noise-accepted .noise) (noise-accepted .v)
           (λ j h. scalar-element (A .P .head) _ j) (λ j h. value-element (A .P .head) _ j) 0 outputs noise-number x h
           ∙ ap (uAt (A .P)) (zero-add x)
@@ -204,7 +204,7 @@ module _ {s t : List ℕ} {field outputs : ℕ} (A : Paired s t field outputs) w
   -- words of u, v, w and Δ that are those of the definition hold where it does
   module _ (delta u v w : List ℕ)
       (delta-is : fieldOf (A .P .head) .elements .read delta 0 ≡ fieldOf (A .P .head) .elements .read (A .Q .delta) 0)
-      (u-is : (x : ℕ) → x < outputs → at (fieldOf (A .P .head) .scalars) u x ≡ uAt (A .P) x)
+      (u-is : (x : ℕ) → x < outputs → at (fieldOf (A .P .head) .noiseValues) u x ≡ uAt (A .P) x)
       (v-is : (x : ℕ) → x < outputs → at (fieldOf (A .P .head) .elements) v x ≡ vAt (A .P) x)
       (w-is : (x : ℕ) → x < outputs → at (fieldOf (A .Q .head) .elements) w x ≡ wAt (A .Q) x) where
     same-at : (x : ℕ) → x < outputs → holdsAt (fieldOf (A .P .head)) delta u v w x ≡ heldAt (A .P) (A .Q) x

@@ -9,7 +9,7 @@ use native.Mathlib.Numerals.{add-one}
 use lib.ListN.{getD}
 use mir.Syntax.{w64}
 use mir.Val.{Fits}
-use Rattle.algebra.specs.Field.{Field, Scalar, Value}
+use Rattle.algebra.specs.Field.{Field, NoiseValue, Value}
 use Rattle.field.specs.Binary.{binary, block, blockAdd, blockScale}
 use Rattle.field.specs.Kind.{kindOf}
 use Rattle.field.specs.Prime.{primes, prime, primeAdd, primeMul}
@@ -21,12 +21,12 @@ use Rattle.pairing.proofs.Same.{same-refl, same-not}
 
 -- ---- one output
 
-not-held : (F : Field) (Δ : Value F) (u : Scalar F) (v w right : Value F) → right ≡ F .scaled .group .add (F .scaled .scale u Δ) v
+not-held : (F : Field) (Δ : Value F) (u : NoiseValue F) (v w right : Value F) → right ≡ F .scaled .group .add (F .scaled .scale u Δ) v
     → (F .elements .words w ≡ F .elements .words right → ⊥) → 0 ≡ counted (holds F Δ u v w)
 unfolding holds
 not-held F Δ u v w right e n = sym (ap counted (same-not _ _ (λ q. n (q ∙ ap (F .elements .words) (sym e)))))
 
-is-held : (F : Field) (Δ : Value F) (u : Scalar F) (v w right : Value F) → right ≡ F .scaled .group .add (F .scaled .scale u Δ) v
+is-held : (F : Field) (Δ : Value F) (u : NoiseValue F) (v w right : Value F) → right ≡ F .scaled .group .add (F .scaled .scale u Δ) v
     → F .elements .words w ≡ F .elements .words right → 1 ≡ counted (holds F Δ u v w)
 unfolding holds
 is-held F Δ u v w right e q =

@@ -5,7 +5,7 @@ use mathlib.Core.List.{List}
 use Prim.Native.Nat.{ℕ, zero, suc, _+_, _≤_}
 use Rattle.algebra.specs.Choice.{choose}
 use Rattle.algebra.specs.Coding.{at}
-use Rattle.algebra.specs.Field.{Field, Scalar, Value}
+use Rattle.algebra.specs.Field.{Field, NoiseValue, Value}
 use Rattle.number.specs.Reading.{Whole}
 use Rattle.record.specs.Content.{NoisePart, ScalarPart}
 use Rattle.record.specs.Reading.{readNoise, readScalar}
@@ -37,12 +37,12 @@ abbrev pub counted : Bool → ℕ
 counted t = choose t 1 0
 
 -- w = Δu + v, in the words of both sides
-unfoldable pub holds : (F : Field) → Value F → Scalar F → Value F → Value F → Bool
+unfoldable pub holds : (F : Field) → Value F → NoiseValue F → Value F → Value F → Bool
 holds F Δ u v w = sameList (F .elements .words w) (F .elements .words (F .scaled .group .add (F .scaled .scale u Δ) v))
 
 -- the same at output x, from the words of Δ, u, v and w
 unfoldable pub holdsAt : Field → List ℕ → List ℕ → List ℕ → List ℕ → ℕ → Bool
-holdsAt F delta u v w x = holds F (F .elements .read delta 0) (at (F .scalars) u x) (at (F .elements) v x) (at (F .elements) w x)
+holdsAt F delta u v w x = holds F (F .elements .read delta 0) (at (F .noiseValues) u x) (at (F .elements) v x) (at (F .elements) w x)
 
 -- how many of the outputs 0 to n − 1 hold
 unfoldable pub heldWords : Field → List ℕ → List ℕ → List ℕ → List ℕ → ℕ → ℕ

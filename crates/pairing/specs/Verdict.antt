@@ -4,7 +4,7 @@ use mathlib.Core.List.{List, [], _∷_}
 use Prim.Native.Nat.{ℕ, zero, suc, _+_}
 use lib.Dec.{ltb, eqb}
 use Rattle.algebra.specs.Choice.{choose}
-use Rattle.algebra.specs.Field.{Scalar, Value}
+use Rattle.algebra.specs.Field.{NoiseValue, Value}
 use Rattle.algebra.specs.Group.{itself}
 use Rattle.algebra.specs.Row.{output}
 use Rattle.algebra.specs.Sum.{accumulate}
@@ -43,7 +43,7 @@ sameDealing h k =
     && sameList (h .codeKey) (k .codeKey)
 
 -- u and v at output x, from the noise record alone, and w, from the scalar record alone
-abbrev pub uAt : (P : NoisePart) → ℕ → Scalar (fieldOf (P .head))
+abbrev pub uAt : (P : NoisePart) → ℕ → NoiseValue (fieldOf (P .head))
 uAt P x = output (itself (fieldOf (P .head) .ring)) (row (P .head) x) (accumulate (fieldOf (P .head) .ring .group) (noiseEnd.mu P))
 
 abbrev pub vAt : (P : NoisePart) → ℕ → Value (fieldOf (P .head))

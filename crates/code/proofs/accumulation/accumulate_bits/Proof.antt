@@ -10,7 +10,7 @@ use Rattle.code.proofs.accumulation.accumulate_bits.Statement.{statemen
 use Rattle.code.proofs.accumulation.accumulate_bits.Tie as tie
 
 abbrev Inv-loop : tie.InvT-loop
-Inv-loop v₀ total₀ i₀ v total i = (i ≤ length v) × Accumulated (bitRing .group) (binary .scalars) v₀ v total i
+Inv-loop v₀ total₀ i₀ v total i = (i ≤ length v) × Accumulated (bitRing .group) (binary .noiseValues) v₀ v total i
 
 abbrev μ-loop : tie.MeasureT-loop
 μ-loop v₀ total₀ i₀ v total i = length v - i

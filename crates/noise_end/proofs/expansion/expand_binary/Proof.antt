@@ -40,7 +40,7 @@ expand-binary-spec =
     (λ c. let k = c .before .before .before .before .before .before .before in grown-next binaryKindLaws (k .before .before .loop .inv) (k .before .loop-test .taken) (k .known-tree .result) (k .known-tree .ensures .0) binary-stores (k .before .before .before .before .before .before .before .before .before .before .before .before .left-keys .ensures) (k .before .before .before .before .before .before .before .before .before .before .before .right-keys .ensures) refl (c .before .before .before .add-punctured-binary .ensures))  -- loop-again
     (λ c κs. search needs)  -- accumulate-bits-requires
     (λ c κs. binary-even (c .before .before .before .before .before .before .loop .inv))  -- accumulate-blocks-requires
-    (λ c. same-noise binaryKindLaws (c .before .before .before .before .before .before .before .before .before .loop .inv) (c .before .before .before .before .before .before .accumulate-bits .ensures) (c .before .before .before .before .before .before .before .before .before .before .before .before .before .before .before .before .before .before .before .before .before .before .before .pre .1 .scalars))  -- same-length
+    (λ c. same-noise binaryKindLaws (c .before .before .before .before .before .before .before .before .before .loop .inv) (c .before .before .before .before .before .before .accumulate-bits .ensures) (c .before .before .before .before .before .before .before .before .before .before .before .before .before .before .before .before .before .before .before .before .before .before .before .pre .1 .noiseValues))  -- same-length
     (λ c. same-v binaryKindLaws (c .before .before .before .before .before .before .before .before .before .loop .inv) _ (c .before .before .accumulate-blocks .ensures) (binary-even (c .before .before .before .before .before .before .before .before .before .loop .inv)) (c .before .before .before .before .before .before .before .before .before .before .before .before .before .before .before .before .before .before .before .before .before .before .before .pre .1 .whole))  -- same-length-2
     (λ c. let k = c .before .before .before .before .before .before .before .before in (grown-noise binaryKindLaws (k .before .loop .inv) (k .loop-test .left) (c .before .before .before .before .before .before .accumulate-bits .ensures), binary-expanded (k .before .loop .inv) (k .loop-test .left) (c .before .before .accumulate-blocks .ensures)))  -- returns
     )

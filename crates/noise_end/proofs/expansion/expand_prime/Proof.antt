@@ -40,7 +40,7 @@ expand-prime-spec =
     (λ c. let k = c .before .before .before .before .before .before .before in grown-next primeKindLaws (k .before .before .loop .inv) (k .before .loop-test .taken) (k .known-tree .result) (k .known-tree .ensures .0) prime-stores (k .before .before .before .before .before .before .before .before .before .before .before .before .left-keys .ensures) (k .before .before .before .before .before .before .before .before .before .before .before .right-keys .ensures) refl (c .before .before .before .add-punctured-prime .ensures))  -- loop-again
     (λ c κs. search needs)  -- accumulate-primes-requires
     (λ c κs. search needs)  -- accumulate-primes-requires-2
-    (λ c. same-noise primeKindLaws (c .before .before .before .before .before .before .before .before .before .loop .inv) (c .before .before .before .before .before .before .accumulate-primes .ensures) (c .before .before .before .before .before .before .before .before .before .before .before .before .before .before .before .before .before .before .before .before .before .before .before .pre .1 .scalars))  -- same-length
+    (λ c. same-noise primeKindLaws (c .before .before .before .before .before .before .before .before .before .loop .inv) (c .before .before .before .before .before .before .accumulate-primes .ensures) (c .before .before .before .before .before .before .before .before .before .before .before .before .before .before .before .before .before .before .before .before .before .before .before .pre .1 .noiseValues))  -- same-length
     (λ c. same-v primeKindLaws (c .before .before .before .before .before .before .before .before .before .loop .inv) _ (c .before .before .accumulate-primes2 .ensures) (omega arith) (c .before .before .before .before .before .before .before .before .before .before .before .before .before .before .before .before .before .before .before .before .before .before .before .pre .1 .whole))  -- same-length-2
     (λ c. let k = c .before .before .before .before .before .before .before .before in (grown-noise primeKindLaws (k .before .loop .inv) (k .loop-test .left) (c .before .before .before .before .before .before .accumulate-primes .ensures), prime-expanded (k .before .loop .inv) (k .loop-test .left) (c .before .before .accumulate-primes2 .ensures)))  -- returns
     )

@@ -12,7 +12,7 @@ use Rattle.noise_end.proofs.window.fill_binary.Tie as tie
 
 abbrev Inv-loop : tie.InvT-loop
 Inv-loop sbox mix keys size terms first count noise v u-out₀ v-out₀ k₀ u-out v-out k =
-    (k ≤ count) × Written (binary .scalars) (uOutputAt binaryKind keys size terms first noise) u-out₀ u-out k
+    (k ≤ count) × Written (binary .noiseValues) (uOutputAt binaryKind keys size terms first noise) u-out₀ u-out k
     × Written (binary .elements) (outputAt binaryKind keys size terms first v) v-out₀ v-out k
 
 abbrev μ-loop : tie.MeasureT-loop
