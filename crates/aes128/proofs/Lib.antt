@@ -1,3 +1,4 @@
+-- The laws of `aes128`.
 mod Words
 mod Schedule
 mod Rounds

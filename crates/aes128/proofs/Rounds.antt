@@ -1,5 +1,5 @@
 -- The rounds, one after the other, are the cipher. Assumes nothing.
-use mathlib.Core.Path.{_≡_, _∙_, ap}
+use mathlib.Core.Path.{_≡_, _∙_}
 use mathlib.Core.List.{List}
 use Prim.Native.Nat.{ℕ, suc}
 use Rattle.aes128.specs.State.{xorState}

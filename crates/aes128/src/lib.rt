@@ -78,6 +78,7 @@ fn pack(a: [u8; 4]) -> u32
     wide(a[0]) + wide(a[1]) * 0x100 + wide(a[2]) * 0x1_0000 + wide(a[3]) * 0x100_0000
 }
 
+// The number in a wider type.
 fn wide(x: u8) -> u32
     ensures { λ r. ⌜ (r ≡ x) × (r < 256) ⌝ }
 {

@@ -90,10 +90,6 @@ module _ {A : Type 0} (C : Coding A) (L : CodingLaws C) where
   unfolding over flat
   over-none f b = rw zero-mul
 
-  pub over-cong : (n : ℕ) (f g : ℕ → A) (b : List ℕ) → ((i : ℕ) → i < n → f i ≡ g i) → over C n f b ≡ over C n g b
-  unfolding over
-  over-cong n f g b e = ap (λ (l : List ℕ). l ++ drop (n * C .width) b) (flat-cong n f g e)
-
   pub take-over : (n : ℕ) (f : ℕ → A) (b : List ℕ) → take (n * C .width) (over C n f b) ≡ flat C n f
   unfolding over
   take-over n f b = take-at (flat C n f) (drop (n * C .width) b) (n * C .width) (length-flat n f)
@@ -138,17 +134,6 @@ module _ {A : Type 0} (C : Coding A) (L : CodingLaws C) where
       rw e at (drop-over-add n f b (i * C .width - n * C .width)) in
       read-local (over C n f b) b (i * C .width) (i * C .width)
       (let l = length-over n f b (omega arith) in omega arith) k (ap (take (C .width)) s)
-
-  -- a buffer's own values written over it leave it
-  pub over-at : (n : ℕ) (b : List ℕ) → n * C .width ≤ length b → over C n (at C b) b ≡ b
-  unfolding over
-  over-at n b h =
-      ap (λ (l : List ℕ). l ++ drop (n * C .width) b) (flat-at n b h) ∙ take-append-drop (n * C .width) b
-
-  -- of two writings the later stands
-  pub over-over : (n : ℕ) (f g : ℕ → A) (b : List ℕ) → over C n g (over C n f b) ≡ over C n g b
-  unfolding over
-  over-over n f g b = ap (λ (l : List ℕ). flat C n g ++ l) (drop-over n f b)
 
   -- a whole buffer
   pub over-whole : (n : ℕ) (f : ℕ → A) (b : List ℕ) → length b ≡ n * C .width → over C n f b ≡ flat C n f

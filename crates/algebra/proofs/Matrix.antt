@@ -8,7 +8,7 @@ use Rattle.algebra.specs.Group.{Element, Ring, Scaled, RingLaws, ScaledL
 use Rattle.algebra.specs.Sum.{sum, accumulate}
 use Rattle.algebra.specs.Row.{Row, RowWithin, output, entry, rowTimes}
 use Rattle.algebra.proofs.Choice.{choose-either}
-use Rattle.algebra.proofs.Sum.{sum-cong, sum-element, sum-swap, sum-upto, scale-zero, scale-sum, sum-scale}
+use Rattle.algebra.proofs.Sum.{sum-cong, sum-swap, sum-upto, scale-zero, scale-sum, sum-scale}
 
 module _ (R : Ring) (S : Scaled R) (RL : RingLaws R) (L : ScaledLaws R S) where
   -- a term that is left out may be left out of the scalar
@@ -27,11 +27,6 @@ module _ (R : Ring) (S : Scaled R) (RL : RingLaws R) (L : ScaledLaws R S) where
       ∙ sum-cong (S .group) N _ _ (λ j k. scale-choose (leb j p) c (f j))
 
   module _ (N : ℕ) (row : Row R) (W : RowWithin R N row) where
-    -- an entry of the code matrix is an element
-    pub entry-element : (j : ℕ) → Element (R .group) (entry row j)
-    unfolding entry
-    entry-element j = sum-element (R .group) (RL .group) (row .terms) _
-
     pub output-is-matrix : (f : ℕ → S .group .Of) → output S row (accumulate (S .group) f) ≡ rowTimes S N (entry row) f
     unfolding output entry rowTimes
     output-is-matrix f =

@@ -2,6 +2,7 @@
 // each length.
 
 // The numbers of document 01's table, under the names of the C header.
+
 // Field byte not 1 or 2.
 pub const BAD_FIELD: u32 = 1;
 // d, t, ℓ or n outside its range.

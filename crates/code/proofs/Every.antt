@@ -6,21 +6,10 @@ use Prim.Native.Nat.{ℕ, zero, suc, _+_, _≤_, _<_}
 use native.Mathlib.Nat.{le-antisymm, eq-or-lt-of-le, le-of-suc-le-suc}
 use native.Mathlib.Numerals.{add-one}
 use native.Mathlib.Omega.{arith}
+use Rattle.algebra.proofs.Tests.{and-left, and-right, and-both}
 use Rattle.code.specs.Used.{every}
 
--- both tests hold, or one fails
-and-true : (a b : Bool) → a ≡ true → b ≡ true → (a && b) ≡ true
-and-true a b p q = rw (p, q)
-
-and-first : (a b : Bool) → (a && b) ≡ true → a ≡ true
-and-first true b e = refl
-and-first false b e = e
-
-and-second : (a b : Bool) → (a && b) ≡ true → b ≡ true
-and-second true b e = e
-and-second false true e = refl
-and-second false false e = e
-
+-- one test fails
 and-false : (a b : Bool) → b ≡ false → (a && b) ≡ false
 and-false true b e = e
 and-false false b e = refl
@@ -32,7 +21,7 @@ module _ (test : ℕ → Bool) where
 
   pub every-more : (i : ℕ) → every i test ≡ true → test i ≡ true → every (i + 1) test ≡ true
   unfolding every
-  every-more i e t = rw add-one (and-true (every i test) (test i) e t)
+  every-more i e t = rw add-one (and-both e t)
 
   pub every-done : (i n : ℕ) → every i test ≡ true → i ≤ n → n ≤ i → true ≡ every n test
   every-done i n e h k = sym (ap (λ (m : ℕ). every m test) (le-antisymm {n = n} {m = i} k h) ∙ e)
@@ -53,10 +42,10 @@ module _ (test : ℕ → Bool) where
   unfolding every
   every-at i zero e h = absurd (omega arith)
   every-at i (suc n) e h =
-      let earlier : i < n → test i ≡ true = every-at i n (and-first (every n test) (test n) e) in
-      ⊎-elim (λ (q : i ≡ n). ap test q ∙ and-second (every n test) (test n) e) earlier (eq-or-lt-of-le (le-of-suc-le-suc h))
+      let earlier : i < n → test i ≡ true = every-at i n (and-left (every n test) (test n) e) in
+      ⊎-elim (λ (q : i ≡ n). ap test q ∙ and-right (every n test) (test n) e) earlier (eq-or-lt-of-le (le-of-suc-le-suc h))
 
   pub every-all : (n : ℕ) → ((i : ℕ) → i < n → test i ≡ true) → every n test ≡ true
   unfolding every
   every-all zero h = refl
-  every-all (suc n) h = and-true (every n test) (test n) (every-all n (λ i k. h i (omega arith))) (h n (omega arith))
+  every-all (suc n) h = and-both (every-all n (λ i k. h i (omega arith))) (h n (omega arith))

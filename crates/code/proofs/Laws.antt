@@ -1,26 +1,16 @@
 -- Laws of `code` for its callers: what a row's terms are, what outputs depend on, and what the test of used words says.
 use mathlib.Core.Bool.{true}
 use mathlib.Core.List.{List}
-use mathlib.Core.Path.{_≡_, sym, ap, _∙_}
-use Prim.Native.Nat.{ℕ, suc, _+_, _<_}
+use mathlib.Core.Path.{_≡_, ap}
+use Prim.Native.Nat.{ℕ, _+_, _<_}
 use native.Mathlib.Nat.{mod-lt}
 use borrow.Author.Tests.{lt-ltb, ltb-true}
 use lib.ListN.{length, getD}
-use Rattle.algebra.specs.Coding.{flat}
 use Rattle.algebra.specs.Group.{Ring, Scaled}
 use Rattle.algebra.specs.Row.{Row, RowWithin, output}
-use Rattle.algebra.specs.Sum.{accumulate}
-use Rattle.algebra.proofs.Coding.{at-flat}
-use Rattle.algebra.proofs.Sum.{sum-cong, sum-element}
-use Rattle.field.specs.declared.prime.Prime.{Prime}
-use Rattle.field.specs.Binary.{binary, bitRing}
-use Rattle.field.specs.Kind.{Kind, KindLaws, binaryKind, primeKind}
-use Rattle.field.specs.Prime.{primes, primeRing, prime, modulus}
-use Rattle.field.proofs.BinaryField.{binaryLaws, bitLaws}
-use Rattle.field.proofs.BothKinds.{binaryKindLaws, primeKindLaws}
-use Rattle.field.proofs.PrimeField.{primeLaws, primeRingLaws}
-use Rattle.field.proofs.Words.{at-one}
-use Rattle.code.specs.Row.{termPlace, placeOf, rowOf, binaryRow, primeRow}
+use Rattle.algebra.proofs.Sum.{sum-cong}
+use Rattle.field.specs.Kind.{Kind, KindLaws}
+use Rattle.code.specs.Row.{termPlace, placeOf, rowOf}
 use Rattle.code.specs.Used.{wordBelow, rowBelow, usedBelow, allBelow}
 use Rattle.code.proofs.Every.{every-at, every-all}
 
@@ -37,26 +27,6 @@ pub all-word : (bound : ℕ) (words : List ℕ) → allBelow bound words ≡ tru
 unfolding allBelow
 all-word bound words e j h = ltb-true _ _ (every-at (wordBelow bound words) j (length words) e h)
 
-pub all-true : (bound : ℕ) (words : List ℕ) → ((j : ℕ) → j < length words → getD words j 0 < bound) → allBelow bound words ≡ true
-unfolding allBelow
-all-true bound words below = every-all (wordBelow bound words) (length words) (λ j h. lt-ltb _ _ (below j h))
-
--- the words of accumulated vectors: bits in field 1, elements in field 2
-pub accumulated-bits : (f : ℕ → ℕ) (n j : ℕ) → j < n → getD (flat (binary .noiseValues) n (accumulate (bitRing .group) f)) j 0 < 2
-unfolding accumulate
-accumulated-bits f n j h =
-    let e = sym (at-one (λ b. b) (λ w. w) (flat (binary .noiseValues) n (accumulate (bitRing .group) f)) j)
-    ∙ at-flat (binary .noiseValues) (binaryLaws .noiseValues) n (accumulate (bitRing .group) f) j h in
-    rw e (ltb-true _ _ (sum-element (bitRing .group) (bitLaws .group) (suc j) f))
-
-pub accumulated-primes : (f : ℕ → Prime) (n j : ℕ) → j < n → getD (flat (primes .elements) n (accumulate (primeRing .group) f)) j 0 < modulus
-unfolding accumulate
-accumulated-primes f n j h =
-    let e = sym (at-one (λ a. a .word) prime (flat (primes .elements) n (accumulate (primeRing .group) f)) j)
-    ∙ at-flat (primes .elements) (primeLaws .elements) n (accumulate (primeRing .group) f) j h in
-    let w : getD (flat (primes .elements) n (accumulate (primeRing .group) f)) j 0 ≡ accumulate (primeRing .group) f j .word = ap (λ (a : Prime). a .word) e in
-    rw w (ltb-true _ _ (sum-element (primeRing .group) (primeRingLaws .group) (suc j) f))
-
 module _ (keys : List (List (List ℕ))) (N ℓ : ℕ) where
   -- a place is below N
   pub place-below : (x i : ℕ) → 0 < N → termPlace keys N ℓ x i < N
@@ -68,12 +38,6 @@ module _ (keys : List (List (List ℕ))) (N ℓ : ℕ) where
   unfolding rowOf
   row-within K L x h = record { place-below = λ i k. place-below x i h; coefficient-element = λ i k. L .coefficient-element _ }
 
-  pub binary-within : (x : ℕ) → 0 < N → RowWithin bitRing N (binaryRow keys N ℓ x)
-  binary-within = row-within binaryKind binaryKindLaws
-
-  pub prime-within : (x : ℕ) → 0 < N → RowWithin primeRing N (primeRow keys N ℓ x)
-  prime-within = row-within primeKind primeKindLaws
-
   -- vectors that agree below N have the same outputs
   pub output-below : (K : Kind) (S : Scaled (K .field .ring)) (x : ℕ) (f g : ℕ → S .group .Of) → 0 < N → ((j : ℕ) → j < N → f j ≡ g j)
       → output S (rowOf (K .field .ring) (K .coefficient) keys N ℓ x) f ≡ output S (rowOf (K .field .ring) (K .coefficient) keys N ℓ x) g
@@ -82,15 +46,6 @@ module _ (keys : List (List (List ℕ))) (N ℓ : ℕ) where
       output-places S (rowOf (K .field .ring) (K .coefficient) keys N ℓ x) f g (λ i k. e (termPlace keys N ℓ x i) (place-below x i h))
 
   module _ (bound : ℕ) (words : List ℕ) (first count : ℕ) where
-    -- what the test says of a term of a row of the window
-    pub used-word : usedBelow bound words keys N ℓ first count ≡ true → (k i : ℕ) → k < count → i < ℓ
-        → getD words (termPlace keys N ℓ (first + k) i) 0 < bound
-    unfolding usedBelow rowBelow
-    used-word e k i h g =
-        ltb-true _ _
-        (every-at (λ m. wordBelow bound words (termPlace keys N ℓ (first + k) m)) i ℓ
-        (every-at (λ m. rowBelow bound words keys N ℓ (first + m)) k count e h) g)
-
     -- where every word is below the bound no row can fail
     pub used-true : 0 < N → ((j : ℕ) → j < N → getD words j 0 < bound) → usedBelow bound words keys N ℓ first count ≡ true
     unfolding usedBelow rowBelow
@@ -101,11 +56,3 @@ module _ (keys : List (List (List ℕ))) (N ℓ : ℕ) where
 
     pub used-all : 0 < N → length words ≡ N → allBelow bound words ≡ true → usedBelow bound words keys N ℓ first count ≡ true
     used-all h size e = used-true h (λ j k. all-word bound words e j (rw size k))
-
-  -- so the test never fails on accumulated vectors
-  module _ (first count : ℕ) (h : 0 < N) where
-    pub used-bits : (f : ℕ → ℕ) → usedBelow 2 (flat (binary .noiseValues) N (accumulate (bitRing .group) f)) keys N ℓ first count ≡ true
-    used-bits f = used-true 2 (flat (binary .noiseValues) N (accumulate (bitRing .group) f)) first count h (accumulated-bits f N)
-
-    pub used-primes : (f : ℕ → Prime) → usedBelow modulus (flat (primes .elements) N (accumulate (primeRing .group) f)) keys N ℓ first count ≡ true
-    used-primes f = used-true modulus (flat (primes .elements) N (accumulate (primeRing .group) f)) first count h (accumulated-primes f N)

@@ -16,7 +16,7 @@ use Rattle.field.specs.declared.block.Block.{Block}
 use Rattle.field.specs.declared.prime.Prime.{Prime}
 use Rattle.field.specs.Binary.{binary, bitRing, blocks, blockZero, blockAdd, blockLeaf, blockScale, bitAdd, bitMul}
 use Rattle.field.specs.Bytes.{columnsOf, highOf}
-use Rattle.field.specs.Prime.{primes, primeRing, prime, primeZero, primeReduce, primeAdd, primeMul}
+use Rattle.field.specs.Prime.{primes, primeRing, prime, primeReduce, primeAdd, primeMul}
 use Rattle.field.proofs.PrimeField.{reduced-add, reduced-mul}
 use Rattle.code.specs.Row.{termBlock, placeOf, termPlace, rowOf, binaryRow, primeRow}
 

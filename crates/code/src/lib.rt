@@ -12,6 +12,4 @@ pub use row::noise_row_binary;
 pub use row::noise_row_prime;
 pub use row::scalar_row_binary;
 pub use row::scalar_row_prime;
-pub use used::all_below;
-pub use used::rows_below;
 pub use used::used_below;

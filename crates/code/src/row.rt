@@ -9,7 +9,7 @@ ghost use Rattle.algebra.specs.Row.{output};
 ghost use Rattle.sbox.specs.Table.{Tables};
 ghost use Rattle.field.specs.Binary.{binary, bitRing, blocks};
 ghost use Rattle.field.specs.Bytes.{highOf};
-ghost use Rattle.field.specs.Prime.{primes, primeRing, prime, primeAdd, primeMul};
+ghost use Rattle.field.specs.Prime.{primes, primeRing};
 ghost use Rattle.code.specs.Row.{termBlock, termPlace, binaryRow, primeRow};
 use aes128::encrypt;
 use field::Block;

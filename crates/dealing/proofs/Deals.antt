@@ -1,4 +1,4 @@
--- Each way out of `deal` gives what the definition says there, and what its steps ask. Assumes nothing.
+-- Each return of `deal` gives what the definition says there, and what its steps ask. Assumes nothing.
 use mathlib.Core.Path.{_≡_, refl, sym, ap, ap₂, _∙_}
 use mathlib.Core.List.{List, [], _∷_}
 use Prim.Native.Nat.{ℕ, suc, _+_, _*_, _^_, _≤_, _<_}

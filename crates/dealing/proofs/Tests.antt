@@ -1,4 +1,4 @@
--- Each way out of the tests of a dealing's input gives what the definition says there. Assumes nothing.
+-- Each return of the tests of a dealing's input gives what the definition says there. Assumes nothing.
 use mathlib.Core.Path.{_≡_, refl, sym, ap, _∙_}
 use mathlib.Core.Bool.{Bool, true, false, _&&_, not}
 use mathlib.Core.List.{List}

@@ -79,6 +79,7 @@ fn lengths_admitted(
     code_key.len() == 16
 }
 
+// The number in a wider type.
 pub fn wide(x: u32) -> usize
     ensures { λ r. ⌜ r ≡ x ⌝ }
 {

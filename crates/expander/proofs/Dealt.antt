@@ -66,7 +66,7 @@ module _ (I : Input) (A : Admitted I) where
   value-at : (i : ℕ) → i < I .trees → noiseEnd.value (noisePart I) i ≡ value I i
   unfolding noiseTree
   value-at i h =
-      ap (λ t. field I .noiseValues .read (t .value ∷ []) 0) (tree-at i h) ∙ sym (laws .scalar-read (I .values) i)
+      ap (λ t. field I .noiseValues .read (t .value ∷ []) 0) (tree-at i h) ∙ sym (laws .noise-read (I .values) i)
 
   correction-at : (i : ℕ) → i < I .trees → noiseEnd.correction (noisePart I) i ≡ treeCorrection I i
   unfolding noiseTree

@@ -12,8 +12,8 @@ binaryKindLaws =
       field = binaryLaws;
       leaf-element = λ s. refl;
       coefficient-element = λ w. refl;
-      scalar-width = refl;
-      scalar-read = λ l k. refl;
+      noise-width = refl;
+      noise-read = λ l k. refl;
     }
 
 pub primeKindLaws : KindLaws primeKind
@@ -22,8 +22,8 @@ primeKindLaws =
       field = primeLaws;
       leaf-element = λ s. reduce-element (lowOf s);
       coefficient-element = reduce-element;
-      scalar-width = refl;
-      scalar-read = λ l k. refl;
+      noise-width = refl;
+      noise-read = λ l k. refl;
     }
 
 pub kindLaws : (n : ℕ) → KindLaws (kindOf n)

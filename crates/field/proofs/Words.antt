@@ -3,7 +3,7 @@ use mathlib.Core.Path.{_≡_, refl, sym, ap, _∙_}
 use mathlib.Core.List.{List, [], _∷_, append-assoc}
 use Prim.Native.Nat.{ℕ, suc, _+_, _*_, _<_, _≤_}
 use native.Mathlib.Omega.{arith}
-use native.Mathlib.Nat.{mul-one, mul-comm}
+use native.Mathlib.Nat.{mul-one}
 use native.Mathlib.Numerals.{add-one}
 use lib.ListN.{length, getD, take, drop, set}
 use lib.Seq.{drop-cons, set-split, sets-eq, getD-append-seam, getD-append-add}
@@ -40,13 +40,6 @@ module _ {A : Type 0} (low high : A → ℕ) (make : ℕ → ℕ → A) where
             rw (back-low, back-high, add-one, drop-cons l k 0 (omega arith), drop-cons l (suc k) 0 (omega arith));
       }
 
-  -- value i is words 2 i and 2 i + 1
-  pub at-two : (l : List ℕ) (i : ℕ) → at (twoWords low high make) l i ≡ make (getD l (i * 2) 0) (getD l (i * 2 + 1) 0)
-  at-two l i = refl
-
-  pub at-two-left : (l : List ℕ) (i : ℕ) → at (twoWords low high make) l i ≡ make (getD l (2 * i) 0) (getD l (2 * i + 1) 0)
-  at-two-left l i = rw (mul-comm i 2)
-
   -- replacing value i is storing its two words
   pub put-two : (l : List ℕ) (i : ℕ) (a : A) → i * 2 + 2 ≤ length l
       → put (twoWords low high make) l i a ≡ set (set l (i * 2) (low a)) (i * 2 + 1) (high a)
@@ -55,7 +48,3 @@ module _ {A : Type 0} (low high : A → ℕ) (make : ℕ → ℕ → A) where
       sym (append-assoc (take (i * 2) l) (low a ∷ high a ∷ []) (drop (i * 2 + 2) l))
       ∙ sym (sets-eq (low a ∷ high a ∷ []) l (i * 2) h)
       ∙ rw add-one
-
-  pub put-two-left : (l : List ℕ) (i : ℕ) (a : A) → 2 * i + 2 ≤ length l
-      → put (twoWords low high make) l i a ≡ set (set l (2 * i) (low a)) (2 * i + 1) (high a)
-  put-two-left l i a h = rw (mul-comm 2 i) (put-two l i a (omega arith))

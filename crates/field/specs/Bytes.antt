@@ -40,7 +40,7 @@ unfoldable pub columnsOf : ℕ → ℕ → List (List ℕ)
 columnsOf low high =
     leBytes 4 low ∷ leBytes 4 (low / 4294967296) ∷ leBytes 4 high ∷ leBytes 4 (high / 4294967296) ∷ []
 
--- the bytes of a column
+-- the four bytes of column c, before others
 abbrev pub fourOf : List (List ℕ) → ℕ → List ℕ → List ℕ
 fourOf columns c rest =
     getD (getD columns c []) 0 0 ∷ getD (getD columns c []) 1 0 ∷ getD (getD columns c []) 2 0 ∷ getD (getD columns c []) 3 0 ∷ rest

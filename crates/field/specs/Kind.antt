@@ -33,5 +33,5 @@ pub record KindLaws (K : Kind) : Type 0 where
   pub field : FieldLaws (K .field)
   pub leaf-element : (s : List (List ℕ)) → Element (K .field .scaled .group) (K .leaf s)
   pub coefficient-element : (word : ℕ) → Element (K .field .ring .group) (K .coefficient word)
-  pub scalar-width : K .field .noiseValues .width ≡ 1
-  pub scalar-read : (l : List ℕ) (k : ℕ) → K .field .noiseValues .read l k ≡ K .field .noiseValues .read (getD l k 0 ∷ []) 0
+  pub noise-width : K .field .noiseValues .width ≡ 1
+  pub noise-read : (l : List ℕ) (k : ℕ) → K .field .noiseValues .read l k ≡ K .field .noiseValues .read (getD l k 0 ∷ []) 0

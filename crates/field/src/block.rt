@@ -1,6 +1,5 @@
 // Field 1: blocks of two words, and the bits that scale them.
 ghost use mathlib.Core.Path.{_≡_};
-ghost use Prim.Native.Nat.{ℕ};
 ghost use Rattle.field.specs.Bytes.{columnsOf};
 ghost use Rattle.field.specs.Binary.{blockZero, blockAdd, blockSub, blockScale, blockLeaf, bitAdd};
 use crate::bytes::high_word;
@@ -48,11 +47,7 @@ impl Block {
     pub fn scale(self, bit: u64) -> Block
         ensures { λ r. ⌜ r ≡ blockScale bit self ⌝ }
     {
-        if bit == 1 {
-            self
-        } else {
-            Block { low: 0, high: 0 }
-        }
+        if bit == 1 { self } else { Block::ZERO }
     }
 
     // The element of a leaf: its 16 bytes.

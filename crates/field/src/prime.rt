@@ -1,6 +1,6 @@
 // Field 2: words below p = 2^61 − 1.
 ghost use mathlib.Core.Path.{_≡_};
-ghost use Prim.Native.Nat.{ℕ, _<_, _*_, _%_, _+_, _/_, _≤_};
+ghost use Prim.Native.Nat.{_<_, _*_, _%_, _+_, _/_, _≤_};
 ghost use Rattle.field.specs.Prime.{modulus, prime, primeZero, primeOne, primeReduce, primeAdd, primeSub, primeMul, primeLeaf};
 use crate::bytes::low_word;
 

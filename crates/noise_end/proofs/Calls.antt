@@ -1,4 +1,4 @@
--- Each way out of the two calls gives what the definition says there: what was read, and which tests were passed before it.
+-- Each return of the two calls gives what the definition says there: what was read, and which tests were passed before it.
 use mathlib.Core.Path.{_≡_, refl, sym, _∙_}
 use mathlib.Core.Bool.{Bool, true, false, _&&_, _||_, not}
 use mathlib.Core.List.{List, _++_}
@@ -33,7 +33,7 @@ use Rattle.noise_end.specs.Vectors.{mu, v0}
 use Rattle.noise_end.specs.Offline as off
 use Rattle.noise_end.specs.Online as on
 use Rattle.noise_end.specs.Online.{Lent, rowsOutcome}
-use Rattle.noise_end.specs.Steps.{Fitting, TreesFit, treesAt, noiseExpansion, vExpansion, uOutputAt, outputAt, uOver, vOver, noiseUsed, lengthsNumber}
+use Rattle.noise_end.specs.Steps.{Fitting, TreesFit, treesAt, noiseExpansion, vExpansion, uOutputAt, vOutputAt, uOver, vOver, noiseUsed, lengthsNumber}
 use Rattle.noise_end.specs.Ready.{contentOf, Ready}
 use Rattle.noise_end.proofs.Content.{ready, refused-is}
 use Rattle.noise_end.proofs.Steps.{every-both}
@@ -142,7 +142,7 @@ u-words s f first count noise v uOut vOut = refl
 v-words : (s : List ℕ) (f : Front) (first count : ℕ) (noise v uOut vOut : List ℕ)
     → vOver (kindOf (f .field)) (keyExpansion (columnsAt (blockAt s (f .body - 16)) 0)) (2 ^ f .depth) (f .terms) first count v vOut
     ≡ on.filled (headOf s f) (lent s noise v uOut vOut) first count .vOut
-unfolding vOver outputAt on.filled
+unfolding vOver vOutputAt on.filled
 v-words s f first count noise v uOut vOut = refl
 
 module _ (s noise v uOut vOut : List ℕ) (first count : ℕ) {r : Opened} (opens : opened s r ≡ frontOf (readNoise s) (readHead 1 s)) where
@@ -154,7 +154,7 @@ module _ (s noise v uOut vOut : List ℕ) (first count : ℕ) {r : Opened} (open
       → o ≡ on.online (lent s noise v uOut vOut) first count
   online-opened e q = q ∙ sym (online-whole (lent s noise v uOut vOut) first count (ready s opens e .read))
 
--- the tests of lengths, one law a way out
+-- the tests of lengths, one law for each return
 module _ (f : Front) (depth : f .depth ≤ 16) (outputs : f .outputs ≤ 32768) (noise vector first count uRoom room : ℕ)
     {size : ℕ} (se : size ≡ 2 ^ f .depth) where
   pub wrong-noise : (noise ≡ size → ⊥) → 3 ≡ lengthsNumber f noise vector first count uRoom room

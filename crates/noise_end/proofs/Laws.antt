@@ -57,7 +57,7 @@ short P noise v = ltb (length noise) (places (P .head)) || ltb (length v) (vWord
 
 -- a noise value takes one word
 pub one-word : (h : Head) (n : ℕ) → n * fieldOf h .noiseValues .width ≡ n
-one-word h n = ap (λ w. n * w) (kindLaws (h .field) .scalar-width) ∙ mul-one n
+one-word h n = ap (λ w. n * w) (kindLaws (h .field) .noise-width) ∙ mul-one n
 
 expand-accepted : (P : NoisePart) (source noise v : List ℕ) → short P noise v ≡ false → Accepted P source (expand P source noise v)
 unfolding expand

@@ -81,18 +81,18 @@ pub prime-stores : Stores primeKind
 prime-stores l p x h = sym (put-one (λ a. a .word) prime l p (prime x) h)
 
 -- noise values as the elements of a field
-abbrev scalarField : Field → Field
-scalarField F = record { ring = F .ring; scaled = itself (F .ring); noiseValues = F .noiseValues; elements = F .noiseValues }
+abbrev noiseField : Field → Field
+noiseField F = record { ring = F .ring; scaled = itself (F .ring); noiseValues = F .noiseValues; elements = F .noiseValues }
 
-scalar-laws : (F : Field) → FieldLaws F → FieldLaws (scalarField F)
-scalar-laws F L = record { ring = L .ring; scaled = itself-laws (F .ring) (L .ring); noiseValues = L .noiseValues; elements = L .noiseValues }
+noise-laws : (F : Field) → FieldLaws F → FieldLaws (noiseField F)
+noise-laws F L = record { ring = L .ring; scaled = itself-laws (F .ring) (L .ring); noiseValues = L .noiseValues; elements = L .noiseValues }
 
 module _ (K : Kind) (L : KindLaws K) (depth : ℕ) (ts : List NoiseTree) where
   length-noise : (i : ℕ) {w : List ℕ} → w ≡ Noise K depth ts i → length w ≡ 2 ^ depth
   unfolding Noise
   length-noise i e =
       ap length e ∙ length-flat (K .field .noiseValues) (L .field .noiseValues) (2 ^ depth) (noise (K .field .ring) i (λ k. treeIn ts k .position) (valueIn K ts))
-      ∙ ap (λ (n : ℕ). 2 ^ depth * n) (L .scalar-width) ∙ mul-one (2 ^ depth)
+      ∙ ap (λ (n : ℕ). 2 ^ depth * n) (L .noise-width) ∙ mul-one (2 ^ depth)
 
   noise-below : (i : ℕ) {w : List ℕ} → w ≡ Noise K depth ts i → (p : ℕ) → p < 2 ^ depth → p < length w
   noise-below i e p h = omega (arith, length-noise i e)
@@ -101,8 +101,8 @@ module _ (K : Kind) (L : KindLaws K) (depth : ℕ) (ts : List NoiseTree) where
       → {n : ℕ} {w : List ℕ} → w ≡ replicate n 0 → n ≡ 2 ^ depth → w ≡ Noise K depth ts 0
   unfolding Noise noise treesSum
   noise-none zeros z h =
-      trees-none (scalarField (K .field)) (scalar-laws (K .field) (L .field)) (2 ^ depth) (λ k j. K .field .ring .group .zero) zeros z
-      (h ∙ sym (ap (λ (n : ℕ). 2 ^ depth * n) (L .scalar-width) ∙ mul-one (2 ^ depth)))
+      trees-none (noiseField (K .field)) (noise-laws (K .field) (L .field)) (2 ^ depth) (λ k j. K .field .ring .group .zero) zeros z
+      (h ∙ sym (ap (λ (n : ℕ). 2 ^ depth * n) (L .noise-width) ∙ mul-one (2 ^ depth)))
       ∙ flat-cong (K .field .noiseValues) (L .field .noiseValues) (2 ^ depth) _ _ (λ j b. sum-none (K .field .ring .group) (λ k. K .field .ring .group .zero))
 
   noise-stored : Stores K → (i : ℕ) {w : List ℕ} → w ≡ Noise K depth ts i → (s : List ℕ) (field : ℕ) (t : Tree) → treeIn ts i ≡ treeOf s field depth t
@@ -232,7 +232,7 @@ module _ {K : Kind} (L : KindLaws K) {field depth trees : ℕ} {s : List ℕ} wh
         → {n : ℕ} → n ≡ 2 ^ depth → length next ≡ n
     same-noise q e =
         ap length q ∙ length-flat (K .field .noiseValues) (L .field .noiseValues) (length w) _
-        ∙ ap (λ (k : ℕ). length w * k) (L .scalar-width) ∙ mul-one (length w) ∙ length-noise K L depth ts i (g .noise) ∙ sym e
+        ∙ ap (λ (k : ℕ). length w * k) (L .noise-width) ∙ mul-one (length w) ∙ length-noise K L depth ts i (g .noise) ∙ sym e
 
     pub same-v : (m : ℕ) {next : List ℕ} → next ≡ flat (K .field .elements) m (accumulate (K .field .scaled .group) (at (K .field .elements) v))
         → length v ≡ m * K .field .elements .width → {n : ℕ} → n ≡ 2 ^ depth * K .field .elements .width → length next ≡ n

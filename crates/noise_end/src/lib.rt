@@ -1,7 +1,7 @@
 // The noise end's calls: offline writes the accumulated μ and v0, online a window of u and v. A refused call writes nothing.
 ghost use mathlib.Core.Path.{_≡_};
 ghost use Rattle.noise_end.specs.Offline.{expanded, offline};
-ghost use Rattle.noise_end.specs.Online.{Lent, outcome, online};
+ghost use Rattle.noise_end.specs.Online.{outcome, online};
 
 mod expansion;
 mod window;

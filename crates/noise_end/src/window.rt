@@ -8,7 +8,7 @@ ghost use Rattle.rows.specs.Testing.{Testing};
 ghost use Rattle.rows.specs.Words.{elementWidth};
 ghost use Rattle.noise_end.specs.Steps.{Fitting, noiseUsed, uOver, vOver, lengthsNumber};
 ghost use Rattle.record.specs.Reading.{headOf};
-ghost use Rattle.noise_end.specs.Online.{Lent, outcome, rowsOutcome, window};
+ghost use Rattle.noise_end.specs.Online.{outcome, rowsOutcome, window};
 ghost use Rattle.noise_end.specs.Ready.{Ready};
 use answer::BAD_LENGTH;
 use answer::BUFFER_SHORT;

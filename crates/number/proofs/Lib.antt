@@ -1,3 +1,4 @@
+-- The laws of `number`.
 pub mod Laws
 pub mod Places
 mod Steps

@@ -1,4 +1,4 @@
--- Each way out of `read_number`, `number_length` and `write_number` gives what the definitions say there: one law a way,
+-- Each return of `read_number`, `number_length` and `write_number` gives what the definitions say there: one law a way,
 -- from the tests that lead to it. Assumes nothing.
 use Prim.Native.Nat.{ℕ, _+_, _-_, _*_, _/_, _%_, _≤_, _<_}
 use mathlib.Core.List.{List}

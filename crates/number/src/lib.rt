@@ -27,6 +27,7 @@ pub fn fault_of(r: Number) -> u32
     }
 }
 
+// The number in a wider type.
 fn wide(x: u8) -> usize
     ensures { λ r. ⌜ (r ≡ x) × (r < 256) ⌝ }
 {

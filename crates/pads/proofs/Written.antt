@@ -3,16 +3,14 @@
 use mathlib.Core.Path.{_≡_, refl, sym, ap, _∙_}
 use mathlib.Core.Logic.{⊎-elim}
 use mathlib.Core.List.{List, [], _∷_, _++_, append-assoc}
-use Prim.Native.Nat.{ℕ, zero, suc, _+_, _*_, _≤_, _<_, min}
-use native.Mathlib.Nat.{eq-or-lt-of-le, le-of-suc-le-suc, mul-comm}
+use Prim.Native.Nat.{ℕ, zero, suc, _+_, _*_, _≤_, _<_}
+use native.Mathlib.Nat.{eq-or-lt-of-le, le-of-suc-le-suc}
 use native.Mathlib.Omega.{arith}
-use lib.ListN.{length, set, take, drop, length-append, length-take, length-drop}
-use lib.Seq.{sets, sets-eq, take-at, drop-at, take-take, take-add, take-append-seam, drop-append-seam, drop-append-add, drop-drop}
+use lib.ListN.{length, set, drop, length-append, length-drop}
+use lib.Seq.{sets, sets-eq, take-append-seam, drop-append-seam, drop-append-add, drop-drop}
 use Rattle.algebra.specs.Coding.{Coding, at, flat, over}
 use Rattle.field.specs.declared.block.Block.{Block}
-use Rattle.field.specs.Bytes.{leBytes, leNumber, withWord}
-use Rattle.field.proofs.ByteWords.{length-leBytes, leNumber-leBytes-word, wordAt-take}
-use Rattle.field.proofs.BinaryField.{block-eq}
+use Rattle.field.specs.Bytes.{leBytes, withWord}
 use Rattle.pads.specs.Bytes.{Messages, blockBytes, messageBytes, withBlock, withMessages}
 
 -- every value has as many words as the coding's width
@@ -87,25 +85,3 @@ pub two-blocks : (l : List ℕ) (at : ℕ) (m : Messages)
     → withBlock (withBlock l at (m .message0)) (at + 16) (m .message1) ≡ withMessages l at m
 unfolding withBlock withMessages leBytes
 two-blocks l at m = sym (sets-append l at (blockBytes .words (m .message0)) (blockBytes .words (m .message1)))
-
--- where a block's bytes are lent as those of output k, it is what is read there
-pub lent-block : (l : List ℕ) (k : ℕ) (b : Block) → b .low < 18446744073709551616 → b .high < 18446744073709551616
-    → take 16 (drop (16 * k) l) ≡ blockBytes .words b → at blockBytes l k ≡ b
-lent-block l k b lo hi e =
-    let L : List ℕ = leBytes 8 (b .low) in
-    let H : List ℕ = leBytes 8 (b .high) in
-    let X : List ℕ = drop (k * 16) l in
-    let same : take 16 X ≡ L ++ H = rw (mul-comm k 16) e in
-    let size : min 16 (length X) ≡ 16 = sym (length-take 16 X) ∙ ap length same ∙ wide-block b in
-    let room : k * 16 + 16 ≤ length l = omega (arith, length-drop (k * 16) l) in
-    let front : take 8 X ≡ L =
-    sym (take-take 8 16 X (omega arith)) ∙ ap (take 8) same ∙ take-at L H 8 (length-leBytes 8 (b .low)) in
-    let back : take 8 (drop 8 X) ≡ H =
-    sym (drop-at (take 8 X) (take 8 (drop 8 X)) 8 (ap length front ∙ length-leBytes 8 (b .low)))
-    ∙ ap (drop 8) (sym (take-add 8 8 X) ∙ same)
-    ∙ drop-at L H 8 (length-leBytes 8 (b .low)) in
-    block-eq
-    (wordAt-take l (k * 16) (omega arith) ∙ ap leNumber front ∙ leNumber-leBytes-word (b .low) lo)
-    (wordAt-take l (k * 16 + 8) (omega arith)
-    ∙ ap leNumber (ap (take 8) (sym (drop-drop 8 (k * 16) l)) ∙ back)
-    ∙ leNumber-leBytes-word (b .high) hi)

@@ -26,8 +26,8 @@ pub fn write_pads(
 {
     let mut k: usize = 0;
     while k < count {
-        let w = block_at(v, 16 * k);
-        let p = pad_of(sbox, mix, keys, first + k, w);
+        let b = block_at(v, 16 * k);
+        let p = pad_of(sbox, mix, keys, first + k, b);
         put_block(pads, 16 * k, p);
         k += 1;
     }

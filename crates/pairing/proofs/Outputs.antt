@@ -90,7 +90,7 @@ module _ {s t : List ℕ} {field outputs : ℕ} (A : Paired s t field outputs) w
         noise-accepted .first
         ∙ sym (ap length (noise-accepted .noise)
         ∙ length-flat (fieldOf (A .P .head) .noiseValues) (kindLaws (A .P .head .field) .field .noiseValues) (places (A .P .head)) _
-        ∙ ap (λ (w : ℕ). places (A .P .head) * w) (kindLaws (A .P .head .field) .scalar-width) ∙ mul-one (places (A .P .head)))
+        ∙ ap (λ (w : ℕ). places (A .P .head) * w) (kindLaws (A .P .head .field) .noise-width) ∙ mul-one (places (A .P .head)))
 
     pub noise-in : r .first ≤ length n
     noise-in = front-in (r .first) n noise-front

@@ -45,15 +45,15 @@ fn held_at(field: usize, delta: &[u64], u: &[u64], v: &[u64], w: &[u64], x: usiz
             low: delta[0],
             high: delta[1],
         };
-        let right = Block {
+        let v_at = Block {
             low: v[low],
             high: v[low + 1],
         };
-        let left = Block {
+        let w_at = Block {
             low: w[low],
             high: w[low + 1],
         };
-        return block_holds(scalar, u[x], right, left);
+        return block_holds(scalar, u[x], v_at, w_at);
     }
     prime_holds(
         Prime { word: delta[0] },

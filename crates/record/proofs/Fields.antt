@@ -1,4 +1,4 @@
--- Each way out of the functions that read one field gives what the definition says there: one law a way, from the tests
+-- Each return of the functions that read one field gives what the definition says there: one law a way, from the tests
 -- that lead to it. Assumes nothing.
 use Prim.Native.Nat.{ℕ, _+_, _-_, _*_, _%_, _^_, _≤_, _<_}
 use mathlib.Core.Bool.{Bool, true, false, _&&_}

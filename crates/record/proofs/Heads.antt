@@ -1,4 +1,4 @@
--- Each way out of `read_sizes` and `read_head` gives what the definition says there: the fields that were read before it, and which case the
+-- Each return of `read_sizes` and `read_head` gives what the definition says there: the fields that were read before it, and which case the
 -- last one was. Assumes nothing.
 use Prim.Native.Nat.{ℕ, _+_, _-_, _/_, _^_, _≤_, min}
 use mathlib.Core.List.{List}

@@ -1,12 +1,12 @@
 -- Items of one size one after the other: reading them, and that what stands at their places is their writing. Assumes nothing.
-use Prim.Native.Nat.{ℕ, zero, suc, _+_, _*_, _≤_, _<_}
+use Prim.Native.Nat.{ℕ, zero, suc, _+_, _*_, _≤_}
 use mathlib.Core.List.{List, [], _∷_}
 use mathlib.Core.Path.{_≡_, refl, sym, ap, _∙_, subst}
 use borrow.Author.Tests.{le-leb, leb-true}
 use native.Mathlib.Nat.{mul-zero, mul-suc}
 use native.Mathlib.Omega.{arith}
 use lib.Dec.{leb}
-use lib.ListN.{length, getD, length-append}
+use lib.ListN.{length, length-append}
 use Rattle.number.proofs.Places.{choose-whole, has-front, has-back, has-next}
 use Rattle.number.specs.Reading.{Whole, Has}
 use Rattle.record.specs.Admitted.{Each}
@@ -26,14 +26,6 @@ module _ {A : Type 0} (item : List ℕ → ℕ → A) (size : ℕ) where
   unfolding items
   length-items s at zero = refl
   length-items s at (suc n) = ap suc (length-items s (at + size) n)
-
-  -- item i
-  pub items-at : (s : List ℕ) (at n i : ℕ) (d : A) → i < n → getD (items item size s at n) i d ≡ item s (at + size * i)
-  unfolding items
-  items-at s at zero i d h = absurd (omega arith)
-  items-at s at (suc n) zero d h = ap (item s) {x = at} {y = at + size * 0} (omega (arith, mul-zero size))
-  items-at s at (suc n) (suc i) d h =
-      items-at s (at + size) n i d (omega arith) ∙ ap (item s) {x = at + size + size * i} {y = at + size * suc i} (omega (arith, mul-suc size i))
 
   -- an item that is written in `size` bytes
   module _ (write : A → List ℕ) (Ok : A → Type 0) (long : (x : A) → Ok x → length (write x) ≡ size) where

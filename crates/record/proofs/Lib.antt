@@ -1,3 +1,4 @@
+-- The laws of `record`.
 mod Again
 pub mod Callers
 pub mod Exact

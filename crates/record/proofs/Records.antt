@@ -1,4 +1,4 @@
--- `read_noise` and `read_scalar`: what is left to read is the answer, turn by turn, and at each way out. Assumes nothing.
+-- `read_noise` and `read_scalar`: what is left to read is the answer, turn by turn, and at each return. Assumes nothing.
 use Prim.Native.Nat.{ℕ, suc, _+_, _-_, _*_, _^_, _≤_, _<_}
 use mathlib.Core.Bool.{Bool, true, false}
 use mathlib.Core.List.{List, _∷_}

@@ -1,4 +1,4 @@
--- Each way out of `read_tree` gives what the definition says there. Assumes nothing.
+-- Each return of `read_tree` gives what the definition says there. Assumes nothing.
 use Prim.Native.Nat.{ℕ, _*_, _^_}
 use mathlib.Core.List.{List}
 use mathlib.Core.Path.{_≡_, refl, sym, ap, _∙_}

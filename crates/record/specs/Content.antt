@@ -13,7 +13,7 @@ pub record Head : Type 0 where
   pub outputs : ℕ
   pub codeKey : List ℕ
 
--- the head of these
+-- the head of field, d, t, ℓ, n and code key
 abbrev pub headWith : ℕ → ℕ → ℕ → ℕ → ℕ → List ℕ → Head
 headWith field depth trees terms outputs codeKey =
     record { field = field; depth = depth; trees = trees; terms = terms; outputs = outputs; codeKey = codeKey }

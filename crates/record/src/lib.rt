@@ -6,17 +6,14 @@ mod noise;
 mod scalar;
 mod writing;
 
-pub use element::element_length;
 pub use head::leaves;
 pub use noise::known_tree;
 pub use noise::read_noise;
 pub use scalar::read_scalar;
 pub use writing::front_length;
-pub use writing::head_length;
 pub use writing::noise_length;
 pub use writing::scalar_length;
 pub use writing::write_bytes;
-pub use writing::write_element;
 pub use writing::write_front;
 pub use writing::write_head;
 pub use writing::write_scalar;

@@ -1,3 +1,4 @@
+-- The laws of `sbox`.
 mod Every
 mod Rules
 pub mod Inverse

@@ -1,4 +1,4 @@
--- Each way out of the two calls gives what the definition says there: what was read, and which tests were passed before it.
+-- Each return of the two calls gives what the definition says there: what was read, and which tests were passed before it.
 use mathlib.Core.Path.{_≡_, refl, sym, ap, _∙_}
 use mathlib.Core.Bool.{Bool, true, false, not}
 use mathlib.Core.List.{List, [], _∷_, _++_}

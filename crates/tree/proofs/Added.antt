@@ -8,7 +8,7 @@ use lib.ListN.{length, take, drop, length-drop}
 use lib.Seq.{take-take, drop-drop, length-take-le}
 use Rattle.algebra.specs.Coding.{Coding, CodingLaws, at}
 use Rattle.algebra.specs.Field.{Field, FieldLaws, Value}
-use Rattle.algebra.proofs.Coding.{length-flat, flat-cong, flat-add, at-flat, read-local}
+use Rattle.algebra.proofs.Coding.{length-flat, flat-cong, flat-add, read-local}
 use Rattle.tree.specs.Added.{added}
 
 -- what lies within the front n is not cut by it
@@ -43,11 +43,6 @@ module _ (F : Field) (laws : FieldLaws F) where
   pub length-added : (n : ℕ) (f : ℕ → Value F) (l : List ℕ) → length (added F n f l) ≡ n * F .elements .width
   unfolding added
   length-added n f l = length-flat (F .elements) (laws .elements) n (λ j. F .scaled .group .add (at (F .elements) l j) (f j))
-
-  pub at-added : (n : ℕ) (f : ℕ → Value F) (l : List ℕ) (j : ℕ) → j < n
-      → at (F .elements) (added F n f l) j ≡ F .scaled .group .add (at (F .elements) l j) (f j)
-  unfolding added
-  at-added n f l j h = at-flat (F .elements) (laws .elements) n (λ i. F .scaled .group .add (at (F .elements) l i) (f i)) j h
 
   pub added-cong : (n : ℕ) (f g : ℕ → Value F) (l : List ℕ) → ((j : ℕ) → j < n → f j ≡ g j) → added F n f l ≡ added F n g l
   unfolding added

@@ -1,14 +1,13 @@
 -- Blocks in bytes: what is written and what is read back.
 use mathlib.Core.Path.{_≡_, refl, ap, sym, _∙_}
-use mathlib.Core.List.{List, [], _∷_, _++_, append-assoc}
-use Prim.Native.Nat.{ℕ, zero, suc, _+_, _*_, _≤_, _<_}
+use mathlib.Core.List.{List, [], _∷_, _++_}
+use Prim.Native.Nat.{ℕ, zero, suc, _+_, _*_, _<_}
 use native.Mathlib.Nat.{add-assoc, add-zero}
 use native.Mathlib.Omega.{arith}
-use lib.ListN.{length, getD, set, take, drop, length-append, List·getD-append}
-use lib.Seq.{sets, sets-eq, getD-append-add, length-take-le}
-use Rattle.aes128.specs.State.{four, column, byteAt, xorWord, xorState, IsState}
-use Rattle.tree.specs.Columns.{columnsAt, columnBytes, blockBytes, blocksBytes, siblingsAt}
-use Rattle.tree.proofs.Laws.{Each}
+use lib.ListN.{length, getD, set, length-append, List·getD-append}
+use lib.Seq.{sets, getD-append-add}
+use Rattle.aes128.specs.State.{four, column, byteAt, xorWord, xorState}
+use Rattle.tree.specs.Columns.{columnsAt, columnBytes, blockBytes, blocksBytes}
 
 pub two-eq : {A : Type 0} {a b x y : A} → a ≡ x → b ≡ y → a ∷ b ∷ [] ≡ x ∷ y ∷ []
 two-eq p q = cc
@@ -56,9 +55,6 @@ pub record Square (s : List (List ℕ)) : Type 0 where
   pub size : length s ≡ 4
   pub columns : (c : ℕ) → c < 4 → length (column s c) ≡ 4
 
-pub state-square : (s : List (List ℕ)) → IsState s → Square s
-state-square s h = record { size = h .size; columns = λ c l. h .words c l .size }
-
 is-four : {A : Type 0} (none : A) (l : List A) → length l ≡ 4 → four (λ i. getD l i none) ≡ l
 is-four none [] e = absurd (omega arith)
 is-four none (a ∷ []) e = absurd (omega arith)
@@ -96,25 +92,6 @@ columns-of p q at s e h =
 
     next : (j k : ℕ) → j + k < 16 → getD (p ++ (blockBytes s ++ q)) (at + j + k) 0 ≡ getD (blockBytes s) (j + k) 0
     next j k l = ap (λ i. getD (p ++ (blockBytes s ++ q)) i 0) (add-assoc at j k) ∙ here (j + k) l
-
--- the blocks that stand between p and q
-pub siblings-of : (p q : List ℕ) (at : ℕ) (xs : List (List (List ℕ))) → length p ≡ at → Each Square xs
-    → siblingsAt (p ++ (blocksBytes xs ++ q)) at (length xs) ≡ xs
-unfolding siblingsAt blocksBytes
-siblings-of p q at [] e h = refl
-siblings-of p q at (s ∷ xs) e h =
-    ap (λ l. columnsAt l at ∷ siblingsAt l (at + 16) (length xs)) (ap (λ l. p ++ l) (append-assoc (blockBytes s) (blocksBytes xs) q))
-    ∙ ap (λ t. t ∷ siblingsAt (p ++ (blockBytes s ++ (blocksBytes xs ++ q))) (at + 16) (length xs)) (columns-of p (blocksBytes xs ++ q) at s e (h .0))
-    ∙ ap (λ l. s ∷ siblingsAt l (at + 16) (length xs)) (sym (append-assoc p (blockBytes s) (blocksBytes xs ++ q)))
-    ∙ ap (λ l. s ∷ l) (siblings-of (p ++ blockBytes s) q (at + 16) xs (length-append p (blockBytes s) ∙ rw (e, length-block)) (h .1))
-
--- the blocks that were written at a place are read there
-pub siblings-written : (l : List ℕ) (at : ℕ) (xs : List (List (List ℕ))) → at + length xs * 16 ≤ length l → Each Square xs
-    → siblingsAt (sets l at (blocksBytes xs)) at (length xs) ≡ xs
-siblings-written l at xs h e =
-    let fits : at + length (blocksBytes xs) ≤ length l = rw length-blocks h in
-    ap (λ b. siblingsAt b at (length xs)) (sets-eq (blocksBytes xs) l at fits ∙ append-assoc (take at l) (blocksBytes xs) (drop (at + length (blocksBytes xs)) l))
-    ∙ siblings-of (take at l) (drop (at + length (blocksBytes xs)) l) at xs (length-take-le at l (omega arith)) e
 
 -- an exclusive or has four columns of four
 pub xor-square : (s t : List (List ℕ)) → Square (xorState s t)

@@ -1,22 +1,18 @@
 -- The child function under the two child keys: the round keys that are lent give it, its results are states, and its siblings
 -- are read back from their bytes.
-use mathlib.Core.Path.{_≡_, ap, sym, _∙_}
-use mathlib.Core.List.{List, _++_}
-use Prim.Native.Nat.{ℕ, zero, suc, _+_, _*_, _≤_, _<_}
+use mathlib.Core.Path.{_≡_, ap}
+use mathlib.Core.List.{List}
+use Prim.Native.Nat.{ℕ, zero, suc, _<_}
 use native.Mathlib.Omega.{arith}
-use lib.ListN.{length}
-use lib.Seq.{sets}
 use Rattle.algebra.specs.Field.{Field, FieldLaws, Value}
 use Rattle.aes128.specs.State.{xorState, IsState}
 use Rattle.aes128.specs.Cipher.{cipher, keyExpansion, aes}
 use Rattle.aes128.proofs.Sizes.{four-bytes, four-words, xor-state-is, aes-is}
 use Rattle.tree.specs.Tree.{leafAt, siblings}
 use Rattle.tree.specs.Child.{childKey, child, childBy}
-use Rattle.tree.specs.Columns.{blocksBytes, siblingsAt}
 use Rattle.tree.specs.Added.{leafElement, puncturedElement, added}
-use Rattle.tree.proofs.Laws.{Each, leaf-same, siblings-same, leaf-element-same, punctured-element-same, leaf-has, siblings-have, siblings-made, length-siblings}
+use Rattle.tree.proofs.Laws.{Each, leaf-same, siblings-same, leaf-element-same, punctured-element-same, leaf-has, siblings-have}
 use Rattle.tree.proofs.Added.{added-cong}
-use Rattle.tree.proofs.Blocks.{Square, xor-square, siblings-of, siblings-written}
 
 -- ---- the round keys of the child keys
 
@@ -66,22 +62,3 @@ pub siblings-states : (d : ℕ) (root : List (List ℕ)) (j : ℕ) → IsState r
 siblings-states = siblings-have child IsState child-state
 
 -- ---- siblings in bytes
-
-pub siblings-square : (d : ℕ) (root : List (List ℕ)) (j : ℕ) → Each Square (siblings child d root j)
-unfolding child
-siblings-square = siblings-made child Square (λ c s. xor-square (aes (childKey c) s) s)
-
--- the siblings that stand between p and q
-pub siblings-between : (p q : List ℕ) (at d : ℕ) (root : List (List ℕ)) (j : ℕ) → length p ≡ at
-    → siblingsAt (p ++ (blocksBytes (siblings child d root j) ++ q)) at d ≡ siblings child d root j
-siblings-between p q at d root j e =
-    ap (siblingsAt (p ++ (blocksBytes (siblings child d root j) ++ q)) at) (sym (length-siblings child d root j))
-    ∙ siblings-of p q at (siblings child d root j) e (siblings-square d root j)
-
--- the siblings that were written at a place
-pub siblings-stored : (l : List ℕ) (at d : ℕ) (root : List (List ℕ)) (j : ℕ) → at + 16 * d ≤ length l
-    → siblingsAt (sets l at (blocksBytes (siblings child d root j))) at d ≡ siblings child d root j
-siblings-stored l at d root j h =
-    let n = length-siblings child d root j in
-    ap (siblingsAt (sets l at (blocksBytes (siblings child d root j))) at) (sym n)
-    ∙ siblings-written l at (siblings child d root j) (rw n (omega arith)) (siblings-square d root j)

@@ -160,11 +160,6 @@ module _ {A : Type 0} (child : ℕ → A → A) where
           siblings-have kept d (child (bit d j) s) j (kept (bit d j) (bit-below d j) s p),
         )
 
-    -- what every child has, siblings have
-    pub siblings-made : ((b : ℕ) (s : A) → P (child b s)) → (d : ℕ) (s : A) (j : ℕ) → Each P (siblings child d s j)
-    siblings-made made zero s j = rw siblings-none tt
-    siblings-made made (suc d) s j = rw siblings-suc (made (1 - bit d j) s, siblings-made made d (child (bit d j) s) j)
-
 -- ---- two child functions that agree on 0 and 1
 
 module _ {A : Type 0} (f g : ℕ → A → A) (same : (c : ℕ) → c < 2 → (s : A) → f c s ≡ g c s) where

@@ -1,4 +1,4 @@
--- `dealing::deal` meets its contract: one law a way out. Assumes nothing.
+-- `dealing::deal` meets its contract: one law for each return. Assumes nothing.
 use mathlib.Core.Path.{_∙_}
 use native.Mathlib.Omega.{arith}
 use borrow.Author.Needs.{needs}

@@ -1,4 +1,4 @@
--- `number::number_length` meets its contract: one law a way out. Assumes nothing.
+-- `number::number_length` meets its contract: one law for each return. Assumes nothing.
 use Rattle.number.proofs.Steps.{one, two, three}
 use Rattle.number.proofs.number_length.Statement.{statement}
 use Rattle.number.proofs.number_length.Tie as tie

@@ -1,4 +1,4 @@
--- `number::read_number` meets its contract: one law a way out. Assumes nothing.
+-- `number::read_number` meets its contract: one law for each return. Assumes nothing.
 use Rattle.number.proofs.Steps.{ends-0, value-0, ends-1, zero-1, value-1, ends-2, zero-2, value-2, top-bit}
 use borrow.Author.Needs.{needs}
 use Rattle.number.proofs.read_number.Statement.{statement}

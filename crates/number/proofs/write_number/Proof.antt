@@ -1,4 +1,4 @@
--- `number::write_number` meets its contract: one law a way out, and the bytes a way takes, which its places ask. Assumes nothing.
+-- `number::write_number` meets its contract: one law for each return, and the bytes a way takes, which its places ask. Assumes nothing.
 use lib.ListN.{length-set}
 use Rattle.number.proofs.Steps.{room-1, room-2, room-3, wrote-1, wrote-2, wrote-3}
 use borrow.Author.Needs.{needs}

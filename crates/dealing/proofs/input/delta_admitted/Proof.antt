@@ -1,4 +1,4 @@
--- `dealing::input::delta_admitted` meets its contract: one law a way out. Assumes nothing.
+-- `dealing::input::delta_admitted` meets its contract: one law for each return. Assumes nothing.
 use borrow.Author.Needs.{needs}
 use Rattle.dealing.proofs.Tests.{delta-low, delta-high, delta-large, delta-zero, delta-last}
 use Rattle.dealing.proofs.input.delta_admitted.Statement.{statement}

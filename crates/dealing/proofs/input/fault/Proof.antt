@@ -1,4 +1,4 @@
--- `dealing::input::fault` meets its contract: one law a way out. Assumes nothing.
+-- `dealing::input::fault` meets its contract: one law for each return. Assumes nothing.
 use borrow.Author.Needs.{needs}
 use borrow.Author.Tests.{not-true, not-false}
 use Rattle.dealing.proofs.Tests.{passed-depth, passed-trees, passed-delta, fault-field, fault-sizes, fault-lengths, fault-positions, fault-values, fault-delta, fault-nothing}

@@ -1,4 +1,4 @@
--- `dealing::input::lengths_admitted` meets its contract: one law a way out. Assumes nothing.
+-- `dealing::input::lengths_admitted` meets its contract: one law for each return. Assumes nothing.
 use borrow.Author.Needs.{needs}
 use Rattle.dealing.proofs.Tests.{lengths-1, lengths-2, lengths-3, lengths-4, lengths-5}
 use Rattle.dealing.proofs.input.lengths_admitted.Statement.{statement}

@@ -1,4 +1,4 @@
--- `dealing::input::sizes_admitted` meets its contract: one law a way out. Assumes nothing.
+-- `dealing::input::sizes_admitted` meets its contract: one law for each return. Assumes nothing.
 use borrow.Author.Needs.{needs}
 use borrow.Author.Tests.{not-true, not-false}
 use Rattle.dealing.proofs.Tests.{sizes-depth, depth-most, sizes-trees, sizes-terms, sizes-last}

@@ -1,4 +1,4 @@
--- `noise_end::expansion::write_vectors` meets its contract: one law a way out. Assumes nothing.
+-- `noise_end::expansion::write_vectors` meets its contract: one law for each return. Assumes nothing.
 use borrow.Author.Needs.{needs}
 use Rattle.noise_end.proofs.Calls.{words-fit, front-length, trees-fit, short-noise, short-v, vectors-written}
 use Rattle.noise_end.proofs.expansion.write_vectors.Statement.{statement}

@@ -1,4 +1,4 @@
--- `noise_end::window::lengths_number` meets its contract: one law a way out. Assumes nothing.
+-- `noise_end::window::lengths_number` meets its contract: one law for each return. Assumes nothing.
 use borrow.Author.Needs.{needs}
 use Rattle.noise_end.proofs.Calls.{wrong-noise, vector-fits, wrong-length, window-past, short-u, count-fits, short-output, all-passed}
 use Rattle.noise_end.proofs.window.lengths_number.Statement.{statement}

@@ -1,4 +1,4 @@
--- `noise_end::window::write_rows` meets its contract: one law a way out. Assumes nothing.
+-- `noise_end::window::write_rows` meets its contract: one law for each return. Assumes nothing.
 use borrow.Author.Needs.{needs}
 use Rattle.noise_end.proofs.Calls.{noise-testing, testing, filling, length-fits, noise-not-usable, not-usable, rows-written}
 use Rattle.noise_end.proofs.window.write_rows.Statement.{statement}

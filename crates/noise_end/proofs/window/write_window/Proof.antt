@@ -1,4 +1,4 @@
--- `noise_end::window::write_window` meets its contract: one law a way out. Assumes nothing.
+-- `noise_end::window::write_window` meets its contract: one law for each return. Assumes nothing.
 use borrow.Author.Needs.{needs}
 use Rattle.noise_end.proofs.Calls.{not-passed, fitting, rows-left}
 use Rattle.noise_end.proofs.window.write_window.Statement.{statement}

@@ -1,4 +1,4 @@
--- `record::element::read_correction` meets its contract: one law a way out. Assumes nothing.
+-- `record::element::read_correction` meets its contract: one law for each return. Assumes nothing.
 use Rattle.record.proofs.Fields.{has-room, place-fits, first-room, correction-ends-1, correction-1, correction-ends-2, correction-large, correction-2}
 use borrow.Author.Needs.{needs}
 use Rattle.record.proofs.element.read_correction.Statement.{statement}

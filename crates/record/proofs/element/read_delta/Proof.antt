@@ -1,4 +1,4 @@
--- `record::element::read_delta` meets its contract: one law a way out. Assumes nothing.
+-- `record::element::read_delta` meets its contract: one law for each return. Assumes nothing.
 use Rattle.record.proofs.Fields.{has-room, place-fits, first-room, second-room, second-fits, delta-ends-1, delta-low-1, delta-zero-1, delta-high-1, delta-ends-2, delta-zero-2, delta-large, delta-2}
 use borrow.Author.Needs.{needs}
 use Rattle.record.proofs.element.read_delta.Statement.{statement}

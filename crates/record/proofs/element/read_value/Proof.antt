@@ -1,4 +1,4 @@
--- `record::element::read_value` meets its contract: one law a way out. Assumes nothing.
+-- `record::element::read_value` meets its contract: one law for each return. Assumes nothing.
 use Rattle.record.proofs.Fields.{has-room, place-fits, value-one, value-ends, value-zero, value-large, value-two}
 use borrow.Author.Needs.{needs}
 use Rattle.record.proofs.element.read_value.Statement.{statement}

@@ -1,4 +1,4 @@
--- `record::head::read_field` meets its contract: one law a way out. Assumes nothing.
+-- `record::head::read_field` meets its contract: one law for each return. Assumes nothing.
 use Rattle.record.proofs.Fields.{field-ends-0, other-end, field-ends-1, field-1, field-2, field-unknown}
 use borrow.Author.Needs.{needs}
 use Rattle.record.proofs.head.read_field.Statement.{statement}

@@ -1,4 +1,4 @@
--- `record::head::read_size` meets its contract: one law a way out. Assumes nothing.
+-- `record::head::read_size` meets its contract: one law for each return. Assumes nothing.
 use Rattle.record.proofs.Fields.{size-fault, size-low, size-high, size-whole}
 use borrow.Author.Needs.{needs}
 use Rattle.record.proofs.head.read_size.Statement.{statement}

@@ -1,4 +1,4 @@
--- `record::head::read_sizes` meets its contract: one law a way out. Assumes nothing.
+-- `record::head::read_sizes` meets its contract: one law for each return. Assumes nothing.
 use Rattle.record.proofs.Heads.{size-most, sizes-fault-1, sizes-fault-2, sizes-fault-3, sizes-fault-4, sizes-fault-5, sizes-whole}
 use borrow.Author.Needs.{needs}
 use Rattle.record.proofs.head.read_sizes.Statement.{statement}

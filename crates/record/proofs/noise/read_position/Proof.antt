@@ -1,4 +1,4 @@
--- `record::noise::read_position` meets its contract: one law a way out. Assumes nothing.
+-- `record::noise::read_position` meets its contract: one law for each return. Assumes nothing.
 use Rattle.record.proofs.Fields.{position-fault, position-outside, position-whole}
 use borrow.Author.Needs.{needs}
 use Rattle.record.proofs.noise.read_position.Statement.{statement}

@@ -1,4 +1,4 @@
--- `record::noise::read_tree` meets its contract: one law a way out. Assumes nothing.
+-- `record::noise::read_tree` meets its contract: one law for each return. Assumes nothing.
 use Rattle.record.proofs.Trees.{tree-fault-0, tree-fault-1, tree-fault-2, tree-fault-3, tree-whole}
 use borrow.Author.Needs.{needs}
 use Rattle.record.proofs.noise.read_tree.Statement.{statement}

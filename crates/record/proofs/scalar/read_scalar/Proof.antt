@@ -1,4 +1,4 @@
--- `record::scalar::read_scalar` meets its contract: one law a way out. Assumes nothing.
+-- `record::scalar::read_scalar` meets its contract: one law for each return. Assumes nothing.
 use Rattle.record.proofs.Records.{scalar-refused, roots-fit, delta-refused, roots-refused, scalar-after, scalar-whole}
 use borrow.Author.Needs.{needs}
 use Rattle.record.proofs.scalar.read_scalar.Statement.{statement}

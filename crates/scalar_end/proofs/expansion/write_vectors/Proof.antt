@@ -1,4 +1,4 @@
--- `scalar_end::expansion::write_vectors` meets its contract: one law a way out. Assumes nothing.
+-- `scalar_end::expansion::write_vectors` meets its contract: one law for each return. Assumes nothing.
 use borrow.Author.Needs.{needs}
 use Rattle.scalar_end.proofs.Calls.{words-fit, front-length, roots-fit, short-w, short-delta, vectors-written}
 use Rattle.scalar_end.proofs.expansion.write_vectors.Statement.{statement}

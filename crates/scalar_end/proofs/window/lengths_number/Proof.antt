@@ -1,4 +1,4 @@
--- `scalar_end::window::lengths_number` meets its contract: one law a way out. Assumes nothing.
+-- `scalar_end::window::lengths_number` meets its contract: one law for each return. Assumes nothing.
 use borrow.Author.Needs.{needs}
 use Rattle.scalar_end.proofs.Calls.{vector-fits, count-fits, wrong-length, window-past, short-output, all-passed}
 use Rattle.scalar_end.proofs.window.lengths_number.Statement.{statement}

@@ -1,4 +1,4 @@
--- `scalar_end::window::write_rows` meets its contract: one law a way out. Assumes nothing.
+-- `scalar_end::window::write_rows` meets its contract: one law for each return. Assumes nothing.
 use borrow.Author.Needs.{needs}
 use Rattle.scalar_end.proofs.Calls.{length-fits, testing, filling, not-usable, rows-written}
 use Rattle.scalar_end.proofs.window.write_rows.Statement.{statement}

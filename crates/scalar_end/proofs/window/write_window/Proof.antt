@@ -1,4 +1,4 @@
--- `scalar_end::window::write_window` meets its contract: one law a way out. Assumes nothing.
+-- `scalar_end::window::write_window` meets its contract: one law for each return. Assumes nothing.
 use borrow.Author.Needs.{needs}
 use Rattle.scalar_end.proofs.Calls.{not-passed, fitting, rows-left}
 use Rattle.scalar_end.proofs.window.write_window.Statement.{statement}
