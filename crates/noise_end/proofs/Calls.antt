@@ -33,7 +33,8 @@ use Rattle.noise_end.specs.Vectors.{mu, v0}
 use Rattle.noise_end.specs.Offline as off
 use Rattle.noise_end.specs.Online as on
 use Rattle.noise_end.specs.Online.{Lent, rowsOutcome}
-use Rattle.noise_end.specs.Steps.{Fitting, TreesFit, treesAt, noiseExpansion, vExpansion, uOutputAt, vOutputAt, uOver, vOver, noiseUsed, lengthsNumber}
+use Rattle.noise_end.specs.Steps.{Fitting, TreesFit, treesAt, noiseExpansion, vExpansion, uOutputAt, uOver, noiseUsed, lengthsNumber}
+use Rattle.rows.specs.Window.{outputAt, windowOver}
 use Rattle.noise_end.specs.Ready.{contentOf, Ready}
 use Rattle.noise_end.proofs.Content.{ready, refused-is}
 use Rattle.noise_end.proofs.Steps.{every-both}
@@ -140,9 +141,9 @@ unfolding uOver uOutputAt on.filled
 u-words s f first count noise v uOut vOut = refl
 
 v-words : (s : List ℕ) (f : Front) (first count : ℕ) (noise v uOut vOut : List ℕ)
-    → vOver (kindOf (f .field)) (keyExpansion (columnsAt (blockAt s (f .body - 16)) 0)) (2 ^ f .depth) (f .terms) first count v vOut
+    → windowOver (kindOf (f .field)) (keyExpansion (columnsAt (blockAt s (f .body - 16)) 0)) (2 ^ f .depth) (f .terms) first count v vOut
     ≡ on.filled (headOf s f) (lent s noise v uOut vOut) first count .vOut
-unfolding vOver vOutputAt on.filled
+unfolding windowOver outputAt on.filled
 v-words s f first count noise v uOut vOut = refl
 
 module _ (s noise v uOut vOut : List ℕ) (first count : ℕ) {r : Opened} (opens : opened s r ≡ frontOf (readNoise s) (readHead 1 s)) where
@@ -286,7 +287,7 @@ module _ (s noise v uOut vOut : List ℕ) (first count : ℕ) (f : Front) {keys 
 
     pub rows-written : not b ≡ false → {width : ℕ} → width ≡ elementWidth (f .field)
         → {x : List ℕ} → x ≡ uOver (kindOf (f .field)) keys size (f .terms) first count noise uOut
-        → {y : List ℕ} → y ≡ vOver (kindOf (f .field)) keys size (f .terms) first count v vOut
+        → {y : List ℕ} → y ≡ windowOver (kindOf (f .field)) keys size (f .terms) first count v vOut
         → record { number = 0; first = count; second = count * width; lent = record { source = s; noise = noise; v = v; uOut = x; vOut = y } }
         ≡ rowsOutcome (headOf s f) (lent s noise v uOut vOut) first count
     unfolding rowsOutcome on.filled elementWidth

@@ -28,7 +28,8 @@ use Rattle.rows.proofs.Rows.{window-usable, row-output}
 use Rattle.noise_end.specs.Vectors.{mu, v0}
 use Rattle.noise_end.specs.Offline.{Expanded, refusal, vWords, expand, offline}
 use Rattle.noise_end.specs.Online as on
-use Rattle.noise_end.specs.Online.{Lent, Outcome, usable, uAt, vAt, filled, wrongLengths, pastEnd, tooShort, rowsOutcome, window, online}
+use Rattle.noise_end.specs.Online.{Lent, Outcome, usable, uAt, vAt, filled, wrongLengths, tooShort, rowsOutcome, window, online}
+use Rattle.rows.specs.Window.{pastEnd}
 
 -- ---- offline
 

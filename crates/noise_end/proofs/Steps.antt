@@ -16,13 +16,15 @@ use Rattle.field.specs.declared.block.Block.{Block}
 use Rattle.field.specs.declared.prime.Prime.{Prime}
 use Rattle.field.specs.Binary.{binary, bitRing, blocks}
 use Rattle.field.specs.Kind.{kindOf, binaryKind, primeKind}
-use Rattle.field.specs.Prime.{primes, primeRing, prime, modulus}
+use Rattle.field.specs.Prime.{primes, primeRing, modulus}
 use Rattle.field.proofs.BinaryField.{binaryLaws}
 use Rattle.field.proofs.PrimeField.{primeLaws}
+use Rattle.rows.specs.Window.{outputAt}
 use Rattle.rows.specs.Words.{elementWidth}
 use Rattle.rows.proofs.Widths.{width-binary, width-prime}
-use Rattle.rows.proofs.Windows.{Written, written-none, written-more, written-word, written-all}
-use Rattle.noise_end.specs.Steps.{Fitting, TreesFit, treesAt, noiseExpansion, vExpansion, uOutputAt, vOutputAt, uOver, vOver, noiseUsed}
+use Rattle.rows.proofs.Windows.{Written, written-none, written-word, written-all}
+use Rattle.rows.proofs.Filled.{binary-next, prime-next}
+use Rattle.noise_end.specs.Steps.{Fitting, TreesFit, treesAt, noiseExpansion, vExpansion, uOutputAt, uOver, noiseUsed}
 
 module _ (field size first count noise vector uRoom room : ℕ) (fits : Fitting (elementWidth field) size first count noise vector uRoom room) where
   pub fits-binary : field ≡ 1 → Fitting 2 size first count noise vector uRoom room
@@ -98,21 +100,11 @@ module _ (keys : List (List (List ℕ))) (size terms first count : ℕ) (w b : L
       → x ≡ uOver (kindOf field) keys size terms first count w b
   u-filled-binary field e q = rw e q
 
-  pub filled-binary : (field : ℕ) → field ≡ 1 → {x : List ℕ} → x ≡ vOver binaryKind keys size terms first count w b
-      → x ≡ vOver (kindOf field) keys size terms first count w b
-  filled-binary field e q = rw e q
-
   pub u-filled-prime : (field : ℕ) → (field ≡ 1 → ⊥) → {x : List ℕ} → x ≡ uOver primeKind keys size terms first count w b
       → x ≡ uOver (kindOf field) keys size terms first count w b
   u-filled-prime zero h q = q
   u-filled-prime (suc zero) h q = absurd (h refl)
   u-filled-prime (suc (suc n)) h q = q
-
-  pub filled-prime : (field : ℕ) → (field ≡ 1 → ⊥) → {x : List ℕ} → x ≡ vOver primeKind keys size terms first count w b
-      → x ≡ vOver (kindOf field) keys size terms first count w b
-  filled-prime zero h q = q
-  filled-prime (suc zero) h q = absurd (h refl)
-  filled-prime (suc (suc n)) h q = q
 
 -- ---- a window written one output a turn
 
@@ -132,50 +124,26 @@ module _ (keys : List (List (List ℕ))) (size terms first : ℕ) (w b : List �
   unfolding uOver
   u-binary-all = written-all (binary .noiseValues) (binaryLaws .noiseValues) (uOutputAt binaryKind keys size terms first w) b
 
-  pub binary-none : Written (binary .elements) (vOutputAt binaryKind keys size terms first w) b b 0
-  binary-none = written-none (binary .elements) (binaryLaws .elements) (vOutputAt binaryKind keys size terms first w) b
-
-  pub binary-more : {v next : List ℕ} {k count noise vector uRoom : ℕ} {x : Block} → Written (binary .elements) (vOutputAt binaryKind keys size terms first w) b v k
+  pub binary-more : {v next : List ℕ} {k count noise vector uRoom : ℕ} {x : Block} → Written (binary .elements) (outputAt binaryKind keys size terms first w) b v k
       → next ≡ put (binary .elements) v k x → x ≡ output blocks (binaryRow keys size terms (first + k)) (at (binary .elements) w)
       → k < count → Fitting 2 size first count noise vector uRoom (length b)
-      → Written (binary .elements) (vOutputAt binaryKind keys size terms first w) b next (k + 1)
-  unfolding vOutputAt
-  binary-more a p e h fits =
-      written-more (binary .elements) (binaryLaws .elements) (vOutputAt binaryKind keys size terms first w) b a e (omega (arith, a .size)) p
-
-  pub binary-all : {v : List ℕ} {k count : ℕ} → Written (binary .elements) (vOutputAt binaryKind keys size terms first w) b v k → k ≤ count → count ≤ k
-      → v ≡ vOver binaryKind keys size terms first count w b
-  unfolding vOver
-  binary-all = written-all (binary .elements) (binaryLaws .elements) (vOutputAt binaryKind keys size terms first w) b
+      → Written (binary .elements) (outputAt binaryKind keys size terms first w) b next (k + 1)
+  binary-more a p e h fits = binary-next keys size terms first w b a p e (omega arith)
 
   -- in field 2 noise values and elements are of one kind
-  pub prime-none : Written (primes .elements) (vOutputAt primeKind keys size terms first w) b b 0
-  prime-none = written-none (primes .elements) (primeLaws .elements) (vOutputAt primeKind keys size terms first w) b
-
-  pub prime-more : {v : List ℕ} {k : ℕ} {x : Prime} → Written (primes .elements) (vOutputAt primeKind keys size terms first w) b v k
-      → x ≡ output (itself primeRing) (primeRow keys size terms (first + k)) (at (primes .elements) w) → k < length b
-      → Written (primes .elements) (vOutputAt primeKind keys size terms first w) b (set v k (x .word)) (k + 1)
-  unfolding vOutputAt
-  prime-more a e h = written-word (λ x. x .word) prime (primeLaws .elements) (vOutputAt primeKind keys size terms first w) b a e (omega (arith, a .size))
-
-  pub u-prime-more : {v : List ℕ} {k count noise vector room : ℕ} {x : Prime} → Written (primes .elements) (vOutputAt primeKind keys size terms first w) b v k
+  pub u-prime-more : {v : List ℕ} {k count noise vector room : ℕ} {x : Prime} → Written (primes .elements) (outputAt primeKind keys size terms first w) b v k
       → x ≡ output (itself primeRing) (primeRow keys size terms (first + k)) (at (primes .noiseValues) w)
       → k < count → Fitting 1 size first count noise vector (length b) room
-      → Written (primes .elements) (vOutputAt primeKind keys size terms first w) b (set v k (x .word)) (k + 1)
-  u-prime-more a e h fits = prime-more a e (omega arith)
+      → Written (primes .elements) (outputAt primeKind keys size terms first w) b (set v k (x .word)) (k + 1)
+  u-prime-more a e h fits = prime-next keys size terms first w b a e (omega arith)
 
-  pub v-prime-more : {v : List ℕ} {k count noise vector uRoom : ℕ} {x : Prime} → Written (primes .elements) (vOutputAt primeKind keys size terms first w) b v k
+  pub v-prime-more : {v : List ℕ} {k count noise vector uRoom : ℕ} {x : Prime} → Written (primes .elements) (outputAt primeKind keys size terms first w) b v k
       → x ≡ output (itself primeRing) (primeRow keys size terms (first + k)) (at (primes .elements) w)
       → k < count → Fitting 1 size first count noise vector uRoom (length b)
-      → Written (primes .elements) (vOutputAt primeKind keys size terms first w) b (set v k (x .word)) (k + 1)
-  v-prime-more a e h fits = prime-more a e (omega arith)
+      → Written (primes .elements) (outputAt primeKind keys size terms first w) b (set v k (x .word)) (k + 1)
+  v-prime-more a e h fits = prime-next keys size terms first w b a e (omega arith)
 
-  pub u-prime-all : {v : List ℕ} {k count : ℕ} → Written (primes .elements) (vOutputAt primeKind keys size terms first w) b v k → k ≤ count → count ≤ k
+  pub u-prime-all : {v : List ℕ} {k count : ℕ} → Written (primes .elements) (outputAt primeKind keys size terms first w) b v k → k ≤ count → count ≤ k
       → v ≡ uOver primeKind keys size terms first count w b
-  unfolding uOver uOutputAt vOutputAt
-  u-prime-all = written-all (primes .elements) (primeLaws .elements) (vOutputAt primeKind keys size terms first w) b
-
-  pub prime-all : {v : List ℕ} {k count : ℕ} → Written (primes .elements) (vOutputAt primeKind keys size terms first w) b v k → k ≤ count → count ≤ k
-      → v ≡ vOver primeKind keys size terms first count w b
-  unfolding vOver
-  prime-all = written-all (primes .elements) (primeLaws .elements) (vOutputAt primeKind keys size terms first w) b
+  unfolding uOver uOutputAt outputAt
+  u-prime-all = written-all (primes .elements) (primeLaws .elements) (outputAt primeKind keys size terms first w) b

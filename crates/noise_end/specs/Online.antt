@@ -16,6 +16,7 @@ use Rattle.record.specs.Content.{Head, NoisePart}
 use Rattle.record.specs.Reading.{readNoise}
 use Rattle.rows.specs.Head.{fieldOf, places, row}
 use Rattle.rows.specs.Usable.{windowUsable}
+use Rattle.rows.specs.Window.{pastEnd}
 
 -- what is lent: the record, the accumulated vectors, and the output buffers
 pub record Lent : Type 0 where
@@ -66,10 +67,6 @@ filled h l first count =
 abbrev pub wrongLengths : Head → Lent → Bool
 wrongLengths h l =
     not (eqb (length (l .noise)) (places h)) || not (eqb (length (l .v)) (places h * fieldOf h .elements .width))
-
--- 7: a window is a first index and a count c; first + c, as whole numbers, is more than n
-abbrev pub pastEnd : Head → ℕ → ℕ → Bool
-pastEnd h first count = ltb (h .outputs) (first + count)
 
 -- 13: an output buffer is too short for c words of u, or c elements of v
 abbrev pub tooShort : Head → Lent → ℕ → Bool

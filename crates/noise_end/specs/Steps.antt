@@ -8,7 +8,7 @@ use lib.Dec.{ltb, eqb}
 use Rattle.algebra.specs.Choice.{choose}
 use Rattle.algebra.specs.Coding.{at, flat, over}
 use Rattle.algebra.specs.Expansion.{noise, punctured}
-use Rattle.algebra.specs.Field.{NoiseValue, Value}
+use Rattle.algebra.specs.Field.{NoiseValue}
 use Rattle.algebra.specs.Group.{itself}
 use Rattle.algebra.specs.Row.{output}
 use Rattle.algebra.specs.Sum.{accumulate}
@@ -42,21 +42,14 @@ vExpansion K depth trees ts =
     (accumulate (K .field .scaled .group)
     (punctured (K .field .scaled) trees (λ i. treeIn ts i .position) (correctionIn K ts) (leafIn K depth ts)))
 
--- output k of u and of v, of a window under round keys, on the words of the vectors
+-- output k of u, of a window under round keys, on the words of the accumulated noise
 unfoldable pub uOutputAt : (K : Kind) → List (List (List ℕ)) → ℕ → ℕ → ℕ → List ℕ → ℕ → NoiseValue (K .field)
 uOutputAt K keys size terms first noise k =
     output (itself (K .field .ring)) (rowOf (K .field .ring) (K .coefficient) keys size terms (first + k)) (at (K .field .noiseValues) noise)
 
-unfoldable pub vOutputAt : (K : Kind) → List (List (List ℕ)) → ℕ → ℕ → ℕ → List ℕ → ℕ → Value (K .field)
-vOutputAt K keys size terms first v k =
-    output (K .field .scaled) (rowOf (K .field .ring) (K .coefficient) keys size terms (first + k)) (at (K .field .elements) v)
-
--- the windows over the fronts of two buffers
+-- the window of u over the front of a buffer
 unfoldable pub uOver : Kind → List (List (List ℕ)) → ℕ → ℕ → ℕ → ℕ → List ℕ → List ℕ → List ℕ
 uOver K keys size terms first count noise buffer = over (K .field .noiseValues) count (uOutputAt K keys size terms first noise) buffer
-
-unfoldable pub vOver : Kind → List (List (List ℕ)) → ℕ → ℕ → ℕ → ℕ → List ℕ → List ℕ → List ℕ
-vOver K keys size terms first count v buffer = over (K .field .elements) count (vOutputAt K keys size terms first v) buffer
 
 -- every word of the noise that the window's rows use is a noise value
 unfoldable pub noiseUsed : Kind → List (List (List ℕ)) → ℕ → ℕ → ℕ → ℕ → List ℕ → Bool

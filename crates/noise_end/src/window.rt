@@ -6,7 +6,8 @@ ghost use Rattle.sbox.specs.Table.{Tables};
 ghost use Rattle.field.specs.Kind.{kindOf, binaryKind, primeKind};
 ghost use Rattle.rows.specs.Testing.{Testing};
 ghost use Rattle.rows.specs.Words.{elementWidth};
-ghost use Rattle.noise_end.specs.Steps.{Fitting, noiseUsed, uOver, vOver, lengthsNumber};
+ghost use Rattle.noise_end.specs.Steps.{Fitting, noiseUsed, uOver, lengthsNumber};
+ghost use Rattle.rows.specs.Window.{windowOver};
 ghost use Rattle.record.specs.Reading.{headOf};
 ghost use Rattle.noise_end.specs.Online.{outcome, rowsOutcome, window};
 ghost use Rattle.noise_end.specs.Ready.{Ready};
@@ -76,7 +77,7 @@ fn fill_binary(
     requires { ⌜ Tables (now sbox) (now mix) ⌝ }
     requires { ⌜ Fitting 2 size first count (length (now noise)) (length (now v)) (length (now «u_out»)) (length (now «v_out»)) ⌝ }
     ensures { λ _. ⌜ (now («u_out» .exit) ≡ uOver binaryKind (now (keys .entry)) size terms first count (now (noise .entry)) (now («u_out» .entry)))
-        × (now («v_out» .exit) ≡ vOver binaryKind (now (keys .entry)) size terms first count (now (v .entry)) (now («v_out» .entry))) ⌝ }
+        × (now («v_out» .exit) ≡ windowOver binaryKind (now (keys .entry)) size terms first count (now (v .entry)) (now («v_out» .entry))) ⌝ }
 {
     let mut k: usize = 0;
     while k < count {
@@ -104,7 +105,7 @@ fn fill_prime(
     requires { ⌜ Tables (now sbox) (now mix) ⌝ }
     requires { ⌜ Fitting 1 size first count (length (now noise)) (length (now v)) (length (now «u_out»)) (length (now «v_out»)) ⌝ }
     ensures { λ _. ⌜ (now («u_out» .exit) ≡ uOver primeKind (now (keys .entry)) size terms first count (now (noise .entry)) (now («u_out» .entry)))
-        × (now («v_out» .exit) ≡ vOver primeKind (now (keys .entry)) size terms first count (now (v .entry)) (now («v_out» .entry))) ⌝ }
+        × (now («v_out» .exit) ≡ windowOver primeKind (now (keys .entry)) size terms first count (now (v .entry)) (now («v_out» .entry))) ⌝ }
 {
     let mut k: usize = 0;
     while k < count {
@@ -133,7 +134,7 @@ fn fill(
     requires { ⌜ Tables (now sbox) (now mix) ⌝ }
     requires { ⌜ Fitting (elementWidth field) size first count (length (now noise)) (length (now v)) (length (now «u_out»)) (length (now «v_out»)) ⌝ }
     ensures { λ _. ⌜ (now («u_out» .exit) ≡ uOver (kindOf field) (now (keys .entry)) size terms first count (now (noise .entry)) (now («u_out» .entry)))
-        × (now («v_out» .exit) ≡ vOver (kindOf field) (now (keys .entry)) size terms first count (now (v .entry)) (now («v_out» .entry))) ⌝ }
+        × (now («v_out» .exit) ≡ windowOver (kindOf field) (now (keys .entry)) size terms first count (now (v .entry)) (now («v_out» .entry))) ⌝ }
 {
     if field == 1 {
         fill_binary(

@@ -41,7 +41,8 @@ use Rattle.scalar_end.specs.Vectors.{leaf, w0, deltaWords}
 use Rattle.scalar_end.specs.Offline as off
 use Rattle.scalar_end.specs.Online as on
 use Rattle.scalar_end.specs.Online.{Lent, rowsOutcome}
-use Rattle.scalar_end.specs.Steps.{Fitting, RootsFit, expansion, deltaAt, outputAt, windowOver, lengthsNumber}
+use Rattle.scalar_end.specs.Steps.{Fitting, RootsFit, expansion, deltaAt, lengthsNumber}
+use Rattle.rows.specs.Window.{outputAt, windowOver}
 use Rattle.scalar_end.specs.Ready.{rootsAt, contentOf, Ready}
 use Rattle.scalar_end.proofs.Content.{ready, refused-is}
 use Rattle.scalar_end.proofs.Laws.{offline-whole, offline-refused, online-whole, online-refused}

@@ -27,7 +27,8 @@ use Rattle.rows.proofs.Rows.{window-usable, row-output}
 use Rattle.scalar_end.specs.Vectors.{w0, deltaWords}
 use Rattle.scalar_end.specs.Offline.{Expanded, refusal, wWords, expand, offline}
 use Rattle.scalar_end.specs.Online as on
-use Rattle.scalar_end.specs.Online.{Lent, Outcome, usable, wAt, filled, wrongLength, pastEnd, tooShort, rowsOutcome, window, online}
+use Rattle.scalar_end.specs.Online.{Lent, Outcome, usable, wAt, filled, wrongLength, tooShort, rowsOutcome, window, online}
+use Rattle.rows.specs.Window.{pastEnd}
 
 -- ---- offline
 

@@ -15,13 +15,13 @@ use Rattle.field.specs.declared.prime.Prime.{Prime}
 use Rattle.field.specs.Bytes.{wordAt}
 use Rattle.field.specs.Binary.{binary, blocks}
 use Rattle.field.specs.Kind.{kindOf, binaryKind, primeKind}
-use Rattle.field.specs.Prime.{primes, primeRing, prime}
-use Rattle.field.proofs.BinaryField.{binaryLaws}
-use Rattle.field.proofs.PrimeField.{primeLaws}
+use Rattle.field.specs.Prime.{primes, primeRing}
 use Rattle.rows.specs.Words.{elementWidth}
 use Rattle.rows.proofs.Widths.{width-binary, width-prime}
-use Rattle.rows.proofs.Windows.{Written, written-none, written-more, written-word, written-all}
-use Rattle.scalar_end.specs.Steps.{Fitting, RootsFit, expansion, deltaAt, outputAt, windowOver}
+use Rattle.rows.proofs.Windows.{Written}
+use Rattle.rows.proofs.Filled.{binary-next, prime-next}
+use Rattle.rows.specs.Window.{outputAt}
+use Rattle.scalar_end.specs.Steps.{Fitting, RootsFit, expansion, deltaAt}
 
 -- ---- a window, at the kind of a field byte
 
@@ -77,49 +77,17 @@ module _ (s : List ℕ) (place field : ℕ) (d : List ℕ) (room : 2 ≤ length 
   unfolding deltaAt
   delta-prime e = two-stores d a 0 room ∙ rw (first, ne-eqb field 1 e)
 
--- ---- the window written in one field, at the kind of a field byte
-
-module _ (keys : List (List (List ℕ))) (size terms first count : ℕ) (w : List ℕ) where
-  pub filled-binary : (field : ℕ) → field ≡ 1 → (b : List ℕ) {v : List ℕ} → v ≡ windowOver binaryKind keys size terms first count w b
-      → v ≡ windowOver (kindOf field) keys size terms first count w b
-  filled-binary field e b q = rw e q
-
-  pub filled-prime : (field : ℕ) → (field ≡ 1 → ⊥) → (b : List ℕ) {v : List ℕ} → v ≡ windowOver primeKind keys size terms first count w b
-      → v ≡ windowOver (kindOf field) keys size terms first count w b
-  filled-prime zero h b q = q
-  filled-prime (suc zero) h b q = absurd (h refl)
-  filled-prime (suc (suc n)) h b q = q
-
 -- ---- a window written one output a turn
 
 module _ (keys : List (List (List ℕ))) (size terms first : ℕ) (w b : List ℕ) where
-  pub binary-none : Written (binary .elements) (outputAt binaryKind keys size terms first w) b b 0
-  binary-none = written-none (binary .elements) (binaryLaws .elements) (outputAt binaryKind keys size terms first w) b
-
   pub binary-more : {v next : List ℕ} {k count vector : ℕ} {x : Block} → Written (binary .elements) (outputAt binaryKind keys size terms first w) b v k
       → next ≡ put (binary .elements) v k x → x ≡ output blocks (binaryRow keys size terms (first + k)) (at (binary .elements) w)
       → k < count → Fitting 2 size first count vector (length b)
       → Written (binary .elements) (outputAt binaryKind keys size terms first w) b next (k + 1)
-  unfolding outputAt
-  binary-more a p e h fits =
-      written-more (binary .elements) (binaryLaws .elements) (outputAt binaryKind keys size terms first w) b a e (omega (arith, a .size)) p
-
-  pub binary-all : {v : List ℕ} {k count : ℕ} → Written (binary .elements) (outputAt binaryKind keys size terms first w) b v k → k ≤ count → count ≤ k
-      → v ≡ windowOver binaryKind keys size terms first count w b
-  unfolding windowOver
-  binary-all = written-all (binary .elements) (binaryLaws .elements) (outputAt binaryKind keys size terms first w) b
-
-  pub prime-none : Written (primes .elements) (outputAt primeKind keys size terms first w) b b 0
-  prime-none = written-none (primes .elements) (primeLaws .elements) (outputAt primeKind keys size terms first w) b
+  binary-more a p e h fits = binary-next keys size terms first w b a p e (omega arith)
 
   pub prime-more : {v : List ℕ} {k count vector : ℕ} {x : Prime} → Written (primes .elements) (outputAt primeKind keys size terms first w) b v k
       → x ≡ output (itself primeRing) (primeRow keys size terms (first + k)) (at (primes .elements) w)
       → k < count → Fitting 1 size first count vector (length b)
       → Written (primes .elements) (outputAt primeKind keys size terms first w) b (set v k (x .word)) (k + 1)
-  unfolding outputAt
-  prime-more a e h fits = written-word (λ x. x .word) prime (primeLaws .elements) (outputAt primeKind keys size terms first w) b a e (omega (arith, a .size))
-
-  pub prime-all : {v : List ℕ} {k count : ℕ} → Written (primes .elements) (outputAt primeKind keys size terms first w) b v k → k ≤ count → count ≤ k
-      → v ≡ windowOver primeKind keys size terms first count w b
-  unfolding windowOver
-  prime-all = written-all (primes .elements) (primeLaws .elements) (outputAt primeKind keys size terms first w) b
+  prime-more a e h fits = prime-next keys size terms first w b a e (omega arith)

@@ -15,6 +15,7 @@ use Rattle.record.specs.Content.{Head, ScalarPart}
 use Rattle.record.specs.Reading.{readScalar}
 use Rattle.rows.specs.Head.{fieldOf, places, row}
 use Rattle.rows.specs.Usable.{windowUsable}
+use Rattle.rows.specs.Window.{pastEnd}
 
 -- what is lent: the record, the accumulated vector, and the output buffer
 pub record Lent : Type 0 where
@@ -56,10 +57,6 @@ filled h l first count =
 -- 3: the vector is not exactly N elements
 abbrev pub wrongLength : Head → Lent → Bool
 wrongLength h l = not (eqb (length (l .w)) (places h * fieldOf h .elements .width))
-
--- 7: a window is a first index and a count c; first + c, as whole numbers, is more than n
-abbrev pub pastEnd : Head → ℕ → ℕ → Bool
-pastEnd h first count = ltb (h .outputs) (first + count)
 
 -- 13: the output buffer is too short for c elements of w
 abbrev pub tooShort : Head → Lent → ℕ → Bool

@@ -6,14 +6,12 @@ use mathlib.Core.List.{List, [], _∷_}
 use Prim.Native.Nat.{ℕ, _+_, _*_, _^_, _≤_, _<_}
 use lib.Dec.{eqb, ltb}
 use Rattle.algebra.specs.Choice.{choose}
-use Rattle.algebra.specs.Coding.{at, flat, over}
+use Rattle.algebra.specs.Coding.{at, flat}
 use Rattle.algebra.specs.Expansion.{whole}
 use Rattle.algebra.specs.Field.{Value}
-use Rattle.algebra.specs.Row.{output}
 use Rattle.algebra.specs.Sum.{accumulate}
 use Rattle.field.specs.Bytes.{wordAt}
 use Rattle.field.specs.Kind.{Kind}
-use Rattle.code.specs.Row.{rowOf}
 use Rattle.record.specs.declared.Front.{Front}
 use Rattle.rows.specs.Words.{elementWidth}
 use Rattle.tree.specs.Added.{leafElement}
@@ -32,15 +30,6 @@ expansion K source at depth trees =
 -- the two words of Δ, which begins at a place; in field 2 the second is 0
 unfoldable pub deltaAt : ℕ → List ℕ → ℕ → List ℕ
 deltaAt field source at = wordAt source at ∷ choose (eqb field 1) (wordAt source (at + 8)) 0 ∷ []
-
--- output k of a window under round keys, on the words of a vector
-unfoldable pub outputAt : (K : Kind) → List (List (List ℕ)) → ℕ → ℕ → ℕ → List ℕ → ℕ → Value (K .field)
-outputAt K keys size terms first w k =
-    output (K .field .scaled) (rowOf (K .field .ring) (K .coefficient) keys size terms (first + k)) (at (K .field .elements) w)
-
--- the window over the front of a buffer
-unfoldable pub windowOver : Kind → List (List (List ℕ)) → ℕ → ℕ → ℕ → ℕ → List ℕ → List ℕ → List ℕ
-windowOver K keys size terms first count w buffer = over (K .field .elements) count (outputAt K keys size terms first w) buffer
 
 -- the tests 3, 7 and 13 of an online call on a record that was accepted, from the lengths of the vector and of the buffer; 0
 -- where all are passed

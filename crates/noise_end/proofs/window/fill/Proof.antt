@@ -1,6 +1,7 @@
 -- `noise_end::window::fill` meets its contract, field by field. Assumes nothing.
 use borrow.Author.Needs.{needs}
-use Rattle.noise_end.proofs.Steps.{fits-binary, fits-prime, u-filled-binary, filled-binary, u-filled-prime, filled-prime}
+use Rattle.rows.proofs.Filled.{filled-binary, filled-prime}
+use Rattle.noise_end.proofs.Steps.{fits-binary, fits-prime, u-filled-binary, u-filled-prime}
 use Rattle.noise_end.proofs.window.fill.Statement.{statement}
 use Rattle.noise_end.proofs.window.fill.Tie as tie
 

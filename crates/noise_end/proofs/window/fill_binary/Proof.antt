@@ -5,15 +5,17 @@ use borrow.Author.Needs.{needs}
 use Rattle.field.specs.Binary.{binary}
 use Rattle.field.specs.Kind.{binaryKind}
 use Rattle.rows.proofs.Windows.{Written}
-use Rattle.noise_end.specs.Steps.{uOutputAt, vOutputAt}
-use Rattle.noise_end.proofs.Steps.{u-binary-none, u-binary-more, u-binary-all, binary-none, binary-more, binary-all}
+use Rattle.noise_end.specs.Steps.{uOutputAt}
+use Rattle.rows.specs.Window.{outputAt}
+use Rattle.rows.proofs.Filled.{binary-none, binary-all}
+use Rattle.noise_end.proofs.Steps.{u-binary-none, u-binary-more, u-binary-all, binary-more}
 use Rattle.noise_end.proofs.window.fill_binary.Statement.{statement}
 use Rattle.noise_end.proofs.window.fill_binary.Tie as tie
 
 abbrev Inv-loop : tie.InvT-loop
 Inv-loop sbox mix keys size terms first count noise v u-out₀ v-out₀ k₀ u-out v-out k =
     (k ≤ count) × Written (binary .noiseValues) (uOutputAt binaryKind keys size terms first noise) u-out₀ u-out k
-    × Written (binary .elements) (vOutputAt binaryKind keys size terms first v) v-out₀ v-out k
+    × Written (binary .elements) (outputAt binaryKind keys size terms first v) v-out₀ v-out k
 
 abbrev μ-loop : tie.MeasureT-loop
 μ-loop sbox mix keys size terms first count noise v u-out₀ v-out₀ k₀ u-out v-out k = count - k

@@ -5,15 +5,16 @@ use borrow.Author.Needs.{needs}
 use Rattle.field.specs.Prime.{primes}
 use Rattle.field.specs.Kind.{primeKind}
 use Rattle.rows.proofs.Windows.{Written}
-use Rattle.noise_end.specs.Steps.{vOutputAt}
-use Rattle.noise_end.proofs.Steps.{prime-none, u-prime-more, v-prime-more, u-prime-all, prime-all}
+use Rattle.rows.specs.Window.{outputAt}
+use Rattle.rows.proofs.Filled.{prime-none, prime-all}
+use Rattle.noise_end.proofs.Steps.{u-prime-more, v-prime-more, u-prime-all}
 use Rattle.noise_end.proofs.window.fill_prime.Statement.{statement}
 use Rattle.noise_end.proofs.window.fill_prime.Tie as tie
 
 abbrev Inv-loop : tie.InvT-loop
 Inv-loop sbox mix keys size terms first count noise v u-out₀ v-out₀ k₀ u-out v-out k =
-    (k ≤ count) × Written (primes .elements) (vOutputAt primeKind keys size terms first noise) u-out₀ u-out k
-    × Written (primes .elements) (vOutputAt primeKind keys size terms first v) v-out₀ v-out k
+    (k ≤ count) × Written (primes .elements) (outputAt primeKind keys size terms first noise) u-out₀ u-out k
+    × Written (primes .elements) (outputAt primeKind keys size terms first v) v-out₀ v-out k
 
 abbrev μ-loop : tie.MeasureT-loop
 μ-loop sbox mix keys size terms first count noise v u-out₀ v-out₀ k₀ u-out v-out k = count - k
