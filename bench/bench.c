@@ -203,8 +203,8 @@ int main(void)
                                 memory[0].noise_record, sizeof memory[0].noise_record,
                                 memory[0].scalar_record, sizeof memory[0].scalar_record);
         accepted(lengths.number);
-        noise_record_len = lengths.first;
-        scalar_record_len = lengths.second;
+        noise_record_len = lengths.first_written;
+        scalar_record_len = lengths.second_written;
         for (int k = 0; k < count; k++) {
             if (jobs[k].call == noise_pads)
                 for (int who = 0; who < 2; who++)

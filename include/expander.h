@@ -72,14 +72,14 @@ extern "C" {
 /* A number, and what was written to the first and to the second output buffer. */
 struct expander_two_lengths {
     uint32_t number;
-    size_t first;
-    size_t second;
+    size_t first_written;
+    size_t second_written;
 };
 
 /* A number, and what was written to the one output buffer. */
 struct expander_one_length {
     uint32_t number;
-    size_t first;
+    size_t written;
 };
 
 /** Make a noise record and a scalar record of one dealing.

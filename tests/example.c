@@ -29,20 +29,20 @@ int main(void)
     if (records.number != EXPANDER_ACCEPTED)
         return 1;
 
-    /* The noise end: records.first bytes of noise_record are all it needs. */
-    lengths = expander_noise_offline(noise_record, records.first, noise, N, v, 2 * N);
+    /* The noise end: records.first_written bytes of noise_record are all it needs. */
+    lengths = expander_noise_offline(noise_record, records.first_written, noise, N, v, 2 * N);
     if (lengths.number != EXPANDER_ACCEPTED)
         return 1;
-    lengths = expander_noise_online(noise_record, records.first, noise, N, v, 2 * N,
+    lengths = expander_noise_online(noise_record, records.first_written, noise, N, v, 2 * N,
                                     INDEX, 1, &u_at, 1, v_at, 2);
     if (lengths.number != EXPANDER_ACCEPTED)
         return 1;
 
-    /* The scalar end: records.second bytes of scalar_record are all it needs. */
-    lengths = expander_scalar_offline(scalar_record, records.second, w, 2 * N, delta, 2);
+    /* The scalar end: records.second_written bytes of scalar_record are all it needs. */
+    lengths = expander_scalar_offline(scalar_record, records.second_written, w, 2 * N, delta, 2);
     if (lengths.number != EXPANDER_ACCEPTED)
         return 1;
-    length = expander_scalar_online(scalar_record, records.second, w, 2 * N, INDEX, 1, w_at, 2);
+    length = expander_scalar_online(scalar_record, records.second_written, w, 2 * N, INDEX, 1, w_at, 2);
     if (length.number != EXPANDER_ACCEPTED)
         return 1;
 

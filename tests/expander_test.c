@@ -201,13 +201,13 @@ static void settle(enum call call, result mine, result plain, int inputs, int ou
 
 static result two(struct expander_two_lengths r)
 {
-    result same = {r.number, r.first, r.second};
+    result same = {r.number, r.first_written, r.second_written};
     return same;
 }
 
 static result one(struct expander_one_length r)
 {
-    result same = {r.number, r.first, 0};
+    result same = {r.number, r.written, 0};
     return same;
 }
 

@@ -34,13 +34,13 @@ pub const BUFFER_SHORT: u32 = 13;
 #[repr(C)]
 pub struct TwoLengths {
     pub number: u32,
-    pub first: usize,
-    pub second: usize,
+    pub first_written: usize,
+    pub second_written: usize,
 }
 
 // The answer of a call with one output buffer.
 #[repr(C)]
 pub struct OneLength {
     pub number: u32,
-    pub first: usize,
+    pub written: usize,
 }

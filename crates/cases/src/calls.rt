@@ -115,9 +115,9 @@ pub fn windows() {
     let mut noise = [0u8; 256];
     let mut scalar = [0u8; 256];
     let r = deal(2, 3, 4, &[1u32, 6], 1, 2, &mut noise, &mut scalar);
-    let noise_length = front(&noise, r.first);
+    let noise_length = front(&noise, r.first_written);
     noise_windows(&noise[..noise_length]);
-    let scalar_length = front(&scalar, r.second);
+    let scalar_length = front(&scalar, r.second_written);
     scalar_windows(&scalar[..scalar_length]);
 }
 
@@ -147,7 +147,7 @@ pub fn records() {
         &mut noise,
         &mut scalar,
     );
-    say(b"bytes of a noise record with d = t = l = n = 1: ", r.first);
+    say(b"bytes of a noise record with d = t = l = n = 1: ", r.first_written);
     let whole = front(&noise, 55);
     say(b"whole: ", offline_number(&noise[..whole]));
     let cut = front(&noise, 54);

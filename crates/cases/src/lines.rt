@@ -40,8 +40,8 @@ pub fn refused() {
     let mut noise = [0u8; 256];
     let mut scalar = [0u8; 256];
     let r = deal(2, 3, 4, &[1u32, 6], 1, 2, &mut noise, &mut scalar);
-    let noise_length = front(&noise, r.first);
-    let scalar_length = front(&scalar, r.second);
+    let noise_length = front(&noise, r.first_written);
+    let scalar_length = front(&scalar, r.second_written);
     show_refused(&noise[..noise_length], &scalar[..scalar_length]);
 }
 
@@ -70,10 +70,10 @@ pub fn too_large() {
         &mut large_noise,
         &mut large_scalar,
     );
-    let noise_length = front(&noise, r.first);
-    let scalar_length = front(&scalar, r.second);
-    let large_noise_length = front(&large_noise, s.first);
-    let large_scalar_length = front(&large_scalar, s.second);
+    let noise_length = front(&noise, r.first_written);
+    let scalar_length = front(&scalar, r.second_written);
+    let large_noise_length = front(&large_noise, s.first_written);
+    let large_scalar_length = front(&large_scalar, s.second_written);
     show_too_large(
         &noise[..noise_length],
         &scalar[..scalar_length],
@@ -98,8 +98,8 @@ fn show_mixed(label: &[u8], field: u8, depth: usize, outputs: usize, seed: u8, k
         &mut unused,
         &mut scalar,
     );
-    let noise_length = front(&noise, r.first);
-    let scalar_length = front(&scalar, s.second);
+    let noise_length = front(&noise, r.first_written);
+    let scalar_length = front(&scalar, s.second_written);
     show(label, &noise[..noise_length], &scalar[..scalar_length]);
 }
 
@@ -125,8 +125,8 @@ fn show_dealt(label: &[u8], field: u8, depth: usize, outputs: usize) {
         &mut noise,
         &mut scalar,
     );
-    let noise_length = front(&noise, r.first);
-    let scalar_length = front(&scalar, r.second);
+    let noise_length = front(&noise, r.first_written);
+    let scalar_length = front(&scalar, r.second_written);
     show(label, &noise[..noise_length], &scalar[..scalar_length]);
 }
 

@@ -36,10 +36,10 @@ rises N base (s ∷ l) below rising least = (
 )
 
 -- an outcome by its parts
-outcome : {f s : ℕ} {a b : List ℕ} (d : Dealt) → 0 ≡ d .number → f ≡ d .first → s ≡ d .second → a ≡ d .noiseRecord → b ≡ d .scalarRecord
-    → dealt (record { number = 0; first = f; second = s }) (d .input) a b ≡ d
+outcome : {f s : ℕ} {a b : List ℕ} (d : Dealt) → 0 ≡ d .number → f ≡ d .firstWritten → s ≡ d .secondWritten → a ≡ d .noiseRecord → b ≡ d .scalarRecord
+    → dealt (record { number = 0; «first_written» = f; «second_written» = s }) (d .input) a b ≡ d
 outcome d n f s a b =
-    λ i. record { number = n i; first = f i; second = s i; input = d .input; noiseRecord = a i; scalarRecord = b i }
+    λ i. record { number = n i; firstWritten = f i; secondWritten = s i; input = d .input; noiseRecord = a i; scalarRecord = b i }
 
 module _ (I : Input) {n : ℕ} (tested : n ≡ fault I) where
   pub deal-refused : (a b : List ℕ) → (n ≡ 0 → ⊥) → refusedDeal n I a b ≡ deal I a b
@@ -101,7 +101,7 @@ module _ (I : Input) {n : ℕ} (tested : n ≡ fault I) where
           pub deal-written : {low high r : ℕ} {a₁ b₁ : List ℕ} → a₁ ≡ front (writeNoise (noisePart I)) a → low ≡ wordAt (I .delta) 0 → high ≡ wordAt (I .delta) 8
               → (r ≡ scalarLength (I .field) (I .depth) (I .trees) (I .terms) (I .outputs))
               × (b₁ ≡ sets b 0 (writeScalar (record { head = headWith (I .field) (I .depth) (I .trees) (I .terms) (I .outputs) (I .codeKey); delta = elementOf (I .field) low high; roots = items blockAt 16 (I .roots) 0 (I .trees) })))
-              → dealt (record { number = 0; first = f; second = s }) I a₁ b₁ ≡ deal I a b
+              → dealt (record { number = 0; «first_written» = f; «second_written» = s }) I a₁ b₁ ≡ deal I a b
           deal-written {low} {high} {r} {a₁} {b₁} noise l h scalar =
               let fits : length (scalarWriting I) ≤ length b = omega (arith, scalar-long) in
               let same : writeScalar (record { head = head I; delta = elementOf (I .field) low high; roots = items blockAt 16 (I .roots) 0 (I .trees) }) ≡ scalarWriting I =

@@ -32,8 +32,8 @@ abbrev pub acceptedDeal : Input → List ℕ → List ℕ → Dealt
 acceptedDeal I a b =
     record {
       number = 0;
-      first = length (noiseWriting I);
-      second = length (scalarWriting I);
+      firstWritten = length (noiseWriting I);
+      secondWritten = length (scalarWriting I);
       input = I;
       noiseRecord = front (noiseWriting I) a;
       scalarRecord = front (scalarWriting I) b;
@@ -80,22 +80,22 @@ module _ (I : Input) (a b : List ℕ) (z : deal I a b .number ≡ 0) where
   dealt-whole : deal I a b ≡ acceptedDeal I a b
   dealt-whole = deal-accepted I a b (deal-number I a b z)
 
-  pub noise-length : deal I a b .first ≡ length (noiseWriting I)
-  noise-length = ap (λ d. d .first) dealt-whole
+  pub noise-length : deal I a b .firstWritten ≡ length (noiseWriting I)
+  noise-length = ap (λ d. d .firstWritten) dealt-whole
 
-  pub scalar-length : deal I a b .second ≡ length (scalarWriting I)
-  scalar-length = ap (λ d. d .second) dealt-whole
+  pub scalar-length : deal I a b .secondWritten ≡ length (scalarWriting I)
+  scalar-length = ap (λ d. d .secondWritten) dealt-whole
 
-  pub noise-record : take (deal I a b .first) (deal I a b .noiseRecord) ≡ noiseWriting I
-  noise-record = ap (λ d. take (d .first) (d .noiseRecord)) dealt-whole ∙ take-append-seam (noiseWriting I) _
+  pub noise-record : take (deal I a b .firstWritten) (deal I a b .noiseRecord) ≡ noiseWriting I
+  noise-record = ap (λ d. take (d .firstWritten) (d .noiseRecord)) dealt-whole ∙ take-append-seam (noiseWriting I) _
 
-  pub scalar-record : take (deal I a b .second) (deal I a b .scalarRecord) ≡ scalarWriting I
-  scalar-record = ap (λ d. take (d .second) (d .scalarRecord)) dealt-whole ∙ take-append-seam (scalarWriting I) _
+  pub scalar-record : take (deal I a b .secondWritten) (deal I a b .scalarRecord) ≡ scalarWriting I
+  scalar-record = ap (λ d. take (d .secondWritten) (d .scalarRecord)) dealt-whole ∙ take-append-seam (scalarWriting I) _
 
   -- each record reads as that end's part
   module _ (M : InMemory I) where
-    pub noise-reads : readNoise (take (deal I a b .first) (deal I a b .noiseRecord)) ≡ Whole (noisePart I)
+    pub noise-reads : readNoise (take (deal I a b .firstWritten) (deal I a b .noiseRecord)) ≡ Whole (noisePart I)
     noise-reads = ap readNoise noise-record ∙ record-noise (noisePart I) (noise-admitted I (deal-number I a b z .admitted) M)
 
-    pub scalar-reads : readScalar (take (deal I a b .second) (deal I a b .scalarRecord)) ≡ Whole (scalarPart I)
+    pub scalar-reads : readScalar (take (deal I a b .secondWritten) (deal I a b .scalarRecord)) ≡ Whole (scalarPart I)
     scalar-reads = ap readScalar scalar-record ∙ record-scalar (scalarPart I) (scalar-admitted I (deal-number I a b z .admitted) M)

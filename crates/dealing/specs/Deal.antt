@@ -14,8 +14,8 @@ use Rattle.dealing.specs.Parts.{noisePart, scalarPart}
 -- the number, the bytes written to each record buffer, the input as it stands on return, and both buffers
 pub record Dealt : Type 0 where
   pub number : ℕ
-  pub first : ℕ
-  pub second : ℕ
+  pub firstWritten : ℕ
+  pub secondWritten : ℕ
   pub input : Input
   pub noiseRecord : List ℕ
   pub scalarRecord : List ℕ
@@ -23,11 +23,11 @@ pub record Dealt : Type 0 where
 -- what an answer, the input and the buffers at exit say
 abbrev pub dealt : TwoLengths → Input → List ℕ → List ℕ → Dealt
 dealt r I a b =
-    record { number = r .number; first = r .first; second = r .second; input = I; noiseRecord = a; scalarRecord = b }
+    record { number = r .number; firstWritten = r .«first_written»; secondWritten = r .«second_written»; input = I; noiseRecord = a; scalarRecord = b }
 
 -- a refused call: its number, zero for each length, and all that is lent as it was
 abbrev pub refusedDeal : ℕ → Input → List ℕ → List ℕ → Dealt
-refusedDeal k I a b = record { number = k; first = 0; second = 0; input = I; noiseRecord = a; scalarRecord = b }
+refusedDeal k I a b = record { number = k; firstWritten = 0; secondWritten = 0; input = I; noiseRecord = a; scalarRecord = b }
 
 -- bytes over the front of a buffer, the rest as it was
 abbrev pub front : List ℕ → List ℕ → List ℕ
@@ -37,7 +37,7 @@ front bytes buffer = bytes ++ drop (length bytes) buffer
 abbrev pub writeBoth : Input → List ℕ → List ℕ → List ℕ → List ℕ → Dealt
 writeBoth I n s a b =
     choose (ltb (length a) (length n) || ltb (length b) (length s)) (refusedDeal 13 I a b)
-    (record { number = 0; first = length n; second = length s; input = I; noiseRecord = front n a; scalarRecord = front s b })
+    (record { number = 0; firstWritten = length n; secondWritten = length s; input = I; noiseRecord = front n a; scalarRecord = front s b })
 
 -- the dealing on its input and two buffers
 unfoldable pub deal : Input → List ℕ → List ℕ → Dealt

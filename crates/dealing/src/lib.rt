@@ -23,8 +23,8 @@ fn refusal(number: u32) -> TwoLengths
 {
     TwoLengths {
         number: number,
-        first: 0,
-        second: 0,
+        first_written: 0,
+        second_written: 0,
     }
 }
 
@@ -66,12 +66,12 @@ pub fn deal(
         return refusal(number);
     }
     let kind = field as usize;
-    let first = noise_length(kind, depth, trees, terms, outputs, positions);
-    let second = scalar_length(kind, depth, trees, terms, outputs);
-    if noise_record.len() < first {
+    let noise_bytes = noise_length(kind, depth, trees, terms, outputs, positions);
+    let scalar_bytes = scalar_length(kind, depth, trees, terms, outputs);
+    if noise_record.len() < noise_bytes {
         return refusal(BUFFER_SHORT);
     }
-    if scalar_record.len() < second {
+    if scalar_record.len() < scalar_bytes {
         return refusal(BUFFER_SHORT);
     }
     write_noise(
@@ -103,7 +103,7 @@ pub fn deal(
     );
     TwoLengths {
         number: 0,
-        first: first,
-        second: second,
+        first_written: noise_bytes,
+        second_written: scalar_bytes,
     }
 }

@@ -35,20 +35,20 @@ records I = deal I (replicate 64 0) (replicate 64 0)
 -- first
 abbrev pub noiseGiven : ℕ → Input → List ℕ
 noiseGiven width I =
-    let source = take (records I .first) (records I .noiseRecord) in
+    let source = take (records I .firstWritten) (records I .noiseRecord) in
     let off = noiseOffline.offline source (replicate 2 0) (replicate 4 0) in
     let on =
     noiseOnline.online
-    (record { source = source; noise = take (off .first) (off .noise); v = take (off .second) (off .v); uOut = replicate 1 0; vOut = replicate width 0 })
+    (record { source = source; noise = take (off .firstWritten) (off .noise); v = take (off .secondWritten) (off .v); uOut = replicate 1 0; vOut = replicate width 0 })
     0 1 in
     on .number ∷ (on .lent .uOut ++ on .lent .vOut)
 
 -- the scalar end likewise
 abbrev pub scalarGiven : ℕ → Input → List ℕ
 scalarGiven width I =
-    let source = take (records I .second) (records I .scalarRecord) in
+    let source = take (records I .secondWritten) (records I .scalarRecord) in
     let off = scalarOffline.offline source (replicate 4 0) (replicate 2 0) in
-    let on = scalarOnline.online (record { source = source; w = take (off .first) (off .w); wOut = replicate width 0 }) 0 1 in
+    let on = scalarOnline.online (record { source = source; w = take (off .firstWritten) (off .w); wOut = replicate width 0 }) 0 1 in
     on .number ∷ on .lent .wOut
 
 abbrev pub binaryInput : Input

@@ -41,14 +41,14 @@ pub record Setting : Type 0 where
   pub vBuffer : List ℕ
   pub noiseAccepted :
       noiseOffline.offline
-      (take (deal input noiseRecord scalarRecord .first) (deal input noiseRecord scalarRecord .noiseRecord)) noiseBuffer vBuffer .number
+      (take (deal input noiseRecord scalarRecord .firstWritten) (deal input noiseRecord scalarRecord .noiseRecord)) noiseBuffer vBuffer .number
       ≡ 0
   -- the buffers lent to the scalar end's offline call
   pub wBuffer : List ℕ
   pub deltaBuffer : List ℕ
   pub scalarAccepted :
       scalarOffline.offline
-      (take (deal input noiseRecord scalarRecord .second) (deal input noiseRecord scalarRecord .scalarRecord)) wBuffer deltaBuffer .number
+      (take (deal input noiseRecord scalarRecord .secondWritten) (deal input noiseRecord scalarRecord .scalarRecord)) wBuffer deltaBuffer .number
       ≡ 0
 
 -- what the dealing left
@@ -57,10 +57,10 @@ dealing S = deal (S .input) (S .noiseRecord) (S .scalarRecord)
 
 -- each end's own record: the front of its buffer, of the returned length
 abbrev pub noiseSource : Setting → List ℕ
-noiseSource S = take (dealing S .first) (dealing S .noiseRecord)
+noiseSource S = take (dealing S .firstWritten) (dealing S .noiseRecord)
 
 abbrev pub scalarSource : Setting → List ℕ
-scalarSource S = take (dealing S .second) (dealing S .scalarRecord)
+scalarSource S = take (dealing S .secondWritten) (dealing S .scalarRecord)
 
 -- ---- the noise end's list of calls
 
@@ -108,8 +108,8 @@ abbrev pub noiseStart : Setting → NoiseMemory
 noiseStart S =
     record {
       source = noiseExpanded S .source;
-      noise = take (noiseExpanded S .first) (noiseExpanded S .noise);
-      v = take (noiseExpanded S .second) (noiseExpanded S .v);
+      noise = take (noiseExpanded S .firstWritten) (noiseExpanded S .noise);
+      v = take (noiseExpanded S .secondWritten) (noiseExpanded S .v);
     }
 
 -- the number of a listed call: 7 if its window passes n, else 13 if an output buffer is too short for c, else 0
@@ -165,11 +165,11 @@ scalarExpanded S = scalarOffline.offline (scalarSource S) (S .wBuffer) (S .delta
 
 -- the memory as the offline call left it: the record, and the front of the returned length
 abbrev pub scalarStart : Setting → ScalarMemory
-scalarStart S = record { source = scalarExpanded S .source; w = take (scalarExpanded S .first) (scalarExpanded S .w) }
+scalarStart S = record { source = scalarExpanded S .source; w = take (scalarExpanded S .firstWritten) (scalarExpanded S .w) }
 
 -- Δ as the offline call left it
 abbrev pub scalarDelta : Setting → List ℕ
-scalarDelta S = take (scalarExpanded S .second) (scalarExpanded S .delta)
+scalarDelta S = take (scalarExpanded S .secondWritten) (scalarExpanded S .delta)
 
 -- the number of a listed call: 7, else 13, else 0, as at the noise end
 abbrev pub listedScalarNumber : Input → ScalarCall → ℕ

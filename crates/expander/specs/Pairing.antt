@@ -12,4 +12,4 @@ use Rattle.pairing.specs.AllHeld.{AllHeld}
 abbrev pub Held : Type 0
 Held =
     (I : Input) → InMemory I → (a b : List ℕ) → deal I a b .number ≡ 0 → 2 ^ I .depth ≤ 1024
-    → AllHeld (take (deal I a b .first) (deal I a b .noiseRecord)) (take (deal I a b .second) (deal I a b .scalarRecord)) (I .outputs)
+    → AllHeld (take (deal I a b .firstWritten) (deal I a b .noiseRecord)) (take (deal I a b .secondWritten) (deal I a b .scalarRecord)) (I .outputs)

@@ -17,9 +17,9 @@ use Rattle.record.specs.Writing.{writeNoise, writeScalar}
 pub record Records : Type 0 where
   -- what an accepted dealing wrote, the front of each buffer of the returned length, reads back
   pub noise-back : (I : Input) → InMemory I → (a b : List ℕ) → deal I a b .number ≡ 0
-      → readNoise (take (deal I a b .first) (deal I a b .noiseRecord)) ≡ Whole (noisePart I)
+      → readNoise (take (deal I a b .firstWritten) (deal I a b .noiseRecord)) ≡ Whole (noisePart I)
   pub scalar-back : (I : Input) → InMemory I → (a b : List ℕ) → deal I a b .number ≡ 0
-      → readScalar (take (deal I a b .second) (deal I a b .scalarRecord)) ≡ Whole (scalarPart I)
+      → readScalar (take (deal I a b .secondWritten) (deal I a b .scalarRecord)) ≡ Whole (scalarPart I)
   -- bytes that read as a content are its writing, and the content is admitted
   pub noise-one : (s : List ℕ) → Bytes s → (p : NoisePart) → readNoise s ≡ Whole p → AdmittedNoise p × (s ≡ writeNoise p)
   pub scalar-one : (s : List ℕ) → Bytes s → (p : ScalarPart) → readScalar s ≡ Whole p → AdmittedScalar p × (s ≡ writeScalar p)

@@ -110,7 +110,7 @@ module _ (s noise v : List ℕ) (f : Front) {width size : ℕ} (we : width ≡ e
   pub vectors-written : size ≤ length noise → size * width ≤ length v → {a b : List ℕ}
       → a ≡ noiseExpansion (kindOf (f .field)) (f .depth) (f .trees) (treesAt (f .field) s (f .body) (f .depth) (f .trees))
       → b ≡ vExpansion (kindOf (f .field)) (f .depth) (f .trees) (treesAt (f .field) s (f .body) (f .depth) (f .trees))
-      → record { number = 0; first = size; second = size * width; source = s; noise = a ++ drop size noise; v = b ++ drop (size * width) v }
+      → record { number = 0; firstWritten = size; secondWritten = size * width; source = s; noise = a ++ drop size noise; v = b ++ drop (size * width) v }
       ≡ off.expand (contentOf s f) s noise v
   unfolding off.expand over noiseExpansion vExpansion mu v0
   vectors-written h k {a} {b} p q =
@@ -288,7 +288,7 @@ module _ (s noise v uOut vOut : List ℕ) (first count : ℕ) (f : Front) {keys 
     pub rows-written : not b ≡ false → {width : ℕ} → width ≡ elementWidth (f .field)
         → {x : List ℕ} → x ≡ uOver (kindOf (f .field)) keys size (f .terms) first count noise uOut
         → {y : List ℕ} → y ≡ windowOver (kindOf (f .field)) keys size (f .terms) first count v vOut
-        → record { number = 0; first = count; second = count * width; lent = record { source = s; noise = noise; v = v; uOut = x; vOut = y } }
+        → record { number = 0; firstWritten = count; secondWritten = count * width; lent = record { source = s; noise = noise; v = v; uOut = x; vOut = y } }
         ≡ rowsOutcome (headOf s f) (lent s noise v uOut vOut) first count
     unfolding rowsOutcome on.filled elementWidth
     rows-written e {width} we {x} q {y} t =

@@ -47,10 +47,10 @@ offline-refused source noise v e = rw e
 pub record Accepted (P : NoisePart) (source : List ℕ) (o : Expanded) : Type 0 where
   pub record-kept : o .source ≡ source
   pub number : o .number ≡ 0
-  pub first : o .first ≡ places (P .head)
-  pub second : o .second ≡ vWords P
-  pub noise : take (o .first) (o .noise) ≡ flat (fieldOf (P .head) .noiseValues) (places (P .head)) (accumulate (fieldOf (P .head) .ring .group) (mu P))
-  pub v : take (o .second) (o .v) ≡ flat (fieldOf (P .head) .elements) (places (P .head)) (accumulate (fieldOf (P .head) .scaled .group) (v0 P))
+  pub firstWritten : o .firstWritten ≡ places (P .head)
+  pub secondWritten : o .secondWritten ≡ vWords P
+  pub noise : take (o .firstWritten) (o .noise) ≡ flat (fieldOf (P .head) .noiseValues) (places (P .head)) (accumulate (fieldOf (P .head) .ring .group) (mu P))
+  pub v : take (o .secondWritten) (o .v) ≡ flat (fieldOf (P .head) .elements) (places (P .head)) (accumulate (fieldOf (P .head) .scaled .group) (v0 P))
 
 -- one of the buffers is too short
 abbrev short : NoisePart → List ℕ → List ℕ → Bool
@@ -66,8 +66,8 @@ expand-accepted P source noise v e =
     rw e (record {
       record-kept = refl;
       number = refl;
-      first = refl;
-      second = refl;
+      firstWritten = refl;
+      secondWritten = refl;
       noise =
           ap (λ n. take n (over (fieldOf (P .head) .noiseValues) (places (P .head)) (accumulate (fieldOf (P .head) .ring .group) (mu P)) noise))
           (sym (one-word (P .head) (places (P .head))))
@@ -177,7 +177,7 @@ module _ (l : Lent) (P : NoisePart) (f : ℕ → NoiseValue (fieldOf (P .head)))
 
   -- what an accepted call returns
   accepted : Outcome
-  accepted = record { number = 0; first = count; second = count * fieldOf (P .head) .elements .width; lent = filled (P .head) l first count }
+  accepted = record { number = 0; firstWritten = count; secondWritten = count * fieldOf (P .head) .elements .width; lent = filled (P .head) l first count }
 
   listed : online l first count
       ≡ choose (pastEnd (P .head) first count) (on.refusal 7 l) (choose (tooShort (P .head) l count) (on.refusal 13 l) accepted)

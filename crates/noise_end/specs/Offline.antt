@@ -18,8 +18,8 @@ use Rattle.noise_end.specs.Vectors.{mu, v0}
 -- the number, the words written to each buffer, and all that is lent: the record and both buffers
 pub record Expanded : Type 0 where
   pub number : ℕ
-  pub first : ℕ
-  pub second : ℕ
+  pub firstWritten : ℕ
+  pub secondWritten : ℕ
   pub source : List ℕ
   pub noise : List ℕ
   pub v : List ℕ
@@ -27,11 +27,11 @@ pub record Expanded : Type 0 where
 -- what an answer and all that is lent at exit say
 abbrev pub expanded : TwoLengths → List ℕ → List ℕ → List ℕ → Expanded
 expanded r source noise v =
-    record { number = r .number; first = r .first; second = r .second; source = source; noise = noise; v = v }
+    record { number = r .number; firstWritten = r .«first_written»; secondWritten = r .«second_written»; source = source; noise = noise; v = v }
 
 -- a refused call: its number, zero for each length, and all that is lent as it was
 abbrev pub refusal : ℕ → List ℕ → List ℕ → List ℕ → Expanded
-refusal k source noise v = record { number = k; first = 0; second = 0; source = source; noise = noise; v = v }
+refusal k source noise v = record { number = k; firstWritten = 0; secondWritten = 0; source = source; noise = noise; v = v }
 
 -- the words of v: an element at each of N places
 abbrev pub vWords : NoisePart → ℕ
@@ -43,8 +43,8 @@ expand P source noise v =
     choose (ltb (length noise) (places (P .head)) || ltb (length v) (vWords P)) (refusal 13 source noise v)
     (record {
       number = 0;
-      first = places (P .head);
-      second = vWords P;
+      firstWritten = places (P .head);
+      secondWritten = vWords P;
       source = source;
       noise = over (fieldOf (P .head) .noiseValues) (places (P .head)) (accumulate (fieldOf (P .head) .ring .group) (mu P)) noise;
       v = over (fieldOf (P .head) .elements) (places (P .head)) (accumulate (fieldOf (P .head) .scaled .group) (v0 P)) v;

@@ -29,17 +29,17 @@ pub record Lent : Type 0 where
 -- the number, the words written to each output buffer, and all that is lent
 pub record Outcome : Type 0 where
   pub number : ℕ
-  pub first : ℕ
-  pub second : ℕ
+  pub firstWritten : ℕ
+  pub secondWritten : ℕ
   pub lent : Lent
 
 -- what an answer and all that is lent at exit say
 abbrev pub outcome : TwoLengths → Lent → Outcome
-outcome r l = record { number = r .number; first = r .first; second = r .second; lent = l }
+outcome r l = record { number = r .number; firstWritten = r .«first_written»; secondWritten = r .«second_written»; lent = l }
 
 -- a refused call: its number, zero for each length, and all that is lent as it was
 abbrev pub refusal : ℕ → Lent → Outcome
-refusal k l = record { number = k; first = 0; second = 0; lent = l }
+refusal k l = record { number = k; firstWritten = 0; secondWritten = 0; lent = l }
 
 -- 8: the words at a place are elements: that of the accumulated noise (in field 1 it is 0 or 1) and those of v
 unfoldable pub usable : Field → Lent → ℕ → Bool
@@ -76,7 +76,7 @@ tooShort h l count = ltb (length (l .uOut)) count || ltb (length (l .vOut)) (cou
 unfoldable pub rowsOutcome : Head → Lent → ℕ → ℕ → Outcome
 rowsOutcome h l first count =
     choose (not (windowUsable (usable (fieldOf h) l) h first count)) (refusal 8 l)
-    (record { number = 0; first = count; second = count * fieldOf h .elements .width; lent = filled h l first count })
+    (record { number = 0; firstWritten = count; secondWritten = count * fieldOf h .elements .width; lent = filled h l first count })
 
 -- the tests 3, 7, 13, then 8 and the window
 unfoldable pub window : Head → Lent → ℕ → ℕ → Outcome

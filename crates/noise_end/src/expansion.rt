@@ -158,15 +158,15 @@ pub fn write_vectors(source: &[u8], front: Front, noise: &mut [u64], v: &mut [u6
     if noise.len() < size {
         return TwoLengths {
             number: BUFFER_SHORT,
-            first: 0,
-            second: 0,
+            first_written: 0,
+            second_written: 0,
         };
     }
     if v.len() < words {
         return TwoLengths {
             number: BUFFER_SHORT,
-            first: 0,
-            second: 0,
+            first_written: 0,
+            second_written: 0,
         };
     }
     expand_trees(
@@ -180,7 +180,7 @@ pub fn write_vectors(source: &[u8], front: Front, noise: &mut [u64], v: &mut [u6
     );
     TwoLengths {
         number: 0,
-        first: size,
-        second: words,
+        first_written: size,
+        second_written: words,
     }
 }

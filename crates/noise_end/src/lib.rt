@@ -21,8 +21,8 @@ pub fn offline(source: &[u8], noise: &mut [u64], v: &mut [u64]) -> TwoLengths
     let Opened::Accepted(front) = r else {
         return TwoLengths {
             number: fault_of(r),
-            first: 0,
-            second: 0,
+            first_written: 0,
+            second_written: 0,
         };
     };
     write_vectors(source, front, noise, v)
@@ -45,8 +45,8 @@ pub fn online(
     let Opened::Accepted(front) = r else {
         return TwoLengths {
             number: fault_of(r),
-            first: 0,
-            second: 0,
+            first_written: 0,
+            second_written: 0,
         };
     };
     write_window(source, front, noise, v, first, count, u_out, v_out)

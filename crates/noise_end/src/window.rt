@@ -201,8 +201,8 @@ fn write_rows(
     ) {
         return TwoLengths {
             number: NOT_ELEMENT,
-            first: 0,
-            second: 0,
+            first_written: 0,
+            second_written: 0,
         };
     }
     if !elements_used(
@@ -218,8 +218,8 @@ fn write_rows(
     ) {
         return TwoLengths {
             number: NOT_ELEMENT,
-            first: 0,
-            second: 0,
+            first_written: 0,
+            second_written: 0,
         };
     }
     fill(
@@ -238,8 +238,8 @@ fn write_rows(
     );
     TwoLengths {
         number: 0,
-        first: count,
-        second: words,
+        first_written: count,
+        second_written: words,
     }
 }
 
@@ -303,8 +303,8 @@ pub fn write_window(
     if number != 0 {
         return TwoLengths {
             number: number,
-            first: 0,
-            second: 0,
+            first_written: 0,
+            second_written: 0,
         };
     }
     write_rows(source, front, noise, v, first, count, u_out, v_out)

@@ -85,31 +85,31 @@ module _ {s t : List ℕ} {field outputs : ℕ} (A : Paired s t field outputs) w
     noise-accepted : noiseLaws.Accepted (A .P) s (noiseOffline.expanded r s n v)
     noise-accepted = rw call (noiseLaws.offline-accepts s (replicate 1024 0) (replicate 2048 0) (A .read) (A .small) wide)
 
-    pub noise-front : r .first ≡ length (take (r .first) n)
+    pub noise-front : r .«first_written» ≡ length (take (r .«first_written») n)
     noise-front =
-        noise-accepted .first
+        noise-accepted .firstWritten
         ∙ sym (ap length (noise-accepted .noise)
         ∙ length-flat (fieldOf (A .P .head) .noiseValues) (kindLaws (A .P .head .field) .field .noiseValues) (places (A .P .head)) _
         ∙ ap (λ (w : ℕ). places (A .P .head) * w) (kindLaws (A .P .head .field) .noise-width) ∙ mul-one (places (A .P .head)))
 
-    pub noise-in : r .first ≤ length n
-    noise-in = front-in (r .first) n noise-front
+    pub noise-in : r .«first_written» ≤ length n
+    noise-in = front-in (r .«first_written») n noise-front
 
-    pub v-front : r .second ≡ length (take (r .second) v)
+    pub v-front : r .«second_written» ≡ length (take (r .«second_written») v)
     v-front =
-        noise-accepted .second
+        noise-accepted .secondWritten
         ∙ sym (ap length (noise-accepted .v)
         ∙ length-flat (fieldOf (A .P .head) .elements) (kindLaws (A .P .head .field) .field .elements) (places (A .P .head)) _)
 
-    pub v-in : r .second ≤ length v
-    v-in = front-in (r .second) v v-front
+    pub v-in : r .«second_written» ≤ length v
+    v-in = front-in (r .«second_written») v v-front
 
     -- ---- online
     module _ {o : TwoLengths} {u vs : List ℕ}
-        (window : noiseOnline.outcome o (record { source = s; noise = take (r .first) n; v = take (r .second) v; uOut = u; vOut = vs })
-        ≡ noiseOnline.online (record { source = s; noise = take (r .first) n; v = take (r .second) v; uOut = replicate 512 0; vOut = replicate 1024 0 }) 0 outputs) where
+        (window : noiseOnline.outcome o (record { source = s; noise = take (r .«first_written») n; v = take (r .«second_written») v; uOut = u; vOut = vs })
+        ≡ noiseOnline.online (record { source = s; noise = take (r .«first_written») n; v = take (r .«second_written») v; uOut = replicate 512 0; vOut = replicate 1024 0 }) 0 outputs) where
       lent : noiseOnline.Lent
-      lent = record { source = s; noise = take (r .first) n; v = take (r .second) v; uOut = replicate 512 0; vOut = replicate 1024 0 }
+      lent = record { source = s; noise = take (r .«first_written») n; v = take (r .«second_written») v; uOut = replicate 512 0; vOut = replicate 1024 0 }
 
       mu : ℕ → NoiseValue (fieldOf (A .P .head))
       mu = accumulate (fieldOf (A .P .head) .ring .group) (noiseVectors.mu (A .P))
@@ -155,27 +155,27 @@ module _ {s t : List ℕ} {field outputs : ℕ} (A : Paired s t field outputs) w
     scalar-accepted : scalarLaws.Accepted (A .Q) t (scalarOffline.expanded r t w delta)
     scalar-accepted = rw call (scalarLaws.offline-accepts t (replicate 2048 0) (replicate 2 0) (A .other) scalar-wide (omega arith))
 
-    pub w-front : r .first ≡ length (take (r .first) w)
+    pub w-front : r .«first_written» ≡ length (take (r .«first_written») w)
     w-front =
-        scalar-accepted .first
+        scalar-accepted .firstWritten
         ∙ sym (ap length (scalar-accepted .w)
         ∙ length-flat (fieldOf (A .Q .head) .elements) (kindLaws (A .Q .head .field) .field .elements) (places (A .Q .head)) _)
 
-    pub w-in : r .first ≤ length w
-    w-in = front-in (r .first) w w-front
+    pub w-in : r .«first_written» ≤ length w
+    w-in = front-in (r .«first_written») w w-front
 
     -- Δ as the count reads it
     delta-value : length delta ≡ 2 → fieldOf (A .P .head) .elements .read delta 0 ≡ fieldOf (A .P .head) .elements .read (A .Q .delta) 0
     delta-value e =
         let whole : delta ≡ scalarVectors.deltaWords (A .Q) =
-        sym (take-all 2 delta (omega arith)) ∙ ap (λ (k : ℕ). take k delta) (sym (scalar-accepted .second)) ∙ scalar-accepted .delta in
+        sym (take-all 2 delta (omega arith)) ∙ ap (λ (k : ℕ). take k delta) (sym (scalar-accepted .secondWritten)) ∙ scalar-accepted .delta in
         ap (λ (l : List ℕ). fieldOf (A .P .head) .elements .read l 0) whole ∙ delta-read (A .P .head .field) (A .Q .delta)
 
     module _ {o : OneLength} {ws : List ℕ}
-        (window : scalarOnline.outcome o (record { source = t; w = take (r .first) w; wOut = ws })
-        ≡ scalarOnline.online (record { source = t; w = take (r .first) w; wOut = replicate 1024 0 }) 0 outputs) where
+        (window : scalarOnline.outcome o (record { source = t; w = take (r .«first_written») w; wOut = ws })
+        ≡ scalarOnline.online (record { source = t; w = take (r .«first_written») w; wOut = replicate 1024 0 }) 0 outputs) where
       borrowed : scalarOnline.Lent
-      borrowed = record { source = t; w = take (r .first) w; wOut = replicate 1024 0 }
+      borrowed = record { source = t; w = take (r .«first_written») w; wOut = replicate 1024 0 }
 
       w0 : ℕ → Value (fieldOf (A .Q .head))
       w0 = accumulate (fieldOf (A .Q .head) .scaled .group) (scalarVectors.w0 (A .Q))
@@ -231,10 +231,10 @@ module _ {s t : List ℕ} {field outputs : ℕ} (A : Paired s t field outputs) w
   module _ {a b o : TwoLengths} {c : OneLength} {n v w delta u vs ws : List ℕ}
       (noise-call : noiseOffline.expanded a s n v ≡ noiseOffline.offline s (replicate 1024 0) (replicate 2048 0))
       (scalar-call : scalarOffline.expanded b t w delta ≡ scalarOffline.offline t (replicate 2048 0) (replicate 2 0))
-      (noise-window : noiseOnline.outcome o (record { source = s; noise = take (a .first) n; v = take (a .second) v; uOut = u; vOut = vs })
-      ≡ noiseOnline.online (record { source = s; noise = take (a .first) n; v = take (a .second) v; uOut = replicate 512 0; vOut = replicate 1024 0 }) 0 outputs)
-      (scalar-window : scalarOnline.outcome c (record { source = t; w = take (b .first) w; wOut = ws })
-      ≡ scalarOnline.online (record { source = t; w = take (b .first) w; wOut = replicate 1024 0 }) 0 outputs)
+      (noise-window : noiseOnline.outcome o (record { source = s; noise = take (a .«first_written») n; v = take (a .«second_written») v; uOut = u; vOut = vs })
+      ≡ noiseOnline.online (record { source = s; noise = take (a .«first_written») n; v = take (a .«second_written») v; uOut = replicate 512 0; vOut = replicate 1024 0 }) 0 outputs)
+      (scalar-window : scalarOnline.outcome c (record { source = t; w = take (b .«first_written») w; wOut = ws })
+      ≡ scalarOnline.online (record { source = t; w = take (b .«first_written») w; wOut = replicate 1024 0 }) 0 outputs)
       (two : length delta ≡ 2) where
     pub outputs-found : {r : ℕ} → r ≡ heldWords (kindOf field .field) delta u vs ws outputs → Checked outputs r ≡ verdict s t
     outputs-found q =

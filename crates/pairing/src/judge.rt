@@ -25,9 +25,9 @@ fn held_outputs(noise_record: &[u8], scalar_record: &[u8], field: usize, outputs
     let mut delta = [0u64; 2];
     let noise_lengths = noise_end::offline(noise_record, &mut noise, &mut v);
     let scalar_lengths = scalar_end::offline(scalar_record, &mut w, &mut delta);
-    let noise_words = noise_lengths.first;
-    let v_words = noise_lengths.second;
-    let w_words = scalar_lengths.first;
+    let noise_words = noise_lengths.first_written;
+    let v_words = noise_lengths.second_written;
+    let w_words = scalar_lengths.first_written;
     let mut u_out = [0u64; 512];
     let mut v_out = [0u64; 1024];
     let mut w_out = [0u64; 1024];

@@ -143,7 +143,7 @@ module _ (s w d : List ℕ) (f : Front) {width size : ℕ} (we : width ≡ eleme
 
   pub vectors-written : size * width ≤ length w → 2 ≤ length d → {part dx : List ℕ}
       → part ≡ expansion (kindOf (f .field)) s (f .body + 8 * width) (f .depth) (f .trees) → dx ≡ deltaAt (f .field) s (f .body) ++ drop 2 d
-      → record { number = 0; first = size * width; second = 2; source = s; w = part ++ drop (size * width) w; delta = dx } ≡ off.expand (contentOf s f) s w d
+      → record { number = 0; firstWritten = size * width; secondWritten = 2; source = s; w = part ++ drop (size * width) w; delta = dx } ≡ off.expand (contentOf s f) s w d
   unfolding off.expand over
   vectors-written h k {part} {dx} pe de =
       let p : part ≡ flat (kindOf (f .field) .field .elements) (2 ^ f .depth) (accumulate (kindOf (f .field) .field .scaled .group) (w0 (contentOf s f))) =
@@ -261,7 +261,7 @@ module _ (s w out : List ℕ) (first count : ℕ) (f : Front) {keys : List (List
 
   pub rows-written : not used ≡ false → {width : ℕ} → width ≡ elementWidth (f .field)
       → {x : List ℕ} → x ≡ windowOver (kindOf (f .field)) keys size (f .terms) first count w out
-      → record { number = 0; first = count * width; lent = record { source = s; w = w; wOut = x } } ≡ rowsOutcome (headOf s f) (lent s w out) first count
+      → record { number = 0; written = count * width; lent = record { source = s; w = w; wOut = x } } ≡ rowsOutcome (headOf s f) (lent s w out) first count
   unfolding rowsOutcome on.filled elementWidth
   rows-written e {width} we {x} q =
       let p : x ≡ on.filled (headOf s f) (lent s w out) first count .wOut = q ∙ rw (ke, se) (window-words s f first count w out) in

@@ -46,10 +46,10 @@ offline-refused source w delta e = rw e
 pub record Accepted (P : ScalarPart) (source : List ℕ) (o : Expanded) : Type 0 where
   pub record-kept : o .source ≡ source
   pub number : o .number ≡ 0
-  pub first : o .first ≡ wWords P
-  pub second : o .second ≡ 2
-  pub w : take (o .first) (o .w) ≡ flat (fieldOf (P .head) .elements) (places (P .head)) (accumulate (fieldOf (P .head) .scaled .group) (w0 P))
-  pub delta : take (o .second) (o .delta) ≡ deltaWords P
+  pub firstWritten : o .firstWritten ≡ wWords P
+  pub secondWritten : o .secondWritten ≡ 2
+  pub w : take (o .firstWritten) (o .w) ≡ flat (fieldOf (P .head) .elements) (places (P .head)) (accumulate (fieldOf (P .head) .scaled .group) (w0 P))
+  pub delta : take (o .secondWritten) (o .delta) ≡ deltaWords P
 
 expand-accepted : (P : ScalarPart) (source w delta : List ℕ) → (ltb (length w) (wWords P) || ltb (length delta) 2) ≡ false → Accepted P source (expand P source w delta)
 unfolding expand
@@ -57,8 +57,8 @@ expand-accepted P source w delta e =
     rw e (record {
       record-kept = refl;
       number = refl;
-      first = refl;
-      second = refl;
+      firstWritten = refl;
+      secondWritten = refl;
       w = take-over (fieldOf (P .head) .elements) (kindLaws (P .head .field) .field .elements) (places (P .head))
           (accumulate (fieldOf (P .head) .scaled .group) (w0 P)) w;
       delta = refl;
@@ -148,7 +148,7 @@ module _ (l : Lent) (P : ScalarPart) (f : ℕ → Value (fieldOf (P .head))) (re
   listed : online l first count
       ≡ choose (pastEnd (P .head) first count) (on.refusal 7 l)
       (choose (tooShort (P .head) l count) (on.refusal 13 l)
-      (record { number = 0; first = count * fieldOf (P .head) .elements .width; lent = filled (P .head) l first count }))
+      (record { number = 0; written = count * fieldOf (P .head) .elements .width; lent = filled (P .head) l first count }))
   unfolding window rowsOutcome
   listed = online-whole l first count read ∙ rw (right-length, all-usable)
 
@@ -171,7 +171,7 @@ module _ (l : Lent) (P : ScalarPart) (f : ℕ → Value (fieldOf (P .head))) (re
     where
       passed : (s t : Bool) → pastEnd (P .head) first count ≡ s → tooShort (P .head) l count ≡ t
           → online l first count
-          ≡ record { number = 0; first = count * fieldOf (P .head) .elements .width; lent = filled (P .head) l first count }
+          ≡ record { number = 0; written = count * fieldOf (P .head) .elements .width; lent = filled (P .head) l first count }
       passed true t a b = absurd (omega (arith, rw a at online-number))
       passed false true a b = absurd (omega (arith, rw (a, b) at online-number))
       passed false false a b = listed ∙ rw (a, b)

@@ -18,8 +18,8 @@ use Rattle.scalar_end.specs.Vectors.{w0, deltaWords}
 -- the number, the words written to each buffer, and all that is lent: the record and both buffers
 pub record Expanded : Type 0 where
   pub number : ℕ
-  pub first : ℕ
-  pub second : ℕ
+  pub firstWritten : ℕ
+  pub secondWritten : ℕ
   pub source : List ℕ
   pub w : List ℕ
   pub delta : List ℕ
@@ -27,11 +27,11 @@ pub record Expanded : Type 0 where
 -- what an answer and all that is lent at exit say
 abbrev pub expanded : TwoLengths → List ℕ → List ℕ → List ℕ → Expanded
 expanded r source w delta =
-    record { number = r .number; first = r .first; second = r .second; source = source; w = w; delta = delta }
+    record { number = r .number; firstWritten = r .«first_written»; secondWritten = r .«second_written»; source = source; w = w; delta = delta }
 
 -- a refused call: its number, zero for each length, and all that is lent as it was
 abbrev pub refusal : ℕ → List ℕ → List ℕ → List ℕ → Expanded
-refusal k source w delta = record { number = k; first = 0; second = 0; source = source; w = w; delta = delta }
+refusal k source w delta = record { number = k; firstWritten = 0; secondWritten = 0; source = source; w = w; delta = delta }
 
 -- the words of w: an element at each of N places
 abbrev pub wWords : ScalarPart → ℕ
@@ -43,8 +43,8 @@ expand P source w delta =
     choose (ltb (length w) (wWords P) || ltb (length delta) 2) (refusal 13 source w delta)
     (record {
       number = 0;
-      first = wWords P;
-      second = 2;
+      firstWritten = wWords P;
+      secondWritten = 2;
       source = source;
       w = over (fieldOf (P .head) .elements) (places (P .head)) (accumulate (fieldOf (P .head) .scaled .group) (w0 P)) w;
       delta = deltaWords P ++ drop 2 delta;

@@ -26,16 +26,16 @@ pub record Lent : Type 0 where
 -- the number, the words written to the output buffer, and all that is lent
 pub record Outcome : Type 0 where
   pub number : ℕ
-  pub first : ℕ
+  pub written : ℕ
   pub lent : Lent
 
 -- what an answer and all that is lent at exit say
 abbrev pub outcome : OneLength → Lent → Outcome
-outcome r l = record { number = r .number; first = r .first; lent = l }
+outcome r l = record { number = r .number; written = r .written; lent = l }
 
 -- a refused call: its number, zero for the length, and all that is lent as it was
 abbrev pub refusal : ℕ → Lent → Outcome
-refusal k l = record { number = k; first = 0; lent = l }
+refusal k l = record { number = k; written = 0; lent = l }
 
 -- 8: the words of w at a place are an element
 unfoldable pub usable : Field → Lent → ℕ → Bool
@@ -66,7 +66,7 @@ tooShort h l count = ltb (length (l .wOut)) (count * fieldOf h .elements .width)
 unfoldable pub rowsOutcome : Head → Lent → ℕ → ℕ → Outcome
 rowsOutcome h l first count =
     choose (not (windowUsable (usable (fieldOf h) l) h first count)) (refusal 8 l)
-    (record { number = 0; first = count * fieldOf h .elements .width; lent = filled h l first count })
+    (record { number = 0; written = count * fieldOf h .elements .width; lent = filled h l first count })
 
 -- the tests 3, 7, 13, then 8 and the window
 unfoldable pub window : Head → Lent → ℕ → ℕ → Outcome

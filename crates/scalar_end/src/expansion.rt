@@ -114,15 +114,15 @@ pub fn write_vectors(source: &[u8], front: Front, w: &mut [u64], delta: &mut [u6
     if w.len() < words {
         return TwoLengths {
             number: BUFFER_SHORT,
-            first: 0,
-            second: 0,
+            first_written: 0,
+            second_written: 0,
         };
     }
     if delta.len() < 2 {
         return TwoLengths {
             number: BUFFER_SHORT,
-            first: 0,
-            second: 0,
+            first_written: 0,
+            second_written: 0,
         };
     }
     let roots = front.body + 8 * width;
@@ -137,7 +137,7 @@ pub fn write_vectors(source: &[u8], front: Front, w: &mut [u64], delta: &mut [u6
     write_delta(source, front.body, front.field, delta);
     TwoLengths {
         number: 0,
-        first: words,
-        second: 2,
+        first_written: words,
+        second_written: 2,
     }
 }

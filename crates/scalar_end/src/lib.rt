@@ -22,8 +22,8 @@ pub fn offline(source: &[u8], w: &mut [u64], delta: &mut [u64]) -> TwoLengths
     let Opened::Accepted(front) = r else {
         return TwoLengths {
             number: fault_of(r),
-            first: 0,
-            second: 0,
+            first_written: 0,
+            second_written: 0,
         };
     };
     write_vectors(source, front, w, delta)
@@ -38,7 +38,7 @@ pub fn online(source: &[u8], w: &[u64], first: usize, count: usize, w_out: &mut 
     let Opened::Accepted(front) = r else {
         return OneLength {
             number: fault_of(r),
-            first: 0,
+            written: 0,
         };
     };
     write_window(source, front, w, first, count, w_out)

@@ -129,7 +129,7 @@ fn write_rows(
     ) {
         return OneLength {
             number: NOT_ELEMENT,
-            first: 0,
+            written: 0,
         };
     }
     fill(
@@ -146,7 +146,7 @@ fn write_rows(
     );
     OneLength {
         number: 0,
-        first: words,
+        written: words,
     }
 }
 
@@ -185,7 +185,7 @@ pub fn write_window(
     if number != 0 {
         return OneLength {
             number: number,
-            first: 0,
+            written: 0,
         };
     }
     write_rows(source, front, w, first, count, w_out)

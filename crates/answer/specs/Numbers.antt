@@ -1,0 +1,58 @@
+-- The numbers that the calls return (document 01, 'Numbers of the calls'), by the names of the C header.
+use Prim.Native.Nat.{ℕ}
+
+-- the call is accepted
+abbrev pub accepted : ℕ
+accepted = 0
+
+-- field byte not 1 or 2
+abbrev pub badField : ℕ
+badField = 1
+
+-- d, t, ℓ or n outside its range
+abbrev pub badSize : ℕ
+badSize = 2
+
+-- an input slice not exactly the length that the sizes or c call for
+abbrev pub badLength : ℕ
+badLength = 3
+
+-- position not rising, or N or more
+abbrev pub badPosition : ℕ
+badPosition = 4
+
+-- noise value not admitted
+abbrev pub badNoise : ℕ
+badNoise = 5
+
+-- Δ zero, or not an element; in a dealing of field 2, also any of its last eight bytes not 00
+abbrev pub badDelta : ℕ
+badDelta = 6
+
+-- window past its end
+abbrev pub windowPastEnd : ℕ
+windowPastEnd = 7
+
+-- correction, or a word that the window's rows use, not an element, or in binary noise above 1; choice byte above 1
+abbrev pub notElement : ℕ
+notElement = 8
+
+-- end byte not this end's
+abbrev pub wrongEnd : ℕ
+wrongEnd = 9
+
+-- record ends inside a field
+abbrev pub recordEnds : ℕ
+recordEnds = 10
+
+-- number not shortest, or its third byte's top bit set
+abbrev pub badNumber : ℕ
+badNumber = 11
+
+-- bytes after the record
+abbrev pub bytesAfter : ℕ
+bytesAfter = 12
+
+-- output buffer too short
+abbrev pub bufferShort : ℕ
+bufferShort = 13
