@@ -147,7 +147,10 @@ pub fn records() {
         &mut noise,
         &mut scalar,
     );
-    say(b"bytes of a noise record with d = t = l = n = 1: ", r.first_written);
+    say(
+        b"bytes of a noise record with d = t = l = n = 1: ",
+        r.first_written,
+    );
     let whole = front(&noise, 55);
     say(b"whole: ", offline_number(&noise[..whole]));
     let cut = front(&noise, 54);
