@@ -179,9 +179,9 @@ module _ (I : Input) (A : Admitted I) (M : InMemory I) where
   tree-admitted i h base b =
       let c =
       correction-admitted (I .field) (A .field) _ _ (word-below (I .delta) 0 (M .delta)) (word-below (I .delta) 8 (M .delta))
-      (leafAt child (I .depth) (root I i) (position I i)) (leaf-state (I .depth) (root I i) (position I i) (root-state i)) (value I i)
+      (leafAt 2 child (I .depth) (root I i) (position I i)) (leaf-state (I .depth) (root I i) (position I i) (root-state i)) (value I i)
       in
-      let beside = siblings child (I .depth) (root I i) (position I i) in
+      let beside = siblings 2 child (I .depth) (root I i) (position I i) in
       record {
         rising = b;
         below = lt-ltb _ _ (A .below i h);
@@ -189,7 +189,7 @@ module _ (I : Input) (A : Admitted I) (M : InMemory I) where
         words = c .words;
         correction = c .element;
         siblings = (
-          length-map blockBytes beside ∙ tree.length-siblings child (I .depth) (root I i) (position I i),
+          length-map blockBytes beside ∙ tree.length-siblings-two child (I .depth) (root I i) (position I i),
           states-blocks beside (siblings-states (I .depth) (root I i) (position I i) (root-state i)),
         );
       }

@@ -28,10 +28,11 @@ use Rattle.record.specs.Content.{NoiseTree, elementWords, elementOf}
 use Rattle.record.specs.Writing.{flat, writeWords, writeBlocks, writeValue, writeFront, writeTree, writeTrees, frontLength}
 use Rattle.tree.proofs.Blocks.{length-blocks}
 use Rattle.tree.proofs.ChildLaws.{leaf-by, siblings-by}
-use Rattle.tree.proofs.Laws.{length-siblings}
+use Rattle.tree.proofs.Laws.{length-siblings-two}
 use Rattle.tree.proofs.Listed.{listed-none, listed-last}
 use Rattle.tree.specs.Child.{child, childBy}
 use Rattle.tree.specs.Columns.{blockBytes, blocksBytes}
+use Rattle.tree.specs.Expanded.{walk, walked}
 use Rattle.tree.specs.Tree.{listed, siblings, leafAt}
 use Rattle.dealing.specs.Input.{Input}
 use Rattle.dealing.specs.Parts.{noiseTree}
@@ -160,7 +161,7 @@ module _ (I : Input) (i base : ℕ) where
   frontBytes = writeFront (I .field) base (position I i) (getD (I .values) i 0) (field I .elements .words (treeCorrection I i))
 
   abbrev siblingBytes : List ℕ
-  siblingBytes = blocksBytes (siblings child (I .depth) (root I i) (position I i))
+  siblingBytes = blocksBytes (siblings 2 child (I .depth) (root I i) (position I i))
 
   front-long : length frontBytes ≡ frontLength (I .field) base (position I i)
   front-long = length-front (I .field) base (position I i) (getD (I .values) i 0) _ (length-words (I .field) (treeCorrection I i))
@@ -168,13 +169,13 @@ module _ (I : Input) (i base : ℕ) where
   -- the front, then the siblings
   tree-bytes : frontBytes ++ siblingBytes ≡ writeTree (I .field) base (noiseTree I i)
   unfolding writeTree noiseTree
-  tree-bytes = ap (λ l. frontBytes ++ l) (blocks-bytes (siblings child (I .depth) (root I i) (position I i)))
+  tree-bytes = ap (λ l. frontBytes ++ l) (blocks-bytes (siblings 2 child (I .depth) (root I i) (position I i)))
 
   pub tree-length : length (writeTree (I .field) base (noiseTree I i)) ≡ treeLength I i base
   tree-length =
       sym (ap length tree-bytes) ∙ length-append frontBytes siblingBytes
       ∙ ap₂ (λ a b. a + b) front-long
-      (length-blocks (siblings child (I .depth) (root I i) (position I i)) ∙ ap (λ n. n * 16) (length-siblings child (I .depth) (root I i) (position I i)) ∙ mul-comm (I .depth) 16)
+      (length-blocks (siblings 2 child (I .depth) (root I i) (position I i)) ∙ ap (λ n. n * 16) (length-siblings-two child (I .depth) (root I i) (position I i)) ∙ mul-comm (I .depth) 16)
 
 -- ---- a tree at its place
 
@@ -200,20 +201,25 @@ module _ (k d : ℕ) (roots positions values delta : List ℕ) (i base at : ℕ)
   tree-place = omega (arith, front-of)
 
   module _ {r s : List (List ℕ)} {out₁ : List ℕ} (node : r ≡ root I i)
-      (walked : (s ≡ leafAt (childBy left right) d r p) × (out₁ ≡ sets out (at + f) (blocksBytes (siblings (childBy left right) d r p)))) where
+      (went : walk s out₁ ≡ walked 2 (childBy left right) r (record { levels = d; position = p; at = at + f }) out) where
+    bytes : out₁ ≡ sets out (at + f) (blocksBytes (siblings 2 (childBy left right) d r p))
+    unfolding walked
+    bytes = ap (λ x. x .bytes) went
+
     pub front-room : at + frontLength k base p ≤ length out₁
     front-room =
-        omega (arith, front, front-of, P .room, ap length (walked .1), length-sets out (at + f) (blocksBytes (siblings (childBy left right) d r p)))
+        omega (arith, front, front-of, P .room, ap length bytes, length-sets out (at + f) (blocksBytes (siblings 2 (childBy left right) d r p)))
 
     -- the leaf and the siblings are the tree's own
-    leaf-own : s ≡ leafAt child d (root I i) (position I i)
-    leaf-own = walked .0 ∙ leaf-by (L .left-keys) (L .right-keys) d r p ∙ ap₂ (λ n j. leafAt child d n j) node read
+    leaf-own : s ≡ leafAt 2 child d (root I i) (position I i)
+    unfolding walked
+    leaf-own = ap (λ x. x .leaf) went ∙ leaf-by (L .left-keys) (L .right-keys) d r p ∙ ap₂ (λ n j. leafAt 2 child d n j) node read
 
     stored : out₁ ≡ sets out (at + f) (siblingBytes I i base)
     stored =
-        walked .1
+        bytes
         ∙ ap (λ l. sets out (at + f) (blocksBytes l))
-        (siblings-by (L .left-keys) (L .right-keys) d r p ∙ ap₂ (λ n j. siblings child d n j) node read)
+        (siblings-by (L .left-keys) (L .right-keys) d r p ∙ ap₂ (λ n j. siblings 2 child d n j) node read)
 
     whole : {n y : ℕ} {words out₂ : List ℕ} → y ≡ getD values i 0 → words ≡ field I .elements .words (treeCorrection I i)
         → (n ≡ at + frontLength k base p) × (out₂ ≡ sets out₁ at (writeFront k base p y words))
@@ -231,7 +237,7 @@ module _ (k d : ℕ) (roots positions values delta : List ℕ) (i base at : ℕ)
     wrote-binary value one e w =
         whole value
         (ap (λ x. elementOf k (x .low) (x .high)) (e ∙ ap₂ (λ l v. correction blocks (block (wordAt delta 0) (wordAt delta 8)) (blockLeaf l) v) leaf-own value)
-        ∙ correction-1 k (wordAt delta 0) (wordAt delta 8) (leafAt child d (root I i) (position I i)) values i one)
+        ∙ correction-1 k (wordAt delta 0) (wordAt delta 8) (leafAt 2 child d (root I i) (position I i)) values i one)
         w
 
     pub wrote-prime : {n y : ℕ} {c : Prime} {out₂ : List ℕ} → y ≡ getD values i 0 → (k ≡ 1 → ⊥)
@@ -241,7 +247,7 @@ module _ (k d : ℕ) (roots positions values delta : List ℕ) (i base at : ℕ)
     wrote-prime value other e w =
         whole value
         (ap (λ x. elementOf k (x .word) 0) (e ∙ ap₂ (λ l v. correction (itself primeRing) (prime (wordAt delta 0)) (primeLeaf l) (prime v)) leaf-own value)
-        ∙ correction-2 k (wordAt delta 0) (wordAt delta 8) (leafAt child d (root I i) (position I i)) values i other)
+        ∙ correction-2 k (wordAt delta 0) (wordAt delta 8) (leafAt 2 child d (root I i) (position I i)) values i other)
         w
 
 -- ---- a correction's steps

@@ -16,7 +16,7 @@ noiseTree I i =
       position = position I i;
       value = getD (I .values) i 0;
       correction = field I .elements .words (treeCorrection I i);
-      siblings = map blockBytes (siblings child (I .depth) (root I i) (position I i));
+      siblings = map blockBytes (siblings 2 child (I .depth) (root I i) (position I i));
     }
 
 -- the noise end's part

@@ -42,7 +42,7 @@ abbrev pub root : Input → ℕ → List (List ℕ)
 root I i = columnsAt (I .roots) (16 * i)
 
 abbrev pub leaf : (I : Input) → ℕ → ℕ → Value (field I)
-leaf I i j = kind (head I) .leaf (leafAt child (I .depth) (root I i) j)
+leaf I i j = kind (head I) .leaf (leafAt 2 child (I .depth) (root I i) j)
 
 -- Δ, the scalar
 abbrev pub delta : (I : Input) → Value (field I)

@@ -22,6 +22,7 @@ use record::write_front;
 use record::write_head;
 use sbox::mix_table;
 use sbox::table;
+use tree::Punctured;
 use tree::columns_at;
 use tree::left_keys;
 use tree::right_keys;
@@ -83,7 +84,12 @@ fn write_tree(
     let value = values[i];
     let siblings = at + front_length(field, base, position);
     let next = siblings + 16 * depth;
-    let leaf = walk(sbox, mix, left, right, depth, root, position, out, siblings);
+    let tree = Punctured {
+        levels: depth,
+        position,
+        at: siblings,
+    };
+    let leaf = walk(sbox, mix, left, right, root, tree, out);
     if field == 1 {
         let c = correction_binary(leaf, value, delta);
         write_front(out, at, field, base, position, value, c.low, c.high);

@@ -13,7 +13,7 @@ use Rattle.aes128.specs.State.{xorWord, xorState}
 use Rattle.aes128.specs.Cipher.{subBytes, shiftRows, mixColumn, mixColumns, rounds, cipher, power, temp, words, keysOf, keyExpansion, aes}
 use Rattle.tree.specs.Child.{child}
 use Rattle.tree.specs.Columns.{columnsAt, blockBytes}
-use Rattle.tree.specs.Tree.{path, reach, leafAt, siblingAt, listed, siblings, follow, fromSiblings}
+use Rattle.tree.specs.Tree.{path, reach, leafAt, listed, others, beside, siblings, follow, fromSiblings}
 use Rattle.code.specs.Row.{termBlock, placeOf, termPlace, rowOf}
 use Rattle.code.specs.Used.{every}
 use Rattle.number.specs.Number.{writeNumber, lastGroup, readNumber}
@@ -34,19 +34,19 @@ use Rattle.scalar_end.specs.Vectors as scalarVectors
 use Rattle.example.specs.Example.{noiseGiven, scalarGiven, binaryInput, primeInput, Example}
 
 noise-binary : noiseGiven 2 binaryInput ≡ 0 ∷ 1 ∷ 205336936553831 ∷ 9285005468926516466 ∷ []
-unfolding coding.flat coding.over noise correction punctured whole output sum accumulate blockScale leNumber leBytes wordAt columnsOf lowOf highOf primeAdd primeSub primeMul primeReduce xtime multiples product squares inverse fromBits affine sBox xorWord xorState subBytes shiftRows mixColumn mixColumns rounds cipher power temp words keysOf keyExpansion aes child columnsAt blockBytes path reach leafAt siblingAt listed siblings follow fromSiblings termBlock placeOf termPlace rowOf every writeNumber lastGroup readNumber tested readByte readBytes writing.flat writeHead writeFront writeTree writeTrees writeNoise writeScalar items readItems readSize readPosition readValue readCorrection readDelta readField readSizes readHead readTree readTrees readNoise readScalar windowUsable deal sizesAdmitted lengthsAdmitted risingFrom everyNoise deltaAdmitted fault noiseTree noiseOffline.offline noiseOffline.expand noiseOnline.usable noiseOnline.filled noiseOnline.rowsOutcome noiseOnline.window noiseOnline.online noiseVectors.mu noiseVectors.v0 scalarOffline.offline scalarOffline.expand scalarOnline.usable scalarOnline.filled scalarOnline.rowsOutcome scalarOnline.window scalarOnline.online scalarVectors.w0
+unfolding coding.flat coding.over noise correction punctured whole output sum accumulate blockScale leNumber leBytes wordAt columnsOf lowOf highOf primeAdd primeSub primeMul primeReduce xtime multiples product squares inverse fromBits affine sBox xorWord xorState subBytes shiftRows mixColumn mixColumns rounds cipher power temp words keysOf keyExpansion aes child columnsAt blockBytes path reach leafAt listed others beside siblings follow fromSiblings termBlock placeOf termPlace rowOf every writeNumber lastGroup readNumber tested readByte readBytes writing.flat writeHead writeFront writeTree writeTrees writeNoise writeScalar items readItems readSize readPosition readValue readCorrection readDelta readField readSizes readHead readTree readTrees readNoise readScalar windowUsable deal sizesAdmitted lengthsAdmitted risingFrom everyNoise deltaAdmitted fault noiseTree noiseOffline.offline noiseOffline.expand noiseOnline.usable noiseOnline.filled noiseOnline.rowsOutcome noiseOnline.window noiseOnline.online noiseVectors.mu noiseVectors.v0 scalarOffline.offline scalarOffline.expand scalarOnline.usable scalarOnline.filled scalarOnline.rowsOutcome scalarOnline.window scalarOnline.online scalarVectors.w0
 noise-binary = refl
 
 scalar-binary : scalarGiven 2 binaryInput ≡ 0 ∷ 205336936553828 ∷ 9645293439116156146 ∷ []
-unfolding coding.flat coding.over noise correction punctured whole output sum accumulate blockScale leNumber leBytes wordAt columnsOf lowOf highOf primeAdd primeSub primeMul primeReduce xtime multiples product squares inverse fromBits affine sBox xorWord xorState subBytes shiftRows mixColumn mixColumns rounds cipher power temp words keysOf keyExpansion aes child columnsAt blockBytes path reach leafAt siblingAt listed siblings follow fromSiblings termBlock placeOf termPlace rowOf every writeNumber lastGroup readNumber tested readByte readBytes writing.flat writeHead writeFront writeTree writeTrees writeNoise writeScalar items readItems readSize readPosition readValue readCorrection readDelta readField readSizes readHead readTree readTrees readNoise readScalar windowUsable deal sizesAdmitted lengthsAdmitted risingFrom everyNoise deltaAdmitted fault noiseTree noiseOffline.offline noiseOffline.expand noiseOnline.usable noiseOnline.filled noiseOnline.rowsOutcome noiseOnline.window noiseOnline.online noiseVectors.mu noiseVectors.v0 scalarOffline.offline scalarOffline.expand scalarOnline.usable scalarOnline.filled scalarOnline.rowsOutcome scalarOnline.window scalarOnline.online scalarVectors.w0
+unfolding coding.flat coding.over noise correction punctured whole output sum accumulate blockScale leNumber leBytes wordAt columnsOf lowOf highOf primeAdd primeSub primeMul primeReduce xtime multiples product squares inverse fromBits affine sBox xorWord xorState subBytes shiftRows mixColumn mixColumns rounds cipher power temp words keysOf keyExpansion aes child columnsAt blockBytes path reach leafAt listed others beside siblings follow fromSiblings termBlock placeOf termPlace rowOf every writeNumber lastGroup readNumber tested readByte readBytes writing.flat writeHead writeFront writeTree writeTrees writeNoise writeScalar items readItems readSize readPosition readValue readCorrection readDelta readField readSizes readHead readTree readTrees readNoise readScalar windowUsable deal sizesAdmitted lengthsAdmitted risingFrom everyNoise deltaAdmitted fault noiseTree noiseOffline.offline noiseOffline.expand noiseOnline.usable noiseOnline.filled noiseOnline.rowsOutcome noiseOnline.window noiseOnline.online noiseVectors.mu noiseVectors.v0 scalarOffline.offline scalarOffline.expand scalarOnline.usable scalarOnline.filled scalarOnline.rowsOutcome scalarOnline.window scalarOnline.online scalarVectors.w0
 scalar-binary = refl
 
 noise-prime : noiseGiven 1 primeInput ≡ 0 ∷ 493152902708428463 ∷ 1094412974102167835 ∷ []
-unfolding coding.flat coding.over noise correction punctured whole output sum accumulate blockScale leNumber leBytes wordAt columnsOf lowOf highOf primeAdd primeSub primeMul primeReduce xtime multiples product squares inverse fromBits affine sBox xorWord xorState subBytes shiftRows mixColumn mixColumns rounds cipher power temp words keysOf keyExpansion aes child columnsAt blockBytes path reach leafAt siblingAt listed siblings follow fromSiblings termBlock placeOf termPlace rowOf every writeNumber lastGroup readNumber tested readByte readBytes writing.flat writeHead writeFront writeTree writeTrees writeNoise writeScalar items readItems readSize readPosition readValue readCorrection readDelta readField readSizes readHead readTree readTrees readNoise readScalar windowUsable deal sizesAdmitted lengthsAdmitted risingFrom everyNoise deltaAdmitted fault noiseTree noiseOffline.offline noiseOffline.expand noiseOnline.usable noiseOnline.filled noiseOnline.rowsOutcome noiseOnline.window noiseOnline.online noiseVectors.mu noiseVectors.v0 scalarOffline.offline scalarOffline.expand scalarOnline.usable scalarOnline.filled scalarOnline.rowsOutcome scalarOnline.window scalarOnline.online scalarVectors.w0
+unfolding coding.flat coding.over noise correction punctured whole output sum accumulate blockScale leNumber leBytes wordAt columnsOf lowOf highOf primeAdd primeSub primeMul primeReduce xtime multiples product squares inverse fromBits affine sBox xorWord xorState subBytes shiftRows mixColumn mixColumns rounds cipher power temp words keysOf keyExpansion aes child columnsAt blockBytes path reach leafAt listed others beside siblings follow fromSiblings termBlock placeOf termPlace rowOf every writeNumber lastGroup readNumber tested readByte readBytes writing.flat writeHead writeFront writeTree writeTrees writeNoise writeScalar items readItems readSize readPosition readValue readCorrection readDelta readField readSizes readHead readTree readTrees readNoise readScalar windowUsable deal sizesAdmitted lengthsAdmitted risingFrom everyNoise deltaAdmitted fault noiseTree noiseOffline.offline noiseOffline.expand noiseOnline.usable noiseOnline.filled noiseOnline.rowsOutcome noiseOnline.window noiseOnline.online noiseVectors.mu noiseVectors.v0 scalarOffline.offline scalarOffline.expand scalarOnline.usable scalarOnline.filled scalarOnline.rowsOutcome scalarOnline.window scalarOnline.online scalarVectors.w0
 noise-prime = refl
 
 scalar-prime : scalarGiven 1 primeInput ≡ 0 ∷ 268028673013759273 ∷ []
-unfolding coding.flat coding.over noise correction punctured whole output sum accumulate blockScale leNumber leBytes wordAt columnsOf lowOf highOf primeAdd primeSub primeMul primeReduce xtime multiples product squares inverse fromBits affine sBox xorWord xorState subBytes shiftRows mixColumn mixColumns rounds cipher power temp words keysOf keyExpansion aes child columnsAt blockBytes path reach leafAt siblingAt listed siblings follow fromSiblings termBlock placeOf termPlace rowOf every writeNumber lastGroup readNumber tested readByte readBytes writing.flat writeHead writeFront writeTree writeTrees writeNoise writeScalar items readItems readSize readPosition readValue readCorrection readDelta readField readSizes readHead readTree readTrees readNoise readScalar windowUsable deal sizesAdmitted lengthsAdmitted risingFrom everyNoise deltaAdmitted fault noiseTree noiseOffline.offline noiseOffline.expand noiseOnline.usable noiseOnline.filled noiseOnline.rowsOutcome noiseOnline.window noiseOnline.online noiseVectors.mu noiseVectors.v0 scalarOffline.offline scalarOffline.expand scalarOnline.usable scalarOnline.filled scalarOnline.rowsOutcome scalarOnline.window scalarOnline.online scalarVectors.w0
+unfolding coding.flat coding.over noise correction punctured whole output sum accumulate blockScale leNumber leBytes wordAt columnsOf lowOf highOf primeAdd primeSub primeMul primeReduce xtime multiples product squares inverse fromBits affine sBox xorWord xorState subBytes shiftRows mixColumn mixColumns rounds cipher power temp words keysOf keyExpansion aes child columnsAt blockBytes path reach leafAt listed others beside siblings follow fromSiblings termBlock placeOf termPlace rowOf every writeNumber lastGroup readNumber tested readByte readBytes writing.flat writeHead writeFront writeTree writeTrees writeNoise writeScalar items readItems readSize readPosition readValue readCorrection readDelta readField readSizes readHead readTree readTrees readNoise readScalar windowUsable deal sizesAdmitted lengthsAdmitted risingFrom everyNoise deltaAdmitted fault noiseTree noiseOffline.offline noiseOffline.expand noiseOnline.usable noiseOnline.filled noiseOnline.rowsOutcome noiseOnline.window noiseOnline.online noiseVectors.mu noiseVectors.v0 scalarOffline.offline scalarOffline.expand scalarOnline.usable scalarOnline.filled scalarOnline.rowsOutcome scalarOnline.window scalarOnline.online scalarVectors.w0
 scalar-prime = refl
 
 pub example : Example

@@ -13,7 +13,7 @@ use Rattle.aes128.specs.Cipher.{aes}
 use Rattle.rows.specs.Head.{kind}
 use Rattle.tree.proofs.Blocks.{Square, columns-of, xor-square}
 use Rattle.tree.proofs.Listed.{listed-at}
-use Rattle.tree.proofs.Laws.{Each, from-siblings, siblings-have}
+use Rattle.tree.proofs.Laws.{Each, two, from-siblings, siblings-have}
 use Rattle.tree.specs.Child.{child, childKey}
 use Rattle.tree.specs.Columns.{columnsAt, blockBytes}
 use Rattle.tree.specs.Tree.{siblings, leafAt, fromSiblings}
@@ -78,12 +78,12 @@ module _ (I : Input) (A : Admitted I) where
   unfolding noiseTree
   leaf-at i j h b n =
       ap
-      (λ t. kind (head I) .leaf (fromSiblings child [] (map (λ s. columnsAt s 0) (t .siblings)) (I .depth) (t .position) j))
+      (λ t. kind (head I) .leaf (fromSiblings 2 child [] (map (λ s. columnsAt s 0) (t .siblings)) (I .depth) (t .position) j))
       (tree-at i h)
-      ∙ ap (λ l. kind (head I) .leaf (fromSiblings child [] l (I .depth) (position I i) j))
-      (blocks-back (siblings child (I .depth) (root I i) (position I i))
-      (siblings-have child Square child-square (I .depth) (root I i) (position I i) (root-square I i)))
-      ∙ ap (kind (head I) .leaf) (from-siblings child [] (I .depth) (root I i) (position I i) j (A .below i h) b n)
+      ∙ ap (λ l. kind (head I) .leaf (fromSiblings 2 child [] l (I .depth) (position I i) j))
+      (blocks-back (siblings 2 child (I .depth) (root I i) (position I i))
+      (siblings-have 2 child two Square child-square (I .depth) (root I i) (position I i) (root-square I i)))
+      ∙ ap (kind (head I) .leaf) (from-siblings child [] 2 (I .depth) (root I i) (position I i) j (A .below i h) b n)
 
   -- μ of the noise end's part is the dealing's
   pub mu-dealt : (j : ℕ) → noiseEnd.mu (noisePart I) j ≡ mu I j
@@ -103,5 +103,5 @@ module _ (I : Input) (A : Admitted I) where
   w0-dealt j =
       whole-same (field I .ring) (field I .scaled) (I .trees) _ (leaf I) j
       (λ i h.
-      ap (λ b. kind (head I) .leaf (leafAt child (I .depth) (columnsAt b 0) j)) (listed-at (I .trees) (λ i. blockBytes (root I i)) [] i h)
-      ∙ ap (λ r. kind (head I) .leaf (leafAt child (I .depth) r j)) (block-back (root I i) (root-square I i)))
+      ap (λ b. kind (head I) .leaf (leafAt 2 child (I .depth) (columnsAt b 0) j)) (listed-at (I .trees) (λ i. blockBytes (root I i)) [] i h)
+      ∙ ap (λ r. kind (head I) .leaf (leafAt 2 child (I .depth) r j)) (block-back (root I i) (root-square I i)))

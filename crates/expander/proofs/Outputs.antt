@@ -46,6 +46,6 @@ admitted-correlated I A x =
     (delta-element (I .field) (wordAt (I .delta) 0) (wordAt (I .delta) 8) (A .field) (λ e. A .scalar .prime e .1))
     (I .trees) (position I) (A .rising)
     (value I) (λ i h. noise-element (I .field) (I .values) i (A .field) (A .noise i h))
-    (leaf I) (λ i j. laws .leaf-element (leafAt child (I .depth) (root I i) j))
+    (leaf I) (λ i j. laws .leaf-element (leafAt 2 child (I .depth) (root I i) j))
     (treeCorrection I) (λ i h. refl)
     (places (head I)) (row (head I) x) (row-within (head I) x)

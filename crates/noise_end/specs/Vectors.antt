@@ -23,7 +23,7 @@ correctionIn K ts i = K .field .elements .read (treeIn ts i .correction) 0
 
 abbrev pub leafIn : (K : Kind) → ℕ → List NoiseTree → ℕ → ℕ → Value (K .field)
 leafIn K depth ts i j =
-    K .leaf (fromSiblings child [] (map (λ s. columnsAt s 0) (treeIn ts i .siblings)) depth (treeIn ts i .position) j)
+    K .leaf (fromSiblings 2 child [] (map (λ s. columnsAt s 0) (treeIn ts i .siblings)) depth (treeIn ts i .position) j)
 
 -- the same of a record's content
 abbrev pub tree : NoisePart → ℕ → NoiseTree

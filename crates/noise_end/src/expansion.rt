@@ -19,6 +19,7 @@ use record::known_tree;
 use record::leaves;
 use rows::element_width;
 use rows::zero_words;
+use tree::Punctured;
 use tree::add_punctured_binary;
 use tree::add_punctured_prime;
 use tree::left_keys;
@@ -55,18 +56,12 @@ fn expand_binary(
             low: tree.low,
             high: tree.high,
         };
-        add_punctured_binary(
-            sbox,
-            mix,
-            &left,
-            &right,
-            depth,
-            source,
-            tree.siblings,
+        let punctured = Punctured {
+            levels: depth,
             position,
-            correction,
-            v,
-        );
+            at: tree.siblings,
+        };
+        add_punctured_binary(sbox, mix, &left, &right, punctured, source, correction, v);
         base = position + 1;
         at = tree.siblings + 16 * depth;
         i += 1;
@@ -104,18 +99,12 @@ fn expand_prime(
         let position = tree.position;
         noise[position] = tree.value;
         let correction = Prime { word: tree.low };
-        add_punctured_prime(
-            sbox,
-            mix,
-            &left,
-            &right,
-            depth,
-            source,
-            tree.siblings,
+        let punctured = Punctured {
+            levels: depth,
             position,
-            correction,
-            v,
-        );
+            at: tree.siblings,
+        };
+        add_punctured_prime(sbox, mix, &left, &right, punctured, source, correction, v);
         base = position + 1;
         at = tree.siblings + 16 * depth;
         i += 1;

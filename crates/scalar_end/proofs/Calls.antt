@@ -60,7 +60,7 @@ w0-words s f =
     flat-cong (K .field .elements) (kindLaws (f .field) .field .elements) (2 ^ f .depth) _ _
     (λ j b. sum-cong G (suc j) _ _
     (λ m c. sum-cong G (f .trees) _ _
-    (λ i d. ap (λ (root : List (List ℕ)). K .leaf (leafAt child (f .depth) root m)) (sym (columns-item s (rootsAt f) (f .trees) i d)))))
+    (λ i d. ap (λ (root : List (List ℕ)). K .leaf (leafAt 2 child (f .depth) root m)) (sym (columns-item s (rootsAt f) (f .trees) i d)))))
 
 -- Δ
 delta-words : (field : ℕ) (s : List ℕ) (body : ℕ)

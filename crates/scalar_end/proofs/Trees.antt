@@ -32,14 +32,14 @@ module _ (K : Kind) (L : KindLaws K) (source : List ℕ) (place depth : ℕ) whe
       record { words = e; size = ap length e ∙ length-trees (K .field) (L .field) (2 ^ depth) (leavesFrom K source place depth) i }
 
   pub tree-more : {left right : List (List (List ℕ))} {i : ℕ} {root : List (List ℕ)} {v next : List ℕ}
-      → next ≡ added (K .field) (2 ^ depth) (leafElement (K .leaf) (childBy left right) depth root) v
+      → next ≡ added (K .field) (2 ^ depth) (leafElement (K .leaf) 2 (childBy left right) depth root) v
       → left ≡ keyExpansion (childKey 0) → right ≡ keyExpansion (childKey 1) → root ≡ columnsAt source (place + 16 * i)
       → Grown K source place depth v i → Grown K source place depth next (i + 1)
   tree-more {left} {right} {i} {root} {v} {next} q l r e g =
       grown (i + 1)
-      (trees-more (K .field) (L .field) (2 ^ depth) (leavesFrom K source place depth) i (leafElement (K .leaf) child depth root) (g .words)
+      (trees-more (K .field) (L .field) (2 ^ depth) (leavesFrom K source place depth) i (leafElement (K .leaf) 2 child depth root) (g .words)
       (q ∙ added-leaves-by l r (K .field) (L .field) (K .leaf) (2 ^ depth) depth root v)
-      (λ j b. ap (λ (s : List (List ℕ)). leafElement (K .leaf) child depth s j) e))
+      (λ j b. ap (λ (s : List (List ℕ)). leafElement (K .leaf) 2 child depth s j) e))
 
   expanded : {i n trees : ℕ} {v next : List ℕ} → Grown K source place depth v i → i ≤ trees → trees ≤ i → n ≡ 2 ^ depth
       → next ≡ flat (K .field .elements) n (accumulate (K .field .scaled .group) (at (K .field .elements) v))

@@ -20,7 +20,7 @@ use Rattle.tree.specs.Columns.{columnsAt}
 
 -- the elements of the leaves of tree i, whose roots begin at a place
 abbrev pub leavesFrom : (K : Kind) → List ℕ → ℕ → ℕ → ℕ → ℕ → Value (K .field)
-leavesFrom K source at depth i j = leafElement (K .leaf) child depth (columnsAt source (at + 16 * i)) j
+leavesFrom K source at depth i j = leafElement (K .leaf) 2 child depth (columnsAt source (at + 16 * i)) j
 
 -- the words of the accumulated sum of those trees
 unfoldable pub expansion : Kind → List ℕ → ℕ → ℕ → ℕ → List ℕ

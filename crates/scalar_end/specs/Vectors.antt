@@ -16,7 +16,7 @@ delta P = fieldOf (P .head) .elements .read (P .delta) 0
 
 -- the element of leaf j of tree i
 abbrev pub leaf : (P : ScalarPart) → ℕ → ℕ → Value (fieldOf (P .head))
-leaf P i j = kind (P .head) .leaf (leafAt child (P .head .depth) (columnsAt (getD (P .roots) i []) 0) j)
+leaf P i j = kind (P .head) .leaf (leafAt 2 child (P .head .depth) (columnsAt (getD (P .roots) i []) 0) j)
 
 -- w0
 unfoldable pub w0 : (P : ScalarPart) → ℕ → Value (fieldOf (P .head))

@@ -25,19 +25,17 @@ sets-append l i (x ∷ xs) ys = ap (λ k. sets (sets (set l i x) (suc i) xs) k y
     more : (i n : ℕ) → i + suc n ≡ suc i + n
     more i n = omega arith
 
--- four columns after one another
-pub sets-block : (l l₁ l₂ l₃ l₄ : List ℕ) (at : ℕ) (s : List (List ℕ))
-    → l₁ ≡ sets l at (columnBytes (column s 0) []) → l₂ ≡ sets l₁ (at + 4) (columnBytes (column s 1) [])
-    → l₃ ≡ sets l₂ (at + 8) (columnBytes (column s 2) []) → l₄ ≡ sets l₃ (at + 12) (columnBytes (column s 3) [])
-    → l₄ ≡ sets l at (blockBytes s)
+-- two columns, and two pairs of columns, after one another
+pub sets-pair : (l : List ℕ) {l₁ l₂ : List ℕ} (at : ℕ) (a b : List ℕ) → l₁ ≡ sets l at (columnBytes a [])
+    → l₂ ≡ sets l₁ (at + 4) (columnBytes b []) → l₂ ≡ sets l at (columnBytes a (columnBytes b []))
+sets-pair l at a b e₁ e₂ = e₂ ∙ rw e₁ (sets-append l at (columnBytes a []) (columnBytes b []))
+
+pub sets-block : (l : List ℕ) {l₁ l₂ : List ℕ} (at : ℕ) (s : List (List ℕ)) → l₁ ≡ sets l at (columnBytes (column s 0) (columnBytes (column s 1) []))
+    → l₂ ≡ sets l₁ (at + 8) (columnBytes (column s 2) (columnBytes (column s 3) [])) → l₂ ≡ sets l at (blockBytes s)
 unfolding blockBytes
-sets-block l l₁ l₂ l₃ l₄ at s e₁ e₂ e₃ e₄ =
-    let w₁ : List ℕ = columnBytes (column s 0) [] in
-    let w₂ : List ℕ = columnBytes (column s 0) (columnBytes (column s 1) []) in
-    let w₃ : List ℕ = columnBytes (column s 0) (columnBytes (column s 1) (columnBytes (column s 2) [])) in
-    let f₂ : l₂ ≡ sets l at w₂ = e₂ ∙ rw e₁ (sets-append l at w₁ (columnBytes (column s 1) [])) in
-    let f₃ : l₃ ≡ sets l at w₃ = e₃ ∙ rw f₂ (sets-append l at w₂ (columnBytes (column s 2) [])) in
-    e₄ ∙ rw f₃ (sets-append l at w₃ (columnBytes (column s 3) []))
+sets-block l at s e₁ e₂ =
+    e₂
+    ∙ rw e₁ (sets-append l at (columnBytes (column s 0) (columnBytes (column s 1) [])) (columnBytes (column s 2) (columnBytes (column s 3) [])))
 
 pub length-block : (s : List (List ℕ)) → length (blockBytes s) ≡ 16
 unfolding blockBytes

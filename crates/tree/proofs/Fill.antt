@@ -160,33 +160,33 @@ module _ (F : Field) (laws : FieldLaws F) where
   module _ {A : Type 0} (element : A → Value F) (child : ℕ → A → A) where
     -- at a leaf
     pub filled-leaf : (levels : ℕ) (s : A) (xs : List ℕ) {b : Value F} {ys : List ℕ} → levels ≡ 0 → b ≡ element s
-        → ys ≡ added F 1 (λ j. b) xs → ys ≡ added F (2 ^ levels) (leafElement element child levels s) xs
+        → ys ≡ added F 1 (λ j. b) xs → ys ≡ added F (2 ^ levels) (leafElement element 2 child levels s) xs
     unfolding leafElement
     filled-leaf levels s xs {b} e eb ey =
         ey
-        ∙ added-cong F laws 1 (λ j. b) (leafElement element child 0 s) xs (λ j h. eb ∙ ap element (sym (leaf-none child s j)))
-        ∙ ap (λ n. added F (2 ^ n) (leafElement element child n s) xs) (sym e)
+        ∙ added-cong F laws 1 (λ j. b) (leafElement element 2 child 0 s) xs (λ j h. eb ∙ ap element (sym (leaf-none 2 child s j)))
+        ∙ ap (λ n. added F (2 ^ n) (leafElement element 2 child n s) xs) (sym e)
 
     -- at a node: the left child's leaves below the middle, the right child's from it on
     pub filled-node : (levels : ℕ) (s none : A) (xs : List ℕ) {both : List A} {ys zs : List ℕ}
         → (levels ≡ 0 → ⊥) → length xs ≡ 2 ^ levels * F .elements .width
         → both ≡ child 0 s ∷ child 1 s ∷ []
-        → ys ≡ added F (2 ^ (levels - 1)) (leafElement element child (levels - 1) (getD both 0 none)) (take (length xs / 2) xs)
-        → zs ≡ added F (2 ^ (levels - 1)) (leafElement element child (levels - 1) (getD both 1 none)) (second (length xs / 2) xs ys)
+        → ys ≡ added F (2 ^ (levels - 1)) (leafElement element 2 child (levels - 1) (getD both 0 none)) (take (length xs / 2) xs)
+        → zs ≡ added F (2 ^ (levels - 1)) (leafElement element 2 child (levels - 1) (getD both 1 none)) (second (length xs / 2) xs ys)
         → putMid (length xs / 2) (length (ys ++ drop (length xs / 2) xs) - length xs / 2) (ys ++ drop (length xs / 2) xs) zs
-        ≡ added F (2 ^ levels) (leafElement element child levels s) xs
+        ≡ added F (2 ^ levels) (leafElement element 2 child levels s) xs
     unfolding leafElement
     filled-node levels s none xs {both} h e eb ey ez =
-        filled levels (leafElement element child levels s) (leafElement element child (levels - 1) (getD both 0 none))
-        (leafElement element child (levels - 1) (getD both 1 none)) xs h e
+        filled levels (leafElement element 2 child levels s) (leafElement element 2 child (levels - 1) (getD both 0 none))
+        (leafElement element 2 child (levels - 1) (getD both 1 none)) xs h e
         (λ j b.
-        ap (λ n. element (leafAt child n s j)) (down levels h)
+        ap (λ n. element (leafAt 2 child n s j)) (down levels h)
         ∙ ap element (leaf-low child (levels - 1) s j b)
-        ∙ ap (λ l. element (leafAt child (levels - 1) (getD l 0 none) j)) (sym eb))
+        ∙ ap (λ l. element (leafAt 2 child (levels - 1) (getD l 0 none) j)) (sym eb))
         (λ j b.
-        ap (λ n. element (leafAt child n s (2 ^ (levels - 1) + j))) (down levels h)
+        ap (λ n. element (leafAt 2 child n s (2 ^ (levels - 1) + j))) (down levels h)
         ∙ ap element (leaf-high child (levels - 1) s j b)
-        ∙ ap (λ l. element (leafAt child (levels - 1) (getD l 1 none) j)) (sym eb))
+        ∙ ap (λ l. element (leafAt 2 child (levels - 1) (getD l 1 none) j)) (sym eb))
         ey ez
 
     -- ---- punctured trees, with siblings xs that begin with x
@@ -194,18 +194,18 @@ module _ (F : Field) (laws : FieldLaws F) where
     module _ (none : A) where
       pub punctured-leaf : (levels position : ℕ) (siblings : List A) (correction : Value F) (xs : List ℕ) {ys : List ℕ}
           → levels ≡ 0 → position < 2 ^ levels → ys ≡ added F 1 (λ j. correction) xs
-          → ys ≡ added F (2 ^ levels) (puncturedElement element child none siblings levels position correction) xs
+          → ys ≡ added F (2 ^ levels) (puncturedElement element 2 child none siblings levels position correction) xs
       unfolding puncturedElement
       punctured-leaf levels position siblings correction xs e b ey =
           let one : 2 ^ levels ≡ 1 = ap (λ n. 2 ^ n) e in
           ey
-          ∙ added-cong F laws 1 (λ j. correction) (puncturedElement element child none siblings levels position correction) xs
+          ∙ added-cong F laws 1 (λ j. correction) (puncturedElement element 2 child none siblings levels position correction) xs
           (λ j h. rw (eq-eqb position j (omega arith)))
-          ∙ ap (λ n. added F n (puncturedElement element child none siblings levels position correction) xs) (sym one)
+          ∙ ap (λ n. added F n (puncturedElement element 2 child none siblings levels position correction) xs) (sym one)
 
       module _ (x : A) (rest : List A) (d s : ℕ) (correction : Value F) (hs : s < 2 ^ d) (j : ℕ) (hj : j < 2 ^ d) where
         abbrev Punctured : List A → ℕ → ℕ → ℕ → Value F
-        Punctured l n p i = puncturedElement element child none l n p correction i
+        Punctured l n p i = puncturedElement element 2 child none l n p correction i
 
         same-low : Punctured (x ∷ rest) (suc d) s j ≡ Punctured rest d s j
         unfolding puncturedElement
@@ -216,12 +216,12 @@ module _ (F : Field) (laws : FieldLaws F) where
         same-high =
             ap₂ (λ t a. choose t correction (element a)) (eqb-add (2 ^ d) s j) (from-high child none x rest d s j hs hj)
 
-        other-high : Punctured (x ∷ rest) (suc d) s (2 ^ d + j) ≡ leafElement element child d x j
+        other-high : Punctured (x ∷ rest) (suc d) s (2 ^ d + j) ≡ leafElement element 2 child d x j
         unfolding puncturedElement leafElement
         other-high =
             ap₂ (λ t a. choose t correction (element a)) (ne-eqb s (2 ^ d + j) (omega arith)) (from-low-high child none x rest d s j hs hj)
 
-        other-low : Punctured (x ∷ rest) (suc d) (2 ^ d + s) j ≡ leafElement element child d x j
+        other-low : Punctured (x ∷ rest) (suc d) (2 ^ d + s) j ≡ leafElement element 2 child d x j
         unfolding puncturedElement leafElement
         other-low =
             ap₂ (λ t a. choose t correction (element a)) (ne-eqb (2 ^ d + s) j (omega arith)) (from-high-low child none x rest d s j hs hj)
@@ -229,41 +229,41 @@ module _ (F : Field) (laws : FieldLaws F) where
       module _ (levels position : ℕ) {siblings : List A} (x : A) (rest : List A) (correction : Value F) (xs : List ℕ)
           (h : levels ≡ 0 → ⊥) (e : length xs ≡ 2 ^ levels * F .elements .width) (es : siblings ≡ x ∷ rest) where
         -- the function of the node from that of a node with one level more than levels - 1
-        same : (p i : ℕ) → puncturedElement element child none siblings levels p correction i
-            ≡ puncturedElement element child none (x ∷ rest) (suc (levels - 1)) p correction i
-        same p i = ap₂ (λ l n. puncturedElement element child none l n p correction i) es (down levels h)
+        same : (p i : ℕ) → puncturedElement element 2 child none siblings levels p correction i
+            ≡ puncturedElement element 2 child none (x ∷ rest) (suc (levels - 1)) p correction i
+        same p i = ap₂ (λ l n. puncturedElement element 2 child none l n p correction i) es (down levels h)
 
         -- the position lies below the middle: the punctured half first
         pub punctured-low : {ys zs : List ℕ} → position < 2 ^ (levels - 1)
-            → ys ≡ added F (2 ^ (levels - 1)) (puncturedElement element child none rest (levels - 1) position correction) (take (length xs / 2) xs)
-            → zs ≡ added F (2 ^ (levels - 1)) (leafElement element child (levels - 1) x) (second (length xs / 2) xs ys)
+            → ys ≡ added F (2 ^ (levels - 1)) (puncturedElement element 2 child none rest (levels - 1) position correction) (take (length xs / 2) xs)
+            → zs ≡ added F (2 ^ (levels - 1)) (leafElement element 2 child (levels - 1) x) (second (length xs / 2) xs ys)
             → putMid (length xs / 2) (length (ys ++ drop (length xs / 2) xs) - length xs / 2) (ys ++ drop (length xs / 2) xs) zs
-            ≡ added F (2 ^ levels) (puncturedElement element child none siblings levels position correction) xs
+            ≡ added F (2 ^ levels) (puncturedElement element 2 child none siblings levels position correction) xs
         punctured-low b ey ez =
-            filled levels (puncturedElement element child none siblings levels position correction)
-            (puncturedElement element child none rest (levels - 1) position correction)
-            (leafElement element child (levels - 1) x) xs h e
+            filled levels (puncturedElement element 2 child none siblings levels position correction)
+            (puncturedElement element 2 child none rest (levels - 1) position correction)
+            (leafElement element 2 child (levels - 1) x) xs h e
             (λ j l. same position j ∙ same-low x rest (levels - 1) position correction b j l)
             (λ j l. same position (2 ^ (levels - 1) + j) ∙ other-high x rest (levels - 1) position correction b j l)
             ey ez
 
         -- the position lies at q past the middle: the whole half first
         pub punctured-high : {ys zs : List ℕ} (q : ℕ) → q < 2 ^ (levels - 1) → position ≡ 2 ^ (levels - 1) + q
-            → ys ≡ added F (2 ^ (levels - 1)) (leafElement element child (levels - 1) x) (take (length xs / 2) xs)
-            → zs ≡ added F (2 ^ (levels - 1)) (puncturedElement element child none rest (levels - 1) q correction) (second (length xs / 2) xs ys)
+            → ys ≡ added F (2 ^ (levels - 1)) (leafElement element 2 child (levels - 1) x) (take (length xs / 2) xs)
+            → zs ≡ added F (2 ^ (levels - 1)) (puncturedElement element 2 child none rest (levels - 1) q correction) (second (length xs / 2) xs ys)
             → putMid (length xs / 2) (length (ys ++ drop (length xs / 2) xs) - length xs / 2) (ys ++ drop (length xs / 2) xs) zs
-            ≡ added F (2 ^ levels) (puncturedElement element child none siblings levels position correction) xs
+            ≡ added F (2 ^ levels) (puncturedElement element 2 child none siblings levels position correction) xs
         punctured-high q b eq ey ez =
-            filled levels (puncturedElement element child none siblings levels position correction)
-            (leafElement element child (levels - 1) x)
-            (puncturedElement element child none rest (levels - 1) q correction) xs h e
+            filled levels (puncturedElement element 2 child none siblings levels position correction)
+            (leafElement element 2 child (levels - 1) x)
+            (puncturedElement element 2 child none rest (levels - 1) q correction) xs h e
             (λ j l. at j ∙ other-low x rest (levels - 1) q correction b j l)
             (λ j l. at (2 ^ (levels - 1) + j) ∙ same-high x rest (levels - 1) q correction b j l)
             ey ez
           where
-            at : (i : ℕ) → puncturedElement element child none siblings levels position correction i
-                ≡ puncturedElement element child none (x ∷ rest) (suc (levels - 1)) (2 ^ (levels - 1) + q) correction i
-            at i = same position i ∙ ap (λ p. puncturedElement element child none (x ∷ rest) (suc (levels - 1)) p correction i) eq
+            at : (i : ℕ) → puncturedElement element 2 child none siblings levels position correction i
+                ≡ puncturedElement element 2 child none (x ∷ rest) (suc (levels - 1)) (2 ^ (levels - 1) + q) correction i
+            at i = same position i ∙ ap (λ p. puncturedElement element 2 child none (x ∷ rest) (suc (levels - 1)) p correction i) eq
 
 -- ---- one element
 

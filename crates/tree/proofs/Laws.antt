@@ -1,216 +1,369 @@
--- Laws of trees for callers: a tree by its two halves, siblings by levels, and that from the siblings at s every leaf but s
--- comes out as the tree's own.
+-- Laws of trees for callers, for any number k of children: a tree by its children, siblings by levels, and that from the
+-- siblings at s every leaf but s comes out as the tree's own. The halves of a tree with two children follow.
 use mathlib.Core.Path.{_≡_, refl, ap, ap₂, sym, _∙_}
 use mathlib.Core.Logic.{_≢_}
 use mathlib.Core.Bool.{Bool, true, false}
-use mathlib.Core.List.{List, [], _∷_}
+use mathlib.Core.List.{List, [], _∷_, _++_}
 use Prim.Native.Nat.{ℕ, zero, suc, _+_, _-_, _*_, _%_, _^_, _<_}
-use native.Mathlib.Nat.{mod-eq-of-lt, mod-one}
+use native.Mathlib.Nat.{mod-eq-of-lt, mod-one, pow-zero, mul-one, zero-mul}
 use native.Mathlib.Omega.{arith}
-use lib.Dec.{eqb}
-use lib.ListN.{length}
-use borrow.Author.Tests.{eq-eqb, ne-eqb, eqb-true, eqb-false}
+use lib.Dec.{eqb, ltb}
+use lib.ListN.{length, getD, take, drop, length-append, length-drop, List·getD-append}
+use lib.Seq.{length-take-le, drop-at, getD-append-add, getD-take, getD-drop}
+use borrow.Author.Tests.{eq-eqb, ne-eqb, eqb-true, eqb-false, ltb-true, ltb-false, lt-ltb, le-ltb}
 use Rattle.algebra.specs.Choice.{choose}
-use Rattle.tree.specs.Tree.{path, reach, leafAt, siblingAt, listed, siblings, follow, fromSiblings}
+use Rattle.tree.specs.Tree.{path, reach, leafAt, listed, others, beside, siblings, rank, follow, fromSiblings}
 use Rattle.tree.specs.Follows.{FromSiblings}
 use Rattle.tree.specs.Added.{leafElement, puncturedElement}
-use Rattle.tree.proofs.Paths.{bit, path-none, bit-below, bit-low, bit-high, path-high, mod-suc-bit}
-use Rattle.tree.proofs.Listed.{length-listed, listed-front}
+use Rattle.tree.proofs.Paths.{digit, digit-below, digit-first, path-past, mod-suc-digit}
+use Rattle.tree.proofs.Listed.{length-listed, listed-at, listed-cong, listed-none, listed-last}
 
--- a condition on each of a list's values
+-- ---- a condition on each of a list's values
+
 abbrev pub Each : {A : Type 0} → (A → Type 0) → List A → Type 0
 Each P [] = Unit {0}
 Each P (x ∷ xs) = P x × Each P xs
 
-flip-below : (b : ℕ) → 1 - b < 2
-flip-below b = omega arith
+module _ {A : Type 0} (P : A → Type 0) where
+  each-append : (xs ys : List A) → Each P xs → Each P ys → Each P (xs ++ ys)
+  each-append [] ys px py = py
+  each-append (x ∷ xs) ys px py = (px .0, each-append xs ys (px .1) py)
 
-module _ {A : Type 0} (child : ℕ → A → A) where
-  -- ---- leaves
+  each-take : (n : ℕ) (xs : List A) → Each P xs → Each P (take n xs)
+  each-take zero xs p = tt
+  each-take (suc n) [] p = tt
+  each-take (suc n) (x ∷ xs) p = (p .0, each-take n xs (p .1))
 
-  pub leaf-none : (s : A) (j : ℕ) → leafAt child 0 s j ≡ s
+  each-drop : (n : ℕ) (xs : List A) → Each P xs → Each P (drop n xs)
+  each-drop zero xs p = p
+  each-drop (suc n) [] p = tt
+  each-drop (suc n) (x ∷ xs) p = each-drop n xs (p .1)
+
+  each-listed : (n : ℕ) (f : ℕ → A) → ((i : ℕ) → i < n → P (f i)) → Each P (listed n f)
+  each-listed zero f p = rw listed-none tt
+  each-listed (suc n) f p =
+      rw listed-last (each-append (listed n f) (f n ∷ []) (each-listed n f (λ i h. p i (omega arith))) (p n (omega arith), tt))
+
+-- ---- the other children of a node
+
+rank-low : (c b : ℕ) → b < c → rank c b ≡ b
+rank-low c b h = rw (lt-ltb b c h)
+
+rank-high : (c b : ℕ) → c < b → rank c b ≡ b - 1
+rank-high c b h = rw (le-ltb b c (omega arith))
+
+module _ {A : Type 0} (k : ℕ) (child : ℕ → A → A) (s : A) where
+  children : List A
+  children = listed k (λ b. child b s)
+
+  module _ (c : ℕ) (hc : c < k) where
+    length-front : length (take c children) ≡ c
+    unfolding children
+    length-front = length-take-le c children (rw (length-listed k (λ b. child b s)) (omega arith))
+
+    pub length-others : length (others k child s c) ≡ k - 1
+    unfolding others children
+    length-others =
+        length-append (take c children) (drop (suc c) children)
+        ∙ ap₂ (λ m n. m + n) length-front (length-drop (suc c) children ∙ ap (λ n. n - suc c) (length-listed k (λ b. child b s)))
+        ∙ omega arith
+
+    module _ (b : ℕ) (hb : b < k) (h : c ≢ b) where
+      others-low : (none : A) → b < c → getD (others k child s c) b none ≡ child b s
+      unfolding others children
+      others-low none l =
+          List·getD-append (take c children) (drop (suc c) children) none b (omega (arith, length-front))
+          ∙ getD-take c children b none l
+          ∙ listed-at k (λ i. child i s) none b hb
+
+      others-high : (none : A) → c < b → getD (others k child s c) (b - 1) none ≡ child b s
+      unfolding others children
+      others-high none l =
+          ap (λ n. getD (take c children ++ drop (suc c) children) n none) {y = length (take c children) + (b - suc c)}
+          (omega (arith, length-front))
+          ∙ getD-append-add (take c children) (drop (suc c) children) (b - suc c) none
+          ∙ getD-drop (suc c) children (b - suc c) none
+          ∙ ap (λ n. getD children n none) {y = b} (omega arith)
+          ∙ listed-at k (λ i. child i s) none b hb
+
+      -- child b stands at its rank, also before the siblings of further levels
+      pub others-front : (none : A) (rest : List A) → getD (others k child s c ++ rest) (rank c b) none ≡ child b s
+      others-front none rest = decide (ltb b c) refl
+        where
+          at : (n : ℕ) → rank c b ≡ n → n < k - 1 → getD (others k child s c) n none ≡ child b s
+              → getD (others k child s c ++ rest) (rank c b) none ≡ child b s
+          at n e l o =
+              ap (λ m. getD (others k child s c ++ rest) m none) e
+              ∙ List·getD-append (others k child s c) rest none n (omega (arith, length-others))
+              ∙ o
+
+          decide : (t : Bool) → ltb b c ≡ t → getD (others k child s c ++ rest) (rank c b) none ≡ child b s
+          decide true e =
+              let l : b < c = ltb-true b c e in
+              at b (rank-low c b l) (omega arith) (others-low none l)
+          decide false e =
+              let l : c < b = omega (arith, ltb-false b c e, h) in
+              at (b - 1) (rank-high c b l) (omega arith) (others-high none l)
+
+-- ---- trees by their children
+
+module _ {A : Type 0} (k : ℕ) (child : ℕ → A → A) where
+  pub leaf-none : (s : A) (j : ℕ) → leafAt k child 0 s j ≡ s
   unfolding leafAt path reach
   leaf-none s j = refl
 
-  pub leaf-suc : (d : ℕ) (s : A) (j : ℕ) → leafAt child (suc d) s j ≡ leafAt child d (child (bit d j) s) j
+  pub leaf-suc : (d : ℕ) (s : A) (j : ℕ) → leafAt k child (suc d) s j ≡ leafAt k child d (child (digit k d j) s) j
   unfolding leafAt path reach
   leaf-suc d s j = refl
 
-  -- the lower half of the leaves is the left child's, the upper half the right child's
-  pub leaf-low : (d : ℕ) (s : A) (j : ℕ) → j < 2 ^ d → leafAt child (suc d) s j ≡ leafAt child d (child 0 s) j
-  leaf-low d s j h = leaf-suc d s j ∙ ap (λ b. leafAt child d (child b s) j) (bit-low d j h)
-
-  pub leaf-high : (d : ℕ) (s : A) (j : ℕ) → j < 2 ^ d → leafAt child (suc d) s (2 ^ d + j) ≡ leafAt child d (child 1 s) j
-  unfolding leafAt
-  leaf-high d s j h =
-      leaf-suc d s (2 ^ d + j)
-      ∙ ap₂ (λ b bits. reach child (child b s) bits) (bit-high d j h) (path-high d j)
-
-  -- ---- siblings
-
-  pub length-siblings : (d : ℕ) (s : A) (j : ℕ) → length (siblings child d s j) ≡ d
-  unfolding siblings
-  length-siblings d s j = length-listed d _
-
-  pub siblings-none : (s : A) (j : ℕ) → siblings child 0 s j ≡ []
-  unfolding siblings listed
+  pub siblings-none : (s : A) (j : ℕ) → siblings k child 0 s j ≡ []
+  unfolding siblings path beside
   siblings-none s j = refl
 
   pub siblings-suc : (d : ℕ) (s : A) (j : ℕ)
-      → siblings child (suc d) s j ≡ child (1 - bit d j) s ∷ siblings child d (child (bit d j) s) j
-  unfolding siblings siblingAt path reach
-  siblings-suc d s j = listed-front d (siblingAt child (suc d) s j)
+      → siblings k child (suc d) s j ≡ others k child s (digit k d j) ++ siblings k child d (child (digit k d j) s) j
+  unfolding siblings path beside
+  siblings-suc d s j = refl
 
-  -- ---- leaves from siblings
+  pub from-none : (none : A) (xs : List A) (s j : ℕ) → fromSiblings k child none xs 0 s j ≡ none
+  unfolding fromSiblings follow path
+  from-none none xs s j = refl
 
-  module _ (none : A) where
-    pub from-suc : (x : A) (xs : List A) (d s j : ℕ)
-        → fromSiblings child none (x ∷ xs) (suc d) s j
-        ≡ choose (eqb (bit d s) (bit d j)) (fromSiblings child none xs d s j) (leafAt child d x j)
-    unfolding fromSiblings follow path leafAt
-    from-suc x xs d s j = refl
+  pub from-suc : (none : A) (xs : List A) (d s j : ℕ)
+      → fromSiblings k child none xs (suc d) s j
+      ≡ choose (eqb (digit k d s) (digit k d j)) (fromSiblings k child none (drop (k - 1) xs) d s j)
+      (leafAt k child d (getD xs (rank (digit k d s) (digit k d j)) none) j)
+  unfolding fromSiblings follow path leafAt
+  from-suc none xs d s j = refl
 
-    from-same : (x : A) (xs : List A) (d s j : ℕ) → bit d s ≡ bit d j
-        → fromSiblings child none (x ∷ xs) (suc d) s j ≡ fromSiblings child none xs d s j
-    from-same x xs d s j e =
-        from-suc x xs d s j
-        ∙ ap (λ t. choose t (fromSiblings child none xs d s j) (leafAt child d x j)) (eq-eqb (bit d s) (bit d j) e)
+  from-equal : (none : A) (xs : List A) (d s j : ℕ) → digit k d s ≡ digit k d j
+      → fromSiblings k child none xs (suc d) s j ≡ fromSiblings k child none (drop (k - 1) xs) d s j
+  from-equal none xs d s j e =
+      from-suc none xs d s j
+      ∙ ap (λ t. choose t (fromSiblings k child none (drop (k - 1) xs) d s j)
+      (leafAt k child d (getD xs (rank (digit k d s) (digit k d j)) none) j)) (eq-eqb (digit k d s) (digit k d j) e)
 
-    from-other : (x : A) (xs : List A) (d s j : ℕ) → (bit d s ≡ bit d j → ⊥)
-        → fromSiblings child none (x ∷ xs) (suc d) s j ≡ leafAt child d x j
-    from-other x xs d s j e =
-        from-suc x xs d s j
-        ∙ ap (λ t. choose t (fromSiblings child none xs d s j) (leafAt child d x j)) (ne-eqb (bit d s) (bit d j) e)
+  from-unequal : (none : A) (xs : List A) (d s j : ℕ) → digit k d s ≢ digit k d j
+      → fromSiblings k child none xs (suc d) s j ≡ leafAt k child d (getD xs (rank (digit k d s) (digit k d j)) none) j
+  from-unequal none xs d s j e =
+      from-suc none xs d s j
+      ∙ ap (λ t. choose t (fromSiblings k child none (drop (k - 1) xs) d s j)
+      (leafAt k child d (getD xs (rank (digit k d s) (digit k d j)) none) j)) (ne-eqb (digit k d s) (digit k d j) e)
 
-    -- both in one half: the rest of the siblings; in two halves: the other half's leaf from the first sibling
-    pub from-low : (x : A) (xs : List A) (d s j : ℕ) → s < 2 ^ d → j < 2 ^ d
-        → fromSiblings child none (x ∷ xs) (suc d) s j ≡ fromSiblings child none xs d s j
-    from-low x xs d s j hs hj = from-same x xs d s j (bit-low d s hs ∙ sym (bit-low d j hj))
-
-    pub from-high : (x : A) (xs : List A) (d s j : ℕ) → s < 2 ^ d → j < 2 ^ d
-        → fromSiblings child none (x ∷ xs) (suc d) (2 ^ d + s) (2 ^ d + j) ≡ fromSiblings child none xs d s j
-    unfolding fromSiblings
-    from-high x xs d s j hs hj =
-        from-same x xs d (2 ^ d + s) (2 ^ d + j) (bit-high d s hs ∙ sym (bit-high d j hj))
-        ∙ ap₂ (λ a b. follow child none xs a b) (path-high d s) (path-high d j)
-
-    pub from-low-high : (x : A) (xs : List A) (d s j : ℕ) → s < 2 ^ d → j < 2 ^ d
-        → fromSiblings child none (x ∷ xs) (suc d) s (2 ^ d + j) ≡ leafAt child d x j
+  module _ (some : 0 < k) where
+    -- the leaves of a node are those of its children, one child after another
+    pub leaf-child : (d : ℕ) (s : A) (c j : ℕ) → c < k → j < k ^ d
+        → leafAt k child (suc d) s (c * k ^ d + j) ≡ leafAt k child d (child c s) j
     unfolding leafAt
-    from-low-high x xs d s j hs hj =
-        from-other x xs d s (2 ^ d + j) (λ e. apart (sym (bit-low d s hs) ∙ e ∙ bit-high d j hj))
-        ∙ ap (reach child x) (path-high d j)
-      where
-        apart : _≡_ {A = ℕ} 0 1 → ⊥
-        apart e = omega arith
+    leaf-child d s c j hc hj =
+        leaf-suc d s (c * k ^ d + j)
+        ∙ ap₂ (λ b digits. reach child (child b s) digits) (digit-first k some d c j hc hj) (path-past k some d c j)
 
-    pub from-high-low : (x : A) (xs : List A) (d s j : ℕ) → s < 2 ^ d → j < 2 ^ d
-        → fromSiblings child none (x ∷ xs) (suc d) (2 ^ d + s) j ≡ leafAt child d x j
-    from-high-low x xs d s j hs hj =
-        from-other x xs d (2 ^ d + s) j (λ e. apart (sym (bit-high d s hs) ∙ e ∙ bit-low d j hj))
+    -- a level has k − 1 siblings
+    pub length-siblings : (d : ℕ) (s : A) (j : ℕ) → length (siblings k child d s j) ≡ d * (k - 1)
+    length-siblings zero s j = ap length (siblings-none s j) ∙ sym (zero-mul (k - 1))
+    length-siblings (suc d) s j =
+        ap length (siblings-suc d s j)
+        ∙ length-append (others k child s (digit k d j)) (siblings k child d (child (digit k d j) s) j)
+        ∙ ap₂ (λ m n. m + n) (length-others k child s (digit k d j) (digit-below k some d j)) (length-siblings d (child (digit k d j) s) j)
+        ∙ more d (k - 1)
       where
-        apart : _≡_ {A = ℕ} 1 0 → ⊥
-        apart e = omega arith
+        more : (d m : ℕ) → m + d * m ≡ suc d * m
+        more d m = omega arith
 
-    -- numbers that differ modulo 2 ^ d
-    from-siblings-mod : (d : ℕ) (root : A) (s j : ℕ) → s % 2 ^ d ≢ j % 2 ^ d
-        → fromSiblings child none (siblings child d root s) d s j ≡ leafAt child d root j
-    from-siblings-mod zero root s j h = absurd (h (mod-one s ∙ sym (mod-one j)))
-    from-siblings-mod (suc d) root s j h =
-        ap (λ l. fromSiblings child none l (suc d) s j) (siblings-suc d root s)
-        ∙ from-suc (child (1 - bit d s) root) (siblings child d (child (bit d s) root) s) d s j
-        ∙ decide (eqb (bit d s) (bit d j)) refl (from-siblings-mod d (child (bit d s) root) s j)
+    module _ (none : A) (xs : List A) (d s j : ℕ) (hs : s < k ^ d) (hj : j < k ^ d) where
+      -- below the child that the position lies in, a leaf follows from the siblings of the further levels
+      pub from-within : (c : ℕ) → c < k
+          → fromSiblings k child none xs (suc d) (c * k ^ d + s) (c * k ^ d + j) ≡ fromSiblings k child none (drop (k - 1) xs) d s j
+      unfolding fromSiblings
+      from-within c hc =
+          from-equal none xs d (c * k ^ d + s) (c * k ^ d + j)
+          (digit-first k some d c s hc hs ∙ sym (digit-first k some d c j hc hj))
+          ∙ ap₂ (λ a b. follow k child none (drop (k - 1) xs) a b) (path-past k some d c s) (path-past k some d c j)
+
+      -- below another child b, from that child among the first level's siblings
+      pub from-beside : (c b : ℕ) → c < k → b < k → c ≢ b
+          → fromSiblings k child none xs (suc d) (c * k ^ d + s) (b * k ^ d + j) ≡ leafAt k child d (getD xs (rank c b) none) j
+      unfolding leafAt
+      from-beside c b hc hb h =
+          let es = digit-first k some d c s hc hs in
+          let ej = digit-first k some d b j hb hj in
+          from-unequal none xs d (c * k ^ d + s) (b * k ^ d + j) (λ e. h (sym es ∙ e ∙ ej))
+          ∙ ap₂ (λ n digits. reach child (getD xs n none) digits) (ap₂ rank es ej) (path-past k some d b j)
+
+    -- numbers that differ modulo k ^ d
+    from-siblings-mod : (none : A) (d : ℕ) (root : A) (s j : ℕ) → s % k ^ d ≢ j % k ^ d
+        → fromSiblings k child none (siblings k child d root s) d s j ≡ leafAt k child d root j
+    from-siblings-mod none zero root s j h = absurd (h (one s ∙ sym (one j)))
+      where
+        one : (n : ℕ) → n % k ^ 0 ≡ 0
+        one n = ap (λ m. n % m) (pow-zero k) ∙ mod-one n
+    from-siblings-mod none (suc d) root s j h =
+        ap (λ l. fromSiblings k child none l (suc d) s j) (siblings-suc d root s)
+        ∙ from-suc none (first ++ rest) d s j
+        ∙ decide (eqb (digit k d s) (digit k d j)) refl (from-siblings-mod none d (child (digit k d s) root) s j)
         ∙ sym (leaf-suc d root j)
       where
-        rest : bit d s ≡ bit d j → s % 2 ^ d ≢ j % 2 ^ d
-        rest e f = h (mod-suc-bit d s ∙ ap₂ (λ b r. b * 2 ^ d + r) e f ∙ sym (mod-suc-bit d j))
+        first : List A
+        first = others k child root (digit k d s)
 
-        flipped : (a b : ℕ) → a < 2 → b < 2 → (a ≡ b → ⊥) → 1 - a ≡ b
-        flipped a b ha hb e = omega arith
+        rest : List A
+        rest = siblings k child d (child (digit k d s) root) s
 
-        decide : (t : Bool) → eqb (bit d s) (bit d j) ≡ t
-            → (s % 2 ^ d ≢ j % 2 ^ d → fromSiblings child none (siblings child d (child (bit d s) root) s) d s j ≡ leafAt child d (child (bit d s) root) j)
-            → choose t (fromSiblings child none (siblings child d (child (bit d s) root) s) d s j) (leafAt child d (child (1 - bit d s) root) j)
-            ≡ leafAt child d (child (bit d j) root) j
+        lower : digit k d s ≡ digit k d j → s % k ^ d ≢ j % k ^ d
+        lower e f = h (mod-suc-digit k some d s ∙ ap₂ (λ b r. b * k ^ d + r) e f ∙ sym (mod-suc-digit k some d j))
+
+        decide : (t : Bool) → eqb (digit k d s) (digit k d j) ≡ t
+            → (s % k ^ d ≢ j % k ^ d → fromSiblings k child none rest d s j ≡ leafAt k child d (child (digit k d s) root) j)
+            → choose t (fromSiblings k child none (drop (k - 1) (first ++ rest)) d s j)
+            (leafAt k child d (getD (first ++ rest) (rank (digit k d s) (digit k d j)) none) j)
+            ≡ leafAt k child d (child (digit k d j) root) j
         decide true e ih =
-            ih (rest (eqb-true (bit d s) (bit d j) e))
-            ∙ ap (λ b. leafAt child d (child b root) j) (eqb-true (bit d s) (bit d j) e)
+            ap (λ l. fromSiblings k child none l d s j)
+            (drop-at first rest (k - 1) (length-others k child root (digit k d s) (digit-below k some d s)))
+            ∙ ih (lower (eqb-true (digit k d s) (digit k d j) e))
+            ∙ ap (λ b. leafAt k child d (child b root) j) (eqb-true (digit k d s) (digit k d j) e)
         decide false e ih =
-            ap (λ b. leafAt child d (child b root) j)
-            (flipped (bit d s) (bit d j) (bit-below d s) (bit-below d j) (eqb-false (bit d s) (bit d j) e))
+            ap (λ x. leafAt k child d x j)
+            (others-front k child root (digit k d s) (digit-below k some d s) (digit k d j) (digit-below k some d j)
+            (eqb-false (digit k d s) (digit k d j) e) none rest)
 
-    -- from the siblings of root at s, every leaf but s comes out as root's own leaf
-    pub from-siblings : FromSiblings child none
-    from-siblings d root s j hs hj h =
-        from-siblings-mod d root s j (λ e. h (sym (mod-eq-of-lt hs) ∙ e ∙ mod-eq-of-lt hj))
+    -- ---- what children keep, all nodes have
 
-  -- ---- what children keep, all nodes have
+    module _ (P : A → Type 0) (kept : (b : ℕ) → b < k → (s : A) → P s → P (child b s)) where
+      pub leaf-has : (d : ℕ) (s : A) (j : ℕ) → P s → P (leafAt k child d s j)
+      leaf-has zero s j p = rw leaf-none p
+      leaf-has (suc d) s j p =
+          rw leaf-suc (leaf-has d (child (digit k d j) s) j (kept (digit k d j) (digit-below k some d j) s p))
 
-  module _ (P : A → Type 0) where
-    pub leaf-has : ((b : ℕ) → b < 2 → (s : A) → P s → P (child b s)) → (d : ℕ) (s : A) (j : ℕ) → P s → P (leafAt child d s j)
-    leaf-has kept zero s j p = rw leaf-none p
-    leaf-has kept (suc d) s j p =
-        rw leaf-suc (leaf-has kept d (child (bit d j) s) j (kept (bit d j) (bit-below d j) s p))
+      others-have : (s : A) (c : ℕ) → P s → Each P (others k child s c)
+      unfolding others
+      others-have s c p =
+          let all : Each P (listed k (λ b. child b s)) = each-listed P k (λ b. child b s) (λ b h. kept b h s p) in
+          each-append P (take c (listed k (λ b. child b s))) (drop (suc c) (listed k (λ b. child b s)))
+          (each-take P c (listed k (λ b. child b s)) all) (each-drop P (suc c) (listed k (λ b. child b s)) all)
 
-    pub siblings-have : ((b : ℕ) → b < 2 → (s : A) → P s → P (child b s)) → (d : ℕ) (s : A) (j : ℕ) → P s → Each P (siblings child d s j)
-    siblings-have kept zero s j p = rw siblings-none tt
-    siblings-have kept (suc d) s j p =
-        rw siblings-suc (
-          kept (1 - bit d j) (flip-below (bit d j)) s p,
-          siblings-have kept d (child (bit d j) s) j (kept (bit d j) (bit-below d j) s p),
-        )
+      pub siblings-have : (d : ℕ) (s : A) (j : ℕ) → P s → Each P (siblings k child d s j)
+      siblings-have zero s j p = rw siblings-none tt
+      siblings-have (suc d) s j p =
+          rw siblings-suc
+          (each-append P (others k child s (digit k d j)) (siblings k child d (child (digit k d j) s) j)
+          (others-have s (digit k d j) p)
+          (siblings-have d (child (digit k d j) s) j (kept (digit k d j) (digit-below k some d j) s p)))
 
--- ---- two child functions that agree on 0 and 1
+-- from the siblings of root at s, every leaf but s comes out as root's own leaf
+pub from-siblings : {A : Type 0} (child : ℕ → A → A) (none : A) → FromSiblings child none
+from-siblings child none zero zero root s j hs hj h = absurd (h (omega arith))
+from-siblings child none zero (suc d) root s j hs hj h = absurd (omega arith)
+from-siblings child none (suc k) d root s j hs hj h =
+    from-siblings-mod (suc k) child (omega arith) none d root s j (λ e. h (sym (mod-eq-of-lt hs) ∙ e ∙ mod-eq-of-lt hj))
 
-module _ {A : Type 0} (f g : ℕ → A → A) (same : (c : ℕ) → c < 2 → (s : A) → f c s ≡ g c s) where
-  pub leaf-same : (d : ℕ) (s : A) (j : ℕ) → leafAt f d s j ≡ leafAt g d s j
-  leaf-same zero s j = leaf-none f s j ∙ sym (leaf-none g s j)
+-- ---- two child functions that agree on the k children
+
+module _ {A : Type 0} (k : ℕ) (some : 0 < k) (f g : ℕ → A → A) (same : (c : ℕ) → c < k → (s : A) → f c s ≡ g c s) where
+  pub leaf-same : (d : ℕ) (s : A) (j : ℕ) → leafAt k f d s j ≡ leafAt k g d s j
+  leaf-same zero s j = leaf-none k f s j ∙ sym (leaf-none k g s j)
   leaf-same (suc d) s j =
-      leaf-suc f d s j
-      ∙ ap (λ x. leafAt f d x j) (same (bit d j) (bit-below d j) s)
-      ∙ leaf-same d (g (bit d j) s) j
-      ∙ sym (leaf-suc g d s j)
+      leaf-suc k f d s j
+      ∙ ap (λ x. leafAt k f d x j) (same (digit k d j) (digit-below k some d j) s)
+      ∙ leaf-same d (g (digit k d j) s) j
+      ∙ sym (leaf-suc k g d s j)
 
-  pub siblings-same : (d : ℕ) (s : A) (j : ℕ) → siblings f d s j ≡ siblings g d s j
-  siblings-same zero s j = siblings-none f s j ∙ sym (siblings-none g s j)
+  others-same : (s : A) (c : ℕ) → others k f s c ≡ others k g s c
+  unfolding others
+  others-same s c =
+      ap (λ l. take c l ++ drop (suc c) l) (listed-cong k (λ b. f b s) (λ b. g b s) (λ b h. same b h s))
+
+  pub siblings-same : (d : ℕ) (s : A) (j : ℕ) → siblings k f d s j ≡ siblings k g d s j
+  siblings-same zero s j = siblings-none k f s j ∙ sym (siblings-none k g s j)
   siblings-same (suc d) s j =
-      siblings-suc f d s j
-      ∙ ap₂ (λ x y. x ∷ siblings f d y j) (same (1 - bit d j) (flip-below (bit d j)) s) (same (bit d j) (bit-below d j) s)
-      ∙ ap (λ l. g (1 - bit d j) s ∷ l) (siblings-same d (g (bit d j) s) j)
-      ∙ sym (siblings-suc g d s j)
+      siblings-suc k f d s j
+      ∙ ap₂ (λ l x. l ++ siblings k f d x j) (others-same s (digit k d j)) (same (digit k d j) (digit-below k some d j) s)
+      ∙ ap (λ l. others k g s (digit k d j) ++ l) (siblings-same d (g (digit k d j) s) j)
+      ∙ sym (siblings-suc k g d s j)
 
-  pub from-same-child : (none : A) (xs : List A) (d s j : ℕ) → fromSiblings f none xs d s j ≡ fromSiblings g none xs d s j
-  unfolding fromSiblings follow
-  from-same-child none [] d s j = refl
-  from-same-child none (x ∷ xs) zero s j = ap₂ (λ a b. follow f none (x ∷ xs) a b) (path-none s) (path-none j) ∙ ap₂ (λ a b. follow g none (x ∷ xs) a b) (sym (path-none s)) (sym (path-none j))
-  from-same-child none (x ∷ xs) (suc d) s j =
-      from-suc f none x xs d s j
-      ∙ ap₂ (λ a b. choose (eqb (bit d s) (bit d j)) a b) (from-same-child none xs d s j) (leaf-same d x j)
-      ∙ sym (from-suc g none x xs d s j)
+  pub from-same : (none : A) (xs : List A) (d s j : ℕ) → fromSiblings k f none xs d s j ≡ fromSiblings k g none xs d s j
+  from-same none xs zero s j = from-none k f none xs s j ∙ sym (from-none k g none xs s j)
+  from-same none xs (suc d) s j =
+      from-suc k f none xs d s j
+      ∙ ap₂ (λ a b. choose (eqb (digit k d s) (digit k d j)) a b) (from-same none (drop (k - 1) xs) d s j)
+      (leaf-same d (getD xs (rank (digit k d s) (digit k d j)) none) j)
+      ∙ sym (from-suc k g none xs d s j)
 
 -- ---- elements
 
-module _ {A E : Type 0} (element : A → E) where
-  -- a tree punctured at s by its own siblings: the correction at s, its own leaves elsewhere
-  pub punctured-own : (child : ℕ → A → A) (none : A) (d : ℕ) (root : A) (s : ℕ) (correction : E) (j : ℕ) → s < 2 ^ d → j < 2 ^ d
-      → puncturedElement element child none (siblings child d root s) d s correction j
-      ≡ choose (eqb s j) correction (leafElement element child d root j)
-  unfolding puncturedElement leafElement
-  punctured-own child none d root s correction j hs hj = decide (eqb s j) refl
-    where
-      decide : (t : Bool) → eqb s j ≡ t
-          → choose t correction (element (fromSiblings child none (siblings child d root s) d s j))
-          ≡ choose t correction (element (leafAt child d root j))
-      decide true e = refl
-      decide false e = ap element (from-siblings child none d root s j hs hj (eqb-false s j e))
-
-  module _ (f g : ℕ → A → A) (same : (c : ℕ) → c < 2 → (s : A) → f c s ≡ g c s) where
-    pub leaf-element-same : (d : ℕ) (s : A) (j : ℕ) → leafElement element f d s j ≡ leafElement element g d s j
+module _ {A E : Type 0} (element : A → E) (k : ℕ) where
+  module _ (some : 0 < k) (f g : ℕ → A → A) (same : (c : ℕ) → c < k → (s : A) → f c s ≡ g c s) where
+    pub leaf-element-same : (d : ℕ) (s : A) (j : ℕ) → leafElement element k f d s j ≡ leafElement element k g d s j
     unfolding leafElement
-    leaf-element-same d s j = ap element (leaf-same f g same d s j)
+    leaf-element-same d s j = ap element (leaf-same k some f g same d s j)
 
     pub punctured-element-same : (none : A) (xs : List A) (d s : ℕ) (correction : E) (j : ℕ)
-        → puncturedElement element f none xs d s correction j ≡ puncturedElement element g none xs d s correction j
+        → puncturedElement element k f none xs d s correction j ≡ puncturedElement element k g none xs d s correction j
     unfolding puncturedElement
     punctured-element-same none xs d s correction j =
-        ap (λ a. choose (eqb s j) correction (element a)) (from-same-child f g same none xs d s j)
+        ap (λ a. choose (eqb s j) correction (element a)) (from-same k some f g same none xs d s j)
+
+-- ---- two children: the halves
+
+-- bit d of j
+abbrev pub bit : ℕ → ℕ → ℕ
+bit d j = digit 2 d j
+
+pub two : 0 < 2
+two = omega arith
+
+pub bit-below : (d j : ℕ) → bit d j < 2
+bit-below d j = digit-below 2 two d j
+
+low-number : (p j : ℕ) → j ≡ 0 * p + j
+low-number p j = omega arith
+
+high-number : (p j : ℕ) → p + j ≡ 1 * p + j
+high-number p j = omega arith
+
+module _ {A : Type 0} (child : ℕ → A → A) where
+  -- the lower half of the leaves is the left child's, the upper half the right child's
+  pub leaf-low : (d : ℕ) (s : A) (j : ℕ) → j < 2 ^ d → leafAt 2 child (suc d) s j ≡ leafAt 2 child d (child 0 s) j
+  leaf-low d s j h = ap (leafAt 2 child (suc d) s) (low-number (2 ^ d) j) ∙ leaf-child 2 child two d s 0 j (omega arith) h
+
+  pub leaf-high : (d : ℕ) (s : A) (j : ℕ) → j < 2 ^ d → leafAt 2 child (suc d) s (2 ^ d + j) ≡ leafAt 2 child d (child 1 s) j
+  leaf-high d s j h = ap (leafAt 2 child (suc d) s) (high-number (2 ^ d) j) ∙ leaf-child 2 child two d s 1 j (omega arith) h
+
+  others-two : (s : A) (c : ℕ) → c < 2 → others 2 child s c ≡ child (1 - c) s ∷ []
+  unfolding others listed
+  others-two s zero h = refl
+  others-two s (suc zero) h = refl
+  others-two s (suc (suc c)) h = absurd (omega arith)
+
+  -- a level's one sibling
+  pub siblings-two : (d : ℕ) (s : A) (j : ℕ)
+      → siblings 2 child (suc d) s j ≡ child (1 - bit d j) s ∷ siblings 2 child d (child (bit d j) s) j
+  siblings-two d s j =
+      siblings-suc 2 child d s j
+      ∙ ap (λ l. l ++ siblings 2 child d (child (bit d j) s) j) (others-two s (bit d j) (bit-below d j))
+
+  pub length-siblings-two : (d : ℕ) (s : A) (j : ℕ) → length (siblings 2 child d s j) ≡ d
+  length-siblings-two d s j = length-siblings 2 child two d s j ∙ mul-one d
+
+  -- both in one half: the rest of the siblings; in two halves: the other half's leaf from the first sibling
+  module _ (none x : A) (xs : List A) (d s j : ℕ) (hs : s < 2 ^ d) (hj : j < 2 ^ d) where
+    pub from-low : fromSiblings 2 child none (x ∷ xs) (suc d) s j ≡ fromSiblings 2 child none xs d s j
+    from-low =
+        ap₂ (fromSiblings 2 child none (x ∷ xs) (suc d)) (low-number (2 ^ d) s) (low-number (2 ^ d) j)
+        ∙ from-within 2 child two none (x ∷ xs) d s j hs hj 0 (omega arith)
+
+    pub from-high : fromSiblings 2 child none (x ∷ xs) (suc d) (2 ^ d + s) (2 ^ d + j) ≡ fromSiblings 2 child none xs d s j
+    from-high =
+        ap₂ (fromSiblings 2 child none (x ∷ xs) (suc d)) (high-number (2 ^ d) s) (high-number (2 ^ d) j)
+        ∙ from-within 2 child two none (x ∷ xs) d s j hs hj 1 (omega arith)
+
+    pub from-low-high : fromSiblings 2 child none (x ∷ xs) (suc d) s (2 ^ d + j) ≡ leafAt 2 child d x j
+    from-low-high =
+        ap₂ (fromSiblings 2 child none (x ∷ xs) (suc d)) (low-number (2 ^ d) s) (high-number (2 ^ d) j)
+        ∙ from-beside 2 child two none (x ∷ xs) d s j hs hj 0 1 (omega arith) (omega arith) (λ e. omega arith)
+
+    pub from-high-low : fromSiblings 2 child none (x ∷ xs) (suc d) (2 ^ d + s) j ≡ leafAt 2 child d x j
+    from-high-low =
+        ap₂ (fromSiblings 2 child none (x ∷ xs) (suc d)) (high-number (2 ^ d) s) (low-number (2 ^ d) j)
+        ∙ from-beside 2 child two none (x ∷ xs) d s j hs hj 1 0 (omega arith) (omega arith) (λ e. omega arith)

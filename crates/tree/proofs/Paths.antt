@@ -1,54 +1,51 @@
--- The bits of a number, highest of the d first: those of both halves of the numbers below 2 ^ (d + 1).
+-- Paths in base k: the digits of a number, and the numbers below k ^ (d + 1) by their highest digit.
 use mathlib.Core.Path.{_≡_, refl, ap, ap₂, sym, _∙_}
 use mathlib.Core.List.{[], _∷_}
 use Prim.Native.Nat.{ℕ, zero, suc, _+_, _*_, _/_, _%_, _^_, _<_}
-use native.Mathlib.Nat.{div-eq-of-lt, add-div-left, mul-add-div, mul-add-mod-self-left, pow-suc, mul-assoc, mul-one, mod-lt}
-use native.Mathlib.Omega.{arith}
-use lib.Pow.{pow-pos, mod-pow-add}
+use native.Mathlib.Nat.{add-zero, div-eq-of-lt, mul-add-div-right, mul-add-mod-self-right, mod-eq-of-lt, one-le-pow, pow-succ', mul-assoc, mod-lt}
+use lib.Arith.{mod-mul}
 use Rattle.tree.specs.Tree.{path}
 
--- bit d of j
-abbrev pub bit : ℕ → ℕ → ℕ
-bit d j = (j / 2 ^ d) % 2
+-- digit d of j in base k
+abbrev pub digit : ℕ → ℕ → ℕ → ℕ
+digit k d j = (j / k ^ d) % k
 
-pub path-none : (j : ℕ) → path 0 j ≡ []
+pub path-none : (k j : ℕ) → path k 0 j ≡ []
 unfolding path
-path-none j = refl
+path-none k j = refl
 
-pub path-suc : (d j : ℕ) → path (suc d) j ≡ bit d j ∷ path d j
+pub path-suc : (k d j : ℕ) → path k (suc d) j ≡ digit k d j ∷ path k d j
 unfolding path
-path-suc d j = refl
+path-suc k d j = refl
 
-pub bit-below : (d j : ℕ) → bit d j < 2
-bit-below d j = mod-lt (j / 2 ^ d) (omega arith)
+module _ (k : ℕ) (some : 0 < k) where
+  pub power-some : (d : ℕ) → 0 < k ^ d
+  power-some d = one-le-pow d k some
 
-pub bit-low : (d j : ℕ) → j < 2 ^ d → bit d j ≡ 0
-bit-low d j h = ap (λ q. q % 2) (div-eq-of-lt h)
+  pub digit-below : (d j : ℕ) → digit k d j < k
+  digit-below d j = mod-lt (j / k ^ d) some
 
-pub bit-high : (d j : ℕ) → j < 2 ^ d → bit d (2 ^ d + j) ≡ 1
-bit-high d j h = ap (λ q. q % 2) (add-div-left j (pow-pos d) ∙ ap (λ q. q + 1) (div-eq-of-lt h))
+  -- the leaves below child c are those from c * k ^ d on: their first digit is c
+  pub digit-first : (d c j : ℕ) → c < k → j < k ^ d → digit k d (c * k ^ d + j) ≡ c
+  digit-first d c j hc hj =
+      ap (λ q. q % k) (mul-add-div-right (power-some d) c j ∙ ap (λ q. c + q) (div-eq-of-lt hj) ∙ add-zero c)
+      ∙ mod-eq-of-lt hc
 
-twice : (d k : ℕ) → 2 ^ suc d * k ≡ 2 ^ d * (2 * k)
-twice d k = ap (λ n. n * k) (pow-suc 2 d) ∙ mul-assoc (2 ^ d) 2 k
+  up : (d c : ℕ) → c * k ^ suc d ≡ c * k * k ^ d
+  up d c = ap (λ n. c * n) (pow-succ' k d) ∙ sym (mul-assoc c k (k ^ d))
 
-bit-add : (d k j : ℕ) → bit d (2 ^ d * (2 * k) + j) ≡ bit d j
-bit-add d k j = ap (λ q. q % 2) (mul-add-div (pow-pos d) (2 * k) j) ∙ mul-add-mod-self-left 2 k (j / 2 ^ d)
+  digit-past : (d c j : ℕ) → digit k d (c * k * k ^ d + j) ≡ digit k d j
+  digit-past d c j = ap (λ q. q % k) (mul-add-div-right (power-some d) (c * k) j) ∙ mul-add-mod-self-right c k (j / k ^ d)
 
--- multiples of 2 ^ d do not count
-path-add : (d k j : ℕ) → path d (2 ^ d * k + j) ≡ path d j
-path-add zero k j = path-none (2 ^ 0 * k + j) ∙ sym (path-none j)
-path-add (suc d) k j =
-    ap (λ n. path (suc d) (n + j)) (twice d k)
-    ∙ path-suc d (2 ^ d * (2 * k) + j)
-    ∙ ap₂ (λ b bits. b ∷ bits) (bit-add d k j) (path-add d (2 * k) j)
-    ∙ sym (path-suc d j)
+  -- and their further digits are those of the leaf's number below child c
+  pub path-past : (d c j : ℕ) → path k d (c * k ^ d + j) ≡ path k d j
+  path-past zero c j = path-none k (c * k ^ 0 + j) ∙ sym (path-none k j)
+  path-past (suc d) c j =
+      ap (λ n. path k (suc d) (n + j)) (up d c)
+      ∙ path-suc k d (c * k * k ^ d + j)
+      ∙ ap₂ (λ b digits. b ∷ digits) (digit-past d c j) (path-past d (c * k) j)
+      ∙ sym (path-suc k d j)
 
-pub path-high : (d j : ℕ) → path d (2 ^ d + j) ≡ path d j
-path-high d j = ap (λ n. path d (n + j)) (sym (mul-one (2 ^ d))) ∙ path-add d 1 j
-
--- a number modulo 2 ^ (d + 1) by its bit d and the rest
-pub mod-suc-bit : (d j : ℕ) → j % 2 ^ suc d ≡ bit d j * 2 ^ d + j % 2 ^ d
-mod-suc-bit d j = ap (λ n. j % 2 ^ n) (one-more d) ∙ mod-pow-add j 1 d
-  where
-    one-more : (d : ℕ) → suc d ≡ 1 + d
-    one-more d = omega arith
+  -- a number modulo k ^ (d + 1) by its digit d and the rest
+  pub mod-suc-digit : (d j : ℕ) → j % k ^ suc d ≡ digit k d j * k ^ d + j % k ^ d
+  mod-suc-digit d j = ap (λ n. j % n) (pow-succ' k d) ∙ mod-mul j some (power-some d)

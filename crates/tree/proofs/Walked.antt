@@ -1,4 +1,4 @@
--- The walk to a leaf: at the leaf, and from a node one level on.
+-- The walk to a leaf: at the leaf, and from a node one level on, with two children.
 use mathlib.Core.Path.{_≡_, ap, ap₂, sym, _∙_}
 use mathlib.Core.List.{List, [], _∷_, _++_}
 use Prim.Native.Nat.{ℕ, _+_, _-_}
@@ -7,53 +7,61 @@ use lib.ListN.{getD}
 use lib.Seq.{sets}
 use Rattle.tree.specs.Tree.{leafAt, siblings}
 use Rattle.tree.specs.Columns.{blockBytes, blocksBytes}
-use Rattle.tree.proofs.Paths.{bit, bit-below}
-use Rattle.tree.proofs.Laws.{leaf-none, leaf-suc, siblings-none, siblings-suc}
+use Rattle.tree.specs.Expanded.{Walk, walk, walked}
+use Rattle.tree.specs.declared.punctured.Punctured.{Punctured}
+use Rattle.tree.proofs.Laws.{bit, bit-below, leaf-none, leaf-suc, siblings-none, siblings-two}
 use Rattle.tree.proofs.Blocks.{sets-append, length-block}
 use Rattle.tree.proofs.Fill.{down}
 
--- what a walk from s gives: the leaf r, and l with the siblings' bytes written from a place on
-abbrev pub Walked : (ℕ → List (List ℕ) → List (List ℕ)) → ℕ → List (List ℕ) → ℕ → List (List ℕ) → List ℕ → ℕ → List ℕ → Type 0
-Walked child levels s position r l at l′ =
-    (r ≡ leafAt child levels s position) × (l′ ≡ sets l at (blocksBytes (siblings child levels s position)))
+-- one level on
+abbrev on : Punctured → Punctured
+on t = record { levels = t .levels - 1; position = t .position; at = t .at + 16 }
 
-module _ (child : ℕ → List (List ℕ) → List (List ℕ)) (levels : ℕ) (s : List (List ℕ)) (position : ℕ) (l : List ℕ) (at : ℕ) where
-  pub walked-leaf : levels ≡ 0 → Walked child levels s position s l at l
-  unfolding blocksBytes
-  walked-leaf e = (
-    sym (leaf-none child s position) ∙ ap (λ n. leafAt child n s position) (sym e),
-    ap (λ x. sets l at (blocksBytes x)) (sym (siblings-none child s position))
-        ∙ ap (λ n. sets l at (blocksBytes (siblings child n s position))) (sym e),
-  )
+module _ (child : ℕ → List (List ℕ) → List (List ℕ)) (s : List (List ℕ)) (t : Punctured) (l : List ℕ) where
+  -- what a walk gives where n levels are left
+  By : ℕ → Walk
+  By n = walk (leafAt 2 child n s (t .position)) (sets l (t .at) (blocksBytes (siblings 2 child n s (t .position))))
 
-  module _ {both : List (List (List ℕ))} {r : List (List ℕ)} {l₁ l₂ : List ℕ} (h : levels ≡ 0 → ⊥)
+  pub walked-leaf : t .levels ≡ 0 → walk s l ≡ walked 2 child s t l
+  unfolding walked By blocksBytes
+  walked-leaf e =
+      ap₂ (λ x y. walk x (sets l (t .at) (blocksBytes y))) (sym (leaf-none 2 child s (t .position))) (sym (siblings-none 2 child s (t .position)))
+      ∙ ap By (sym e)
+
+  -- the bit that the next level goes by
+  abbrev next : ℕ
+  next = bit (t .levels - 1) (t .position)
+
+  -- towards the child that the position's bit names, past the other
+  named : (t .levels ≡ 0 → ⊥)
+      → walked 2 child (child next s) (on t) (sets l (t .at) (blockBytes (child (1 - next) s))) ≡ walked 2 child s t l
+  unfolding walked By blocksBytes
+  named h =
+      let far : List (List ℕ) = child (1 - next) s in
+      let rest : List (List (List ℕ)) = siblings 2 child (t .levels - 1) (child next s) (t .position) in
+      ap₂ walk (sym (leaf-suc 2 child (t .levels - 1) s (t .position)))
+      (ap (λ n. sets (sets l (t .at) (blockBytes far)) (t .at + n) (blocksBytes rest)) (sym (length-block far))
+      ∙ sets-append l (t .at) (blockBytes far) (blocksBytes rest)
+      ∙ ap (λ x. sets l (t .at) (blocksBytes x)) (sym (siblings-two child (t .levels - 1) s (t .position))))
+      ∙ ap By (sym (down (t .levels) h))
+
+  module _ {both : List (List (List ℕ))} {r : List (List ℕ)} {l₁ l₂ : List ℕ} (h : t .levels ≡ 0 → ⊥)
       (eb : both ≡ child 0 s ∷ child 1 s ∷ []) where
-    -- towards the child b, past the other
-    walked-on : (b : ℕ) (near far : List (List ℕ)) → bit (levels - 1) position ≡ b → near ≡ child b s → far ≡ child (1 - b) s
-        → l₁ ≡ sets l at (blockBytes far) → Walked child (levels - 1) near position r l₁ (at + 16) l₂ → Walked child levels s position r l at l₂
-    unfolding blocksBytes
-    walked-on b near far e en ef w v = (
-      v .0
-          ∙ ap (λ x. leafAt child (levels - 1) x position) (en ∙ ap (λ c. child c s) (sym e))
-          ∙ sym (leaf-suc child (levels - 1) s position)
-          ∙ ap (λ n. leafAt child n s position) (sym (down levels h)),
-      v .1
-          ∙ ap (λ x. sets x (at + 16) (blocksBytes (siblings child (levels - 1) near position))) w
-          ∙ ap (λ n. sets (sets l at (blockBytes far)) (at + n) (blocksBytes (siblings child (levels - 1) near position))) (sym (length-block far))
-          ∙ sets-append l at (blockBytes far) (blocksBytes (siblings child (levels - 1) near position))
-          ∙ ap₂ (λ x y. sets l at (blockBytes x ++ blocksBytes (siblings child (levels - 1) y position)))
-          (ef ∙ ap (λ c. child (1 - c) s) (sym e)) (en ∙ ap (λ c. child c s) (sym e))
-          ∙ ap (λ x. sets l at (blocksBytes x)) (sym (siblings-suc child (levels - 1) s position))
-          ∙ ap (λ n. sets l at (blocksBytes (siblings child n s position))) (sym (down levels h)),
-    )
+    walked-on : (b : ℕ) → next ≡ b → getD both b [] ≡ child b s → getD both (1 - b) [] ≡ child (1 - b) s
+        → l₁ ≡ sets l (t .at) (blockBytes (getD both (1 - b) [])) → walk r l₂ ≡ walked 2 child (getD both b []) (on t) l₁
+        → walk r l₂ ≡ walked 2 child s t l
+    walked-on b e near far w v =
+        v
+        ∙ ap₂ (λ x y. walked 2 child x (on t) y) near (w ∙ ap (λ x. sets l (t .at) (blockBytes x)) far)
+        ∙ ap (λ c. walked 2 child (child c s) (on t) (sets l (t .at) (blockBytes (child (1 - c) s)))) (sym e)
+        ∙ named h
 
-    pub walked-left : bit (levels - 1) position ≡ 0 → l₁ ≡ sets l at (blockBytes (getD both 1 []))
-        → Walked child (levels - 1) (getD both 0 []) position r l₁ (at + 16) l₂ → Walked child levels s position r l at l₂
-    walked-left e w v =
-        walked-on 0 (getD both 0 []) (getD both 1 []) e (ap (λ x. getD x 0 []) eb) (ap (λ x. getD x 1 []) eb) w v
+    pub walked-left : next ≡ 0 → l₁ ≡ sets l (t .at) (blockBytes (getD both 1 []))
+        → walk r l₂ ≡ walked 2 child (getD both 0 []) (on t) l₁ → walk r l₂ ≡ walked 2 child s t l
+    walked-left e w v = walked-on 0 e (ap (λ x. getD x 0 []) eb) (ap (λ x. getD x 1 []) eb) w v
 
-    pub walked-right : (bit (levels - 1) position ≡ 0 → ⊥) → l₁ ≡ sets l at (blockBytes (getD both 0 []))
-        → Walked child (levels - 1) (getD both 1 []) position r l₁ (at + 16) l₂ → Walked child levels s position r l at l₂
+    pub walked-right : (next ≡ 0 → ⊥) → l₁ ≡ sets l (t .at) (blockBytes (getD both 0 []))
+        → walk r l₂ ≡ walked 2 child (getD both 1 []) (on t) l₁ → walk r l₂ ≡ walked 2 child s t l
     walked-right e w v =
-        let b = bit-below (levels - 1) position in
-        walked-on 1 (getD both 1 []) (getD both 0 []) (omega arith) (ap (λ x. getD x 1 []) eb) (ap (λ x. getD x 0 []) eb) w v
+        let b = bit-below (t .levels - 1) (t .position) in
+        walked-on 1 (omega arith) (ap (λ x. getD x 1 []) eb) (ap (λ x. getD x 0 []) eb) w v

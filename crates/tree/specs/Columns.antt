@@ -26,7 +26,7 @@ unfoldable pub blocksBytes : List (List (List ℕ)) → List ℕ
 blocksBytes [] = []
 blocksBytes (s ∷ blocks) = blockBytes s ++ blocksBytes blocks
 
--- the d siblings whose bytes begin at a place
+-- the n siblings whose bytes begin at a place
 unfoldable pub siblingsAt : List ℕ → ℕ → ℕ → List (List (List ℕ))
 siblingsAt bytes at zero = []
-siblingsAt bytes at (suc d) = columnsAt bytes at ∷ siblingsAt bytes (at + 16) d
+siblingsAt bytes at (suc n) = columnsAt bytes at ∷ siblingsAt bytes (at + 16) n

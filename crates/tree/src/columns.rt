@@ -37,13 +37,20 @@ fn put_four(bytes: &mut [u8], at: usize, word: [u8; 4])
     bytes[at + 3] = word[3];
 }
 
+// Writes two columns from a place on.
+fn put_pair(bytes: &mut [u8], at: usize, a: [u8; 4], b: [u8; 4])
+    requires { ⌜ at + 8 ≤ length (now bytes) ⌝ }
+    ensures { λ _. ⌜ now (bytes .exit) ≡ sets (now (bytes .entry)) at (columnBytes a (columnBytes b [])) ⌝ }
+{
+    put_four(bytes, at, a);
+    put_four(bytes, at + 4, b);
+}
+
 // Writes the 16 bytes of a block from a place on.
 pub fn put_columns(bytes: &mut [u8], at: usize, s: [[u8; 4]; 4])
     requires { ⌜ at + 16 ≤ length (now bytes) ⌝ }
     ensures { λ _. ⌜ now (bytes .exit) ≡ sets (now (bytes .entry)) at (blockBytes s) ⌝ }
 {
-    put_four(bytes, at, s[0]);
-    put_four(bytes, at + 4, s[1]);
-    put_four(bytes, at + 8, s[2]);
-    put_four(bytes, at + 12, s[3]);
+    put_pair(bytes, at, s[0], s[1]);
+    put_pair(bytes, at + 8, s[2], s[3]);
 }

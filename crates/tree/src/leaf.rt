@@ -2,60 +2,44 @@
 ghost use mathlib.Core.Path.{_≡_};
 ghost use Prim.Native.Nat.{_+_, _*_, _≤_};
 ghost use lib.ListN.{length};
-ghost use lib.Seq.{sets};
 ghost use Rattle.sbox.specs.Table.{Tables};
-ghost use Rattle.tree.specs.Tree.{leafAt, siblings};
 ghost use Rattle.tree.specs.Child.{childBy};
-ghost use Rattle.tree.specs.Columns.{blocksBytes};
+ghost use Rattle.tree.specs.Expanded.{walk, walked};
 use crate::columns::put_columns;
 use crate::node::children;
+use crate::punctured::Punctured;
 
-// The leaf at a position; writes the siblings beside the path to it, top first, from a place on.
+// The leaf at the position; writes the siblings beside the path to it, top first, from their place on.
 pub fn walk(
     sbox: &[u8; 256],
     mix: &[u32; 256],
     left: &[[[u8; 4]; 4]; 11],
     right: &[[[u8; 4]; 4]; 11],
-    levels: usize,
     root: [[u8; 4]; 4],
-    position: usize,
+    tree: Punctured,
     out: &mut [u8],
-    at: usize,
 ) -> [[u8; 4]; 4]
-    requires { ⌜ Tables (now sbox) (now mix) × (levels ≤ 64) × (at + 16 * levels ≤ length (now out)) ⌝ }
-    ensures leaf { λ r. ⌜ r ≡ leafAt (childBy (now (left .entry)) (now (right .entry))) levels root position ⌝ }
-    ensures written { λ _. ⌜ now (out .exit) ≡ sets (now (out .entry)) at (blocksBytes (siblings (childBy (now (left .entry)) (now (right .entry))) levels root position)) ⌝ }
+    requires { ⌜ Tables (now sbox) (now mix) × (tree .levels ≤ 64) × (tree .at + 16 * tree .levels ≤ length (now out)) ⌝ }
+    ensures { λ r. ⌜ walk r (now (out .exit)) ≡ walked 2 (childBy (now (left .entry)) (now (right .entry))) root tree (now (out .entry)) ⌝ }
 {
+    let levels = tree.levels;
+    let position = tree.position;
+    let at = tree.at;
     if levels == 0 {
         return root;
     }
     let both = children(sbox, mix, left, right, root);
+    let below = Punctured {
+        levels: levels - 1,
+        position,
+        at: at + 16,
+    };
     let bit = (position >> (levels - 1)) % 2;
     if bit == 0 {
         put_columns(out, at, both[1]);
-        walk(
-            sbox,
-            mix,
-            left,
-            right,
-            levels - 1,
-            both[0],
-            position,
-            out,
-            at + 16,
-        )
+        walk(sbox, mix, left, right, both[0], below, out)
     } else {
         put_columns(out, at, both[0]);
-        walk(
-            sbox,
-            mix,
-            left,
-            right,
-            levels - 1,
-            both[1],
-            position,
-            out,
-            at + 16,
-        )
+        walk(sbox, mix, left, right, both[1], below, out)
     }
 }

@@ -5,6 +5,7 @@ mod columns;
 mod leaf;
 mod node;
 mod prime;
+mod punctured;
 
 pub use binary::add_leaves_binary;
 pub use binary::add_punctured_binary;
@@ -14,3 +15,4 @@ pub use node::left_keys;
 pub use node::right_keys;
 pub use prime::add_leaves_prime;
 pub use prime::add_punctured_prime;
+pub use punctured::Punctured;

@@ -10,6 +10,7 @@ ghost use Rattle.tree.specs.Columns.{siblingsAt};
 ghost use Rattle.tree.specs.Added.{added, leafElement, puncturedElement};
 use crate::columns::columns_at;
 use crate::node::children;
+use crate::punctured::Punctured;
 use field::Prime;
 
 // Adds an element to the one that a word holds.
@@ -33,7 +34,7 @@ pub fn add_leaves_prime(
     acc: &mut [u64],
 )
     requires { ⌜ Tables (now sbox) (now mix) × (length (now acc) ≡ 2 ^ levels * 1) ⌝ }
-    ensures { λ _. ⌜ now (acc .exit) ≡ added primes (2 ^ levels) (leafElement primeLeaf (childBy (now (left .entry)) (now (right .entry))) levels s) (now (acc .entry)) ⌝ }
+    ensures { λ _. ⌜ now (acc .exit) ≡ added primes (2 ^ levels) (leafElement primeLeaf 2 (childBy (now (left .entry)) (now (right .entry))) levels s) (now (acc .entry)) ⌝ }
 {
     if levels == 0 {
         add_prime(Prime::of_columns(s), acc);
@@ -45,53 +46,60 @@ pub fn add_leaves_prime(
     }
 }
 
-// Adds the leaves of a tree punctured at a position to the elements of acc: the correction there, the others from the
-// siblings whose bytes begin at a place.
+// Adds the leaves of a punctured tree to the elements of acc: the correction at its position, the others from the siblings
+// among the bytes.
 pub fn add_punctured_prime(
     sbox: &[u8; 256],
     mix: &[u32; 256],
     left: &[[[u8; 4]; 4]; 11],
     right: &[[[u8; 4]; 4]; 11],
-    levels: usize,
+    tree: Punctured,
     bytes: &[u8],
-    at: usize,
-    position: usize,
     correction: Prime,
     acc: &mut [u64],
 )
-    requires { ⌜ Tables (now sbox) (now mix) × (length (now acc) ≡ 2 ^ levels * 1) × (position < 2 ^ levels) × (at + 16 * levels ≤ length (now bytes)) ⌝ }
-    ensures { λ _. ⌜ now (acc .exit) ≡ added primes (2 ^ levels) (puncturedElement primeLeaf (childBy (now (left .entry)) (now (right .entry))) [] (siblingsAt (now (bytes .entry)) at levels) levels position correction) (now (acc .entry)) ⌝ }
+    requires { ⌜ Tables (now sbox) (now mix) × (length (now acc) ≡ 2 ^ tree .levels * 1) × (tree .position < 2 ^ tree .levels) × (tree .at + 16 * tree .levels ≤ length (now bytes)) ⌝ }
+    ensures { λ _. ⌜ now (acc .exit) ≡ added primes (2 ^ tree .levels) (puncturedElement primeLeaf 2 (childBy (now (left .entry)) (now (right .entry))) [] (siblingsAt (now (bytes .entry)) (tree .at) (tree .levels)) (tree .levels) (tree .position) correction) (now (acc .entry)) ⌝ }
 {
+    let levels = tree.levels;
+    let position = tree.position;
+    let at = tree.at;
     if levels == 0 {
         add_prime(correction, acc);
     } else {
         let sibling = columns_at(bytes, at);
         let mid = acc.len() / 2;
         if position < mid {
+            let below = Punctured {
+                levels: levels - 1,
+                position,
+                at: at + 16,
+            };
             add_punctured_prime(
                 sbox,
                 mix,
                 left,
                 right,
-                levels - 1,
+                below,
                 bytes,
-                at + 16,
-                position,
                 correction,
                 &mut acc[..mid],
             );
             add_leaves_prime(sbox, mix, left, right, levels - 1, sibling, &mut acc[mid..]);
         } else {
+            let below = Punctured {
+                levels: levels - 1,
+                position: position - mid,
+                at: at + 16,
+            };
             add_leaves_prime(sbox, mix, left, right, levels - 1, sibling, &mut acc[..mid]);
             add_punctured_prime(
                 sbox,
                 mix,
                 left,
                 right,
-                levels - 1,
+                below,
                 bytes,
-                at + 16,
-                position - mid,
                 correction,
                 &mut acc[mid..],
             );

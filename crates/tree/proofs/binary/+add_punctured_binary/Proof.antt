@@ -18,7 +18,7 @@ use Rattle.tree.proofs.binary.+add_punctured_binary.{statement}
 use Rattle.tree.proofs.binary.+add_punctured_binary.Tie.{close}
 
 abbrev μ : Measures 6 kinds.ps ℕ
-μ κs a = a .1 .1 .1 .1 .0
+μ κs a = a .1 .1 .1 .1 .0 .levels
 
 abbrev at : ℕ → In 6 kinds.ps
 at t = and 6 kinds.ps (is 6 kinds.ps μ t) reads.Pre
@@ -41,25 +41,25 @@ pub +add-punctured-binary-spec : {M : Type 1} → statement M
     reads.Post
     (λ c κs. search fill)  -- add-block-requires
     (λ c κs. search needs)  -- columns-at-requires
-    (λ c. search needs)  -- sub-add-punctured-binary
-    (λ c. search needs)  -- add-add-punctured-binary
+    (λ c. search needs)  -- sub-add-leaves-binary
+    (λ c. search needs)  -- add-add-leaves-binary
     (λ c. search needs)  -- slice-relend-prefix-add-punctured-binary
     (λ c. search fill)  -- slice-aggregate-add-punctured-binary
     (λ c κs. (omega arith, (search needs, search fill, search half-two, omega arith)))  -- add-punctured-binary-requires
-    (λ c. search needs)  -- sub-add-leaves-binary
-    (λ c. search needs)  -- mul-add-leaves-binary
     (λ c. search needs)  -- sub-add-leaves-binary-2
+    (λ c. search needs)  -- mul-add-leaves-binary
+    (λ c. search needs)  -- sub-add-leaves-binary-3
     (λ c. search needs)  -- part-add-leaves-binary-start
     (λ c. search needs)  -- part-add-leaves-binary-end
     (λ c κs. (search needs, search fill))  -- add-leaves-binary-requires
-    (λ c. search needs)  -- sub-add-leaves-binary-3
+    (λ c. search needs)  -- sub-add-leaves-binary-4
+    (λ c. search needs)  -- add-add-punctured-binary
+    (λ c. search needs)  -- sub-add-leaves-binary-5
     (λ c. search needs)  -- slice-relend-prefix-add-leaves-binary
     (λ c. search fill)  -- slice-aggregate-add-leaves-binary
     (λ c κs. (search needs, search fill))  -- add-leaves-binary-requires-2
-    (λ c. search needs)  -- sub-add-punctured-binary-2
-    (λ c. search needs)  -- add-add-punctured-binary-2
     (λ c. search needs)  -- mul-add-punctured-binary
-    (λ c. search needs)  -- sub-add-punctured-binary-3
+    (λ c. search needs)  -- sub-add-punctured-binary
     (λ c. search needs)  -- part-add-punctured-binary-start
     (λ c. search needs)  -- part-add-punctured-binary-end
     (λ c κs. (omega arith, (search needs, search fill, search half-two, omega arith)))  -- add-punctured-binary-requires-2

@@ -14,5 +14,5 @@ add-block-spec =
     (λ c. search needs)  -- slice-write-acc
     (λ c. search needs)  -- slice-write-acc-2
     (λ c. search needs)  -- same-length
-    (λ c. added-block _ _ _ (c .before .before .before .before .pre) (c .add .ensures))  -- returns
+    (λ c. added-block _ _ _ (search needs) (c .add .ensures))  -- returns
     )

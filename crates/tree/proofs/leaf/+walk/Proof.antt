@@ -15,7 +15,7 @@ use Rattle.tree.proofs.leaf.+walk.{statement}
 use Rattle.tree.proofs.leaf.+walk.Tie.{close}
 
 abbrev μ-walk : Measures 5 walk-kinds.ps ℕ
-μ-walk κs a = a .1 .1 .1 .1 .0
+μ-walk κs a = a .1 .1 .1 .1 .1 .0 .levels
 
 abbrev walk-at : ℕ → In 5 walk-kinds.ps
 walk-at t = and 5 walk-kinds.ps (is 5 walk-kinds.ps μ-walk t) walk.Pre
@@ -34,33 +34,21 @@ pub +walk-spec : {M : Type 1} → statement M
 )
     (walk-at t)
     walk.Post
-    (λ c. walked-leaf _ _ _ _ _ _ (c .if1 .taken))  -- returns
+    (λ c. search (needs, walked-leaf))  -- returns
     (λ c κs. search needs)  -- children-requires
     (λ c. search needs)  -- sub-bit
+    (λ c. search needs)  -- add-bit
+    (λ c. search needs)  -- sub-bit-2
     (λ c. search needs)  -- shr-bit
     (λ c. search needs)  -- array-copy-out-put-columns
     (λ c κs. search needs)  -- put-columns-requires
-    (λ c. search needs)  -- sub-walk
     (λ c. search needs)  -- array-copy-out-walk
-    (λ c. search needs)  -- add-walk
     (λ c κs. (omega arith, (search needs, omega arith, omega arith)))  -- walk-requires
     (λ c. search needs)  -- array-copy-out-put-columns-2
     (λ c κs. search needs)  -- put-columns-requires-2
-    (λ c. search needs)  -- sub-walk-2
     (λ c. search needs)  -- array-copy-out-walk-2
-    (λ c. search needs)  -- add-walk-2
     (λ c κs. (omega arith, (search needs, omega arith, omega arith)))  -- walk-requires-2
     (λ c. search needs)  -- same-length
-    (λ c.
-    let c₂ = c .before .before in
-    let c₇ = c₂ .before .before .before .before .before in
-    let c₁₀ = c₇ .before .before .before in
-    let c₁₁ = c₁₀ .before in
-    walked-left _ _ _ _ _ _ (c₁₁ .before .if1 .left) (c₁₁ .children .ensures) (c₁₀ .if2 .taken) (c₇ .put-columns .ensures) (c₂ .walk .ensures))  -- returns-2
+    (λ c. search (needs, walked-left))  -- returns-2
     (λ c. search needs)  -- same-length-2
-    (λ c.
-    let c₂ = c .before .before in
-    let c₇ = c₂ .before .before .before .before .before in
-    let c₁₀ = c₇ .before .before .before in
-    let c₁₁ = c₁₀ .before in
-    walked-right _ _ _ _ _ _ (c₁₁ .before .if1 .left) (c₁₁ .children .ensures) (c₁₀ .if2 .left) (c₇ .put-columns2 .ensures) (c₂ .walk2 .ensures))  -- returns-3
+    (λ c. search (needs, walked-right))  -- returns-3

@@ -18,7 +18,7 @@ use Rattle.tree.proofs.prime.+add_punctured_prime.{statement}
 use Rattle.tree.proofs.prime.+add_punctured_prime.Tie.{close}
 
 abbrev μ : Measures 6 kinds.ps ℕ
-μ κs a = a .1 .1 .1 .1 .0
+μ κs a = a .1 .1 .1 .1 .0 .levels
 
 abbrev at : ℕ → In 6 kinds.ps
 at t = and 6 kinds.ps (is 6 kinds.ps μ t) reads.Pre
@@ -41,25 +41,25 @@ pub +add-punctured-prime-spec : {M : Type 1} → statement M
     reads.Post
     (λ c κs. search fill)  -- add-prime-requires
     (λ c κs. search needs)  -- columns-at-requires
-    (λ c. search needs)  -- sub-add-punctured-prime
-    (λ c. search needs)  -- add-add-punctured-prime
+    (λ c. search needs)  -- sub-add-leaves-prime
+    (λ c. search needs)  -- add-add-leaves-prime
     (λ c. search needs)  -- slice-relend-prefix-add-punctured-prime
     (λ c. search fill)  -- slice-aggregate-add-punctured-prime
     (λ c κs. (omega arith, (search needs, search fill, search half-one, omega arith)))  -- add-punctured-prime-requires
-    (λ c. search needs)  -- sub-add-leaves-prime
-    (λ c. search needs)  -- mul-add-leaves-prime
     (λ c. search needs)  -- sub-add-leaves-prime-2
+    (λ c. search needs)  -- mul-add-leaves-prime
+    (λ c. search needs)  -- sub-add-leaves-prime-3
     (λ c. search needs)  -- part-add-leaves-prime-start
     (λ c. search needs)  -- part-add-leaves-prime-end
     (λ c κs. (search needs, search fill))  -- add-leaves-prime-requires
-    (λ c. search needs)  -- sub-add-leaves-prime-3
+    (λ c. search needs)  -- sub-add-leaves-prime-4
+    (λ c. search needs)  -- add-add-punctured-prime
+    (λ c. search needs)  -- sub-add-leaves-prime-5
     (λ c. search needs)  -- slice-relend-prefix-add-leaves-prime
     (λ c. search fill)  -- slice-aggregate-add-leaves-prime
     (λ c κs. (search needs, search fill))  -- add-leaves-prime-requires-2
-    (λ c. search needs)  -- sub-add-punctured-prime-2
-    (λ c. search needs)  -- add-add-punctured-prime-2
     (λ c. search needs)  -- mul-add-punctured-prime
-    (λ c. search needs)  -- sub-add-punctured-prime-3
+    (λ c. search needs)  -- sub-add-punctured-prime
     (λ c. search needs)  -- part-add-punctured-prime-start
     (λ c. search needs)  -- part-add-punctured-prime-end
     (λ c κs. (omega arith, (search needs, search fill, search half-one, omega arith)))  -- add-punctured-prime-requires-2

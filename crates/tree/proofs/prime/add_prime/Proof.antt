@@ -12,5 +12,5 @@ add-prime-spec =
     (λ c κs. search needs)  -- add-requires
     (λ c. search needs)  -- slice-write-acc
     (λ c. search needs)  -- same-length
-    (λ c. added-prime _ _ _ (c .before .before .before .pre) (c .add .ensures))  -- returns
+    (λ c. added-prime _ _ _ (search needs) (c .add .ensures))  -- returns
     )

@@ -1,0 +1,34 @@
+-- Trees with two children are document 01's trees by bits.
+use mathlib.Core.Path.{_≡_, refl, ap, sym, _∙_}
+use mathlib.Core.List.{List, _∷_}
+use Prim.Native.Nat.{ℕ, zero, suc, _-_}
+use Rattle.tree.specs.Tree.{path, reach, leafAt, listed, siblings}
+use Rattle.tree.specs.Bits.{bits, leafByBits, siblingByBits, siblingsByBits, TwoChildren}
+use Rattle.tree.proofs.Laws.{bit, siblings-none, siblings-two}
+use Rattle.tree.proofs.Listed.{listed-front}
+
+same-path : (d j : ℕ) → path 2 d j ≡ bits d j
+unfolding path bits
+same-path zero j = refl
+same-path (suc d) j = ap (λ l. bit d j ∷ l) (same-path d j)
+
+module _ {A : Type 0} (child : ℕ → A → A) where
+  same-leaf : (d : ℕ) (root : A) (j : ℕ) → leafAt 2 child d root j ≡ leafByBits child d root j
+  unfolding leafAt leafByBits
+  same-leaf d root j = ap (reach child root) (same-path d j)
+
+  first-sibling : (d : ℕ) (root : A) (s : ℕ)
+      → siblingsByBits child (suc d) root s ≡ child (1 - bit d s) root ∷ siblingsByBits child d (child (bit d s) root) s
+  unfolding siblingsByBits siblingByBits bits reach
+  first-sibling d root s = listed-front d (siblingByBits child (suc d) root s)
+
+  same-siblings : (d : ℕ) (root : A) (s : ℕ) → siblings 2 child d root s ≡ siblingsByBits child d root s
+  unfolding siblingsByBits listed
+  same-siblings zero root s = siblings-none 2 child root s
+  same-siblings (suc d) root s =
+      siblings-two child d root s
+      ∙ ap (λ l. child (1 - bit d s) root ∷ l) (same-siblings d (child (bit d s) root) s)
+      ∙ sym (first-sibling d root s)
+
+pub two-children : TwoChildren
+two-children = record { paths = same-path; leaves = same-leaf; beside = same-siblings }
