@@ -27,10 +27,10 @@ use Rattle.number.specs.Reading.{choose}
 use Rattle.record.specs.Content.{NoiseTree, elementWords, elementOf}
 use Rattle.record.specs.Writing.{flat, writeWords, writeBlocks, writeValue, writeFront, writeTree, writeTrees, frontLength}
 use Rattle.tree.proofs.Blocks.{length-blocks}
-use Rattle.tree.proofs.ChildLaws.{leaf-by, siblings-by}
-use Rattle.tree.proofs.Laws.{length-siblings-two}
+use Rattle.tree.proofs.ChildLaws.{key-schedules}
+use Rattle.tree.proofs.Laws.{two, length-siblings-two}
 use Rattle.tree.proofs.Listed.{listed-none, listed-last}
-use Rattle.tree.specs.Child.{child, childBy}
+use Rattle.tree.specs.Child.{child, keysFor, childBy}
 use Rattle.tree.specs.Columns.{blockBytes, blocksBytes}
 use Rattle.tree.specs.Expanded.{walk, walked}
 use Rattle.tree.specs.Tree.{listed, siblings, leafAt}
@@ -201,25 +201,27 @@ module _ (k d : ℕ) (roots positions values delta : List ℕ) (i base at : ℕ)
   tree-place = omega (arith, front-of)
 
   module _ {r s : List (List ℕ)} {out₁ : List ℕ} (node : r ≡ root I i)
-      (went : walk s out₁ ≡ walked 2 (childBy left right) r (record { levels = d; position = p; at = at + f }) out) where
-    bytes : out₁ ≡ sets out (at + f) (blocksBytes (siblings 2 (childBy left right) d r p))
+      (went : walk s out₁ ≡ walked 2 (childBy (keysFor left right)) r (record { levels = d; position = p; at = at + f }) out) where
+    -- the round keys that are lent give the tree's own walk
+    own : walk s out₁ ≡ walked 2 child r (record { levels = d; position = p; at = at + f }) out
+    own = went ∙ key-schedules .walks 2 (keysFor left right) two (key-schedules .lent left right (L .left-keys) (L .right-keys)) r _ out
+
+    bytes : out₁ ≡ sets out (at + f) (blocksBytes (siblings 2 child d r p))
     unfolding walked
-    bytes = ap (λ x. x .bytes) went
+    bytes = ap (λ x. x .bytes) own
 
     pub front-room : at + frontLength k base p ≤ length out₁
     front-room =
-        omega (arith, front, front-of, P .room, ap length bytes, length-sets out (at + f) (blocksBytes (siblings 2 (childBy left right) d r p)))
+        omega (arith, front, front-of, P .room, ap length bytes, length-sets out (at + f) (blocksBytes (siblings 2 child d r p)))
 
     -- the leaf and the siblings are the tree's own
     leaf-own : s ≡ leafAt 2 child d (root I i) (position I i)
     unfolding walked
-    leaf-own = ap (λ x. x .leaf) went ∙ leaf-by (L .left-keys) (L .right-keys) d r p ∙ ap₂ (λ n j. leafAt 2 child d n j) node read
+    leaf-own = ap (λ x. x .leaf) own ∙ ap₂ (λ n j. leafAt 2 child d n j) node read
 
     stored : out₁ ≡ sets out (at + f) (siblingBytes I i base)
     stored =
-        bytes
-        ∙ ap (λ l. sets out (at + f) (blocksBytes l))
-        (siblings-by (L .left-keys) (L .right-keys) d r p ∙ ap₂ (λ n j. siblings 2 child d n j) node read)
+        bytes ∙ ap₂ (λ n j. sets out (at + f) (blocksBytes (siblings 2 child d n j))) node read
 
     whole : {n y : ℕ} {words out₂ : List ℕ} → y ≡ getD values i 0 → words ≡ field I .elements .words (treeCorrection I i)
         → (n ≡ at + frontLength k base p) × (out₂ ≡ sets out₁ at (writeFront k base p y words))

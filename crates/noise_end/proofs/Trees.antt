@@ -31,11 +31,13 @@ use Rattle.record.specs.Content.{NoiseTree, elementOf}
 use Rattle.record.specs.Reading.{items, blockAt, readTree, readTrees, treeOf}
 use Rattle.record.specs.declared.Tree.{Tree}
 use Rattle.record.proofs.Callers.{again-asks, again-at, tree-ranges}
-use Rattle.tree.specs.Added.{added, puncturedElement}
-use Rattle.tree.specs.Child.{child, childBy, childKey}
+use Rattle.tree.specs.Added.{puncturedElement}
+use Rattle.tree.specs.Child.{child, childBy, childKey, keysFor}
 use Rattle.tree.specs.Columns.{columnsAt, siblingsAt}
+use Rattle.tree.specs.Expanded.{puncturedFilled}
 use Rattle.tree.specs.Tree.{fromSiblings}
-use Rattle.tree.proofs.ChildLaws.{added-punctured-by}
+use Rattle.tree.proofs.ChildLaws.{lent-keys, punctured-by}
+use Rattle.tree.proofs.Laws.{two}
 use Rattle.rows.proofs.Blocks.{columns-part}
 use Rattle.rows.proofs.Flats.{flat-accumulated, put-flat}
 use Rattle.rows.proofs.Sums.{treesSum, length-trees, trees-none, trees-more, trees-accumulated}
@@ -149,16 +151,16 @@ module _ (K : Kind) (L : KindLaws K) (depth : ℕ) (ts : List NoiseTree) where
   tree-added : {left right : List (List (List ℕ))} → left ≡ keyExpansion (childKey 0) → right ≡ keyExpansion (childKey 1)
       → (i : ℕ) (s : List ℕ) (field : ℕ) (t : Tree) → treeIn ts i ≡ treeOf s field depth t
       → {c : Value (K .field)} → c ≡ K .field .elements .read (elementOf field (t .low) (t .high)) 0 → {v next : List ℕ} → v ≡ Trees K depth ts i
-      → next ≡ added (K .field) (2 ^ depth) (puncturedElement (K .leaf) 2 (childBy left right) [] (siblingsAt s (t .siblings) depth) depth (t .position) c) v
+      → next ≡ puncturedFilled K 2 (childBy (keysFor left right)) (record { levels = depth; position = t .position; at = t .siblings }) s c v
       → next ≡ Trees K depth ts (i + 1)
   unfolding Trees puncturedElement
-  tree-added l r i s field t same {c} ce {v} {next} e q =
+  tree-added {left} {right} l r i s field t same {c} ce {v} {next} e q =
       trees-more (K .field) (L .field) (2 ^ depth) (leavesOf K depth ts) i
-      (puncturedElement (K .leaf) 2 child [] (siblingsAt s (t .siblings) depth) depth (t .position) c) e
-      (q ∙ added-punctured-by l r (K .field) (L .field) (K .leaf) (2 ^ depth) [] (siblingsAt s (t .siblings) depth) depth (t .position) c v)
+      (puncturedElement (K .leaf) 2 child [] (siblingsAt s (t .siblings) (depth * 1)) depth (t .position) c) e
+      (q ∙ punctured-by 2 (keysFor left right) two (lent-keys left right l r) K (L .field) _ s c v)
       (λ j b.
       ap₂ (λ (x : Value (K .field)) (xs : List (List (List ℕ))). choose (eqb (t .position) j) x (K .leaf (fromSiblings 2 child [] xs depth (t .position) j)))
-      ce (sym (siblings-columns s (t .siblings) depth))
+      ce (ap (siblingsAt s (t .siblings)) (mul-one depth) ∙ sym (siblings-columns s (t .siblings) depth))
       ∙ ap (λ (x : NoiseTree). choose (eqb (x .position) j) (K .field .elements .read (x .correction) 0)
       (K .leaf (fromSiblings 2 child [] (map (λ b. columnsAt b 0) (x .siblings)) depth (x .position) j))) (sym same))
 
@@ -215,7 +217,7 @@ module _ {K : Kind} (L : KindLaws K) {field depth trees : ℕ} {s : List ℕ} wh
 
         pub grown-next : Stores K → {left right : List (List (List ℕ))} → left ≡ keyExpansion (childKey 0) → right ≡ keyExpansion (childKey 1)
             → {c : Value (K .field)} → c ≡ K .field .elements .read (elementOf field (t .low) (t .high)) 0 → {next : List ℕ}
-            → next ≡ added (K .field) (2 ^ depth) (puncturedElement (K .leaf) 2 (childBy left right) [] (siblingsAt s (t .siblings) depth) depth (t .position) c) v
+            → next ≡ puncturedFilled K 2 (childBy (keysFor left right)) (record { levels = depth; position = t .position; at = t .siblings }) s c v
             → Grown K field depth trees s ts (t .siblings + 16 * depth) (t .position + 1) (i + 1) (set w (t .position) (t .value)) next
         grown-next store l r ce q =
             let a = again-at field depth trees base s place i more ts (treeIn [] 0) (g .left .read) known in

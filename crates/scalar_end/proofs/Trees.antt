@@ -14,10 +14,12 @@ use Rattle.field.specs.Binary.{binary, blockGroup}
 use Rattle.field.specs.Kind.{Kind, KindLaws, binaryKind, primeKind}
 use Rattle.field.specs.Prime.{primes, primeRing}
 use Rattle.field.proofs.BothKinds.{binaryKindLaws, primeKindLaws}
-use Rattle.tree.specs.Added.{added, leafElement}
-use Rattle.tree.specs.Child.{child, childBy, childKey}
+use Rattle.tree.specs.Added.{leafElement}
+use Rattle.tree.specs.Child.{child, childBy, childKey, keysFor}
 use Rattle.tree.specs.Columns.{columnsAt}
-use Rattle.tree.proofs.ChildLaws.{added-leaves-by}
+use Rattle.tree.specs.Expanded.{filled}
+use Rattle.tree.proofs.ChildLaws.{lent-keys, filled-by}
+use Rattle.tree.proofs.Laws.{two}
 use Rattle.rows.proofs.Sums.{treesSum, length-trees, trees-none, trees-more, trees-accumulated}
 use Rattle.scalar_end.specs.Steps.{leavesFrom, expansion}
 
@@ -32,13 +34,13 @@ module _ (K : Kind) (L : KindLaws K) (source : List ℕ) (place depth : ℕ) whe
       record { words = e; size = ap length e ∙ length-trees (K .field) (L .field) (2 ^ depth) (leavesFrom K source place depth) i }
 
   pub tree-more : {left right : List (List (List ℕ))} {i : ℕ} {root : List (List ℕ)} {v next : List ℕ}
-      → next ≡ added (K .field) (2 ^ depth) (leafElement (K .leaf) 2 (childBy left right) depth root) v
+      → next ≡ filled K 2 (childBy (keysFor left right)) depth root v
       → left ≡ keyExpansion (childKey 0) → right ≡ keyExpansion (childKey 1) → root ≡ columnsAt source (place + 16 * i)
       → Grown K source place depth v i → Grown K source place depth next (i + 1)
   tree-more {left} {right} {i} {root} {v} {next} q l r e g =
       grown (i + 1)
       (trees-more (K .field) (L .field) (2 ^ depth) (leavesFrom K source place depth) i (leafElement (K .leaf) 2 child depth root) (g .words)
-      (q ∙ added-leaves-by l r (K .field) (L .field) (K .leaf) (2 ^ depth) depth root v)
+      (q ∙ filled-by 2 (keysFor left right) two (lent-keys left right l r) K (L .field) depth root v)
       (λ j b. ap (λ (s : List (List ℕ)). leafElement (K .leaf) 2 child depth s j) e))
 
   expanded : {i n trees : ℕ} {v next : List ℕ} → Grown K source place depth v i → i ≤ trees → trees ≤ i → n ≡ 2 ^ depth

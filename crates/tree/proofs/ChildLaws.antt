@@ -1,48 +1,71 @@
--- The child function under the two child keys: the round keys that are lent give it, its results are states, and its siblings
--- are read back from their bytes.
-use mathlib.Core.Path.{_≡_, ap}
-use mathlib.Core.List.{List}
-use Prim.Native.Nat.{ℕ, zero, suc, _<_}
+-- The child function under the child keys: the round keys that are lent give it (document 02, 3), and its results are states.
+use mathlib.Core.Path.{_≡_, ap, ap₂}
+use mathlib.Core.List.{List, []}
+use Prim.Native.Nat.{ℕ, zero, suc, _-_, _*_, _^_, _<_}
 use native.Mathlib.Omega.{arith}
-use Rattle.algebra.specs.Field.{Field, FieldLaws, Value}
+use lib.Seq.{sets}
+use Rattle.algebra.specs.Field.{FieldLaws, Value}
+use Rattle.field.specs.Kind.{Kind, kindOf}
+use Rattle.field.proofs.BothKinds.{kindLaws}
 use Rattle.aes128.specs.State.{xorState, IsState}
 use Rattle.aes128.specs.Cipher.{cipher, keyExpansion, aes}
 use Rattle.aes128.proofs.Sizes.{four-bytes, four-words, xor-state-is, aes-is}
 use Rattle.tree.specs.Tree.{leafAt, siblings}
-use Rattle.tree.specs.Child.{childKey, child, childBy}
-use Rattle.tree.specs.Added.{leafElement, puncturedElement, added}
+use Rattle.tree.specs.Child.{childKey, child, keysFor, childBy}
+use Rattle.tree.specs.Columns.{blocksBytes, siblingsAt}
+use Rattle.tree.specs.Added.{leafElement, puncturedElement}
+use Rattle.tree.specs.Expanded.{walk, walked, filled, puncturedFilled}
+use Rattle.tree.specs.KeySchedules.{OfChildKeys, KeySchedules}
+use Rattle.tree.specs.declared.punctured.Punctured.{Punctured}
 use Rattle.tree.proofs.Laws.{Each, two, leaf-same, siblings-same, leaf-element-same, punctured-element-same, leaf-has, siblings-have}
 use Rattle.tree.proofs.Added.{added-cong}
 
 -- ---- the round keys of the child keys
 
-module _ {left right : List (List (List ℕ))} (el : left ≡ keyExpansion (childKey 0)) (er : right ≡ keyExpansion (childKey 1)) where
-  pub child-by : (c : ℕ) → c < 2 → (s : List (List ℕ)) → childBy left right c s ≡ child c s
-  unfolding childBy child aes
-  child-by zero h s = ap (λ k. xorState (cipher k s) s) el
-  child-by (suc zero) h s = ap (λ k. xorState (cipher k s) s) er
-  child-by (suc (suc c)) h s = absurd (omega arith)
+pub lent-keys : (left right : List (List (List ℕ))) → left ≡ keyExpansion (childKey 0) → right ≡ keyExpansion (childKey 1)
+    → OfChildKeys 2 (keysFor left right)
+lent-keys left right el er zero h = el
+lent-keys left right el er (suc zero) h = er
+lent-keys left right el er (suc (suc c)) h = absurd (omega arith)
 
-  pub leaf-by : (d : ℕ) (s : List (List ℕ)) (j : ℕ) → leafAt 2 (childBy left right) d s j ≡ leafAt 2 child d s j
-  leaf-by = leaf-same 2 two (childBy left right) child child-by
+pub child-by : (k : ℕ) (keys : ℕ → List (List (List ℕ))) → OfChildKeys k keys → (c : ℕ) → c < k → (s : List (List ℕ)) → childBy keys c s ≡ child c s
+unfolding childBy child aes
+child-by k keys own c h s = ap (λ w. xorState (cipher w s) s) (own c h)
 
-  pub siblings-by : (d : ℕ) (s : List (List ℕ)) (j : ℕ) → siblings 2 (childBy left right) d s j ≡ siblings 2 child d s j
-  siblings-by = siblings-same 2 two (childBy left right) child child-by
+module _ (k : ℕ) (keys : ℕ → List (List (List ℕ))) (some : 0 < k) (own : OfChildKeys k keys) where
+  pub walked-by : (root : List (List ℕ)) (tree : Punctured) (bytes : List ℕ)
+      → walked k (childBy keys) root tree bytes ≡ walked k child root tree bytes
+  unfolding walked
+  walked-by root tree bytes =
+      ap₂ (λ leaf beside. walk leaf (sets bytes (tree .at) (blocksBytes beside)))
+      (leaf-same k some (childBy keys) child (child-by k keys own) (tree .levels) root (tree .position))
+      (siblings-same k some (childBy keys) child (child-by k keys own) (tree .levels) root (tree .position))
 
-  module _ (F : Field) (laws : FieldLaws F) (element : List (List ℕ) → Value F) where
-    pub added-leaves-by : (n d : ℕ) (s : List (List ℕ)) (l : List ℕ)
-        → added F n (leafElement element 2 (childBy left right) d s) l ≡ added F n (leafElement element 2 child d s) l
-    added-leaves-by n d s l =
-        added-cong F laws n (leafElement element 2 (childBy left right) d s) (leafElement element 2 child d s) l
-        (λ j h. leaf-element-same element 2 two (childBy left right) child child-by d s j)
+  module _ (K : Kind) (laws : FieldLaws (K .field)) where
+    pub filled-by : (levels : ℕ) (root : List (List ℕ)) (words : List ℕ)
+        → filled K k (childBy keys) levels root words ≡ filled K k child levels root words
+    filled-by levels root words =
+        added-cong (K .field) laws (k ^ levels) (leafElement (K .leaf) k (childBy keys) levels root) (leafElement (K .leaf) k child levels root) words
+        (λ j h. leaf-element-same (K .leaf) k some (childBy keys) child (child-by k keys own) levels root j)
 
-    pub added-punctured-by : (n : ℕ) (none : List (List ℕ)) (xs : List (List (List ℕ))) (d s : ℕ) (correction : Value F) (l : List ℕ)
-        → added F n (puncturedElement element 2 (childBy left right) none xs d s correction) l
-        ≡ added F n (puncturedElement element 2 child none xs d s correction) l
-    added-punctured-by n none xs d s correction l =
-        added-cong F laws n (puncturedElement element 2 (childBy left right) none xs d s correction)
-        (puncturedElement element 2 child none xs d s correction) l
-        (λ j h. punctured-element-same element 2 two (childBy left right) child child-by none xs d s correction j)
+    pub punctured-by : (tree : Punctured) (bytes : List ℕ) (correction : Value (K .field)) (words : List ℕ)
+        → puncturedFilled K k (childBy keys) tree bytes correction words ≡ puncturedFilled K k child tree bytes correction words
+    punctured-by tree bytes correction words =
+        let beside : List (List (List ℕ)) = siblingsAt bytes (tree .at) (tree .levels * (k - 1)) in
+        added-cong (K .field) laws (k ^ tree .levels)
+        (puncturedElement (K .leaf) k (childBy keys) [] beside (tree .levels) (tree .position) correction)
+        (puncturedElement (K .leaf) k child [] beside (tree .levels) (tree .position) correction) words
+        (λ j h. punctured-element-same (K .leaf) k some (childBy keys) child (child-by k keys own) [] beside (tree .levels) (tree .position) correction j)
+
+pub key-schedules : KeySchedules
+key-schedules =
+    record {
+      lent = lent-keys;
+      children = child-by;
+      walks = walked-by;
+      fills = λ k keys some own field. filled-by k keys some own (kindOf field) (kindLaws field .field);
+      puncturedFills = λ k keys some own field. punctured-by k keys some own (kindOf field) (kindLaws field .field);
+    }
 
 -- ---- states
 

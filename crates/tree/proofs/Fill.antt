@@ -74,10 +74,13 @@ eqb-add m s j = decide (eqb s j) refl
 
 -- the siblings in bytes: the first, and the rest 16 bytes on
 pub siblings-step : (bytes : List ℕ) (at levels : ℕ) {x : List (List ℕ)} → (levels ≡ 0 → ⊥) → x ≡ columnsAt bytes at
-    → siblingsAt bytes at levels ≡ x ∷ siblingsAt bytes (at + 16) (levels - 1)
+    → siblingsAt bytes at (levels * 1) ≡ x ∷ siblingsAt bytes (at + 16) ((levels - 1) * 1)
 unfolding siblingsAt
 siblings-step bytes at levels h e =
-    ap (siblingsAt bytes at) (down levels h) ∙ ap (λ y. y ∷ siblingsAt bytes (at + 16) (levels - 1)) (sym e)
+    ap (siblingsAt bytes at) (one-more levels h) ∙ ap (λ y. y ∷ siblingsAt bytes (at + 16) ((levels - 1) * 1)) (sym e)
+  where
+    one-more : (n : ℕ) → (n ≡ 0 → ⊥) → n * 1 ≡ suc ((n - 1) * 1)
+    one-more n h = omega arith
 
 -- ---- the parts lent
 

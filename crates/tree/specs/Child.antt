@@ -1,10 +1,10 @@
--- The child function (document 01, 'Trees'), under AES-128 and under any two lists of round keys.
+-- The child function (document 01, 'Trees'), under AES-128, and under any family of round keys that is lent (document 02, 3).
 use mathlib.Core.List.{List}
 use Prim.Native.Nat.{ℕ, zero, suc}
 use Rattle.aes128.specs.State.{four, xorState}
 use Rattle.aes128.specs.Cipher.{cipher, aes}
 
--- the child keys: 16 bytes 00 for left, 16 bytes 01 for right
+-- the child keys, child c's of sixteen bytes c: 16 bytes 00 for left, 16 bytes 01 for right
 abbrev pub childKey : ℕ → List (List ℕ)
 childKey c = four (λ column. four (λ row. c))
 
@@ -12,11 +12,11 @@ childKey c = four (λ column. four (λ row. c))
 unfoldable pub child : ℕ → List (List ℕ) → List (List ℕ)
 child c s = xorState (aes (childKey c) s) s
 
--- the round keys of the left and of the right child
+-- the family of round keys by the child's number, of those lent for the left and for the right child
 abbrev pub keysFor : List (List (List ℕ)) → List (List (List ℕ)) → ℕ → List (List (List ℕ))
 keysFor left right zero = left
 keysFor left right (suc c) = right
 
--- the child of a block under round keys lent for left and right
-unfoldable pub childBy : List (List (List ℕ)) → List (List (List ℕ)) → ℕ → List (List ℕ) → List (List ℕ)
-childBy left right c s = xorState (cipher (keysFor left right c) s) s
+-- child c of block s under a family of round keys: the cipher under the round keys of child c, exclusive-or s
+unfoldable pub childBy : (ℕ → List (List (List ℕ))) → ℕ → List (List ℕ) → List (List ℕ)
+childBy keys c s = xorState (cipher (keys c) s) s

@@ -6,3 +6,4 @@ pub mod Child
 pub mod Columns
 pub mod Added
 pub mod Expanded
+pub mod KeySchedules

@@ -1,13 +1,13 @@
 // Leaves added into words in field 1.
 ghost use mathlib.Core.Path.{_≡_};
-ghost use mathlib.Core.List.{[]};
 ghost use Prim.Native.Nat.{_+_, _*_, _^_, _<_, _≤_};
 ghost use lib.ListN.{length};
 ghost use Rattle.sbox.specs.Table.{Tables};
-ghost use Rattle.field.specs.Binary.{binary, blockLeaf};
-ghost use Rattle.tree.specs.Child.{childBy};
-ghost use Rattle.tree.specs.Columns.{siblingsAt};
-ghost use Rattle.tree.specs.Added.{added, leafElement, puncturedElement};
+ghost use Rattle.field.specs.Binary.{binary};
+ghost use Rattle.field.specs.Kind.{binaryKind};
+ghost use Rattle.tree.specs.Child.{keysFor, childBy};
+ghost use Rattle.tree.specs.Added.{added};
+ghost use Rattle.tree.specs.Expanded.{filled, puncturedFilled};
 use crate::columns::columns_at;
 use crate::node::children;
 use crate::punctured::Punctured;
@@ -38,7 +38,7 @@ pub fn add_leaves_binary(
     acc: &mut [u64],
 )
     requires { ⌜ Tables (now sbox) (now mix) × (length (now acc) ≡ 2 ^ levels * 2) ⌝ }
-    ensures { λ _. ⌜ now (acc .exit) ≡ added binary (2 ^ levels) (leafElement blockLeaf 2 (childBy (now (left .entry)) (now (right .entry))) levels s) (now (acc .entry)) ⌝ }
+    ensures { λ _. ⌜ now (acc .exit) ≡ filled binaryKind 2 (childBy (keysFor (now (left .entry)) (now (right .entry)))) levels s (now (acc .entry)) ⌝ }
 {
     if levels == 0 {
         add_block(Block::of_columns(s), acc);
@@ -63,7 +63,7 @@ pub fn add_punctured_binary(
     acc: &mut [u64],
 )
     requires { ⌜ Tables (now sbox) (now mix) × (length (now acc) ≡ 2 ^ tree .levels * 2) × (tree .position < 2 ^ tree .levels) × (tree .at + 16 * tree .levels ≤ length (now bytes)) ⌝ }
-    ensures { λ _. ⌜ now (acc .exit) ≡ added binary (2 ^ tree .levels) (puncturedElement blockLeaf 2 (childBy (now (left .entry)) (now (right .entry))) [] (siblingsAt (now (bytes .entry)) (tree .at) (tree .levels)) (tree .levels) (tree .position) correction) (now (acc .entry)) ⌝ }
+    ensures { λ _. ⌜ now (acc .exit) ≡ puncturedFilled binaryKind 2 (childBy (keysFor (now (left .entry)) (now (right .entry)))) tree (now (bytes .entry)) correction (now (acc .entry)) ⌝ }
 {
     let levels = tree.levels;
     let position = tree.position;

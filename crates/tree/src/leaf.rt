@@ -3,7 +3,7 @@ ghost use mathlib.Core.Path.{_≡_};
 ghost use Prim.Native.Nat.{_+_, _*_, _≤_};
 ghost use lib.ListN.{length};
 ghost use Rattle.sbox.specs.Table.{Tables};
-ghost use Rattle.tree.specs.Child.{childBy};
+ghost use Rattle.tree.specs.Child.{keysFor, childBy};
 ghost use Rattle.tree.specs.Expanded.{walk, walked};
 use crate::columns::put_columns;
 use crate::node::children;
@@ -20,7 +20,7 @@ pub fn walk(
     out: &mut [u8],
 ) -> [[u8; 4]; 4]
     requires { ⌜ Tables (now sbox) (now mix) × (tree .levels ≤ 64) × (tree .at + 16 * tree .levels ≤ length (now out)) ⌝ }
-    ensures { λ r. ⌜ walk r (now (out .exit)) ≡ walked 2 (childBy (now (left .entry)) (now (right .entry))) root tree (now (out .entry)) ⌝ }
+    ensures { λ r. ⌜ walk r (now (out .exit)) ≡ walked 2 (childBy (keysFor (now (left .entry)) (now (right .entry)))) root tree (now (out .entry)) ⌝ }
 {
     let levels = tree.levels;
     let position = tree.position;

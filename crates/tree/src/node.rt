@@ -3,7 +3,7 @@ ghost use mathlib.Core.Path.{_≡_};
 ghost use mathlib.Core.List.{[], _∷_};
 ghost use Rattle.sbox.specs.Table.{SBoxTable, Tables};
 ghost use Rattle.aes128.specs.Cipher.{keyExpansion};
-ghost use Rattle.tree.specs.Child.{childKey, childBy};
+ghost use Rattle.tree.specs.Child.{childKey, keysFor, childBy};
 
 // The round keys of the left child's key, 16 bytes 00.
 pub fn left_keys(sbox: &[u8; 256]) -> [[[u8; 4]; 4]; 11]
@@ -36,7 +36,7 @@ pub fn children(
     s: [[u8; 4]; 4],
 ) -> [[[u8; 4]; 4]; 2]
     requires { ⌜ Tables (now sbox) (now mix) ⌝ }
-    ensures { λ r. ⌜ r ≡ childBy (now (left .entry)) (now (right .entry)) 0 s ∷ childBy (now (left .entry)) (now (right .entry)) 1 s ∷ [] ⌝ }
+    ensures { λ r. ⌜ r ≡ childBy (keysFor (now (left .entry)) (now (right .entry))) 0 s ∷ childBy (keysFor (now (left .entry)) (now (right .entry))) 1 s ∷ [] ⌝ }
 {
     let l = aes128::encrypt_xor(sbox, mix, left, s);
     let r = aes128::encrypt_xor(sbox, mix, right, s);
