@@ -1,4 +1,4 @@
--- The key schedule's words follow FIPS 197's recurrence, and four of them at a time are `nextKey`. Assumes nothing.
+-- The key schedule's scheduleWords follow FIPS 197's recurrence, and four of them at a time are `nextKey`. Assumes nothing.
 use mathlib.Core.Path.{_≡_, _∙_, sym, ap}
 use mathlib.Core.List.{List, [], _∷_}
 use Prim.Native.Nat.{ℕ, zero, suc, _+_, _-_, _*_, _/_, _%_, _<_, _≤_}
@@ -9,45 +9,45 @@ use lib.ListN.{length, getD, length-append, List·getD-append}
 use lib.Seq.{getD-at}
 use Rattle.sbox.specs.Byte.{xtime}
 use Rattle.aes128.specs.State.{xorWord}
-use Rattle.aes128.specs.Cipher.{rotWord, subWord, power, temp, nextWord, words, keyOf, keysOf, keyExpansion}
-use Rattle.aes128.specs.Steps.{nextKey}
+use Rattle.aes128.specs.Cipher.{rotWord, subWord, power, temp, nextWord, scheduleWords, keyOf, keysOf, keyExpansion}
+use Rattle.aes128.specs.Inner.Steps.{nextKey}
 use Rattle.aes128.proofs.Words.{is-four, four-eq}
 
 module _ (key : List (List ℕ)) (size : length key ≡ 4) where
-  pub words-size : (n : ℕ) → length (words key n) ≡ n + 4
-  unfolding words
+  pub words-size : (n : ℕ) → length (scheduleWords key n) ≡ n + 4
+  unfolding scheduleWords
   words-size zero = size
   words-size (suc n) = simp length-append (omega (arith, words-size n))
 
   -- a word stays as it was made
-  kept : (i k j : ℕ) → j < i + 4 → getD (words key (k + i)) j [] ≡ getD (words key i) j []
-  unfolding words
+  kept : (i k j : ℕ) → j < i + 4 → getD (scheduleWords key (k + i)) j [] ≡ getD (scheduleWords key i) j []
+  unfolding scheduleWords
   kept i zero j h = rw zero-add
   kept i (suc k) j h =
-      rw suc-add (List·getD-append (words key (k + i)) _ [] j (omega (arith, words-size (k + i))) ∙ kept i k j h)
+      rw suc-add (List·getD-append (scheduleWords key (k + i)) _ [] j (omega (arith, words-size (k + i))) ∙ kept i k j h)
 
   module _ (m : ℕ) where
     -- word i of the first m + 4
     abbrev word : ℕ → List ℕ
-    word i = getD (words key m) i []
+    word i = getD (scheduleWords key m) i []
 
-    was : (i j : ℕ) → i ≤ m → j < i + 4 → word j ≡ getD (words key i) j []
+    was : (i j : ℕ) → i ≤ m → j < i + 4 → word j ≡ getD (scheduleWords key i) j []
     was i j h l =
         let e : (m - i) + i ≡ m = omega arith in
         rw e at (kept i (m - i) j l)
 
     -- 5.2: w[i] from w[i - 4] and w[i - 1]
     made : (i : ℕ) → i < m → word (i + 4) ≡ xorWord (word i) (temp (i + 4) (word (i + 3)))
-    unfolding words
+    unfolding scheduleWords
     made i h =
         let e4 : i + 4 - 4 ≡ i = omega arith in
         let e1 : i + 4 - 1 ≡ i + 3 = omega arith in
         was (suc i) (i + 4) (omega arith) (omega arith)
-        ∙ getD-at (words key i) (nextWord (i + 4) (words key i)) [] [] (i + 4) (words-size i)
+        ∙ getD-at (scheduleWords key i) (nextWord (i + 4) (scheduleWords key i)) [] [] (i + 4) (words-size i)
         ∙ rw (e4, e1, was i i (omega arith) (omega arith), was i (i + 3) (omega arith) (omega arith))
 
   abbrev all : List (List ℕ)
-  all = words key 40
+  all = scheduleWords key 40
 
   temp-first : (n : ℕ) (t : List ℕ) → temp (4 * n + 4) t ≡ xorWord (subWord (rotWord t)) (power n ∷ 0 ∷ 0 ∷ 0 ∷ [])
   unfolding temp
@@ -80,7 +80,7 @@ module _ (key : List (List ℕ)) (size : length key ≡ 4) where
       rw (w3, w2, w1, w0)
 
   zeroth : keyOf all 0 ≡ key
-  unfolding words
+  unfolding scheduleWords
   zeroth =
       four-eq (was 40 0 0 (omega arith) (omega arith)) (was 40 0 1 (omega arith) (omega arith))
       (was 40 0 2 (omega arith) (omega arith)) (was 40 0 3 (omega arith) (omega arith)) ∙ sym (is-four [] key size)

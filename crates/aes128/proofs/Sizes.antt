@@ -1,4 +1,4 @@
--- The results of the definitions are words and states: four columns of four bytes. Assumes nothing.
+-- The results of the definitions are scheduleWords and states: four columns of four bytes. Assumes nothing.
 use mathlib.Core.Path.{_≡_, refl}
 use mathlib.Core.Bool.{Bool, true, false}
 use mathlib.Core.List.{List, [], _∷_, _++_}
@@ -12,8 +12,10 @@ use lib.ListN.{length, getD, length-append, List·getD-append}
 use lib.Seq.{getD-at}
 use Rattle.sbox.specs.Byte.{sBox}
 use Rattle.sbox.proofs.Bounds.{xtime-lt, sbox-lt}
-use Rattle.aes128.specs.State.{column, xorWord, xorState, IsWord, IsState}
-use Rattle.aes128.specs.Cipher.{subBytes, shiftRows, roundKey, cipher, power, pick, temp, words, keysOf, keyExpansion, aes}
+use Rattle.aes128.specs.State.{column, xorWord, xorState}
+use Rattle.aes128.specs.Inner.Sizes.{IsWord, IsState}
+use Rattle.algebra.specs.Choice.{choose}
+use Rattle.aes128.specs.Cipher.{subBytes, shiftRows, roundKey, cipher, power, temp, scheduleWords, keysOf, keyExpansion, aes}
 use Rattle.aes128.proofs.Schedule.{words-size}
 
 pub four-bytes : {a b x y : ℕ} → a < 256 → b < 256 → x < 256 → y < 256 → IsWord (a ∷ b ∷ x ∷ y ∷ [])
@@ -62,7 +64,7 @@ pub cipher-is : (w : List (List (List ℕ))) (s : List (List ℕ)) → IsState (
 unfolding cipher
 cipher-is w s h = xor-state-is (sub-shift-is _) h
 
-pick-is : (t : Bool) {a b : List ℕ} → IsWord a → IsWord b → IsWord (pick t a b)
+pick-is : (t : Bool) {a b : List ℕ} → IsWord a → IsWord b → IsWord (choose t a b)
 pick-is true h k = h
 pick-is false h k = k
 
@@ -89,19 +91,19 @@ keys-size w zero = refl
 keys-size w (suc n) = simp length-append (omega (arith, keys-size w n))
 
 module _ (key : List (List ℕ)) (is : IsState key) where
-  words-are : (n j : ℕ) → j < n + 4 → IsWord (getD (words key n) j [])
-  unfolding words
+  words-are : (n j : ℕ) → j < n + 4 → IsWord (getD (scheduleWords key n) j [])
+  unfolding scheduleWords
   words-are zero j h = is .words j (omega arith)
   words-are (suc n) j h =
-      with-last IsWord (words key n) _ [] (n + 4) (words-size key (is .size) n) (words-are n)
+      with-last IsWord (scheduleWords key n) _ [] (n + 4) (words-size key (is .size) n) (words-are n)
       (xor-word-is (words-are n (n + 4 - 4) (omega arith)) (temp-is (n + 4) (words-are n (n + 4 - 1) (omega arith))))
       j (omega arith)
 
-  keys-are : (n i : ℕ) → n ≤ 11 → i < n → IsState (getD (keysOf (words key 40) n) i [])
+  keys-are : (n i : ℕ) → n ≤ 11 → i < n → IsState (getD (keysOf (scheduleWords key 40) n) i [])
   unfolding keysOf
   keys-are zero i m h = absurd (omega arith)
   keys-are (suc n) i m h =
-      with-last IsState (keysOf (words key 40) n) _ [] n (keys-size _ n) (λ j. keys-are n j (omega arith))
+      with-last IsState (keysOf (scheduleWords key 40) n) _ [] n (keys-size _ n) (λ j. keys-are n j (omega arith))
       (four-words (words-are 40 _ (omega arith)) (words-are 40 _ (omega arith)) (words-are 40 _ (omega arith)) (words-are 40 _ (omega arith)))
       i (omega arith)
 

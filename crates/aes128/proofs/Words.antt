@@ -7,10 +7,10 @@ use lib.Bits.{bitXor, xor-shr, xor-mod}
 use lib.ListN.{length, getD}
 use lib.Pow.{shr-shr}
 use Rattle.sbox.specs.Byte.{sBox}
-use Rattle.sbox.specs.Table.{bytesOf, mixed}
+use Rattle.sbox.specs.Inner.Tables.{bytesOf, mixed}
 use Rattle.aes128.specs.State.{four, xorWord}
 use Rattle.aes128.specs.Cipher.{mixColumn}
-use Rattle.aes128.specs.Steps.{turned}
+use Rattle.aes128.specs.Inner.Steps.{turned}
 
 module _ {A : Type 0} where
   -- a list of four is its four entries

@@ -1,11 +1,11 @@
 -- FIPS 197 for a key of 128 bits: Cipher (5.1) and KeyExpansion (5.2), with the S-box by its rule.
-use mathlib.Core.Bool.{Bool, true, false}
 use mathlib.Core.List.{List, [], _∷_, _++_}
 use Prim.Native.Nat.{ℕ, zero, suc, _+_, _-_, _*_, _/_, _%_}
 use lib.Bits.{bitXor}
 use lib.Dec.{eqb}
 use lib.ListN.{getD}
-use Rattle.sbox.specs.Byte.{xtime, product, sBox}
+use Rattle.algebra.specs.Choice.{choose}
+use Rattle.sbox.specs.Byte.{xtime, mulBytes, sBox}
 use Rattle.aes128.specs.State.{four, column, byteAt, xorWord, xorState}
 
 -- 5.1.1: SubBytes
@@ -23,10 +23,10 @@ mixColumn s =
     let s1 = getD s 1 0 in
     let s2 = getD s 2 0 in
     let s3 = getD s 3 0 in
-    bitXor (bitXor (bitXor (product 2 s0) (product 3 s1)) s2) s3
-    ∷ bitXor (bitXor (bitXor s0 (product 2 s1)) (product 3 s2)) s3
-    ∷ bitXor (bitXor (bitXor s0 s1) (product 2 s2)) (product 3 s3)
-    ∷ bitXor (bitXor (bitXor (product 3 s0) s1) s2) (product 2 s3)
+    bitXor (bitXor (bitXor (mulBytes 2 s0) (mulBytes 3 s1)) s2) s3
+    ∷ bitXor (bitXor (bitXor s0 (mulBytes 2 s1)) (mulBytes 3 s2)) s3
+    ∷ bitXor (bitXor (bitXor s0 s1) (mulBytes 2 s2)) (mulBytes 3 s3)
+    ∷ bitXor (bitXor (bitXor (mulBytes 3 s0) s1) s2) (mulBytes 2 s3)
     ∷ []
 
 -- 5.1.3: MixColumns
@@ -67,25 +67,20 @@ power (suc n) = xtime (power n)
 abbrev pub rcon : ℕ → List ℕ
 rcon i = power (i - 1) ∷ 0 ∷ 0 ∷ 0 ∷ []
 
--- the first word if the test holds, else the second
-abbrev pub pick : Bool → List ℕ → List ℕ → List ℕ
-pick true a b = a
-pick false a b = b
-
 -- 5.2: what is added to w[i - 4], from w[i - 1]
 unfoldable pub temp : ℕ → List ℕ → List ℕ
-temp i t = pick (eqb (i % 4) 0) (xorWord (subWord (rotWord t)) (rcon (i / 4))) t
+temp i t = choose (eqb (i % 4) 0) (xorWord (subWord (rotWord t)) (rcon (i / 4))) t
 
--- 5.2: w[i], from the words before it
+-- 5.2: w[i], from the scheduleWords before it
 abbrev pub nextWord : ℕ → List (List ℕ) → List ℕ
 nextWord i w = xorWord (getD w (i - 4) []) (temp i (getD w (i - 1) []))
 
--- 5.2: the words w[0] to w[n + 3]
-unfoldable pub words : List (List ℕ) → ℕ → List (List ℕ)
-words key zero = key
-words key (suc n) = words key n ++ (nextWord (n + 4) (words key n) ∷ [])
+-- 5.2: the scheduleWords w[0] to w[n + 3]
+unfoldable pub scheduleWords : List (List ℕ) → ℕ → List (List ℕ)
+scheduleWords key zero = key
+scheduleWords key (suc n) = scheduleWords key n ++ (nextWord (n + 4) (scheduleWords key n) ∷ [])
 
--- the words 4i to 4i + 3, as round key i
+-- the scheduleWords 4i to 4i + 3, as round key i
 abbrev pub keyOf : List (List ℕ) → ℕ → List (List ℕ)
 keyOf w i = four (λ c. getD w (4 * i + c) [])
 
@@ -94,9 +89,9 @@ unfoldable pub keysOf : List (List ℕ) → ℕ → List (List (List ℕ))
 keysOf w zero = []
 keysOf w (suc n) = keysOf w n ++ (keyOf w n ∷ [])
 
--- 5.2: KeyExpansion: the forty-four words, as eleven round keys
+-- 5.2: KeyExpansion: the forty-four scheduleWords, as eleven round keys
 unfoldable pub keyExpansion : List (List ℕ) → List (List (List ℕ))
-keyExpansion key = keysOf (words key 40) 11
+keyExpansion key = keysOf (scheduleWords key 40) 11
 
 -- E(key, block)
 unfoldable pub aes : List (List ℕ) → List (List ℕ) → List (List ℕ)

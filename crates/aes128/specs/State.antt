@@ -1,9 +1,8 @@
 -- FIPS 197, the state (3.4) and its words (3.5): four columns of four bytes. Byte 4c + r of a block is row r of column c.
-use mathlib.Core.Path.{_≡_}
 use mathlib.Core.List.{List, [], _∷_}
-use Prim.Native.Nat.{ℕ, _<_}
+use Prim.Native.Nat.{ℕ}
 use lib.Bits.{bitXor}
-use lib.ListN.{length, getD}
+use lib.ListN.{getD}
 
 -- four places, 0 to 3
 abbrev pub four : {A : Type 0} → (ℕ → A) → List A
@@ -24,13 +23,3 @@ xorWord a b = four (λ r. bitXor (getD a r 0) (getD b r 0))
 -- the exclusive or of two states
 unfoldable pub xorState : List (List ℕ) → List (List ℕ) → List (List ℕ)
 xorState s k = four (λ c. xorWord (column s c) (column k c))
-
--- four bytes
-pub record IsWord (w : List ℕ) : Type 0 where
-  pub size : length w ≡ 4
-  pub bytes : (r : ℕ) → getD w r 0 < 256
-
--- four columns of four bytes
-pub record IsState (s : List (List ℕ)) : Type 0 where
-  pub size : length s ≡ 4
-  pub words : (c : ℕ) → c < 4 → IsWord (column s c)

@@ -3,11 +3,11 @@ ghost use mathlib.Core.Path.{_≡_};
 ghost use mathlib.Core.List.{[], _∷_};
 ghost use Prim.Native.Nat.{_<_};
 ghost use Rattle.sbox.specs.Byte.{sBox};
-ghost use Rattle.sbox.specs.Table.{SBoxTable, MixTable, Tables, bytesOf};
+ghost use Rattle.sbox.specs.Inner.Tables.{MixTable, Tables, bytesOf};
+ghost use Rattle.sbox.specs.Table.{SBoxTable};
 ghost use Rattle.aes128.specs.State.{xorWord, xorState};
 ghost use Rattle.aes128.specs.Cipher.{subBytes, shiftRows, mixColumn, mixColumns, addRoundKey, cipher, keyExpansion};
-ghost use Rattle.aes128.specs.Steps.{turned, nextKey};
-
+ghost use Rattle.aes128.specs.Inner.Steps.{turned, nextKey};
 // The S-box at a byte.
 fn sub(sbox: &[u8; 256], x: u8) -> u8
     requires { ⌜ SBoxTable (now sbox) ⌝ }

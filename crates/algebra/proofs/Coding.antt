@@ -11,7 +11,8 @@ use lib.Dec.{ltb}
 use borrow.Author.Tests.{ltb-true, ltb-false}
 use lib.ListN.{length, take, drop, length-append, length-drop, take-append-drop}
 use lib.Seq.{take-at, drop-at, take-add, drop-drop, take-all, take-append-le, drop-append-le, length-take-le}
-use Rattle.algebra.specs.Coding.{Coding, CodingLaws, at, flat, over, put}
+use Rattle.algebra.specs.Coding.{Coding, CodingLaws, at, flat, over}
+use Rattle.algebra.specs.Inner.Put.{put}
 
 module _ {A : Type 0} (C : Coding A) (L : CodingLaws C) where
   -- the clauses of `flat`

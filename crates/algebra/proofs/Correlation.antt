@@ -10,23 +10,17 @@ use borrow.Author.Tests.{eqb-true, eq-eqb, ne-eqb}
 use Rattle.algebra.specs.Choice.{choose}
 use Rattle.algebra.specs.Group.{Element, Ring, Scaled, RingLaws, ScaledLaws, itself}
 use Rattle.algebra.specs.Sum.{sum, accumulate}
-use Rattle.algebra.specs.Row.{Row, RowWithin, output, entry, rowTimes}
+use Rattle.algebra.specs.Row.{Row, output, entry, rowTimes}
+use Rattle.algebra.specs.Inner.Rows.{RowWithin}
 use Rattle.algebra.specs.Expansion.{Rising, noise, NoiseIs, correction, punctured, whole, Correlated}
 use Rattle.algebra.proofs.Choice.{choose-true, choose-false, choose-either}
 use Rattle.algebra.proofs.Sum.{sum-cong, sum-element, sum-add, sum-zeros, add-zero, sum-scale, itself-laws}
+use Rattle.algebra.proofs.Rising.{Rises, rises, rising-pairs}
 use Rattle.algebra.proofs.Matrix.{output-is-matrix}
-
--- strictly rising positions rise from any tree to any later one
-pub rising-pairs : (t : ℕ) (position : ℕ → ℕ) → Rising t position → (i k : ℕ) → i < k → k < t → position i < position k
-rising-pairs t position r i zero h l = absurd (omega arith)
-rising-pairs t position r i (suc k) h l =
-    let step : position k < position (suc k) = r k l in
-    ⊎-elim (λ e. rw e step) (λ j. let far = rising-pairs t position r i k j (omega arith) in omega arith)
-    (eq-or-lt-of-le {n = i} {m = k} (omega arith))
 
 module _ (R : Ring) where
   -- the noise value of a tree stands at its position
-  pub noise-at : (t : ℕ) (position : ℕ → ℕ) (value : ℕ → R .group .Of) → Rising t position → (i : ℕ) → i < t
+  pub noise-at : (t : ℕ) (position : ℕ → ℕ) (value : ℕ → R .group .Of) → Rises t position → (i : ℕ) → i < t
       → noise R t position value (position i) ≡ value i
   unfolding noise
   noise-at zero position value r i h = absurd (omega arith)
@@ -49,7 +43,7 @@ module _ (R : Ring) where
       ∙ noise-elsewhere t position value j (λ i h. n i (omega arith))
 
   pub noise-is : NoiseIs R
-  noise-is = record { at-positions = noise-at; elsewhere = noise-elsewhere }
+  noise-is = record { at-positions = λ t position value r. noise-at t position value (rises t position r); elsewhere = noise-elsewhere }
 
   module _ (RL : RingLaws R) where
     pub noise-element : (t : ℕ) (position : ℕ → ℕ) (value : ℕ → R .group .Of) → ((i : ℕ) → i < t → Element (R .group) (value i))
@@ -61,7 +55,7 @@ module _ (R : Ring) where
         (h t (omega arith)) (noise-element t position value (λ i k. h i (omega arith)) j)
 
     -- at rising positions the noise is a sum over the trees
-    pub noise-sum : (t : ℕ) (position : ℕ → ℕ) (value : ℕ → R .group .Of) → Rising t position
+    pub noise-sum : (t : ℕ) (position : ℕ → ℕ) (value : ℕ → R .group .Of) → Rises t position
         → ((i : ℕ) → i < t → Element (R .group) (value i)) → (j : ℕ)
         → noise R t position value j ≡ sum (R .group) t (λ i. choose (eqb (position i) j) (value i) (R .group .zero))
     unfolding noise sum
@@ -147,7 +141,7 @@ module _ (R : Ring) (S : Scaled R) (RL : RingLaws R) (L : ScaledLaws R S) (Δ : 
         (λ i h. choose-either (Element (R .group)) (eqb (position i) j) (value i) (R .group .zero) (value-element i h) (RL .group .zero-element))
         (λ i h. tree-correlated i h j (eqb (position i) j) refl)
         ∙ ap (λ (x : R .group .Of). S .group .add (S .scale x Δ) (sum (S .group) t v))
-        (sym (noise-sum R RL t position value rising value-element j))
+        (sym (noise-sum R RL t position value (rises t position rising) value-element j))
 
     module _ (N : ℕ) (row : Row R) (W : RowWithin R N row) where
       -- the outputs of every row are correlated

@@ -2,8 +2,10 @@
 pub mod Choice
 pub mod Sum
 pub mod Matrix
+pub mod Rising
 pub mod Correlation
 pub mod Coding
 pub mod Loop
 pub mod Tests
+pub mod Every
 pub mod Same

@@ -8,7 +8,8 @@ use native.Mathlib.Numerals.{add-one}
 use lib.ListN.{length}
 use Rattle.algebra.specs.Group.{Group}
 use Rattle.algebra.specs.Sum.{sum, accumulate}
-use Rattle.algebra.specs.Coding.{Coding, CodingLaws, at, over, put}
+use Rattle.algebra.specs.Coding.{Coding, CodingLaws, at, over}
+use Rattle.algebra.specs.Inner.Put.{put}
 use Rattle.algebra.proofs.Sum.{sum-none, sum-suc}
 use Rattle.algebra.proofs.Coding.{over-none, over-one, at-over-past}
 

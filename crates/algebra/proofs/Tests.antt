@@ -35,3 +35,9 @@ passed false k rest e = absurd (omega arith)
 
 pub passes : {t : Bool} (k : ℕ) {rest : ℕ} → t ≡ true → rest ≡ 0 → choose (not t) k rest ≡ 0
 passes {t} k {rest} p q = rw (p, q)
+
+-- tests that hold together have one value
+pub together : (s t : Bool) → (s ≡ true → t ≡ true) → (t ≡ true → s ≡ true) → s ≡ t
+together true t f g = sym (f refl)
+together false true f g = g refl
+together false false f g = refl

@@ -29,7 +29,3 @@ flat C (suc n) f = flat C n f ++ C .words (f n)
 -- the buffer with f at 0 to n − 1 written over its front, the rest as it was
 unfoldable pub over : {A : Type 0} → Coding A → ℕ → (ℕ → A) → List ℕ → List ℕ
 over C n f buffer = flat C n f ++ drop (n * C .width) buffer
-
--- the list with value i replaced
-unfoldable pub put : {A : Type 0} → Coding A → List ℕ → ℕ → A → List ℕ
-put C l i a = take (i * C .width) l ++ (C .words a ++ drop (i * C .width + C .width) l)

@@ -1,15 +1,20 @@
 -- The vectors of a dealing over any ring and any group that it scales (document 01, 'Dealing', 'Offline and online'), and
 -- the correlation. Tree i of t has a position, a noise value and a leaf at each place.
 use mathlib.Core.Path.{_≡_}
-use Prim.Native.Nat.{ℕ, zero, suc, _<_}
-use lib.Dec.{eqb}
+use mathlib.Core.Bool.{Bool, true}
+use Prim.Native.Nat.{ℕ, zero, suc, _-_, _<_}
+use lib.Dec.{eqb, ltb}
 use Rattle.algebra.specs.Choice.{choose}
+use Rattle.algebra.specs.Every.{every}
 use Rattle.algebra.specs.Group.{Ring, Scaled}
 use Rattle.algebra.specs.Sum.{sum}
 
--- the positions of t trees are strictly rising
+-- the positions of t trees are strictly rising: each but the last is below the next
+unfoldable pub rising : ℕ → (ℕ → ℕ) → Bool
+rising t position = every (t - 1) (λ i. ltb (position i) (position (suc i)))
+
 abbrev pub Rising : ℕ → (ℕ → ℕ) → Type 0
-Rising t position = (i : ℕ) → suc i < t → position i < position (suc i)
+Rising t position = rising t position ≡ true
 
 -- μ: the noise values at their positions and zero elsewhere (positions differ; of two equal ones the later value would stand)
 unfoldable pub noise : (R : Ring) → ℕ → (ℕ → ℕ) → (ℕ → R .group .Of) → ℕ → R .group .Of

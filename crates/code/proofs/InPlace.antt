@@ -6,7 +6,8 @@ use Prim.Native.Nat.{ℕ, _+_, _*_, _≤_, _<_}
 use native.Mathlib.Nat.{mul-one, le-antisymm}
 use native.Mathlib.Omega.{arith}
 use lib.ListN.{length, getD, set}
-use Rattle.algebra.specs.Coding.{Coding, CodingLaws, at, flat, over, put}
+use Rattle.algebra.specs.Coding.{Coding, CodingLaws, at, flat, over}
+use Rattle.algebra.specs.Inner.Put.{put}
 use Rattle.algebra.specs.Group.{Group}
 use Rattle.algebra.specs.Sum.{sum, accumulate}
 use Rattle.algebra.proofs.Coding.{length-put, over-whole}

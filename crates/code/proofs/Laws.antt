@@ -7,12 +7,13 @@ use native.Mathlib.Nat.{mod-lt}
 use borrow.Author.Tests.{lt-ltb, ltb-true}
 use lib.ListN.{length, getD}
 use Rattle.algebra.specs.Group.{Ring, Scaled}
-use Rattle.algebra.specs.Row.{Row, RowWithin, output}
+use Rattle.algebra.specs.Row.{Row, output}
+use Rattle.algebra.specs.Inner.Rows.{RowWithin}
 use Rattle.algebra.proofs.Sum.{sum-cong}
 use Rattle.field.specs.Kind.{Kind, KindLaws}
 use Rattle.code.specs.Row.{termPlace, placeOf, rowOf}
-use Rattle.code.specs.Used.{wordBelow, rowBelow, usedBelow, allBelow}
-use Rattle.code.proofs.Every.{every-at, every-all}
+use Rattle.code.specs.Inner.Used.{wordBelow, rowBelow, usedBelow, allBelow}
+use Rattle.algebra.proofs.Every.{every-at, every-all}
 
 -- a row's output depends on the values at its places alone
 pub output-places : {R : Ring} (S : Scaled R) (row : Row R) (f g : ℕ → S .group .Of)

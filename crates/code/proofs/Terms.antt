@@ -18,7 +18,8 @@ use Rattle.field.specs.Binary.{binary, bitRing, blocks, blockZero, blockAdd, bl
 use Rattle.field.specs.Bytes.{columnsOf, highOf}
 use Rattle.field.specs.Prime.{primes, primeRing, prime, primeReduce, primeAdd, primeMul}
 use Rattle.field.proofs.PrimeField.{reduced-add, reduced-mul}
-use Rattle.code.specs.Row.{termBlock, placeOf, termPlace, rowOf, binaryRow, primeRow}
+use Rattle.code.specs.Row.{termBlock, placeOf, termPlace, rowOf}
+use Rattle.code.specs.Inner.Rows.{binaryRow, primeRow}
 
 -- a term, from what the cipher and the words in bytes give
 module _ (keys : List (List (List ℕ))) (x i : ℕ) {s e : List (List ℕ)} {b : Block}

@@ -11,8 +11,9 @@ use lib.ListN.{length, getD}
 use mir.Syntax.{w64}
 use mir.Val.{Fits}
 use Rattle.code.specs.Row.{termPlace}
-use Rattle.code.specs.Used.{every, wordBelow, rowBelow, usedBelow, allBelow}
-use Rattle.code.proofs.Every.{every-none, every-more, every-done, every-stop}
+use Rattle.algebra.specs.Every.{every}
+use Rattle.code.specs.Inner.Used.{wordBelow, rowBelow, usedBelow, allBelow}
+use Rattle.algebra.proofs.Every.{every-none, every-more, every-done, every-stop}
 use Rattle.code.proofs.Laws.{used-all}
 
 -- the words at the places of the first n terms are below the bound

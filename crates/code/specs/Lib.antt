@@ -1,3 +1,3 @@
 -- Rows of the code, and the words that they use (document 01, 'Offline and online').
 pub mod Row
-pub mod Used
+pub mod Inner

@@ -4,10 +4,7 @@ use Prim.Native.Nat.{ℕ, _%_}
 use Rattle.algebra.specs.Group.{Ring}
 use Rattle.algebra.specs.Row.{Row}
 use Rattle.aes128.specs.Cipher.{cipher}
-use Rattle.field.specs.Binary.{bitRing}
 use Rattle.field.specs.Bytes.{columnsOf, lowOf, highOf}
-use Rattle.field.specs.Kind.{binaryKind, primeKind}
-use Rattle.field.specs.Prime.{primeRing}
 
 -- encrypt, under the code key's round keys, the block of x (eight bytes LE) and i (eight bytes LE)
 unfoldable pub termBlock : List (List (List ℕ)) → ℕ → ℕ → List (List ℕ)
@@ -29,11 +26,3 @@ rowOf R coefficientOf keys N ℓ x =
       place = λ i. termPlace keys N ℓ x i;
       coefficient = λ i. coefficientOf (highOf (termBlock keys x i));
     }
-
--- in field 1 the coefficient is 1
-abbrev pub binaryRow : List (List (List ℕ)) → ℕ → ℕ → ℕ → Row bitRing
-binaryRow keys N ℓ x = rowOf bitRing (binaryKind .coefficient) keys N ℓ x
-
--- in field 2 it is the word modulo p
-abbrev pub primeRow : List (List (List ℕ)) → ℕ → ℕ → ℕ → Row primeRing
-primeRow keys N ℓ x = rowOf primeRing (primeKind .coefficient) keys N ℓ x

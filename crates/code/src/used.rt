@@ -2,8 +2,8 @@
 ghost use mathlib.Core.Path.{_≡_};
 ghost use Prim.Native.Nat.{_+_, _<_, _≤_};
 ghost use lib.ListN.{length};
-ghost use Rattle.sbox.specs.Table.{Tables};
-ghost use Rattle.code.specs.Used.{rowBelow, usedBelow, allBelow};
+ghost use Rattle.sbox.specs.Inner.Tables.{Tables};
+ghost use Rattle.code.specs.Inner.Used.{rowBelow, usedBelow, allBelow};
 use crate::row::row_term;
 
 // Whether every word at the places of row x is below the bound.

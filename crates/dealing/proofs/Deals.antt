@@ -6,16 +6,19 @@ use native.Mathlib.Omega.{arith}
 use borrow.Author.Tests.{ne-eqb, lt-ltb, le-ltb}
 use lib.ListN.{length, getD}
 use lib.Seq.{sets}
+use Rattle.algebra.proofs.Rising.{rises}
 use Rattle.field.specs.Bytes.{wordAt}
-use Rattle.record.specs.Admitted.{Rising}
-use Rattle.record.specs.Content.{headWith, elementOf}
+use Rattle.record.specs.Inner.Rising.{RisesFrom}
+use Rattle.record.specs.Content.{elementOf}
+use Rattle.record.specs.Inner.Heads.{headWith}
 use Rattle.record.specs.Reading.{items, blockAt}
-use Rattle.record.specs.Writing.{Writable, writeNoise, writeScalar, noiseLength, scalarLength}
+use Rattle.record.specs.Writing.{writeNoise, writeScalar}
+use Rattle.record.specs.Inner.Lengths.{Writable, noiseLength, scalarLength}
 use Rattle.dealing.specs.Admitted.{Admitted}
 use Rattle.dealing.specs.Deal.{Dealt, dealt, refusedDeal, deal, front}
-use Rattle.dealing.specs.Input.{Input, fault}
+use Rattle.dealing.specs.Input.{Input, fault, position}
 use Rattle.dealing.specs.Parts.{noisePart}
-use Rattle.dealing.specs.Steps.{Ready}
+use Rattle.dealing.specs.Inner.Steps.{AdmittedWithRoom}
 use Rattle.dealing.specs.Vectors.{head}
 use Rattle.dealing.proofs.Faults.{fault-none}
 use Rattle.dealing.proofs.Laws.{noiseWriting, scalarWriting, acceptedDeal, deal-accepted}
@@ -24,14 +27,14 @@ use Rattle.dealing.proofs.Turns.{head-writable}
 use Rattle.dealing.proofs.Written.{sets-front}
 
 -- positions rise
-rises : (N base : ℕ) (l : List ℕ) → ((i : ℕ) → i < length l → getD l i 0 < N)
-    → ((i : ℕ) → suc i < length l → getD l i 0 < getD l (suc i) 0) → (0 < length l → base ≤ getD l 0 0) → Rising N base l
-unfolding Rising
-rises N base [] below rising least = tt
-rises N base (s ∷ l) below rising least = (
+rise-from : (N base : ℕ) (l : List ℕ) → ((i : ℕ) → i < length l → getD l i 0 < N)
+    → ((i : ℕ) → suc i < length l → getD l i 0 < getD l (suc i) 0) → (0 < length l → base ≤ getD l 0 0) → RisesFrom N base l
+unfolding RisesFrom
+rise-from N base [] below rising least = tt
+rise-from N base (s ∷ l) below rising least = (
   least (omega arith),
   below 0 (omega arith),
-  rises N (s + 1) l (λ i h. below (suc i) (omega arith)) (λ i h. rising (suc i) (omega arith))
+  rise-from N (s + 1) l (λ i h. below (suc i) (omega arith)) (λ i h. rising (suc i) (omega arith))
       (λ h. let r : s < getD l 0 0 = rising 0 (omega arith) in omega arith),
 )
 
@@ -59,9 +62,9 @@ module _ (I : Input) {n : ℕ} (tested : n ≡ fault I) where
     pub positions-few : length (I .positions) ≤ 64
     positions-few = omega (arith, A .positions, A .trees .1)
 
-    pub positions-rise : Rising (2 ^ I .depth) 0 (I .positions)
+    pub positions-rise : RisesFrom (2 ^ I .depth) 0 (I .positions)
     positions-rise =
-        rises (2 ^ I .depth) 0 (I .positions) (λ i h. A .below i (omega (arith, A .positions))) (λ i h. A .rising i (omega (arith, A .positions)))
+        rise-from (2 ^ I .depth) 0 (I .positions) (λ i h. A .below i (omega (arith, A .positions))) (λ i h. rises (I .trees) (position I) (A .rising) i (omega (arith, A .positions)))
         (λ h. omega arith)
 
     pub delta-long : length (I .delta) ≡ 16
@@ -90,7 +93,7 @@ module _ (I : Input) {n : ℕ} (tested : n ≡ fault I) where
             rw
             (← tested, none, le-ltb (length a) (length (noiseWriting I)) long, lt-ltb (length b) (length (scalarWriting I)) short)
 
-        pub ready : Ready I a
+        pub ready : AdmittedWithRoom I a
         ready = record { admitted = A; room = omega (arith, noise-long) }
 
         module _ (scalar-room : s ≤ length b) where

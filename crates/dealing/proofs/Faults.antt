@@ -3,19 +3,20 @@ use mathlib.Core.Path.{_≡_, refl, sym}
 use mathlib.Core.Bool.{Bool, true, _&&_, _||_, not, true≢false}
 use mathlib.Core.List.{List, [], _∷_}
 use mathlib.Core.Logic.{_⊎_, inl, inr, ⊎-elim}
-use Prim.Native.Nat.{ℕ, zero, suc, _+_, _-_, _*_, _^_, _≤_, _<_}
+use Prim.Native.Nat.{ℕ, zero, suc, _-_, _*_, _^_, _≤_, _<_}
 use native.Mathlib.Omega.{arith}
 use native.Mathlib.Nat.{le-of-suc-le-suc, not-suc-le-zero}
 use borrow.Author.Tests.{ltb-true, leb-true, eqb-true, lt-ltb, le-leb, eq-eqb, ne-eqb}
 use lib.Dec.{leb, ltb, eqb}
 use lib.ListN.{length, getD}
+use Rattle.dealing.proofs.Positions.{positions-rising, positions-below, positions-are}
 use Rattle.algebra.proofs.Tests.{and-left, and-right, and-both, or-cases, passed, passes}
 use Rattle.field.specs.Bytes.{wordAt}
 use Rattle.field.specs.Prime.{modulus}
 use Rattle.record.specs.Admitted.{isField, isSize, mostTrees, mostOutputs, isNoise, isScalar}
 use Rattle.record.specs.Content.{elementOf}
 use Rattle.dealing.specs.Admitted.{Admitted, DeltaAdmitted, NoiseAdmitted}
-use Rattle.dealing.specs.Input.{Input, sizesAdmitted, lengthsAdmitted, risingFrom, everyNoise, deltaAdmitted, fault}
+use Rattle.dealing.specs.Input.{Input, sizesAdmitted, lengthsAdmitted, positionsAdmitted, everyNoise, deltaAdmitted, fault}
 
 -- ---- single tests
 
@@ -31,42 +32,6 @@ field-says f e =
 
 pub field-is : (f : ℕ) → (f ≡ 1) ⊎ (f ≡ 2) → isField f ≡ true
 field-is f h = ⊎-elim (λ a. rw a) (λ b. rw b) h
-
--- ---- positions
-
--- positions that pass are `base` or more, below N and rising
-rising-least : (N base : ℕ) (l : List ℕ) → risingFrom N base l ≡ true → 0 < length l → base ≤ getD l 0 0
-unfolding risingFrom
-rising-least N base [] e h = absurd (omega arith)
-rising-least N base (s ∷ l) e h = leb-true base s (and-left (leb base s) (ltb s N) (and-left (leb base s && ltb s N) (risingFrom N (s + 1) l) e))
-
-rising-tail : (N base s : ℕ) (l : List ℕ) → risingFrom N base (s ∷ l) ≡ true → risingFrom N (s + 1) l ≡ true
-unfolding risingFrom
-rising-tail N base s l e = and-right (leb base s && ltb s N) (risingFrom N (s + 1) l) e
-
-rising-below : (N base : ℕ) (l : List ℕ) → risingFrom N base l ≡ true → (i : ℕ) → i < length l → getD l i 0 < N
-unfolding risingFrom
-rising-below N base [] e i h = absurd (not-suc-le-zero h)
-rising-below N base (s ∷ l) e zero h =
-    ltb-true s N (and-right (leb base s) (ltb s N) (and-left (leb base s && ltb s N) (risingFrom N (s + 1) l) e))
-rising-below N base (s ∷ l) e (suc i) h = rising-below N (s + 1) l (rising-tail N base s l e) i (le-of-suc-le-suc h)
-
-rising-rises : (N base : ℕ) (l : List ℕ) → risingFrom N base l ≡ true → (i : ℕ) → suc i < length l → getD l i 0 < getD l (suc i) 0
-rising-rises N base [] e i h = absurd (not-suc-le-zero h)
-rising-rises N base (s ∷ l) e zero h =
-    let first : s + 1 ≤ getD l 0 0 = rising-least N (s + 1) l (rising-tail N base s l e) (le-of-suc-le-suc h) in
-    omega arith
-rising-rises N base (s ∷ l) e (suc i) h = rising-rises N (s + 1) l (rising-tail N base s l e) i (le-of-suc-le-suc h)
-
-rising-is : (N base : ℕ) (l : List ℕ) → ((i : ℕ) → i < length l → getD l i 0 < N)
-    → ((i : ℕ) → suc i < length l → getD l i 0 < getD l (suc i) 0) → (0 < length l → base ≤ getD l 0 0) → risingFrom N base l ≡ true
-unfolding risingFrom
-rising-is N base [] below rises least = refl
-rising-is N base (s ∷ l) below rises least =
-    and-both
-    (and-both (le-leb base s (least (omega arith))) (lt-ltb s N (below 0 (omega arith))))
-    (rising-is N (s + 1) l (λ i h. below (suc i) (omega arith)) (λ i h. rises (suc i) (omega arith))
-    (λ h. let r : s < getD l 0 0 = rises 0 (omega arith) in omega arith))
 
 -- ---- noise values
 
@@ -105,12 +70,12 @@ delta-binary low high e z =
 
 delta-prime : (low high : ℕ) → deltaTest 2 low high ≡ true → (0 < low) × (low < modulus) × (high ≡ 0)
 delta-prime low high e =
-    let t : (ltb low modulus && not (eqb low 0 && true)) ≡ true = and-left (ltb low modulus && not (eqb low 0 && true)) (eqb high 0) e in
-    let n : not (eqb low 0 && true) ≡ true = and-right (ltb low modulus) (not (eqb low 0 && true)) t in
+    let t : (ltb low modulus && not (eqb low 0)) ≡ true = and-left (ltb low modulus && not (eqb low 0)) (eqb high 0) e in
+    let n : not (eqb low 0) ≡ true = and-right (ltb low modulus) (not (eqb low 0)) t in
     let positive : 0 < low = positive-of low n in
-    (positive, ltb-true low modulus (and-left (ltb low modulus) (not (eqb low 0 && true)) t), eqb-true high 0 (and-right (ltb low modulus && not (eqb low 0 && true)) (eqb high 0) e))
+    (positive, ltb-true low modulus (and-left (ltb low modulus) (not (eqb low 0)) t), eqb-true high 0 (and-right (ltb low modulus && not (eqb low 0)) (eqb high 0) e))
   where
-    positive-of : (x : ℕ) → not (eqb x 0 && true) ≡ true → 0 < x
+    positive-of : (x : ℕ) → not (eqb x 0) ≡ true → 0 < x
     positive-of zero n = absurd (true≢false (sym n))
     positive-of (suc x) n = omega arith
 
@@ -148,7 +113,7 @@ fault-none I e =
     let a = passed (isField (I .field)) 0 _ e in
     let b = passed (sizesAdmitted (I .depth) (I .trees) (I .terms) (I .outputs)) 1 _ (a .1) in
     let c = passed (lengthsAdmitted (I .trees) (I .roots) (I .positions) (I .values) (I .delta) (I .codeKey)) 2 _ (b .1) in
-    let d = passed (risingFrom (2 ^ I .depth) 0 (I .positions)) 3 _ (c .1) in
+    let d = passed (positionsAdmitted (2 ^ I .depth) (I .trees) (I .positions)) 3 _ (c .1) in
     let f = passed (everyNoise (I .field) (I .values)) 4 _ (d .1) in
     let g = passed (deltaAdmitted (I .field) (I .delta)) 5 0 (f .1) in
     let depth = isSize 16 (I .depth) in
@@ -179,8 +144,8 @@ fault-none I e =
       values = counted;
       delta = eqb-true _ _ (and-right (roots && positions && values) delta l4);
       codeKey = eqb-true _ _ (and-right (roots && positions && values && delta) key (c .0));
-      rising = λ i h. rising-rises (2 ^ I .depth) 0 (I .positions) (d .0) i (omega arith);
-      below = λ i h. rising-below (2 ^ I .depth) 0 (I .positions) (d .0) i (omega arith);
+      rising = positions-rising (2 ^ I .depth) (I .trees) (I .positions) (d .0);
+      below = positions-below (2 ^ I .depth) (I .trees) (I .positions) (d .0);
       noise = λ i h. every-says (I .field) (I .values) (f .0) i (omega arith);
       scalar = delta-says I (g .0);
     }
@@ -202,6 +167,6 @@ admitted-none I A =
     (and-both (and-both (and-both (and-both
     (eq-eqb _ _ (A .roots)) (eq-eqb _ _ (A .positions))) (eq-eqb _ _ (A .values))) (eq-eqb _ _ (A .delta))) (eq-eqb _ _ (A .codeKey)))
     (passes 4
-    (rising-is (2 ^ I .depth) 0 (I .positions) (λ i h. A .below i (omega arith)) (λ i h. A .rising i (omega arith)) (λ h. omega arith))
+    (positions-are (2 ^ I .depth) (I .trees) (I .positions) (A .rising) (A .below))
     (passes 5 (every-is (I .field) (I .values) (A .field) (λ i h. A .noise i (omega arith)))
     (passes 6 (delta-is I (A .field) (A .scalar)) refl)))))

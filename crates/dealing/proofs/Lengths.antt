@@ -1,6 +1,6 @@
 -- The lengths of a dealing's records from its sizes and positions, and the roots as blocks of the input. Assumes nothing.
 use mathlib.Core.Path.{_≡_, refl, sym, ap, ap₂, _∙_}
-use mathlib.Core.List.{List, _∷_, _++_}
+use mathlib.Core.List.{List, [], _∷_, _++_}
 use Prim.Native.Nat.{ℕ, zero, suc, _+_, _*_, _≤_, _<_}
 use native.Mathlib.Omega.{arith}
 use native.Mathlib.Numerals.{add-one}
@@ -11,15 +11,17 @@ use Rattle.number.specs.Reading.{part}
 use Rattle.record.proofs.Writes.{length-head, length-element}
 use Rattle.record.specs.Content.{NoiseTree}
 use Rattle.record.specs.Reading.{items, blockAt}
-use Rattle.record.specs.Writing.{flat, writeBlocks, writeHead, writeWords, writeTree, writeTrees, writeNoise, writeScalar, frontLength, treesLength, noiseLength, scalarLength}
+use Rattle.record.specs.Writing.{writeEach, writeBlocks, writeHead, writeWords, writeTree, writeTrees, writeNoise, writeScalar}
+use Rattle.record.specs.Inner.Lengths.{frontLength, treesLength, noiseLength, scalarLength}
 use Rattle.tree.proofs.Blocks.{length-block}
 use Rattle.tree.proofs.Listed.{listed-none, listed-front, listed-cong, listed-getD}
-use Rattle.tree.specs.Columns.{fourAt, columnsAt, columnBytes, blockBytes}
+use Rattle.field.specs.Bytes.{fourAt}
+use Rattle.tree.specs.Columns.{columnsAt, columnsBytes}
 use Rattle.tree.specs.Tree.{listed}
 use Rattle.dealing.specs.Admitted.{Admitted}
-use Rattle.dealing.specs.Input.{Input, deltaWords}
+use Rattle.dealing.specs.Input.{Input, deltaWords, position}
 use Rattle.dealing.specs.Parts.{noiseTree, noisePart, scalarPart}
-use Rattle.dealing.specs.Vectors.{head, position, root}
+use Rattle.dealing.specs.Vectors.{head, root}
 use Rattle.dealing.proofs.Written.{tree-length}
 
 -- ---- the noise record
@@ -51,7 +53,7 @@ module _ (I : Input) (A : Admitted I) where
 -- ---- the scalar record
 
 blocks-length : (n : ℕ) (f : ℕ → List ℕ) → ((i : ℕ) → i < n → length (f i) ≡ 16) → length (writeBlocks (listed n f)) ≡ 16 * n
-unfolding flat
+unfolding writeEach
 blocks-length zero f each = rw listed-none
 blocks-length (suc n) f each =
     ap (λ l. length (writeBlocks l)) (listed-front n f)
@@ -62,13 +64,13 @@ blocks-length (suc n) f each =
 pub scalar-bytes : (I : Input) → Admitted I → scalarLength (I .field) (I .depth) (I .trees) (I .terms) (I .outputs) ≡ length (writeScalar (scalarPart I))
 unfolding scalarLength writeScalar
 scalar-bytes I A =
-    let blocks = writeBlocks (listed (I .trees) (λ i. blockBytes (root I i))) in
+    let blocks = writeBlocks (listed (I .trees) (λ i. columnsBytes (root I i))) in
     sym
     (length-append (writeHead 2 (head I)) (writeWords (deltaWords I) ++ blocks)
     ∙ ap₂ (λ a b. a + b) (length-head 2 (head I) (A .codeKey))
     (length-append (writeWords (deltaWords I)) blocks
     ∙ ap₂ (λ a b. a + b) (length-element (I .field) (wordAt (I .delta) 0) (wordAt (I .delta) 8))
-    (blocks-length (I .trees) (λ i. blockBytes (root I i)) (λ i h. length-block (root I i)))))
+    (blocks-length (I .trees) (λ i. columnsBytes (root I i)) (λ i h. length-block (root I i)))))
 
 -- the bytes at a place, one by one and four by four
 part-one : (l : List ℕ) (at next n : ℕ) → next ≡ at + 1 → at < length l → part l at (suc n) ≡ getD l at 0 ∷ part l next n
@@ -85,16 +87,16 @@ part-four l at next n e h =
     ∙ ap (λ r. getD l (at + 2) 0 ∷ r) (part-one l (at + 3) next n (omega arith) (omega arith))))
 
 -- the 16 bytes at a place are those of the block there
-block-part : (l : List ℕ) (at : ℕ) → at + 16 ≤ length l → blockBytes (columnsAt l at) ≡ part l at 16
-unfolding blockBytes columnsAt
+block-part : (l : List ℕ) (at : ℕ) → at + 16 ≤ length l → columnsBytes (columnsAt l at) ≡ part l at 16
+unfolding columnsBytes columnsAt
 block-part l at h =
     sym
     (part-four l at (at + 4) 12 refl (omega arith)
-    ∙ ap (λ r. columnBytes (fourAt l at) r)
+    ∙ ap (λ r. fourAt (fourAt l at []) 0 r)
     (part-four l (at + 4) (at + 8) 8 (omega arith) (omega arith)
-    ∙ ap (λ r. columnBytes (fourAt l (at + 4)) r)
+    ∙ ap (λ r. fourAt (fourAt l (at + 4) []) 0 r)
     (part-four l (at + 8) (at + 12) 4 (omega arith) (omega arith)
-    ∙ ap (λ r. columnBytes (fourAt l (at + 8)) r) (part-four l (at + 12) (at + 16) 0 (omega arith) (omega arith)))))
+    ∙ ap (λ r. fourAt (fourAt l (at + 8) []) 0 r) (part-four l (at + 12) (at + 16) 0 (omega arith) (omega arith)))))
 
 -- items by index
 items-listed : {A : Type 0} (item : List ℕ → ℕ → A) (size : ℕ) (s : List ℕ) (n at : ℕ) → items item size s at n ≡ listed n (λ i. item s (at + size * i))
@@ -105,7 +107,7 @@ items-listed item size s (suc n) at =
     (items-listed item size s n (at + size) ∙ listed-cong n _ _ (λ i h. ap (item s) (omega arith)))
     ∙ sym (listed-front n (λ i. item s (at + size * i)))
 
-pub roots-blocks : (I : Input) → Admitted I → items blockAt 16 (I .roots) 0 (I .trees) ≡ listed (I .trees) (λ i. blockBytes (root I i))
+pub roots-blocks : (I : Input) → Admitted I → items blockAt 16 (I .roots) 0 (I .trees) ≡ listed (I .trees) (λ i. columnsBytes (root I i))
 roots-blocks I A =
     items-listed blockAt 16 (I .roots) (I .trees) 0
     ∙ listed-cong (I .trees) _ _

@@ -10,6 +10,7 @@ use borrow.Author.Tests.{lt-ltb, ltb-true, ltb-false}
 use lib.Bits.{xor-lt}
 use lib.Dec.{ltb, lit<}
 use lib.ListN.{length, getD, List·getD-eq-default}
+use Rattle.algebra.proofs.Rising.{Rises, rises, rising-is}
 use Rattle.algebra.proofs.Tests.{and-left}
 use Rattle.algebra.specs.Expansion.{correction}
 use Rattle.algebra.specs.Field.{NoiseValue}
@@ -17,23 +18,25 @@ use Rattle.field.proofs.ByteWords.{leNumber-below, lowOf-below, highOf-below}
 use Rattle.field.specs.Bytes.{eightAt, wordAt}
 use Rattle.field.specs.Binary.{block, blockScale}
 use Rattle.field.specs.declared.prime.Prime.{Prime}
-use Rattle.field.specs.Kind.{kindOf}
+use Rattle.field.specs.Kind.{kindOf, elementWords}
 use Rattle.field.specs.Prime.{modulus, prime, primeSub, primeMul, primeLeaf}
 use Rattle.aes128.proofs.Sizes.{four-bytes, four-words}
-use Rattle.aes128.specs.State.{column, IsWord, IsState}
+use Rattle.aes128.specs.State.{column}
+use Rattle.aes128.specs.Inner.Sizes.{IsWord, IsState}
 use Rattle.number.specs.Reading.{Bytes}
-use Rattle.record.specs.Admitted.{isElement, Each, Block, Word, AdmittedHead, AdmittedTree, AdmittedTrees, AdmittedNoise, AdmittedScalar}
-use Rattle.record.specs.Content.{NoiseTree, elementWords, elementOf}
+use Rattle.record.specs.Admitted.{isElement, Each, SixteenBytes, SixtyFourBits, AdmittedHead, AdmittedTree, AdmittedNoise, AdmittedScalar}
+use Rattle.record.specs.Content.{NoiseTree, elementOf, treeIn}
 use Rattle.tree.proofs.ChildLaws.{leaf-state, siblings-states}
 use Rattle.tree.proofs.Laws as tree
-use Rattle.tree.proofs.Listed.{length-listed, listed-none, listed-front}
+use Rattle.tree.proofs.Listed.{length-listed, listed-none, listed-front, listed-at}
 use Rattle.tree.specs.Child.{child}
-use Rattle.tree.specs.Columns.{fourAt, columnsAt, columnBytes, blockBytes}
+use Rattle.field.specs.Bytes.{fourAt}
+use Rattle.tree.specs.Columns.{columnsAt, columnsBytes}
 use Rattle.tree.specs.Tree.{listed, siblings, leafAt}
 use Rattle.dealing.specs.Admitted.{InMemory, Admitted}
-use Rattle.dealing.specs.Input.{Input, deltaAdmitted}
+use Rattle.dealing.specs.Input.{Input, deltaAdmitted, position}
 use Rattle.dealing.specs.Parts.{noiseTree, noisePart, scalarPart}
-use Rattle.dealing.specs.Vectors.{head, field, position, root, leaf, delta, value}
+use Rattle.dealing.specs.Vectors.{head, field, root, leaf, delta, value}
 use Rattle.dealing.proofs.Faults.{size-is, field-is, noise-is, delta-is}
 
 -- ---- blocks
@@ -43,7 +46,7 @@ columns-state : (bytes : List ℕ) (at : ℕ) → ((i : ℕ) → getD bytes i 0 
 unfolding columnsAt
 columns-state bytes at b = four-words (word at) (word (at + 4)) (word (at + 8)) (word (at + 12))
   where
-    word : (k : ℕ) → IsWord (fourAt bytes k)
+    word : (k : ℕ) → IsWord (fourAt bytes k [])
     word k = four-bytes (b k) (b (k + 1)) (b (k + 2)) (b (k + 3))
 
 bytes-none : Bytes []
@@ -56,17 +59,17 @@ bytes-cons x l h b zero = h
 bytes-cons x l h b (suc i) = b i
 
 -- the bytes of a state
-state-block : (s : List (List ℕ)) → IsState s → Block (blockBytes s)
-unfolding blockBytes
+state-block : (s : List (List ℕ)) → IsState s → SixteenBytes (columnsBytes s)
+unfolding columnsBytes
 state-block s h =
     (refl, next 0 _ (lit< tt) (next 1 _ (lit< tt) (next 2 _ (lit< tt) (next 3 _ (lit< tt) bytes-none))))
   where
-    next : (c : ℕ) (l : List ℕ) → c < 4 → Bytes l → Bytes (columnBytes (column s c) l)
+    next : (c : ℕ) (l : List ℕ) → c < 4 → Bytes l → Bytes (fourAt (column s c) 0 l)
     next c l b r =
         let w = h .words c b .bytes in
         bytes-cons _ _ (w 0) (bytes-cons _ _ (w 1) (bytes-cons _ _ (w 2) (bytes-cons _ _ (w 3) r)))
 
-states-blocks : (xs : List (List (List ℕ))) → tree.Each IsState xs → Each Block (map blockBytes xs)
+states-blocks : (xs : List (List (List ℕ))) → tree.Each IsState xs → Each SixteenBytes (map columnsBytes xs)
 unfolding Each
 states-blocks [] h = tt
 states-blocks (x ∷ xs) h = (state-block x (h .0), states-blocks xs (h .1))
@@ -90,19 +93,19 @@ eight-bytes bytes at b =
     next : (k : ℕ) (l : List ℕ) → Bytes l → Bytes (getD bytes k 0 ∷ l)
     next k l r = bytes-cons _ l (b k) r
 
-word-below : (bytes : List ℕ) (at : ℕ) → ((i : ℕ) → getD bytes i 0 < 256) → Word (wordAt bytes at)
+word-below : (bytes : List ℕ) (at : ℕ) → ((i : ℕ) → getD bytes i 0 < 256) → SixtyFourBits (wordAt bytes at)
 unfolding wordAt Bytes
 word-below bytes at b = leNumber-below (eightAt bytes at) (λ k h. eight-bytes bytes at b k)
 
 -- an element of two words
-element-words : (k low high : ℕ) → (k ≡ 1) ⊎ (k ≡ 2) → Word low → Word high
-    → (length (elementOf k low high) ≡ elementWords k) × Each Word (elementOf k low high)
+element-words : (k low high : ℕ) → (k ≡ 1) ⊎ (k ≡ 2) → SixtyFourBits low → SixtyFourBits high
+    → (length (elementOf k low high) ≡ elementWords k) × Each SixtyFourBits (elementOf k low high)
 unfolding Each
 element-words k low high h a b = ⊎-elim (λ e. rw e (refl, (a, (b, tt)))) (λ e. rw e (refl, (a, tt))) h
 
 -- what is known of an element that a record holds
 pub record ElementAdmitted (k : ℕ) (e : List ℕ) : Type 0 where
-  pub words : (length e ≡ elementWords k) × Each Word e
+  pub words : (length e ≡ elementWords k) × Each SixtyFourBits e
   pub element : isElement k e ≡ true
 
 state-bytes : (s : List (List ℕ)) → IsState s → (c r : ℕ) → getD (getD s c []) r 0 < 256
@@ -115,7 +118,7 @@ state-bytes s h c r = decide (ltb c 4) refl
         rw (List·getD-eq-default s [] out) (lit< tt)
 
 -- a block scaled has words
-scale-words : (y : ℕ) (low high : ℕ) → Word low → Word high → Word (blockScale y (block low high) .low) × Word (blockScale y (block low high) .high)
+scale-words : (y : ℕ) (low high : ℕ) → SixtyFourBits low → SixtyFourBits high → SixtyFourBits (blockScale y (block low high) .low) × SixtyFourBits (blockScale y (block low high) .high)
 unfolding blockScale
 scale-words zero low high a b = (lit< tt, lit< tt)
 scale-words (suc zero) low high a b = (a, b)
@@ -129,7 +132,7 @@ difference-admitted a b =
     record { words = (refl, (lt-trans below (lit< tt), tt)); element = lt-ltb _ _ below }
 
 -- a correction is such
-correction-admitted : (k : ℕ) → (k ≡ 1) ⊎ (k ≡ 2) → (low high : ℕ) → Word low → Word high → (s : List (List ℕ)) → IsState s
+correction-admitted : (k : ℕ) → (k ≡ 1) ⊎ (k ≡ 2) → (low high : ℕ) → SixtyFourBits low → SixtyFourBits high → (s : List (List ℕ)) → IsState s
     → (y : NoiseValue (kindOf k .field))
     → ElementAdmitted k (kindOf k .field .elements .words (correction (kindOf k .field .scaled) (kindOf k .field .elements .read (elementOf k low high) 0) (kindOf k .leaf s) y))
 unfolding correction Each
@@ -145,18 +148,6 @@ correction-admitted (suc (suc zero)) h low high a b s is y =
 correction-admitted (suc (suc (suc k))) h low high a b s is y = absurd (⊎-elim (λ e. omega arith) (λ e. omega arith) h)
 
 -- ---- parts
-
--- trees of admitted positions and fields, by index
-trees-admitted : (k d base n : ℕ) (f : ℕ → NoiseTree) → ((i : ℕ) → i < n → (b : ℕ) → b ≤ f i .position → AdmittedTree k d b (f i))
-    → ((i : ℕ) → suc i < n → f i .position < f (suc i) .position) → (0 < n → base ≤ f 0 .position) → AdmittedTrees k d base (listed n f)
-unfolding AdmittedTrees
-trees-admitted k d base zero f each rises least = rw listed-none tt
-trees-admitted k d base (suc n) f each rises least =
-    rw listed-front (
-      each 0 (omega arith) base (least (omega arith)),
-      trees-admitted k d (f 0 .position + 1) n (λ i. f (suc i)) (λ i b. each (suc i) (omega arith)) (λ i b. rises (suc i) (omega arith))
-          (λ b. let r = rises 0 (omega arith) in omega arith),
-    )
 
 module _ (I : Input) (A : Admitted I) (M : InMemory I) where
   head-admitted : AdmittedHead (head I)
@@ -174,25 +165,32 @@ module _ (I : Input) (A : Admitted I) (M : InMemory I) where
   root-state : (i : ℕ) → IsState (root I i)
   root-state i = columns-state (I .roots) (16 * i) (M .roots)
 
-  tree-admitted : (i : ℕ) → i < I .trees → (base : ℕ) → base ≤ position I i → AdmittedTree (I .field) (I .depth) base (noiseTree I i)
+  tree-admitted : (i : ℕ) → i < I .trees → AdmittedTree (I .field) (I .depth) (noiseTree I i)
   unfolding noiseTree
-  tree-admitted i h base b =
+  tree-admitted i h =
       let c =
       correction-admitted (I .field) (A .field) _ _ (word-below (I .delta) 0 (M .delta)) (word-below (I .delta) 8 (M .delta))
       (leafAt 2 child (I .depth) (root I i) (position I i)) (leaf-state (I .depth) (root I i) (position I i) (root-state i)) (value I i)
       in
       let beside = siblings 2 child (I .depth) (root I i) (position I i) in
       record {
-        rising = b;
         below = lt-ltb _ _ (A .below i h);
         value = noise-is (I .field) _ (A .field) (A .noise i h);
         words = c .words;
         correction = c .element;
         siblings = (
-          length-map blockBytes beside ∙ tree.length-siblings-two child (I .depth) (root I i) (position I i),
+          length-map columnsBytes beside ∙ tree.length-siblings-two child (I .depth) (root I i) (position I i),
           states-blocks beside (siblings-states (I .depth) (root I i) (position I i) (root-state i)),
         );
       }
+
+  listed-position : (i : ℕ) → i < I .trees → treeIn (listed (I .trees) (noiseTree I)) i .position ≡ position I i
+  unfolding noiseTree
+  listed-position i h = ap (λ (t : NoiseTree). t .position) (listed-at (I .trees) (noiseTree I) _ i h)
+
+  listed-rises : Rises (I .trees) (λ i. treeIn (listed (I .trees) (noiseTree I)) i .position)
+  listed-rises i h =
+      rw (listed-position i (omega arith), listed-position (suc i) h) (rises (I .trees) (position I) (A .rising) i h)
 
   -- the noise end's part
   pub noise-admitted : AdmittedNoise (noisePart I)
@@ -201,7 +199,8 @@ module _ (I : Input) (A : Admitted I) (M : InMemory I) where
       record {
         head = head-admitted;
         count = length-listed (I .trees) (noiseTree I);
-        trees = trees-admitted (I .field) (I .depth) 0 (I .trees) (noiseTree I) tree-admitted (A .rising) (λ b. omega arith);
+        rising = rising-is (I .trees) _ listed-rises;
+        trees = each-listed (AdmittedTree (I .field) (I .depth)) (I .trees) (noiseTree I) tree-admitted;
       }
 
   -- the scalar end's part
@@ -213,7 +212,7 @@ module _ (I : Input) (A : Admitted I) (M : InMemory I) where
         words = element-words (I .field) _ _ (A .field) (word-below (I .delta) 0 (M .delta)) (word-below (I .delta) 8 (M .delta));
         delta = and-left _ _ (delta-is I (A .field) (A .scalar));
         roots = (
-          length-listed (I .trees) (λ i. blockBytes (root I i)),
-          each-listed Block (I .trees) (λ i. blockBytes (root I i)) (λ i b. state-block (root I i) (root-state i)),
+          length-listed (I .trees) (λ i. columnsBytes (root I i)),
+          each-listed SixteenBytes (I .trees) (λ i. columnsBytes (root I i)) (λ i b. state-block (root I i) (root-state i)),
         );
       }

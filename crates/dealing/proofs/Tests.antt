@@ -10,11 +10,15 @@ use borrow.Author.Tests.{leb-true, eqb-true, lt-ltb, le-ltb, le-leb, lt-leb, eq-
 use lib.Dec.{leb, ltb, eqb}
 use lib.ListN.{length, getD, drop, drop-of-length-le}
 use lib.Seq.{drop-cons}
+use Rattle.record.specs.Content.{elementOf}
+use Rattle.record.proofs.Elements.{is-element-2}
+use Rattle.dealing.specs.Inner.Positions.{risingFrom}
+use Rattle.dealing.proofs.Positions.{positions-agree}
 use Rattle.algebra.proofs.Tests.{and-left, and-right}
 use Rattle.field.specs.Bytes.{wordAt}
 use Rattle.field.specs.Prime.{modulus}
 use Rattle.record.specs.Admitted.{isField, isSize, mostTrees, mostOutputs, isNoise}
-use Rattle.dealing.specs.Input.{Input, sizesAdmitted, lengthsAdmitted, risingFrom, everyNoise, deltaAdmitted, fault}
+use Rattle.dealing.specs.Input.{Input, sizesAdmitted, lengthsAdmitted, positionsAdmitted, everyNoise, deltaAdmitted, fault}
 
 -- ---- numbers
 
@@ -156,15 +160,15 @@ module _ (f : ℕ) (d : List ℕ) {low high : ℕ} (l : low ≡ wordAt d 0) (h :
 
   pub delta-large : (f ≡ 1 → ⊥) → modulus ≤ low → false ≡ deltaAdmitted f d
   unfolding deltaAdmitted
-  delta-large e b = rw (← l, ← h, ne-eqb f 1 e, le-ltb low modulus b)
+  delta-large e b = rw (← l, ← h, is-element-2 f e (elementOf f low high), ne-eqb f 1 e, le-ltb low modulus b)
 
   pub delta-zero : (f ≡ 1 → ⊥) → low < modulus → low ≡ 0 → false ≡ deltaAdmitted f d
   unfolding deltaAdmitted
-  delta-zero e b z = rw (← l, ← h, ne-eqb f 1 e, lt-ltb low modulus b, eq-eqb low 0 z)
+  delta-zero e b z = rw (← l, ← h, is-element-2 f e (elementOf f low high), ne-eqb f 1 e, lt-ltb low modulus b, eq-eqb low 0 z)
 
   pub delta-last : (f ≡ 1 → ⊥) → low < modulus → (low ≡ 0 → ⊥) → eqb high 0 ≡ deltaAdmitted f d
   unfolding deltaAdmitted
-  delta-last e b n = rw (← l, ← h, ne-eqb f 1 e, lt-ltb low modulus b, ne-eqb low 0 n)
+  delta-last e b n = rw (← l, ← h, is-element-2 f e (elementOf f low high), ne-eqb f 1 e, lt-ltb low modulus b, ne-eqb low 0 n)
 
 -- ---- the first fault
 
@@ -187,6 +191,14 @@ pub passed-delta : (t : ℕ) (a b x y z : List ℕ) {r : Bool}
 unfolding lengthsAdmitted
 passed-delta t a b x y z is p = eqb-true _ _ (and-right (eqb (length a) (16 * t) && eqb (length b) t && eqb (length x) t) (eqb (length y) 16) (and-left _ (eqb (length z) 16) (sym is ∙ p)))
 
+passed-positions : (t : ℕ) (a b x y z : List ℕ) {r : Bool}
+    → r ≡ lengthsAdmitted t a b x y z → r ≡ true → length b ≡ t
+unfolding lengthsAdmitted
+passed-positions t a b x y z is p =
+    eqb-true _ _
+    (and-right (eqb (length a) (16 * t)) (eqb (length b) t)
+    (and-left _ (eqb (length x) t) (and-left _ (eqb (length y) 16) (and-left _ (eqb (length z) 16) (sym is ∙ p)))))
+
 module _ (I : Input) where
   pub fault-field : {a : Bool} → a ≡ isField (I .field) → a ≡ false → 1 ≡ fault I
   unfolding fault
@@ -205,20 +217,26 @@ module _ (I : Input) where
       fault-lengths e = rw (← first, p, ← second, q, ← third, e)
 
       module _ {y : Bool} {all : ℕ} (r : x ≡ true) (power : all ≡ 2 ^ I .depth) (fourth : y ≡ risingFrom all 0 (I .positions)) where
+        agreed : y ≡ positionsAdmitted (2 ^ I .depth) (I .trees) (I .positions)
+        agreed =
+            fourth ∙ ap (λ (n : ℕ). risingFrom n 0 (I .positions)) power ∙ positions-agree (2 ^ I .depth) (I .positions)
+            ∙ ap (λ (n : ℕ). positionsAdmitted (2 ^ I .depth) n (I .positions))
+            (passed-positions (I .trees) (I .roots) (I .positions) (I .values) (I .delta) (I .codeKey) third r)
+
         pub fault-positions : y ≡ false → 4 ≡ fault I
         unfolding fault
-        fault-positions e = rw (← first, p, ← second, q, ← third, r, ← power, ← fourth, e)
+        fault-positions e = rw (← first, p, ← second, q, ← third, r, ← agreed, e)
 
         module _ {z : Bool} (s : y ≡ true) (fifth : z ≡ everyNoise (I .field) (I .values)) where
           pub fault-values : z ≡ false → 5 ≡ fault I
           unfolding fault
-          fault-values e = rw (← first, p, ← second, q, ← third, r, ← power, ← fourth, s, ← fifth, e)
+          fault-values e = rw (← first, p, ← second, q, ← third, r, ← agreed, s, ← fifth, e)
 
           module _ {w : Bool} (t : z ≡ true) (sixth : w ≡ deltaAdmitted (I .field) (I .delta)) where
             pub fault-delta : w ≡ false → 6 ≡ fault I
             unfolding fault
-            fault-delta e = rw (← first, p, ← second, q, ← third, r, ← power, ← fourth, s, ← fifth, t, ← sixth, e)
+            fault-delta e = rw (← first, p, ← second, q, ← third, r, ← agreed, s, ← fifth, t, ← sixth, e)
 
             pub fault-nothing : w ≡ true → 0 ≡ fault I
             unfolding fault
-            fault-nothing e = rw (← first, p, ← second, q, ← third, r, ← power, ← fourth, s, ← fifth, t, ← sixth, e)
+            fault-nothing e = rw (← first, p, ← second, q, ← third, r, ← agreed, s, ← fifth, t, ← sixth, e)

@@ -10,16 +10,18 @@ use mir.Val.{Fits}
 use lib.ListN.{length, getD, length-append}
 use lib.Pow.{pow-mono}
 use lib.Seq.{sets, length-sets}
+use Rattle.algebra.proofs.Rising.{rises}
 use Rattle.number.proofs.Places.{sets-append}
 use Rattle.record.proofs.Writes.{length-head}
-use Rattle.record.specs.Content.{headWith}
-use Rattle.record.specs.Writing.{Writable, writeHead, writeTree, writeNoise, headLength}
+use Rattle.record.specs.Inner.Heads.{headWith}
+use Rattle.record.specs.Writing.{writeHead, writeTree, writeNoise}
+use Rattle.record.specs.Inner.Lengths.{Writable, headLength}
 use Rattle.dealing.specs.Admitted.{Admitted}
 use Rattle.dealing.specs.Deal.{front}
-use Rattle.dealing.specs.Input.{Input}
+use Rattle.dealing.specs.Input.{Input, position}
 use Rattle.dealing.specs.Parts.{noiseTree, noisePart}
-use Rattle.dealing.specs.Steps.{treeInput, treeLength, Placed, Ready}
-use Rattle.dealing.specs.Vectors.{head, position}
+use Rattle.dealing.specs.Inner.Steps.{treeInput, treeLength, Placed, AdmittedWithRoom}
+use Rattle.dealing.specs.Vectors.{head}
 use Rattle.dealing.proofs.Written.{sets-front, first, baseAt, first-none, first-more, base-none, base-next, first-length, tree-length}
 
 -- the head and the first i trees
@@ -41,7 +43,7 @@ tree-position : (I : Input) (i : ℕ) → noiseTree I i .position ≡ position I
 unfolding noiseTree
 tree-position I i = refl
 
-module _ {I : Input} {out₀ : List ℕ} (R : Ready I out₀) where
+module _ {I : Input} {out₀ : List ℕ} (R : AdmittedWithRoom I out₀) where
   A : Admitted I
   A = R .admitted
 
@@ -108,7 +110,7 @@ module _ {I : Input} {out₀ : List ℕ} (R : Ready I out₀) where
       let b : baseAt (I .field) (noiseTree I) (suc i) ≡ position I i + 1 =
       ap (baseAt (I .field) (noiseTree I)) {x = suc i} {y = i + 1} (omega arith) ∙ base-next (I .field) (noiseTree I) i ∙ ap (λ n. n + 1) (tree-position I i)
       in
-      omega (arith, b, A .rising i h)
+      omega (arith, b, rises (I .trees) (position I) (A .rising) i h)
 
   module _ {b : List ℕ} (headed : b ≡ sets out₀ 0 (writeHead 1 (headWith (I .field) (I .depth) (I .trees) (I .terms) (I .outputs) (I .codeKey)))) where
     pub turn-long : {out : List ℕ} {at base i : ℕ} → Turn I b out at base i → length out ≡ length out₀

@@ -1,6 +1,6 @@
 -- What writing a dealing's records stores: trees one after another, corrections in either field, blocks as bytes. Assumes nothing.
 use mathlib.Core.Path.{_≡_, refl, sym, ap, ap₂, _∙_}
-use mathlib.Core.Bool.{Bool, true, false}
+use mathlib.Core.Bool.{Bool, true, false, true≢false}
 use mathlib.Core.List.{List, [], _∷_, _++_, map, append-assoc, append-nil}
 use Prim.Native.Nat.{ℕ, zero, suc, _+_, _-_, _*_, _^_, _≤_, _<_}
 use native.Mathlib.Nat.{add-zero, zero-add, le-of-eq, mul-comm}
@@ -14,30 +14,32 @@ use lib.Seq.{sets, sets-eq, set-comm, length-sets}
 use Rattle.algebra.specs.Expansion.{correction}
 use Rattle.algebra.specs.Group.{itself}
 use Rattle.algebra.specs.Field.{Value}
+use Rattle.field.proofs.BothKinds.{kindLaws}
 use Rattle.field.proofs.ByteWords.{length-leBytes}
 use Rattle.field.specs.Binary.{block, blocks, blockSub, blockScale, blockLeaf}
 use Rattle.field.specs.Bytes.{wordAt, leBytes}
-use Rattle.field.specs.Kind.{kindOf}
+use Rattle.field.specs.Kind.{binaryKind, primeKind, kindOf, elementWords}
 use Rattle.field.specs.Prime.{prime, primeSub, primeMul, primeRing, primeLeaf}
 use Rattle.field.specs.declared.block.Block.{Block}
 use Rattle.field.specs.declared.prime.Prime.{Prime}
 use Rattle.number.proofs.Laws.{length-number}
 use Rattle.number.specs.Number.{writeNumber}
 use Rattle.number.specs.Reading.{choose}
-use Rattle.record.specs.Content.{NoiseTree, elementWords, elementOf}
-use Rattle.record.specs.Writing.{flat, writeWords, writeBlocks, writeValue, writeFront, writeTree, writeTrees, frontLength}
+use Rattle.record.specs.Content.{NoiseTree, elementOf}
+use Rattle.record.specs.Writing.{writeEach, writeWords, writeBlocks, writeValue, writeFront, writeTree, writeTrees}
+use Rattle.record.specs.Inner.Lengths.{frontLength}
 use Rattle.tree.proofs.Blocks.{length-blocks}
 use Rattle.tree.proofs.ChildLaws.{key-schedules}
 use Rattle.tree.proofs.Laws.{two, length-siblings-two}
 use Rattle.tree.proofs.Listed.{listed-none, listed-last}
 use Rattle.tree.specs.Child.{child, keysFor, childBy}
-use Rattle.tree.specs.Columns.{blockBytes, blocksBytes}
+use Rattle.tree.specs.Columns.{columnsBytes, blocksBytes}
 use Rattle.tree.specs.Expanded.{walk, walked}
 use Rattle.tree.specs.Tree.{listed, siblings, leafAt}
-use Rattle.dealing.specs.Input.{Input}
+use Rattle.dealing.specs.Input.{Input, position}
 use Rattle.dealing.specs.Parts.{noiseTree}
-use Rattle.dealing.specs.Steps.{Lent, treeInput, treeLength, Placed}
-use Rattle.dealing.specs.Vectors.{field, position, root, treeCorrection}
+use Rattle.dealing.specs.Inner.Steps.{TablesAndKeys, treeInput, treeLength, Placed}
+use Rattle.dealing.specs.Vectors.{field, root, treeCorrection}
 
 -- ---- stores
 
@@ -121,26 +123,31 @@ pub correction-2 : (k low high : ℕ) (s : List (List ℕ)) (values : List ℕ) 
     → elementOf k (correction (itself primeRing) (prime low) (primeLeaf s) (prime (getD values i 0)) .word) 0
     ≡ kindOf k .field .elements .words
     (correction (kindOf k .field .scaled) (kindOf k .field .elements .read (elementOf k low high) 0) (kindOf k .leaf s) (kindOf k .field .noiseValues .read values i))
-correction-2 zero low high s values i e = refl
-correction-2 (suc zero) low high s values i e = absurd (e refl)
-correction-2 (suc (suc k)) low high s values i e = rw (ne-eqb (suc (suc k)) 1 (λ b. omega arith))
+correction-2 k low high s values i e = of (eqb k 1) (ne-eqb k 1 e)
+  where
+    of : (b : Bool) → b ≡ false
+        → choose b (correction (itself primeRing) (prime low) (primeLeaf s) (prime (getD values i 0)) .word ∷ 0 ∷ []) (correction (itself primeRing) (prime low) (primeLeaf s) (prime (getD values i 0)) .word ∷ [])
+        ≡ choose b binaryKind primeKind .field .elements .words
+        (correction (choose b binaryKind primeKind .field .scaled)
+        (choose b binaryKind primeKind .field .elements .read (choose b (low ∷ high ∷ []) (low ∷ [])) 0)
+        (choose b binaryKind primeKind .leaf s) (choose b binaryKind primeKind .field .noiseValues .read values i))
+    of true f = absurd (true≢false f)
+    of false f = refl
 
 -- ---- blocks
 
-pub blocks-bytes : (xs : List (List (List ℕ))) → blocksBytes xs ≡ writeBlocks (map blockBytes xs)
-unfolding blocksBytes flat
+pub blocks-bytes : (xs : List (List (List ℕ))) → blocksBytes xs ≡ writeBlocks (map columnsBytes xs)
+unfolding blocksBytes writeEach
 blocks-bytes [] = refl
-blocks-bytes (x ∷ xs) = ap (λ l. blockBytes x ++ l) (blocks-bytes xs)
+blocks-bytes (x ∷ xs) = ap (λ l. columnsBytes x ++ l) (blocks-bytes xs)
 
 -- ---- lengths
 
 length-words : (k : ℕ) (c : Value (kindOf k .field)) → length (kindOf k .field .elements .words c) ≡ elementWords k
-length-words zero c = refl
-length-words (suc zero) c = refl
-length-words (suc (suc k)) c = rw (ne-eqb (suc (suc k)) 1 (λ b. omega arith))
+length-words k c = kindLaws k .field .elements .length-words c
 
 length-bytes : (ws : List ℕ) → length (writeWords ws) ≡ 8 * length ws
-unfolding flat
+unfolding writeEach
 length-bytes [] = refl
 length-bytes (w ∷ ws) = length-append (leBytes 8 w) (writeWords ws) ∙ ap₂ (λ a b. a + b) (length-leBytes 8 w) (length-bytes ws) ∙ omega arith
 
@@ -180,7 +187,7 @@ module _ (I : Input) (i base : ℕ) where
 -- ---- a tree at its place
 
 module _ (k d : ℕ) (roots positions values delta : List ℕ) (i base at : ℕ) {out sbox mix : List ℕ} {left right : List (List (List ℕ))}
-    (L : Lent sbox mix left right) (P : Placed (treeInput k d roots positions values delta) i base at out)
+    (L : TablesAndKeys sbox mix left right) (P : Placed (treeInput k d roots positions values delta) i base at out)
     {p f : ℕ} (read : p ≡ getD positions i 0) (front : f ≡ frontLength k base p) where
   abbrev I : Input
   I = treeInput k d roots positions values delta

@@ -1,11 +1,12 @@
 -- Which input a dealing admits (document 01, 'Sizes', 'Dealing'), apart from the numbers of the call.
 use mathlib.Core.Path.{_≡_}
 use mathlib.Core.Logic.{_⊎_}
-use Prim.Native.Nat.{ℕ, suc, _-_, _*_, _/_, _^_, _≤_, _<_}
+use Prim.Native.Nat.{ℕ, _-_, _*_, _/_, _^_, _≤_, _<_}
 use lib.ListN.{length, getD}
+use Rattle.algebra.specs.Expansion.{Rising}
 use Rattle.field.specs.Bytes.{wordAt}
 use Rattle.field.specs.Prime.{modulus}
-use Rattle.dealing.specs.Input.{Input}
+use Rattle.dealing.specs.Input.{Input, position}
 
 -- what lies in lent memory: bytes below 256, positions of 32 bits, words of 64
 pub record InMemory (I : Input) : Type 0 where
@@ -37,7 +38,7 @@ pub record Admitted (I : Input) : Type 0 where
   pub values : length (I .values) ≡ I .trees
   pub delta : length (I .delta) ≡ 16
   pub codeKey : length (I .codeKey) ≡ 16
-  pub rising : (i : ℕ) → suc i < I .trees → getD (I .positions) i 0 < getD (I .positions) (suc i) 0
-  pub below : (i : ℕ) → i < I .trees → getD (I .positions) i 0 < 2 ^ I .depth
+  pub rising : Rising (I .trees) (position I)
+  pub below : (i : ℕ) → i < I .trees → position I i < 2 ^ I .depth
   pub noise : (i : ℕ) → i < I .trees → NoiseAdmitted (I .field) (getD (I .values) i 0)
   pub scalar : DeltaAdmitted I

@@ -5,6 +5,7 @@ use mathlib.Core.List.{List, _++_}
 use Prim.Native.Nat.{ℕ}
 use lib.Dec.{ltb, eqb}
 use lib.ListN.{length, drop}
+use Rattle.answer.specs.Numbers.{accepted, bufferShort}
 use Rattle.algebra.specs.Choice.{choose}
 use Rattle.answer.specs.declared.TwoLengths.{TwoLengths}
 use Rattle.record.specs.Writing.{writeNoise, writeScalar}
@@ -36,12 +37,12 @@ front bytes buffer = bytes ++ drop (length bytes) buffer
 -- both records, if each buffer has room; else 13
 abbrev pub writeBoth : Input → List ℕ → List ℕ → List ℕ → List ℕ → Dealt
 writeBoth I n s a b =
-    choose (ltb (length a) (length n) || ltb (length b) (length s)) (refusedDeal 13 I a b)
-    (record { number = 0; firstWritten = length n; secondWritten = length s; input = I; noiseRecord = front n a; scalarRecord = front s b })
+    choose (ltb (length a) (length n) || ltb (length b) (length s)) (refusedDeal bufferShort I a b)
+    (record { number = accepted; firstWritten = length n; secondWritten = length s; input = I; noiseRecord = front n a; scalarRecord = front s b })
 
 -- the dealing on its input and two buffers
 unfoldable pub deal : Input → List ℕ → List ℕ → Dealt
 deal I a b =
-    choose (eqb (fault I) 0)
+    choose (eqb (fault I) accepted)
     (writeBoth I (writeNoise (noisePart I)) (writeScalar (scalarPart I)) a b)
     (refusedDeal (fault I) I a b)

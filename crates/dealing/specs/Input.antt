@@ -1,10 +1,13 @@
 -- A dealing's input and its first fault (document 01, 'Sizes', 'Dealing', 'Numbers of the calls').
 use mathlib.Core.Bool.{Bool, true, _&&_, _||_, not}
 use mathlib.Core.List.{List, [], _∷_}
-use Prim.Native.Nat.{ℕ, _+_, _*_, _^_}
-use lib.Dec.{leb, ltb, eqb}
-use lib.ListN.{length}
+use Prim.Native.Nat.{ℕ, _*_, _^_}
+use lib.Dec.{ltb, eqb}
+use lib.ListN.{length, getD}
+use Rattle.answer.specs.Numbers.{accepted, badField, badSize, badLength, badPosition, badNoise, badDelta}
 use Rattle.algebra.specs.Choice.{choose}
+use Rattle.algebra.specs.Every.{every}
+use Rattle.algebra.specs.Expansion.{rising}
 use Rattle.field.specs.Bytes.{wordAt}
 use Rattle.record.specs.Admitted.{isField, isSize, mostTrees, mostOutputs, isNoise, isScalar}
 use Rattle.record.specs.Content.{elementOf}
@@ -52,10 +55,13 @@ lengthsAdmitted trees roots positions values delta codeKey =
     && eqb (length delta) 16
     && eqb (length codeKey) 16
 
--- positions are `base` or more, strictly rising and below N
-unfoldable pub risingFrom : ℕ → ℕ → List ℕ → Bool
-risingFrom N base [] = true
-risingFrom N base (s ∷ positions) = leb base s && ltb s N && risingFrom N (s + 1) positions
+-- the position of tree i
+abbrev pub position : Input → ℕ → ℕ
+position I i = getD (I .positions) i 0
+
+-- the positions of t trees are strictly rising and below N
+unfoldable pub positionsAdmitted : ℕ → ℕ → List ℕ → Bool
+positionsAdmitted N t positions = rising t (λ i. getD positions i 0) && every t (λ i. ltb (getD positions i 0) N)
 
 -- every noise value is admitted
 unfoldable pub everyNoise : ℕ → List ℕ → Bool
@@ -77,9 +83,9 @@ deltaAdmitted field delta = isScalar field (wordsOf field delta) && (eqb field 1
 -- the number of the first fault, in the order 1, 2, 3, 4, 5, 6; 0 where there is none
 unfoldable pub fault : Input → ℕ
 fault I =
-    choose (not (isField (I .field))) 1
-    (choose (not (sizesAdmitted (I .depth) (I .trees) (I .terms) (I .outputs))) 2
-    (choose (not (lengthsAdmitted (I .trees) (I .roots) (I .positions) (I .values) (I .delta) (I .codeKey))) 3
-    (choose (not (risingFrom (2 ^ I .depth) 0 (I .positions))) 4
-    (choose (not (everyNoise (I .field) (I .values))) 5
-    (choose (not (deltaAdmitted (I .field) (I .delta))) 6 0)))))
+    choose (not (isField (I .field))) badField
+    (choose (not (sizesAdmitted (I .depth) (I .trees) (I .terms) (I .outputs))) badSize
+    (choose (not (lengthsAdmitted (I .trees) (I .roots) (I .positions) (I .values) (I .delta) (I .codeKey))) badLength
+    (choose (not (positionsAdmitted (2 ^ I .depth) (I .trees) (I .positions))) badPosition
+    (choose (not (everyNoise (I .field) (I .values))) badNoise
+    (choose (not (deltaAdmitted (I .field) (I .delta))) badDelta accepted)))))

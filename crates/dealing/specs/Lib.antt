@@ -4,4 +4,4 @@ pub mod Admitted
 pub mod Vectors
 pub mod Parts
 pub mod Deal
-pub mod Steps
+pub mod Inner

@@ -4,10 +4,10 @@ use Prim.Native.Nat.{ℕ}
 use lib.ListN.{getD}
 use Rattle.record.specs.Content.{NoiseTree, NoisePart, ScalarPart}
 use Rattle.tree.specs.Child.{child}
-use Rattle.tree.specs.Columns.{blockBytes}
+use Rattle.tree.specs.Columns.{columnsBytes}
 use Rattle.tree.specs.Tree.{siblings, listed}
-use Rattle.dealing.specs.Input.{Input, deltaWords}
-use Rattle.dealing.specs.Vectors.{head, field, position, root, treeCorrection}
+use Rattle.dealing.specs.Input.{Input, deltaWords, position}
+use Rattle.dealing.specs.Vectors.{head, field, root, treeCorrection}
 
 -- tree i at the noise end: position, noise value, correction, and the siblings of the tree punctured at the position
 unfoldable pub noiseTree : Input → ℕ → NoiseTree
@@ -16,7 +16,7 @@ noiseTree I i =
       position = position I i;
       value = getD (I .values) i 0;
       correction = field I .elements .words (treeCorrection I i);
-      siblings = map blockBytes (siblings 2 child (I .depth) (root I i) (position I i));
+      siblings = map columnsBytes (siblings 2 child (I .depth) (root I i) (position I i));
     }
 
 -- the noise end's part
@@ -29,5 +29,5 @@ scalarPart I =
     record {
       head = head I;
       delta = deltaWords I;
-      roots = listed (I .trees) (λ i. blockBytes (root I i));
+      roots = listed (I .trees) (λ i. columnsBytes (root I i));
     }

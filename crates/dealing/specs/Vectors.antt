@@ -2,7 +2,6 @@
 -- calls at both ends'). Trees and outputs are numbered from 0.
 use mathlib.Core.List.{List}
 use Prim.Native.Nat.{ℕ, _*_}
-use lib.ListN.{getD}
 use Rattle.algebra.specs.Expansion.{noise, correction, punctured, whole}
 use Rattle.algebra.specs.Field.{Field, NoiseValue, Value}
 use Rattle.algebra.specs.Group.{itself}
@@ -13,7 +12,7 @@ use Rattle.tree.specs.Columns.{columnsAt}
 use Rattle.tree.specs.Tree.{leafAt}
 use Rattle.record.specs.Content.{Head}
 use Rattle.rows.specs.Head.{kind, fieldOf, places, row}
-use Rattle.dealing.specs.Input.{Input, deltaWords}
+use Rattle.dealing.specs.Input.{Input, position, deltaWords}
 
 -- the head of both records
 abbrev pub head : Input → Head
@@ -31,10 +30,7 @@ head I =
 abbrev pub field : Input → Field
 field I = fieldOf (head I)
 
--- tree i: its position, its noise value, its root block and the element of its leaf j
-abbrev pub position : Input → ℕ → ℕ
-position I i = getD (I .positions) i 0
-
+-- tree i: its noise value, its root block and the element of its leaf j
 abbrev pub value : (I : Input) → ℕ → NoiseValue (field I)
 value I i = field I .noiseValues .read (I .values) i
 

@@ -12,7 +12,7 @@ ghost use Rattle.record.specs.Writing.{writeTree, writeNoise};
 ghost use Rattle.dealing.specs.Deal.{front};
 ghost use Rattle.dealing.specs.Input.{inputWith};
 ghost use Rattle.dealing.specs.Parts.{noiseTree, noisePart};
-ghost use Rattle.dealing.specs.Steps.{Lent, treeInput, treeLength, Placed, Ready};
+ghost use Rattle.dealing.specs.Inner.Steps.{TablesAndKeys, treeInput, treeLength, Placed, AdmittedWithRoom};
 use crate::input::wide;
 use field::Block;
 use field::Prime;
@@ -74,7 +74,7 @@ fn write_tree(
     out: &mut [u8],
     at: usize,
 ) -> usize
-    requires { ⌜ Lent (now sbox) (now mix) (now left) (now right) ⌝ }
+    requires { ⌜ TablesAndKeys (now sbox) (now mix) (now left) (now right) ⌝ }
     requires { ⌜ Placed (treeInput field depth (now roots) (now positions) (now values) (now delta)) i base at (now out) ⌝ }
     ensures place { λ r. ⌜ r ≡ at + treeLength (treeInput field depth (now (roots .entry)) (now (positions .entry)) (now (values .entry)) (now (delta .entry))) i base ⌝ }
     ensures written { λ _. ⌜ now (out .exit) ≡ sets (now (out .entry)) at (writeTree field base (noiseTree (treeInput field depth (now (roots .entry)) (now (positions .entry)) (now (values .entry)) (now (delta .entry))) i)) ⌝ }
@@ -114,7 +114,7 @@ pub fn write_noise(
     code_key: &[u8],
     out: &mut [u8],
 )
-    requires { ⌜ Ready (inputWith field depth trees terms outputs (now roots) (now positions) (now values) (now delta) (now «code_key»)) (now out) ⌝ }
+    requires { ⌜ AdmittedWithRoom (inputWith field depth trees terms outputs (now roots) (now positions) (now values) (now delta) (now «code_key»)) (now out) ⌝ }
     ensures { λ _. ⌜ now (out .exit) ≡ front (writeNoise (noisePart (inputWith field depth trees terms outputs (now (roots .entry)) (now (positions .entry)) (now (values .entry)) (now (delta .entry)) (now («code_key» .entry))))) (now (out .entry)) ⌝ }
 {
     let sb = table();

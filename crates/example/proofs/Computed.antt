@@ -1,21 +1,30 @@
 -- The examples, by computation.
 use mathlib.Core.Path.{_≡_, refl}
-use mathlib.Core.List.{[], _∷_}
+use mathlib.Core.Bool.{Bool, true, _&&_}
+use mathlib.Core.List.{List, [], _∷_, map}
+use Prim.Native.Nat.{ℕ, zero, suc, _<_}
+use borrow.Author.Tests.{ltb-true}
+use lib.Dec.{ltb, lit<}
+use lib.ListN.{getD, replicate}
+use Rattle.algebra.proofs.Tests.{and-left, and-right}
+use Rattle.answer.specs.Numbers.{accepted, windowPastEnd}
+use Rattle.dealing.specs.Admitted.{InMemory}
+use Rattle.dealing.specs.Input.{Input}
 use Rattle.algebra.specs.Coding as coding
-use Rattle.algebra.specs.Expansion.{noise, correction, punctured, whole}
+use Rattle.algebra.specs.Expansion.{rising, noise, correction, punctured, whole}
 use Rattle.algebra.specs.Row.{output}
 use Rattle.algebra.specs.Sum.{sum, accumulate}
 use Rattle.field.specs.Binary.{blockScale}
 use Rattle.field.specs.Bytes.{leNumber, leBytes, wordAt, columnsOf, lowOf, highOf}
 use Rattle.field.specs.Prime.{primeAdd, primeSub, primeMul, primeReduce}
-use Rattle.sbox.specs.Byte.{xtime, multiples, product, squares, inverse, fromBits, affine, sBox}
+use Rattle.sbox.specs.Byte.{xtime, multiples, mulBytes, squares, inverse, fromBits, affine, sBox}
 use Rattle.aes128.specs.State.{xorWord, xorState}
-use Rattle.aes128.specs.Cipher.{subBytes, shiftRows, mixColumn, mixColumns, rounds, cipher, power, temp, words, keysOf, keyExpansion, aes}
+use Rattle.aes128.specs.Cipher.{subBytes, shiftRows, mixColumn, mixColumns, rounds, cipher, power, temp, scheduleWords, keysOf, keyExpansion, aes}
 use Rattle.tree.specs.Child.{child}
-use Rattle.tree.specs.Columns.{columnsAt, blockBytes}
+use Rattle.tree.specs.Columns.{columnsAt, columnsBytes}
 use Rattle.tree.specs.Tree.{path, reach, leafAt, listed, others, beside, siblings, follow, fromSiblings}
 use Rattle.code.specs.Row.{termBlock, placeOf, termPlace, rowOf}
-use Rattle.code.specs.Used.{every}
+use Rattle.algebra.specs.Every.{every}
 use Rattle.number.specs.Number.{writeNumber, lastGroup, readNumber}
 use Rattle.number.specs.Reading.{tested, readByte, readBytes}
 use Rattle.record.specs.Writing as writing
@@ -23,7 +32,7 @@ use Rattle.record.specs.Writing.{writeHead, writeFront, writeTree, writeTrees, 
 use Rattle.record.specs.Reading.{items, readItems, readSize, readPosition, readValue, readCorrection, readDelta, readField, readSizes, readHead, readTree, readTrees, readNoise, readScalar}
 use Rattle.rows.specs.Usable.{windowUsable}
 use Rattle.dealing.specs.Deal.{deal}
-use Rattle.dealing.specs.Input.{sizesAdmitted, lengthsAdmitted, risingFrom, everyNoise, deltaAdmitted, fault}
+use Rattle.dealing.specs.Input.{sizesAdmitted, lengthsAdmitted, positionsAdmitted, everyNoise, deltaAdmitted, fault}
 use Rattle.dealing.specs.Parts.{noiseTree}
 use Rattle.noise_end.specs.Offline as noiseOffline
 use Rattle.noise_end.specs.Online as noiseOnline
@@ -31,23 +40,96 @@ use Rattle.noise_end.specs.Vectors as noiseVectors
 use Rattle.scalar_end.specs.Offline as scalarOffline
 use Rattle.scalar_end.specs.Online as scalarOnline
 use Rattle.scalar_end.specs.Vectors as scalarVectors
-use Rattle.example.specs.Example.{noiseGiven, scalarGiven, binaryInput, primeInput, Example}
+use Rattle.expander.specs.Correlation.{Setting, noiseStart, noiseRun, scalarStart, scalarRun}
+use Rattle.example.specs.Example.{binaryInput, primeInput, noiseCalls, scalarCalls, noiseShown, scalarShown, Example}
 
-noise-binary : noiseGiven 2 binaryInput ≡ 0 ∷ 1 ∷ 205336936553831 ∷ 9285005468926516466 ∷ []
-unfolding coding.flat coding.over noise correction punctured whole output sum accumulate blockScale leNumber leBytes wordAt columnsOf lowOf highOf primeAdd primeSub primeMul primeReduce xtime multiples product squares inverse fromBits affine sBox xorWord xorState subBytes shiftRows mixColumn mixColumns rounds cipher power temp words keysOf keyExpansion aes child columnsAt blockBytes path reach leafAt listed others beside siblings follow fromSiblings termBlock placeOf termPlace rowOf every writeNumber lastGroup readNumber tested readByte readBytes writing.flat writeHead writeFront writeTree writeTrees writeNoise writeScalar items readItems readSize readPosition readValue readCorrection readDelta readField readSizes readHead readTree readTrees readNoise readScalar windowUsable deal sizesAdmitted lengthsAdmitted risingFrom everyNoise deltaAdmitted fault noiseTree noiseOffline.offline noiseOffline.expand noiseOnline.usable noiseOnline.filled noiseOnline.rowsOutcome noiseOnline.window noiseOnline.online noiseVectors.mu noiseVectors.v0 scalarOffline.offline scalarOffline.expand scalarOnline.usable scalarOnline.filled scalarOnline.rowsOutcome scalarOnline.window scalarOnline.online scalarVectors.w0
-noise-binary = refl
+-- every number of a list is below a bound
+within : ℕ → List ℕ → Bool
+within n [] = true
+within n (x ∷ l) = ltb x n && within n l
 
-scalar-binary : scalarGiven 2 binaryInput ≡ 0 ∷ 205336936553828 ∷ 9645293439116156146 ∷ []
-unfolding coding.flat coding.over noise correction punctured whole output sum accumulate blockScale leNumber leBytes wordAt columnsOf lowOf highOf primeAdd primeSub primeMul primeReduce xtime multiples product squares inverse fromBits affine sBox xorWord xorState subBytes shiftRows mixColumn mixColumns rounds cipher power temp words keysOf keyExpansion aes child columnsAt blockBytes path reach leafAt listed others beside siblings follow fromSiblings termBlock placeOf termPlace rowOf every writeNumber lastGroup readNumber tested readByte readBytes writing.flat writeHead writeFront writeTree writeTrees writeNoise writeScalar items readItems readSize readPosition readValue readCorrection readDelta readField readSizes readHead readTree readTrees readNoise readScalar windowUsable deal sizesAdmitted lengthsAdmitted risingFrom everyNoise deltaAdmitted fault noiseTree noiseOffline.offline noiseOffline.expand noiseOnline.usable noiseOnline.filled noiseOnline.rowsOutcome noiseOnline.window noiseOnline.online noiseVectors.mu noiseVectors.v0 scalarOffline.offline scalarOffline.expand scalarOnline.usable scalarOnline.filled scalarOnline.rowsOutcome scalarOnline.window scalarOnline.online scalarVectors.w0
-scalar-binary = refl
+bounded : (n : ℕ) (l : List ℕ) → 0 < n → within n l ≡ true → (i : ℕ) → getD l i 0 < n
+unfolding within
+bounded n [] p e i = p
+bounded n (x ∷ l) p e zero = ltb-true x n (and-left (ltb x n) (within n l) e)
+bounded n (x ∷ l) p e (suc i) = bounded n l p (and-right (ltb x n) (within n l) e) i
 
-noise-prime : noiseGiven 1 primeInput ≡ 0 ∷ 493152902708428463 ∷ 1094412974102167835 ∷ []
-unfolding coding.flat coding.over noise correction punctured whole output sum accumulate blockScale leNumber leBytes wordAt columnsOf lowOf highOf primeAdd primeSub primeMul primeReduce xtime multiples product squares inverse fromBits affine sBox xorWord xorState subBytes shiftRows mixColumn mixColumns rounds cipher power temp words keysOf keyExpansion aes child columnsAt blockBytes path reach leafAt listed others beside siblings follow fromSiblings termBlock placeOf termPlace rowOf every writeNumber lastGroup readNumber tested readByte readBytes writing.flat writeHead writeFront writeTree writeTrees writeNoise writeScalar items readItems readSize readPosition readValue readCorrection readDelta readField readSizes readHead readTree readTrees readNoise readScalar windowUsable deal sizesAdmitted lengthsAdmitted risingFrom everyNoise deltaAdmitted fault noiseTree noiseOffline.offline noiseOffline.expand noiseOnline.usable noiseOnline.filled noiseOnline.rowsOutcome noiseOnline.window noiseOnline.online noiseVectors.mu noiseVectors.v0 scalarOffline.offline scalarOffline.expand scalarOnline.usable scalarOnline.filled scalarOnline.rowsOutcome scalarOnline.window scalarOnline.online scalarVectors.w0
-noise-prime = refl
+binary-memory : InMemory binaryInput
+unfolding within
+binary-memory =
+    record {
+      roots = bounded 256 (binaryInput .roots) (lit< tt) refl;
+      positions = bounded 4294967296 (binaryInput .positions) (lit< tt) refl;
+      values = bounded 18446744073709551616 (binaryInput .values) (lit< tt) refl;
+      delta = bounded 256 (binaryInput .delta) (lit< tt) refl;
+      codeKey = bounded 256 (binaryInput .codeKey) (lit< tt) refl;
+    }
 
-scalar-prime : scalarGiven 1 primeInput ≡ 0 ∷ 268028673013759273 ∷ []
-unfolding coding.flat coding.over noise correction punctured whole output sum accumulate blockScale leNumber leBytes wordAt columnsOf lowOf highOf primeAdd primeSub primeMul primeReduce xtime multiples product squares inverse fromBits affine sBox xorWord xorState subBytes shiftRows mixColumn mixColumns rounds cipher power temp words keysOf keyExpansion aes child columnsAt blockBytes path reach leafAt listed others beside siblings follow fromSiblings termBlock placeOf termPlace rowOf every writeNumber lastGroup readNumber tested readByte readBytes writing.flat writeHead writeFront writeTree writeTrees writeNoise writeScalar items readItems readSize readPosition readValue readCorrection readDelta readField readSizes readHead readTree readTrees readNoise readScalar windowUsable deal sizesAdmitted lengthsAdmitted risingFrom everyNoise deltaAdmitted fault noiseTree noiseOffline.offline noiseOffline.expand noiseOnline.usable noiseOnline.filled noiseOnline.rowsOutcome noiseOnline.window noiseOnline.online noiseVectors.mu noiseVectors.v0 scalarOffline.offline scalarOffline.expand scalarOnline.usable scalarOnline.filled scalarOnline.rowsOutcome scalarOnline.window scalarOnline.online scalarVectors.w0
-scalar-prime = refl
+prime-memory : InMemory primeInput
+unfolding within
+prime-memory =
+    record {
+      roots = bounded 256 (primeInput .roots) (lit< tt) refl;
+      positions = bounded 4294967296 (primeInput .positions) (lit< tt) refl;
+      values = bounded 18446744073709551616 (primeInput .values) (lit< tt) refl;
+      delta = bounded 256 (primeInput .delta) (lit< tt) refl;
+      codeKey = bounded 256 (primeInput .codeKey) (lit< tt) refl;
+    }
+
+binary-setting : Setting
+unfolding coding.flat coding.over noise correction punctured whole output sum accumulate blockScale leNumber leBytes wordAt columnsOf lowOf highOf primeAdd primeSub primeMul primeReduce xtime multiples mulBytes squares inverse fromBits affine sBox xorWord xorState subBytes shiftRows mixColumn mixColumns rounds cipher power temp scheduleWords keysOf keyExpansion aes child columnsAt columnsBytes path reach leafAt listed others beside siblings follow fromSiblings termBlock placeOf termPlace rowOf every writeNumber lastGroup readNumber tested readByte readBytes writing.writeEach writeHead writeFront writeTree writeTrees writeNoise writeScalar items readItems readSize readPosition readValue readCorrection readDelta readField readSizes readHead readTree readTrees readNoise readScalar windowUsable deal sizesAdmitted lengthsAdmitted positionsAdmitted rising everyNoise deltaAdmitted fault noiseTree noiseOffline.offline noiseOffline.expand noiseOnline.usable noiseOnline.filled noiseOnline.rowsOutcome noiseOnline.window noiseOnline.online noiseVectors.mu noiseVectors.v0 scalarOffline.offline scalarOffline.expand scalarOnline.usable scalarOnline.filled scalarOnline.rowsOutcome scalarOnline.window scalarOnline.online scalarVectors.w0 noiseRun scalarRun
+binary-setting =
+    record {
+      input = binaryInput;
+      inMemory = binary-memory;
+      noiseRecord = replicate 64 0;
+      scalarRecord = replicate 64 0;
+      dealt = refl;
+      noiseBuffer = replicate 2 0;
+      vBuffer = replicate 4 0;
+      noiseAccepted = refl;
+      wBuffer = replicate 4 0;
+      deltaBuffer = replicate 2 0;
+      scalarAccepted = refl;
+    }
+
+prime-setting : Setting
+unfolding coding.flat coding.over noise correction punctured whole output sum accumulate blockScale leNumber leBytes wordAt columnsOf lowOf highOf primeAdd primeSub primeMul primeReduce xtime multiples mulBytes squares inverse fromBits affine sBox xorWord xorState subBytes shiftRows mixColumn mixColumns rounds cipher power temp scheduleWords keysOf keyExpansion aes child columnsAt columnsBytes path reach leafAt listed others beside siblings follow fromSiblings termBlock placeOf termPlace rowOf every writeNumber lastGroup readNumber tested readByte readBytes writing.writeEach writeHead writeFront writeTree writeTrees writeNoise writeScalar items readItems readSize readPosition readValue readCorrection readDelta readField readSizes readHead readTree readTrees readNoise readScalar windowUsable deal sizesAdmitted lengthsAdmitted positionsAdmitted rising everyNoise deltaAdmitted fault noiseTree noiseOffline.offline noiseOffline.expand noiseOnline.usable noiseOnline.filled noiseOnline.rowsOutcome noiseOnline.window noiseOnline.online noiseVectors.mu noiseVectors.v0 scalarOffline.offline scalarOffline.expand scalarOnline.usable scalarOnline.filled scalarOnline.rowsOutcome scalarOnline.window scalarOnline.online scalarVectors.w0 noiseRun scalarRun
+prime-setting =
+    record {
+      input = primeInput;
+      inMemory = prime-memory;
+      noiseRecord = replicate 64 0;
+      scalarRecord = replicate 64 0;
+      dealt = refl;
+      noiseBuffer = replicate 2 0;
+      vBuffer = replicate 2 0;
+      noiseAccepted = refl;
+      wBuffer = replicate 2 0;
+      deltaBuffer = replicate 2 0;
+      scalarAccepted = refl;
+    }
+
+binary-noise : map noiseShown (noiseRun (noiseStart binary-setting) (noiseCalls 2)) ≡ (windowPastEnd ∷ 0 ∷ 0 ∷ 0 ∷ []) ∷ (accepted ∷ 1 ∷ 205336936553831 ∷ 9285005468926516466 ∷ []) ∷ []
+unfolding binary-setting coding.flat coding.over noise correction punctured whole output sum accumulate blockScale leNumber leBytes wordAt columnsOf lowOf highOf primeAdd primeSub primeMul primeReduce xtime multiples mulBytes squares inverse fromBits affine sBox xorWord xorState subBytes shiftRows mixColumn mixColumns rounds cipher power temp scheduleWords keysOf keyExpansion aes child columnsAt columnsBytes path reach leafAt listed others beside siblings follow fromSiblings termBlock placeOf termPlace rowOf every writeNumber lastGroup readNumber tested readByte readBytes writing.writeEach writeHead writeFront writeTree writeTrees writeNoise writeScalar items readItems readSize readPosition readValue readCorrection readDelta readField readSizes readHead readTree readTrees readNoise readScalar windowUsable deal sizesAdmitted lengthsAdmitted positionsAdmitted rising everyNoise deltaAdmitted fault noiseTree noiseOffline.offline noiseOffline.expand noiseOnline.usable noiseOnline.filled noiseOnline.rowsOutcome noiseOnline.window noiseOnline.online noiseVectors.mu noiseVectors.v0 scalarOffline.offline scalarOffline.expand scalarOnline.usable scalarOnline.filled scalarOnline.rowsOutcome scalarOnline.window scalarOnline.online scalarVectors.w0 noiseRun scalarRun
+binary-noise = refl
+
+binary-scalar : map scalarShown (scalarRun (scalarStart binary-setting) (scalarCalls 2)) ≡ (windowPastEnd ∷ 0 ∷ 0 ∷ []) ∷ (accepted ∷ 205336936553828 ∷ 9645293439116156146 ∷ []) ∷ []
+unfolding binary-setting coding.flat coding.over noise correction punctured whole output sum accumulate blockScale leNumber leBytes wordAt columnsOf lowOf highOf primeAdd primeSub primeMul primeReduce xtime multiples mulBytes squares inverse fromBits affine sBox xorWord xorState subBytes shiftRows mixColumn mixColumns rounds cipher power temp scheduleWords keysOf keyExpansion aes child columnsAt columnsBytes path reach leafAt listed others beside siblings follow fromSiblings termBlock placeOf termPlace rowOf every writeNumber lastGroup readNumber tested readByte readBytes writing.writeEach writeHead writeFront writeTree writeTrees writeNoise writeScalar items readItems readSize readPosition readValue readCorrection readDelta readField readSizes readHead readTree readTrees readNoise readScalar windowUsable deal sizesAdmitted lengthsAdmitted positionsAdmitted rising everyNoise deltaAdmitted fault noiseTree noiseOffline.offline noiseOffline.expand noiseOnline.usable noiseOnline.filled noiseOnline.rowsOutcome noiseOnline.window noiseOnline.online noiseVectors.mu noiseVectors.v0 scalarOffline.offline scalarOffline.expand scalarOnline.usable scalarOnline.filled scalarOnline.rowsOutcome scalarOnline.window scalarOnline.online scalarVectors.w0 noiseRun scalarRun
+binary-scalar = refl
+
+prime-noise : map noiseShown (noiseRun (noiseStart prime-setting) (noiseCalls 1)) ≡ (windowPastEnd ∷ 0 ∷ 0 ∷ []) ∷ (accepted ∷ 493152902708428463 ∷ 1094412974102167835 ∷ []) ∷ []
+unfolding prime-setting coding.flat coding.over noise correction punctured whole output sum accumulate blockScale leNumber leBytes wordAt columnsOf lowOf highOf primeAdd primeSub primeMul primeReduce xtime multiples mulBytes squares inverse fromBits affine sBox xorWord xorState subBytes shiftRows mixColumn mixColumns rounds cipher power temp scheduleWords keysOf keyExpansion aes child columnsAt columnsBytes path reach leafAt listed others beside siblings follow fromSiblings termBlock placeOf termPlace rowOf every writeNumber lastGroup readNumber tested readByte readBytes writing.writeEach writeHead writeFront writeTree writeTrees writeNoise writeScalar items readItems readSize readPosition readValue readCorrection readDelta readField readSizes readHead readTree readTrees readNoise readScalar windowUsable deal sizesAdmitted lengthsAdmitted positionsAdmitted rising everyNoise deltaAdmitted fault noiseTree noiseOffline.offline noiseOffline.expand noiseOnline.usable noiseOnline.filled noiseOnline.rowsOutcome noiseOnline.window noiseOnline.online noiseVectors.mu noiseVectors.v0 scalarOffline.offline scalarOffline.expand scalarOnline.usable scalarOnline.filled scalarOnline.rowsOutcome scalarOnline.window scalarOnline.online scalarVectors.w0 noiseRun scalarRun
+prime-noise = refl
+
+prime-scalar : map scalarShown (scalarRun (scalarStart prime-setting) (scalarCalls 1)) ≡ (windowPastEnd ∷ 0 ∷ []) ∷ (accepted ∷ 268028673013759273 ∷ []) ∷ []
+unfolding prime-setting coding.flat coding.over noise correction punctured whole output sum accumulate blockScale leNumber leBytes wordAt columnsOf lowOf highOf primeAdd primeSub primeMul primeReduce xtime multiples mulBytes squares inverse fromBits affine sBox xorWord xorState subBytes shiftRows mixColumn mixColumns rounds cipher power temp scheduleWords keysOf keyExpansion aes child columnsAt columnsBytes path reach leafAt listed others beside siblings follow fromSiblings termBlock placeOf termPlace rowOf every writeNumber lastGroup readNumber tested readByte readBytes writing.writeEach writeHead writeFront writeTree writeTrees writeNoise writeScalar items readItems readSize readPosition readValue readCorrection readDelta readField readSizes readHead readTree readTrees readNoise readScalar windowUsable deal sizesAdmitted lengthsAdmitted positionsAdmitted rising everyNoise deltaAdmitted fault noiseTree noiseOffline.offline noiseOffline.expand noiseOnline.usable noiseOnline.filled noiseOnline.rowsOutcome noiseOnline.window noiseOnline.online noiseVectors.mu noiseVectors.v0 scalarOffline.offline scalarOffline.expand scalarOnline.usable scalarOnline.filled scalarOnline.rowsOutcome scalarOnline.window scalarOnline.online scalarVectors.w0 noiseRun scalarRun
+prime-scalar = refl
 
 pub example : Example
-example = record { noise-binary = noise-binary; scalar-binary = scalar-binary; noise-prime = noise-prime; scalar-prime = scalar-prime }
+unfolding binary-setting prime-setting
+example =
+    record {
+      binary = record { setting = binary-setting; input = refl; noise-shown = binary-noise; scalar-shown = binary-scalar };
+      prime = record { setting = prime-setting; input = refl; noise-shown = prime-noise; scalar-shown = prime-scalar };
+    }

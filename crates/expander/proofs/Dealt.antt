@@ -15,20 +15,20 @@ use Rattle.tree.proofs.Blocks.{Square, columns-of, xor-square}
 use Rattle.tree.proofs.Listed.{listed-at}
 use Rattle.tree.proofs.Laws.{Each, two, from-siblings, siblings-have}
 use Rattle.tree.specs.Child.{child, childKey}
-use Rattle.tree.specs.Columns.{columnsAt, blockBytes}
+use Rattle.tree.specs.Columns.{columnsAt, columnsBytes}
 use Rattle.tree.specs.Tree.{siblings, leafAt, fromSiblings}
 use Rattle.dealing.specs.Admitted.{Admitted}
-use Rattle.dealing.specs.Input.{Input}
+use Rattle.dealing.specs.Input.{Input, position}
 use Rattle.dealing.specs.Parts.{noiseTree, noisePart, scalarPart}
-use Rattle.dealing.specs.Vectors.{head, field, position, value, root, leaf, treeCorrection, mu, v0, w0}
+use Rattle.dealing.specs.Vectors.{head, field, value, root, leaf, treeCorrection, mu, v0, w0}
 use Rattle.noise_end.specs.Vectors as noiseEnd
 use Rattle.scalar_end.specs.Vectors as scalarEnd
 
 -- a block's bytes read back
-block-back : (s : List (List ℕ)) → Square s → columnsAt (blockBytes s) 0 ≡ s
-block-back s q = ap (λ l. columnsAt l 0) (sym (append-nil (blockBytes s))) ∙ columns-of [] [] 0 s refl q
+block-back : (s : List (List ℕ)) → Square s → columnsAt (columnsBytes s) 0 ≡ s
+block-back s q = ap (λ l. columnsAt l 0) (sym (append-nil (columnsBytes s))) ∙ columns-of [] [] 0 s refl q
 
-blocks-back : (xs : List (List (List ℕ))) → Each Square xs → map (λ s. columnsAt s 0) (map blockBytes xs) ≡ xs
+blocks-back : (xs : List (List (List ℕ))) → Each Square xs → map (λ s. columnsAt s 0) (map columnsBytes xs) ≡ xs
 blocks-back [] q = refl
 blocks-back (x ∷ xs) q = ap₂ (λ a l. a ∷ l) (block-back x (q .0)) (blocks-back xs (q .1))
 
@@ -103,5 +103,5 @@ module _ (I : Input) (A : Admitted I) where
   w0-dealt j =
       whole-same (field I .ring) (field I .scaled) (I .trees) _ (leaf I) j
       (λ i h.
-      ap (λ b. kind (head I) .leaf (leafAt 2 child (I .depth) (columnsAt b 0) j)) (listed-at (I .trees) (λ i. blockBytes (root I i)) [] i h)
+      ap (λ b. kind (head I) .leaf (leafAt 2 child (I .depth) (columnsAt b 0) j)) (listed-at (I .trees) (λ i. columnsBytes (root I i)) [] i h)
       ∙ ap (λ r. kind (head I) .leaf (leafAt 2 child (I .depth) r j)) (block-back (root I i) (root-square I i)))

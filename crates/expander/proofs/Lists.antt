@@ -6,6 +6,8 @@ use Prim.Native.Nat.{ℕ, zero, suc, _+_, _^_, _<_}
 use native.Mathlib.Nat.{not-suc-le-zero, le-of-suc-le-suc}
 use native.Mathlib.Omega.{arith}
 use lib.ListN.{length, getD}
+use lib.Dec.{eqb}
+use Rattle.algebra.specs.Choice.{choose}
 use Rattle.algebra.proofs.Coding.{flat-cong}
 use Rattle.algebra.proofs.Matrix.{output-is-matrix}
 use Rattle.algebra.proofs.Same.{accumulate-same}
@@ -81,7 +83,7 @@ scalar-run m (d ∷ calls) o c (suc i) h =
 
 -- Δ's words, as the scalar end's offline call writes them, read back as Δ
 delta-back : (f low high : ℕ) → (f ≡ 1) ⊎ (f ≡ 2)
-    → at (kindOf f .field .elements) (getD (elementOf f low high) 0 0 ∷ getD (elementOf f low high) 1 0 ∷ []) 0
+    → at (kindOf f .field .elements) (getD (elementOf f low high) 0 0 ∷ choose (eqb f 1) (getD (elementOf f low high) 1 0) 0 ∷ []) 0
     ≡ kindOf f .field .elements .read (elementOf f low high) 0
 delta-back zero low high h = absurd (⊎-elim (λ e. omega arith) (λ e. omega arith) h)
 delta-back (suc zero) low high h = refl

@@ -19,8 +19,8 @@ use Rattle.rows.specs.Head.{places, row}
 use Rattle.tree.specs.Child.{child}
 use Rattle.tree.specs.Tree.{leafAt}
 use Rattle.dealing.specs.Admitted.{Admitted, NoiseAdmitted}
-use Rattle.dealing.specs.Input.{Input}
-use Rattle.dealing.specs.Vectors.{head, field, position, value, root, leaf, delta, treeCorrection, mu, v0, w0, u, v, w}
+use Rattle.dealing.specs.Input.{Input, position}
+use Rattle.dealing.specs.Vectors.{head, field, value, root, leaf, delta, treeCorrection, mu, v0, w0, u, v, w}
 
 -- an admitted noise value is an element
 noise-element : (f : ℕ) (l : List ℕ) (i : ℕ) → (f ≡ 1) ⊎ (f ≡ 2) → NoiseAdmitted f (getD l i 0)

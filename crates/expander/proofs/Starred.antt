@@ -1,17 +1,23 @@
 -- The starred cases hold, by computation.
 use mathlib.Core.Path.{refl}
 use Rattle.algebra.specs.Coding.{flat}
-use Rattle.algebra.specs.Expansion.{noise, correction}
+use Rattle.algebra.specs.Expansion.{rising, noise, correction}
 use Rattle.algebra.specs.Sum.{sum, accumulate}
-use Rattle.field.specs.Bytes.{leBytes}
+use Rattle.field.specs.Bytes.{leNumber, leBytes, wordAt}
 use Rattle.field.specs.Prime.{primeAdd, primeSub, primeMul, primeReduce}
-use Rattle.sbox.specs.Byte.{xtime, multiples, product, squares, inverse, fromBits, affine, sBox}
+use Rattle.sbox.specs.Byte.{xtime, multiples, mulBytes, squares, inverse, fromBits, affine, sBox}
 use Rattle.number.specs.Number.{writeNumber, lastGroup, readNumber}
 use Rattle.number.specs.Reading.{readByte}
 use Rattle.record.specs.Writing as writing
 use Rattle.record.specs.Writing.{writeHead, writeFront, writeTree, writeTrees, writeNoise, writeScalar}
+use Rattle.algebra.specs.Every.{every}
+use Rattle.dealing.specs.Deal.{deal}
+use Rattle.dealing.specs.Input.{fault, sizesAdmitted, lengthsAdmitted, positionsAdmitted, everyNoise, deltaAdmitted}
+use Rattle.dealing.specs.Parts.{noiseTree}
+use Rattle.tree.specs.Columns.{columnsBytes}
+use Rattle.tree.specs.Tree.{path, listed, others, beside, siblings}
 use Rattle.expander.specs.Cases.{starred, Cases}
 
 pub starred-hold : Cases
-unfolding starred sBox affine fromBits inverse squares product multiples xtime writeNumber readNumber lastGroup readByte writeTrees writeTree writeFront writeNoise writeScalar writeHead writing.flat leBytes primeAdd primeSub primeMul primeReduce flat noise correction sum accumulate
+unfolding starred sBox affine fromBits inverse squares mulBytes multiples xtime writeNumber readNumber lastGroup readByte writeTrees writeTree writeFront writeNoise writeScalar writeHead writing.writeEach leBytes primeAdd primeSub primeMul primeReduce flat noise correction sum accumulate deal fault sizesAdmitted lengthsAdmitted positionsAdmitted rising every everyNoise deltaAdmitted noiseTree listed path beside others siblings columnsBytes wordAt leNumber
 starred-hold = refl

@@ -2,17 +2,19 @@
 use mathlib.Core.Path.{_≡_}
 use mathlib.Core.List.{List, [], _∷_, map}
 use Prim.Native.Nat.{ℕ, zero, suc, _-_, _^_}
-use lib.ListN.{length, replicate}
+use lib.ListN.{replicate}
+use Rattle.answer.specs.Numbers.{accepted, badNumber}
 use Rattle.algebra.specs.Coding.{flat}
 use Rattle.algebra.specs.Expansion.{noise, correction}
 use Rattle.algebra.specs.Sum.{accumulate}
 use Rattle.field.specs.Binary.{binary}
 use Rattle.field.specs.Prime.{modulus, prime, primeMul, primeReduce, primes}
 use Rattle.sbox.specs.Byte.{sBox}
+use Rattle.dealing.specs.Deal.{Dealt, deal}
 use Rattle.number.specs.Number.{writeNumber, readNumber}
 use Rattle.number.specs.Reading.{Step, Whole, Refused}
-use Rattle.record.specs.Content.{Head, NoiseTree, NoisePart, ScalarPart, elementOf}
-use Rattle.record.specs.Writing.{writeTrees, writeNoise, writeScalar}
+use Rattle.record.specs.Content.{NoiseTree}
+use Rattle.record.specs.Writing.{writeTrees}
 
 -- a case: what the definitions give, and what document 01 says
 pub record Case : Type 0 where
@@ -45,20 +47,28 @@ accumulatedPrime =
     flat (primes .noiseValues) 8
     (accumulate (primes .ring .group) (noise (primes .ring) 2 (two 1 4) (two (prime 5) (prime (modulus - 2)))))
 
--- d = t = ℓ = n = 1, all bytes zero
-abbrev smallHead : ℕ → Head
-smallHead field =
-    record { field = field; depth = 1; trees = 1; terms = 1; outputs = 1; codeKey = replicate 16 0 }
+-- a dealing with d = t = ℓ = n = 1, position 0, noise value 1 and Δ = 1, all else zero, into buffers of 64 bytes
+abbrev smallDealing : ℕ → Dealt
+smallDealing field =
+    deal
+    (record {
+      field = field;
+      depth = 1;
+      trees = 1;
+      terms = 1;
+      outputs = 1;
+      roots = replicate 16 0;
+      positions = 0 ∷ [];
+      values = 1 ∷ [];
+      delta = 1 ∷ replicate 15 0;
+      codeKey = replicate 16 0;
+    })
+    (replicate 64 0)
+    (replicate 64 0)
 
-abbrev smallNoise : ℕ → NoisePart
-smallNoise field =
-    record {
-      head = smallHead field;
-      trees = record { position = 0; value = 1; correction = elementOf field 0 0; siblings = replicate 16 0 ∷ [] } ∷ [];
-    }
-
-abbrev smallScalar : ℕ → ScalarPart
-smallScalar field = record { head = smallHead field; delta = elementOf field 1 0; roots = replicate 16 0 ∷ [] }
+-- the number, and the lengths of both records
+abbrev dealtLengths : Dealt → List ℕ
+dealtLengths d = d .number ∷ d .firstWritten ∷ d .secondWritten ∷ []
 
 -- the starred cases, in document 01's order
 unfoldable pub starred : List Case
@@ -68,7 +78,7 @@ starred =
     ∷ case (writeNumber 128) (0x80 ∷ 0x01 ∷ [])
     ∷ case (writeNumber 300) (0xac ∷ 0x02 ∷ [])
     ∷ case (writeNumber 16384) (0x80 ∷ 0x80 ∷ 0x01 ∷ [])
-    ∷ case (refusedWith (readNumber (0x80 ∷ 0x00 ∷ []) 0) ∷ []) (11 ∷ [])
+    ∷ case (refusedWith (readNumber (0x80 ∷ 0x00 ∷ []) 0) ∷ []) (badNumber ∷ [])
     ∷ case (writeTrees 1 0 (bare 1 ∷ bare 4 ∷ bare 5 ∷ [])) (1 ∷ 2 ∷ 0 ∷ [])
     ∷ case (primeMul (prime (2 ^ 60)) (prime 2) .word ∷ []) (1 ∷ [])
     ∷ case (primeMul (prime (modulus - 1)) (prime (modulus - 1)) .word ∷ []) (1 ∷ [])
@@ -76,9 +86,8 @@ starred =
     ∷ case accumulatedBinary (0 ∷ 1 ∷ 1 ∷ 1 ∷ 0 ∷ 0 ∷ 0 ∷ 0 ∷ [])
     ∷ case accumulatedPrime (0 ∷ 5 ∷ 5 ∷ 5 ∷ 3 ∷ 3 ∷ 3 ∷ 3 ∷ [])
     ∷ case (correction (primes .scaled) (prime 3) (prime 7) (prime 5) .word ∷ []) ((modulus - 8) ∷ [])
-    ∷ case
-    (length (writeNoise (smallNoise 1)) ∷ length (writeScalar (smallScalar 1)) ∷ length (writeNoise (smallNoise 2)) ∷ length (writeScalar (smallScalar 2)) ∷ [])
-    (55 ∷ 54 ∷ 55 ∷ 46 ∷ [])
+    ∷ case (dealtLengths (smallDealing 1)) (accepted ∷ 55 ∷ 54 ∷ [])
+    ∷ case (dealtLengths (smallDealing 2)) (accepted ∷ 55 ∷ 46 ∷ [])
     ∷ []
 
 -- the definitions give what document 01 says, in every starred case

@@ -1,23 +1,23 @@
 -- Demand 3 (document 01, 'Lists of calls at both ends'): the statements, about the definitions that the calls' contracts cite.
 use mathlib.Core.Path.{_≡_}
-use mathlib.Core.Bool.{_||_}
 use mathlib.Core.List.{List, [], _∷_}
 use Prim.Native.Nat.{ℕ, _+_, _-_, _*_, _<_}
-use lib.Dec.{ltb}
 use lib.ListN.{length, getD, take}
 use Rattle.algebra.specs.Choice.{choose}
 use Rattle.algebra.specs.Coding.{at}
 use Rattle.algebra.specs.Expansion.{Correlated}
 use Rattle.algebra.specs.Field.{NoiseValue, Value}
+use Rattle.answer.specs.Numbers.{accepted, windowPastEnd, bufferShort}
 use Rattle.dealing.specs.Admitted.{InMemory}
 use Rattle.dealing.specs.Deal.{Dealt, deal}
 use Rattle.dealing.specs.Input.{Input}
-use Rattle.dealing.specs.Vectors.{field, delta, u, v, w}
+use Rattle.dealing.specs.Vectors.{head, field, delta, u, v, w}
 use Rattle.field.specs.Bytes.{wordAt}
 use Rattle.noise_end.specs.Offline as noiseOffline
 use Rattle.noise_end.specs.Online as noiseOnline
 use Rattle.pads.specs.Calls.{noisePads, scalarPads}
 use Rattle.pads.specs.Choice.{InWindow, padAt, messageAt}
+use Rattle.rows.specs.Window.{pastEnd}
 use Rattle.scalar_end.specs.Offline as scalarOffline
 use Rattle.scalar_end.specs.Online as scalarOnline
 
@@ -115,8 +115,8 @@ noiseStart S =
 -- the number of a listed call: 7 if its window passes n, else 13 if an output buffer is too short for c, else 0
 abbrev pub listedNoiseNumber : Input → NoiseCall → ℕ
 listedNoiseNumber I c =
-    choose (ltb (I .outputs) (c .first + c .count)) 7
-    (choose (ltb (length (c .uOut)) (c .count) || ltb (length (c .vOut)) (c .count * field I .elements .width)) 13 0)
+    choose (pastEnd (head I) (c .first) (c .count)) windowPastEnd
+    (choose (noiseOnline.tooShort (head I) (c .count) (c .uOut) (c .vOut)) bufferShort accepted)
 
 -- an outcome hands out u and v at index x: word k of the first output buffer and element k of the second on return, at
 -- index first + k for k below c; a refused call hands out nothing
@@ -174,7 +174,8 @@ scalarDelta S = take (scalarExpanded S .secondWritten) (scalarExpanded S .delta)
 -- the number of a listed call: 7, else 13, else 0, as at the noise end
 abbrev pub listedScalarNumber : Input → ScalarCall → ℕ
 listedScalarNumber I c =
-    choose (ltb (I .outputs) (c .first + c .count)) 7 (choose (ltb (length (c .wOut)) (c .count * field I .elements .width)) 13 0)
+    choose (pastEnd (head I) (c .first) (c .count)) windowPastEnd
+    (choose (scalarOnline.tooShort (head I) (c .count) (c .wOut)) bufferShort accepted)
 
 -- an outcome hands out w at index x: element k of the output buffer on return, at index first + k for k below c; a refused
 -- call hands out nothing
@@ -194,14 +195,14 @@ noiseCall calls i = getD calls i (record { first = 0; count = 0; uOut = []; vOut
 abbrev pub noiseOutcome : Setting → List NoiseCall → ℕ → noiseOnline.Outcome
 noiseOutcome S calls i =
     getD (noiseRun (noiseStart S) calls) i
-    (noiseOnline.refusal 13 (record { source = []; noise = []; v = []; uOut = []; vOut = [] }))
+    (noiseOnline.refusal bufferShort (record { source = []; noise = []; v = []; uOut = []; vOut = [] }))
 
 abbrev pub scalarCall : List ScalarCall → ℕ → ScalarCall
 scalarCall calls i = getD calls i (record { first = 0; count = 0; wOut = [] })
 
 abbrev pub scalarOutcome : Setting → List ScalarCall → ℕ → scalarOnline.Outcome
 scalarOutcome S calls i =
-    getD (scalarRun (scalarStart S) calls) i (scalarOnline.refusal 13 (record { source = []; w = []; wOut = [] }))
+    getD (scalarRun (scalarStart S) calls) i (scalarOnline.refusal bufferShort (record { source = []; w = []; wOut = [] }))
 
 -- what demand 3 says of two lists, one at each end, together
 pub record Claim (S : Setting) (noiseCalls : List NoiseCall) (scalarCalls : List ScalarCall) : Type 0 where

@@ -1,8 +1,10 @@
 -- Both kinds obey the laws that are asked of a kind.
 use mathlib.Core.Path.{refl}
-use Prim.Native.Nat.{ℕ, zero, suc}
+use mathlib.Core.Bool.{Bool, true, false}
+use lib.Dec.{eqb}
+use Rattle.algebra.specs.Choice.{choose}
 use Rattle.field.specs.Bytes.{lowOf}
-use Rattle.field.specs.Kind.{KindLaws, binaryKind, primeKind, kindOf}
+use Rattle.field.specs.Kind.{KindLaws, BothFields, binaryKind, primeKind}
 use Rattle.field.proofs.BinaryField.{binaryLaws}
 use Rattle.field.proofs.PrimeField.{primeLaws, reduce-element}
 
@@ -26,7 +28,9 @@ primeKindLaws =
       noise-read = λ l k. refl;
     }
 
-pub kindLaws : (n : ℕ) → KindLaws (kindOf n)
-kindLaws zero = primeKindLaws
-kindLaws (suc zero) = binaryKindLaws
-kindLaws (suc (suc n)) = primeKindLaws
+pub kindLaws : BothFields
+kindLaws field = of (eqb field 1)
+  where
+    of : (binary : Bool) → KindLaws (choose binary binaryKind primeKind)
+    of true = binaryKindLaws
+    of false = primeKindLaws

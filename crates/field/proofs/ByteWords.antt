@@ -8,7 +8,8 @@ use native.Mathlib.Numerals.{towards-suc}
 use lib.Arith.{mod-mul}
 use lib.ListN.{length, getD, take, drop}
 use lib.Seq.{drop-cons, sets-eq, length-sets, take-at, drop-at, length-take-le}
-use Rattle.field.specs.Bytes.{leNumber, leBytes, wordAt, withWord, columnsOf, fourOf, lowOf, highOf}
+use Rattle.field.specs.Bytes.{leNumber, leBytes, wordAt, columnsOf, fourAt, lowOf, highOf}
+use Rattle.field.specs.Inner.Written.{withWord}
 
 pub length-leBytes : (n x : ℕ) → length (leBytes n x) ≡ n
 unfolding leBytes
@@ -179,12 +180,12 @@ module _ (a b c d : ℕ) (rest : List ℕ) where
 module _ (s : List (List ℕ)) (p : Columns s) where
   -- the two columns of a word, from the first of them
   columns-two : (c e : ℕ) → c < 4 → e < 4
-      → (leBytes 4 (leNumber (fourOf s c (fourOf s e []))) ≡ getD s c [])
-      × (leBytes 4 (leNumber (fourOf s c (fourOf s e [])) / 4294967296) ≡ getD s e [])
+      → (leBytes 4 (leNumber (fourAt (getD s c []) 0 (fourAt (getD s e []) 0 []))) ≡ getD s c [])
+      × (leBytes 4 (leNumber (fourAt (getD s c []) 0 (fourAt (getD s e []) 0 [])) / 4294967296) ≡ getD s e [])
   columns-two c e h k =
       let b = p .bytes in (
-        low-four _ _ _ _ (fourOf s e []) (b c 0) (b c 1) (b c 2) (b c 3) ∙ list-four 0 (getD s c []) (p .each-four c h),
-        ap (leBytes 4) (past-four _ _ _ _ (fourOf s e []) (b c 0) (b c 1) (b c 2) (b c 3))
+        low-four _ _ _ _ (fourAt (getD s e []) 0 []) (b c 0) (b c 1) (b c 2) (b c 3) ∙ list-four 0 (getD s c []) (p .each-four c h),
+        ap (leBytes 4) (past-four _ _ _ _ (fourAt (getD s e []) 0 []) (b c 0) (b c 1) (b c 2) (b c 3))
             ∙ low-four _ _ _ _ [] (b e 0) (b e 1) (b e 2) (b e 3)
             ∙ list-four 0 (getD s e []) (p .each-four e k),
       )

@@ -7,3 +7,4 @@ pub mod ByteWords
 pub mod BinaryField
 pub mod PrimeField
 pub mod BothKinds
+pub mod KindOf

@@ -7,7 +7,8 @@ use native.Mathlib.Nat.{mul-one}
 use native.Mathlib.Numerals.{add-one}
 use lib.ListN.{length, getD, take, drop, set}
 use lib.Seq.{drop-cons, set-split, sets-eq, getD-append-seam, getD-append-add}
-use Rattle.algebra.specs.Coding.{CodingLaws, at, put}
+use Rattle.algebra.specs.Coding.{CodingLaws, at}
+use Rattle.algebra.specs.Inner.Put.{put}
 use Rattle.field.specs.Words.{oneWord, twoWords}
 
 module _ {A : Type 0} (word : A → ℕ) (make : ℕ → A) where

@@ -33,9 +33,13 @@ blockScale zero b = blockZero
 blockScale (suc zero) b = b
 blockScale (suc (suc u)) b = blockZero
 
+-- the block of four columns of four bytes: its first and its last eight bytes as words
+abbrev pub blockOf : List (List ℕ) → Block
+blockOf columns = block (lowOf columns) (highOf columns)
+
 -- a leaf's element is its block
 abbrev pub blockLeaf : List (List ℕ) → Block
-blockLeaf columns = block (lowOf columns) (highOf columns)
+blockLeaf columns = blockOf columns
 
 -- the sum and the product of noise values, which are bits
 abbrev pub bitAdd : ℕ → ℕ → ℕ

@@ -2,7 +2,6 @@
 use mathlib.Core.List.{List, [], _∷_}
 use Prim.Native.Nat.{ℕ, zero, suc, _+_, _*_, _/_, _%_}
 use lib.ListN.{getD}
-use lib.Seq.{sets}
 
 -- the number that a list of bytes writes, least byte first
 unfoldable pub leNumber : List ℕ → ℕ
@@ -31,23 +30,18 @@ eightAt l at =
 unfoldable pub wordAt : List ℕ → ℕ → ℕ
 wordAt bytes at = leNumber (eightAt bytes at)
 
--- the bytes with the eight bytes of a word written from a place on
-unfoldable pub withWord : List ℕ → ℕ → ℕ → List ℕ
-withWord bytes at word = sets bytes at (leBytes 8 word)
-
 -- a block of two words as four columns of four bytes
 unfoldable pub columnsOf : ℕ → ℕ → List (List ℕ)
 columnsOf low high =
     leBytes 4 low ∷ leBytes 4 (low / 4294967296) ∷ leBytes 4 high ∷ leBytes 4 (high / 4294967296) ∷ []
 
--- the four bytes of column c, before others
-abbrev pub fourOf : List (List ℕ) → ℕ → List ℕ → List ℕ
-fourOf columns c rest =
-    getD (getD columns c []) 0 0 ∷ getD (getD columns c []) 1 0 ∷ getD (getD columns c []) 2 0 ∷ getD (getD columns c []) 3 0 ∷ rest
+-- the four bytes that begin at a place, before others
+abbrev pub fourAt : List ℕ → ℕ → List ℕ → List ℕ
+fourAt bytes at rest = getD bytes at 0 ∷ getD bytes (at + 1) 0 ∷ getD bytes (at + 2) 0 ∷ getD bytes (at + 3) 0 ∷ rest
 
 -- the first and the last eight bytes of four columns, each as a word
 unfoldable pub lowOf : List (List ℕ) → ℕ
-lowOf columns = leNumber (fourOf columns 0 (fourOf columns 1 []))
+lowOf columns = leNumber (fourAt (getD columns 0 []) 0 (fourAt (getD columns 1 []) 0 []))
 
 unfoldable pub highOf : List (List ℕ) → ℕ
-highOf columns = leNumber (fourOf columns 2 (fourOf columns 3 []))
+highOf columns = leNumber (fourAt (getD columns 2 []) 0 (fourAt (getD columns 3 []) 0 []))

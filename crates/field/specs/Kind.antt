@@ -2,8 +2,10 @@
 -- ('Trees'), and how the last eight bytes of a term's block become its coefficient ('Offline and online').
 use mathlib.Core.List.{List, [], _∷_}
 use mathlib.Core.Path.{_≡_}
-use Prim.Native.Nat.{ℕ, zero, suc}
+use Prim.Native.Nat.{ℕ}
+use lib.Dec.{eqb}
 use lib.ListN.{getD}
+use Rattle.algebra.specs.Choice.{choose}
 use Rattle.algebra.specs.Field.{Field, FieldLaws, NoiseValue, Value}
 use Rattle.algebra.specs.Group.{Element}
 use Rattle.field.specs.Binary.{binary, blockLeaf}
@@ -24,9 +26,11 @@ primeKind = record { field = primes; leaf = primeLeaf; coefficient = primeReduce
 
 -- the kind of a field byte: 1 is the binary field, 2 the prime field; no other byte is accepted
 abbrev pub kindOf : ℕ → Kind
-kindOf zero = primeKind
-kindOf (suc zero) = binaryKind
-kindOf (suc (suc n)) = primeKind
+kindOf field = choose (eqb field 1) binaryKind primeKind
+
+-- an element takes two words in field 1, one in field 2
+abbrev pub elementWords : ℕ → ℕ
+elementWords field = kindOf field .field .elements .width
 
 -- what both kinds satisfy: the field's laws, leaves and coefficients are elements, and a noise value is one word
 pub record KindLaws (K : Kind) : Type 0 where
@@ -35,3 +39,8 @@ pub record KindLaws (K : Kind) : Type 0 where
   pub coefficient-element : (word : ℕ) → Element (K .field .ring .group) (K .coefficient word)
   pub noise-width : K .field .noiseValues .width ≡ 1
   pub noise-read : (l : List ℕ) (k : ℕ) → K .field .noiseValues .read l k ≡ K .field .noiseValues .read (getD l k 0 ∷ []) 0
+
+-- both fields satisfy them: facts common to both are proved for any ring and any group that it scales, then used twice
+-- (document 01, 'Questions a reader of the promises may put')
+abbrev pub BothFields : Type 0
+BothFields = (field : ℕ) → KindLaws (kindOf field)

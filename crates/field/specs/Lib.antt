@@ -4,3 +4,4 @@ pub mod Words
 pub mod Binary
 pub mod Prime
 pub mod Kind
+pub mod Inner

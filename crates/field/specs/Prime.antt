@@ -1,6 +1,6 @@
 -- Field 2, prime (document 01, 'Two fields'): noise and elements are words below p = 2^61 − 1, arithmetic is modulo p.
 use mathlib.Core.List.{List}
-use Prim.Native.Nat.{ℕ, _+_, _-_, _*_, _%_}
+use Prim.Native.Nat.{ℕ, _+_, _-_, _*_, _%_, _^_}
 use lib.Dec.{ltb}
 use Rattle.algebra.specs.Group.{Ring, itself}
 use Rattle.algebra.specs.Field.{Field}
@@ -8,9 +8,9 @@ use Rattle.field.specs.declared.prime.Prime.{Prime}
 use Rattle.field.specs.Bytes.{lowOf}
 use Rattle.field.specs.Words.{oneWord}
 
--- p
+-- p = 2^61 − 1
 abbrev pub modulus : ℕ
-modulus = 2305843009213693951
+modulus = 2 ^ 61 - 1
 
 -- a word as a value of field 2; it is an element if it is below p
 abbrev pub prime : ℕ → Prime

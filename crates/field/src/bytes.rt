@@ -3,8 +3,8 @@ ghost use mathlib.Core.Path.{_≡_};
 ghost use mathlib.Core.List.{[], _∷_};
 ghost use Prim.Native.Nat.{_+_, _≤_};
 ghost use lib.ListN.{length};
-ghost use Rattle.field.specs.Bytes.{leNumber, leBytes, wordAt, withWord, columnsOf, lowOf, highOf};
-
+ghost use Rattle.field.specs.Bytes.{leNumber, leBytes, wordAt, columnsOf, lowOf, highOf};
+ghost use Rattle.field.specs.Inner.Written.{withWord};
 // The word of eight bytes.
 fn eight(a: u8, b: u8, c: u8, d: u8, e: u8, f: u8, g: u8, h: u8) -> u64
     ensures { λ r. ⌜ r ≡ leNumber (a ∷ b ∷ c ∷ d ∷ e ∷ f ∷ g ∷ h ∷ []) ⌝ }

@@ -2,8 +2,8 @@
 mod plain;
 mod vectors;
 
-ghost use Rattle.sbox.specs.Table.{SBoxTable, Tables};
-
+ghost use Rattle.sbox.specs.Inner.Tables.{Tables};
+ghost use Rattle.sbox.specs.Table.{SBoxTable};
 // The sixteen bytes of a state, column by column.
 fn bytes(s: [[u8; 4]; 4]) -> [u8; 16] {
     [

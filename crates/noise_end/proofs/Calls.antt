@@ -18,24 +18,25 @@ use Rattle.algebra.specs.Sum.{accumulate}
 use Rattle.algebra.proofs.Tests.{or-none}
 use Rattle.aes128.specs.Cipher.{keyExpansion}
 use Rattle.code.specs.Row.{rowOf}
-use Rattle.field.specs.Kind.{kindOf}
-use Rattle.record.specs.Reading.{blockAt, headOf, readHead, readNoise, opened, frontOf}
+use Rattle.field.specs.Kind.{kindOf, elementWords}
+use Rattle.record.specs.Reading.{blockAt, readHead, readNoise}
+use Rattle.record.specs.Inner.Answers.{headOf, opened, frontOf}
 use Rattle.record.specs.declared.Front.{Front}
 use Rattle.record.specs.declared.Opened.{Opened}
 use Rattle.record.specs.declared.Opened.the-variants.{Accepted, Fault}
 use Rattle.tree.specs.Columns.{columnsAt}
 use Rattle.rows.specs.Head.{fieldOf, places}
-use Rattle.rows.specs.Testing.{Testing, elementsUsed}
+use Rattle.rows.specs.Inner.Testing.{Testing, elementsUsed}
 use Rattle.rows.specs.Usable.{windowUsable}
-use Rattle.rows.specs.Words.{elementWidth, faultOf}
+use Rattle.rows.specs.Inner.Words.{recordFault}
 use Rattle.rows.proofs.Widths.{width-most}
 use Rattle.noise_end.specs.Vectors.{mu, v0}
 use Rattle.noise_end.specs.Offline as off
 use Rattle.noise_end.specs.Online as on
 use Rattle.noise_end.specs.Online.{Lent, rowsOutcome}
-use Rattle.noise_end.specs.Steps.{Fitting, TreesFit, treesAt, noiseExpansion, vExpansion, uOutputAt, uOver, noiseUsed, lengthsNumber}
-use Rattle.rows.specs.Window.{outputAt, windowOver}
-use Rattle.noise_end.specs.Ready.{contentOf, Ready}
+use Rattle.noise_end.specs.Inner.Steps.{Fitting, TreesFit, treesAt, noiseExpansion, vExpansion, uOutputAt, uOver, noiseUsed, lengthsNumber}
+use Rattle.rows.specs.Inner.Outputs.{outputAt, windowOver}
+use Rattle.noise_end.specs.Inner.Ready.{contentOf, Ready}
 use Rattle.noise_end.proofs.Content.{ready, refused-is}
 use Rattle.noise_end.proofs.Steps.{every-both}
 use Rattle.noise_end.proofs.Laws.{one-word, offline-whole, offline-refused, online-whole, online-refused}
@@ -43,7 +44,7 @@ use Rattle.noise_end.proofs.Laws.{one-word, offline-whole, offline-refu
 -- ---- an accepted record
 
 module _ (s : List ℕ) (f : Front) (accepted : Ready s f) where
-  module _ {width : ℕ} (we : width ≡ elementWidth (f .field)) where
+  module _ {width : ℕ} (we : width ≡ elementWords (f .field)) where
     module _ {size : ℕ} (se : size ≡ 2 ^ f .depth) where
       pub words-fit : Fits w64 (size * width)
       words-fit =
@@ -52,7 +53,7 @@ module _ (s : List ℕ) (f : Front) (accepted : Ready s f) where
           record { fits = omega arith }
 
       pub trees-fit : (noise v : List ℕ) → size ≤ length noise → size * width ≤ length v
-          → TreesFit (f .field) (elementWidth (f .field)) (f .body) (f .depth) (f .trees) s (length (take size noise)) (length (take (size * width) v))
+          → TreesFit (f .field) (elementWords (f .field)) (f .body) (f .depth) (f .trees) s (length (take size noise)) (length (take (size * width) v))
       trees-fit noise v h k =
           record {
             two = accepted .two;
@@ -63,22 +64,22 @@ module _ (s : List ℕ) (f : Front) (accepted : Ready s f) where
           }
 
   -- a window that fits
-  pub length-fits : (size first count j n k m : ℕ) → Fitting (elementWidth (f .field)) size first count j n k m
-      → {width : ℕ} → width ≡ elementWidth (f .field) → Fits w64 (count * width)
+  pub length-fits : (size first count j n k m : ℕ) → Fitting (elementWords (f .field)) size first count j n k m
+      → {width : ℕ} → width ≡ elementWords (f .field) → Fits w64 (count * width)
   length-fits size first count j n k m fits {width} we =
       let c : count ≤ 32768 = omega (arith, fits .within) in
       let h : count * width ≤ 32768 * 2 = rw we (mul-le-mul c (width-most (f .field))) in
       record { fits = omega arith }
 
-  module _ (first count j n k m : ℕ) (fits : Fitting (elementWidth (f .field)) (2 ^ f .depth) first count j n k m) {size : ℕ} (se : size ≡ 2 ^ f .depth) where
+  module _ (first count j n k m : ℕ) (fits : Fitting (elementWords (f .field)) (2 ^ f .depth) first count j n k m) {size : ℕ} (se : size ≡ 2 ^ f .depth) where
     pub noise-testing : Testing 1 size (f .terms) first count j
     noise-testing =
         rw se (record { places = fits .places; whole = fits .noiseValues ∙ sym (mul-one (2 ^ f .depth)); within = fits .within; few = accepted .sizes .terms })
 
-    pub testing : Testing (elementWidth (f .field)) size (f .terms) first count n
+    pub testing : Testing (elementWords (f .field)) size (f .terms) first count n
     testing = rw se (record { places = fits .places; whole = fits .whole; within = fits .within; few = accepted .sizes .terms })
 
-    pub filling : Fitting (elementWidth (f .field)) size first count j n k m
+    pub filling : Fitting (elementWords (f .field)) size first count j n k m
     filling = rw se fits
 
 -- the front of a buffer has its length
@@ -88,15 +89,14 @@ front-length n l h = sym (length-take-le n l h)
 -- ---- offline
 
 module _ (s noise v : List ℕ) {r : Opened} (opens : opened s r ≡ frontOf (readNoise s) (readHead 1 s)) where
-  pub offline-fault : {j k : ℕ} → r ≡ Fault j → k ≡ faultOf r → off.refusal k s noise v ≡ off.offline s noise v
+  pub offline-fault : {j k : ℕ} → r ≡ Fault j → k ≡ recordFault r → off.refusal k s noise v ≡ off.offline s noise v
   offline-fault e q = sym (offline-refused s noise v (refused-is s opens e q))
 
   pub offline-opened : {f : Front} → r ≡ Accepted f → {o : off.Expanded} → o ≡ off.expand (contentOf s f) s noise v → o ≡ off.offline s noise v
   offline-opened e q = q ∙ sym (offline-whole s noise v (ready s opens e .read))
 
-module _ (s noise v : List ℕ) (f : Front) {width size : ℕ} (we : width ≡ elementWidth (f .field)) (se : size ≡ 2 ^ f .depth) where
+module _ (s noise v : List ℕ) (f : Front) {width size : ℕ} (we : width ≡ elementWords (f .field)) (se : size ≡ 2 ^ f .depth) where
   words : size * width ≡ off.vWords (contentOf s f)
-  unfolding elementWidth
   words = rw (se, we)
 
   pub short-noise : length noise < size → off.refusal 13 s noise v ≡ off.expand (contentOf s f) s noise v
@@ -147,7 +147,7 @@ unfolding windowOver outputAt on.filled
 v-words s f first count noise v uOut vOut = refl
 
 module _ (s noise v uOut vOut : List ℕ) (first count : ℕ) {r : Opened} (opens : opened s r ≡ frontOf (readNoise s) (readHead 1 s)) where
-  pub online-fault : {j k : ℕ} → r ≡ Fault j → k ≡ faultOf r
+  pub online-fault : {j k : ℕ} → r ≡ Fault j → k ≡ recordFault r
       → on.refusal k (lent s noise v uOut vOut) ≡ on.online (lent s noise v uOut vOut) first count
   online-fault e q = sym (online-refused (lent s noise v uOut vOut) first count (refused-is s opens e q))
 
@@ -162,13 +162,13 @@ module _ (f : Front) (depth : f .depth ≤ 16) (outputs : f .outputs ≤ 32768) 
   unfolding lengthsNumber
   wrong-noise h = sym (rw (ne-eqb noise (2 ^ f .depth) (λ e. h (e ∙ sym se))))
 
-  module _ {width : ℕ} (we : width ≡ elementWidth (f .field)) where
+  module _ {width : ℕ} (we : width ≡ elementWords (f .field)) where
     pub vector-fits : Fits w64 (size * width)
     vector-fits =
         let m : size * width ≤ 65536 * 2 = rw (se, we) (mul-le-mul (pow-mono depth) (width-most (f .field))) in
         record { fits = omega arith }
 
-    vector-words : size * width ≡ 2 ^ f .depth * elementWidth (f .field)
+    vector-words : size * width ≡ 2 ^ f .depth * elementWords (f .field)
     vector-words = rw (se, we)
 
     module _ (noiseValues : noise ≡ size) where
@@ -177,11 +177,11 @@ module _ (f : Front) (depth : f .depth ≤ 16) (outputs : f .outputs ≤ 32768) 
 
       pub wrong-length : (vector ≡ size * width → ⊥) → 3 ≡ lengthsNumber f noise vector first count uRoom room
       unfolding lengthsNumber
-      wrong-length h = sym (rw (right-noise, ne-eqb vector (2 ^ f .depth * elementWidth (f .field)) (λ e. h (e ∙ sym vector-words))))
+      wrong-length h = sym (rw (right-noise, ne-eqb vector (2 ^ f .depth * elementWords (f .field)) (λ e. h (e ∙ sym vector-words))))
 
       module _ (whole : vector ≡ size * width) {past : Bool} (pe : past ≡ ltb (f .outputs) (first + count)) where
-        right : eqb vector (2 ^ f .depth * elementWidth (f .field)) ≡ true
-        right = eq-eqb vector (2 ^ f .depth * elementWidth (f .field)) (whole ∙ vector-words)
+        right : eqb vector (2 ^ f .depth * elementWords (f .field)) ≡ true
+        right = eq-eqb vector (2 ^ f .depth * elementWords (f .field)) (whole ∙ vector-words)
 
         pub window-past : past ≡ true → 7 ≡ lengthsNumber f noise vector first count uRoom room
         unfolding lengthsNumber
@@ -194,16 +194,16 @@ module _ (f : Front) (depth : f .depth ≤ 16) (outputs : f .outputs ≤ 32768) 
         pub short-output : past ≡ false → count ≤ uRoom → room < count * width → 13 ≡ lengthsNumber f noise vector first count uRoom room
         unfolding lengthsNumber
         short-output e g h =
-            sym (rw (right-noise, right, ← pe, e, le-ltb uRoom count g, lt-ltb room (count * elementWidth (f .field)) (rw we at h)))
+            sym (rw (right-noise, right, ← pe, e, le-ltb uRoom count g, lt-ltb room (count * elementWords (f .field)) (rw we at h)))
 
         pub all-passed : past ≡ false → count ≤ uRoom → count * width ≤ room → 0 ≡ lengthsNumber f noise vector first count uRoom room
         unfolding lengthsNumber
         all-passed e g h =
-            sym (rw (right-noise, right, ← pe, e, le-ltb uRoom count g, le-ltb room (count * elementWidth (f .field)) (rw we at h)))
+            sym (rw (right-noise, right, ← pe, e, le-ltb uRoom count g, le-ltb room (count * elementWords (f .field)) (rw we at h)))
 
 -- a window within the outputs
 pub count-fits : (f : Front) → f .outputs ≤ 32768 → (first count : ℕ) {past : Bool} → past ≡ ltb (f .outputs) (first + count) → past ≡ false
-    → {width : ℕ} → width ≡ elementWidth (f .field) → Fits w64 (count * width)
+    → {width : ℕ} → width ≡ elementWords (f .field) → Fits w64 (count * width)
 count-fits f outputs first count pe within {width} we =
     let n : first + count ≤ f .outputs = ltb-false (f .outputs) (first + count) (sym pe ∙ within) in
     let c : count ≤ 32768 = omega arith in
@@ -232,14 +232,14 @@ module _ (s noise v uOut vOut : List ℕ) (first count : ℕ) (f : Front)
     {number : ℕ} (ne : number ≡ lengthsNumber f (length noise) (length v) first count (length uOut) (length vOut)) where
   -- the three tests
   wrong : Bool
-  wrong = not (eqb (length noise) (2 ^ f .depth)) || not (eqb (length v) (2 ^ f .depth * elementWidth (f .field)))
+  wrong = not (eqb (length noise) (2 ^ f .depth)) || not (eqb (length v) (2 ^ f .depth * elementWords (f .field)))
 
   short : Bool
-  short = ltb (length uOut) count || ltb (length vOut) (count * elementWidth (f .field))
+  short = ltb (length uOut) count || ltb (length vOut) (count * elementWords (f .field))
 
   -- a test that was not passed
   pub not-passed : (number ≡ 0 → ⊥) → on.refusal number (lent s noise v uOut vOut) ≡ on.window (headOf s f) (lent s noise v uOut vOut) first count
-  unfolding lengthsNumber on.window elementWidth wrong short
+  unfolding lengthsNumber on.window wrong short
   not-passed h = tested wrong (ltb (f .outputs) (first + count)) short number (lent s noise v uOut vOut) _ ne h
 
   passed : number ≡ 0 → (wrong ≡ false) × (ltb (f .outputs) (first + count) ≡ false) × (short ≡ false)
@@ -249,23 +249,23 @@ module _ (s noise v uOut vOut : List ℕ) (first count : ℕ) (f : Front)
   -- all tests passed: the rows are left
   pub rows-left : number ≡ 0 → {o : on.Outcome} → o ≡ rowsOutcome (headOf s f) (lent s noise v uOut vOut) first count
       → o ≡ on.window (headOf s f) (lent s noise v uOut vOut) first count
-  unfolding on.window elementWidth wrong short
+  unfolding on.window wrong short
   rows-left z q = q ∙ sym (rw (passed z .0, passed z .1, passed z .2))
 
   pub fitting : Ready s f → number ≡ 0
-      → Fitting (elementWidth (f .field)) (2 ^ f .depth) first count (length noise) (length v) (length uOut) (length vOut)
+      → Fitting (elementWords (f .field)) (2 ^ f .depth) first count (length noise) (length v) (length uOut) (length vOut)
   unfolding wrong short
   fitting accepted z =
       let n : first + count ≤ f .outputs = ltb-false (f .outputs) (first + count) (passed z .1) in
-      let a = or-none (not (eqb (length noise) (2 ^ f .depth))) (not (eqb (length v) (2 ^ f .depth * elementWidth (f .field)))) (passed z .0) in
-      let b = or-none (ltb (length uOut) count) (ltb (length vOut) (count * elementWidth (f .field))) (passed z .2) in
+      let a = or-none (not (eqb (length noise) (2 ^ f .depth))) (not (eqb (length v) (2 ^ f .depth * elementWords (f .field)))) (passed z .0) in
+      let b = or-none (ltb (length uOut) count) (ltb (length vOut) (count * elementWords (f .field))) (passed z .2) in
       record {
         places = pow-pos (f .depth);
         noiseValues = is-equal (length noise) (2 ^ f .depth) (a .0);
-        whole = is-equal (length v) (2 ^ f .depth * elementWidth (f .field)) (a .1);
+        whole = is-equal (length v) (2 ^ f .depth * elementWords (f .field)) (a .1);
         within = omega (arith, accepted .sizes .outputs);
         uEnough = ltb-false (length uOut) count (b .0);
-        enough = ltb-false (length vOut) (count * elementWidth (f .field)) (b .1);
+        enough = ltb-false (length vOut) (count * elementWords (f .field)) (b .1);
       }
 
 module _ (s noise v uOut vOut : List ℕ) (first count : ℕ) (f : Front) {keys : List (List (List ℕ))}
@@ -285,12 +285,12 @@ module _ (s noise v uOut vOut : List ℕ) (first count : ℕ) (f : Front) {keys 
     unfolding rowsOutcome
     not-usable e = sym (rw (← usable b be, not-false a right, not-true b e))
 
-    pub rows-written : not b ≡ false → {width : ℕ} → width ≡ elementWidth (f .field)
+    pub rows-written : not b ≡ false → {width : ℕ} → width ≡ elementWords (f .field)
         → {x : List ℕ} → x ≡ uOver (kindOf (f .field)) keys size (f .terms) first count noise uOut
         → {y : List ℕ} → y ≡ windowOver (kindOf (f .field)) keys size (f .terms) first count v vOut
         → record { number = 0; firstWritten = count; secondWritten = count * width; lent = record { source = s; noise = noise; v = v; uOut = x; vOut = y } }
         ≡ rowsOutcome (headOf s f) (lent s noise v uOut vOut) first count
-    unfolding rowsOutcome on.filled elementWidth
+    unfolding rowsOutcome on.filled
     rows-written e {width} we {x} q {y} t =
         let p : x ≡ on.filled (headOf s f) (lent s noise v uOut vOut) first count .uOut = q ∙ rw (ke, se) (u-words s f first count noise v uOut vOut) in
         let d : y ≡ on.filled (headOf s f) (lent s noise v uOut vOut) first count .vOut = t ∙ rw (ke, se) (v-words s f first count noise v uOut vOut) in

@@ -2,17 +2,19 @@
 use mathlib.Core.Path.{_≡_, sym, ap, _∙_}
 use mathlib.Core.List.{List}
 use Prim.Native.Nat.{ℕ}
-use Rattle.number.specs.Reading.{Whole, Refused, isWhole}
+use Rattle.number.specs.Reading.{Whole, Refused}
+use Rattle.number.specs.Inner.Known.{isWhole}
 use Rattle.record.specs.Content.{NoiseTree, NoisePart}
-use Rattle.record.specs.Reading.{readHead, readTrees, readNoise, headOf, opened, frontOf}
+use Rattle.record.specs.Reading.{readHead, readTrees, readNoise}
+use Rattle.record.specs.Inner.Answers.{headOf, opened, frontOf}
 use Rattle.record.specs.declared.Front.{Front}
 use Rattle.record.specs.declared.Opened.{Opened}
 use Rattle.record.specs.declared.Opened.the-variants.{Accepted, Fault}
 use Rattle.record.proofs.Callers.{head-ranges, noise-refused, noise-opened}
-use Rattle.rows.specs.Words.{faultOf}
+use Rattle.rows.specs.Inner.Words.{recordFault}
 use Rattle.rows.proofs.Sizes.{head-sizes}
-use Rattle.noise_end.specs.Ready.{contentOf, Ready}
-use Rattle.noise_end.specs.Steps.{treesAt}
+use Rattle.noise_end.specs.Inner.Ready.{contentOf, Ready}
+use Rattle.noise_end.specs.Inner.Steps.{treesAt}
 
 -- the trees that were read
 pub trees-at : (field depth trees : ℕ) (s : List ℕ) (body : ℕ) {ts : List NoiseTree} {end : ℕ}
@@ -37,8 +39,8 @@ ready s {r} {f} e q =
     }
 
 -- the number of a refused record
-pub refused-is : (s : List ℕ) {r : Opened} {j k : ℕ} → opened s r ≡ frontOf (readNoise s) (readHead 1 s) → r ≡ Fault j → k ≡ faultOf r
+pub refused-is : (s : List ℕ) {r : Opened} {j k : ℕ} → opened s r ≡ frontOf (readNoise s) (readHead 1 s) → r ≡ Fault j → k ≡ recordFault r
     → readNoise s ≡ Refused k
 refused-is s {r} {j} {k} e q w =
     let y : Refused j ≡ frontOf (readNoise s) (readHead 1 s) = rw q at e in
-    noise-refused s (sym y) ∙ ap (λ (n : ℕ). Refused n) (sym (w ∙ ap faultOf q))
+    noise-refused s (sym y) ∙ ap (λ (n : ℕ). Refused n) (sym (w ∙ ap recordFault q))

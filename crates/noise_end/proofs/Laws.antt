@@ -126,7 +126,7 @@ unfolding window rowsOutcome filled
 window-kept h l first count =
     choose-either (Kept l) (wrongLengths h l) _ _ (refusal-kept l 3)
     (choose-either (Kept l) (pastEnd h first count) _ _ (refusal-kept l 7)
-    (choose-either (Kept l) (tooShort h l count) _ _ (refusal-kept l 13)
+    (choose-either (Kept l) (tooShort h count (l .uOut) (l .vOut)) _ _ (refusal-kept l 13)
     (choose-either (Kept l) (not (windowUsable (usable (fieldOf h) l) h first count)) _ _ (refusal-kept l 8)
     (record { source = refl; noise = refl; v = refl }))))
 
@@ -180,19 +180,19 @@ module _ (l : Lent) (P : NoisePart) (f : ℕ → NoiseValue (fieldOf (P .head)))
   accepted = record { number = 0; firstWritten = count; secondWritten = count * fieldOf (P .head) .elements .width; lent = filled (P .head) l first count }
 
   listed : online l first count
-      ≡ choose (pastEnd (P .head) first count) (on.refusal 7 l) (choose (tooShort (P .head) l count) (on.refusal 13 l) accepted)
+      ≡ choose (pastEnd (P .head) first count) (on.refusal 7 l) (choose (tooShort (P .head) count (l .uOut) (l .vOut)) (on.refusal 13 l) accepted)
   unfolding window rowsOutcome accepted
   listed = online-whole l first count read ∙ rw (right-lengths, all-usable)
 
   -- 7 if the window passes n, else 13 if a buffer is too short, else 0
-  pub online-number : online l first count .number ≡ choose (pastEnd (P .head) first count) 7 (choose (tooShort (P .head) l count) 13 0)
+  pub online-number : online l first count .number ≡ choose (pastEnd (P .head) first count) 7 (choose (tooShort (P .head) count (l .uOut) (l .vOut)) 13 0)
   unfolding accepted
   online-number =
       ap (λ (o : Outcome). o .number) listed
       ∙ choose-map (λ (o : Outcome). o .number) (pastEnd (P .head) first count) _ _
-      ∙ ap (choose (pastEnd (P .head) first count) 7) (choose-map (λ (o : Outcome). o .number) (tooShort (P .head) l count) _ _)
+      ∙ ap (choose (pastEnd (P .head) first count) 7) (choose-map (λ (o : Outcome). o .number) (tooShort (P .head) count (l .uOut) (l .vOut)) _ _)
 
-  passed : online l first count .number ≡ 0 → (s t : Bool) → pastEnd (P .head) first count ≡ s → tooShort (P .head) l count ≡ t
+  passed : online l first count .number ≡ 0 → (s t : Bool) → pastEnd (P .head) first count ≡ s → tooShort (P .head) count (l .uOut) (l .vOut) ≡ t
       → online l first count ≡ accepted
   passed n true t a b = absurd (omega (arith, rw a at online-number))
   passed n false true a b = absurd (omega (arith, rw (a, b) at online-number))
@@ -204,7 +204,7 @@ module _ (l : Lent) (P : NoisePart) (f : ℕ → NoiseValue (fieldOf (P .head)))
       ≡ output (itself (fieldOf (P .head) .ring)) (row (P .head) (first + k)) f
   unfolding filled accepted
   online-u n k h =
-      rw (passed n (pastEnd (P .head) first count) (tooShort (P .head) l count) refl refl)
+      rw (passed n (pastEnd (P .head) first count) (tooShort (P .head) count (l .uOut) (l .vOut)) refl refl)
       (at-over (fieldOf (P .head) .noiseValues) scalar-coding count (λ i. uAt (P .head) l (first + i)) (l .uOut) k h
       ∙ row-output (P .head) (first + k) (itself (fieldOf (P .head) .ring)) (at (fieldOf (P .head) .noiseValues) (l .noise)) f noise-at)
 
@@ -213,6 +213,6 @@ module _ (l : Lent) (P : NoisePart) (f : ℕ → NoiseValue (fieldOf (P .head)))
       ≡ output (fieldOf (P .head) .scaled) (row (P .head) (first + k)) g
   unfolding filled accepted
   online-v n k h =
-      rw (passed n (pastEnd (P .head) first count) (tooShort (P .head) l count) refl refl)
+      rw (passed n (pastEnd (P .head) first count) (tooShort (P .head) count (l .uOut) (l .vOut)) refl refl)
       (at-over (fieldOf (P .head) .elements) coding count (λ i. vAt (P .head) l (first + i)) (l .vOut) k h
       ∙ row-output (P .head) (first + k) (fieldOf (P .head) .scaled) (at (fieldOf (P .head) .elements) (l .v)) g v-at)

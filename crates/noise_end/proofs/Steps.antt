@@ -7,26 +7,28 @@ use Prim.Native.Nat.{ℕ, zero, suc, _+_, _≤_, _<_}
 use native.Mathlib.Nat.{mul-one}
 use native.Mathlib.Omega.{arith}
 use lib.ListN.{length, set}
-use Rattle.algebra.specs.Coding.{at, put}
+use Rattle.field.proofs.KindOf.{kind-2}
+use Rattle.algebra.specs.Coding.{at}
+use Rattle.algebra.specs.Inner.Put.{put}
 use Rattle.algebra.specs.Group.{itself}
 use Rattle.algebra.specs.Row.{output}
-use Rattle.code.specs.Row.{binaryRow, primeRow}
-use Rattle.code.specs.Used.{every, rowBelow, usedBelow}
+use Rattle.code.specs.Inner.Rows.{binaryRow, primeRow}
+use Rattle.algebra.specs.Every.{every}
+use Rattle.code.specs.Inner.Used.{rowBelow, usedBelow}
 use Rattle.field.specs.declared.block.Block.{Block}
 use Rattle.field.specs.declared.prime.Prime.{Prime}
 use Rattle.field.specs.Binary.{binary, bitRing, blocks}
-use Rattle.field.specs.Kind.{kindOf, binaryKind, primeKind}
+use Rattle.field.specs.Kind.{kindOf, binaryKind, primeKind, elementWords}
 use Rattle.field.specs.Prime.{primes, primeRing, modulus}
 use Rattle.field.proofs.BinaryField.{binaryLaws}
 use Rattle.field.proofs.PrimeField.{primeLaws}
-use Rattle.rows.specs.Window.{outputAt}
-use Rattle.rows.specs.Words.{elementWidth}
+use Rattle.rows.specs.Inner.Outputs.{outputAt}
 use Rattle.rows.proofs.Widths.{width-binary, width-prime}
 use Rattle.rows.proofs.Windows.{Written, written-none, written-word, written-all}
 use Rattle.rows.proofs.Filled.{binary-next, prime-next}
-use Rattle.noise_end.specs.Steps.{Fitting, TreesFit, treesAt, noiseExpansion, vExpansion, uOutputAt, uOver, noiseUsed}
+use Rattle.noise_end.specs.Inner.Steps.{Fitting, TreesFit, treesAt, noiseExpansion, vExpansion, uOutputAt, uOver, noiseUsed}
 
-module _ (field size first count noise vector uRoom room : ℕ) (fits : Fitting (elementWidth field) size first count noise vector uRoom room) where
+module _ (field size first count noise vector uRoom room : ℕ) (fits : Fitting (elementWords field) size first count noise vector uRoom room) where
   pub fits-binary : field ≡ 1 → Fitting 2 size first count noise vector uRoom room
   fits-binary e = rw (width-binary field e) at fits
 
@@ -35,13 +37,11 @@ module _ (field size first count noise vector uRoom room : ℕ) (fits : Fitting 
 
 -- ---- the trees, at the kind of a field byte
 
-module _ (field body depth trees : ℕ) (source : List ℕ) (n m : ℕ) (trees-fit : TreesFit field (elementWidth field) body depth trees source n m) where
+module _ (field body depth trees : ℕ) (source : List ℕ) (n m : ℕ) (trees-fit : TreesFit field (elementWords field) body depth trees source n m) where
   pub trees-fit-binary : field ≡ 1 → TreesFit 1 2 body depth trees source n m
-  unfolding elementWidth
   trees-fit-binary e = rw e at trees-fit
 
   pub trees-fit-prime : (field ≡ 1 → ⊥) → TreesFit 2 1 body depth trees source n m
-  unfolding elementWidth
   trees-fit-prime h = rw (trees-fit .two h) at trees-fit
 
   pub noise-expanded-binary : field ≡ 1 → {w : List ℕ} → w ≡ noiseExpansion binaryKind depth trees (treesAt 1 source body depth trees)
@@ -89,9 +89,7 @@ module _ (keys : List (List (List ℕ))) (size terms first count : ℕ) (noise :
 
   pub noise-prime : (field : ℕ) → (field ≡ 1 → ⊥) → {bound : ℕ} → bound ≡ modulus → {r : Bool}
       → r ≡ usedBelow bound noise keys size terms first count → r ≡ noiseUsed (kindOf field) keys size terms first count noise
-  noise-prime zero h e q = q ∙ rw e noise-at-prime
-  noise-prime (suc zero) h e q = absurd (h refl)
-  noise-prime (suc (suc n)) h e q = q ∙ rw e noise-at-prime
+  noise-prime field h e q = q ∙ rw (e, kind-2 field h) noise-at-prime
 
 -- ---- the window written in one field, at the kind of a field byte
 
@@ -102,9 +100,7 @@ module _ (keys : List (List (List ℕ))) (size terms first count : ℕ) (w b : L
 
   pub u-filled-prime : (field : ℕ) → (field ≡ 1 → ⊥) → {x : List ℕ} → x ≡ uOver primeKind keys size terms first count w b
       → x ≡ uOver (kindOf field) keys size terms first count w b
-  u-filled-prime zero h q = q
-  u-filled-prime (suc zero) h q = absurd (h refl)
-  u-filled-prime (suc (suc n)) h q = q
+  u-filled-prime field h q = rw (kind-2 field h) q
 
 -- ---- a window written one output a turn
 

@@ -13,7 +13,8 @@ use lib.Pow.{pow-mono}
 use mir.Syntax.{w64}
 use mir.Val.{Fits}
 use Rattle.algebra.specs.Choice.{choose}
-use Rattle.algebra.specs.Coding.{at, flat, put}
+use Rattle.algebra.specs.Coding.{at, flat}
+use Rattle.algebra.specs.Inner.Put.{put}
 use Rattle.algebra.specs.Expansion.{noise, punctured}
 use Rattle.algebra.specs.Field.{Field, FieldLaws, Value}
 use Rattle.algebra.specs.Group.{itself}
@@ -26,23 +27,25 @@ use Rattle.field.specs.Kind.{Kind, KindLaws, binaryKind, primeKind}
 use Rattle.field.specs.Prime.{primes, primeRing, prime}
 use Rattle.field.proofs.BothKinds.{binaryKindLaws, primeKindLaws}
 use Rattle.field.proofs.Words.{put-one}
-use Rattle.number.specs.Reading.{Whole, Refused, Step, isWhole}
-use Rattle.record.specs.Content.{NoiseTree, elementOf}
-use Rattle.record.specs.Reading.{items, blockAt, readTree, readTrees, treeOf}
+use Rattle.number.specs.Reading.{Whole, Refused, Step}
+use Rattle.number.specs.Inner.Known.{isWhole}
+use Rattle.record.specs.Content.{NoiseTree, elementOf, treeIn}
+use Rattle.record.specs.Reading.{items, blockAt, readTree, readTrees}
+use Rattle.record.specs.Inner.Answers.{treeOf}
 use Rattle.record.specs.declared.Tree.{Tree}
 use Rattle.record.proofs.Callers.{again-asks, again-at, tree-ranges}
 use Rattle.tree.specs.Added.{puncturedElement}
 use Rattle.tree.specs.Child.{child, childBy, childKey, keysFor}
 use Rattle.tree.specs.Columns.{columnsAt, siblingsAt}
-use Rattle.tree.specs.Expanded.{puncturedFilled}
+use Rattle.tree.specs.Expanded.{puncturedAdded}
 use Rattle.tree.specs.Tree.{fromSiblings}
 use Rattle.tree.proofs.ChildLaws.{lent-keys, punctured-by}
 use Rattle.tree.proofs.Laws.{two}
 use Rattle.rows.proofs.Blocks.{columns-part}
 use Rattle.rows.proofs.Flats.{flat-accumulated, put-flat}
 use Rattle.rows.proofs.Sums.{treesSum, length-trees, trees-none, trees-more, trees-accumulated}
-use Rattle.noise_end.specs.Vectors.{treeIn, valueIn, correctionIn, leafIn}
-use Rattle.noise_end.specs.Steps.{TreesFit, treesAt, noiseExpansion, vExpansion}
+use Rattle.noise_end.specs.Vectors.{valueIn, correctionIn, leafIn}
+use Rattle.noise_end.specs.Inner.Steps.{TreesFit, treesAt, noiseExpansion, vExpansion}
 use Rattle.noise_end.proofs.Content.{trees-at}
 
 -- ---- what is left of the record
@@ -151,7 +154,7 @@ module _ (K : Kind) (L : KindLaws K) (depth : ℕ) (ts : List NoiseTree) where
   tree-added : {left right : List (List (List ℕ))} → left ≡ keyExpansion (childKey 0) → right ≡ keyExpansion (childKey 1)
       → (i : ℕ) (s : List ℕ) (field : ℕ) (t : Tree) → treeIn ts i ≡ treeOf s field depth t
       → {c : Value (K .field)} → c ≡ K .field .elements .read (elementOf field (t .low) (t .high)) 0 → {v next : List ℕ} → v ≡ Trees K depth ts i
-      → next ≡ puncturedFilled K 2 (childBy (keysFor left right)) (record { levels = depth; position = t .position; at = t .siblings }) s c v
+      → next ≡ puncturedAdded K 2 (childBy (keysFor left right)) (record { levels = depth; position = t .position; at = t .siblings }) s c v
       → next ≡ Trees K depth ts (i + 1)
   unfolding Trees puncturedElement
   tree-added {left} {right} l r i s field t same {c} ce {v} {next} e q =
@@ -217,7 +220,7 @@ module _ {K : Kind} (L : KindLaws K) {field depth trees : ℕ} {s : List ℕ} wh
 
         pub grown-next : Stores K → {left right : List (List (List ℕ))} → left ≡ keyExpansion (childKey 0) → right ≡ keyExpansion (childKey 1)
             → {c : Value (K .field)} → c ≡ K .field .elements .read (elementOf field (t .low) (t .high)) 0 → {next : List ℕ}
-            → next ≡ puncturedFilled K 2 (childBy (keysFor left right)) (record { levels = depth; position = t .position; at = t .siblings }) s c v
+            → next ≡ puncturedAdded K 2 (childBy (keysFor left right)) (record { levels = depth; position = t .position; at = t .siblings }) s c v
             → Grown K field depth trees s ts (t .siblings + 16 * depth) (t .position + 1) (i + 1) (set w (t .position) (t .value)) next
         grown-next store l r ce q =
             let a = again-at field depth trees base s place i more ts (treeIn [] 0) (g .left .read) known in

@@ -5,6 +5,7 @@ use mathlib.Core.List.{List}
 use Prim.Native.Nat.{ℕ, _*_}
 use lib.Dec.{ltb}
 use lib.ListN.{length}
+use Rattle.answer.specs.Numbers.{accepted, bufferShort}
 use Rattle.algebra.specs.Choice.{choose}
 use Rattle.algebra.specs.Coding.{over}
 use Rattle.algebra.specs.Sum.{accumulate}
@@ -40,9 +41,9 @@ vWords P = places (P .head) * fieldOf (P .head) .elements .width
 -- the accumulated μ and the accumulated v0, if each buffer has room; else 13
 unfoldable pub expand : NoisePart → List ℕ → List ℕ → List ℕ → Expanded
 expand P source noise v =
-    choose (ltb (length noise) (places (P .head)) || ltb (length v) (vWords P)) (refusal 13 source noise v)
+    choose (ltb (length noise) (places (P .head)) || ltb (length v) (vWords P)) (refusal bufferShort source noise v)
     (record {
-      number = 0;
+      number = accepted;
       firstWritten = places (P .head);
       secondWritten = vWords P;
       source = source;

@@ -5,6 +5,7 @@ use mathlib.Core.List.{List}
 use Prim.Native.Nat.{ℕ, _+_, _*_}
 use lib.Dec.{ltb, eqb}
 use lib.ListN.{length}
+use Rattle.answer.specs.Numbers.{accepted, badLength, windowPastEnd, notElement, bufferShort}
 use Rattle.algebra.specs.Choice.{choose}
 use Rattle.algebra.specs.Coding.{at, over}
 use Rattle.algebra.specs.Field.{Field, NoiseValue, Value}
@@ -69,21 +70,21 @@ wrongLengths h l =
     not (eqb (length (l .noise)) (places h)) || not (eqb (length (l .v)) (places h * fieldOf h .elements .width))
 
 -- 13: an output buffer is too short for c words of u, or c elements of v
-abbrev pub tooShort : Head → Lent → ℕ → Bool
-tooShort h l count = ltb (length (l .uOut)) count || ltb (length (l .vOut)) (count * fieldOf h .elements .width)
+abbrev pub tooShort : Head → ℕ → List ℕ → List ℕ → Bool
+tooShort h count uOut vOut = ltb (length uOut) count || ltb (length vOut) (count * fieldOf h .elements .width)
 
 -- the test 8, and the window
 unfoldable pub rowsOutcome : Head → Lent → ℕ → ℕ → Outcome
 rowsOutcome h l first count =
-    choose (not (windowUsable (usable (fieldOf h) l) h first count)) (refusal 8 l)
-    (record { number = 0; firstWritten = count; secondWritten = count * fieldOf h .elements .width; lent = filled h l first count })
+    choose (not (windowUsable (usable (fieldOf h) l) h first count)) (refusal notElement l)
+    (record { number = accepted; firstWritten = count; secondWritten = count * fieldOf h .elements .width; lent = filled h l first count })
 
 -- the tests 3, 7, 13, then 8 and the window
 unfoldable pub window : Head → Lent → ℕ → ℕ → Outcome
 window h l first count =
-    choose (wrongLengths h l) (refusal 3 l)
-    (choose (pastEnd h first count) (refusal 7 l)
-    (choose (tooShort h l count) (refusal 13 l)
+    choose (wrongLengths h l) (refusal badLength l)
+    (choose (pastEnd h first count) (refusal windowPastEnd l)
+    (choose (tooShort h count (l .uOut) (l .vOut)) (refusal bufferShort l)
     (rowsOutcome h l first count)))
 
 -- the call: the record's number, or the window

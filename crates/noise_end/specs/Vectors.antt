@@ -1,20 +1,16 @@
 -- μ and v0, from the content of a noise record alone (document 01, 'Trees', 'Offline and online').
 use mathlib.Core.List.{List, [], _∷_, map}
 use Prim.Native.Nat.{ℕ}
-use lib.ListN.{getD}
 use Rattle.algebra.specs.Expansion.{noise, punctured}
 use Rattle.algebra.specs.Field.{NoiseValue, Value}
 use Rattle.field.specs.Kind.{Kind}
 use Rattle.tree.specs.Child.{child}
 use Rattle.tree.specs.Columns.{columnsAt}
 use Rattle.tree.specs.Tree.{fromSiblings}
-use Rattle.record.specs.Content.{NoiseTree, NoisePart}
+use Rattle.record.specs.Content.{NoiseTree, NoisePart, treeIn}
 use Rattle.rows.specs.Head.{kind, fieldOf}
 
--- tree i of a list of trees; its noise value, its correction, and the element of its leaf j, which follows from the siblings
-abbrev pub treeIn : List NoiseTree → ℕ → NoiseTree
-treeIn ts i = getD ts i (record { position = 0; value = 0; correction = []; siblings = [] })
-
+-- tree i of a list of trees: its noise value, its correction, and the element of its leaf j, which follows from the siblings
 abbrev pub valueIn : (K : Kind) → List NoiseTree → ℕ → NoiseValue (K .field)
 valueIn K ts i = K .field .noiseValues .read (treeIn ts i .value ∷ []) 0
 

@@ -1,12 +1,11 @@
 // The expansion of an offline call: the noise values and the punctured trees added in place and accumulated.
 ghost use mathlib.Core.Path.{_≡_};
 ghost use lib.ListN.{length};
-ghost use Rattle.sbox.specs.Table.{Tables};
-ghost use Rattle.field.specs.Kind.{kindOf, binaryKind, primeKind};
-ghost use Rattle.rows.specs.Words.{elementWidth};
-ghost use Rattle.noise_end.specs.Steps.{TreesFit, treesAt, noiseExpansion, vExpansion};
+ghost use Rattle.sbox.specs.Inner.Tables.{Tables};
+ghost use Rattle.field.specs.Kind.{kindOf, binaryKind, primeKind, elementWords};
+ghost use Rattle.noise_end.specs.Inner.Steps.{TreesFit, treesAt, noiseExpansion, vExpansion};
 ghost use Rattle.noise_end.specs.Offline.{expanded, expand};
-ghost use Rattle.noise_end.specs.Ready.{Ready, contentOf};
+ghost use Rattle.noise_end.specs.Inner.Ready.{Ready, contentOf};
 use answer::BUFFER_SHORT;
 use answer::TwoLengths;
 use code::accumulate_bits;
@@ -123,7 +122,7 @@ fn expand_trees(
     noise: &mut [u64],
     v: &mut [u64],
 )
-    requires { ⌜ TreesFit field (elementWidth field) body depth trees (now source) (length (now noise)) (length (now v)) ⌝ }
+    requires { ⌜ TreesFit field (elementWords field) body depth trees (now source) (length (now noise)) (length (now v)) ⌝ }
     ensures { λ _. ⌜ (now (noise .exit) ≡ noiseExpansion (kindOf field) depth trees (treesAt field (now (source .entry)) body depth trees))
         × (now (v .exit) ≡ vExpansion (kindOf field) depth trees (treesAt field (now (source .entry)) body depth trees)) ⌝ }
 {

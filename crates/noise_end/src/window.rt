@@ -2,15 +2,14 @@
 ghost use mathlib.Core.Path.{_≡_};
 ghost use Prim.Native.Nat.{_^_, _≤_};
 ghost use lib.ListN.{length};
-ghost use Rattle.sbox.specs.Table.{Tables};
-ghost use Rattle.field.specs.Kind.{kindOf, binaryKind, primeKind};
-ghost use Rattle.rows.specs.Testing.{Testing};
-ghost use Rattle.rows.specs.Words.{elementWidth};
-ghost use Rattle.noise_end.specs.Steps.{Fitting, noiseUsed, uOver, lengthsNumber};
-ghost use Rattle.rows.specs.Window.{windowOver};
-ghost use Rattle.record.specs.Reading.{headOf};
+ghost use Rattle.sbox.specs.Inner.Tables.{Tables};
+ghost use Rattle.field.specs.Kind.{kindOf, binaryKind, primeKind, elementWords};
+ghost use Rattle.rows.specs.Inner.Testing.{Testing};
+ghost use Rattle.noise_end.specs.Inner.Steps.{Fitting, noiseUsed, uOver, lengthsNumber};
+ghost use Rattle.rows.specs.Inner.Outputs.{windowOver};
+ghost use Rattle.record.specs.Inner.Answers.{headOf};
 ghost use Rattle.noise_end.specs.Online.{outcome, rowsOutcome, window};
-ghost use Rattle.noise_end.specs.Ready.{Ready};
+ghost use Rattle.noise_end.specs.Inner.Ready.{Ready};
 use answer::BAD_LENGTH;
 use answer::BUFFER_SHORT;
 use answer::NOT_ELEMENT;
@@ -132,7 +131,7 @@ fn fill(
     v_out: &mut [u64],
 )
     requires { ⌜ Tables (now sbox) (now mix) ⌝ }
-    requires { ⌜ Fitting (elementWidth field) size first count (length (now noise)) (length (now v)) (length (now «u_out»)) (length (now «v_out»)) ⌝ }
+    requires { ⌜ Fitting (elementWords field) size first count (length (now noise)) (length (now v)) (length (now «u_out»)) (length (now «v_out»)) ⌝ }
     ensures { λ _. ⌜ (now («u_out» .exit) ≡ uOver (kindOf field) (now (keys .entry)) size terms first count (now (noise .entry)) (now («u_out» .entry)))
         × (now («v_out» .exit) ≡ windowOver (kindOf field) (now (keys .entry)) size terms first count (now (v .entry)) (now («v_out» .entry))) ⌝ }
 {
@@ -179,7 +178,7 @@ fn write_rows(
     v_out: &mut [u64],
 ) -> TwoLengths
     requires { ⌜ Ready (now source) front ⌝ }
-    requires { ⌜ Fitting (elementWidth (front .field)) (2 ^ front .depth) first count (length (now noise)) (length (now v)) (length (now «u_out»)) (length (now «v_out»)) ⌝ }
+    requires { ⌜ Fitting (elementWords (front .field)) (2 ^ front .depth) first count (length (now noise)) (length (now v)) (length (now «u_out»)) (length (now «v_out»)) ⌝ }
     ensures { λ r. ⌜ outcome r (record { source = now (source .exit); noise = now (noise .exit); v = now (v .exit); uOut = now («u_out» .exit); vOut = now («v_out» .exit) })
         ≡ rowsOutcome (headOf (now (source .entry)) front) (record { source = now (source .entry); noise = now (noise .entry); v = now (v .entry); uOut = now («u_out» .entry); vOut = now («v_out» .entry) }) first count ⌝ }
 {

@@ -9,8 +9,10 @@ use borrow.Author.Tests.{lt-ltb, le-ltb}
 use lib.ListN.{length, getD}
 use Rattle.number.proofs.Places.{split, whole-is, refused-whole, refused-known, has-front, has-back, has-join, has-is, has-byte, byte-has}
 use Rattle.number.proofs.Steps.{ends-0, value-0, ends-1, zero-1, value-1, ends-2, zero-2, value-2, top-bit, one, two, three}
-use Rattle.number.specs.Number.{numbers, writeNumber, numberLength, readNumber}
-use Rattle.number.specs.Reading.{Whole, Refused, Step, isWhole, Bytes, Has}
+use Rattle.number.specs.Number.{writeNumber, readNumber}
+use Rattle.number.specs.Inner.Answers.{numbers, numberLength}
+use Rattle.number.specs.Reading.{Whole, Refused, Step, Bytes}
+use Rattle.number.specs.Inner.Known.{isWhole, Has}
 
 positive : (b : ℕ) → (b ≡ 0 → ⊥) → 0 < b
 positive b z = split 0 b (λ h. h) (λ h. absurd (z (omega arith)))

@@ -11,7 +11,8 @@ use borrow.Author.Tests.{lt-ltb, le-leb, ltb-true, leb-true}
 use lib.Dec.{ltb, leb}
 use lib.ListN.{length, getD, take, drop, set, length-append, length-drop}
 use lib.Seq.{take-add, take-take, take-at, drop-at, drop-drop, drop-cons, take-length, length-take-le, sets}
-use Rattle.number.specs.Reading.{Reading, Whole, Refused, isWhole, Step, then, choose, tested, part, readBytes, readByte, Has}
+use Rattle.number.specs.Reading.{Reading, Whole, Refused, Step, then, choose, tested, part, readBytes, readByte}
+use Rattle.number.specs.Inner.Known.{isWhole, Has}
 
 -- one order or the other
 pub split {ℓ} : {X : Type ℓ} (a b : ℕ) → (a < b → X) → (b ≤ a → X) → X

@@ -9,7 +9,8 @@ use native.Mathlib.Numerals.{add-one}
 use native.Mathlib.Omega.{arith}
 use lib.ListN.{length, getD, set}
 use lib.Seq.{sets}
-use Rattle.number.specs.Number.{writeNumber, numberLength, lastGroup, readNumber}
+use Rattle.number.specs.Number.{writeNumber, lastGroup, readNumber}
+use Rattle.number.specs.Inner.Answers.{numberLength}
 use Rattle.number.specs.Reading.{Whole, Refused, readByte}
 
 module _ (s : List ℕ) (at : ℕ) where

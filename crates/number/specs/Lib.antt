@@ -1,3 +1,4 @@
 -- The number code of records (document 01, 'Key records').
 pub mod Reading
 pub mod Number
+pub mod Inner

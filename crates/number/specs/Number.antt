@@ -3,13 +3,8 @@
 use Prim.Native.Nat.{ℕ, _+_, _-_, _*_, _/_, _%_}
 use mathlib.Core.List.{List, [], _∷_}
 use lib.Dec.{ltb, eqb}
+use Rattle.answer.specs.Numbers.{badNumber}
 use Rattle.number.specs.Reading.{Whole, Refused, Step, then, choose, readByte}
-use Rattle.number.specs.declared.Number.{Number}
-use Rattle.number.specs.declared.Number.the-variants.{Value, Fault}
-
--- the numbers that at most 3 bytes hold are below this
-abbrev pub numbers : ℕ
-numbers = 2097152
 
 -- the writing of a number
 unfoldable pub writeNumber : ℕ → List ℕ
@@ -18,13 +13,9 @@ writeNumber n =
     (choose (ltb n 16384) ((128 + n % 128) ∷ n / 128 ∷ [])
     ((128 + n % 128) ∷ (128 + n / 128 % 128) ∷ n / 16384 ∷ []))
 
--- how many bytes that takes
-unfoldable pub numberLength : ℕ → ℕ
-numberLength n = choose (ltb n 128) 1 (choose (ltb n 16384) 2 3)
-
 -- the last byte of several: 11: number not shortest, where it is 00
 unfoldable pub lastGroup : ℕ → ℕ → ℕ → Step ℕ
-lastGroup b n next = choose (eqb b 0) (Refused 11) (Whole (n, next))
+lastGroup b n next = choose (eqb b 0) (Refused badNumber) (Whole (n, next))
 
 -- the reading of a number: the first byte without its top bit ends it; 11: its third byte's top bit set
 unfoldable pub readNumber : List ℕ → ℕ → Step ℕ
@@ -34,14 +25,4 @@ readNumber s at =
     (then (readByte s at1) λ b at2.
     choose (ltb b 128) (lastGroup b (a - 128 + b * 128) at2)
     (then (readByte s at2) λ c at3.
-    choose (ltb c 128) (lastGroup c (a - 128 + (b - 128) * 128 + c * 16384) at3) (Refused 11)))
-
--- what each case of the answer says
-abbrev pub numberRead : Number → Step ℕ
-numberRead (Value n next) = Whole (n, next)
-numberRead (Fault k) = Refused k
-
--- the number of a refusal
-abbrev pub faultOf : Number → ℕ
-faultOf (Value n next) = 0
-faultOf (Fault k) = k
+    choose (ltb c 128) (lastGroup c (a - 128 + (b - 128) * 128 + c * 16384) at3) (Refused badNumber)))

@@ -1,21 +1,16 @@
 -- What reading a record gives, and how its fields are read one after the other (document 01, 'Numbers of the calls').
-use Prim.Native.Nat.{ℕ, _+_, _≤_, _<_}
-use mathlib.Core.Bool.{Bool, true, false}
+use Prim.Native.Nat.{ℕ, _+_, _<_}
+use mathlib.Core.Bool.{Bool}
 use mathlib.Core.List.{List}
-use mathlib.Core.Path.{_≡_}
 use lib.Dec.{ltb, leb}
 use lib.ListN.{length, getD, take, drop}
+use Rattle.answer.specs.Numbers.{recordEnds}
 pub use Rattle.algebra.specs.Choice.{choose}
 
 -- a content, or the number that a record is refused with
 pub data Reading (A : Type 0) : Type 0 where
   Whole : A → Reading A
   Refused : ℕ → Reading A
-
--- whether it was a content
-abbrev pub isWhole : {A : Type 0} → Reading A → Bool
-isWhole (Whole x) = true
-isWhole (Refused k) = false
 
 -- a field of the record, and the place after it
 abbrev pub Step : Type 0 → Type 0
@@ -36,16 +31,12 @@ part s at n = take n (drop at s)
 
 -- n bytes; 10: record ends inside a field
 unfoldable pub readBytes : ℕ → List ℕ → ℕ → Step (List ℕ)
-readBytes n s at = choose (leb (at + n) (length s)) (Whole (part s at n, at + n)) (Refused 10)
+readBytes n s at = choose (leb (at + n) (length s)) (Whole (part s at n, at + n)) (Refused recordEnds)
 
 -- one byte; 10: record ends inside a field
 unfoldable pub readByte : List ℕ → ℕ → Step ℕ
-readByte s at = choose (ltb at (length s)) (Whole (getD s at 0, at + 1)) (Refused 10)
+readByte s at = choose (ltb at (length s)) (Whole (getD s at 0, at + 1)) (Refused recordEnds)
 
 -- every element is a byte
 unfoldable pub Bytes : List ℕ → Type 0
 Bytes s = (i : ℕ) → getD s i 0 < 256
-
--- the bytes w stand in s from a place on
-unfoldable pub Has : List ℕ → ℕ → List ℕ → Type 0
-Has s at w = (at + length w ≤ length s) × (part s at (length w) ≡ w)

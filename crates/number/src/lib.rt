@@ -4,8 +4,10 @@ ghost use mathlib.Core.Path.{_≡_};
 ghost use Prim.Native.Nat.{_+_, _≤_, _<_};
 ghost use lib.ListN.{length};
 ghost use lib.Seq.{sets};
-ghost use Rattle.number.specs.Reading.{Whole, isWhole};
-ghost use Rattle.number.specs.Number.{numbers, writeNumber, numberLength, readNumber, numberRead, faultOf};
+ghost use Rattle.number.specs.Reading.{Whole};
+ghost use Rattle.number.specs.Inner.Known.{isWhole};
+ghost use Rattle.number.specs.Number.{writeNumber, readNumber};
+ghost use Rattle.number.specs.Inner.Answers.{numbers, numberLength, numberRead, numberFault};
 use answer::BAD_NUMBER;
 use answer::RECORD_ENDS;
 
@@ -13,13 +15,13 @@ use answer::RECORD_ENDS;
 pub enum Number {
     // The number, and the place after its last byte.
     Value(usize, usize),
-    // RECORD_ENDS or BAD_NUMBER.
+    // The number that the record is refused with.
     Fault(u32),
 }
 
 // The number that a reading is refused with; 0 for a value.
 pub fn fault_of(r: Number) -> u32
-    ensures { λ k. ⌜ k ≡ faultOf r ⌝ }
+    ensures { λ k. ⌜ k ≡ numberFault r ⌝ }
 {
     match r {
         Number::Value(_, _) => 0,

@@ -2,9 +2,9 @@
 -- result (NIST's known answers for a varying key, the last of 128 bits) is A1F6258C 877D5FCD 89644845 38BFC92C.
 use mathlib.Core.Path.{_≡_, refl}
 use mathlib.Core.List.{[], _∷_}
-use Rattle.sbox.specs.Byte.{xtime, multiples, product, squares, inverse, fromBits, affine, sBox}
+use Rattle.sbox.specs.Byte.{xtime, multiples, mulBytes, squares, inverse, fromBits, affine, sBox}
 use Rattle.aes128.specs.State.{xorWord, xorState}
-use Rattle.aes128.specs.Cipher.{subBytes, shiftRows, mixColumn, mixColumns, rounds, cipher, power, temp, words, keysOf, keyExpansion, aes}
+use Rattle.aes128.specs.Cipher.{subBytes, shiftRows, mixColumn, mixColumns, rounds, cipher, power, temp, scheduleWords, keysOf, keyExpansion, aes}
 use Rattle.field.specs.Binary.{block}
 use Rattle.field.specs.Bytes.{leBytes, leNumber, columnsOf, lowOf, highOf}
 use Rattle.pads.specs.Bytes.{blockBytes}
@@ -12,5 +12,5 @@ use Rattle.pads.specs.Pad.{padKey, hash, pad}
 
 pub cancelled : blockBytes .words (pad 5 (block 5 0))
     ≡ 0xa1 ∷ 0xf6 ∷ 0x25 ∷ 0x8c ∷ 0x87 ∷ 0x7d ∷ 0x5f ∷ 0xcd ∷ 0x89 ∷ 0x64 ∷ 0x48 ∷ 0x45 ∷ 0x38 ∷ 0xbf ∷ 0xc9 ∷ 0x2c ∷ []
-unfolding xtime multiples product squares inverse fromBits affine sBox xorWord power temp words keysOf keyExpansion xorState subBytes shiftRows mixColumn mixColumns rounds cipher aes leBytes leNumber columnsOf lowOf highOf padKey hash pad
+unfolding xtime multiples mulBytes squares inverse fromBits affine sBox xorWord power temp scheduleWords keysOf keyExpansion xorState subBytes shiftRows mixColumn mixColumns rounds cipher aes leBytes leNumber columnsOf lowOf highOf padKey hash pad
 cancelled = refl

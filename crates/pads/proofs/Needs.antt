@@ -13,8 +13,9 @@ use Rattle.aes128.specs.State.{xorState}
 use Rattle.aes128.specs.Cipher.{cipher, keyExpansion, aes}
 use Rattle.field.specs.declared.block.Block.{Block}
 use Rattle.field.specs.Binary.{block, blockAdd, blockLeaf}
-use Rattle.field.specs.Bytes.{columnsOf, withWord}
-use Rattle.pads.specs.Bytes.{withBlock, withMessages}
+use Rattle.field.specs.Bytes.{columnsOf}
+use Rattle.field.specs.Inner.Written.{withWord}
+use Rattle.pads.specs.Inner.Written.{withBlock, withMessages}
 use Rattle.pads.specs.Pad.{padKey, hash, pad, messages}
 use Rattle.pads.specs.Calls.{anyAbove}
 use Rattle.pads.proofs.Written.{two-words, two-blocks}

@@ -10,7 +10,7 @@ use mir.Syntax.{w64}
 use mir.Val.{Fits}
 use borrow.Author.Tests.{ltb-false, lt-ltb, le-ltb, eq-eqb, ne-eqb, not-true, not-false}
 use Rattle.algebra.specs.Choice.{choose}
-use Rattle.pads.specs.Calls.{answer, anyAbove, noiseNumber, scalarNumber}
+use Rattle.pads.specs.Calls.{answered, anyAbove, noiseNumber, scalarNumber}
 
 -- a chain of tests gives 0 only if the first test fails and the rest gives 0
 pub passed : (t : Bool) (n rest : ℕ) → choose t (suc n) rest ≡ 0 → (t ≡ false) × (rest ≡ 0)
@@ -33,15 +33,15 @@ pub neither : (a b : Bool) → a || b ≡ false → (a ≡ false) × (b ≡ fals
 neither true b e = absurd (true≢false e)
 neither false b e = (refl, e)
 
--- the number and the buffer of an answer
+-- the number and the buffer of an answered
 module _ (values other pads written : List ℕ) where
-  pub answer-number : (n : ℕ) → answer n values other pads written .number ≡ n
-  unfolding answer
+  pub answer-number : (n : ℕ) → answered n values other pads written .number ≡ n
+  unfolding answered
   answer-number zero = refl
   answer-number (suc n) = refl
 
-  pub answer-written : (n : ℕ) → answer n values other pads written .number ≡ 0 → answer n values other pads written .pads ≡ written
-  unfolding answer
+  pub answer-written : (n : ℕ) → answered n values other pads written .number ≡ 0 → answered n values other pads written .pads ≡ written
+  unfolding answered
   answer-written zero e = refl
   answer-written (suc n) e = absurd (omega arith)
 

@@ -7,20 +7,20 @@ use lib.ListN.{length}
 use Rattle.algebra.specs.Coding.{over}
 use Rattle.field.specs.declared.block.Block.{Block}
 use Rattle.pads.specs.Bytes.{blockBytes, messageBytes}
-use Rattle.pads.specs.Calls.{outcome, answer, noiseNumber, scalarNumber, noisePads, noisePadsBy, scalarPads, scalarPadsBy}
-use Rattle.pads.specs.Steps.{Fitting}
+use Rattle.pads.specs.Calls.{outcome, answered, noiseNumber, scalarNumber, noisePads, noisePadsBy, scalarPads, scalarPadsBy}
+use Rattle.pads.specs.Inner.Steps.{WindowFits}
 use Rattle.pads.proofs.Accepts.{noise-number, scalar-number}
 use Rattle.pads.proofs.Turns.{padOf, messagesOf}
 
--- an answer by its number
+-- an answered by its number
 module _ (values other pads written : List ℕ) where
-  refused : (n : ℕ) → (n ≡ 0 → ⊥) → outcome n values other pads ≡ answer n values other pads written
-  unfolding answer
+  refused : (n : ℕ) → (n ≡ 0 → ⊥) → outcome n values other pads ≡ answered n values other pads written
+  unfolding answered
   refused zero h = absurd (h refl)
   refused (suc n) h = refl
 
-  accepted : (n : ℕ) → n ≡ 0 → outcome 0 values other written ≡ answer n values other pads written
-  unfolding answer
+  accepted : (n : ℕ) → n ≡ 0 → outcome 0 values other written ≡ answered n values other pads written
+  unfolding answered
   accepted n e = rw e
 
 module _ (first count : ℕ) (v choices pads : List ℕ) (n : ℕ) (tested : n ≡ noiseNumber first count v choices (length pads)) where
@@ -29,7 +29,7 @@ module _ (first count : ℕ) (v choices pads : List ℕ) (n : ℕ) (tested : n �
   noise-refused h = rw (← tested) (refused v choices pads (over blockBytes count (padOf first v) pads) n h)
 
   module _ (zero-n : n ≡ 0) where
-    pub noise-fits : Fitting first count (length v) 16 (length pads)
+    pub noise-fits : WindowFits first count (length v) 16 (length pads)
     noise-fits =
         let a = noise-number first count v choices pads (sym tested ∙ zero-n) in
         record { window = a .window; blocks = omega arith; outputs = omega arith }
@@ -46,7 +46,7 @@ module _ (first count : ℕ) (w delta pads : List ℕ) (n : ℕ) (tested : n ≡
   scalar-refused h = rw (← tested) (refused w delta pads (over messageBytes count (messagesOf first w (blockBytes .read delta 0)) pads) n h)
 
   module _ (zero-n : n ≡ 0) where
-    pub scalar-fits : Fitting first count (length w) 32 (length pads)
+    pub scalar-fits : WindowFits first count (length w) 32 (length pads)
     scalar-fits =
         let a = scalar-number first count w delta pads (sym tested ∙ zero-n) in
         record { window = a .window; blocks = omega arith; outputs = omega arith }

@@ -9,7 +9,8 @@ use lib.ListN.{length}
 use lib.Seq.{sets}
 use Rattle.algebra.specs.Coding.{Coding, at, over}
 use Rattle.field.specs.declared.block.Block.{Block}
-use Rattle.pads.specs.Bytes.{Messages, blockBytes, messageBytes, withBlock, withMessages}
+use Rattle.pads.specs.Bytes.{Messages, blockBytes, messageBytes}
+use Rattle.pads.specs.Inner.Written.{withBlock, withMessages}
 use Rattle.pads.specs.Pad.{pad, messages}
 use Rattle.pads.proofs.Written.{Wide, over-none, over-more, wide-block, wide-messages}
 

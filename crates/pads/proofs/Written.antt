@@ -10,8 +10,10 @@ use lib.ListN.{length, set, drop, length-append, length-drop}
 use lib.Seq.{sets, sets-eq, take-append-seam, drop-append-seam, drop-append-add, drop-drop}
 use Rattle.algebra.specs.Coding.{Coding, at, flat, over}
 use Rattle.field.specs.declared.block.Block.{Block}
-use Rattle.field.specs.Bytes.{leBytes, withWord}
-use Rattle.pads.specs.Bytes.{Messages, blockBytes, messageBytes, withBlock, withMessages}
+use Rattle.field.specs.Bytes.{leBytes}
+use Rattle.field.specs.Inner.Written.{withWord}
+use Rattle.pads.specs.Bytes.{Messages, blockBytes, messageBytes}
+use Rattle.pads.specs.Inner.Written.{withBlock, withMessages}
 
 -- every value has as many words as the coding's width
 abbrev pub Wide : {A : Type 0} → Coding A → Type 0

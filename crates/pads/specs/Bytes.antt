@@ -1,7 +1,6 @@
 -- Blocks in bytes (document 01, 'Pads': a block's bytes are its two words, each LE).
-use mathlib.Core.List.{List, _++_}
-use Prim.Native.Nat.{ℕ, _+_}
-use lib.Seq.{sets}
+use mathlib.Core.List.{_++_}
+use Prim.Native.Nat.{_+_}
 use Rattle.algebra.specs.Coding.{Coding}
 use Rattle.field.specs.declared.block.Block.{Block}
 use Rattle.field.specs.Binary.{block}
@@ -16,10 +15,6 @@ blockBytes =
       read = λ l k. block (wordAt l k) (wordAt l (k + 8));
     }
 
--- the bytes with the 16 bytes of a block written from a place on
-unfoldable pub withBlock : List ℕ → ℕ → Block → List ℕ
-withBlock bytes at b = sets bytes at (blockBytes .words b)
-
 -- messages 0 and 1 of an output
 pub record Messages : Type 0 where
   pub message0 : Block
@@ -33,7 +28,3 @@ messageBytes =
       words = λ m. blockBytes .words (m .message0) ++ blockBytes .words (m .message1);
       read = λ l k. record { message0 = blockBytes .read l k; message1 = blockBytes .read l (k + 16) };
     }
-
--- the bytes with the 32 bytes of messages written from a place on
-unfoldable pub withMessages : List ℕ → ℕ → Messages → List ℕ
-withMessages bytes at m = sets bytes at (messageBytes .words m)

@@ -5,6 +5,7 @@ use mathlib.Core.List.{List, [], _∷_}
 use Prim.Native.Nat.{ℕ, zero, suc, _+_, _*_}
 use lib.Dec.{ltb, eqb}
 use lib.ListN.{length}
+use Rattle.answer.specs.Numbers.{accepted, badLength, badDelta, windowPastEnd, notElement, bufferShort}
 use Rattle.algebra.specs.Choice.{choose}
 use Rattle.algebra.specs.Coding.{at, over}
 use Rattle.pads.specs.Bytes.{blockBytes, messageBytes}
@@ -23,9 +24,9 @@ outcome number values choicesOrDelta pads =
     record { number = number; values = values; choicesOrDelta = choicesOrDelta; pads = pads }
 
 -- an accepted call, of number 0, leaves what it wrote and the input slices as they were; a refused one all as it was
-unfoldable pub answer : ℕ → List ℕ → List ℕ → List ℕ → List ℕ → PadsOutcome
-answer zero values choicesOrDelta pads written = outcome 0 values choicesOrDelta written
-answer (suc n) values choicesOrDelta pads written = outcome (suc n) values choicesOrDelta pads
+unfoldable pub answered : ℕ → List ℕ → List ℕ → List ℕ → List ℕ → PadsOutcome
+answered zero values choicesOrDelta pads written = outcome 0 values choicesOrDelta written
+answered (suc n) values choicesOrDelta pads written = outcome (suc n) values choicesOrDelta pads
 
 -- some byte is above a limit
 unfoldable pub anyAbove : ℕ → List ℕ → Bool
@@ -35,31 +36,31 @@ anyAbove limit (byte ∷ bytes) = ltb limit byte || anyAbove limit bytes
 -- the noise end's number, with v of 16 bytes an output and a choice byte each, and room for as many pads
 unfoldable pub noiseNumber : ℕ → ℕ → List ℕ → List ℕ → ℕ → ℕ
 noiseNumber first count v choices room =
-    choose (not (eqb (length v) (16 * count) && eqb (length choices) count)) 3
-    (choose (ltb 32768 (first + count)) 7
-    (choose (ltb room (16 * count)) 13
-    (choose (anyAbove 1 choices) 8
-    0)))
+    choose (not (eqb (length v) (16 * count) && eqb (length choices) count)) badLength
+    (choose (ltb 32768 (first + count)) windowPastEnd
+    (choose (ltb room (16 * count)) bufferShort
+    (choose (anyAbove 1 choices) notElement
+    accepted)))
 
 -- the scalar end's number, with w of 16 bytes an output and Δ of 16 bytes, and room for two pads an output
 unfoldable pub scalarNumber : ℕ → ℕ → List ℕ → List ℕ → ℕ → ℕ
 scalarNumber first count w delta room =
-    choose (not (eqb (length w) (16 * count) && eqb (length delta) 16)) 3
-    (choose (ltb 32768 (first + count)) 7
-    (choose (not (anyAbove 0 delta)) 6
-    (choose (ltb room (32 * count)) 13
-    0)))
+    choose (not (eqb (length w) (16 * count) && eqb (length delta) 16)) badLength
+    (choose (ltb 32768 (first + count)) windowPastEnd
+    (choose (not (anyAbove 0 delta)) badDelta
+    (choose (ltb room (32 * count)) bufferShort
+    accepted)))
 
 -- the noise end writes the pad of v, 16 bytes an output
 unfoldable pub noisePadsBy : Rule → ℕ → ℕ → List ℕ → List ℕ → List ℕ → PadsOutcome
 noisePadsBy rule first count v choices pads =
-    answer (noiseNumber first count v choices (length pads)) v choices pads
+    answered (noiseNumber first count v choices (length pads)) v choices pads
     (over blockBytes count (λ k. rule (first + k) (at blockBytes v k)) pads)
 
 -- the scalar end writes the pad of w, then that of w exclusive-or Δ, 32 bytes an output
 unfoldable pub scalarPadsBy : Rule → ℕ → ℕ → List ℕ → List ℕ → List ℕ → PadsOutcome
 scalarPadsBy rule first count w delta pads =
-    answer (scalarNumber first count w delta (length pads)) w delta pads
+    answered (scalarNumber first count w delta (length pads)) w delta pads
     (over messageBytes count (λ k. messages rule (first + k) (at blockBytes w k) (at blockBytes delta 0)) pads)
 
 -- both calls

@@ -4,4 +4,4 @@ pub mod Pad
 pub mod Calls
 pub mod Admitted
 pub mod Choice
-pub mod Steps
+pub mod Inner

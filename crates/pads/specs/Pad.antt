@@ -5,7 +5,7 @@ use Prim.Native.Nat.{ℕ}
 use Rattle.aes128.specs.State.{four, xorState}
 use Rattle.aes128.specs.Cipher.{aes}
 use Rattle.field.specs.declared.block.Block.{Block}
-use Rattle.field.specs.Binary.{block, blockAdd, blockLeaf}
+use Rattle.field.specs.Binary.{block, blockAdd, blockOf}
 use Rattle.field.specs.Bytes.{columnsOf}
 use Rattle.pads.specs.Bytes.{Messages}
 
@@ -27,7 +27,7 @@ state b = columnsOf (b .low) (b .high)
 
 -- E(16 bytes FF, z) exclusive-or z
 unfoldable pub hash : Block → Block
-hash z = blockLeaf (xorState (aes padKey (state z)) (state z))
+hash z = blockOf (xorState (aes padKey (state z)) (state z))
 
 -- the pad of index x and block w: that of z, where z is w exclusive-or the 16-byte LE block of x
 unfoldable pub pad : Rule

@@ -3,7 +3,7 @@ ghost use mathlib.Core.Path.{_≡_};
 ghost use Rattle.sbox.specs.Table.{SBoxTable};
 ghost use Rattle.aes128.specs.Cipher.{keyExpansion};
 ghost use Rattle.pads.specs.Pad.{padKey, pad};
-ghost use Rattle.pads.specs.Steps.{Ready};
+ghost use Rattle.pads.specs.Inner.Steps.{PadKeys};
 use field::Block;
 
 // The round keys of the pads' key, 16 bytes FF.
@@ -23,7 +23,7 @@ pub fn pad_of(
     x: usize,
     w: Block,
 ) -> Block
-    requires { ⌜ Ready (now sbox) (now mix) (now keys) ⌝ }
+    requires { ⌜ PadKeys (now sbox) (now mix) (now keys) ⌝ }
     ensures { λ r. ⌜ r ≡ pad x w ⌝ }
 {
     let z = w.add(Block {

@@ -3,9 +3,10 @@ ghost use mathlib.Core.Path.{_≡_};
 ghost use Prim.Native.Nat.{_+_, _*_, _≤_};
 ghost use lib.ListN.{length};
 ghost use Rattle.algebra.specs.Coding.{at, over};
-ghost use Rattle.pads.specs.Bytes.{blockBytes, messageBytes, withMessages};
+ghost use Rattle.pads.specs.Bytes.{blockBytes, messageBytes};
+ghost use Rattle.pads.specs.Inner.Written.{withMessages};
 ghost use Rattle.pads.specs.Pad.{pad, messages};
-ghost use Rattle.pads.specs.Steps.{Ready, Fitting};
+ghost use Rattle.pads.specs.Inner.Steps.{PadKeys, WindowFits};
 use crate::bytes::block_at;
 use crate::bytes::put_block;
 use crate::rule::pad_of;
@@ -21,7 +22,7 @@ pub fn write_pads(
     v: &[u8],
     pads: &mut [u8],
 )
-    requires { ⌜ Ready (now sbox) (now mix) (now keys) × Fitting first count (length (now v)) 16 (length (now pads)) ⌝ }
+    requires { ⌜ PadKeys (now sbox) (now mix) (now keys) × WindowFits first count (length (now v)) 16 (length (now pads)) ⌝ }
     ensures { λ _. ⌜ now (pads .exit) ≡ over blockBytes count (λ k. pad (first + k) (at blockBytes (now (v .entry)) k)) (now (pads .entry)) ⌝ }
 {
     let mut k: usize = 0;
@@ -44,7 +45,7 @@ fn put_messages(
     pads: &mut [u8],
     at: usize,
 )
-    requires { ⌜ Ready (now sbox) (now mix) (now keys) × (at + 32 ≤ length (now pads)) ⌝ }
+    requires { ⌜ PadKeys (now sbox) (now mix) (now keys) × (at + 32 ≤ length (now pads)) ⌝ }
     ensures { λ _. ⌜ now (pads .exit) ≡ withMessages (now (pads .entry)) at (messages pad x w delta) ⌝ }
 {
     let m0 = pad_of(sbox, mix, keys, x, w);
@@ -64,7 +65,7 @@ pub fn write_messages(
     delta: Block,
     pads: &mut [u8],
 )
-    requires { ⌜ Ready (now sbox) (now mix) (now keys) × Fitting first count (length (now w)) 32 (length (now pads)) ⌝ }
+    requires { ⌜ PadKeys (now sbox) (now mix) (now keys) × WindowFits first count (length (now w)) 32 (length (now pads)) ⌝ }
     ensures { λ _. ⌜ now (pads .exit) ≡ over messageBytes count (λ k. messages pad (first + k) (at blockBytes (now (w .entry)) k) delta) (now (pads .entry)) ⌝ }
 {
     let mut k: usize = 0;

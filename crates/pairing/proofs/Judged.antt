@@ -8,25 +8,26 @@ use lib.ListN.{length}
 use borrow.Author.Tests.{not-true, not-false}
 use Rattle.number.specs.Reading.{Refused}
 use Rattle.record.specs.Content.{Head, NoisePart, ScalarPart}
-use Rattle.record.specs.Reading.{readHead, readNoise, readScalar, headOf, opened, frontOf}
+use Rattle.record.specs.Reading.{readHead, readNoise, readScalar}
+use Rattle.record.specs.Inner.Answers.{headOf, opened, frontOf}
 use Rattle.record.specs.declared.Front.{Front}
 use Rattle.record.specs.declared.Opened.{Opened}
 use Rattle.record.specs.declared.Opened.the-variants.{Accepted, Fault}
 use Rattle.record.proofs.Callers.{NoiseOpened, ScalarOpened, noise-refused, noise-opened, scalar-refused, scalar-opened}
 use Rattle.rows.specs.Head.{places}
-use Rattle.rows.specs.Sizes.{Sizes}
-use Rattle.rows.specs.Words.{faultOf}
+use Rattle.rows.specs.Inner.Sizes.{Sizes}
+use Rattle.rows.specs.Inner.Words.{recordFault}
 use Rattle.rows.proofs.Sizes.{head-sizes}
 use Rattle.pairing.specs.declared.Finding.the-variants as finding
-use Rattle.pairing.specs.Steps.{verdictOf, Paired}
+use Rattle.pairing.specs.Inner.Steps.{verdictOf, Paired}
 use Rattle.pairing.specs.Verdict.{sameDealing, verdict}
 use Rattle.pairing.proofs.Laws.{noise-refusal, scalar-refusal, noise-large, scalar-large, not-same}
 use Rattle.pairing.proofs.Same.{dealing-equal}
 
 module _ (s t : List ℕ) {a : Opened} (read : opened s a ≡ frontOf (readNoise s) (readHead 1 s)) where
-  pub noise-number : {j k : ℕ} → a ≡ Fault j → k ≡ faultOf a → verdictOf (finding.Refused k) ≡ verdict s t
+  pub noise-number : {j k : ℕ} → a ≡ Fault j → k ≡ recordFault a → verdictOf (finding.Refused k) ≡ verdict s t
   noise-number {j} {k} e q =
-      let n : j ≡ k = sym (q ∙ ap faultOf e) in
+      let n : j ≡ k = sym (q ∙ ap recordFault e) in
       sym (noise-refusal s t (noise-refused s (sym read ∙ ap (opened s) e ∙ ap Refused n)))
 
   module _ {p : Front} (is : a ≡ Accepted p) where
@@ -46,9 +47,9 @@ module _ (s t : List ℕ) {a : Opened} (read : opened s a ≡ frontOf (readNoise
     noise-room = noise-sizes .room
 
     module _ {b : Opened} (other : opened t b ≡ frontOf (readScalar t) (readHead 2 t)) where
-      pub scalar-number : {j k : ℕ} → b ≡ Fault j → k ≡ faultOf b → verdictOf (finding.Refused k) ≡ verdict s t
+      pub scalar-number : {j k : ℕ} → b ≡ Fault j → k ≡ recordFault b → verdictOf (finding.Refused k) ≡ verdict s t
       scalar-number {j} {k} e q =
-          let n : j ≡ k = sym (q ∙ ap faultOf e) in
+          let n : j ≡ k = sym (q ∙ ap recordFault e) in
           sym (scalar-refusal s t (noise-part .2 .whole) (scalar-refused t (sym other ∙ ap (opened t) e ∙ ap Refused n)))
 
       module _ {q : Front} (too : b ≡ Accepted q) where

@@ -1,13 +1,16 @@
 -- Both ends' calls on two accepted records of one dealing: each is accepted, and the words that they leave hold where the
 -- definition does. Assumes nothing.
 use mathlib.Core.Path.{_≡_, refl, sym, ap, ap₂, _∙_}
+use mathlib.Core.Bool.{Bool, true, false}
 use mathlib.Core.List.{List, [], _∷_}
 use Prim.Native.Nat.{ℕ, zero, suc, _+_, _*_, _≤_, _<_}
 use native.Mathlib.Omega.{arith}
 use native.Mathlib.Nat.{min-le-right, mul-le-mul-left, zero-add, mul-one}
+use lib.Dec.{eqb}
 use lib.ListN.{length, take, getD, replicate, length-take}
 use lib.Seq.{take-all}
 use borrow.Author.Tests.{le-ltb}
+use Rattle.algebra.specs.Choice.{choose}
 use Rattle.algebra.specs.Coding.{at}
 use Rattle.algebra.specs.Field.{NoiseValue, Value}
 use Rattle.algebra.specs.Group.{Element}
@@ -17,11 +20,12 @@ use Rattle.algebra.proofs.Sum.{sum-element}
 use Rattle.answer.specs.declared.OneLength.{OneLength}
 use Rattle.answer.specs.declared.TwoLengths.{TwoLengths}
 use Rattle.field.proofs.BothKinds.{kindLaws}
-use Rattle.field.specs.Kind.{kindOf}
+use Rattle.field.specs.Kind.{binaryKind, primeKind, kindOf}
 use Rattle.record.specs.Content.{Head}
 use Rattle.record.proofs.Callers.{head-ranges}
 use Rattle.record.proofs.Parts.{noise-parts}
 use Rattle.rows.specs.Head.{fieldOf, places}
+use Rattle.rows.proofs.Widths.{width-most}
 use Rattle.noise_end.proofs.Laws as noiseLaws
 use Rattle.noise_end.specs.Offline as noiseOffline
 use Rattle.noise_end.specs.Online as noiseOnline
@@ -30,17 +34,12 @@ use Rattle.scalar_end.proofs.Laws as scalarLaws
 use Rattle.scalar_end.specs.Offline as scalarOffline
 use Rattle.scalar_end.specs.Online as scalarOnline
 use Rattle.scalar_end.specs.Vectors as scalarVectors
-use Rattle.pairing.specs.Steps.{Paired, counted, holds, holdsAt, heldWords}
+use Rattle.pairing.specs.Inner.Steps.{Paired, counted, holds, holdsAt, heldWords}
 use Rattle.pairing.specs.Verdict.{Checked, sameList, uAt, vAt, wAt, heldAt, heldOf, verdict}
 use Rattle.pairing.proofs.Laws.{same-checked}
 use Rattle.pairing.proofs.Same.{same-dealing}
 
 -- ---- sizes
-
-width-most : (f : ℕ) → kindOf f .field .elements .width ≤ 2
-width-most zero = omega arith
-width-most (suc zero) = omega arith
-width-most (suc (suc n)) = omega arith
 
 -- a front as long as it is asked
 front-in : (k : ℕ) (l : List ℕ) → k ≡ length (take k l) → k ≤ length l
@@ -57,10 +56,13 @@ value-element h f j = sum-element (fieldOf h .scaled .group) (kindLaws (h .field
 
 -- Δ is read from its two words as from its own
 delta-read : (f : ℕ) (l : List ℕ)
-    → kindOf f .field .elements .read (getD l 0 0 ∷ getD l 1 0 ∷ []) 0 ≡ kindOf f .field .elements .read l 0
-delta-read zero l = refl
-delta-read (suc zero) l = refl
-delta-read (suc (suc n)) l = refl
+    → kindOf f .field .elements .read (getD l 0 0 ∷ choose (eqb f 1) (getD l 1 0) 0 ∷ []) 0 ≡ kindOf f .field .elements .read l 0
+delta-read f l = of (eqb f 1)
+  where
+    of : (b : Bool) → choose b binaryKind primeKind .field .elements .read (getD l 0 0 ∷ choose b (getD l 1 0) 0 ∷ []) 0
+        ≡ choose b binaryKind primeKind .field .elements .read l 0
+    of true = refl
+    of false = refl
 
 module _ {s t : List ℕ} {field outputs : ℕ} (A : Paired s t field outputs) where
   pub few : outputs ≤ 512
@@ -167,9 +169,11 @@ module _ {s t : List ℕ} {field outputs : ℕ} (A : Paired s t field outputs) w
     -- Δ as the count reads it
     delta-value : length delta ≡ 2 → fieldOf (A .P .head) .elements .read delta 0 ≡ fieldOf (A .P .head) .elements .read (A .Q .delta) 0
     delta-value e =
-        let whole : delta ≡ scalarVectors.deltaWords (A .Q) =
+        let whole : delta ≡ scalarVectors.deltaOut (A .Q) =
         sym (take-all 2 delta (omega arith)) ∙ ap (λ (k : ℕ). take k delta) (sym (scalar-accepted .secondWritten)) ∙ scalar-accepted .delta in
-        ap (λ (l : List ℕ). fieldOf (A .P .head) .elements .read l 0) whole ∙ delta-read (A .P .head .field) (A .Q .delta)
+        let same : scalarVectors.deltaOut (A .Q) ≡ getD (A .Q .delta) 0 0 ∷ choose (eqb (A .P .head .field) 1) (getD (A .Q .delta) 1 0) 0 ∷ [] =
+        ap (λ (h : Head). getD (A .Q .delta) 0 0 ∷ choose (eqb (h .field) 1) (getD (A .Q .delta) 1 0) 0 ∷ []) (A .head) in
+        ap (λ (l : List ℕ). fieldOf (A .P .head) .elements .read l 0) (whole ∙ same) ∙ delta-read (A .P .head .field) (A .Q .delta)
 
     module _ {o : OneLength} {ws : List ℕ}
         (window : scalarOnline.outcome o (record { source = t; w = take (r .«first_written») w; wOut = ws })

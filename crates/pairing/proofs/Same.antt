@@ -10,7 +10,8 @@ use lib.Seq.{getD-take, getD-drop, length-take-le, ext-getD}
 use borrow.Author.Tests.{eqb-true, eq-eqb}
 use Rattle.algebra.proofs.Tests.{and-left, and-right, and-both}
 use Rattle.number.specs.Reading.{part}
-use Rattle.record.specs.Content.{Head, headWith}
+use Rattle.record.specs.Content.{Head}
+use Rattle.record.specs.Inner.Heads.{headWith}
 use Rattle.pairing.specs.Verdict.{sameList, sameDealing}
 
 pub same-refl : (l : List ℕ) → sameList l l ≡ true

@@ -9,13 +9,14 @@ use native.Mathlib.Numerals.{add-one}
 use lib.ListN.{getD}
 use mir.Syntax.{w64}
 use mir.Val.{Fits}
+use Rattle.field.proofs.KindOf.{kind-2}
 use Rattle.algebra.specs.Field.{Field, NoiseValue, Value}
 use Rattle.field.specs.Binary.{binary, block, blockAdd, blockScale}
-use Rattle.field.specs.Kind.{kindOf}
+use Rattle.field.specs.Kind.{Kind, kindOf}
 use Rattle.field.specs.Prime.{primes, prime, primeAdd, primeMul}
 use Rattle.field.specs.declared.block.Block.{Block}
 use Rattle.field.specs.declared.prime.Prime.{Prime}
-use Rattle.pairing.specs.Steps.{counted, holds, holdsAt, heldWords}
+use Rattle.pairing.specs.Inner.Steps.{counted, holds, holdsAt, heldWords}
 use Rattle.pairing.specs.Verdict.{sameList}
 use Rattle.pairing.proofs.Same.{same-refl, same-not}
 
@@ -75,9 +76,7 @@ module _ (delta u v w : List ℕ) (x : ℕ) {field r : ℕ} where
       q ∙ words ∙ ap (λ (F : Field). counted (holdsAt F delta u v w x)) (sym (not-binary field n))
     where
       not-binary : (f : ℕ) → (f ≡ 1 → ⊥) → kindOf f .field ≡ primes
-      not-binary zero m = refl
-      not-binary (suc zero) m = absurd (m refl)
-      not-binary (suc (suc f)) m = refl
+      not-binary f m = ap (λ (K : Kind). K .field) (kind-2 f m)
 
 -- ---- all outputs
 

@@ -1,5 +1,5 @@
 -- The pair program's line (document 01, 'Cases'), from the bytes of both files.
 pub mod Verdict
 pub mod Line
-pub mod Steps
 pub mod AllHeld
+pub mod Inner

@@ -3,7 +3,7 @@ ghost use mathlib.Core.Path.{_≡_};
 ghost use Prim.Native.Nat.{_-_, _≤_};
 ghost use lib.ListN.{length};
 ghost use Rattle.number.specs.Reading.{part};
-ghost use Rattle.record.specs.Reading.{headOf};
+ghost use Rattle.record.specs.Inner.Answers.{headOf};
 ghost use Rattle.pairing.specs.Verdict.{sameList, sameDealing};
 use record::Front;
 

@@ -5,7 +5,7 @@ ghost use lib.ListN.{length};
 ghost use Rattle.field.specs.Binary.{binary};
 ghost use Rattle.field.specs.Kind.{kindOf};
 ghost use Rattle.field.specs.Prime.{primes};
-ghost use Rattle.pairing.specs.Steps.{counted, holds, holdsAt, heldWords};
+ghost use Rattle.pairing.specs.Inner.Steps.{counted, holds, holdsAt, heldWords};
 use field::Block;
 use field::Prime;
 

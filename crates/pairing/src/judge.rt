@@ -1,6 +1,6 @@
 // What is found of two records, in memory of its own.
 ghost use mathlib.Core.Path.{_≡_};
-ghost use Rattle.pairing.specs.Steps.{verdictOf, Paired};
+ghost use Rattle.pairing.specs.Inner.Steps.{verdictOf, Paired};
 ghost use Rattle.pairing.specs.Verdict.{Checked, verdict};
 use crate::Finding;
 use crate::heads::same_dealing;

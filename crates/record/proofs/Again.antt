@@ -11,15 +11,19 @@ use lib.ListN.{length, getD}
 use lib.Pow.{pow-mono}
 use mir.Syntax.{w64}
 use mir.Val.{Fits}
+use Rattle.field.proofs.KindOf.{words-1, words-2}
 use Rattle.field.specs.Bytes.{wordAt}
 use Rattle.number.proofs.Places.{either, whole-is, then-whole, tested-whole, choose-whole, choose-yes, choose-no}
 use Rattle.number.specs.Number.{readNumber}
-use Rattle.number.specs.Reading.{Reading, Whole, Refused, isWhole, Step, then, choose, tested}
+use Rattle.number.specs.Reading.{Reading, Whole, Refused, Step, then, choose, tested}
+use Rattle.number.specs.Inner.Known.{isWhole}
 use Rattle.record.proofs.Items.{items-whole}
 use Rattle.record.proofs.Parts.{TreeParts, tree-parts}
 use Rattle.record.specs.Admitted.{isElement, isNoise}
-use Rattle.record.specs.Content.{NoiseTree, elementWords, elementOf}
-use Rattle.record.specs.Reading.{items, blockAt, readWords, readPosition, readValue, readCorrection, readTree, treeOf}
+use Rattle.field.specs.Kind.{elementWords}
+use Rattle.record.specs.Content.{NoiseTree, elementOf}
+use Rattle.record.specs.Reading.{items, blockAt, readWords, readPosition, readValue, readCorrection, readTree}
+use Rattle.record.specs.Inner.Answers.{treeOf}
 use Rattle.record.specs.declared.Tree.{Tree}
 
 -- what is known to be whole
@@ -104,12 +108,12 @@ module _ (field depth base : ℕ) (s : List ℕ) (at : ℕ) (known : isWhole (re
         (λ f.
         let v = value-parts-1 field s (parts .at1) f (parts .value) in
         let c = correction-parts field s (parts .at2) (parts .correction) in
-        let w : elementWords field ≡ 2 = choose-yes 2 1 (eq-eqb field 1 f) in
+        let w : elementWords field ≡ 2 = words-1 field f in
         (omega (arith, v .1, c .2, w, place), omega (arith, v .1, c .0, w, place)))
         (λ f.
         let v = value-parts-2 field s (parts .at1) f (parts .value) in
         let c = correction-parts field s (parts .at2) (parts .correction) in
-        let w : elementWords field ≡ 1 = choose-no 2 1 (ne-eqb field 1 f) in
+        let w : elementWords field ≡ 1 = words-2 field f in
         (omega (arith, v .2, c .2, w, place), omega (arith, v .2, c .0, w, place)))
 
     pub known-room-1 : next + 8 ≤ length s
@@ -149,7 +153,7 @@ module _ (field depth base : ℕ) (s : List ℕ) (at : ℕ) (known : isWhole (re
     known-1 {low} {high} f l h =
         let v = value-parts-1 field s (parts .at1) f (parts .value) in
         let c = correction-parts field s (parts .at2) (parts .correction) in
-        let w : elementWords field ≡ 2 = choose-yes 2 1 (eq-eqb field 1 f) in
+        let w : elementWords field ≡ 2 = words-1 field f in
         let e : elementOf field low high ≡ low ∷ high ∷ [] = choose-yes (low ∷ high ∷ []) (low ∷ []) (eq-eqb field 1 f) in
         let at2 : parts .at2 ≡ next = v .1 ∙ place in (
           given (treeWith (base + x) 1 low high (next + 16)) refl refl (sym (v .0))
@@ -167,7 +171,7 @@ module _ (field depth base : ℕ) (s : List ℕ) (at : ℕ) (known : isWhole (re
     known-2 {value} {low} f y l =
         let v = value-parts-2 field s (parts .at1) f (parts .value) in
         let c = correction-parts field s (parts .at2) (parts .correction) in
-        let w : elementWords field ≡ 1 = choose-no 2 1 (ne-eqb field 1 f) in
+        let w : elementWords field ≡ 1 = words-2 field f in
         let e : elementOf field low 0 ≡ low ∷ [] = choose-no (low ∷ 0 ∷ []) (low ∷ []) (ne-eqb field 1 f) in
         let at2 : parts .at2 ≡ next + 8 = v .2 ∙ ap (λ (n : ℕ). n + 8) place in (
           given (treeWith (base + x) value low 0 (next + 16)) refl refl (y ∙ ap (wordAt s) (sym place) ∙ sym (v .1))

@@ -10,18 +10,22 @@ use native.Mathlib.Omega.{arith}
 use lib.Dec.{eqb}
 use lib.ListN.{length, getD, drop}
 use lib.Seq.{getD-drop, drop-drop}
+use Rattle.field.proofs.KindOf.{words-1, words-2}
 use Rattle.field.specs.Bytes.{wordAt}
 use Rattle.field.specs.Prime.{modulus}
-use Rattle.number.proofs.Places.{either, refused-whole, whole-is, tested-whole, choose-yes, choose-no}
-use Rattle.number.specs.Reading.{Reading, Whole, Refused, isWhole, Step}
+use Rattle.number.proofs.Places.{either, refused-whole, whole-is, tested-whole, choose-yes}
+use Rattle.number.specs.Reading.{Reading, Whole, Refused, Step}
+use Rattle.number.specs.Inner.Known.{isWhole}
 use Rattle.record.proofs.Again.{position-parts, value-parts-1, value-parts-2, correction-parts}
 use Rattle.record.proofs.Exact.{field-exact}
 use Rattle.record.proofs.Heads.{size-range}
 use Rattle.record.proofs.Items.{items-whole}
 use Rattle.record.proofs.Parts.{head-parts, tree-parts, trees-parts, noise-parts, scalar-parts}
 use Rattle.record.specs.Admitted.{isField, isSize, mostTrees, mostOutputs, isNoise, isElement, isScalar}
-use Rattle.record.specs.Content.{Head, NoiseTree, NoisePart, ScalarPart, elementWords}
-use Rattle.record.specs.Reading.{items, blockAt, readWords, readBlocks, readValue, readDelta, readHead, readTree, readTrees, readNoise, readScalar, frontOf}
+use Rattle.field.specs.Kind.{elementWords}
+use Rattle.record.specs.Content.{Head, NoiseTree, NoisePart, ScalarPart}
+use Rattle.record.specs.Reading.{items, blockAt, readWords, readBlocks, readValue, readDelta, readHead, readTree, readTrees, readNoise, readScalar}
+use Rattle.record.specs.Inner.Answers.{frontOf}
 
 -- ---- the head
 
@@ -205,8 +209,8 @@ scalar-opened s {h} {body} e =
 -- the words of an element at a place
 pub element-1 : (field : ℕ) (s : List ℕ) (at : ℕ) → field ≡ 1 → items wordAt 8 s at (elementWords field) ≡ wordAt s at ∷ wordAt s (at + 8) ∷ []
 unfolding items
-element-1 field s at f = ap (items wordAt 8 s at) (choose-yes 2 1 (eq-eqb field 1 f))
+element-1 field s at f = ap (items wordAt 8 s at) (words-1 field f)
 
 pub element-2 : (field : ℕ) (s : List ℕ) (at : ℕ) → (field ≡ 1 → ⊥) → items wordAt 8 s at (elementWords field) ≡ wordAt s at ∷ []
 unfolding items
-element-2 field s at f = ap (items wordAt 8 s at) (choose-no 2 1 (ne-eqb field 1 f))
+element-2 field s at f = ap (items wordAt 8 s at) (words-2 field f)

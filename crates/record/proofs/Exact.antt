@@ -16,14 +16,18 @@ use Rattle.field.specs.Bytes.{leNumber, leBytes, wordAt}
 use Rattle.field.specs.Prime.{modulus}
 use Rattle.number.proofs.Laws.{length-number, number-reads, number-whole}
 use Rattle.number.proofs.Places.{split, either, whole-is, then-whole, tested-whole, tested-reads, choose-yes, choose-no, has-front, has-back, has-next, has-is, part-has, byte-reads, byte-whole, bytes-reads, bytes-whole}
-use Rattle.number.specs.Number.{numbers, writeNumber, readNumber}
-use Rattle.number.specs.Reading.{Whole, Refused, Step, then, choose, tested, part, readByte, Bytes, Has}
+use Rattle.number.specs.Number.{writeNumber, readNumber}
+use Rattle.number.specs.Inner.Answers.{numbers}
+use Rattle.number.specs.Reading.{Whole, Refused, Step, then, choose, tested, part, readByte, Bytes}
+use Rattle.number.specs.Inner.Known.{Has}
 use Rattle.record.proofs.Again.{value-parts-1, value-parts-2}
 use Rattle.record.proofs.Fields.{and-both}
 use Rattle.record.proofs.Items.{items-reads, items-exact}
 use Rattle.record.proofs.Parts.{head-parts, tree-parts, trees-parts, trees-none}
-use Rattle.record.specs.Admitted.{isField, isSize, mostTrees, mostOutputs, isNoise, isElement, isScalar, Each, Block, Word, AdmittedHead, AdmittedTree, AdmittedTrees}
-use Rattle.record.specs.Content.{Head, NoiseTree, elementWords}
+use Rattle.record.specs.Admitted.{isField, isSize, mostTrees, mostOutputs, isNoise, isElement, isScalar, Each, SixteenBytes, SixtyFourBits, AdmittedHead}
+use Rattle.record.specs.Inner.Rising.{TreeFrom, TreesFrom}
+use Rattle.field.specs.Kind.{elementWords}
+use Rattle.record.specs.Content.{Head, NoiseTree}
 use Rattle.record.specs.Reading.{readWords, blockAt, readBlocks, readSize, readPosition, readValue, readCorrection, readDelta, readField, readSizes, readHead, readTree, readTrees}
 use Rattle.record.specs.Writing.{writeWords, writeBlocks, writeHead, writeValue, writeFront, writeTree, writeTrees}
 
@@ -40,13 +44,13 @@ part-bytes s at n b i =
     past l k h = List·getD-eq-default l 0 h
 
 module _ (s : List ℕ) where
-  word-back : (at x : ℕ) → Word x → Has s at (leBytes 8 x) → wordAt s at ≡ x
+  word-back : (at x : ℕ) → SixtyFourBits x → Has s at (leBytes 8 x) → wordAt s at ≡ x
   unfolding Has
   word-back at x h w =
       let l = length-leBytes 8 x in
       wordAt-take s at (omega (arith, w .0, l)) ∙ ap leNumber (ap (part s at) (sym l) ∙ w .1) ∙ leNumber-leBytes-word x h
 
-  word-only : Bytes s → (at : ℕ) → at + 8 ≤ length s → Word (wordAt s at) × Has s at (leBytes 8 (wordAt s at))
+  word-only : Bytes s → (at : ℕ) → at + 8 ≤ length s → SixtyFourBits (wordAt s at) × Has s at (leBytes 8 (wordAt s at))
   unfolding Bytes
   word-only bytes at h =
       let p = part-has s at 8 h in
@@ -58,28 +62,28 @@ module _ (s : List ℕ) where
         has-is s at (sym same) (p .1),
       )
 
-  block-back : (at : ℕ) (b : List ℕ) → Block b → Has s at b → blockAt s at ≡ b
+  block-back : (at : ℕ) (b : List ℕ) → SixteenBytes b → Has s at b → blockAt s at ≡ b
   unfolding Has
   block-back at b ok h = ap (part s at) (sym (ok .0)) ∙ h .1
 
-  block-only : Bytes s → (at : ℕ) → at + 16 ≤ length s → Block (blockAt s at) × Has s at (blockAt s at)
+  block-only : Bytes s → (at : ℕ) → at + 16 ≤ length s → SixteenBytes (blockAt s at) × Has s at (blockAt s at)
   block-only bytes at h = let p = part-has s at 16 h in ((p .0, part-bytes s at 16 bytes), p .1)
 
-  pub words-reads : (at n : ℕ) (ws : List ℕ) → length ws ≡ n → Each Word ws → Has s at (writeWords ws)
+  pub words-reads : (at n : ℕ) (ws : List ℕ) → length ws ≡ n → Each SixtyFourBits ws → Has s at (writeWords ws)
       → readWords n s at ≡ Whole (ws, at + length (writeWords ws))
-  words-reads at n ws = items-reads wordAt 8 (leBytes 8) Word (λ x ok. length-leBytes 8 x) s word-back at n ws
+  words-reads at n ws = items-reads wordAt 8 (leBytes 8) SixtyFourBits (λ x ok. length-leBytes 8 x) s word-back at n ws
 
   pub words-exact : Bytes s → (at n : ℕ) {ws : List ℕ} {next : ℕ} → readWords n s at ≡ Whole (ws, next)
-      → (length ws ≡ n) × Each Word ws × Has s at (writeWords ws) × (next ≡ at + length (writeWords ws))
-  words-exact bytes at n = items-exact wordAt 8 (leBytes 8) Word (λ x ok. length-leBytes 8 x) s (word-only bytes) at n
+      → (length ws ≡ n) × Each SixtyFourBits ws × Has s at (writeWords ws) × (next ≡ at + length (writeWords ws))
+  words-exact bytes at n = items-exact wordAt 8 (leBytes 8) SixtyFourBits (λ x ok. length-leBytes 8 x) s (word-only bytes) at n
 
-  pub blocks-reads : (at n : ℕ) (bs : List (List ℕ)) → length bs ≡ n → Each Block bs → Has s at (writeBlocks bs)
+  pub blocks-reads : (at n : ℕ) (bs : List (List ℕ)) → length bs ≡ n → Each SixteenBytes bs → Has s at (writeBlocks bs)
       → readBlocks n s at ≡ Whole (bs, at + length (writeBlocks bs))
-  blocks-reads at n bs = items-reads blockAt 16 (λ b. b) Block (λ b ok. ok .0) s block-back at n bs
+  blocks-reads at n bs = items-reads blockAt 16 (λ b. b) SixteenBytes (λ b ok. ok .0) s block-back at n bs
 
   pub blocks-exact : Bytes s → (at n : ℕ) {bs : List (List ℕ)} {next : ℕ} → readBlocks n s at ≡ Whole (bs, next)
-      → (length bs ≡ n) × Each Block bs × Has s at (writeBlocks bs) × (next ≡ at + length (writeBlocks bs))
-  blocks-exact bytes at n = items-exact blockAt 16 (λ b. b) Block (λ b ok. ok .0) s (block-only bytes) at n
+      → (length bs ≡ n) × Each SixteenBytes bs × Has s at (writeBlocks bs) × (next ≡ at + length (writeBlocks bs))
+  blocks-exact bytes at n = items-exact blockAt 16 (λ b. b) SixteenBytes (λ b ok. ok .0) s (block-only bytes) at n
 
   -- ---- numbers with a test
 
@@ -169,26 +173,26 @@ module _ (s : List ℕ) where
         v .2 ∙ ap (λ (k : ℕ). at + k) (sym (ap length w ∙ length-leBytes 8 (wordAt s at))),
       ))
 
-  pub correction-reads : (field at : ℕ) (c : List ℕ) → (length c ≡ elementWords field) × Each Word c → isElement field c ≡ true → Has s at (writeWords c)
+  pub correction-reads : (field at : ℕ) (c : List ℕ) → (length c ≡ elementWords field) × Each SixtyFourBits c → isElement field c ≡ true → Has s at (writeWords c)
       → readCorrection field s at ≡ Whole (c, at + length (writeWords c))
   unfolding readCorrection
   correction-reads field at c w ok h = tested-reads (λ x. isElement field x) 8 (words-reads at (elementWords field) c (w .0) (w .1) h) ok
 
   pub correction-exact : Bytes s → (field at : ℕ) {c : List ℕ} {next : ℕ} → readCorrection field s at ≡ Whole (c, next)
-      → ((length c ≡ elementWords field) × Each Word c) × (isElement field c ≡ true) × Has s at (writeWords c) × (next ≡ at + length (writeWords c))
+      → ((length c ≡ elementWords field) × Each SixtyFourBits c) × (isElement field c ≡ true) × Has s at (writeWords c) × (next ≡ at + length (writeWords c))
   unfolding readCorrection
   correction-exact bytes field at e =
       let t = tested-whole (readWords (elementWords field) s at) (λ x. isElement field x) 8 e in
       let w = words-exact bytes at (elementWords field) (t .0) in
       ((w .0, w .1), t .1, w .2, w .3)
 
-  pub delta-reads : (field at : ℕ) (c : List ℕ) → (length c ≡ elementWords field) × Each Word c → isScalar field c ≡ true → Has s at (writeWords c)
+  pub delta-reads : (field at : ℕ) (c : List ℕ) → (length c ≡ elementWords field) × Each SixtyFourBits c → isScalar field c ≡ true → Has s at (writeWords c)
       → readDelta field s at ≡ Whole (c, at + length (writeWords c))
   unfolding readDelta
   delta-reads field at c w ok h = tested-reads (λ x. isScalar field x) 6 (words-reads at (elementWords field) c (w .0) (w .1) h) ok
 
   pub delta-exact : Bytes s → (field at : ℕ) {c : List ℕ} {next : ℕ} → readDelta field s at ≡ Whole (c, next)
-      → ((length c ≡ elementWords field) × Each Word c) × (isScalar field c ≡ true) × Has s at (writeWords c) × (next ≡ at + length (writeWords c))
+      → ((length c ≡ elementWords field) × Each SixtyFourBits c) × (isScalar field c ≡ true) × Has s at (writeWords c) × (next ≡ at + length (writeWords c))
   unfolding readDelta
   delta-exact bytes field at e =
       let t = tested-whole (readWords (elementWords field) s at) (λ x. isScalar field x) 6 e in
@@ -277,7 +281,7 @@ module _ (s : List ℕ) where
   unfolding Has
   within at w h e = omega (arith, h .0)
 
-  pub tree-reads : (field depth base at : ℕ) (t : NoiseTree) → depth ≤ 16 → AdmittedTree field depth base t → Has s at (writeTree field base t)
+  pub tree-reads : (field depth base at : ℕ) (t : NoiseTree) → depth ≤ 16 → TreeFrom field depth base t → Has s at (writeTree field base t)
       → readTree field depth base s at ≡ Whole (t, at + length (writeTree field base t))
   unfolding writeTree writeFront readTree
   tree-reads field depth base at t shallow ok g =
@@ -293,15 +297,15 @@ module _ (s : List ℕ) where
       let at3 : ℕ = at2 + length C in
       let place : at + length (P ++ (Y ++ C)) ≡ at3 = omega (arith, length-append P (Y ++ C), length-append Y C) in
       let g₃ : Has s at3 B = subst (λ (i : ℕ). Has s i B) place (has-back s at (P ++ (Y ++ C)) B g) in
-      let e₀ = position-reads base (2 ^ depth) at (t .position) (omega (arith, pow-mono shallow)) (ok .rising) (ok .below) (has-front s at P (Y ++ C) g₀) in
-      let e₁ = value-reads field at1 (t .value) (ok .value) (has-front s at1 Y C g₁) in
-      let e₂ = correction-reads field at2 (t .correction) (ok .words) (ok .correction) g₂ in
-      let e₃ = blocks-reads at3 depth (t .siblings) (ok .siblings .0) (ok .siblings .1) g₃ in
+      let e₀ = position-reads base (2 ^ depth) at (t .position) (omega (arith, pow-mono shallow)) (ok .rising) (ok .tree .below) (has-front s at P (Y ++ C) g₀) in
+      let e₁ = value-reads field at1 (t .value) (ok .tree .value) (has-front s at1 Y C g₁) in
+      let e₂ = correction-reads field at2 (t .correction) (ok .tree .words) (ok .tree .correction) g₂ in
+      let e₃ = blocks-reads at3 depth (t .siblings) (ok .tree .siblings .0) (ok .tree .siblings .1) g₃ in
       let l : at3 + length B ≡ at + length ((P ++ (Y ++ C)) ++ B) = omega (arith, place, length-append (P ++ (Y ++ C)) B) in
       simp (e₀, e₁, e₂, e₃, l)
 
   pub tree-exact : Bytes s → (field depth base at : ℕ) {t : NoiseTree} {next : ℕ} → readTree field depth base s at ≡ Whole (t, next)
-      → AdmittedTree field depth base t × Has s at (writeTree field base t) × (next ≡ at + length (writeTree field base t))
+      → TreeFrom field depth base t × Has s at (writeTree field base t) × (next ≡ at + length (writeTree field base t))
   unfolding writeTree writeFront
   tree-exact bytes field depth base at {t} {next} e =
       let p = tree-parts field depth base s at e in
@@ -313,16 +317,19 @@ module _ (s : List ℕ) where
       let v = value-exact bytes field (p .at1) (within at P (a .2) (a .3)) (p .value) in
       let c = correction-exact bytes field (p .at2) (p .correction) in
       let b = blocks-exact bytes (p .at3) depth (p .siblings) in (
-        record { rising = a .0; below = a .1; value = v .0; words = c .0; correction = c .1; siblings = (b .0, b .1) },
+        record {
+          rising = a .0;
+          tree = record { below = a .1; value = v .0; words = c .0; correction = c .1; siblings = (b .0, b .1) };
+        },
         has-next s at (P ++ (Y ++ C)) B
             (has-next s at P (Y ++ C) (a .2) (a .3) (has-next s (p .at1) Y C (v .1) (v .2) (c .2)))
             (omega (arith, a .3, v .2, c .3, length-append P (Y ++ C), length-append Y C)) (b .2),
         omega (arith, a .3, v .2, c .3, b .3, length-append (P ++ (Y ++ C)) B, length-append P (Y ++ C), length-append Y C),
       )
 
-  pub trees-reads : (field depth base at : ℕ) (ts : List NoiseTree) → depth ≤ 16 → AdmittedTrees field depth base ts → Has s at (writeTrees field base ts)
+  pub trees-reads : (field depth base at : ℕ) (ts : List NoiseTree) → depth ≤ 16 → TreesFrom field depth base ts → Has s at (writeTrees field base ts)
       → readTrees field depth (length ts) base s at ≡ Whole (ts, at + length (writeTrees field base ts))
-  unfolding writeTrees readTrees AdmittedTrees
+  unfolding writeTrees readTrees TreesFrom
   trees-reads field depth base at [] shallow ok g = simp add-zero
   trees-reads field depth base at (t ∷ ts) shallow ok g =
       let W : List ℕ = writeTree field base t in
@@ -333,12 +340,12 @@ module _ (s : List ℕ) where
       simp (e₀, e₁, l)
 
   pub trees-exact : Bytes s → (field depth n base at : ℕ) {ts : List NoiseTree} {end : ℕ} → at ≤ length s → readTrees field depth n base s at ≡ Whole (ts, end)
-      → (length ts ≡ n) × AdmittedTrees field depth base ts × Has s at (writeTrees field base ts) × (end ≡ at + length (writeTrees field base ts))
-  unfolding writeTrees AdmittedTrees Has
+      → (length ts ≡ n) × TreesFrom field depth base ts × Has s at (writeTrees field base ts) × (end ≡ at + length (writeTrees field base ts))
+  unfolding writeTrees TreesFrom Has
   trees-exact bytes field depth zero base at {ts} {end} room e =
       let z = trees-none field depth base s at e in (
         ap length (z .0),
-        subst (AdmittedTrees field depth base) (sym (z .0)) tt,
+        subst (TreesFrom field depth base) (sym (z .0)) tt,
         subst (λ (l : List NoiseTree). Has s at (writeTrees field base l)) (sym (z .0)) (omega arith, refl),
         z .1 ∙ sym (add-zero at) ∙ ap (λ (l : List NoiseTree). at + length (writeTrees field base l)) (sym (z .0)),
       )
@@ -351,7 +358,7 @@ module _ (s : List ℕ) where
       let a = tree-exact bytes field depth base at (p .4) in
       let b = trees-exact bytes field depth n (t .position + 1) (p .2) (omega (arith, a .1 .0, a .2)) (p .5) in (
         ap length (p .3) ∙ ap suc (b .0),
-        subst (AdmittedTrees field depth base) (sym (p .3)) (a .0, b .1),
+        subst (TreesFrom field depth base) (sym (p .3)) (a .0, b .1),
         subst (λ (l : List NoiseTree). Has s at (writeTrees field base l)) (sym (p .3)) (has-next s at W R (a .1) (a .2) (b .2)),
         b .3 ∙ omega (arith, a .2, length-append W R) ∙ ap (λ (l : List NoiseTree). at + length (writeTrees field base l)) (sym (p .3)),
       )

@@ -13,13 +13,17 @@ use lib.Pow.{pow-lt}
 use mir.Syntax.{w64}
 use mir.Val.{Fits}
 use Rattle.field.specs.Bytes.{wordAt}
-use Rattle.number.specs.Number.{readNumber, numberRead}
+use Rattle.field.proofs.KindOf.{words-1, words-2}
+use Rattle.record.proofs.Elements.{is-element-1, is-element-2}
+use Rattle.number.specs.Number.{readNumber}
+use Rattle.number.specs.Inner.Answers.{numberRead}
 use Rattle.number.specs.Reading.{Whole, Refused, choose, tested, readByte}
 use Rattle.number.specs.declared.Number.{Number}
 use Rattle.number.specs.declared.Number.the-variants.{Value, Fault}
 use Rattle.number.proofs.Places.{split, choose-whole, refused-whole}
-use Rattle.record.specs.Reading.{items, readItems, skipped, readSize, readPosition, readValue, readCorrection, readDelta, readField, firstWord}
-use Rattle.record.specs.Writing.{elementLength}
+use Rattle.record.specs.Reading.{items, readItems, readSize, readPosition, readValue, readCorrection, readDelta, readField}
+use Rattle.record.specs.Inner.Answers.{skipped, firstWord}
+use Rattle.record.specs.Inner.Lengths.{elementLength}
 
 -- a shift is the power of two
 pub shifted : (d : ℕ) → d ≤ 16 → (1 * 2 ^ d) % 2 ^ 64 ≡ 2 ^ d
@@ -88,10 +92,10 @@ module _ (count : ℕ) (s : List ℕ) (at : ℕ) where
 -- ---- elements
 
 pub element-1 : (field : ℕ) → field ≡ 1 → 16 ≡ elementLength field
-element-1 field f = simp (eq-eqb _ _ f)
+element-1 field f = ap (λ (n : ℕ). 8 * n) (sym (words-1 field f))
 
 pub element-2 : (field : ℕ) → (field ≡ 1 → ⊥) → 8 ≡ elementLength field
-element-2 field f = simp (ne-eqb _ _ f)
+element-2 field f = ap (λ (n : ℕ). 8 * n) (sym (words-2 field f))
 
 module _ (field : ℕ) (s : List ℕ) (at : ℕ) where
   module _ (f : field ≡ 1) where
@@ -102,29 +106,29 @@ module _ (field : ℕ) (s : List ℕ) (at : ℕ) where
     module _ {b : Bool} (has : b ≡ leb (at + 16) (length s)) where
       pub correction-ends-1 : b ≡ false → Refused 10 ≡ firstWord (readCorrection field s at)
       unfolding readCorrection readItems tested
-      correction-ends-1 e = simp (eq-eqb _ _ f, ← has, e)
+      correction-ends-1 e = simp (words-1 field f, is-element-1 field f, ← has, e)
 
       pub delta-ends-1 : b ≡ false → Refused 10 ≡ firstWord (readDelta field s at)
       unfolding readDelta readItems tested
-      delta-ends-1 e = simp (eq-eqb _ _ f, ← has, e)
+      delta-ends-1 e = simp (words-1 field f, is-element-1 field f, eq-eqb field 1 f, ← has, e)
 
       module _ (yes : b ≡ true) {low : ℕ} (first : low ≡ wordAt s at) where
         pub correction-1 : Whole (low, at + 16) ≡ firstWord (readCorrection field s at)
         unfolding readCorrection readItems items tested
-        correction-1 = simp (eq-eqb _ _ f, ← has, yes, first)
+        correction-1 = simp (words-1 field f, is-element-1 field f, ← has, yes, first)
 
         pub delta-low-1 : (low ≡ 0 → ⊥) → Whole (low, at + 16) ≡ firstWord (readDelta field s at)
         unfolding readDelta readItems items tested
-        delta-low-1 z = simp (eq-eqb _ _ f, ← has, yes, ← first, ne-eqb _ _ z)
+        delta-low-1 z = simp (words-1 field f, is-element-1 field f, eq-eqb field 1 f, ← has, yes, ← first, ne-eqb _ _ z)
 
         module _ (z : low ≡ 0) {high : ℕ} (second : high ≡ wordAt s (at + 8)) where
           pub delta-zero-1 : high ≡ 0 → Refused 6 ≡ firstWord (readDelta field s at)
           unfolding readDelta readItems items tested
-          delta-zero-1 w = simp (eq-eqb _ _ f, ← has, yes, ← first, eq-eqb _ _ z, ← second, eq-eqb _ _ w)
+          delta-zero-1 w = simp (words-1 field f, is-element-1 field f, eq-eqb field 1 f, ← has, yes, ← first, eq-eqb _ _ z, ← second, eq-eqb _ _ w)
 
           pub delta-high-1 : (high ≡ 0 → ⊥) → Whole (0, at + 16) ≡ firstWord (readDelta field s at)
           unfolding readDelta readItems items tested
-          delta-high-1 w = simp (eq-eqb _ _ f, ← has, yes, ← first, z, ← second, ne-eqb _ _ w)
+          delta-high-1 w = simp (words-1 field f, is-element-1 field f, eq-eqb field 1 f, ← has, yes, ← first, z, ← second, ne-eqb _ _ w)
 
   module _ (f : field ≡ 1 → ⊥) {b : Bool} (has : b ≡ leb (at + 8) (length s)) where
     pub value-ends : b ≡ false → Refused 10 ≡ readValue field s at
@@ -133,11 +137,11 @@ module _ (field : ℕ) (s : List ℕ) (at : ℕ) where
 
     pub correction-ends-2 : b ≡ false → Refused 10 ≡ firstWord (readCorrection field s at)
     unfolding readCorrection readItems tested
-    correction-ends-2 e = simp (ne-eqb _ _ f, ← has, e)
+    correction-ends-2 e = simp (words-2 field f, is-element-2 field f, ← has, e)
 
     pub delta-ends-2 : b ≡ false → Refused 10 ≡ firstWord (readDelta field s at)
     unfolding readDelta readItems tested
-    delta-ends-2 e = simp (ne-eqb _ _ f, ← has, e)
+    delta-ends-2 e = simp (words-2 field f, is-element-2 field f, ne-eqb field 1 f, ← has, e)
 
     module _ (yes : b ≡ true) {w : ℕ} (first : w ≡ wordAt s at) where
       pub value-zero : w ≡ 0 → Refused 5 ≡ readValue field s at
@@ -154,23 +158,23 @@ module _ (field : ℕ) (s : List ℕ) (at : ℕ) where
 
       pub correction-large : 2305843009213693951 ≤ w → Refused 8 ≡ firstWord (readCorrection field s at)
       unfolding readCorrection readItems items tested
-      correction-large h = simp (ne-eqb _ _ f, ← has, yes, ← first, le-ltb _ _ h)
+      correction-large h = simp (words-2 field f, is-element-2 field f, ← has, yes, ← first, le-ltb _ _ h)
 
       pub correction-2 : w < 2305843009213693951 → Whole (w, at + 8) ≡ firstWord (readCorrection field s at)
       unfolding readCorrection readItems items tested
-      correction-2 h = simp (ne-eqb _ _ f, ← has, yes, ← first, lt-ltb _ _ h)
+      correction-2 h = simp (words-2 field f, is-element-2 field f, ← has, yes, ← first, lt-ltb _ _ h)
 
       pub delta-zero-2 : w ≡ 0 → Refused 6 ≡ firstWord (readDelta field s at)
       unfolding readDelta readItems items tested
-      delta-zero-2 z = simp (ne-eqb _ _ f, ← has, yes, ← first, z)
+      delta-zero-2 z = simp (words-2 field f, is-element-2 field f, ne-eqb field 1 f, ← has, yes, ← first, z)
 
       pub delta-large : 2305843009213693951 ≤ w → Refused 6 ≡ firstWord (readDelta field s at)
       unfolding readDelta readItems items tested
-      delta-large h = simp (ne-eqb _ _ f, ← has, yes, ← first, le-ltb _ _ h)
+      delta-large h = simp (words-2 field f, is-element-2 field f, ne-eqb field 1 f, ← has, yes, ← first, le-ltb _ _ h)
 
       pub delta-2 : (w ≡ 0 → ⊥) → w < 2305843009213693951 → Whole (w, at + 8) ≡ firstWord (readDelta field s at)
       unfolding readDelta readItems items tested
-      delta-2 z h = simp (ne-eqb _ _ f, ← has, yes, ← first, lt-ltb _ _ h, ne-eqb _ _ z)
+      delta-2 z h = simp (words-2 field f, is-element-2 field f, ne-eqb field 1 f, ← has, yes, ← first, lt-ltb _ _ h, ne-eqb _ _ z)
 
 -- ---- the end byte and the field byte
 

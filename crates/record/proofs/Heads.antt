@@ -7,7 +7,8 @@ use borrow.Author.Tests.{leb-true}
 use native.Mathlib.Nat.{le-trans, min-le-left}
 use native.Mathlib.Omega.{arith}
 use Rattle.number.proofs.Places.{tested-whole}
-use Rattle.number.specs.Number.{readNumber, numberRead, faultOf}
+use Rattle.number.specs.Number.{readNumber}
+use Rattle.number.specs.Inner.Answers.{numberRead, numberFault}
 use Rattle.number.specs.Reading.{Whole, Refused, Step, readBytes}
 use Rattle.number.specs.declared.Number.{Number}
 use Rattle.number.specs.declared.Number.the-variants.{Value, Fault}
@@ -15,7 +16,8 @@ use Rattle.record.proofs.Fields.{and-both, skip-fault, skip-value}
 use Rattle.record.proofs.Parts.{head-parts}
 use Rattle.record.specs.Admitted.{isSize, mostTrees}
 use Rattle.record.specs.Content.{Head}
-use Rattle.record.specs.Reading.{skipped, readSize, readField, readSizes, readHead, headOf}
+use Rattle.record.specs.Reading.{readSize, readField, readSizes, readHead}
+use Rattle.record.specs.Inner.Answers.{skipped, headOf}
 use Rattle.record.specs.declared.Front.{Front}
 
 -- a size that was read is in its range
@@ -34,28 +36,28 @@ frontWith field depth trees terms outputs body =
     record { field = field; depth = depth; trees = trees; terms = terms; outputs = outputs; body = body }
 
 module _ (field : ℕ) (s : List ℕ) (at1 : ℕ) {r1 : Number} (read1 : numberRead r1 ≡ readSize 16 s at1) where
-  pub sizes-fault-1 : {j k : ℕ} → r1 ≡ Fault j → k ≡ faultOf r1 → Refused k ≡ readSizes field s at1
+  pub sizes-fault-1 : {j k : ℕ} → r1 ≡ Fault j → k ≡ numberFault r1 → Refused k ≡ readSizes field s at1
   unfolding readSizes
   sizes-fault-1 e w = simp (← read1, w, e)
 
   module _ {d at2 all : ℕ} (v1 : r1 ≡ Value d at2) (power : all ≡ 2 ^ d)
       {most : ℕ} (least : most ≡ min 64 all) {r2 : Number} (read2 : numberRead r2 ≡ readSize most s at2) where
-    pub sizes-fault-2 : {j k : ℕ} → r2 ≡ Fault j → k ≡ faultOf r2 → Refused k ≡ readSizes field s at1
+    pub sizes-fault-2 : {j k : ℕ} → r2 ≡ Fault j → k ≡ numberFault r2 → Refused k ≡ readSizes field s at1
     unfolding readSizes
     sizes-fault-2 e w = simp (← read1, v1, ← power, ← least, ← read2, w, e)
 
     module _ {t at3 : ℕ} (v2 : r2 ≡ Value t at3) {r3 : Number} (read3 : numberRead r3 ≡ readSize 32 s at3) where
-      pub sizes-fault-3 : {j k : ℕ} → r3 ≡ Fault j → k ≡ faultOf r3 → Refused k ≡ readSizes field s at1
+      pub sizes-fault-3 : {j k : ℕ} → r3 ≡ Fault j → k ≡ numberFault r3 → Refused k ≡ readSizes field s at1
       unfolding readSizes
       sizes-fault-3 e w = simp (← read1, v1, ← power, ← least, ← read2, v2, ← read3, w, e)
 
       module _ {l at4 : ℕ} (v3 : r3 ≡ Value l at4) {r4 : Number} (read4 : numberRead r4 ≡ readSize (all / 2) s at4) where
-        pub sizes-fault-4 : {j k : ℕ} → r4 ≡ Fault j → k ≡ faultOf r4 → Refused k ≡ readSizes field s at1
+        pub sizes-fault-4 : {j k : ℕ} → r4 ≡ Fault j → k ≡ numberFault r4 → Refused k ≡ readSizes field s at1
         unfolding readSizes
         sizes-fault-4 e w = simp (← read1, v1, ← power, ← least, ← read2, v2, ← read3, v3, ← read4, w, e)
 
         module _ {n at5 : ℕ} (v4 : r4 ≡ Value n at5) {r5 : Number} (read5 : numberRead r5 ≡ skipped 16 s at5) where
-          pub sizes-fault-5 : {j k : ℕ} → r5 ≡ Fault j → k ≡ faultOf r5 → Refused k ≡ readSizes field s at1
+          pub sizes-fault-5 : {j k : ℕ} → r5 ≡ Fault j → k ≡ numberFault r5 → Refused k ≡ readSizes field s at1
           unfolding readSizes readBytes
           sizes-fault-5 e w =
               let f = skip-fault 16 s at5 read5 e in
@@ -69,7 +71,7 @@ module _ (field : ℕ) (s : List ℕ) (at1 : ℕ) {r1 : Number} (read1 : numberR
               simp (← read1, v1, ← power, ← least, ← read2, v2, ← read3, v3, ← read4, v4, f .0, f .1, back)
 
 module _ (end : ℕ) (s : List ℕ) {r : Number} (read : numberRead r ≡ readField end s) where
-  pub head-fault : {j k : ℕ} → r ≡ Fault j → k ≡ faultOf r → Refused k ≡ readHead end s
+  pub head-fault : {j k : ℕ} → r ≡ Fault j → k ≡ numberFault r → Refused k ≡ readHead end s
   unfolding readHead
   head-fault e w = simp (← read, w, e)
 

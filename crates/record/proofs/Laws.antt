@@ -14,16 +14,21 @@ use Rattle.field.specs.Bytes.{leBytes, wordAt}
 use Rattle.number.proofs.Laws.{length-number}
 use Rattle.number.proofs.Places.{either, has-front, has-back, has-next, has-byte, whole-has, has-whole}
 use Rattle.number.specs.Number.{writeNumber}
-use Rattle.number.specs.Reading.{Whole, Bytes, Has}
+use Rattle.number.specs.Reading.{Whole, Bytes}
+use Rattle.number.specs.Inner.Known.{Has}
 use Rattle.record.proofs.Exact.{head-reads, head-exact, trees-reads, trees-exact, delta-reads, delta-exact, blocks-reads, blocks-exact, field-exact, within}
 use Rattle.record.proofs.Fields.{and-both}
 use Rattle.record.proofs.Items.{length-flat}
 use Rattle.record.proofs.Parts.{head-parts, noise-parts, scalar-parts}
 use Rattle.record.proofs.Writes.{length-head}
-use Rattle.record.specs.Admitted.{Each, Word, Block, Rising, AdmittedHead, AdmittedTrees, AdmittedNoise, AdmittedScalar}
-use Rattle.record.specs.Content.{Head, NoiseTree, NoisePart, ScalarPart, elementWords}
+use Rattle.record.specs.Admitted.{Each, SixtyFourBits, SixteenBytes, AdmittedHead, AdmittedNoise, AdmittedScalar}
+use Rattle.record.specs.Inner.Rising.{TreesFrom}
+use Rattle.record.proofs.Rising.{trees-each, trees-rising, trees-from}
+use Rattle.field.specs.Kind.{elementWords}
+use Rattle.record.specs.Content.{Head, NoiseTree, NoisePart, ScalarPart}
 use Rattle.record.specs.Reading.{blockAt, readHead, readTrees, readNoise, readScalar}
-use Rattle.record.specs.Writing.{writeWords, writeBlocks, writeHead, writeValue, writeFront, writeTree, writeTrees, writeNoise, writeScalar, valueLength, frontLength, treesLength, noiseLength, scalarLength}
+use Rattle.record.specs.Writing.{writeWords, writeBlocks, writeHead, writeValue, writeFront, writeTree, writeTrees, writeNoise, writeScalar}
+use Rattle.record.specs.Inner.Lengths.{valueLength, frontLength, treesLength, noiseLength, scalarLength}
 
 -- the depth of an admitted head
 shallow : {h : Head} → AdmittedHead h → h .depth ≤ 16
@@ -43,7 +48,7 @@ noise-reads p ok =
     let rest : Has s (length H) R = subst (λ (i : ℕ). Has s i R) (zero-add (length H)) (has-back s 0 H R g) in
     let e₁ : readTrees (h .field) (h .depth) (h .trees) 0 s (length H) ≡ Whole (p .trees, length H + length R) =
     ap (λ (n : ℕ). readTrees (h .field) (h .depth) n 0 s (length H)) (sym (ok .count))
-    ∙ trees-reads s (h .field) (h .depth) 0 (length H) (p .trees) (shallow (ok .head)) (ok .trees) rest in
+    ∙ trees-reads s (h .field) (h .depth) 0 (length H) (p .trees) (shallow (ok .head)) (trees-from p ok) rest in
     let end : ltb (length H + length R) (length s) ≡ false = le-ltb (length H + length R) (length s) (omega (arith, length-append H R)) in
     simp (e₀, e₁, end)
 
@@ -76,7 +81,7 @@ noise-exact s bytes {p} e =
     let b = head-exact s bytes 1 (a .2) in
     let place : a .0 ≡ 0 + length H = b .2 ∙ sym (zero-add (length H)) in
     let c = trees-exact s bytes (h .field) (h .depth) (h .trees) 0 (a .0) (within s 0 H (b .1) place) (a .3) in (
-      record { head = b .0; count = c .0; trees = c .1 },
+      record { head = b .0; count = c .0; rising = trees-rising (h .field) (h .depth) 0 (p .trees) (c .0) (c .1); trees = trees-each (h .field) (h .depth) 0 (p .trees) (c .1) },
       has-whole s (H ++ R) (has-next s 0 H R (b .1) place (c .2))
           (omega (arith, a .4, b .2, c .3, length-append H R, within s (a .0) R (c .2) (c .3))),
     )
@@ -119,16 +124,16 @@ one-end s e f =
 
 -- ---- lengths
 
-pub length-words : (ws : List ℕ) → Each Word ws → length (writeWords ws) ≡ 8 * length ws
-length-words ws ok = length-flat wordAt 8 (leBytes 8) Word (λ x w. length-leBytes 8 x) ws ok
+pub length-words : (ws : List ℕ) → Each SixtyFourBits ws → length (writeWords ws) ≡ 8 * length ws
+length-words ws ok = length-flat wordAt 8 (leBytes 8) SixtyFourBits (λ x w. length-leBytes 8 x) ws ok
 
-pub length-blocks : (bs : List (List ℕ)) → Each Block bs → length (writeBlocks bs) ≡ 16 * length bs
-length-blocks bs ok = length-flat blockAt 16 (λ b. b) Block (λ b w. w .0) bs ok
+pub length-blocks : (bs : List (List ℕ)) → Each SixteenBytes bs → length (writeBlocks bs) ≡ 16 * length bs
+length-blocks bs ok = length-flat blockAt 16 (λ b. b) SixteenBytes (λ b w. w .0) bs ok
 
 pub length-value : (field value : ℕ) → length (writeValue field value) ≡ valueLength field
 length-value field value = either field 1 (λ f. simp (eq-eqb _ _ f)) (λ f. simp (ne-eqb _ _ f, length-leBytes))
 
-pub length-front : (field base position value : ℕ) (c : List ℕ) → length c ≡ elementWords field → Each Word c
+pub length-front : (field base position value : ℕ) (c : List ℕ) → length c ≡ elementWords field → Each SixtyFourBits c
     → length (writeFront field base position value c) ≡ frontLength field base position
 unfolding writeFront frontLength
 length-front field base position value c e ok =
@@ -137,9 +142,9 @@ length-front field base position value c e ok =
     let C : List ℕ = writeWords c in
     omega (arith, length-append P (Y ++ C), length-append Y C, length-number (position - base), length-value field value, length-words c ok, ap (λ (n : ℕ). 8 * n) e)
 
-pub length-trees : (field depth base : ℕ) (ts : List NoiseTree) → AdmittedTrees field depth base ts
+pub length-trees : (field depth base : ℕ) (ts : List NoiseTree) → TreesFrom field depth base ts
     → length (writeTrees field base ts) ≡ treesLength field depth base (map (λ (t : NoiseTree). t .position) ts)
-unfolding writeTrees writeTree treesLength AdmittedTrees
+unfolding writeTrees writeTree treesLength TreesFrom
 length-trees field depth base [] ok = refl
 length-trees field depth base (t ∷ ts) ok =
     let F : List ℕ = writeFront field base (t .position) (t .value) (t .correction) in
@@ -149,9 +154,9 @@ length-trees field depth base (t ∷ ts) ok =
       arith,
       length-append (F ++ B) R,
       length-append F B,
-      length-front field base (t .position) (t .value) (t .correction) (ok .0 .words .0) (ok .0 .words .1),
-      length-blocks (t .siblings) (ok .0 .siblings .1),
-      ap (λ (n : ℕ). 16 * n) (ok .0 .siblings .0),
+      length-front field base (t .position) (t .value) (t .correction) (ok .0 .tree .words .0) (ok .0 .tree .words .1),
+      length-blocks (t .siblings) (ok .0 .tree .siblings .1),
+      ap (λ (n : ℕ). 16 * n) (ok .0 .tree .siblings .0),
       length-trees field depth (t .position + 1) ts (ok .1),
     )
 
@@ -164,7 +169,7 @@ length-noise p ok =
       arith,
       length-append (writeHead 1 (p .head)) (writeTrees (p .head .field) 0 (p .trees)),
       length-head 1 (p .head) (ok .head .codeKey .0),
-      length-trees (p .head .field) (p .head .depth) 0 (p .trees) (ok .trees),
+      length-trees (p .head .field) (p .head .depth) 0 (p .trees) (trees-from p ok),
     )
 
 pub length-scalar : (p : ScalarPart) → AdmittedScalar p
@@ -184,9 +189,3 @@ length-scalar p ok =
       length-blocks (p .roots) (ok .roots .1),
       ap (λ (n : ℕ). 16 * n) (ok .roots .0),
     )
-
--- the positions of admitted trees rise
-pub positions-rise : (field depth base : ℕ) (ts : List NoiseTree) → AdmittedTrees field depth base ts → Rising (2 ^ depth) base (map (λ (t : NoiseTree). t .position) ts)
-unfolding AdmittedTrees Rising
-positions-rise field depth base [] ok = tt
-positions-rise field depth base (t ∷ ts) ok = (ok .0 .rising, ltb-true _ _ (ok .0 .below), positions-rise field depth (t .position + 1) ts (ok .1))

@@ -1,6 +1,7 @@
 -- The laws of `record`.
 mod Again
 pub mod Callers
+pub mod Elements
 pub mod Exact
 mod Fields
 mod Heads
@@ -8,5 +9,6 @@ pub mod Items
 pub mod Laws
 pub mod Parts
 mod Records
+mod Rising
 mod Trees
 pub mod Writes

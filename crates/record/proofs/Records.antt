@@ -11,7 +11,8 @@ use lib.Pow.{pow-mono}
 use mir.Syntax.{w64}
 use mir.Val.{Fits}
 use Rattle.number.proofs.Places.{refused-whole, whole-is, tested-whole}
-use Rattle.number.specs.Number.{readNumber, numberRead, faultOf}
+use Rattle.number.specs.Number.{readNumber}
+use Rattle.number.specs.Inner.Answers.{numberRead, numberFault}
 use Rattle.number.specs.Reading.{Whole, Refused, Step, then, choose}
 use Rattle.number.specs.declared.Number.{Number}
 use Rattle.number.specs.declared.Number.the-variants.{Value, Fault}
@@ -20,7 +21,8 @@ use Rattle.record.proofs.Heads.{head-depth, head-trees}
 use Rattle.record.proofs.Parts.{tree-parts}
 use Rattle.record.proofs.Trees.{first-refused, first-whole}
 use Rattle.record.specs.Content.{Head, NoiseTree, NoisePart, ScalarPart}
-use Rattle.record.specs.Reading.{readItems, skipped, readPosition, readDelta, readHead, readTree, readTrees, ended, readNoise, readScalar, headOf, opened, frontOf, treeFront, firstWord}
+use Rattle.record.specs.Reading.{readItems, readPosition, readDelta, readHead, readTree, readTrees, ended, readNoise, readScalar}
+use Rattle.record.specs.Inner.Answers.{skipped, headOf, opened, frontOf, treeFront, firstWord}
 use Rattle.record.specs.declared.Front.{Front}
 use Rattle.record.specs.declared.Opened.{Opened}
 use Rattle.record.specs.declared.Opened.the-variants.{Accepted, Fault as Refuse}
@@ -110,11 +112,11 @@ module _ {s : List ℕ} {f : Front} {at base i : ℕ} (turn : Turn s f at base i
         ∙ ap (λ (y : Step NoiseTree). left s (headOf s f, f .body) (then y λ tree next. then (readTrees (f .field) (f .depth) (f .trees - (i + 1)) (tree .position + 1) s next) λ ts end. Whole (tree ∷ ts, end))) e
 
   module _ (more : i < f .trees) {t : Number} (read : numberRead t ≡ treeFront (readTree (f .field) (f .depth) base s at)) where
-    pub turn-fault : {j k : ℕ} → t ≡ Fault j → k ≡ faultOf t → Refused k ≡ noiseAnswer s
+    pub turn-fault : {j k : ℕ} → t ≡ Fault j → k ≡ numberFault t → Refused k ≡ noiseAnswer s
     unfolding left
     turn-fault {j} {k} e w =
         let x = tree-refused (readTree (f .field) (f .depth) base s at) (sym read ∙ ap numberRead e) in
-        sym (step more (Refused j) x ∙ ap (λ (n : ℕ). Refused n) (sym (w ∙ ap faultOf e)))
+        sym (step more (Refused j) x ∙ ap (λ (n : ℕ). Refused n) (sym (w ∙ ap numberFault e)))
 
     module _ {p next : ℕ} (v : t ≡ Value p next) where
       pub turn-position : p < 2 ^ f .depth
@@ -169,7 +171,7 @@ module _ (s : List ℕ) {r : Opened} {f : Front} (read : opened s r ≡ readHead
   roots-fit = record { fits = omega (arith, head-trees 2 s (accepted-head 2 s read e)) }
 
   module _ {d : Number} (readD : numberRead d ≡ firstWord (readDelta (f .field) s (f .body))) where
-    pub delta-refused : {j k : ℕ} → d ≡ Fault j → k ≡ faultOf d → Refused k ≡ scalarAnswer s
+    pub delta-refused : {j k : ℕ} → d ≡ Fault j → k ≡ numberFault d → Refused k ≡ scalarAnswer s
     unfolding readScalar
     delta-refused g w =
         let h = accepted-head 2 s read e in
@@ -177,7 +179,7 @@ module _ (s : List ℕ) {r : Opened} {f : Front} (read : opened s r ≡ readHead
         simp (h, x, w, g)
 
     module _ {w at : ℕ} (v : d ≡ Value w at) {roots : Number} (readR : numberRead roots ≡ skipped (16 * f .trees) s at) where
-      pub roots-refused : {j k : ℕ} → roots ≡ Fault j → k ≡ faultOf roots → Refused k ≡ scalarAnswer s
+      pub roots-refused : {j k : ℕ} → roots ≡ Fault j → k ≡ numberFault roots → Refused k ≡ scalarAnswer s
       unfolding readScalar readItems
       roots-refused g u =
           let h = accepted-head 2 s read e in

@@ -4,12 +4,13 @@ use mathlib.Core.List.{List}
 use mathlib.Core.Path.{_≡_, refl, sym, ap, _∙_}
 use lib.ListN.{getD}
 use Rattle.number.proofs.Places.{refused-whole, whole-is}
-use Rattle.number.specs.Number.{numberRead}
+use Rattle.number.specs.Inner.Answers.{numberRead}
 use Rattle.number.specs.Reading.{Whole, Refused, Step}
 use Rattle.number.specs.declared.Number.{Number}
 use Rattle.number.specs.declared.Number.the-variants.{Value, Fault}
 use Rattle.record.proofs.Fields.{skip-fault, skip-value}
-use Rattle.record.specs.Reading.{readItems, skipped, readPosition, readValue, readCorrection, readTree, firstWord, treeFront}
+use Rattle.record.specs.Reading.{readItems, readPosition, readValue, readCorrection, readTree}
+use Rattle.record.specs.Inner.Answers.{skipped, firstWord, treeFront}
 
 -- an element by its first word
 pub first-refused : (x : Step (List ℕ)) {k : ℕ} → firstWord x ≡ Refused k → x ≡ Refused k

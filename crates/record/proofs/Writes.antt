@@ -12,16 +12,21 @@ use lib.Seq.{sets, length-sets, take-suc, take-all, getD-drop, length-take-le, d
 use lib.Pow.{pow-mono}
 use mir.Syntax.{w8, w64}
 use mir.Val.{Fits}
+use Rattle.field.proofs.KindOf.{words-1, words-2}
 use Rattle.field.proofs.ByteWords.{length-leBytes}
-use Rattle.field.specs.Bytes.{leBytes, withWord}
+use Rattle.field.specs.Bytes.{leBytes}
+use Rattle.field.specs.Inner.Written.{withWord}
 use Rattle.number.proofs.Laws.{length-number, length-bounds}
 use Rattle.number.proofs.Places.{sets-append, choose-yes, choose-no, either}
-use Rattle.number.specs.Number.{numbers, writeNumber, numberLength}
+use Rattle.number.specs.Number.{writeNumber}
+use Rattle.number.specs.Inner.Answers.{numbers, numberLength}
 use Rattle.number.specs.Reading.{part}
-use Rattle.record.specs.Admitted.{Rising}
-use Rattle.record.specs.Content.{Head, headWith, elementOf}
+use Rattle.record.specs.Inner.Rising.{RisesFrom}
+use Rattle.record.specs.Content.{Head, elementOf}
+use Rattle.record.specs.Inner.Heads.{headWith}
 use Rattle.record.specs.Reading.{items, blockAt}
-use Rattle.record.specs.Writing.{flat, writeWords, writeBlocks, writeHead, writeValue, writeFront, writeScalar, Writable, elementLength, valueLength, headLength, frontLength, treesLength, noiseLength, scalarLength}
+use Rattle.record.specs.Writing.{writeEach, writeWords, writeBlocks, writeHead, writeValue, writeFront, writeScalar}
+use Rattle.record.specs.Inner.Lengths.{Writable, elementLength, valueLength, headLength, frontLength, treesLength, noiseLength, scalarLength}
 
 -- one part after another
 pub after : {b c : List ℕ} (b₀ : List ℕ) (at : ℕ) {next : ℕ} (u v : List ℕ) → b ≡ sets b₀ at u → next ≡ at + length u → c ≡ sets b next v → c ≡ sets b₀ at (u ++ v)
@@ -55,7 +60,7 @@ module _ (b₀ : List ℕ) (at : ℕ) (s : List ℕ) (start : ℕ) where
 module _ (b₀ : List ℕ) (at field : ℕ) (room : at + elementLength field ≤ length b₀) where
   module _ (f : field ≡ 1) where
     wide : elementLength field ≡ 16
-    wide = ap (λ (n : ℕ). 8 * n) (choose-yes 2 1 (eq-eqb field 1 f))
+    wide = ap (λ (n : ℕ). 8 * n) (words-1 field f)
 
     pub element-room-1 : at + 8 ≤ length b₀
     element-room-1 = omega (arith, wide)
@@ -73,17 +78,17 @@ module _ (b₀ : List ℕ) (at field : ℕ) (room : at + elementLength field ≤
 
       pub element-wrote-1 : {c : List ℕ} (high : ℕ) → c ≡ withWord b (at + 8) high
           → (at + 16 ≡ at + elementLength field) × (c ≡ sets b₀ at (writeWords (elementOf field low high)))
-      unfolding withWord flat
+      unfolding withWord writeEach
       element-wrote-1 {c} high second = (
         ap (λ (n : ℕ). at + n) (sym wide),
         after b₀ at (leBytes 8 low) (leBytes 8 high) first (ap (λ (n : ℕ). at + n) (sym (length-leBytes 8 low))) second
             ∙ ap (λ (w : List ℕ). sets b₀ at (leBytes 8 low ++ w)) (sym (append-nil (leBytes 8 high)))
-            ∙ ap (λ (ws : List ℕ). sets b₀ at (flat (leBytes 8) ws)) (sym (choose-yes (low ∷ high ∷ []) (low ∷ []) (eq-eqb field 1 f))),
+            ∙ ap (λ (ws : List ℕ). sets b₀ at (writeEach (leBytes 8) ws)) (sym (choose-yes (low ∷ high ∷ []) (low ∷ []) (eq-eqb field 1 f))),
       )
 
   module _ (f : field ≡ 1 → ⊥) where
     narrow : elementLength field ≡ 8
-    narrow = ap (λ (n : ℕ). 8 * n) (choose-no 2 1 (ne-eqb field 1 f))
+    narrow = ap (λ (n : ℕ). 8 * n) (words-2 field f)
 
     pub element-room-3 : at + 8 ≤ length b₀
     element-room-3 = omega (arith, narrow)
@@ -93,11 +98,11 @@ module _ (b₀ : List ℕ) (at field : ℕ) (room : at + elementLength field ≤
 
     pub element-wrote-2 : {b : List ℕ} (low high : ℕ) → b ≡ withWord b₀ at low
         → (at + 8 ≡ at + elementLength field) × (b ≡ sets b₀ at (writeWords (elementOf field low high)))
-    unfolding withWord flat
+    unfolding withWord writeEach
     element-wrote-2 {b} low high e = (
       ap (λ (n : ℕ). at + n) (sym narrow),
       e ∙ ap (sets b₀ at) (sym (append-nil (leBytes 8 low)))
-          ∙ ap (λ (ws : List ℕ). sets b₀ at (flat (leBytes 8) ws)) (sym (choose-no (low ∷ high ∷ []) (low ∷ []) (ne-eqb field 1 f))),
+          ∙ ap (λ (ws : List ℕ). sets b₀ at (writeEach (leBytes 8) ws)) (sym (choose-no (low ∷ high ∷ []) (low ∷ []) (ne-eqb field 1 f))),
     )
 
 -- ---- the head
@@ -200,7 +205,7 @@ module _ (b₀ : List ℕ) (end field depth trees terms outputs : ℕ) (key : Li
 -- in both fields the noise value and the correction take 16 bytes together
 pub value-element : (field : ℕ) → valueLength field + elementLength field ≡ 16
 value-element field =
-    either field 1 (λ f. simp (eq-eqb _ _ f)) (λ f. simp (ne-eqb _ _ f))
+    either field 1 (λ f. simp (eq-eqb field 1 f, words-1 field f)) (λ f. simp (ne-eqb field 1 f, words-2 field f))
 
 pub front-is : (field base position : ℕ) → frontLength field base position ≡ numberLength (position - base) + 16
 unfolding frontLength
@@ -221,7 +226,7 @@ module _ (b₀ : List ℕ) (at field base position : ℕ) (rising : base ≤ pos
     module _ (f : field ≡ 1) where
       pub front-ask-1 : at1 + elementLength field ≤ length b₁
       front-ask-1 =
-          let e : elementLength field ≡ 16 = ap (λ (n : ℕ). 8 * n) (choose-yes 2 1 (eq-eqb field 1 f)) in
+          let e : elementLength field ≡ 16 = ap (λ (n : ℕ). 8 * n) (words-1 field f) in
           omega (arith, front-is field base position, w₁ .0, long, e)
 
       pub front-wrote-1 : {at2 : ℕ} {b₂ : List ℕ} (value : ℕ) (words : List ℕ)
@@ -229,7 +234,7 @@ module _ (b₀ : List ℕ) (at field base position : ℕ) (rising : base ≤ pos
           → (at2 ≡ at + frontLength field base position) × (b₂ ≡ sets b₀ at (writeFront field base position value words))
       unfolding writeFront
       front-wrote-1 value words w₂ =
-          let e : elementLength field ≡ 16 = ap (λ (n : ℕ). 8 * n) (choose-yes 2 1 (eq-eqb field 1 f)) in
+          let e : elementLength field ≡ 16 = ap (λ (n : ℕ). 8 * n) (words-1 field f) in
           let none : writeValue field value ≡ [] = choose-yes [] (leBytes 8 value) (eq-eqb field 1 f) in (
             omega (arith, front-is field base position, w₁ .0, w₂ .0, e),
             after b₀ at (writeNumber (position - base)) (writeWords words) (w₁ .1) place (w₂ .1)
@@ -238,7 +243,7 @@ module _ (b₀ : List ℕ) (at field base position : ℕ) (rising : base ≤ pos
 
     module _ (f : field ≡ 1 → ⊥) where
       one-word : elementLength field ≡ 8
-      one-word = ap (λ (n : ℕ). 8 * n) (choose-no 2 1 (ne-eqb field 1 f))
+      one-word = ap (λ (n : ℕ). 8 * n) (words-2 field f)
 
       pub front-ask-2 : at1 + 8 ≤ length b₁
       front-ask-2 = omega (arith, front-is field base position, w₁ .0, long)
@@ -273,15 +278,15 @@ length-head end h e =
     simp (length-append, length-number, e) (omega arith)
 
 pub length-element : (field low high : ℕ) → length (writeWords (elementOf field low high)) ≡ elementLength field
-unfolding flat
+unfolding writeEach
 length-element field low high =
     either field 1
-    (λ f. simp (eq-eqb _ _ f, length-append, length-leBytes))
-    (λ f. simp (ne-eqb _ _ f, length-append, length-leBytes))
+    (λ f. simp (eq-eqb field 1 f, words-1 field f, length-append, length-leBytes))
+    (λ f. simp (ne-eqb field 1 f, words-2 field f, length-append, length-leBytes))
 
 -- blocks one after the other are the bytes that they were cut from
 pub blocks-part : (s : List ℕ) (n at : ℕ) → at + 16 * n ≤ length s → writeBlocks (items blockAt 16 s at n) ≡ part s at (16 * n)
-unfolding flat items
+unfolding writeEach items
 blocks-part s zero at h = refl
 blocks-part s (suc n) at h =
     ap (λ (l : List ℕ). part s at 16 ++ l) (blocks-part s n (at + 16) (omega arith)
@@ -376,7 +381,7 @@ unfolding headLength
 head-most depth trees terms outputs = omega (arith, length-bounds depth, length-bounds trees, length-bounds terms, length-bounds outputs)
 
 pub element-most : (field : ℕ) → elementLength field ≤ 16
-element-most field = either field 1 (λ f. simp (eq-eqb _ _ f) (omega arith)) (λ f. simp (ne-eqb _ _ f) (omega arith))
+element-most field = either field 1 (λ f. omega (arith, words-1 field f)) (λ f. omega (arith, words-2 field f))
 
 module _ (field depth trees terms outputs : ℕ) (few : trees ≤ 64) {h e : ℕ} (head : h ≡ headLength depth trees terms outputs) (element : e ≡ elementLength field) where
   pub scalar-sum-fits-1 : Fits w64 (e + 16 * trees)
@@ -392,12 +397,12 @@ module _ (field depth trees terms outputs : ℕ) (few : trees ≤ 64) {h e : ℕ
 -- the loop of `noise_length`: what is left of the positions is the sum's rest
 pub record Sum (field depth trees terms outputs : ℕ) (ps : List ℕ) (total base i : ℕ) : Type 0 where
   pub sum : total + treesLength field depth base (drop i ps) ≡ noiseLength field depth trees terms outputs ps
-  pub rising : Rising (2 ^ depth) base (drop i ps)
+  pub rising : RisesFrom (2 ^ depth) base (drop i ps)
   pub turns : i ≤ length ps
   pub small : total ≤ 30 + i * 275
 
 module _ (field depth trees terms outputs : ℕ) (ps : List ℕ) where
-  pub sum-start : {h : ℕ} → h ≡ headLength depth trees terms outputs → Rising (2 ^ depth) 0 ps → Sum field depth trees terms outputs ps h 0 0
+  pub sum-start : {h : ℕ} → h ≡ headLength depth trees terms outputs → RisesFrom (2 ^ depth) 0 ps → Sum field depth trees terms outputs ps h 0 0
   unfolding noiseLength
   sum-start e r =
       record {
@@ -409,15 +414,15 @@ module _ (field depth trees terms outputs : ℕ) (ps : List ℕ) where
 
   module _ {total base i : ℕ} (s : Sum field depth trees terms outputs ps total base i) where
     module _ (more : i < length ps) where
-      next : Rising (2 ^ depth) base (getD ps i 0 ∷ drop (suc i) ps)
-      next = subst (Rising (2 ^ depth) base) (drop-cons ps i 0 more) (s .rising)
+      next : RisesFrom (2 ^ depth) base (getD ps i 0 ∷ drop (suc i) ps)
+      next = subst (RisesFrom (2 ^ depth) base) (drop-cons ps i 0 more) (s .rising)
 
       pub sum-asks : base ≤ getD ps i 0
-      unfolding Rising
+      unfolding RisesFrom
       sum-asks = next .0
 
       pub sum-position : depth ≤ 16 → Fits w64 (getD ps i 0 + 1)
-      unfolding Rising
+      unfolding RisesFrom
       sum-position h = record { fits = omega (arith, next .1, pow-mono h) }
 
       module _ {f : ℕ} (front : f ≡ frontLength field base (getD ps i 0)) (shallow : depth ≤ 16) where
@@ -428,7 +433,7 @@ module _ (field depth trees terms outputs : ℕ) (ps : List ℕ) where
         sum-fits-total h = record { fits = omega (arith, s .small, front-is field base (getD ps i 0), length-bounds (getD ps i 0 - base)) }
 
         pub sum-next : Sum field depth trees terms outputs ps (total + (f + 16 * depth)) (getD ps i 0 + 1) (i + 1)
-        unfolding treesLength Rising
+        unfolding treesLength RisesFrom
         sum-next =
             let e : drop i ps ≡ getD ps i 0 ∷ drop (suc i) ps = drop-cons ps i 0 more in
             let one : treesLength field depth base (drop i ps)
@@ -438,7 +443,7 @@ module _ (field depth trees terms outputs : ℕ) (ps : List ℕ) where
               sum =
                   ap (λ (l : List ℕ). total + (f + 16 * depth) + treesLength field depth (getD ps i 0 + 1) l) d
                   ∙ omega (arith, one, front) ∙ s .sum;
-              rising = subst (Rising (2 ^ depth) (getD ps i 0 + 1)) (sym d) (next .2);
+              rising = subst (RisesFrom (2 ^ depth) (getD ps i 0 + 1)) (sym d) (next .2);
               turns = omega arith;
               small = omega (arith, s .small, front, front-is field base (getD ps i 0), length-bounds (getD ps i 0 - base));
             }

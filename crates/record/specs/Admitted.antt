@@ -1,14 +1,16 @@
 -- What a record may hold (document 01, 'Two fields', 'Sizes', 'Trees', 'Dealing'): the tests of its fields, and the content that
 -- passes them.
-use Prim.Native.Nat.{ℕ, _+_, _-_, _/_, _^_, _≤_, _<_, min}
+use Prim.Native.Nat.{ℕ, _-_, _/_, _^_, _<_, min}
 use mathlib.Core.Bool.{Bool, true, not, _&&_, _||_}
 use mathlib.Core.List.{List, [], _∷_}
 use mathlib.Core.Path.{_≡_}
 use lib.Dec.{leb, ltb, eqb}
 use lib.ListN.{length, getD}
+use Rattle.algebra.specs.Expansion.{Rising}
 use Rattle.field.specs.Prime.{modulus}
 use Rattle.number.specs.Reading.{choose, Bytes}
-use Rattle.record.specs.Content.{Head, NoiseTree, NoisePart, ScalarPart, elementWords}
+use Rattle.field.specs.Kind.{kindOf, elementWords}
+use Rattle.record.specs.Content.{Head, NoiseTree, NoisePart, ScalarPart, treeIn}
 
 -- Two fields: 1 is binary, 2 is prime
 abbrev pub isField : ℕ → Bool
@@ -30,18 +32,17 @@ mostOutputs depth = 2 ^ depth / 2
 abbrev pub isNoise : ℕ → ℕ → Bool
 isNoise field value = choose (eqb field 1) (eqb value 1) (isSize (modulus - 1) value)
 
--- Two fields: in field 1 every block is an element, in field 2 a word below p
+-- Two fields: words that are an element of the field: in field 1 every block is one, in field 2 a word below p
 abbrev pub isElement : ℕ → List ℕ → Bool
-isElement field words = choose (eqb field 1) true (ltb (getD words 0 0) modulus)
+isElement field words = kindOf field .field .scaled .group .isElement (kindOf field .field .elements .read words 0)
+
+-- the element of these words is zero: both words in field 1, the one word in field 2
+abbrev pub isZero : ℕ → List ℕ → Bool
+isZero field words = choose (eqb field 1) (eqb (getD words 0 0) 0 && eqb (getD words 1 0) 0) (eqb (getD words 0 0) 0)
 
 -- Dealing: Δ is an element and never zero
 abbrev pub isScalar : ℕ → List ℕ → Bool
-isScalar field words = isElement field words && not (eqb (getD words 0 0) 0 && eqb (getD words 1 0) 0)
-
--- Dealing: positions rise strictly and are below N; `base` is one more than the position before
-unfoldable pub Rising : ℕ → ℕ → List ℕ → Type 0
-Rising all base [] = Unit {0}
-Rising all base (p ∷ ps) = (base ≤ p) × (p < all) × Rising all (p + 1) ps
+isScalar field words = isElement field words && not (isZero field words)
 
 -- every member of a list is such
 unfoldable pub Each : {A : Type 0} → (A → Type 0) → List A → Type 0
@@ -49,12 +50,12 @@ Each P [] = Unit {0}
 Each P (x ∷ xs) = P x × Each P xs
 
 -- a block is 16 bytes
-abbrev pub Block : List ℕ → Type 0
-Block b = (length b ≡ 16) × Bytes b
+abbrev pub SixteenBytes : List ℕ → Type 0
+SixteenBytes b = (length b ≡ 16) × Bytes b
 
 -- a word is 64 bits
-abbrev pub Word : ℕ → Type 0
-Word w = w < 18446744073709551616
+abbrev pub SixtyFourBits : ℕ → Type 0
+SixtyFourBits w = w < 18446744073709551616
 
 -- Sizes: field, d, t, ℓ, n and the code key of an admitted head
 pub record AdmittedHead (h : Head) : Type 0 where
@@ -63,31 +64,26 @@ pub record AdmittedHead (h : Head) : Type 0 where
   pub trees : isSize (mostTrees (h .depth)) (h .trees) ≡ true
   pub terms : isSize 32 (h .terms) ≡ true
   pub outputs : isSize (mostOutputs (h .depth)) (h .outputs) ≡ true
-  pub codeKey : Block (h .codeKey)
+  pub codeKey : SixteenBytes (h .codeKey)
 
--- a tree of a record of this field and depth, after positions below `base`
-pub record AdmittedTree (field depth base : ℕ) (t : NoiseTree) : Type 0 where
-  pub rising : base ≤ t .position
+-- a tree of a record of this field and depth
+pub record AdmittedTree (field depth : ℕ) (t : NoiseTree) : Type 0 where
   pub below : ltb (t .position) (2 ^ depth) ≡ true
   pub value : isNoise field (t .value) ≡ true
-  pub words : (length (t .correction) ≡ elementWords field) × Each Word (t .correction)
+  pub words : (length (t .correction) ≡ elementWords field) × Each SixtyFourBits (t .correction)
   pub correction : isElement field (t .correction) ≡ true
-  pub siblings : (length (t .siblings) ≡ depth) × Each Block (t .siblings)
+  pub siblings : (length (t .siblings) ≡ depth) × Each SixteenBytes (t .siblings)
 
--- trees one after the other: positions rise strictly
-unfoldable pub AdmittedTrees : ℕ → ℕ → ℕ → List NoiseTree → Type 0
-AdmittedTrees field depth base [] = Unit {0}
-AdmittedTrees field depth base (t ∷ ts) = AdmittedTree field depth base t × AdmittedTrees field depth (t .position + 1) ts
-
--- the noise record: t trees
+-- the noise record: t trees, whose positions rise strictly
 pub record AdmittedNoise (p : NoisePart) : Type 0 where
   pub head : AdmittedHead (p .head)
   pub count : length (p .trees) ≡ p .head .trees
-  pub trees : AdmittedTrees (p .head .field) (p .head .depth) 0 (p .trees)
+  pub rising : Rising (p .head .trees) (λ i. treeIn (p .trees) i .position)
+  pub trees : Each (AdmittedTree (p .head .field) (p .head .depth)) (p .trees)
 
 -- the scalar record: Δ and t roots
 pub record AdmittedScalar (p : ScalarPart) : Type 0 where
   pub head : AdmittedHead (p .head)
-  pub words : (length (p .delta) ≡ elementWords (p .head .field)) × Each Word (p .delta)
+  pub words : (length (p .delta) ≡ elementWords (p .head .field)) × Each SixtyFourBits (p .delta)
   pub delta : isScalar (p .head .field) (p .delta) ≡ true
-  pub roots : (length (p .roots) ≡ p .head .trees) × Each Block (p .roots)
+  pub roots : (length (p .roots) ≡ p .head .trees) × Each SixteenBytes (p .roots)

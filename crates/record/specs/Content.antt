@@ -2,6 +2,7 @@
 use Prim.Native.Nat.{ℕ}
 use mathlib.Core.List.{List, [], _∷_}
 use lib.Dec.{eqb}
+use lib.ListN.{getD}
 use Rattle.number.specs.Reading.{choose}
 
 -- the head: field, d, t, ℓ, n and the 16 bytes of the code key
@@ -12,11 +13,6 @@ pub record Head : Type 0 where
   pub terms : ℕ
   pub outputs : ℕ
   pub codeKey : List ℕ
-
--- the head of field, d, t, ℓ, n and code key
-abbrev pub headWith : ℕ → ℕ → ℕ → ℕ → ℕ → List ℕ → Head
-headWith field depth trees terms outputs codeKey =
-    record { field = field; depth = depth; trees = trees; terms = terms; outputs = outputs; codeKey = codeKey }
 
 -- a punctured tree: position, noise value, the correction as its words, d sibling blocks of 16 bytes, top first
 pub record NoiseTree : Type 0 where
@@ -36,10 +32,10 @@ pub record ScalarPart : Type 0 where
   pub delta : List ℕ
   pub roots : List (List ℕ)
 
--- an element takes two words in field 1, one in field 2
-abbrev pub elementWords : ℕ → ℕ
-elementWords field = choose (eqb field 1) 2 1
-
 -- the element of a first and a second word
 abbrev pub elementOf : ℕ → ℕ → ℕ → List ℕ
 elementOf field low high = choose (eqb field 1) (low ∷ high ∷ []) (low ∷ [])
+
+-- tree i of a list of trees
+abbrev pub treeIn : List NoiseTree → ℕ → NoiseTree
+treeIn ts i = getD ts i (record { position = 0; value = 0; correction = []; siblings = [] })

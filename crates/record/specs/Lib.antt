@@ -3,3 +3,4 @@ pub mod Content
 pub mod Admitted
 pub mod Writing
 pub mod Reading
+pub mod Inner

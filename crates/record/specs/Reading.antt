@@ -1,18 +1,16 @@
 -- The reading of key records (document 01, 'Numbers of the calls'): front to back, each field whole (10, 11) and then tested,
 -- 12 last.
-use Prim.Native.Nat.{ℕ, zero, suc, _+_, _-_, _*_, _^_}
+use Prim.Native.Nat.{ℕ, zero, suc, _+_, _*_, _^_}
 use mathlib.Core.List.{List, [], _∷_}
 use lib.Dec.{leb, ltb, eqb}
-use lib.ListN.{length, getD}
+use lib.ListN.{length}
+use Rattle.answer.specs.Numbers.{badField, badSize, badPosition, badNoise, badDelta, notElement, wrongEnd, recordEnds, bytesAfter}
 use Rattle.field.specs.Bytes.{wordAt}
 use Rattle.number.specs.Number.{readNumber}
 use Rattle.number.specs.Reading.{Reading, Whole, Refused, Step, then, choose, tested, part, readByte, readBytes}
 use Rattle.record.specs.Admitted.{isField, isSize, mostTrees, mostOutputs, isNoise, isElement, isScalar}
-use Rattle.record.specs.Content.{Head, NoiseTree, NoisePart, ScalarPart, elementWords, elementOf}
-use Rattle.record.specs.declared.Front.{Front}
-use Rattle.record.specs.declared.Opened.{Opened}
-use Rattle.record.specs.declared.Opened.the-variants.{Accepted, Fault}
-use Rattle.record.specs.declared.Tree.{Tree}
+use Rattle.field.specs.Kind.{elementWords}
+use Rattle.record.specs.Content.{Head, NoiseTree, NoisePart, ScalarPart}
 
 -- ---- fields
 
@@ -23,11 +21,7 @@ items item size s at (suc n) = item s at ∷ items item size s (at + size) n
 
 -- the same as a field; 10: record ends inside it
 unfoldable pub readItems : {A : Type 0} → (List ℕ → ℕ → A) → ℕ → ℕ → List ℕ → ℕ → Step (List A)
-readItems item size n s at = choose (leb (at + size * n) (length s)) (Whole (items item size s at n, at + size * n)) (Refused 10)
-
--- a field of a count of bytes that are not looked at; 10: record ends inside it
-unfoldable pub skipped : ℕ → List ℕ → ℕ → Step ℕ
-skipped count s at = choose (leb (at + count) (length s)) (Whole (at, at + count)) (Refused 10)
+readItems item size n s at = choose (leb (at + size * n) (length s)) (Whole (items item size s at n, at + size * n)) (Refused recordEnds)
 
 -- words, 8 bytes LE each
 abbrev pub readWords : ℕ → List ℕ → ℕ → Step (List ℕ)
@@ -42,31 +36,31 @@ readBlocks n s at = readItems blockAt 16 n s at
 
 -- a size; 2: outside its range
 unfoldable pub readSize : ℕ → List ℕ → ℕ → Step ℕ
-readSize top s at = tested (readNumber s at) (λ n. isSize top n) 2
+readSize top s at = tested (readNumber s at) (λ n. isSize top n) badSize
 
 -- a position, written less `base`; 4: N or more
 unfoldable pub readPosition : ℕ → ℕ → List ℕ → ℕ → Step ℕ
-readPosition base all s at = tested (then (readNumber s at) λ x next. Whole (base + x, next)) (λ p. ltb p all) 4
+readPosition base all s at = tested (then (readNumber s at) λ x next. Whole (base + x, next)) (λ p. ltb p all) badPosition
 
 -- a noise value, in field 2 only; 5: not admitted
 unfoldable pub readValue : ℕ → List ℕ → ℕ → Step ℕ
 readValue field s at =
     choose (eqb field 1) (Whole (1, at))
-    (tested (choose (leb (at + 8) (length s)) (Whole (wordAt s at, at + 8)) (Refused 10)) (λ y. isNoise field y) 5)
+    (tested (choose (leb (at + 8) (length s)) (Whole (wordAt s at, at + 8)) (Refused recordEnds)) (λ y. isNoise field y) badNoise)
 
 -- a correction; 8: not an element
 unfoldable pub readCorrection : ℕ → List ℕ → ℕ → Step (List ℕ)
-readCorrection field s at = tested (readWords (elementWords field) s at) (λ c. isElement field c) 8
+readCorrection field s at = tested (readWords (elementWords field) s at) (λ c. isElement field c) notElement
 
 -- Δ; 6: zero, or not an element
 unfoldable pub readDelta : ℕ → List ℕ → ℕ → Step (List ℕ)
-readDelta field s at = tested (readWords (elementWords field) s at) (λ c. isScalar field c) 6
+readDelta field s at = tested (readWords (elementWords field) s at) (λ c. isScalar field c) badDelta
 
 -- ---- records
 
 -- the end byte; 9: not this end's. The field byte; 1: not 1 or 2
 unfoldable pub readField : ℕ → List ℕ → Step ℕ
-readField end s = then (tested (readByte s 0) (λ e. eqb e end) 9) λ e at. tested (readByte s at) isField 1
+readField end s = then (tested (readByte s 0) (λ e. eqb e end) wrongEnd) λ e at. tested (readByte s at) isField badField
 
 -- d, t, ℓ, n and the code key, after the field byte
 unfoldable pub readSizes : ℕ → List ℕ → ℕ → Step Head
@@ -101,7 +95,7 @@ readTrees field depth (suc n) base s at =
 
 -- the end of a record; 12: bytes after it
 abbrev pub ended : {A : Type 0} → List ℕ → ℕ → A → Reading A
-ended s at x = choose (ltb at (length s)) (Refused 12) (Whole x)
+ended s at x = choose (ltb at (length s)) (Refused bytesAfter) (Whole x)
 
 -- the noise record
 unfoldable pub readNoise : List ℕ → Reading NoisePart
@@ -119,45 +113,3 @@ readScalar s =
     ended s end (record { head = h; delta = delta; roots = roots })
 
 -- ---- what the answers of the code say
-
--- the head that its numbers give: the code key is the 16 bytes before the body
-abbrev pub headOf : List ℕ → Front → Head
-headOf s f =
-    record {
-      field = f .field;
-      depth = f .depth;
-      trees = f .trees;
-      terms = f .terms;
-      outputs = f .outputs;
-      codeKey = part s (f .body - 16) 16;
-    }
-
--- the head and the place of the body, or the number
-abbrev pub opened : List ℕ → Opened → Step Head
-opened s (Accepted f) = Whole (headOf s f, f .body)
-opened s (Fault k) = Refused k
-
--- the head, where the whole record was read
-abbrev pub frontOf : {A : Type 0} → Reading A → Step Head → Step Head
-frontOf (Whole x) head = head
-frontOf (Refused k) head = Refused k
-
--- a tree's position and the place after it
-abbrev pub treeFront : Step NoiseTree → Step ℕ
-treeFront (Whole r) = Whole (r .0 .position, r .1)
-treeFront (Refused k) = Refused k
-
--- an element's first word and the place after it
-abbrev pub firstWord : Step (List ℕ) → Step ℕ
-firstWord (Whole r) = Whole (getD (r .0) 0 0, r .1)
-firstWord (Refused k) = Refused k
-
--- the tree that its numbers give
-abbrev pub treeOf : List ℕ → ℕ → ℕ → Tree → NoiseTree
-treeOf s field depth k =
-    record {
-      position = k .position;
-      value = k .value;
-      correction = elementOf field (k .low) (k .high);
-      siblings = items blockAt 16 s (k .siblings) depth;
-    }

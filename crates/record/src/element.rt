@@ -1,9 +1,10 @@
 // The elements of a record: noise values, corrections and Δ.
 ghost use mathlib.Core.Path.{_≡_};
 ghost use Prim.Native.Nat.{_+_};
-ghost use Rattle.number.specs.Number.{numberRead};
-ghost use Rattle.record.specs.Reading.{readValue, readCorrection, readDelta, firstWord};
-ghost use Rattle.record.specs.Writing.{elementLength};
+ghost use Rattle.number.specs.Inner.Answers.{numberRead};
+ghost use Rattle.record.specs.Reading.{readValue, readCorrection, readDelta};
+ghost use Rattle.record.specs.Inner.Answers.{firstWord};
+ghost use Rattle.record.specs.Inner.Lengths.{elementLength};
 use crate::head::has_bytes;
 use answer::BAD_DELTA;
 use answer::BAD_NOISE;

@@ -3,12 +3,14 @@ ghost use mathlib.Core.Path.{_≡_};
 ghost use Prim.Native.Nat.{_+_, _-_, _*_, _^_, _≤_, _<_};
 ghost use lib.ListN.{length};
 ghost use lib.Seq.{sets};
-ghost use Rattle.number.specs.Number.{numbers};
+ghost use Rattle.number.specs.Inner.Answers.{numbers};
 ghost use Rattle.number.specs.Reading.{part};
-ghost use Rattle.record.specs.Admitted.{Rising};
-ghost use Rattle.record.specs.Content.{headWith, elementOf};
+ghost use Rattle.record.specs.Inner.Rising.{RisesFrom};
+ghost use Rattle.record.specs.Content.{elementOf};
+ghost use Rattle.record.specs.Inner.Heads.{headWith};
 ghost use Rattle.record.specs.Reading.{items, blockAt};
-ghost use Rattle.record.specs.Writing.{Writable, writeHead, writeWords, writeFront, writeScalar, elementLength, headLength, frontLength, noiseLength, scalarLength};
+ghost use Rattle.record.specs.Writing.{writeHead, writeWords, writeFront, writeScalar};
+ghost use Rattle.record.specs.Inner.Lengths.{Writable, elementLength, headLength, frontLength, noiseLength, scalarLength};
 use crate::element::element_length;
 use field::put_word;
 use number::number_length;
@@ -148,7 +150,7 @@ pub fn noise_length(
     outputs: usize,
     positions: &[u32],
 ) -> usize
-    requires { ⌜ (depth ≤ 16) × (length (now positions) ≤ 64) × (Rising (2 ^ depth) 0 (now positions)) ⌝ }
+    requires { ⌜ (depth ≤ 16) × (length (now positions) ≤ 64) × (RisesFrom (2 ^ depth) 0 (now positions)) ⌝ }
     ensures { λ r. ⌜ r ≡ noiseLength field depth trees terms outputs (now (positions .entry)) ⌝ }
 {
     let mut total = head_length(depth, trees, terms, outputs);

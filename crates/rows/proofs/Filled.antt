@@ -1,13 +1,15 @@
 -- A window of elements written one output a turn, in each field, and the same at the kind of a field byte.
 use mathlib.Core.List.{List}
-use mathlib.Core.Path.{_≡_, refl}
-use Prim.Native.Nat.{ℕ, zero, suc, _+_, _*_, _≤_, _<_}
+use mathlib.Core.Path.{_≡_}
+use Prim.Native.Nat.{ℕ, _+_, _*_, _≤_, _<_}
 use native.Mathlib.Omega.{arith}
 use lib.ListN.{length, set}
-use Rattle.algebra.specs.Coding.{at, put}
+use Rattle.field.proofs.KindOf.{kind-2}
+use Rattle.algebra.specs.Coding.{at}
+use Rattle.algebra.specs.Inner.Put.{put}
 use Rattle.algebra.specs.Group.{itself}
 use Rattle.algebra.specs.Row.{output}
-use Rattle.code.specs.Row.{binaryRow, primeRow}
+use Rattle.code.specs.Inner.Rows.{binaryRow, primeRow}
 use Rattle.field.specs.declared.block.Block.{Block}
 use Rattle.field.specs.declared.prime.Prime.{Prime}
 use Rattle.field.specs.Binary.{binary, blocks}
@@ -15,7 +17,7 @@ use Rattle.field.specs.Kind.{kindOf, binaryKind, primeKind}
 use Rattle.field.specs.Prime.{primes, primeRing, prime}
 use Rattle.field.proofs.BinaryField.{binaryLaws}
 use Rattle.field.proofs.PrimeField.{primeLaws}
-use Rattle.rows.specs.Window.{outputAt, windowOver}
+use Rattle.rows.specs.Inner.Outputs.{outputAt, windowOver}
 use Rattle.rows.proofs.Windows.{Written, written-none, written-more, written-word, written-all}
 
 module _ (keys : List (List (List ℕ))) (size terms first count : ℕ) (w b : List ℕ) where
@@ -25,9 +27,7 @@ module _ (keys : List (List (List ℕ))) (size terms first count : ℕ) (w b : L
 
   pub filled-prime : (field : ℕ) → (field ≡ 1 → ⊥) → {x : List ℕ} → x ≡ windowOver primeKind keys size terms first count w b
       → x ≡ windowOver (kindOf field) keys size terms first count w b
-  filled-prime zero h q = q
-  filled-prime (suc zero) h q = absurd (h refl)
-  filled-prime (suc (suc n)) h q = q
+  filled-prime field h q = rw (kind-2 field h) q
 
 module _ (keys : List (List (List ℕ))) (size terms first : ℕ) (w b : List ℕ) where
   pub binary-none : Written (binary .elements) (outputAt binaryKind keys size terms first w) b b 0

@@ -9,7 +9,8 @@ use lib.Dec.{eqb}
 use lib.ListN.{length}
 use borrow.Author.Tests.{eqb-true, eqb-false}
 use Rattle.algebra.specs.Choice.{choose}
-use Rattle.algebra.specs.Coding.{Coding, CodingLaws, at, flat, put}
+use Rattle.algebra.specs.Coding.{Coding, CodingLaws, at, flat}
+use Rattle.algebra.specs.Inner.Put.{put}
 use Rattle.algebra.specs.Group.{Group}
 use Rattle.algebra.specs.Sum.{accumulate}
 use Rattle.algebra.proofs.Coding.{flat-cong, length-flat, at-flat, ext-at, length-put, at-put-same, at-put-other}

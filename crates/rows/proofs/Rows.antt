@@ -6,10 +6,11 @@ use Prim.Native.Nat.{ℕ, zero, suc, _+_, _<_}
 use native.Mathlib.Omega.{arith}
 use lib.Pow.{pow-pos}
 use Rattle.algebra.specs.Group.{Scaled}
-use Rattle.algebra.specs.Row.{RowWithin, output}
+use Rattle.algebra.specs.Row.{output}
+use Rattle.algebra.specs.Inner.Rows.{RowWithin}
 use Rattle.algebra.proofs.Tests.{and-both}
 use Rattle.code.specs.Row.{rowOf}
-use Rattle.code.specs.Used.{every}
+use Rattle.algebra.specs.Every.{every}
 use Rattle.code.proofs.Laws as code
 use Rattle.field.proofs.BothKinds.{kindLaws}
 use Rattle.aes128.specs.Cipher.{keyExpansion}

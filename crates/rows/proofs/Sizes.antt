@@ -13,7 +13,7 @@ use Rattle.record.specs.Content.{Head}
 use Rattle.record.specs.Reading.{readHead}
 use Rattle.record.proofs.Callers.{head-ranges}
 use Rattle.record.proofs.Parts.{head-parts}
-use Rattle.rows.specs.Sizes.{Sizes}
+use Rattle.rows.specs.Inner.Sizes.{Sizes}
 
 pub head-sizes : (end : ℕ) (s : List ℕ) {h : Head} {body : ℕ} → readHead end s ≡ Whole (h, body) → Sizes s h body
 unfolding readBytes

@@ -1,8 +1,8 @@
 -- Laws shaped like what the functions of `rows` are asked.
 use mathlib.Core.Path.{_≡_, refl, sym, ap, _∙_}
-use mathlib.Core.Bool.{Bool, true, false}
+use mathlib.Core.Bool.{Bool, true}
 use mathlib.Core.List.{List, _++_, append-nil}
-use Prim.Native.Nat.{ℕ, zero, suc, _+_, _-_, _*_, _≤_, _<_}
+use Prim.Native.Nat.{ℕ, _+_, _-_, _*_, _≤_, _<_}
 use native.Mathlib.Nat.{mul-one}
 use native.Mathlib.Omega.{arith}
 use lib.Dec.{ltb}
@@ -10,7 +10,9 @@ use lib.ListN.{length, drop, replicate, set, length-set}
 use lib.Seq.{drop-length}
 use borrow.Author.Fill.{fill-none, fill-more}
 use borrow.Author.Tests.{ltb-true, lt-ltb}
-use Rattle.algebra.specs.Coding.{put}
+use Rattle.algebra.proofs.Tests.{together}
+use Rattle.field.proofs.KindOf.{kind-2}
+use Rattle.algebra.specs.Inner.Put.{put}
 use Rattle.aes128.specs.Cipher.{keyExpansion}
 use Rattle.field.specs.declared.block.Block.{Block}
 use Rattle.field.specs.Binary.{binary, block}
@@ -19,20 +21,14 @@ use Rattle.field.specs.Prime.{modulus}
 use Rattle.field.proofs.Words.{put-two}
 use Rattle.record.specs.Reading.{blockAt}
 use Rattle.tree.specs.Columns.{columnsAt}
-use Rattle.code.specs.Used.{rowBelow, usedBelow}
-use Rattle.rows.specs.Testing.{elementsUsed}
+use Rattle.code.specs.Inner.Used.{rowBelow, usedBelow}
+use Rattle.rows.specs.Inner.Testing.{elementsUsed}
 use Rattle.rows.proofs.Rows.{every-true}
 use Rattle.rows.proofs.Blocks.{columns-part}
 
--- tests that hold together have one value
-same : (s t : Bool) → (s ≡ true → t ≡ true) → (t ≡ true → s ≡ true) → s ≡ t
-same true t f g = sym (f refl)
-same false true f g = g refl
-same false false f g = refl
-
 pub past-by-first : (first count end : ℕ) → count ≤ end → ltb (end - count) first ≡ ltb end (first + count)
 past-by-first first count end h =
-    same (ltb (end - count) first) (ltb end (first + count))
+    together (ltb (end - count) first) (ltb end (first + count))
     (λ e. lt-ltb end (first + count) (omega (arith, ltb-true (end - count) first e)))
     (λ e. lt-ltb (end - count) first (omega (arith, ltb-true end (first + count) e)))
 
@@ -81,6 +77,4 @@ module _ (keys : List (List (List ℕ))) (size terms first count : ℕ) (w : Lis
 
   pub used-prime : (field : ℕ) → (field ≡ 1 → ⊥) → {bound : ℕ} → bound ≡ modulus → {r : Bool}
       → r ≡ usedBelow bound w keys size terms first count → r ≡ elementsUsed (kindOf field) keys size terms first count w
-  used-prime zero h e q = q ∙ rw e used-at-prime
-  used-prime (suc zero) h e q = absurd (h refl)
-  used-prime (suc (suc n)) h e q = q ∙ rw e used-at-prime
+  used-prime field h e q = q ∙ rw (e, kind-2 field h) used-at-prime

@@ -1,25 +1,20 @@
 -- How many words an element takes in each field.
-use mathlib.Core.Path.{_≡_, refl, _∙_}
-use Prim.Native.Nat.{ℕ, zero, suc, _*_, _≤_}
+use mathlib.Core.Path.{_≡_, _∙_}
+use Prim.Native.Nat.{ℕ, _*_, _≤_}
 use native.Mathlib.Nat.{mul-one}
 use native.Mathlib.Omega.{arith}
-use Rattle.rows.specs.Words.{elementWidth}
+use Rattle.number.proofs.Places.{either}
+use Rattle.field.proofs.KindOf.{words-1, words-2}
+use Rattle.field.specs.Kind.{elementWords}
 
-pub width-binary : (field : ℕ) → field ≡ 1 → elementWidth field ≡ 2
-unfolding elementWidth
-width-binary field e = rw e
+pub width-binary : (field : ℕ) → field ≡ 1 → elementWords field ≡ 2
+width-binary = words-1
 
-pub width-prime : (field : ℕ) → (field ≡ 1 → ⊥) → elementWidth field ≡ 1
-unfolding elementWidth
-width-prime zero h = refl
-width-prime (suc zero) h = absurd (h refl)
-width-prime (suc (suc n)) h = refl
+pub width-prime : (field : ℕ) → (field ≡ 1 → ⊥) → elementWords field ≡ 1
+width-prime = words-2
 
-pub whole-prime : (field : ℕ) → (field ≡ 1 → ⊥) → (n size : ℕ) → n ≡ size * elementWidth field → n ≡ size
+pub whole-prime : (field : ℕ) → (field ≡ 1 → ⊥) → (n size : ℕ) → n ≡ size * elementWords field → n ≡ size
 whole-prime field e n size h = h ∙ rw (width-prime field e) (mul-one size)
 
-pub width-most : (field : ℕ) → elementWidth field ≤ 2
-unfolding elementWidth
-width-most zero = omega arith
-width-most (suc zero) = omega arith
-width-most (suc (suc n)) = omega arith
+pub width-most : (field : ℕ) → elementWords field ≤ 2
+width-most field = either field 1 (λ f. omega (arith, words-1 field f)) (λ f. omega (arith, words-2 field f))

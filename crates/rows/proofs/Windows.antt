@@ -6,7 +6,8 @@ use Prim.Native.Nat.{ℕ, _+_, _*_, _≤_, _<_}
 use native.Mathlib.Nat.{le-antisymm, mul-one}
 use native.Mathlib.Omega.{arith}
 use lib.ListN.{length, set}
-use Rattle.algebra.specs.Coding.{Coding, CodingLaws, over, put}
+use Rattle.algebra.specs.Coding.{Coding, CodingLaws, over}
+use Rattle.algebra.specs.Inner.Put.{put}
 use Rattle.algebra.proofs.Coding.{over-none, over-one, length-put}
 use Rattle.field.specs.Words.{oneWord}
 use Rattle.field.proofs.Words.{put-one}

@@ -2,7 +2,7 @@
 -- a coefficient of zero).
 use mathlib.Core.Bool.{Bool}
 use Prim.Native.Nat.{ℕ, _+_}
-use Rattle.code.specs.Used.{every}
+use Rattle.algebra.specs.Every.{every}
 use Rattle.record.specs.Content.{Head}
 use Rattle.rows.specs.Head.{row}
 

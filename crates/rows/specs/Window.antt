@@ -1,25 +1,10 @@
 -- A window at either end (document 01, 'Offline and online', 'Numbers of the calls'): when it passes n, and its outputs on the
 -- words of a vector of elements, from the round keys and the sizes.
 use mathlib.Core.Bool.{Bool}
-use mathlib.Core.List.{List}
 use Prim.Native.Nat.{ℕ, _+_}
 use lib.Dec.{ltb}
-use Rattle.algebra.specs.Coding.{at, over}
-use Rattle.algebra.specs.Field.{Value}
-use Rattle.algebra.specs.Row.{output}
-use Rattle.field.specs.Kind.{Kind}
-use Rattle.code.specs.Row.{rowOf}
 use Rattle.record.specs.Content.{Head}
 
 -- 7: a window is a first index and a count c; first + c, as whole numbers, is more than n
 abbrev pub pastEnd : Head → ℕ → ℕ → Bool
 pastEnd h first count = ltb (h .outputs) (first + count)
-
--- output k of the window
-unfoldable pub outputAt : (K : Kind) → List (List (List ℕ)) → ℕ → ℕ → ℕ → List ℕ → ℕ → Value (K .field)
-outputAt K keys size terms first w k =
-    output (K .field .scaled) (rowOf (K .field .ring) (K .coefficient) keys size terms (first + k)) (at (K .field .elements) w)
-
--- the window over the front of a buffer
-unfoldable pub windowOver : Kind → List (List (List ℕ)) → ℕ → ℕ → ℕ → ℕ → List ℕ → List ℕ → List ℕ
-windowOver K keys size terms first count w buffer = over (K .field .elements) count (outputAt K keys size terms first w) buffer

@@ -3,15 +3,16 @@ ghost use mathlib.Core.Path.{_≡_};
 ghost use Prim.Native.Nat.{_+_, _*_, _≤_};
 ghost use lib.Dec.{ltb};
 ghost use lib.ListN.{length, replicate};
-ghost use Rattle.algebra.specs.Coding.{put};
-ghost use Rattle.sbox.specs.Table.{SBoxTable, Tables};
+ghost use Rattle.algebra.specs.Inner.Put.{put};
+ghost use Rattle.sbox.specs.Inner.Tables.{Tables};
+ghost use Rattle.sbox.specs.Table.{SBoxTable};
 ghost use Rattle.aes128.specs.Cipher.{keyExpansion};
 ghost use Rattle.field.specs.Binary.{binary};
 ghost use Rattle.tree.specs.Columns.{columnsAt};
 ghost use Rattle.record.specs.Reading.{blockAt};
-ghost use Rattle.field.specs.Kind.{kindOf};
-ghost use Rattle.rows.specs.Testing.{Testing, elementsUsed};
-ghost use Rattle.rows.specs.Words.{elementWidth, faultOf};
+ghost use Rattle.field.specs.Kind.{kindOf, elementWords};
+ghost use Rattle.rows.specs.Inner.Testing.{Testing, elementsUsed};
+ghost use Rattle.rows.specs.Inner.Words.{recordFault};
 use aes128::expand_key;
 use code::used_below;
 use field::Block;
@@ -21,7 +22,7 @@ use tree::columns_at;
 
 // The number that a record is refused with.
 pub fn fault_of(r: Opened) -> u32
-    ensures { λ k. ⌜ k ≡ faultOf r ⌝ }
+    ensures { λ k. ⌜ k ≡ recordFault r ⌝ }
 {
     match r {
         Opened::Accepted(_) => 0,
@@ -31,7 +32,7 @@ pub fn fault_of(r: Opened) -> u32
 
 // How many words an element of a field takes.
 pub fn element_width(field: usize) -> usize
-    ensures { λ r. ⌜ r ≡ elementWidth field ⌝ }
+    ensures { λ r. ⌜ r ≡ elementWords field ⌝ }
 {
     if field == 1 { 2 } else { 1 }
 }
@@ -89,7 +90,7 @@ pub fn elements_used(
     words: &[u64],
 ) -> bool
     requires { ⌜ Tables (now sbox) (now mix) ⌝ }
-    requires { ⌜ Testing (elementWidth field) size terms first count (length (now words)) ⌝ }
+    requires { ⌜ Testing (elementWords field) size terms first count (length (now words)) ⌝ }
     ensures { λ r. ⌜ r ≡ elementsUsed (kindOf field) (now (keys .entry)) size terms first count (now (words .entry)) ⌝ }
 {
     if field == 1 {

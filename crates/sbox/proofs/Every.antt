@@ -12,6 +12,10 @@ abbrev pub both : Bool → Bool → Bool
 both true b = b
 both false b = false
 
+abbrev pub either : Bool → Bool → Bool
+either true b = true
+either false b = b
+
 pub both-left : (a b : Bool) → T (both a b) → T a
 both-left true b t = tt
 both-left false b t = t

@@ -11,16 +11,16 @@ unfoldable pub multiples : ℕ → ℕ → ℕ → ℕ
 multiples zero a b = 0
 multiples (suc n) a b = bitXor (b % 2 * a) (multiples n (xtime a) (b / 2))
 
--- 4.2: the product of two bytes
-unfoldable pub product : ℕ → ℕ → ℕ
-product a b = multiples 8 a b
+-- 4.2: the mulBytes of two bytes
+unfoldable pub mulBytes : ℕ → ℕ → ℕ
+mulBytes a b = multiples 8 a b
 
 -- b^2 b^4 .. b^(2^n)
 unfoldable pub squares : ℕ → ℕ → ℕ
 squares zero b = 1
-squares (suc n) b = product (product b b) (squares n (product b b))
+squares (suc n) b = mulBytes (mulBytes b b) (squares n (mulBytes b b))
 
--- 4.4: the inverse of a byte that is not {00}, as b^254; {00} gives {00}
+-- 4.4: the inverse of a byte that is not {00}, as b^254; {00} gives {00}. That it is the inverse stands in `Table`
 unfoldable pub inverse : ℕ → ℕ
 inverse b = squares 7 b
 

@@ -1,4 +1,4 @@
--- FIPS 197 (2023): the S-box, and the table that joins it with MixColumns.
+-- FIPS 197 (2023): the S-box, and what the table that holds it has at each entry.
 pub mod Byte
-pub mod Inverse
 pub mod Table
+pub mod Inner

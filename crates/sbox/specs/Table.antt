@@ -1,27 +1,20 @@
--- What the two tables hold: the S-box, and the S-box joined with MixColumns (FIPS 197, 5.1.1 and 5.1.3).
+-- The S-box held as a table (document 01, 'What the unit contains', 'Our forms for each place'): its rule is the inverse in
+-- the field of FIPS 197 followed by its affine step, at each of the 256 entries.
 use mathlib.Core.Path.{_≡_}
-use mathlib.Core.List.{List, [], _∷_}
-use Prim.Native.Nat.{ℕ, _/_, _%_, _^_, _<_}
+use mathlib.Core.Logic.{_⊎_}
+use mathlib.Core.List.{List}
+use Prim.Native.Nat.{ℕ, _<_}
 use lib.ListN.{getD}
-use Rattle.sbox.specs.Byte.{product, sBox}
+use Rattle.sbox.specs.Byte.{mulBytes, affine, sBox}
 
--- entry x is the S-box's value at the byte x
+-- entry x is the affine step of y, where y is a byte and x · y = 1, or both are 00
+pub record SBoxEntry (x entry : ℕ) : Type 0 where
+  pub y : ℕ
+  pub byte : y < 256
+  pub inverse : (mulBytes x y ≡ 1) ⊎ ((x ≡ 0) × (y ≡ 0))
+  pub step : entry ≡ affine y
+
+-- the table: its entry x follows the rule, and is what the cipher's definition takes for the S-box at x
 pub record SBoxTable (t : List ℕ) : Type 0 where
+  pub rule : (x : ℕ) → x < 256 → SBoxEntry x (getD t x 0)
   pub entry : (x : ℕ) → x < 256 → getD t x 0 ≡ sBox x
-
--- the four bytes of a 32-bit number, least first
-unfoldable pub bytesOf : ℕ → List ℕ
-bytesOf w = w % 2 ^ 8 ∷ w / 2 ^ 8 % 2 ^ 8 ∷ w / 2 ^ 16 % 2 ^ 8 ∷ w / 2 ^ 24 % 2 ^ 8 ∷ []
-
--- what the byte x in row 0 of a column adds to rows 0 to 3 of that column under SubBytes and MixColumns
-abbrev pub mixed : ℕ → List ℕ
-mixed x = product 2 (sBox x) ∷ sBox x ∷ sBox x ∷ product 3 (sBox x) ∷ []
-
--- entry x is the number of those four bytes
-pub record MixTable (t : List ℕ) : Type 0 where
-  pub entry : (x : ℕ) → x < 256 → bytesOf (getD t x 0) ≡ mixed x
-
--- both tables
-pub record Tables (sb mx : List ℕ) : Type 0 where
-  pub sub : SBoxTable sb
-  pub mix : MixTable mx

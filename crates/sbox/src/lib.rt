@@ -1,7 +1,7 @@
 // FIPS 197's S-box, and the table that joins it with MixColumns, as constants whose rules are proved by one computed test each.
-ghost use Rattle.sbox.specs.Table.{SBoxTable, MixTable};
-
-// 5.1.1, figure 7: entry x is the S-box's value at x.
+ghost use Rattle.sbox.specs.Inner.Tables.{MixTable};
+ghost use Rattle.sbox.specs.Table.{SBoxTable};
+// 5.1.1: entry x is the S-box's value at x.
 pub const SBOX: [u8; 256] = [
     0x63,
     0x7c,

@@ -24,7 +24,7 @@ use Rattle.record.specs.Reading.{readScalar}
 use Rattle.rows.specs.Head.{fieldOf, places, row}
 use Rattle.rows.specs.Usable.{windowUsable}
 use Rattle.rows.proofs.Rows.{window-usable, row-output}
-use Rattle.scalar_end.specs.Vectors.{w0, deltaWords}
+use Rattle.scalar_end.specs.Vectors.{w0, deltaOut}
 use Rattle.scalar_end.specs.Offline.{Expanded, refusal, wWords, expand, offline}
 use Rattle.scalar_end.specs.Online as on
 use Rattle.scalar_end.specs.Online.{Lent, Outcome, usable, wAt, filled, wrongLength, tooShort, rowsOutcome, window, online}
@@ -49,7 +49,7 @@ pub record Accepted (P : ScalarPart) (source : List ℕ) (o : Expanded) : Type 0
   pub firstWritten : o .firstWritten ≡ wWords P
   pub secondWritten : o .secondWritten ≡ 2
   pub w : take (o .firstWritten) (o .w) ≡ flat (fieldOf (P .head) .elements) (places (P .head)) (accumulate (fieldOf (P .head) .scaled .group) (w0 P))
-  pub delta : take (o .secondWritten) (o .delta) ≡ deltaWords P
+  pub delta : take (o .secondWritten) (o .delta) ≡ deltaOut P
 
 expand-accepted : (P : ScalarPart) (source w delta : List ℕ) → (ltb (length w) (wWords P) || ltb (length delta) 2) ≡ false → Accepted P source (expand P source w delta)
 unfolding expand
@@ -111,7 +111,7 @@ unfolding window rowsOutcome filled
 window-kept h l first count =
     choose-either (Kept l) (wrongLength h l) _ _ (refusal-kept l 3)
     (choose-either (Kept l) (pastEnd h first count) _ _ (refusal-kept l 7)
-    (choose-either (Kept l) (tooShort h l count) _ _ (refusal-kept l 13)
+    (choose-either (Kept l) (tooShort h count (l .wOut)) _ _ (refusal-kept l 13)
     (choose-either (Kept l) (not (windowUsable (usable (fieldOf h) l) h first count)) _ _ (refusal-kept l 8)
     (record { source = refl; w = refl }))))
 
@@ -147,17 +147,17 @@ module _ (l : Lent) (P : ScalarPart) (f : ℕ → Value (fieldOf (P .head))) (re
 
   listed : online l first count
       ≡ choose (pastEnd (P .head) first count) (on.refusal 7 l)
-      (choose (tooShort (P .head) l count) (on.refusal 13 l)
+      (choose (tooShort (P .head) count (l .wOut)) (on.refusal 13 l)
       (record { number = 0; written = count * fieldOf (P .head) .elements .width; lent = filled (P .head) l first count }))
   unfolding window rowsOutcome
   listed = online-whole l first count read ∙ rw (right-length, all-usable)
 
   -- 7 if the window passes n, else 13 if the buffer is too short, else 0
-  pub online-number : online l first count .number ≡ choose (pastEnd (P .head) first count) 7 (choose (tooShort (P .head) l count) 13 0)
+  pub online-number : online l first count .number ≡ choose (pastEnd (P .head) first count) 7 (choose (tooShort (P .head) count (l .wOut)) 13 0)
   online-number =
       ap (λ (o : Outcome). o .number) listed
       ∙ choose-map (λ (o : Outcome). o .number) (pastEnd (P .head) first count) _ _
-      ∙ ap (choose (pastEnd (P .head) first count) 7) (choose-map (λ (o : Outcome). o .number) (tooShort (P .head) l count) _ _)
+      ∙ ap (choose (pastEnd (P .head) first count) 7) (choose-map (λ (o : Outcome). o .number) (tooShort (P .head) count (l .wOut)) _ _)
 
   -- an accepted call's element k is the output of row first + k
   pub online-values : online l first count .number ≡ 0 → (k : ℕ) → k < count
@@ -165,11 +165,11 @@ module _ (l : Lent) (P : ScalarPart) (f : ℕ → Value (fieldOf (P .head))) (re
       ≡ output (fieldOf (P .head) .scaled) (row (P .head) (first + k)) f
   unfolding filled
   online-values n k h =
-      rw (passed (pastEnd (P .head) first count) (tooShort (P .head) l count) refl refl)
+      rw (passed (pastEnd (P .head) first count) (tooShort (P .head) count (l .wOut)) refl refl)
       (at-over (fieldOf (P .head) .elements) coding count (λ i. wAt (P .head) l (first + i)) (l .wOut) k h
       ∙ row-output (P .head) (first + k) (fieldOf (P .head) .scaled) (at (fieldOf (P .head) .elements) (l .w)) f vector-at)
     where
-      passed : (s t : Bool) → pastEnd (P .head) first count ≡ s → tooShort (P .head) l count ≡ t
+      passed : (s t : Bool) → pastEnd (P .head) first count ≡ s → tooShort (P .head) count (l .wOut) ≡ t
           → online l first count
           ≡ record { number = 0; written = count * fieldOf (P .head) .elements .width; lent = filled (P .head) l first count }
       passed true t a b = absurd (omega (arith, rw a at online-number))

@@ -6,26 +6,28 @@ use Prim.Native.Nat.{ℕ, zero, suc, _+_, _*_, _≤_, _<_}
 use native.Mathlib.Omega.{arith}
 use lib.ListN.{length, set, drop}
 use borrow.Author.Tests.{ne-eqb}
-use Rattle.algebra.specs.Coding.{at, put}
+use Rattle.field.proofs.KindOf.{kind-2, words-1, words-2}
+use Rattle.number.proofs.Places.{either}
+use Rattle.algebra.specs.Coding.{at}
+use Rattle.algebra.specs.Inner.Put.{put}
 use Rattle.algebra.specs.Group.{itself}
 use Rattle.algebra.specs.Row.{output}
-use Rattle.code.specs.Row.{binaryRow, primeRow}
+use Rattle.code.specs.Inner.Rows.{binaryRow, primeRow}
 use Rattle.field.specs.declared.block.Block.{Block}
 use Rattle.field.specs.declared.prime.Prime.{Prime}
 use Rattle.field.specs.Bytes.{wordAt}
 use Rattle.field.specs.Binary.{binary, blocks}
-use Rattle.field.specs.Kind.{kindOf, binaryKind, primeKind}
+use Rattle.field.specs.Kind.{kindOf, binaryKind, primeKind, elementWords}
 use Rattle.field.specs.Prime.{primes, primeRing}
-use Rattle.rows.specs.Words.{elementWidth}
 use Rattle.rows.proofs.Widths.{width-binary, width-prime}
 use Rattle.rows.proofs.Windows.{Written}
 use Rattle.rows.proofs.Filled.{binary-next, prime-next}
-use Rattle.rows.specs.Window.{outputAt}
-use Rattle.scalar_end.specs.Steps.{Fitting, RootsFit, expansion, deltaAt}
+use Rattle.rows.specs.Inner.Outputs.{outputAt}
+use Rattle.scalar_end.specs.Inner.Steps.{Fitting, RootsFit, expansion, deltaAt}
 
 -- ---- a window, at the kind of a field byte
 
-module _ (field size first count vector room : ℕ) (fits : Fitting (elementWidth field) size first count vector room) where
+module _ (field size first count vector room : ℕ) (fits : Fitting (elementWords field) size first count vector room) where
   pub fits-binary : field ≡ 1 → Fitting 2 size first count vector room
   fits-binary e = rw (width-binary field e) at fits
 
@@ -34,7 +36,7 @@ module _ (field size first count vector room : ℕ) (fits : Fitting (elementWidt
 
 -- ---- trees, at the kind of a field byte
 
-module _ (field place depth trees source words : ℕ) (roots : RootsFit (elementWidth field) place depth trees source words) where
+module _ (field place depth trees source words : ℕ) (roots : RootsFit (elementWords field) place depth trees source words) where
   pub roots-binary : field ≡ 1 → RootsFit 2 place depth trees source words
   roots-binary e = rw (width-binary field e) at roots
 
@@ -48,19 +50,14 @@ module _ (source : List ℕ) (place depth trees : ℕ) where
 
   pub expanded-prime : (field : ℕ) → (field ≡ 1 → ⊥) → {v : List ℕ} → v ≡ expansion primeKind source place depth trees
       → v ≡ expansion (kindOf field) source place depth trees
-  expanded-prime zero h q = q
-  expanded-prime (suc zero) h q = absurd (h refl)
-  expanded-prime (suc (suc n)) h q = q
+  expanded-prime field h q = rw (kind-2 field h) q
 
 -- ---- Δ
 
-pub first-room : (field place n : ℕ) → place + 8 * elementWidth field ≤ n → place + 8 ≤ n
-unfolding elementWidth
-first-room zero place n h = h
-first-room (suc zero) place n h = omega arith
-first-room (suc (suc k)) place n h = h
+pub first-room : (field place n : ℕ) → place + 8 * elementWords field ≤ n → place + 8 ≤ n
+first-room field place n h = either field 1 (λ f. omega (arith, words-1 field f)) (λ f. omega (arith, words-2 field f))
 
-pub second-room : (field place n : ℕ) → field ≡ 1 → place + 8 * elementWidth field ≤ n → place + 8 + 8 ≤ n
+pub second-room : (field place n : ℕ) → field ≡ 1 → place + 8 * elementWords field ≤ n → place + 8 + 8 ≤ n
 second-room field place n e h = let k = width-binary field e in omega arith
 
 two-stores : (d : List ℕ) (a b : ℕ) → 2 ≤ length d → set (set d 0 a) 1 b ≡ (a ∷ b ∷ []) ++ drop 2 d

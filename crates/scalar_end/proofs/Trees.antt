@@ -17,11 +17,11 @@ use Rattle.field.proofs.BothKinds.{binaryKindLaws, primeKindLaws}
 use Rattle.tree.specs.Added.{leafElement}
 use Rattle.tree.specs.Child.{child, childBy, childKey, keysFor}
 use Rattle.tree.specs.Columns.{columnsAt}
-use Rattle.tree.specs.Expanded.{filled}
+use Rattle.tree.specs.Expanded.{leavesAdded}
 use Rattle.tree.proofs.ChildLaws.{lent-keys, filled-by}
 use Rattle.tree.proofs.Laws.{two}
 use Rattle.rows.proofs.Sums.{treesSum, length-trees, trees-none, trees-more, trees-accumulated}
-use Rattle.scalar_end.specs.Steps.{leavesFrom, expansion}
+use Rattle.scalar_end.specs.Inner.Steps.{leavesFrom, expansion}
 
 -- the buffer after i trees
 pub record Grown (K : Kind) (source : List ℕ) (place depth : ℕ) (v : List ℕ) (i : ℕ) : Type 0 where
@@ -34,7 +34,7 @@ module _ (K : Kind) (L : KindLaws K) (source : List ℕ) (place depth : ℕ) whe
       record { words = e; size = ap length e ∙ length-trees (K .field) (L .field) (2 ^ depth) (leavesFrom K source place depth) i }
 
   pub tree-more : {left right : List (List (List ℕ))} {i : ℕ} {root : List (List ℕ)} {v next : List ℕ}
-      → next ≡ filled K 2 (childBy (keysFor left right)) depth root v
+      → next ≡ leavesAdded K 2 (childBy (keysFor left right)) depth root v
       → left ≡ keyExpansion (childKey 0) → right ≡ keyExpansion (childKey 1) → root ≡ columnsAt source (place + 16 * i)
       → Grown K source place depth v i → Grown K source place depth next (i + 1)
   tree-more {left} {right} {i} {root} {v} {next} q l r e g =

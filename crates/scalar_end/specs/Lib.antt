@@ -2,5 +2,4 @@
 pub mod Vectors
 pub mod Offline
 pub mod Online
-pub mod Ready
-pub mod Steps
+pub mod Inner

@@ -5,6 +5,7 @@ use mathlib.Core.List.{List, _++_}
 use Prim.Native.Nat.{ℕ, _*_}
 use lib.Dec.{ltb}
 use lib.ListN.{length, drop}
+use Rattle.answer.specs.Numbers.{accepted, bufferShort}
 use Rattle.algebra.specs.Choice.{choose}
 use Rattle.algebra.specs.Coding.{over}
 use Rattle.algebra.specs.Sum.{accumulate}
@@ -13,7 +14,7 @@ use Rattle.number.specs.Reading.{Reading, Whole, Refused}
 use Rattle.record.specs.Content.{ScalarPart}
 use Rattle.record.specs.Reading.{readScalar}
 use Rattle.rows.specs.Head.{fieldOf, places}
-use Rattle.scalar_end.specs.Vectors.{w0, deltaWords}
+use Rattle.scalar_end.specs.Vectors.{w0, deltaOut}
 
 -- the number, the words written to each buffer, and all that is lent: the record and both buffers
 pub record Expanded : Type 0 where
@@ -40,14 +41,14 @@ wWords P = places (P .head) * fieldOf (P .head) .elements .width
 -- the accumulated w0 and the two words of Δ, if each buffer has room; else 13
 unfoldable pub expand : ScalarPart → List ℕ → List ℕ → List ℕ → Expanded
 expand P source w delta =
-    choose (ltb (length w) (wWords P) || ltb (length delta) 2) (refusal 13 source w delta)
+    choose (ltb (length w) (wWords P) || ltb (length delta) 2) (refusal bufferShort source w delta)
     (record {
-      number = 0;
+      number = accepted;
       firstWritten = wWords P;
       secondWritten = 2;
       source = source;
       w = over (fieldOf (P .head) .elements) (places (P .head)) (accumulate (fieldOf (P .head) .scaled .group) (w0 P)) w;
-      delta = deltaWords P ++ drop 2 delta;
+      delta = deltaOut P ++ drop 2 delta;
     })
 
 -- the call: the record's number, or the expansion of its content

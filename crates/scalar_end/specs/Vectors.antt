@@ -1,7 +1,9 @@
 -- w0 and Δ, from the content of a scalar record alone (document 01, 'Trees', 'Offline and online').
 use mathlib.Core.List.{List, [], _∷_}
 use Prim.Native.Nat.{ℕ}
+use lib.Dec.{eqb}
 use lib.ListN.{getD}
+use Rattle.algebra.specs.Choice.{choose}
 use Rattle.algebra.specs.Expansion.{whole}
 use Rattle.algebra.specs.Field.{Value}
 use Rattle.record.specs.Content.{ScalarPart}
@@ -22,6 +24,6 @@ leaf P i j = kind (P .head) .leaf (leafAt 2 child (P .head .depth) (columnsAt (g
 unfoldable pub w0 : (P : ScalarPart) → ℕ → Value (fieldOf (P .head))
 w0 P = whole (fieldOf (P .head) .scaled) (P .head .trees) (leaf P)
 
--- the two words of Δ; in field 2 the second is 0
-abbrev pub deltaWords : ScalarPart → List ℕ
-deltaWords P = getD (P .delta) 0 0 ∷ getD (P .delta) 1 0 ∷ []
+-- the two words of Δ that offline writes; in field 2 the second is 0
+abbrev pub deltaOut : ScalarPart → List ℕ
+deltaOut P = getD (P .delta) 0 0 ∷ choose (eqb (P .head .field) 1) (getD (P .delta) 1 0) 0 ∷ []

@@ -3,12 +3,11 @@ ghost use mathlib.Core.Path.{_≡_};
 ghost use mathlib.Core.List.{_++_};
 ghost use Prim.Native.Nat.{_+_, _*_, _≤_};
 ghost use lib.ListN.{length, drop};
-ghost use Rattle.sbox.specs.Table.{Tables};
-ghost use Rattle.field.specs.Kind.{kindOf, binaryKind, primeKind};
-ghost use Rattle.rows.specs.Words.{elementWidth};
-ghost use Rattle.scalar_end.specs.Steps.{RootsFit, expansion, deltaAt};
+ghost use Rattle.sbox.specs.Inner.Tables.{Tables};
+ghost use Rattle.field.specs.Kind.{kindOf, binaryKind, primeKind, elementWords};
+ghost use Rattle.scalar_end.specs.Inner.Steps.{RootsFit, expansion, deltaAt};
 ghost use Rattle.scalar_end.specs.Offline.{expanded, expand};
-ghost use Rattle.scalar_end.specs.Ready.{Ready, contentOf};
+ghost use Rattle.scalar_end.specs.Inner.Ready.{Ready, contentOf};
 use answer::BUFFER_SHORT;
 use answer::TwoLengths;
 use code::accumulate_blocks;
@@ -79,7 +78,7 @@ fn expand_prime(
 
 // Writes the accumulated w0 of the trees whose roots begin at a place.
 fn expand_trees(source: &[u8], at: usize, field: usize, depth: usize, trees: usize, w: &mut [u64])
-    requires { ⌜ RootsFit (elementWidth field) at depth trees (length (now source)) (length (now w)) ⌝ }
+    requires { ⌜ RootsFit (elementWords field) at depth trees (length (now source)) (length (now w)) ⌝ }
     ensures { λ _. ⌜ now (w .exit) ≡ expansion (kindOf field) (now (source .entry)) at depth trees ⌝ }
 {
     let sb = sbox::table();
@@ -93,7 +92,7 @@ fn expand_trees(source: &[u8], at: usize, field: usize, depth: usize, trees: usi
 
 // Writes the two words of Δ, which begins at a place.
 fn write_delta(source: &[u8], at: usize, field: usize, delta: &mut [u64])
-    requires { ⌜ (at + 8 * elementWidth field ≤ length (now source)) × (2 ≤ length (now delta)) ⌝ }
+    requires { ⌜ (at + 8 * elementWords field ≤ length (now source)) × (2 ≤ length (now delta)) ⌝ }
     ensures { λ _. ⌜ now (delta .exit) ≡ deltaAt field (now (source .entry)) at ++ drop 2 (now (delta .entry)) ⌝ }
 {
     delta[0] = word_at(source, at);

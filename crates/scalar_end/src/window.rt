@@ -2,14 +2,13 @@
 ghost use mathlib.Core.Path.{_≡_};
 ghost use Prim.Native.Nat.{_^_, _≤_};
 ghost use lib.ListN.{length};
-ghost use Rattle.sbox.specs.Table.{Tables};
-ghost use Rattle.field.specs.Kind.{kindOf, binaryKind, primeKind};
-ghost use Rattle.rows.specs.Words.{elementWidth};
-ghost use Rattle.scalar_end.specs.Steps.{Fitting, lengthsNumber};
-ghost use Rattle.rows.specs.Window.{windowOver};
-ghost use Rattle.record.specs.Reading.{headOf};
+ghost use Rattle.sbox.specs.Inner.Tables.{Tables};
+ghost use Rattle.field.specs.Kind.{kindOf, binaryKind, primeKind, elementWords};
+ghost use Rattle.scalar_end.specs.Inner.Steps.{Fitting, lengthsNumber};
+ghost use Rattle.rows.specs.Inner.Outputs.{windowOver};
+ghost use Rattle.record.specs.Inner.Answers.{headOf};
 ghost use Rattle.scalar_end.specs.Online.{outcome, rowsOutcome, window};
-ghost use Rattle.scalar_end.specs.Ready.{Ready};
+ghost use Rattle.scalar_end.specs.Inner.Ready.{Ready};
 use answer::BAD_LENGTH;
 use answer::BUFFER_SHORT;
 use answer::NOT_ELEMENT;
@@ -87,7 +86,7 @@ fn fill(
     w_out: &mut [u64],
 )
     requires { ⌜ Tables (now sbox) (now mix) ⌝ }
-    requires { ⌜ Fitting (elementWidth field) size first count (length (now w)) (length (now «w_out»)) ⌝ }
+    requires { ⌜ Fitting (elementWords field) size first count (length (now w)) (length (now «w_out»)) ⌝ }
     ensures { λ _. ⌜ now («w_out» .exit) ≡ windowOver (kindOf field) (now (keys .entry)) size terms first count (now (w .entry)) (now («w_out» .entry)) ⌝ }
 {
     if field == 1 {
@@ -107,7 +106,7 @@ fn write_rows(
     w_out: &mut [u64],
 ) -> OneLength
     requires { ⌜ Ready (now source) front ⌝ }
-    requires { ⌜ Fitting (elementWidth (front .field)) (2 ^ front .depth) first count (length (now w)) (length (now «w_out»)) ⌝ }
+    requires { ⌜ Fitting (elementWords (front .field)) (2 ^ front .depth) first count (length (now w)) (length (now «w_out»)) ⌝ }
     ensures { λ r. ⌜ outcome r (record { source = now (source .exit); w = now (w .exit); wOut = now («w_out» .exit) })
         ≡ rowsOutcome (headOf (now (source .entry)) front) (record { source = now (source .entry); w = now (w .entry); wOut = now («w_out» .entry) }) first count ⌝ }
 {

@@ -7,7 +7,8 @@ use native.Mathlib.Omega.{arith}
 use lib.ListN.{length, getD, set, length-append, List·getD-append}
 use lib.Seq.{sets, getD-append-add}
 use Rattle.aes128.specs.State.{four, column, byteAt, xorWord, xorState}
-use Rattle.tree.specs.Columns.{columnsAt, columnBytes, blockBytes, blocksBytes}
+use Rattle.field.specs.Bytes.{fourAt}
+use Rattle.tree.specs.Columns.{columnsAt, columnsBytes, blocksBytes}
 
 pub two-eq : {A : Type 0} {a b x y : A} → a ≡ x → b ≡ y → a ∷ b ∷ [] ≡ x ∷ y ∷ []
 two-eq p q = cc
@@ -26,25 +27,25 @@ sets-append l i (x ∷ xs) ys = ap (λ k. sets (sets (set l i x) (suc i) xs) k y
     more i n = omega arith
 
 -- two columns, and two pairs of columns, after one another
-pub sets-pair : (l : List ℕ) {l₁ l₂ : List ℕ} (at : ℕ) (a b : List ℕ) → l₁ ≡ sets l at (columnBytes a [])
-    → l₂ ≡ sets l₁ (at + 4) (columnBytes b []) → l₂ ≡ sets l at (columnBytes a (columnBytes b []))
-sets-pair l at a b e₁ e₂ = e₂ ∙ rw e₁ (sets-append l at (columnBytes a []) (columnBytes b []))
+pub sets-pair : (l : List ℕ) {l₁ l₂ : List ℕ} (at : ℕ) (a b : List ℕ) → l₁ ≡ sets l at (fourAt a 0 [])
+    → l₂ ≡ sets l₁ (at + 4) (fourAt b 0 []) → l₂ ≡ sets l at (fourAt a 0 (fourAt b 0 []))
+sets-pair l at a b e₁ e₂ = e₂ ∙ rw e₁ (sets-append l at (fourAt a 0 []) (fourAt b 0 []))
 
-pub sets-block : (l : List ℕ) {l₁ l₂ : List ℕ} (at : ℕ) (s : List (List ℕ)) → l₁ ≡ sets l at (columnBytes (column s 0) (columnBytes (column s 1) []))
-    → l₂ ≡ sets l₁ (at + 8) (columnBytes (column s 2) (columnBytes (column s 3) [])) → l₂ ≡ sets l at (blockBytes s)
-unfolding blockBytes
+pub sets-block : (l : List ℕ) {l₁ l₂ : List ℕ} (at : ℕ) (s : List (List ℕ)) → l₁ ≡ sets l at (fourAt (column s 0) 0 (fourAt (column s 1) 0 []))
+    → l₂ ≡ sets l₁ (at + 8) (fourAt (column s 2) 0 (fourAt (column s 3) 0 [])) → l₂ ≡ sets l at (columnsBytes s)
+unfolding columnsBytes
 sets-block l at s e₁ e₂ =
     e₂
-    ∙ rw e₁ (sets-append l at (columnBytes (column s 0) (columnBytes (column s 1) [])) (columnBytes (column s 2) (columnBytes (column s 3) [])))
+    ∙ rw e₁ (sets-append l at (fourAt (column s 0) 0 (fourAt (column s 1) 0 [])) (fourAt (column s 2) 0 (fourAt (column s 3) 0 [])))
 
-pub length-block : (s : List (List ℕ)) → length (blockBytes s) ≡ 16
-unfolding blockBytes
+pub length-block : (s : List (List ℕ)) → length (columnsBytes s) ≡ 16
+unfolding columnsBytes
 length-block s = refl
 
 pub length-blocks : (xs : List (List (List ℕ))) → length (blocksBytes xs) ≡ length xs * 16
 unfolding blocksBytes
 length-blocks [] = refl
-length-blocks (s ∷ xs) = length-append (blockBytes s) (blocksBytes xs) ∙ ap (λ n. length (blockBytes s) + n) (length-blocks xs) ∙ rw length-block (omega arith)
+length-blocks (s ∷ xs) = length-append (columnsBytes s) (blocksBytes xs) ∙ ap (λ n. length (columnsBytes s) + n) (length-blocks xs) ∙ rw length-block (omega arith)
 
 -- ---- reading
 
@@ -75,21 +76,21 @@ byte-first : (p x q : List ℕ) (at : ℕ) → length p ≡ at → 0 < length x 
 byte-first p x q at e h = ap (λ k. getD (p ++ (x ++ q)) k 0) (sym (add-zero at)) ∙ byte-of p x q at 0 e h
 
 -- the block that stands between p and q
-pub columns-of : (p q : List ℕ) (at : ℕ) (s : List (List ℕ)) → length p ≡ at → Square s → columnsAt (p ++ (blockBytes s ++ q)) at ≡ s
-unfolding columnsAt blockBytes
+pub columns-of : (p q : List ℕ) (at : ℕ) (s : List (List ℕ)) → length p ≡ at → Square s → columnsAt (p ++ (columnsBytes s ++ q)) at ≡ s
+unfolding columnsAt columnsBytes
 columns-of p q at s e h =
     four-eq
-    (four-eq (byte-first p (blockBytes s) q at e (omega arith)) (here 1 (omega arith)) (here 2 (omega arith)) (here 3 (omega arith)))
+    (four-eq (byte-first p (columnsBytes s) q at e (omega arith)) (here 1 (omega arith)) (here 2 (omega arith)) (here 3 (omega arith)))
     (four-eq (here 4 (omega arith)) (next 4 1 (omega arith)) (next 4 2 (omega arith)) (next 4 3 (omega arith)))
     (four-eq (here 8 (omega arith)) (next 8 1 (omega arith)) (next 8 2 (omega arith)) (next 8 3 (omega arith)))
     (four-eq (here 12 (omega arith)) (next 12 1 (omega arith)) (next 12 2 (omega arith)) (next 12 3 (omega arith)))
     ∙ square-is s h
   where
-    here : (k : ℕ) → k < 16 → getD (p ++ (blockBytes s ++ q)) (at + k) 0 ≡ getD (blockBytes s) k 0
-    here k l = byte-of p (blockBytes s) q at k e l
+    here : (k : ℕ) → k < 16 → getD (p ++ (columnsBytes s ++ q)) (at + k) 0 ≡ getD (columnsBytes s) k 0
+    here k l = byte-of p (columnsBytes s) q at k e l
 
-    next : (j k : ℕ) → j + k < 16 → getD (p ++ (blockBytes s ++ q)) (at + j + k) 0 ≡ getD (blockBytes s) (j + k) 0
-    next j k l = ap (λ i. getD (p ++ (blockBytes s ++ q)) i 0) (add-assoc at j k) ∙ here (j + k) l
+    next : (j k : ℕ) → j + k < 16 → getD (p ++ (columnsBytes s ++ q)) (at + j + k) 0 ≡ getD (columnsBytes s) (j + k) 0
+    next j k l = ap (λ i. getD (p ++ (columnsBytes s ++ q)) i 0) (add-assoc at j k) ∙ here (j + k) l
 
 -- an exclusive or has four columns of four
 pub xor-square : (s t : List (List ℕ)) → Square (xorState s t)

@@ -7,14 +7,15 @@ use lib.Seq.{sets}
 use Rattle.algebra.specs.Field.{FieldLaws, Value}
 use Rattle.field.specs.Kind.{Kind, kindOf}
 use Rattle.field.proofs.BothKinds.{kindLaws}
-use Rattle.aes128.specs.State.{xorState, IsState}
+use Rattle.aes128.specs.State.{xorState}
+use Rattle.aes128.specs.Inner.Sizes.{IsState}
 use Rattle.aes128.specs.Cipher.{cipher, keyExpansion, aes}
 use Rattle.aes128.proofs.Sizes.{four-bytes, four-words, xor-state-is, aes-is}
 use Rattle.tree.specs.Tree.{leafAt, siblings}
 use Rattle.tree.specs.Child.{childKey, child, keysFor, childBy}
 use Rattle.tree.specs.Columns.{blocksBytes, siblingsAt}
 use Rattle.tree.specs.Added.{leafElement, puncturedElement}
-use Rattle.tree.specs.Expanded.{walk, walked, filled, puncturedFilled}
+use Rattle.tree.specs.Expanded.{walk, walked, leavesAdded, puncturedAdded}
 use Rattle.tree.specs.KeySchedules.{OfChildKeys, KeySchedules}
 use Rattle.tree.specs.declared.punctured.Punctured.{Punctured}
 use Rattle.tree.proofs.Laws.{Each, two, leaf-same, siblings-same, leaf-element-same, punctured-element-same, leaf-has, siblings-have}
@@ -43,13 +44,13 @@ module _ (k : ℕ) (keys : ℕ → List (List (List ℕ))) (some : 0 < k) (own :
 
   module _ (K : Kind) (laws : FieldLaws (K .field)) where
     pub filled-by : (levels : ℕ) (root : List (List ℕ)) (words : List ℕ)
-        → filled K k (childBy keys) levels root words ≡ filled K k child levels root words
+        → leavesAdded K k (childBy keys) levels root words ≡ leavesAdded K k child levels root words
     filled-by levels root words =
         added-cong (K .field) laws (k ^ levels) (leafElement (K .leaf) k (childBy keys) levels root) (leafElement (K .leaf) k child levels root) words
         (λ j h. leaf-element-same (K .leaf) k some (childBy keys) child (child-by k keys own) levels root j)
 
     pub punctured-by : (tree : Punctured) (bytes : List ℕ) (correction : Value (K .field)) (words : List ℕ)
-        → puncturedFilled K k (childBy keys) tree bytes correction words ≡ puncturedFilled K k child tree bytes correction words
+        → puncturedAdded K k (childBy keys) tree bytes correction words ≡ puncturedAdded K k child tree bytes correction words
     punctured-by tree bytes correction words =
         let beside : List (List (List ℕ)) = siblingsAt bytes (tree .at) (tree .levels * (k - 1)) in
         added-cong (K .field) laws (k ^ tree .levels)

@@ -26,12 +26,12 @@ walked k child root tree bytes =
     (sets bytes (tree .at) (blocksBytes (siblings k child (tree .levels) root (tree .position))))
 
 -- the words of a field's elements after the leaves of the tree below a root are added to them
-abbrev pub filled : Kind → ℕ → (ℕ → List (List ℕ) → List (List ℕ)) → ℕ → List (List ℕ) → List ℕ → List ℕ
-filled K k child levels root words = added (K .field) (k ^ levels) (leafElement (K .leaf) k child levels root) words
+abbrev pub leavesAdded : Kind → ℕ → (ℕ → List (List ℕ) → List (List ℕ)) → ℕ → List (List ℕ) → List ℕ → List ℕ
+leavesAdded K k child levels root words = added (K .field) (k ^ levels) (leafElement (K .leaf) k child levels root) words
 
 -- the same of a punctured tree: the correction at its position, the other leaves from the siblings among bytes
-abbrev pub puncturedFilled : (K : Kind) → ℕ → (ℕ → List (List ℕ) → List (List ℕ)) → Punctured → List ℕ → Value (K .field) → List ℕ → List ℕ
-puncturedFilled K k child tree bytes correction words =
+abbrev pub puncturedAdded : (K : Kind) → ℕ → (ℕ → List (List ℕ) → List (List ℕ)) → Punctured → List ℕ → Value (K .field) → List ℕ → List ℕ
+puncturedAdded K k child tree bytes correction words =
     added (K .field) (k ^ tree .levels)
     (puncturedElement (K .leaf) k child [] (siblingsAt bytes (tree .at) (tree .levels * (k - 1))) (tree .levels) (tree .position) correction)
     words

@@ -1,6 +1,6 @@
 -- Key schedules out of the node loop (document 02, 3). 'The walk is proved for any round keys it is lent': the contracts of
--- `walk`, `add_leaves_binary`, `add_leaves_prime`, `add_punctured_binary` and `add_punctured_prime` say `walked`, `filled` and
--- `puncturedFilled` (Expanded) with `childBy` the round keys lent, and ask nothing of those. 'Those of the child keys give the
+-- `walk`, `add_leaves_binary`, `add_leaves_prime`, `add_punctured_binary` and `add_punctured_prime` say `walked`, `leavesAdded` and
+-- `puncturedAdded` (Expanded) with `childBy` the round keys lent, and ask nothing of those. 'Those of the child keys give the
 -- trees as before': the record KeySchedules, for any number k of children.
 use mathlib.Core.Path.{_≡_}
 use mathlib.Core.List.{List}
@@ -9,7 +9,7 @@ use Rattle.algebra.specs.Field.{Value}
 use Rattle.field.specs.Kind.{kindOf}
 use Rattle.aes128.specs.Cipher.{keyExpansion}
 use Rattle.tree.specs.Child.{childKey, child, keysFor, childBy}
-use Rattle.tree.specs.Expanded.{walked, filled, puncturedFilled}
+use Rattle.tree.specs.Expanded.{walked, leavesAdded, puncturedAdded}
 use Rattle.tree.specs.declared.punctured.Punctured.{Punctured}
 
 -- the family holds, for each of k children, the round keys of its child key
@@ -29,8 +29,8 @@ pub record KeySchedules : Type 0 where
       → walked k (childBy keys) root tree bytes ≡ walked k child root tree bytes
   pub fills : (k : ℕ) (keys : ℕ → List (List (List ℕ))) → 0 < k → OfChildKeys k keys
       → (field levels : ℕ) (root : List (List ℕ)) (words : List ℕ)
-      → filled (kindOf field) k (childBy keys) levels root words ≡ filled (kindOf field) k child levels root words
+      → leavesAdded (kindOf field) k (childBy keys) levels root words ≡ leavesAdded (kindOf field) k child levels root words
   pub puncturedFills : (k : ℕ) (keys : ℕ → List (List (List ℕ))) → 0 < k → OfChildKeys k keys
       → (field : ℕ) (tree : Punctured) (bytes : List ℕ) (correction : Value (kindOf field .field)) (words : List ℕ)
-      → puncturedFilled (kindOf field) k (childBy keys) tree bytes correction words
-      ≡ puncturedFilled (kindOf field) k child tree bytes correction words
+      → puncturedAdded (kindOf field) k (childBy keys) tree bytes correction words
+      ≡ puncturedAdded (kindOf field) k child tree bytes correction words

@@ -4,12 +4,13 @@ ghost use mathlib.Core.List.{[]};
 ghost use Prim.Native.Nat.{_+_, _≤_};
 ghost use lib.ListN.{length};
 ghost use lib.Seq.{sets};
-ghost use Rattle.tree.specs.Columns.{fourAt, columnsAt, columnBytes, blockBytes};
+ghost use Rattle.field.specs.Bytes.{fourAt};
+ghost use Rattle.tree.specs.Columns.{columnsAt, columnsBytes};
 
 // The four bytes that begin at a place.
 fn four_at(bytes: &[u8], at: usize) -> [u8; 4]
     requires { ⌜ at + 4 ≤ length (now bytes) ⌝ }
-    ensures { λ r. ⌜ r ≡ fourAt (now (bytes .entry)) at ⌝ }
+    ensures { λ r. ⌜ r ≡ fourAt (now (bytes .entry)) at [] ⌝ }
 {
     [bytes[at], bytes[at + 1], bytes[at + 2], bytes[at + 3]]
 }
@@ -29,7 +30,7 @@ pub fn columns_at(bytes: &[u8], at: usize) -> [[u8; 4]; 4]
 // Writes four bytes from a place on.
 fn put_four(bytes: &mut [u8], at: usize, word: [u8; 4])
     requires { ⌜ at + 4 ≤ length (now bytes) ⌝ }
-    ensures { λ _. ⌜ now (bytes .exit) ≡ sets (now (bytes .entry)) at (columnBytes word []) ⌝ }
+    ensures { λ _. ⌜ now (bytes .exit) ≡ sets (now (bytes .entry)) at (fourAt word 0 []) ⌝ }
 {
     bytes[at] = word[0];
     bytes[at + 1] = word[1];
@@ -40,7 +41,7 @@ fn put_four(bytes: &mut [u8], at: usize, word: [u8; 4])
 // Writes two columns from a place on.
 fn put_pair(bytes: &mut [u8], at: usize, a: [u8; 4], b: [u8; 4])
     requires { ⌜ at + 8 ≤ length (now bytes) ⌝ }
-    ensures { λ _. ⌜ now (bytes .exit) ≡ sets (now (bytes .entry)) at (columnBytes a (columnBytes b [])) ⌝ }
+    ensures { λ _. ⌜ now (bytes .exit) ≡ sets (now (bytes .entry)) at (fourAt a 0 (fourAt b 0 [])) ⌝ }
 {
     put_four(bytes, at, a);
     put_four(bytes, at + 4, b);
@@ -49,7 +50,7 @@ fn put_pair(bytes: &mut [u8], at: usize, a: [u8; 4], b: [u8; 4])
 // Writes the 16 bytes of a block from a place on.
 pub fn put_columns(bytes: &mut [u8], at: usize, s: [[u8; 4]; 4])
     requires { ⌜ at + 16 ≤ length (now bytes) ⌝ }
-    ensures { λ _. ⌜ now (bytes .exit) ≡ sets (now (bytes .entry)) at (blockBytes s) ⌝ }
+    ensures { λ _. ⌜ now (bytes .exit) ≡ sets (now (bytes .entry)) at (columnsBytes s) ⌝ }
 {
     put_pair(bytes, at, s[0], s[1]);
     put_pair(bytes, at + 8, s[2], s[3]);

@@ -2,7 +2,7 @@
 ghost use mathlib.Core.Path.{_≡_};
 ghost use Prim.Native.Nat.{_+_, _*_, _≤_};
 ghost use lib.ListN.{length};
-ghost use Rattle.sbox.specs.Table.{Tables};
+ghost use Rattle.sbox.specs.Inner.Tables.{Tables};
 ghost use Rattle.tree.specs.Child.{keysFor, childBy};
 ghost use Rattle.tree.specs.Expanded.{walk, walked};
 use crate::columns::put_columns;

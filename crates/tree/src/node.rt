@@ -1,7 +1,8 @@
 // The child keys, and both children of a block.
 ghost use mathlib.Core.Path.{_≡_};
 ghost use mathlib.Core.List.{[], _∷_};
-ghost use Rattle.sbox.specs.Table.{SBoxTable, Tables};
+ghost use Rattle.sbox.specs.Inner.Tables.{Tables};
+ghost use Rattle.sbox.specs.Table.{SBoxTable};
 ghost use Rattle.aes128.specs.Cipher.{keyExpansion};
 ghost use Rattle.tree.specs.Child.{childKey, keysFor, childBy};
 

@@ -2,12 +2,12 @@
 ghost use mathlib.Core.Path.{_≡_};
 ghost use Prim.Native.Nat.{_+_, _*_, _^_, _<_, _≤_};
 ghost use lib.ListN.{length};
-ghost use Rattle.sbox.specs.Table.{Tables};
+ghost use Rattle.sbox.specs.Inner.Tables.{Tables};
 ghost use Rattle.field.specs.Prime.{primes};
 ghost use Rattle.field.specs.Kind.{primeKind};
 ghost use Rattle.tree.specs.Child.{keysFor, childBy};
 ghost use Rattle.tree.specs.Added.{added};
-ghost use Rattle.tree.specs.Expanded.{filled, puncturedFilled};
+ghost use Rattle.tree.specs.Expanded.{leavesAdded, puncturedAdded};
 use crate::columns::columns_at;
 use crate::node::children;
 use crate::punctured::Punctured;
@@ -34,7 +34,7 @@ pub fn add_leaves_prime(
     acc: &mut [u64],
 )
     requires { ⌜ Tables (now sbox) (now mix) × (length (now acc) ≡ 2 ^ levels * 1) ⌝ }
-    ensures { λ _. ⌜ now (acc .exit) ≡ filled primeKind 2 (childBy (keysFor (now (left .entry)) (now (right .entry)))) levels s (now (acc .entry)) ⌝ }
+    ensures { λ _. ⌜ now (acc .exit) ≡ leavesAdded primeKind 2 (childBy (keysFor (now (left .entry)) (now (right .entry)))) levels s (now (acc .entry)) ⌝ }
 {
     if levels == 0 {
         add_prime(Prime::of_columns(s), acc);
@@ -59,7 +59,7 @@ pub fn add_punctured_prime(
     acc: &mut [u64],
 )
     requires { ⌜ Tables (now sbox) (now mix) × (length (now acc) ≡ 2 ^ tree .levels * 1) × (tree .position < 2 ^ tree .levels) × (tree .at + 16 * tree .levels ≤ length (now bytes)) ⌝ }
-    ensures { λ _. ⌜ now (acc .exit) ≡ puncturedFilled primeKind 2 (childBy (keysFor (now (left .entry)) (now (right .entry)))) tree (now (bytes .entry)) correction (now (acc .entry)) ⌝ }
+    ensures { λ _. ⌜ now (acc .exit) ≡ puncturedAdded primeKind 2 (childBy (keysFor (now (left .entry)) (now (right .entry)))) tree (now (bytes .entry)) correction (now (acc .entry)) ⌝ }
 {
     let levels = tree.levels;
     let position = tree.position;

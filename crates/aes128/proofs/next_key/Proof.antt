@@ -1,6 +1,6 @@
 -- `aes128::next_key` meets its contract. Assumes nothing.
 use borrow.Author.Needs.{needs}
-use Rattle.aes128.specs.Steps.{nextKey}
+use Rattle.aes128.specs.Inner.Steps.{nextKey}
 use Rattle.aes128.proofs.next_key.Statement.{statement}
 use Rattle.aes128.proofs.next_key.Tie as tie
 

@@ -1,6 +1,6 @@
 -- `aes128::unpack` meets its contract. Assumes nothing.
 use borrow.Author.Needs.{needs}
-use Rattle.sbox.specs.Table.{bytesOf}
+use Rattle.sbox.specs.Inner.Tables.{bytesOf}
 use mathlib.Core.Path.{refl}
 use Rattle.aes128.proofs.unpack.Statement.{statement}
 use Rattle.aes128.proofs.unpack.Tie as tie

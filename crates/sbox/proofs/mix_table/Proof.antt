@@ -1,11 +1,11 @@
 -- `sbox::mix_table` meets its contract: the rule's test over the constant's 256 entries computes. Assumes nothing.
-use Rattle.sbox.specs.Byte.{xtime, multiples, product, squares, inverse, fromBits, affine, sBox}
+use Rattle.sbox.specs.Byte.{xtime, multiples, mulBytes, squares, inverse, fromBits, affine, sBox}
 use Rattle.sbox.proofs.Rules.{mix-rule}
 use Rattle.sbox.proofs.mix_table.Statement.{statement}
 use Rattle.sbox.proofs.mix_table.Tie as tie
 
 returns : tie.Need-returns
-unfolding sBox affine inverse squares product multiples xtime fromBits
+unfolding sBox affine inverse squares mulBytes multiples xtime fromBits
 returns c = mix-rule _ tt
 
 pub mix-table-spec : {M : Type 1} → statement M

@@ -1,11 +1,11 @@
 -- `sbox::table` meets its contract: the rule's test over the constant's 256 entries computes. Assumes nothing.
-use Rattle.sbox.specs.Byte.{xtime, multiples, product, squares, inverse, fromBits, affine, sBox}
+use Rattle.sbox.specs.Byte.{xtime, multiples, mulBytes, squares, inverse, fromBits, affine, sBox}
 use Rattle.sbox.proofs.Rules.{sub-rule}
 use Rattle.sbox.proofs.table.Statement.{statement}
 use Rattle.sbox.proofs.table.Tie as tie
 
 returns : tie.Need-returns
-unfolding sBox affine inverse squares product multiples xtime fromBits
+unfolding sBox affine inverse squares mulBytes multiples xtime fromBits
 returns c = sub-rule _ tt
 
 pub table-spec : {M : Type 1} → statement M

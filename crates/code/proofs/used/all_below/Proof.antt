@@ -5,9 +5,10 @@ use mathlib.Core.Bool.{true}
 use Prim.Native.Nat.{_≤_, _-_}
 use lib.ListN.{length}
 use borrow.Author.Needs.{needs}
-use Rattle.code.proofs.Every.{every-none}
+use Rattle.algebra.proofs.Every.{every-none}
 use Rattle.code.proofs.Tested.{all-more, all-stop, all-done}
-use Rattle.code.specs.Used.{every, wordBelow}
+use Rattle.algebra.specs.Every.{every}
+use Rattle.code.specs.Inner.Used.{wordBelow}
 use Rattle.code.proofs.used.all_below.Statement.{statement}
 use Rattle.code.proofs.used.all_below.Tie as tie
 

@@ -5,7 +5,7 @@ use mathlib.Core.Bool.{true}
 use Prim.Native.Nat.{_≤_, _-_}
 use borrow.Author.Needs.{needs}
 use borrow.Author.Tests.{not-true, not-false}
-use Rattle.code.specs.Used.{usedBelow}
+use Rattle.code.specs.Inner.Used.{usedBelow}
 use Rattle.code.proofs.Tested.{rows-below-none, rows-below-more, rows-below-stop, rows-below-done}
 use Rattle.code.proofs.used.rows_below.Statement.{statement}
 use Rattle.code.proofs.used.rows_below.Tie as tie

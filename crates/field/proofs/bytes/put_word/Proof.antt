@@ -2,7 +2,8 @@
 use native.Mathlib.Omega.{arith}
 use native.Mathlib.Numerals.{towards-suc}
 use lib.ListN.{length-set}
-use Rattle.field.specs.Bytes.{leBytes, withWord}
+use Rattle.field.specs.Bytes.{leBytes}
+use Rattle.field.specs.Inner.Written.{withWord}
 use borrow.Author.Needs.{needs}
 use Rattle.field.proofs.bytes.put_word.Statement.{statement}
 use Rattle.field.proofs.bytes.put_word.Tie as tie

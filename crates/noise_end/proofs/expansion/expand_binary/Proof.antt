@@ -5,7 +5,7 @@ use native.Mathlib.Omega.{arith}
 use borrow.Author.Needs.{needs}
 use Rattle.field.specs.Kind.{binaryKind}
 use Rattle.field.proofs.BothKinds.{binaryKindLaws}
-use Rattle.noise_end.specs.Steps.{treesAt}
+use Rattle.noise_end.specs.Inner.Steps.{treesAt}
 use Rattle.noise_end.proofs.Trees.{Grown, grown-none, grown-length, grown-asks, grown-position, grown-small, grown-room, grown-fits, grown-index, grown-next, grown-noise, same-noise, same-v, binary-stores, binary-zeros, binary-even, binary-expanded}
 use Rattle.noise_end.proofs.expansion.expand_binary.Statement.{statement}
 use Rattle.noise_end.proofs.expansion.expand_binary.Tie as tie

@@ -5,7 +5,7 @@ use native.Mathlib.Omega.{arith}
 use borrow.Author.Needs.{needs}
 use Rattle.field.specs.Kind.{primeKind}
 use Rattle.field.proofs.BothKinds.{primeKindLaws}
-use Rattle.noise_end.specs.Steps.{treesAt}
+use Rattle.noise_end.specs.Inner.Steps.{treesAt}
 use Rattle.noise_end.proofs.Trees.{Grown, grown-none, grown-length, grown-asks, grown-position, grown-small, grown-room, grown-fits, grown-index, grown-next, grown-noise, same-noise, same-v, prime-stores, prime-zeros, prime-expanded}
 use Rattle.noise_end.proofs.expansion.expand_prime.Statement.{statement}
 use Rattle.noise_end.proofs.expansion.expand_prime.Tie as tie

@@ -5,8 +5,8 @@ use borrow.Author.Needs.{needs}
 use Rattle.field.specs.Binary.{binary}
 use Rattle.field.specs.Kind.{binaryKind}
 use Rattle.rows.proofs.Windows.{Written}
-use Rattle.noise_end.specs.Steps.{uOutputAt}
-use Rattle.rows.specs.Window.{outputAt}
+use Rattle.noise_end.specs.Inner.Steps.{uOutputAt}
+use Rattle.rows.specs.Inner.Outputs.{outputAt}
 use Rattle.rows.proofs.Filled.{binary-none, binary-all}
 use Rattle.noise_end.proofs.Steps.{u-binary-none, u-binary-more, u-binary-all, binary-more}
 use Rattle.noise_end.proofs.window.fill_binary.Statement.{statement}

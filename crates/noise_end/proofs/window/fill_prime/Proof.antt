@@ -5,7 +5,7 @@ use borrow.Author.Needs.{needs}
 use Rattle.field.specs.Prime.{primes}
 use Rattle.field.specs.Kind.{primeKind}
 use Rattle.rows.proofs.Windows.{Written}
-use Rattle.rows.specs.Window.{outputAt}
+use Rattle.rows.specs.Inner.Outputs.{outputAt}
 use Rattle.rows.proofs.Filled.{prime-none, prime-all}
 use Rattle.noise_end.proofs.Steps.{u-prime-more, v-prime-more, u-prime-all}
 use Rattle.noise_end.proofs.window.fill_prime.Statement.{statement}

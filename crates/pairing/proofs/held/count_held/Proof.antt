@@ -3,7 +3,7 @@ use mathlib.Core.Path.{_≡_}
 use Prim.Native.Nat.{_-_, _≤_}
 use native.Mathlib.Omega.{arith}
 use Rattle.field.specs.Kind.{kindOf}
-use Rattle.pairing.specs.Steps.{heldWords}
+use Rattle.pairing.specs.Inner.Steps.{heldWords}
 use Rattle.pairing.proofs.Turns.{held-none, held-next, held-fits, held-all}
 use Rattle.pairing.proofs.held.count_held.Statement.{statement}
 use Rattle.pairing.proofs.held.count_held.Tie as tie

@@ -5,7 +5,7 @@ use borrow.Author.Needs.{needs}
 use Rattle.field.specs.Binary.{binary}
 use Rattle.field.specs.Kind.{binaryKind}
 use Rattle.rows.proofs.Windows.{Written}
-use Rattle.rows.specs.Window.{outputAt}
+use Rattle.rows.specs.Inner.Outputs.{outputAt}
 use Rattle.rows.proofs.Filled.{binary-none, binary-all}
 use Rattle.scalar_end.proofs.Steps.{binary-more}
 use Rattle.scalar_end.proofs.window.fill_binary.Statement.{statement}

@@ -1,16 +1,17 @@
--- An accepted record by its numbers: its trees stand from the body on, and none of their tests fails again.
+-- Inner: no promise cites this file. An accepted record by its numbers: its trees stand from the body on, and none of their tests fails again.
 use mathlib.Core.Bool.{true}
 use mathlib.Core.Path.{_≡_}
 use mathlib.Core.List.{List}
 use Prim.Native.Nat.{ℕ}
-use Rattle.number.specs.Reading.{Whole, isWhole}
+use Rattle.number.specs.Reading.{Whole}
+use Rattle.number.specs.Inner.Known.{isWhole}
 use Rattle.record.specs.Content.{NoisePart}
-use Rattle.record.specs.Reading.{readTrees, readNoise, headOf}
+use Rattle.record.specs.Reading.{readTrees, readNoise}
+use Rattle.record.specs.Inner.Answers.{headOf}
 use Rattle.record.specs.declared.Front.{Front}
-use Rattle.rows.specs.Sizes.{Sizes}
-use Rattle.noise_end.specs.Steps.{treesAt}
+use Rattle.rows.specs.Inner.Sizes.{Sizes}
+use Rattle.noise_end.specs.Inner.Steps.{treesAt}
 
--- the content of an accepted record
 abbrev pub contentOf : List ℕ → Front → NoisePart
 contentOf s f = record { head = headOf s f; trees = treesAt (f .field) s (f .body) (f .depth) (f .trees) }
 

@@ -1,4 +1,4 @@
--- What the sizes of a head that was read are at most (document 01, 'Sizes'), and that its code key stands before the body.
+-- Inner: no promise cites this file. What the sizes of a head that was read are at most, and that its code key stands before the body.
 use Prim.Native.Nat.{ℕ, _^_, _≤_}
 use mathlib.Core.List.{List}
 use lib.ListN.{length}

@@ -1,5 +1,4 @@
--- What the functions inside the two calls say: the accumulated vector of the trees whose roots stand at a place, Δ, the rows
--- of a window, and the numbers of its tests.
+-- Inner: no promise cites this file. The accumulated vector of the trees whose roots stand at a place, Δ, the rows of a window, and the numbers of its tests.
 use mathlib.Core.Bool.{not}
 use mathlib.Core.Path.{_≡_}
 use mathlib.Core.List.{List, [], _∷_}
@@ -11,9 +10,8 @@ use Rattle.algebra.specs.Expansion.{whole}
 use Rattle.algebra.specs.Field.{Value}
 use Rattle.algebra.specs.Sum.{accumulate}
 use Rattle.field.specs.Bytes.{wordAt}
-use Rattle.field.specs.Kind.{Kind}
+use Rattle.field.specs.Kind.{Kind, elementWords}
 use Rattle.record.specs.declared.Front.{Front}
-use Rattle.rows.specs.Words.{elementWidth}
 use Rattle.tree.specs.Added.{leafElement}
 use Rattle.tree.specs.Child.{child}
 use Rattle.tree.specs.Columns.{columnsAt}
@@ -35,9 +33,9 @@ deltaAt field source at = wordAt source at ∷ choose (eqb field 1) (wordAt sour
 -- where all are passed
 unfoldable pub lengthsNumber : Front → ℕ → ℕ → ℕ → ℕ → ℕ
 lengthsNumber f vector first count room =
-    choose (not (eqb vector (2 ^ f .depth * elementWidth (f .field)))) 3
+    choose (not (eqb vector (2 ^ f .depth * elementWords (f .field)))) 3
     (choose (ltb (f .outputs) (first + count)) 7
-    (choose (ltb room (count * elementWidth (f .field))) 13 0))
+    (choose (ltb room (count * elementWords (f .field))) 13 0))
 
 -- a whole vector of elements of a width, a window that ends at 32768 (the largest n) or before, and room for it
 pub record Fitting (width size first count vector room : ℕ) : Type 0 where

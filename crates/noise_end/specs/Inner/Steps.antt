@@ -1,5 +1,4 @@
--- What the functions inside the two calls say: the trees that an accepted record has at a place, the accumulated vectors of
--- those trees, the rows of a window, and the test of the words that they use.
+-- Inner: no promise cites this file. The trees that an accepted record has at a place, the accumulated vectors of those trees, the rows of a window, and the test of the words that they use.
 use mathlib.Core.Bool.{Bool, true, _||_, not}
 use mathlib.Core.Path.{_≡_}
 use mathlib.Core.List.{List, []}
@@ -12,15 +11,15 @@ use Rattle.algebra.specs.Field.{NoiseValue}
 use Rattle.algebra.specs.Group.{itself}
 use Rattle.algebra.specs.Row.{output}
 use Rattle.algebra.specs.Sum.{accumulate}
-use Rattle.field.specs.Kind.{Kind}
+use Rattle.field.specs.Kind.{Kind, elementWords}
 use Rattle.code.specs.Row.{rowOf, termPlace}
-use Rattle.code.specs.Used.{every}
-use Rattle.number.specs.Reading.{Whole, Refused, Step, isWhole}
-use Rattle.record.specs.Content.{NoiseTree}
+use Rattle.algebra.specs.Every.{every}
+use Rattle.number.specs.Reading.{Whole, Refused, Step}
+use Rattle.number.specs.Inner.Known.{isWhole}
+use Rattle.record.specs.Content.{NoiseTree, treeIn}
 use Rattle.record.specs.Reading.{readTrees}
 use Rattle.record.specs.declared.Front.{Front}
-use Rattle.rows.specs.Words.{elementWidth}
-use Rattle.noise_end.specs.Vectors.{treeIn, valueIn, correctionIn, leafIn}
+use Rattle.noise_end.specs.Vectors.{valueIn, correctionIn, leafIn}
 
 -- the trees of a record of a field, which begin at a place
 unfoldable pub treesAt : ℕ → List ℕ → ℕ → ℕ → ℕ → List NoiseTree
@@ -60,9 +59,9 @@ noiseUsed K keys size terms first count noise =
 -- where all are passed
 unfoldable pub lengthsNumber : Front → ℕ → ℕ → ℕ → ℕ → ℕ → ℕ → ℕ
 lengthsNumber f noise vector first count uRoom room =
-    choose (not (eqb noise (2 ^ f .depth)) || not (eqb vector (2 ^ f .depth * elementWidth (f .field)))) 3
+    choose (not (eqb noise (2 ^ f .depth)) || not (eqb vector (2 ^ f .depth * elementWords (f .field)))) 3
     (choose (ltb (f .outputs) (first + count)) 7
-    (choose (ltb uRoom count || ltb room (count * elementWidth (f .field))) 13 0))
+    (choose (ltb uRoom count || ltb room (count * elementWords (f .field))) 13 0))
 
 -- whole vectors, the elements of a width, a window that ends at 32768 (the largest n) or before, and room for it
 pub record Fitting (width size first count noise vector uRoom room : ℕ) : Type 0 where

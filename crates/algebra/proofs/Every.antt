@@ -6,8 +6,8 @@ use Prim.Native.Nat.{ℕ, zero, suc, _+_, _≤_, _<_}
 use native.Mathlib.Nat.{le-antisymm, eq-or-lt-of-le, le-of-suc-le-suc}
 use native.Mathlib.Numerals.{add-one}
 use native.Mathlib.Omega.{arith}
 use Rattle.algebra.proofs.Tests.{and-left, and-right, and-both}
-use Rattle.code.specs.Used.{every}
+use Rattle.algebra.specs.Every.{every}
 
 -- one test fails
 and-false : (a b : Bool) → b ≡ false → (a && b) ≡ false

@@ -1,19 +1,19 @@
--- What the steps of a dealing's writing ask and say: the input of one tree, and when it can be written at a place.
+-- Inner: no promise cites this file. The input of one tree, and when it can be written at a place.
 use mathlib.Core.Path.{_≡_}
 use mathlib.Core.List.{List, []}
 use Prim.Native.Nat.{ℕ, _+_, _*_, _≤_, _<_}
 use lib.ListN.{length}
 use Rattle.aes128.specs.Cipher.{keyExpansion}
-use Rattle.record.specs.Writing.{writeNoise, frontLength}
-use Rattle.sbox.specs.Table.{Tables}
+use Rattle.record.specs.Writing.{writeNoise}
+use Rattle.record.specs.Inner.Lengths.{frontLength}
+use Rattle.sbox.specs.Inner.Tables.{Tables}
 use Rattle.tree.specs.Child.{childKey}
 use Rattle.dealing.specs.Admitted.{Admitted}
-use Rattle.dealing.specs.Input.{Input, inputWith}
+use Rattle.dealing.specs.Input.{Input, inputWith, position}
 use Rattle.dealing.specs.Parts.{noisePart}
-use Rattle.dealing.specs.Vectors.{position}
 
 -- the tables and the round keys of both child keys
-pub record Lent (sbox mix : List ℕ) (left right : List (List (List ℕ))) : Type 0 where
+pub record TablesAndKeys (sbox mix : List ℕ) (left right : List (List (List ℕ))) : Type 0 where
   pub tables : Tables sbox mix
   pub left-keys : left ≡ keyExpansion (childKey 0)
   pub right-keys : right ≡ keyExpansion (childKey 1)
@@ -38,6 +38,6 @@ pub record Placed (I : Input) (i base at : ℕ) (out : List ℕ) : Type 0 where
   pub room : at + treeLength I i base ≤ length out
 
 -- the input is admitted, and its noise record has room in a buffer
-pub record Ready (I : Input) (out : List ℕ) : Type 0 where
+pub record AdmittedWithRoom (I : Input) (out : List ℕ) : Type 0 where
   pub admitted : Admitted I
   pub room : length (writeNoise (noisePart I)) ≤ length out

@@ -1,18 +1,18 @@
--- What the inner functions ask of their callers; no contract of an exported call cites this file.
+-- Inner: no promise cites this file. What the inner functions ask of their callers.
 use mathlib.Core.Path.{_≡_}
 use mathlib.Core.List.{List}
 use Prim.Native.Nat.{ℕ, _+_, _*_, _≤_}
-use Rattle.sbox.specs.Table.{Tables}
+use Rattle.sbox.specs.Inner.Tables.{Tables}
 use Rattle.aes128.specs.Cipher.{keyExpansion}
 use Rattle.pads.specs.Pad.{padKey}
 
 -- the cipher's tables, and the round keys of the pads' key
-pub record Ready (sbox mix : List ℕ) (keys : List (List (List ℕ))) : Type 0 where
+pub record PadKeys (sbox mix : List ℕ) (keys : List (List (List ℕ))) : Type 0 where
   pub tables : Tables sbox mix
   pub schedule : keys ≡ keyExpansion padKey
 
 -- a window with 16 bytes an output lent, and room for its outputs
-pub record Fitting (first count lent width room : ℕ) : Type 0 where
+pub record WindowFits (first count lent width room : ℕ) : Type 0 where
   pub window : first + count ≤ 32768
   pub blocks : 16 * count ≤ lent
   pub outputs : count * width ≤ room

@@ -1,4 +1,4 @@
--- What the functions inside the call say: the verdict of a finding, two records that are checked, and how many outputs hold.
+-- Inner: no promise cites this file. The verdict of a finding, two records that are checked, and how many outputs hold.
 use mathlib.Core.Path.{_≡_}
 use mathlib.Core.Bool.{Bool}
 use mathlib.Core.List.{List}

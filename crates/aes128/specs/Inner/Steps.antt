@@ -1,4 +1,4 @@
--- What the inner functions compute; no contract of a public function cites this file.
+-- Inner: no promise cites this file. What the inner functions compute.
 use mathlib.Core.List.{List, [], _∷_}
 use Prim.Native.Nat.{ℕ, _+_, _%_}
 use lib.ListN.{getD}

@@ -1,16 +1,11 @@
--- Whether every word that a window's rows use is below a bound, 2 for bits and p for elements of field 2 (document 01,
--- 'Offline and online', the last sentence; 'Numbers of the calls', 8).
-use mathlib.Core.Bool.{Bool, true, _&&_}
+-- Inner: no promise cites this file. Whether every word that a window's rows use is below a bound, 2 for bits and p for elements of field 2, and the same of a whole vector.
+use mathlib.Core.Bool.{Bool}
 use mathlib.Core.List.{List}
-use Prim.Native.Nat.{ℕ, zero, suc, _+_}
+use Prim.Native.Nat.{ℕ, _+_}
 use lib.Dec.{ltb}
 use lib.ListN.{length, getD}
+use Rattle.algebra.specs.Every.{every}
 use Rattle.code.specs.Row.{termPlace}
-
--- the test holds at 0 to n − 1
-unfoldable pub every : ℕ → (ℕ → Bool) → Bool
-every zero test = true
-every (suc n) test = every n test && test n
 
 -- the word at place j is below the bound
 abbrev pub wordBelow : ℕ → List ℕ → ℕ → Bool

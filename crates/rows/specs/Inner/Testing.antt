@@ -1,11 +1,11 @@
--- The test of the words that a window's rows use, from the round keys and the sizes (document 01, 'Offline and online').
+-- Inner: no promise cites this file. The test of the words that a window's rows use, from the round keys and the sizes.
 use mathlib.Core.Bool.{Bool}
 use mathlib.Core.List.{List}
 use mathlib.Core.Path.{_≡_}
 use Prim.Native.Nat.{ℕ, _+_, _*_, _≤_, _<_}
 use Rattle.algebra.specs.Coding.{at}
 use Rattle.code.specs.Row.{termPlace}
-use Rattle.code.specs.Used.{every}
+use Rattle.algebra.specs.Every.{every}
 use Rattle.field.specs.Kind.{Kind}
 
 -- every word that the window's rows use is an element

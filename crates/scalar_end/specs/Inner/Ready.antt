@@ -1,4 +1,4 @@
--- An accepted record by its numbers: its content stands at the places that they give.
+-- Inner: no promise cites this file. An accepted record by its numbers: its content stands at the places that they give.
 use mathlib.Core.Path.{_≡_}
 use mathlib.Core.List.{List}
 use Prim.Native.Nat.{ℕ, _+_, _*_, _≤_}
@@ -6,21 +6,21 @@ use lib.ListN.{length}
 use Rattle.field.specs.Bytes.{wordAt}
 use Rattle.number.specs.Reading.{Whole}
 use Rattle.record.specs.Content.{ScalarPart}
-use Rattle.record.specs.Reading.{items, blockAt, headOf, readScalar}
+use Rattle.record.specs.Reading.{items, blockAt, readScalar}
+use Rattle.record.specs.Inner.Answers.{headOf}
 use Rattle.record.specs.declared.Front.{Front}
-use Rattle.rows.specs.Sizes.{Sizes}
-use Rattle.rows.specs.Words.{elementWidth}
+use Rattle.rows.specs.Inner.Sizes.{Sizes}
+use Rattle.field.specs.Kind.{elementWords}
 
--- where Δ ends and the roots begin
 abbrev pub rootsAt : Front → ℕ
-rootsAt f = f .body + 8 * elementWidth (f .field)
+rootsAt f = f .body + 8 * elementWords (f .field)
 
 -- the content of an accepted record
 abbrev pub contentOf : List ℕ → Front → ScalarPart
 contentOf s f =
     record {
       head = headOf s f;
-      delta = items wordAt 8 s (f .body) (elementWidth (f .field));
+      delta = items wordAt 8 s (f .body) (elementWords (f .field));
       roots = items blockAt 16 s (rootsAt f) (f .trees);
     }
 

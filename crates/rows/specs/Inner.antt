@@ -1,0 +1,5 @@
+-- Inner: no promise cites this folder. What inner functions' contracts and the proofs use.
+pub mod Sizes
+pub mod Testing
+pub mod Outputs
+pub mod Words

@@ -1,0 +1,2 @@
+-- Inner: no promise cites this folder. What the tables that the cipher is lent hold.
+pub mod Tables
