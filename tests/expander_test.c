@@ -1,229 +1,32 @@
-/* The library's seven calls held to the plain implementation, through expander.h.
- *
- * Each call is made twice, by the library and by the plain implementation, on memory of the same
- * content. Number and lengths must agree, and so must every byte of every lent buffer and of the
- * guards around it; what a call does not write must be as it was. Some buffers begin or end at a
- * page that cannot be touched, so that a read outside them is noticed too.
- */
-#define _GNU_SOURCE
-#include "dealing.h"
-#include "expander.h"
-#include "plain.h"
+/* The library's seven calls held to the plain implementation, through expander.h (lend.h). */
+#include "lend.h"
 
-#include <stdarg.h>
-#include <stdio.h>
-#include <stdlib.h>
 #include <string.h>
-#include <sys/mman.h>
 
 #define P PLAIN_P
 
 typedef struct plain_result result;
 typedef struct plain_block block;
 
-/* ---- What is counted ---- */
+/* ---- The calls and their numbers ---- */
 
-enum call { DEAL, NOISE_OFFLINE, SCALAR_OFFLINE, NOISE_ONLINE, SCALAR_ONLINE, NOISE_PADS,
-            SCALAR_PADS, CALLS };
-enum { NUMBERS = 14 };
+enum { DEAL, NOISE_OFFLINE, SCALAR_OFFLINE, NOISE_ONLINE, SCALAR_ONLINE, NOISE_PADS, SCALAR_PADS,
+       CALLS };
 
-static const char *const call_names[CALLS] = {"deal", "noise_offline", "scalar_offline",
-                                              "noise_online", "scalar_online", "noise_pads",
-                                              "scalar_pads"};
-
-/* The numbers that document 01 lets each call give, a bit each. */
-#define BIT(n) (1u << (n))
+/* The numbers that document 01 lets each call give. */
 #define HEAD_NUMBERS (BIT(1) | BIT(2) | BIT(9) | BIT(10) | BIT(11) | BIT(12))
-static const unsigned allowed[CALLS] = {
-    BIT(0) | BIT(1) | BIT(2) | BIT(3) | BIT(4) | BIT(5) | BIT(6) | BIT(13),
-    BIT(0) | HEAD_NUMBERS | BIT(4) | BIT(5) | BIT(8) | BIT(13),
-    BIT(0) | HEAD_NUMBERS | BIT(6) | BIT(13),
-    BIT(0) | HEAD_NUMBERS | BIT(4) | BIT(5) | BIT(8) | BIT(3) | BIT(7) | BIT(13),
-    BIT(0) | HEAD_NUMBERS | BIT(6) | BIT(3) | BIT(7) | BIT(13) | BIT(8),
-    BIT(0) | BIT(3) | BIT(7) | BIT(13) | BIT(8),
-    BIT(0) | BIT(3) | BIT(7) | BIT(6) | BIT(13),
+static const struct call calls[CALLS] = {
+    {"deal", BIT(0) | BIT(1) | BIT(2) | BIT(3) | BIT(4) | BIT(5) | BIT(6) | BIT(13)},
+    {"noise_offline", BIT(0) | HEAD_NUMBERS | BIT(4) | BIT(5) | BIT(8) | BIT(13)},
+    {"scalar_offline", BIT(0) | HEAD_NUMBERS | BIT(6) | BIT(13)},
+    {"noise_online",
+     BIT(0) | HEAD_NUMBERS | BIT(4) | BIT(5) | BIT(8) | BIT(3) | BIT(7) | BIT(13)},
+    {"scalar_online", BIT(0) | HEAD_NUMBERS | BIT(6) | BIT(3) | BIT(7) | BIT(13) | BIT(8)},
+    {"noise_pads", BIT(0) | BIT(3) | BIT(7) | BIT(13) | BIT(8)},
+    {"scalar_pads", BIT(0) | BIT(3) | BIT(7) | BIT(6) | BIT(13)},
 };
 
-static unsigned long agreed[CALLS][NUMBERS];
-static unsigned long facts; /* further facts that held of the library's results */
-static unsigned long wrong;
-
-static char context[400]; /* the call being made */
-
-static void describe(const char *format, ...)
-{
-    va_list list;
-    va_start(list, format);
-    vsnprintf(context, sizeof context, format, list);
-    va_end(list);
-}
-
-static void complain(const char *format, ...)
-{
-    va_list list;
-    if (++wrong > 20)
-        return;
-    fprintf(stderr, "%s: ", context);
-    va_start(list, format);
-    vfprintf(stderr, format, list);
-    va_end(list);
-    fputc('\n', stderr);
-}
-
-#define EXPECT(fact) expect((fact), #fact, __LINE__)
-
-static void expect(int holds, const char *fact, int line)
-{
-    if (holds)
-        facts++;
-    else
-        complain("not so (expander_test.c:%d): %s", line, fact);
-}
-
-/* ---- Lent memory ---- */
-
-enum { SLOTS = 7, GUARD = 64, PAGE = 4096, ROOM = (1 << 20) + (1 << 16) };
-
-/* A buffer of the current call: the same bytes for the library, for the plain implementation, and
- * as they were before the call. */
-static struct lent {
-    unsigned char *room[3];
-    unsigned char *library, *plain, *before;
-    size_t bytes, guard_low, guard_high;
-} lent[SLOTS];
-
-static void make_rooms(void)
-{
-    for (int k = 0; k < SLOTS; k++)
-        for (int copy = 0; copy < 3; copy++) {
-            unsigned char *pages = mmap(NULL, ROOM + 2 * PAGE, PROT_NONE,
-                                        MAP_PRIVATE | MAP_ANONYMOUS, -1, 0);
-            if (pages == MAP_FAILED || mprotect(pages + PAGE, ROOM, PROT_READ | PROT_WRITE) != 0) {
-                perror("expander_test: memory");
-                exit(2);
-            }
-            lent[k].room[copy] = pages + PAGE;
-        }
-}
-
-/* Lend count things of `size` bytes: with this content, or with random bytes if it is NULL. */
-static void lend(int slot, const void *content, size_t count, size_t size)
-{
-    struct lent *l = &lent[slot];
-    size_t at;
-    l->bytes = count * size;
-    if (l->bytes > ROOM - 32 * GUARD) {
-        fprintf(stderr, "expander_test: buffer of %zu bytes\n", l->bytes);
-        exit(2);
-    }
-    l->guard_low = l->guard_high = GUARD;
-    switch (random_below(3)) {
-    case 0: /* from the first byte that can be touched */
-        at = l->guard_low = 0;
-        break;
-    case 1: /* up to the last one */
-        at = ROOM - l->bytes;
-        l->guard_high = 0;
-        break;
-    default:
-        at = GUARD + size * random_below(16);
-    }
-    l->library = l->room[0] + at;
-    l->plain = l->room[1] + at;
-    l->before = l->room[2] + at;
-    random_bytes(l->before - l->guard_low, l->guard_low);
-    random_bytes(l->before + l->bytes, l->guard_high);
-    if (content == NULL)
-        random_bytes(l->before, l->bytes);
-    else
-        memcpy(l->before, content, l->bytes);
-    at = l->guard_low + l->bytes + l->guard_high;
-    memcpy(l->library - l->guard_low, l->before - l->guard_low, at);
-    memcpy(l->plain - l->guard_low, l->before - l->guard_low, at);
-}
-
-/* Both copies of the buffer agree whole, guards included, and past the bytes written, as before. */
-static int held(int slot, size_t written)
-{
-    const struct lent *l = &lent[slot];
-    size_t all = l->guard_low + l->bytes + l->guard_high;
-    for (size_t k = 0; k < all; k += k + PAGE < all ? PAGE : all - k) {
-        size_t n = all - k < PAGE ? all - k : PAGE;
-        const unsigned char *mine = l->library - l->guard_low + k;
-        const unsigned char *other = l->plain - l->guard_low + k;
-        if (memcmp(mine, other, n) == 0)
-            continue;
-        for (n = 0; mine[n] == other[n]; n++)
-            ;
-        complain("buffer %d of %zu bytes: byte %ld is %02x, the plain implementation has %02x",
-                 slot, l->bytes, (long)(k + n) - (long)l->guard_low, mine[n], other[n]);
-        return 0;
-    }
-    if (written > l->bytes
-        || memcmp(l->plain - l->guard_low, l->before - l->guard_low, l->guard_low) != 0
-        || memcmp(l->plain + written, l->before + written, l->bytes + l->guard_high - written)) {
-        complain("buffer %d: the plain implementation wrote past its %zu bytes", slot, written);
-        return 0;
-    }
-    return 1;
-}
-
-/* Compare what the call returned and what it left; inputs stand before outputs. first and second
- * are the bytes that an accepted call writes to the last two buffers, or to the last one. */
-static void settle(enum call call, result mine, result plain, int inputs, int outputs,
-                   size_t first, size_t second)
-{
-    int well = 1;
-    if (mine.number != plain.number || mine.first != plain.first || mine.second != plain.second) {
-        complain("returned %u, %zu, %zu; the plain implementation %u, %zu, %zu", mine.number,
-                 mine.first, mine.second, plain.number, plain.first, plain.second);
-        well = 0;
-    }
-    for (int k = 0; k < inputs; k++)
-        well &= held(k, 0);
-    well &= held(inputs, plain.number == 0 ? first : 0);
-    if (outputs == 2)
-        well &= held(inputs + 1, plain.number == 0 ? second : 0);
-    if (plain.number != 0 && (plain.first != 0 || plain.second != 0)) {
-        complain("the plain implementation refused with lengths");
-        well = 0;
-    }
-    if (plain.number >= NUMBERS || !(allowed[call] & BIT(plain.number))) {
-        complain("number %u is not this call's", plain.number);
-        well = 0;
-    }
-    if (well)
-        agreed[call][plain.number]++;
-}
-
-#define LIBRARY(slot, type) ((type *)(void *)lent[slot].library)
-#define PLAIN(slot, type) ((type *)(void *)lent[slot].plain)
-
-static result two(struct expander_two_lengths r)
-{
-    result same = {r.number, r.first_written, r.second_written};
-    return same;
-}
-
-static result one(struct expander_one_length r)
-{
-    result same = {r.number, r.written, 0};
-    return same;
-}
-
-static result alone(uint32_t number)
-{
-    result same = {number, 0, 0};
-    return same;
-}
-
 /* ---- The calls, each made by both; what the library wrote goes to *_out, if not NULL ---- */
-
-static void keep(void *out, int slot, size_t bytes)
-{
-    if (out != NULL)
-        memcpy(out, lent[slot].library, bytes);
-}
 
 /* How much a dealing lends of each input, and of its two buffers. */
 struct deal_lengths {
@@ -264,8 +67,8 @@ static result try_offline(int end, const uint8_t *record, size_t len, size_t fir
                           size_t second_len, uint64_t *first_out, uint64_t *second_out)
 {
     result mine, plain;
-    enum call call = end == 1 ? NOISE_OFFLINE : SCALAR_OFFLINE;
-    describe("%s(record of %zu bytes, %zu, %zu)", call_names[call], len, first_len, second_len);
+    int call = end == 1 ? NOISE_OFFLINE : SCALAR_OFFLINE;
+    describe("%s(record of %zu bytes, %zu, %zu)", calls[call].name, len, first_len, second_len);
     lend(0, record, len, 1);
     lend(1, NULL, first_len, 8);
     lend(2, NULL, second_len, 8);
@@ -1144,34 +947,9 @@ static void cases(void)
     }
 }
 
-/* ---- The table ---- */
-
-static void table(void)
-{
-    printf("%-15s", "number");
-    for (int n = 0; n < NUMBERS; n++)
-        printf("%7d", n);
-    putchar('\n');
-    for (int call = 0; call < CALLS; call++) {
-        printf("%-15s", call_names[call]);
-        for (int n = 0; n < NUMBERS; n++) {
-            if (allowed[call] & BIT(n))
-                printf("%7lu", agreed[call][n]);
-            else
-                printf("%7s", "-");
-            if ((allowed[call] & BIT(n)) && agreed[call][n] == 0) {
-                describe("%s", call_names[call]);
-                complain("number %d was not met", n);
-            }
-        }
-        putchar('\n');
-    }
-}
-
 int main(void)
 {
-    unsigned long calls = 0;
-    make_rooms();
+    begin(calls, CALLS);
     cases();
     sizes_at_bounds();
     longest_records();
@@ -1200,14 +978,5 @@ int main(void)
         make_dealing(&x, field, 16, 64, 32, 32768);
         whole_dealing(1);
     }
-    table();
-    for (int call = 0; call < CALLS; call++)
-        for (int n = 0; n < NUMBERS; n++)
-            calls += agreed[call][n];
-    if (wrong > 0) {
-        printf("%lu disagreements\n", wrong);
-        return 1;
-    }
-    printf("%lu calls agree with the plain implementation; %lu further facts hold\n", calls, facts);
-    return 0;
+    return finish();
 }
