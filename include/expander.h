@@ -1,4 +1,4 @@
-/* Correlation expander: dealing, the noise end and the scalar end, pads.
+/* Correlation expander: dealing, the noise end and the scalar end, pads, signed amounts.
  *
  * A dealing makes two key records. The noise end expands its record to u and v, the scalar end
  * expands its own to w, and w = Delta * u + v at every index below n. In field 1 the pad calls turn
@@ -27,7 +27,8 @@
  *   Accepted      The number is 0. Each output buffer holds the result from its start, and the
  *                 lengths returned say how much of it; what lies past that is untouched.
  *   Refused       The number is that of the first test that failed, tests being taken in the order
- *                 listed. The lengths returned are 0 and all memory is as it was before the call.
+ *                 listed. All else that is returned is 0, and all memory is as it was before the
+ *                 call.
  *   In both cases every input buffer is as it was before the call. No call allocates, or keeps
  *   anything between calls, so calls on different output buffers may run at the same time. Sums and
  *   products of what the caller passes do not wrap: first and count may have any value.
@@ -49,6 +50,9 @@ extern "C" {
 /* The modulus p of field 2, 2^61 - 1. */
 #define EXPANDER_MODULUS ((((uint64_t)1) << 61) - 1)
 
+/* The largest signed amount, 2^60 - 1; the smallest is its negative. */
+#define EXPANDER_AMOUNT_MAX ((((int64_t)1) << 60) - 1)
+
 /* Numbers that the calls return. */
 #define EXPANDER_ACCEPTED 0u         /* the result is written */
 #define EXPANDER_BAD_FIELD 1u        /* field byte not 1 or 2 */
@@ -64,6 +68,7 @@ extern "C" {
 #define EXPANDER_BAD_NUMBER 11u      /* number in a record not in its shortest form, or too long */
 #define EXPANDER_BYTES_AFTER 12u     /* bytes after the record */
 #define EXPANDER_BUFFER_SHORT 13u    /* output buffer too short */
+#define EXPANDER_AMOUNT_OUT_OF_RANGE 19u /* amount below -(2^60 - 1) or above 2^60 - 1 */
 
 /* Bytes of the longest records. */
 #define EXPANDER_NOISE_RECORD_MAX 17563
@@ -80,6 +85,18 @@ struct expander_two_lengths {
 struct expander_one_length {
     uint32_t number;
     size_t written;
+};
+
+/* A number, and the signed amount that an element stands for. */
+struct expander_amount {
+    uint32_t number;
+    int64_t amount;
+};
+
+/* A number, and the element that stands for a signed amount. */
+struct expander_written_amount {
+    uint32_t number;
+    uint64_t element;
 };
 
 /** Make a noise record and a scalar record of one dealing.
@@ -313,6 +330,33 @@ uint32_t expander_scalar_pads(
     const uint8_t *w, size_t w_len,
     const uint8_t *delta, size_t delta_len,
     uint8_t *pads, size_t pads_len);
+
+/** Read an element of field 2 as a signed amount: up to 2^60 - 1 as itself, above that as
+ *  element - p. The sum modulo p of two elements stands for the sum of their amounts, while that is
+ *  in range.
+ *
+ *  Returns:  a number, and the amount, -(2^60 - 1) to 2^60 - 1.
+ *             0: accepted
+ *             8: element is p or more
+ *  In:       element: an element of field 2, 0 to p - 1
+ *  Out:      none; no memory is lent.
+ *  Refused:  the amount returned is 0.
+ *  Overlap:  none.
+ */
+struct expander_amount expander_read_amount(uint64_t element);
+
+/** Write a signed amount as an element of field 2: from 0 on as itself, below 0 as amount + p.
+ *  Reading that element gives the amount again.
+ *
+ *  Returns:  a number, and the element, 0 to p - 1.
+ *             0: accepted
+ *            19: amount is below -(2^60 - 1) or above 2^60 - 1
+ *  In:       amount: a signed amount, -EXPANDER_AMOUNT_MAX to EXPANDER_AMOUNT_MAX
+ *  Out:      none; no memory is lent.
+ *  Refused:  the element returned is 0.
+ *  Overlap:  none.
+ */
+struct expander_written_amount expander_write_amount(int64_t amount);
 
 #ifdef __cplusplus
 }

@@ -56,3 +56,7 @@ bytesAfter = 12
 -- output buffer too short
 abbrev pub bufferShort : ℕ
 bufferShort = 13
+
+-- an amount below −(2^60 − 1) or above 2^60 − 1 (document 02, 13)
+abbrev pub amountOutOfRange : ℕ
+amountOutOfRange = 19

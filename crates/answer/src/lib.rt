@@ -29,6 +29,8 @@ pub const BAD_NUMBER: u32 = 11;
 pub const BYTES_AFTER: u32 = 12;
 // Output buffer too short.
 pub const BUFFER_SHORT: u32 = 13;
+// An amount below −(2^60 − 1) or above 2^60 − 1.
+pub const AMOUNT_OUT_OF_RANGE: u32 = 19;
 
 // The answer of a call with two output buffers.
 #[repr(C)]

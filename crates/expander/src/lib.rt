@@ -10,6 +10,8 @@ ghost use Rattle.scalar_end.specs.Online as scalarOnline;
 use answer::OneLength;
 use answer::TwoLengths;
 
+mod signed_amounts;
+
 // Deals both records from field, sizes, roots, positions, noise values, Δ and code key.
 #[no_mangle]
 pub extern "C" fn expander_deal(

@@ -1,4 +1,4 @@
--- The laws of `field`: arithmetic modulo p, words in bytes, and the laws of the two fields.
+-- The laws of `field`: arithmetic modulo p, words in bytes, the laws of the two fields, and elements as signed numbers.
 pub mod Modular
 pub mod Scale
 pub mod Xor
@@ -8,3 +8,5 @@ pub mod BinaryField
 pub mod PrimeField
 pub mod BothKinds
 pub mod KindOf
+pub mod Around
+pub mod SignedNeeds

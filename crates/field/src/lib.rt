@@ -3,9 +3,11 @@
 mod block;
 mod bytes;
 mod prime;
+mod signed;
 
 pub use block::Block;
 pub use block::add_bits;
 pub use bytes::put_word;
 pub use bytes::word_at;
 pub use prime::Prime;
+pub use signed::FromSigned;

@@ -1,0 +1,3 @@
+-- What the calls return, and that they agree.
+pub mod Returns
+pub mod Agreeing
