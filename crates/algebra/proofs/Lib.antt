@@ -9,3 +9,4 @@ pub mod Loop
 pub mod Tests
 pub mod Every
 pub mod Same
+pub mod Inverse

@@ -1,4 +1,4 @@
--- The proofs of the statements of specs/, one inhabitant each in Entire, Paired and Starred.
+-- The proofs of the statements of specs/, one inhabitant each in Entire, Paired, Starred and Buffers.
 mod Dealt
 mod Outputs
 mod Lists
@@ -6,3 +6,4 @@ mod Pads
 pub mod Entire
 pub mod Paired
 pub mod Starred
+pub mod Buffers

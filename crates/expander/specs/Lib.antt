@@ -3,4 +3,5 @@ pub mod Records
 pub mod Correlation
 pub mod Acceptance
 pub mod Pairing
+pub mod Buffers
 pub mod Cases

@@ -1,0 +1,208 @@
+-- What accumulated buffers tell, from the inverse of accumulation over any ring and any group that it scales. The noise values of
+-- an accepted record are elements other than zero, at rising positions below N.
+use mathlib.Core.Path.{_≡_, refl, sym, ap, _∙_}
+use mathlib.Core.Bool.{Bool, true, false}
+use mathlib.Core.List.{List, [], _∷_, map}
+use mathlib.Core.Logic.{_⊎_, inl, inr, ⊎-elim}
+use Prim.Native.Nat.{ℕ, zero, suc, _+_, _-_, _^_, _≤_, _<_}
+use native.Mathlib.Nat.{not-suc-le-zero, le-of-suc-le-suc}
+use native.Mathlib.Omega.{arith}
+use borrow.Author.Tests.{eqb-true, leb-true, ltb-true, lt-ltb}
+use lib.Dec.{leb, eqb}
+use lib.ListN.{length, getD, length-map, List·getD-map}
+use lib.Seq.{ext-getD}
+use Rattle.algebra.proofs.Coding.{at-flat}
+use Rattle.algebra.proofs.Correlation.{noise-element, accumulate-correlated}
+use Rattle.algebra.proofs.Inverse.{accumulate-tells, correlation-tells, Noise, noise-tells}
+use Rattle.algebra.proofs.Rising.{rises}
+use Rattle.algebra.proofs.Sum.{sum-element}
+use Rattle.algebra.proofs.Tests.{and-left, and-right, or-cases}
+use Rattle.algebra.specs.Choice.{choose}
+use Rattle.algebra.specs.Coding.{at}
+use Rattle.algebra.specs.Expansion.{whole}
+use Rattle.algebra.specs.Group.{Element}
+use Rattle.algebra.specs.Sum.{accumulate}
+use Rattle.field.proofs.BothKinds.{kindLaws}
+use Rattle.field.specs.Kind.{KindLaws, binaryKind, primeKind, kindOf}
+use Rattle.field.specs.Prime.{modulus}
+use Rattle.field.specs.declared.prime.Prime.{Prime}
+use Rattle.noise_end.proofs.Laws as noiseLaws
+use Rattle.noise_end.specs.Vectors.{value, mu, v0}
+use Rattle.record.proofs.Laws.{noise-exact}
+use Rattle.record.specs.Admitted.{isField, isNoise, Each, AdmittedTree, AdmittedNoise}
+use Rattle.record.specs.Content.{Head, NoiseTree, treeIn}
+use Rattle.rows.specs.Head.{fieldOf, places}
+use Rattle.scalar_end.proofs.Laws as scalarLaws
+use Rattle.scalar_end.specs.Vectors as scalarEnd
+use Rattle.scalar_end.specs.Vectors.{delta, w0}
+use Rattle.expander.specs.Buffers.{NoiseExpanded, ScalarExpanded, noiseContent, scalarContent, noiseAfter, scalarAfter, muAfter, vAfter, wAfter, deltaAfter, AccumulatedAt, ExpandedAt, Below, Buffers}
+
+-- ---- what is admitted, tree by tree
+
+tree-at : (P : NoiseTree → Type 0) (ts : List NoiseTree) → Each P ts → (i : ℕ) → i < length ts → P (treeIn ts i)
+unfolding Each
+tree-at P [] A i h = absurd (not-suc-le-zero h)
+tree-at P (t ∷ ts) A zero h = A .0
+tree-at P (t ∷ ts) A (suc i) h = tree-at P ts (A .1) i (le-of-suc-le-suc h)
+
+-- ---- an admitted noise value is an element other than zero
+
+two-fields : (f : ℕ) → isField f ≡ true → (f ≡ 1) ⊎ (f ≡ 2)
+two-fields f e = ⊎-elim (λ a. inl (eqb-true f 1 a)) (λ a. inr (eqb-true f 2 a)) (or-cases (eqb f 1) (eqb f 2) e)
+
+noise-is-element : (f y : ℕ) → (f ≡ 1) ⊎ (f ≡ 2) → isNoise f y ≡ true → Element (kindOf f .field .ring .group) (kindOf f .field .noiseValues .read (y ∷ []) 0)
+noise-is-element zero y h e = absurd (⊎-elim (λ q. omega arith) (λ q. omega arith) h)
+noise-is-element (suc zero) y h e = let k : y ≡ 1 = eqb-true y 1 e in lt-ltb y 2 (omega arith)
+noise-is-element (suc (suc zero)) y h e =
+    let k : y ≤ modulus - 1 = leb-true y (modulus - 1) (and-right (leb 1 y) (leb y (modulus - 1)) e) in
+    lt-ltb y modulus (omega arith)
+noise-is-element (suc (suc (suc f))) y h e = absurd (⊎-elim (λ q. omega arith) (λ q. omega arith) h)
+
+noise-nonzero : (f y : ℕ) → (f ≡ 1) ⊎ (f ≡ 2) → isNoise f y ≡ true → kindOf f .field .noiseValues .read (y ∷ []) 0 ≡ kindOf f .field .ring .group .zero → ⊥
+noise-nonzero zero y h e z = absurd (⊎-elim (λ q. omega arith) (λ q. omega arith) h)
+noise-nonzero (suc zero) y h e z = let k : y ≡ 1 = eqb-true y 1 e in omega arith
+noise-nonzero (suc (suc zero)) y h e z =
+    let k : 1 ≤ y = leb-true 1 y (and-left (leb 1 y) (leb y (modulus - 1)) e) in
+    let w : y ≡ 0 = ap (λ (a : Prime). a .word) z in
+    omega arith
+noise-nonzero (suc (suc (suc f))) y h e z = absurd (⊎-elim (λ q. omega arith) (λ q. omega arith) h)
+
+-- a noise value read from its word tells the word
+word-told : (f x y : ℕ) → kindOf f .field .noiseValues .read (x ∷ []) 0 ≡ kindOf f .field .noiseValues .read (y ∷ []) 0 → x ≡ y
+word-told f x y e = of (eqb f 1) e
+  where
+    of : (b : Bool) → choose b binaryKind primeKind .field .noiseValues .read (x ∷ []) 0 ≡ choose b binaryKind primeKind .field .noiseValues .read (y ∷ []) 0 → x ≡ y
+    of true q = q
+    of false q = ap (λ (a : Prime). a .word) q
+
+-- Δ from its two words
+delta-told : (f : ℕ) (d : List ℕ)
+    → at (kindOf f .field .elements) (getD d 0 0 ∷ choose (eqb f 1) (getD d 1 0) 0 ∷ []) 0 ≡ kindOf f .field .elements .read d 0
+delta-told f d = of (eqb f 1)
+  where
+    of : (b : Bool) → at (choose b binaryKind primeKind .field .elements) (getD d 0 0 ∷ choose b (getD d 1 0) 0 ∷ []) 0
+        ≡ choose b binaryKind primeKind .field .elements .read d 0
+    of true = refl
+    of false = refl
+
+module _ (h : Head) where
+  laws : KindLaws (kindOf (h .field))
+  laws = kindLaws (h .field)
+
+  -- ---- a noise record
+
+  module _ (E : NoiseExpanded h) where
+    admitted : AdmittedNoise (noiseContent h E)
+    admitted = noise-exact (E .source) (E .bytes) (E .read) .0
+
+    field-is : (h .field ≡ 1) ⊎ (h .field ≡ 2)
+    field-is = two-fields (h .field) (admitted .head .field)
+
+    in-trees : (i : ℕ) → i < h .trees → i < length (E .trees)
+    in-trees i l = rw (admitted .count) l
+
+    tree : (i : ℕ) → i < h .trees → AdmittedTree (h .field) (h .depth) (treeIn (E .trees) i)
+    tree i l = tree-at (AdmittedTree (h .field) (h .depth)) (E .trees) (admitted .trees) i (in-trees i l)
+
+    valued : (i : ℕ) → i < h .trees → isNoise (h .field) (treeIn (E .trees) i .value) ≡ true
+    valued i l = tree i l .value
+
+    mu-element : (j : ℕ) → Element (fieldOf h .ring .group) (mu (noiseContent h E) j)
+    unfolding mu
+    mu-element j =
+        noise-element (fieldOf h .ring) (laws .field .ring) (h .trees) (λ i. treeIn (E .trees) i .position) (value (noiseContent h E))
+        (λ i l. noise-is-element (h .field) (treeIn (E .trees) i .value) field-is (valued i l)) j
+
+    told : Noise (fieldOf h .ring) (places h) (h .trees) (λ i. treeIn (E .trees) i .position) (value (noiseContent h E))
+    told =
+        record {
+          rising = rises (h .trees) (λ i. treeIn (E .trees) i .position) (admitted .rising);
+          below = λ i l. ltb-true _ _ (tree i l .below);
+          nonzero = λ i l. noise-nonzero (h .field) (treeIn (E .trees) i .value) field-is (valued i l);
+        }
+
+    -- the words that the call wrote
+    left : noiseLaws.Accepted (noiseContent h E) (E .source) (noiseAfter h E)
+    left = noiseLaws.offline-accepted (E .source) (E .noiseBuffer) (E .vBuffer) (E .read) (E .number)
+
+    noise-at : (j : ℕ) → j < places h → at (fieldOf h .noiseValues) (muAfter h E) j ≡ accumulate (fieldOf h .ring .group) (mu (noiseContent h E)) j
+    noise-at j l =
+        ap (λ (ws : List ℕ). at (fieldOf h .noiseValues) ws j) (left .noise)
+        ∙ at-flat (fieldOf h .noiseValues) (laws .field .noiseValues) (places h) (accumulate (fieldOf h .ring .group) (mu (noiseContent h E))) j l
+
+    v-at : (j : ℕ) → j < places h → at (fieldOf h .elements) (vAfter h E) j ≡ accumulate (fieldOf h .scaled .group) (v0 (noiseContent h E)) j
+    v-at j l =
+        ap (λ (ws : List ℕ). at (fieldOf h .elements) ws j) (left .v)
+        ∙ at-flat (fieldOf h .elements) (laws .field .elements) (places h) (accumulate (fieldOf h .scaled .group) (v0 (noiseContent h E))) j l
+
+  -- ---- a scalar record
+
+  module _ (D : ScalarExpanded h) where
+    w0-element : (j : ℕ) → Element (fieldOf h .scaled .group) (w0 (scalarContent h D) j)
+    unfolding w0 whole
+    w0-element j = sum-element (fieldOf h .scaled .group) (laws .field .scaled .group) (h .trees) (λ i. scalarEnd.leaf (scalarContent h D) i j)
+
+    scalar-left : scalarLaws.Accepted (scalarContent h D) (D .source) (scalarAfter h D)
+    scalar-left = scalarLaws.offline-accepted (D .source) (D .wBuffer) (D .deltaBuffer) (D .read) (D .number)
+
+    w-at : (j : ℕ) → j < places h → at (fieldOf h .elements) (wAfter h D) j ≡ accumulate (fieldOf h .scaled .group) (w0 (scalarContent h D)) j
+    w-at j l =
+        ap (λ (ws : List ℕ). at (fieldOf h .elements) ws j) (scalar-left .w)
+        ∙ at-flat (fieldOf h .elements) (laws .field .elements) (places h) (accumulate (fieldOf h .scaled .group) (w0 (scalarContent h D))) j l
+
+    delta-at : at (fieldOf h .elements) (deltaAfter h D) 0 ≡ delta (scalarContent h D)
+    delta-at = ap (λ (ws : List ℕ). at (fieldOf h .elements) ws 0) (scalar-left .delta) ∙ delta-told (h .field) (D .delta)
+
+  -- ---- both
+
+  module _ (E : NoiseExpanded h) (D : ScalarExpanded h) (k : ℕ) (most : k ≤ places h) where
+    told-by-accumulated : Below k (AccumulatedAt h E D) → Below k (ExpandedAt h E D)
+    told-by-accumulated e =
+        correlation-tells (fieldOf h .ring) (fieldOf h .scaled) (laws .field .ring) (laws .field .scaled) (delta (scalarContent h D)) k
+        (mu (noiseContent h E)) (v0 (noiseContent h E)) (w0 (scalarContent h D)) (λ j l. mu-element E j) (λ j l. w0-element D j)
+        (λ j l. rw (delta-at D, noise-at E j (omega arith), v-at E j (omega arith), w-at D j (omega arith)) at (e j l))
+
+    accumulated-by-told : Below k (ExpandedAt h E D) → Below k (AccumulatedAt h E D)
+    accumulated-by-told e j l =
+        rw (delta-at D, noise-at E j (omega arith), v-at E j (omega arith), w-at D j (omega arith))
+        (accumulate-correlated (fieldOf h .ring) (fieldOf h .scaled) (laws .field .ring) (laws .field .scaled) (delta (scalarContent h D)) k
+        (mu (noiseContent h E)) (v0 (noiseContent h E)) (w0 (scalarContent h D)) (λ i m. mu-element E i) e j l)
+
+  -- ---- two noise records
+
+  module _ (E E′ : NoiseExpanded h) (same : muAfter h E ≡ muAfter h E′) where
+    mu-same : (j : ℕ) → j < places h → mu (noiseContent h E) j ≡ mu (noiseContent h E′) j
+    mu-same =
+        accumulate-tells (fieldOf h .ring .group) (laws .field .ring .group) (places h) (mu (noiseContent h E)) (mu (noiseContent h E′))
+        (λ j l. mu-element E j) (λ j l. mu-element E′ j)
+        (λ j l. sym (noise-at E j l) ∙ ap (λ (ws : List ℕ). at (fieldOf h .noiseValues) ws j) same ∙ noise-at E′ j l)
+
+    told-trees : (i : ℕ) → i < h .trees
+        → (treeIn (E .trees) i .position ≡ treeIn (E′ .trees) i .position) × (value (noiseContent h E) i ≡ value (noiseContent h E′) i)
+    unfolding mu
+    told-trees =
+        noise-tells (fieldOf h .ring) (places h) (h .trees) (λ i. treeIn (E .trees) i .position) (λ i. treeIn (E′ .trees) i .position)
+        (value (noiseContent h E)) (value (noiseContent h E′)) (told E) (told E′) mu-same
+
+    -- lists of as many trees are equal in a part if all their trees are
+    parts-same : (part : NoiseTree → ℕ) → ((i : ℕ) → i < h .trees → part (treeIn (E .trees) i) ≡ part (treeIn (E′ .trees) i))
+        → map part (E .trees) ≡ map part (E′ .trees)
+    parts-same part e =
+        ext-getD (part none) (map part (E .trees)) (map part (E′ .trees)) (long E ∙ sym (long E′))
+        (λ i l. List·getD-map part (E .trees) i none ∙ e i (rw (long E) at l) ∙ sym (List·getD-map part (E′ .trees) i none))
+      where
+        none : NoiseTree
+        none = record { position = 0; value = 0; correction = []; siblings = [] }
+
+        long : (A : NoiseExpanded h) → length (map part (A .trees)) ≡ h .trees
+        long A = length-map (A .trees) part ∙ admitted A .count
+
+pub buffers : Buffers
+buffers =
+    record {
+      correlation = λ h E D k most. (told-by-accumulated h E D k most, accumulated-by-told h E D k most);
+      noise = λ h E E′ same. (
+        parts-same h E E′ same (λ t. t .position) (λ i l. told-trees h E E′ same i l .0),
+        parts-same h E E′ same (λ t. t .value) (λ i l. word-told (h .field) _ _ (told-trees h E E′ same i l .1)),
+      );
+    }
