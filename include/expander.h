@@ -1,9 +1,12 @@
-/* Correlation expander: dealing, the noise end and the scalar end, pads, signed amounts.
+/* Correlation expander: dealing, the noise end and the scalar end, pads, signed amounts,
+ * messages of the caller's choosing.
  *
  * A dealing makes two key records. The noise end expands its record to u and v, the scalar end
  * expands its own to w, and w = Delta * u + v at every index below n. In field 1 the pad calls turn
  * v and u, or w and Delta, into oblivious transfer: at each index the scalar end holds two messages
- * and the noise end the one that u names.
+ * and the noise end the one that u names. Three more calls carry messages of the scalar end's
+ * choosing over such pads: the noise end sends correction bits, the scalar end answers with both
+ * messages masked, and the noise end opens the one that it wants.
  *
  * Sizes
  *   d  depth of a tree, 1 to 16; N is 2^d
@@ -73,6 +76,9 @@ extern "C" {
 /* Bytes of the longest records. */
 #define EXPANDER_NOISE_RECORD_MAX 17563
 #define EXPANDER_SCALAR_RECORD_MAX 1064
+
+/* The most outputs in a batch of chosen messages. */
+#define EXPANDER_BATCH_MAX 4096
 
 /* A number, and what was written to the first and to the second output buffer. */
 struct expander_two_lengths {
@@ -330,6 +336,81 @@ uint32_t expander_scalar_pads(
     const uint8_t *w, size_t w_len,
     const uint8_t *delta, size_t delta_len,
     uint8_t *pads, size_t pads_len);
+
+/** Give the noise end's correction bits for a batch of outputs: of each, its choice exclusive-or
+ *  the wanted bit. They are sent to the scalar end. A batch is the same indices of one dealing, in
+ *  the same order, in this call and the next two.
+ *
+ *  Returns:  a number, and the bytes written to bits_out (count).
+ *             0: accepted
+ *             3: count is above 4096, or choices or wanted does not have its exact length
+ *             8: a choice or a wanted bit is above 1
+ *            13: bits_out_len is below count
+ *  In:       count:    the batch's number of outputs, at most EXPANDER_BATCH_MAX; with 0 the same
+ *                      tests are made, and nothing is written
+ *            choices:  u at each output, as one byte 0 or 1; choices_len = count
+ *            wanted:   the number of the message wanted at each output, one byte 0 or 1;
+ *                      wanted_len = count
+ *  Out:      bits_out: the correction bit of each output, one byte 0 or 1
+ *  Refused:  the output buffer is as it was.
+ *  Overlap:  bits_out overlaps neither choices nor wanted.
+ */
+struct expander_one_length expander_correction_bits(
+    size_t count,
+    const uint8_t *choices, size_t choices_len,
+    const uint8_t *wanted, size_t wanted_len,
+    uint8_t *bits_out, size_t bits_out_len);
+
+/** Mask the scalar end's messages for a batch of outputs: message 0 by the pad that the correction
+ *  bit names, message 1 by the other. The answers are sent to the noise end.
+ *
+ *  Returns:  a number, and the bytes written to answers_out (32 count).
+ *             0: accepted
+ *             3: count is above 4096, or bits, pads or messages does not have its exact length
+ *             8: a correction bit is above 1
+ *            13: answers_out_len is below 32 count
+ *  In:       count:       the batch's number of outputs, at most EXPANDER_BATCH_MAX; with 0 the
+ *                         same tests are made, and nothing is written
+ *            bits:        the correction bits as expander_correction_bits wrote them;
+ *                         bits_len = count
+ *            pads:        the pads of those outputs as expander_scalar_pads wrote them, 32 bytes an
+ *                         output; pads_len = 32 count
+ *            messages:    32 bytes an output: message 0, then message 1; messages_len = 32 count
+ *  Out:      answers_out: 32 bytes an output: message 0 masked, then message 1 masked
+ *  Refused:  the output buffer is as it was.
+ *  Overlap:  answers_out overlaps neither bits nor pads nor messages.
+ */
+struct expander_one_length expander_mask_messages(
+    size_t count,
+    const uint8_t *bits, size_t bits_len,
+    const uint8_t *pads, size_t pads_len,
+    const uint8_t *messages, size_t messages_len,
+    uint8_t *answers_out, size_t answers_out_len);
+
+/** Open at the noise end, of each output of a batch, the message that it wants.
+ *
+ *  Returns:  a number, and the bytes written to messages_out (16 count).
+ *             0: accepted
+ *             3: count is above 4096, or wanted, pads or answers does not have its exact length
+ *             8: a wanted bit is above 1
+ *            13: messages_out_len is below 16 count
+ *  In:       count:        the batch's number of outputs, at most EXPANDER_BATCH_MAX; with 0 the
+ *                          same tests are made, and nothing is written
+ *            wanted:       the wanted bits that expander_correction_bits was lent;
+ *                          wanted_len = count
+ *            pads:         the pads of those outputs as expander_noise_pads wrote them, 16 bytes an
+ *                          output; pads_len = 16 count
+ *            answers:      the answers as expander_mask_messages wrote them; answers_len = 32 count
+ *  Out:      messages_out: 16 bytes an output: the message wanted
+ *  Refused:  the output buffer is as it was.
+ *  Overlap:  messages_out overlaps neither wanted nor pads nor answers.
+ */
+struct expander_one_length expander_unmask_messages(
+    size_t count,
+    const uint8_t *wanted, size_t wanted_len,
+    const uint8_t *pads, size_t pads_len,
+    const uint8_t *answers, size_t answers_len,
+    uint8_t *messages_out, size_t messages_out_len);
 
 /** Read an element of field 2 as a signed amount: up to 2^60 - 1 as itself, above that as
  *  element - p. The sum modulo p of two elements stands for the sum of their amounts, while that is

@@ -1,4 +1,4 @@
--- The proofs of the statements of specs/, one inhabitant each in Entire, Paired, Starred and Buffers.
+-- The proofs of the statements of specs/, one inhabitant each in the files that are public.
 mod Dealt
 mod Outputs
 mod Lists
@@ -7,3 +7,5 @@ pub mod Entire
 pub mod Paired
 pub mod Starred
 pub mod Buffers
+mod Taken
+pub mod Messages

@@ -1,7 +1,9 @@
--- The statements about the seven calls together, to be read without the proofs.
+-- The statements about the calls together, to be read without the proofs.
 pub mod Records
 pub mod Correlation
 pub mod Acceptance
 pub mod Pairing
 pub mod Buffers
 pub mod Cases
+pub mod Taken
+pub mod Messages

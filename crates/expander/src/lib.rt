@@ -1,4 +1,4 @@
-// The seven public calls under their exported names. Each meets the contract of the call that it passes on to.
+// The public calls under their exported names. Each meets the contract of the call that it passes on to.
 ghost use mathlib.Core.Path.{_≡_};
 ghost use Rattle.dealing.specs.Deal.{deal, dealt};
 ghost use Rattle.dealing.specs.Input.{inputWith};
@@ -7,6 +7,9 @@ ghost use Rattle.noise_end.specs.Online as noiseOnline;
 ghost use Rattle.pads.specs.Calls.{outcome, noisePads, scalarPads};
 ghost use Rattle.scalar_end.specs.Offline as scalarOffline;
 ghost use Rattle.scalar_end.specs.Online as scalarOnline;
+
+mod chosen_messages;
+
 use answer::OneLength;
 use answer::TwoLengths;
 

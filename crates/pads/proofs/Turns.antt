@@ -29,7 +29,7 @@ pub messages-none : (first : ℕ) (ws b : List ℕ) (Δ : Block) → b ≡ over 
 messages-none first ws b Δ = over-none messageBytes wide-messages (messagesOf first ws Δ) b
 
 -- one turn more
-turn : {A : Type 0} (C : Coding A) → Wide C → (f : ℕ → A) (k count : ℕ) (b l l′ : List ℕ) → k < count → count * C .width ≤ length b
+pub turn : {A : Type 0} (C : Coding A) → Wide C → (f : ℕ → A) (k count : ℕ) (b l l′ : List ℕ) → k < count → count * C .width ≤ length b
     → l ≡ over C k f b → l′ ≡ sets l (k * C .width) (C .words (f k)) → l′ ≡ over C (k + 1) f b
 turn C wide f k count b l l′ h room e g =
     let m : suc k * C .width ≤ count * C .width = mul-le-mul-right (C .width) h in

@@ -7,6 +7,7 @@ mod number;
 mod rule;
 mod write;
 
+pub use bytes::any_above;
 use bytes::block_at;
 use number::noise_number;
 use number::scalar_number;

@@ -1,0 +1,39 @@
+-- Of the pads taken for an output, the choice names the noise end's among the scalar end's: by demand 3's claim about pads, and
+-- by nothing below it.
+use mathlib.Core.Path.{_≡_, sym, ap, _∙_}
+use mathlib.Core.List.{List}
+use Prim.Native.Nat.{ℕ, zero, suc, _-_}
+use native.Mathlib.Omega.{arith}
+use lib.ListN.{getD}
+use Rattle.field.specs.Kind.{kindOf}
+use Rattle.messages.specs.Opening.{NamedAt}
+use Rattle.pads.proofs.Accepts.{accepts}
+use Rattle.pads.specs.Choice.{messageAt}
+use Rattle.pads.specs.Pad.{pad}
+use Rattle.expander.specs.Taken.{Dealing, TakenAt}
+use Rattle.expander.proofs.Entire.{pads}
+
+-- noise values that are equal in field 1 are equal bytes
+same-byte : (f : ℕ) → f ≡ 1 → (a b : List ℕ) (i j : ℕ)
+    → kindOf f .field .noiseValues .read a i ≡ kindOf f .field .noiseValues .read b j → getD a i 0 ≡ getD b j 0
+same-byte zero h a b i j e = absurd (omega arith)
+same-byte (suc zero) h a b i j e = e
+same-byte (suc (suc f)) h a b i j e = absurd (omega arith)
+
+pub named : (D : Dealing) (choices noise scalar : List ℕ) (k : ℕ) → TakenAt D choices noise scalar k → NamedAt choices noise scalar k
+named D choices noise scalar k T =
+    let i = T .x - T .first in
+    let same : getD choices k 0 ≡ getD (T .us) i 0 =
+    same-byte (D .input .field) (D .binary) choices (T .us) k i (T .choice ∙ sym (T .lent .u-lent)) in
+    let admitted = accepts pad .noise (T .first) (T .count) (T .vs) (T .us) (T .out) .1 (T .accepted) in
+    let bit = admitted .bits i (omega (arith, T .within .0, T .within .1)) in
+    record {
+      bit = omega arith;
+      pad = T .pad
+          ∙ pads (D .input) (D .binary) (D .noiseRecord) (D .scalarRecord) (D .dealt)
+          (T .first) (T .count) (T .vs) (T .us) (T .out) (T .accepted)
+          (T .first′) (T .count′) (T .ws) (T .Δ) (T .out′) (T .accepted′)
+          (T .x) (T .below) (T .within) (T .within′) (T .lent)
+          ∙ sym (T .both (getD (T .us) i 0) bit)
+          ∙ ap (messageAt scalar 0 k) (sym same);
+    }

@@ -1,0 +1,201 @@
+-- The three calls in turn open the message wanted: the bit sent turns the message wanted to the pad that the choice names.
+use mathlib.Core.Path.{_≡_, refl, sym, ap, _∙_}
+use mathlib.Core.List.{List}
+use Prim.Native.Nat.{ℕ, zero, suc, _+_, _-_, _*_, _≤_, _<_}
+use native.Mathlib.Omega.{arith}
+use native.Mathlib.Nat.{mul-one, mul-comm}
+use lib.Bits.{bitXor, xor-comm, xor-zero-r, xor-lt}
+use lib.ListN.{length, getD, take, drop}
+use lib.Seq.{getD-drop, getD-take}
+use Rattle.algebra.specs.Coding.{over}
+use Rattle.field.proofs.Xor.{xor-back}
+use Rattle.pads.specs.Choice.{padAt, messageAt}
+use Rattle.messages.specs.Answer.{Outcome, answer}
+use Rattle.messages.specs.Bytes.{Two, byte, sixteen, thirtyTwo}
+use Rattle.messages.specs.Calls.{CorrectionLent, MaskLent, UnmaskLent, correction, answerOf, openedOf, correctionBits, maskMessages, unmaskMessages}
+use Rattle.messages.specs.Opening.{Batch, BatchFits, NamedAt, Opening, corrected, sentBits, answered, sentAnswers, opened}
+use Rattle.messages.proofs.Accepts.{accepts}
+use Rattle.messages.proofs.Turns.{wide-byte, wide-sixteen, wide-two}
+use Rattle.messages.proofs.Fronts.{value-over, length-front, byte-front, flat-equal, take-flat, byte-0, byte-1}
+
+-- what an accepted answer says
+pub answer-accepted : {L : Type 0} (n written : ℕ) (lent after : L) → answer n written lent after .number ≡ 0
+    → answer n written lent after ≡ record { number = 0; written = written; lent = after }
+unfolding answer
+answer-accepted zero written lent after e = refl
+answer-accepted (suc n) written lent after e = absurd (omega arith)
+
+-- ---- bits
+
+-- the exclusive or of bits is a bit
+bit-xor : (a b : ℕ) → a ≤ 1 → b ≤ 1 → bitXor a b ≤ 1
+bit-xor a b h k = omega (arith, xor-lt 1 a b (omega arith) (omega arith))
+
+-- a mask taken off again
+xor-twice : (a b : ℕ) → bitXor (bitXor a b) b ≡ a
+xor-twice a b = xor-comm (bitXor a b) b ∙ xor-back a b
+
+-- the bit sent, turned by a wanted 1, is the choice
+bit-back : (u : ℕ) → u ≤ 1 → 1 - bitXor u 1 ≡ u
+bit-back zero h = refl
+bit-back (suc zero) h = refl
+bit-back (suc (suc u)) h = absurd (omega arith)
+
+-- ---- the bytes of output k, counted from 0
+
+pub pad-from-0 : (l : List ℕ) (k : ℕ) → padAt l 0 k ≡ take 16 (drop (16 * k) l)
+pad-from-0 l k = let z : k - 0 ≡ k = omega arith in rw z
+
+pub message-from-0 : (l : List ℕ) (k u : ℕ) → messageAt l 0 k u ≡ take 16 (drop (32 * k + 16 * u) l)
+message-from-0 l k u = let z : k - 0 ≡ k = omega arith in rw z
+
+-- equal blocks are equal byte by byte
+pub block-bytes : (l r : List ℕ) (a b : ℕ) → take 16 (drop a l) ≡ take 16 (drop b r) → (i : ℕ) → i < 16 → getD l (a + i) 0 ≡ getD r (b + i) 0
+block-bytes l r a b e i h =
+    sym (getD-drop a l i 0)
+    ∙ sym (getD-take 16 (drop a l) i 0 h)
+    ∙ ap (λ (x : List ℕ). getD x i 0) e
+    ∙ getD-take 16 (drop b r) i 0 h
+    ∙ getD-drop b r i 0
+
+-- where the noise end's pad is that which the choice names, so is each of its bytes
+pub named-byte : (choices noisePads scalarPads : List ℕ) (k : ℕ) → NamedAt choices noisePads scalarPads k → (i : ℕ) → i < 16
+    → getD noisePads (16 * k + i) 0 ≡ getD scalarPads (32 * k + 16 * getD choices k 0 + i) 0
+named-byte choices noisePads scalarPads k N =
+    block-bytes noisePads scalarPads (16 * k) (32 * k + 16 * getD choices k 0)
+    (sym (pad-from-0 noisePads k) ∙ N .pad ∙ message-from-0 scalarPads k (getD choices k 0))
+
+-- ---- the front that each call sends
+
+module _ (B : Batch) (F : BatchFits B) (N : (k : ℕ) → k < B .count → NamedAt (B .choices) (B .noisePads) (B .scalarPads) k) where
+  corrected-zero : corrected B .number ≡ 0
+  corrected-zero =
+      accepts .correction (B .count) _ .0
+      (record {
+        batch = F .batch;
+        choices-length = F .choices-length;
+        wanted-length = F .wanted-length;
+        choices-bits = λ k h. N k h .bit;
+        wanted-bits = F .wanted-bits;
+        room = F .bits-room;
+      })
+
+  bits-are : sentBits B ≡ take (B .count * 1) (over byte (B .count) (correction (B .choices) (B .wanted)) (B .bitsOut))
+  unfolding correctionBits
+  bits-are =
+      ap (λ (o : Outcome CorrectionLent). take (o .written) (o .lent .bits)) (answer-accepted _ _ _ _ corrected-zero)
+      ∙ rw (mul-one (B .count))
+
+  bits-length : length (sentBits B) ≡ B .count
+  bits-length =
+      ap length bits-are ∙ length-front byte wide-byte (B .count) (correction (B .choices) (B .wanted)) (B .bitsOut) (omega (arith, F .bits-room))
+      ∙ mul-one (B .count)
+
+  bit-is : (k : ℕ) → k < B .count → getD (sentBits B) k 0 ≡ bitXor (getD (B .choices) k 0) (getD (B .wanted) k 0)
+  bit-is k h =
+      let i : k ≡ k * 1 + 0 = omega arith in
+      ap (λ (l : List ℕ). getD l k 0) bits-are
+      ∙ ap (λ (n : ℕ). getD (take (B .count * 1) (over byte (B .count) (correction (B .choices) (B .wanted)) (B .bitsOut))) n 0) i
+      ∙ byte-front byte wide-byte (B .count) (correction (B .choices) (B .wanted)) (B .bitsOut) k 0 h (omega arith)
+
+  answered-zero : answered B .number ≡ 0
+  answered-zero =
+      accepts .mask (B .count) _ .0
+      (record {
+        batch = F .batch;
+        bits-length = bits-length;
+        pads-length = F .scalarPads-length;
+        messages-length = F .messages-length;
+        bits-bits = λ k h. rw (bit-is k h) (bit-xor _ _ (N k h .bit) (F .wanted-bits k h));
+        room = F .answers-room;
+      })
+
+  abbrev answer-at : ℕ → Two
+  answer-at = answerOf (sentBits B) (B .scalarPads) (B .messages)
+
+  answers-are : sentAnswers B ≡ take (B .count * 32) (over thirtyTwo (B .count) answer-at (B .answersOut))
+  unfolding maskMessages
+  answers-are =
+      ap (λ (o : Outcome MaskLent). take (o .written) (o .lent .answers)) (answer-accepted _ _ _ _ answered-zero)
+      ∙ rw (mul-comm 32 (B .count))
+
+  answers-length : length (sentAnswers B) ≡ 32 * B .count
+  answers-length =
+      ap length answers-are ∙ length-front thirtyTwo wide-two (B .count) answer-at (B .answersOut) (omega (arith, F .answers-room))
+      ∙ mul-comm (B .count) 32
+
+  -- a byte of the answer of output k
+  answer-byte : (k j : ℕ) → k < B .count → j < 32 → getD (sentAnswers B) (32 * k + j) 0 ≡ getD (thirtyTwo .words (answer-at k)) j 0
+  answer-byte k j h i =
+      ap (λ (l : List ℕ). getD l (32 * k + j) 0) answers-are
+      ∙ ap (λ (n : ℕ). getD (take (B .count * 32) (over thirtyTwo (B .count) answer-at (B .answersOut))) (n + j) 0) (mul-comm 32 k)
+      ∙ byte-front thirtyTwo wide-two (B .count) answer-at (B .answersOut) k j h i
+
+  opened-zero : opened B .number ≡ 0
+  opened-zero =
+      accepts .unmask (B .count) _ .0
+      (record {
+        batch = F .batch;
+        wanted-length = F .wanted-length;
+        pads-length = F .noisePads-length;
+        answers-length = answers-length;
+        wanted-bits = F .wanted-bits;
+        room = F .messages-room;
+      })
+
+  opened-are : opened B .lent .messages ≡ over sixteen (B .count) (openedOf (B .wanted) (B .noisePads) (sentAnswers B)) (B .messagesOut)
+  unfolding unmaskMessages
+  opened-are = ap (λ (o : Outcome UnmaskLent). o .lent .messages) (answer-accepted _ _ _ _ opened-zero)
+
+  -- a byte of the block wanted: the message's, masked by the pad that the choice names
+  wanted-byte : (k i u w : ℕ) → k < B .count → i < 16 → u ≤ 1 → w ≤ 1 → getD (sentBits B) k 0 ≡ bitXor u w
+      → getD (sentAnswers B) (32 * k + 16 * w + i) 0
+      ≡ bitXor (getD (B .messages) (32 * k + 16 * w + i) 0) (getD (B .scalarPads) (32 * k + 16 * u + i) 0)
+  unfolding answerOf
+  wanted-byte k i u zero h j hu hw e =
+      let place : 32 * k + 16 * 0 + i ≡ 32 * k + i = omega arith in
+      ap (λ (n : ℕ). getD (sentAnswers B) n 0) place
+      ∙ answer-byte k i h (omega arith)
+      ∙ byte-0 (answer-at k) i j
+      ∙ ap (λ (b : ℕ). bitXor (getD (B .messages) (32 * k + 16 * 0 + i) 0) (getD (B .scalarPads) (32 * k + 16 * b + i) 0)) (e ∙ xor-zero-r u)
+  wanted-byte k i u (suc zero) h j hu hw e =
+      let place : 32 * k + 16 * 1 + i ≡ 32 * k + (16 + i) = omega arith in
+      ap (λ (n : ℕ). getD (sentAnswers B) n 0) place
+      ∙ answer-byte k (16 + i) h (omega arith)
+      ∙ byte-1 (answer-at k) i j
+      ∙ ap (λ (b : ℕ). bitXor (getD (B .messages) (32 * k + 16 * 1 + i) 0) (getD (B .scalarPads) (32 * k + 16 * b + i) 0))
+      (ap (λ (b : ℕ). 1 - b) e ∙ bit-back u hu)
+  wanted-byte k i u (suc (suc w)) h j hu hw e = absurd (omega arith)
+
+  -- a byte opened is the message's
+  opened-byte : (k i : ℕ) → k < B .count → i < 16
+      → openedOf (B .wanted) (B .noisePads) (sentAnswers B) k i ≡ getD (B .messages) (32 * k + 16 * getD (B .wanted) k 0 + i) 0
+  unfolding openedOf
+  opened-byte k i h j =
+      cc (
+        wanted-byte k i (getD (B .choices) k 0) (getD (B .wanted) k 0) h j (N k h .bit) (F .wanted-bits k h) (bit-is k h),
+        named-byte (B .choices) (B .noisePads) (B .scalarPads) k (N k h) i j,
+        xor-twice (getD (B .messages) (32 * k + 16 * getD (B .wanted) k 0 + i) 0)
+            (getD (B .scalarPads) (32 * k + 16 * getD (B .choices) k 0 + i) 0),
+      )
+
+  opens-at : (k : ℕ) → k < B .count → padAt (opened B .lent .messages) 0 k ≡ messageAt (B .messages) 0 k (getD (B .wanted) k 0)
+  opens-at k h =
+      let w = getD (B .wanted) k 0 in
+      let bit : w ≤ 1 = F .wanted-bits k h in
+      let m = F .messages-length in
+      let f = openedOf (B .wanted) (B .noisePads) (sentAnswers B) in
+      pad-from-0 (opened B .lent .messages) k
+      ∙ rw (opened-are, mul-comm 16 k) (value-over sixteen wide-sixteen (B .count) f (B .messagesOut) k h)
+      ∙ flat-equal 16 (f k) (λ i. getD (B .messages) (32 * k + 16 * w + i) 0) (λ i j. opened-byte k i h j)
+      ∙ sym (take-flat 16 (B .messages) (32 * k + 16 * w) (omega arith))
+      ∙ sym (message-from-0 (B .messages) k w)
+
+pub opening : Opening
+opening B F N =
+    record {
+      corrected-accepted = corrected-zero B F N;
+      answered-accepted = answered-zero B F N;
+      opened-accepted = opened-zero B F N;
+      opens = opens-at B F N;
+    }

@@ -1,0 +1,15 @@
+-- `messages::length::is_times` meets its contract, by the length's rest and quotient.
+use borrow.Author.Needs.{needs}
+use Rattle.messages.proofs.Lengths.{times-whole, times-rest}
+use Rattle.messages.proofs.length.is_times.Statement.{statement}
+use Rattle.messages.proofs.length.is_times.Tie as tie
+
+pub is-times-spec : {M : Type 1} → statement M
+is-times-spec =
+    tie.close
+    (tie.spec
+    (λ c. search needs)  -- rem-if1
+    (λ c. search needs)  -- div-result
+    (λ c. search times-whole)  -- returns
+    (λ c. search times-rest)  -- returns-2
+    )

@@ -1,0 +1,40 @@
+-- `messages::mask::write_answers` meets its contract. The loop's invariant: the first k outputs' answers are written. The measure is what
+-- is left of the count.
+use mathlib.Core.Path.{_≡_, refl}
+use Prim.Native.Nat.{_≤_, _-_}
+use native.Mathlib.Omega.{arith}
+use borrow.Author.Needs.{needs}
+use lib.ListN.{length}
+use Rattle.algebra.specs.Coding.{over}
+use Rattle.messages.specs.Bytes.{thirtyTwo}
+use Rattle.messages.specs.Calls.{answerOf}
+use Rattle.pads.proofs.Turns.{all-turns}
+use Rattle.messages.proofs.Turns.{answers-none, answers-more, mask-bit}
+use Rattle.messages.proofs.mask.write_answers.Statement.{statement}
+use Rattle.messages.proofs.mask.write_answers.Tie as tie
+
+abbrev Inv-loop : tie.InvT-loop
+Inv-loop count bits pads messages answers₀ k₀ answers k =
+    (k ≤ count) × (length answers ≡ length answers₀)
+    × (answers ≡ over thirtyTwo k (answerOf bits pads messages) answers₀)
+
+abbrev μ-loop : tie.MeasureT-loop
+μ-loop count bits pads messages answers₀ k₀ answers k = count - k
+
+pub write-answers-spec : {M : Type 1} → statement M
+write-answers-spec =
+    tie.close
+    (tie.spec
+    Inv-loop
+    μ-loop
+    (λ c. (omega arith, refl, search answers-none))  -- loop-holds
+    (λ c κs. (omega arith, search mask-bit, omega arith, omega arith, omega arith))  -- put-answer-requires
+    (λ c. omega arith)  -- add-k
+    (λ c. omega arith)  -- loop-less
+    (λ c.
+    let stored = c .before .before in
+    let begun = stored .before .before in
+    (omega arith, omega arith, answers-more _ _ _ _ _ _ _ (begun .before .loop .inv .2) (stored .put-answer .ensures) (omega arith)))  -- loop-again
+    (λ c. search needs)  -- same-length
+    (λ c. search all-turns)  -- returns
+    )

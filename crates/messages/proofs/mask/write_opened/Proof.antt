@@ -1,0 +1,40 @@
+-- `messages::mask::write_opened` meets its contract. The loop's invariant: the first k outputs' messages are written. The measure is what
+-- is left of the count.
+use mathlib.Core.Path.{_≡_, refl}
+use Prim.Native.Nat.{_≤_, _-_}
+use native.Mathlib.Omega.{arith}
+use borrow.Author.Needs.{needs}
+use lib.ListN.{length}
+use Rattle.algebra.specs.Coding.{over}
+use Rattle.messages.specs.Bytes.{sixteen}
+use Rattle.messages.specs.Calls.{openedOf}
+use Rattle.pads.proofs.Turns.{all-turns}
+use Rattle.messages.proofs.Turns.{opened-none, opened-more, unmask-bit}
+use Rattle.messages.proofs.mask.write_opened.Statement.{statement}
+use Rattle.messages.proofs.mask.write_opened.Tie as tie
+
+abbrev Inv-loop : tie.InvT-loop
+Inv-loop count wanted pads answers messages₀ k₀ messages k =
+    (k ≤ count) × (length messages ≡ length messages₀)
+    × (messages ≡ over sixteen k (openedOf wanted pads answers) messages₀)
+
+abbrev μ-loop : tie.MeasureT-loop
+μ-loop count wanted pads answers messages₀ k₀ messages k = count - k
+
+pub write-opened-spec : {M : Type 1} → statement M
+write-opened-spec =
+    tie.close
+    (tie.spec
+    Inv-loop
+    μ-loop
+    (λ c. (omega arith, refl, search opened-none))  -- loop-holds
+    (λ c κs. (omega arith, search unmask-bit, omega arith, omega arith, omega arith))  -- put-opened-requires
+    (λ c. omega arith)  -- add-k
+    (λ c. omega arith)  -- loop-less
+    (λ c.
+    let stored = c .before .before in
+    let begun = stored .before .before in
+    (omega arith, omega arith, opened-more _ _ _ _ _ _ _ (begun .before .loop .inv .2) (stored .put-opened .ensures) (omega arith)))  -- loop-again
+    (λ c. search needs)  -- same-length
+    (λ c. search all-turns)  -- returns
+    )

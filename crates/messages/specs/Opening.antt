@@ -1,0 +1,74 @@
+-- The three calls in turn open the message wanted (document 02, 1), for any pads of which the noise end's 16 bytes are those
+-- of the pad that the choice names: no rule of pads is in this.
+use mathlib.Core.Path.{_≡_}
+use mathlib.Core.List.{List}
+use Prim.Native.Nat.{ℕ, _*_, _≤_, _<_}
+use lib.ListN.{length, getD, take}
+use Rattle.pads.specs.Choice.{padAt, messageAt}
+use Rattle.messages.specs.Answer.{Outcome}
+use Rattle.messages.specs.Calls.{CorrectionLent, MaskLent, UnmaskLent, correctionBits, maskMessages, unmaskMessages}
+use Rattle.messages.specs.Admitted.{Bits}
+
+-- one batch at both ends: its count; choices, wanted bits and pads of the noise end; pads and messages of the scalar end; and
+-- the buffers lent for the bits, the answers and the messages opened
+pub record Batch : Type 0 where
+  pub count : ℕ
+  pub choices : List ℕ
+  pub wanted : List ℕ
+  pub noisePads : List ℕ
+  pub scalarPads : List ℕ
+  pub messages : List ℕ
+  pub bitsOut : List ℕ
+  pub answersOut : List ℕ
+  pub messagesOut : List ℕ
+
+-- a batch of at most 4,096 outputs, whose slices have the lengths that it calls for, wanted bits 0 or 1, and room enough
+pub record BatchFits (B : Batch) : Type 0 where
+  pub batch : B .count ≤ 4096
+  pub choices-length : length (B .choices) ≡ B .count
+  pub wanted-length : length (B .wanted) ≡ B .count
+  pub noisePads-length : length (B .noisePads) ≡ 16 * B .count
+  pub scalarPads-length : length (B .scalarPads) ≡ 32 * B .count
+  pub messages-length : length (B .messages) ≡ 32 * B .count
+  pub wanted-bits : Bits (B .count) (B .wanted)
+  pub bits-room : B .count ≤ length (B .bitsOut)
+  pub answers-room : 32 * B .count ≤ length (B .answersOut)
+  pub messages-room : 16 * B .count ≤ length (B .messagesOut)
+
+-- ---- the three calls in turn; what is sent is the front that a call wrote, of the returned length
+
+abbrev pub corrected : Batch → Outcome CorrectionLent
+corrected B = correctionBits (B .count) (record { choices = B .choices; wanted = B .wanted; bits = B .bitsOut })
+
+abbrev pub sentBits : Batch → List ℕ
+sentBits B = take (corrected B .written) (corrected B .lent .bits)
+
+abbrev pub answered : Batch → Outcome MaskLent
+answered B =
+    maskMessages (B .count)
+    (record { bits = sentBits B; pads = B .scalarPads; messages = B .messages; answers = B .answersOut })
+
+abbrev pub sentAnswers : Batch → List ℕ
+sentAnswers B = take (answered B .written) (answered B .lent .answers)
+
+abbrev pub opened : Batch → Outcome UnmaskLent
+opened B =
+    unmaskMessages (B .count)
+    (record { wanted = B .wanted; pads = B .noisePads; answers = sentAnswers B; messages = B .messagesOut })
+
+-- the choice at k is 0 or 1, and the noise end's 16 bytes for k are those of the scalar end's pad that it names
+pub record NamedAt (choices noisePads scalarPads : List ℕ) (k : ℕ) : Type 0 where
+  pub bit : getD choices k 0 ≤ 1
+  pub pad : padAt noisePads 0 k ≡ messageAt scalarPads 0 k (getD choices k 0)
+
+-- all three calls are accepted, and what is opened at each k is exactly the message wanted there
+pub record Opens (B : Batch) : Type 0 where
+  pub corrected-accepted : corrected B .number ≡ 0
+  pub answered-accepted : answered B .number ≡ 0
+  pub opened-accepted : opened B .number ≡ 0
+  pub opens : (k : ℕ) → k < B .count
+      → padAt (opened B .lent .messages) 0 k ≡ messageAt (B .messages) 0 k (getD (B .wanted) k 0)
+
+abbrev pub Opening : Type 0
+Opening =
+    (B : Batch) → BatchFits B → ((k : ℕ) → k < B .count → NamedAt (B .choices) (B .noisePads) (B .scalarPads) k) → Opens B
