@@ -1,12 +1,13 @@
 /* Correlation expander: dealing, the noise end and the scalar end, pads, signed amounts,
- * messages of the caller's choosing.
+ * messages of the caller's choosing, AND triples.
  *
  * A dealing makes two key records. The noise end expands its record to u and v, the scalar end
  * expands its own to w, and w = Delta * u + v at every index below n. In field 1 the pad calls turn
  * v and u, or w and Delta, into oblivious transfer: at each index the scalar end holds two messages
  * and the noise end the one that u names. Three more calls carry messages of the scalar end's
  * choosing over such pads: the noise end sends correction bits, the scalar end answers with both
- * messages masked, and the noise end opens the one that it wants.
+ * messages masked, and the noise end opens the one that it wants. Two dealings with the roles
+ * exchanged give AND triples: bits of which each end holds a share, to be combined by exclusive or.
  *
  * Sizes
  *   d  depth of a tree, 1 to 16; N is 2^d
@@ -411,6 +412,36 @@ struct expander_one_length expander_unmask_messages(
     const uint8_t *pads, size_t pads_len,
     const uint8_t *answers, size_t answers_len,
     uint8_t *messages_out, size_t messages_out_len);
+
+/** Give one end's AND triples from two dealings with the roles exchanged: it is the first one's
+ *  noise end and the second one's scalar end. The other end calls likewise, with the dealings
+ *  exchanged and the same indices, and then, at each output, both ends' third bits combined are the
+ *  AND of both first bits combined and both second bits combined.
+ *
+ *  With a the choice and h the pad's bit in the first dealing, and r and q the bits of both
+ *  messages' pads in the second, the triple is a, r ^ q, (a & (r ^ q)) ^ h ^ r. A pad's bit is the
+ *  lowest one of its first byte.
+ *
+ *  Returns:  a number, and the bytes written to triples_out (3 c, where c is choices_len).
+ *             0: accepted
+ *             3: pads_len is not 16 c, or messages_len is not 32 c
+ *            13: triples_out_len is below 3 c
+ *             8: a choice is above 1
+ *  In:       choices:     u at each output of the first dealing, as one byte 0 or 1; any number of
+ *                         them, 0 too
+ *            pads:        the pads of those outputs as expander_noise_pads wrote them, 16 bytes an
+ *                         output; pads_len = 16 c
+ *            messages:    the pads of as many outputs of the second dealing as expander_scalar_pads
+ *                         wrote them, 32 bytes an output; messages_len = 32 c
+ *  Out:      triples_out: three bytes an output, each 0 or 1
+ *  Refused:  the output buffer is as it was.
+ *  Overlap:  triples_out overlaps neither choices nor pads nor messages.
+ */
+struct expander_one_length expander_triples(
+    const uint8_t *choices, size_t choices_len,
+    const uint8_t *pads, size_t pads_len,
+    const uint8_t *messages, size_t messages_len,
+    uint8_t *triples_out, size_t triples_out_len);
 
 /** Read an element of field 2 as a signed amount: up to 2^60 - 1 as itself, above that as
  *  element - p. The sum modulo p of two elements stands for the sum of their amounts, while that is

@@ -9,3 +9,4 @@ pub mod Starred
 pub mod Buffers
 mod Taken
 pub mod Messages
+pub mod Triples

@@ -7,3 +7,4 @@ pub mod Buffers
 pub mod Cases
 pub mod Taken
 pub mod Messages
+pub mod Triples

@@ -8,6 +8,7 @@ ghost use Rattle.pads.specs.Calls.{outcome, noisePads, scalarPads};
 ghost use Rattle.scalar_end.specs.Offline as scalarOffline;
 ghost use Rattle.scalar_end.specs.Online as scalarOnline;
 
+mod and_triples;
 mod chosen_messages;
 
 use answer::OneLength;

@@ -1,0 +1,38 @@
+-- `triples::form::write_triples` meets its contract. The loop's invariant: the first k outputs' triples are written. The measure is
+-- what is left of the choices.
+use mathlib.Core.Path.{_≡_, refl}
+use Prim.Native.Nat.{_≤_, _-_}
+use native.Mathlib.Omega.{arith}
+use borrow.Author.Needs.{needs}
+use lib.ListN.{length}
+use Rattle.algebra.specs.Coding.{over}
+use Rattle.pads.proofs.Turns.{all-turns}
+use Rattle.triples.specs.Triple.{tripleBytes, tripleOf}
+use Rattle.triples.proofs.Turns.{triples-none, triples-more}
+use Rattle.triples.proofs.form.write_triples.Statement.{statement}
+use Rattle.triples.proofs.form.write_triples.Tie as tie
+
+abbrev Inv-loop : tie.InvT-loop
+Inv-loop choices pads messages triples₀ k₀ triples k =
+    (k ≤ length choices) × (length triples ≡ length triples₀) × (triples ≡ over tripleBytes k (tripleOf choices pads messages) triples₀)
+
+abbrev μ-loop : tie.MeasureT-loop
+μ-loop choices pads messages triples₀ k₀ triples k = length choices - k
+
+pub write-triples-spec : {M : Type 1} → statement M
+write-triples-spec =
+    tie.close
+    (tie.spec
+    Inv-loop
+    μ-loop
+    (λ c. (omega arith, refl, search triples-none))  -- loop-holds
+    (λ c κs. (omega arith, omega arith, omega arith, omega arith))  -- put-triple-requires
+    (λ c. omega arith)  -- add-k
+    (λ c. omega arith)  -- loop-less
+    (λ c.
+    let stored = c .before .before in
+    let begun = stored .before .before in
+    (omega arith, omega arith, triples-more _ _ _ _ _ _ _ (begun .before .loop .inv .2) (stored .put-triple .ensures) (omega arith)))  -- loop-again
+    (λ c. search needs)  -- same-length
+    (λ c. search all-turns)  -- returns
+    )

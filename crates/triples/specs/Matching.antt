@@ -1,0 +1,39 @@
+-- Both ends' triples match (document 02, 6): the two third bits combined equal the AND of the two combined first bits and the
+-- two combined second bits. This holds for any pads of which each noise end's are those that its choices name: no rule of pads
+-- is in this.
+use mathlib.Core.Path.{_≡_}
+use mathlib.Core.List.{List}
+use Prim.Native.Nat.{ℕ, _*_, _<_}
+use lib.Bits.{bitAnd, bitXor}
+use lib.ListN.{length, take}
+use Rattle.algebra.specs.Coding.{at}
+use Rattle.messages.specs.Admitted.{Bits}
+use Rattle.messages.specs.Opening.{NamedAt}
+use Rattle.triples.specs.Triple.{Triple, tripleBytes}
+use Rattle.triples.specs.Call.{TriplesLent, triples}
+
+-- two triples match
+abbrev pub MatchingAt : Triple → Triple → Type 0
+MatchingAt t t′ = bitXor (t .third) (t′ .third) ≡ bitAnd (bitXor (t .first) (t′ .first)) (bitXor (t .second) (t′ .second))
+
+-- the first so many triples of two lists of bytes match
+abbrev pub Matching : ℕ → List ℕ → List ℕ → Type 0
+Matching count mine theirs = (k : ℕ) → k < count → MatchingAt (at tripleBytes mine k) (at tripleBytes theirs k)
+
+-- the bytes that a call wrote
+abbrev pub triplesOf : TriplesLent → List ℕ
+triplesOf l = take (triples l .written) (triples l .lent .triples)
+
+-- a triple is written as three bytes, 0 or 1
+abbrev pub ZeroOrOne : Type 0
+ZeroOrOne = (l : TriplesLent) → triples l .number ≡ 0 → Bits (3 * length (l .choices)) (triplesOf l)
+
+-- in the bytes that both ends' accepted calls write, for equally many outputs, all triples match, if in each pairing the choices
+-- name the noise end's pads among the scalar end's: one end is the noise end of the first pairing and the scalar end of the
+-- second, the other the scalar end of the first and the noise end of the second
+abbrev pub Match : Type 0
+Match =
+    (l l′ : TriplesLent) → length (l .choices) ≡ length (l′ .choices) → triples l .number ≡ 0 → triples l′ .number ≡ 0
+    → ((k : ℕ) → k < length (l .choices) → NamedAt (l .choices) (l .pads) (l′ .messages) k)
+    → ((k : ℕ) → k < length (l .choices) → NamedAt (l′ .choices) (l′ .pads) (l .messages) k)
+    → Matching (length (l .choices)) (triplesOf l) (triplesOf l′)

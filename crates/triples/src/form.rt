@@ -1,0 +1,38 @@
+// The triples of all outputs, written to the front of a buffer.
+ghost use mathlib.Core.Path.{_≡_};
+ghost use Prim.Native.Nat.{_+_, _*_, _≤_, _<_};
+ghost use lib.ListN.{length};
+ghost use Rattle.algebra.specs.Coding.{over};
+ghost use Rattle.messages.specs.Inner.Writing.{withValue};
+ghost use Rattle.triples.specs.Triple.{tripleBytes, tripleOf};
+ghost use Rattle.triples.specs.Admitted.{TriplesAdmitted};
+
+// Writes the triple of output k.
+fn put_triple(k: usize, choices: &[u8], pads: &[u8], messages: &[u8], triples: &mut [u8])
+    requires { ⌜ (k < length (now choices)) × (16 * k + 16 ≤ length (now pads)) × (32 * k + 32 ≤ length (now messages))
+        × (3 * k + 3 ≤ length (now triples)) ⌝ }
+    ensures { λ _. ⌜ now (triples .exit)
+        ≡ withValue tripleBytes (now (triples .entry)) (3 * k) (tripleOf (now (choices .entry)) (now (pads .entry)) (now (messages .entry)) k) ⌝ }
+{
+    let a = choices[k];
+    let h = pads[16 * k] % 2;
+    let r = messages[32 * k] % 2;
+    let q = messages[32 * k + 16] % 2;
+    let place = 3 * k;
+    triples[place] = a;
+    triples[place + 1] = r ^ q;
+    triples[place + 2] = (a & (r ^ q)) ^ h ^ r;
+}
+
+// Writes the triple of each output.
+pub fn write_triples(choices: &[u8], pads: &[u8], messages: &[u8], triples_out: &mut [u8])
+    requires { ⌜ TriplesAdmitted (record { choices = now choices; pads = now pads; messages = now messages; triples = now «triples_out» }) ⌝ }
+    ensures { λ _. ⌜ now («triples_out» .exit)
+        ≡ over tripleBytes (length (now (choices .entry))) (tripleOf (now (choices .entry)) (now (pads .entry)) (now (messages .entry))) (now («triples_out» .entry)) ⌝ }
+{
+    let mut k: usize = 0;
+    while k < choices.len() {
+        put_triple(k, choices, pads, messages, triples_out);
+        k += 1;
+    }
+}

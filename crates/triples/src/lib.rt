@@ -1,0 +1,28 @@
+// AND triples: an end's three bits of each output, from its choices and pads in one pairing and its messages in another with
+// the roles exchanged.
+ghost use mathlib.Core.Path.{_≡_};
+ghost use Rattle.messages.specs.Answer.{outcome};
+ghost use Rattle.triples.specs.Call.{triples};
+
+mod form;
+mod number;
+
+use answer::OneLength;
+use form::write_triples;
+use number::triples_number;
+
+// Forms the triple of each output, three bytes.
+pub fn triples(choices: &[u8], pads: &[u8], messages: &[u8], triples_out: &mut [u8]) -> OneLength
+    ensures { λ r. ⌜ outcome r (record { choices = now (choices .exit); pads = now (pads .exit); messages = now (messages .exit); triples = now («triples_out» .exit) })
+        ≡ triples (record { choices = now (choices .entry); pads = now (pads .entry); messages = now (messages .entry); triples = now («triples_out» .entry) }) ⌝ }
+{
+    let number = triples_number(choices, pads, messages, triples_out.len());
+    if number != 0 {
+        return OneLength { number, written: 0 };
+    }
+    write_triples(choices, pads, messages, triples_out);
+    OneLength {
+        number: 0,
+        written: 3 * choices.len(),
+    }
+}
