@@ -1,5 +1,5 @@
 /* Correlation expander: dealing, the noise end and the scalar end, pads, signed amounts,
- * messages of the caller's choosing, AND triples.
+ * messages of the caller's choosing, AND triples, a stock of outputs for several callers.
  *
  * A dealing makes two key records. The noise end expands its record to u and v, the scalar end
  * expands its own to w, and w = Delta * u + v at every index below n. In field 1 the pad calls turn
@@ -8,6 +8,7 @@
  * choosing over such pads: the noise end sends correction bits, the scalar end answers with both
  * messages masked, and the noise end opens the one that it wants. Two dealings with the roles
  * exchanged give AND triples: bits of which each end holds a share, to be combined by exclusive or.
+ * A stock divides a dealing's outputs among callers, so that no index is used twice.
  *
  * Sizes
  *   d  depth of a tree, 1 to 16; N is 2^d
@@ -31,8 +32,8 @@
  *   Accepted      The number is 0. Each output buffer holds the result from its start, and the
  *                 lengths returned say how much of it; what lies past that is untouched.
  *   Refused       The number is that of the first test that failed, tests being taken in the order
- *                 listed. All else that is returned is 0, and all memory is as it was before the
- *                 call.
+ *                 listed. All else that is returned is 0, but a stock that was passed is returned
+ *                 as it was, and all memory is as it was before the call.
  *   In both cases every input buffer is as it was before the call. No call allocates, or keeps
  *   anything between calls, so calls on different output buffers may run at the same time. Sums and
  *   products of what the caller passes do not wrap: first and count may have any value.
@@ -60,7 +61,7 @@ extern "C" {
 /* Numbers that the calls return. */
 #define EXPANDER_ACCEPTED 0u         /* the result is written */
 #define EXPANDER_BAD_FIELD 1u        /* field byte not 1 or 2 */
-#define EXPANDER_BAD_SIZE 2u         /* d, t, l or n outside its range */
+#define EXPANDER_BAD_SIZE 2u         /* d, t, l, n or the number of callers outside its range */
 #define EXPANDER_BAD_LENGTH 3u       /* input buffer not exactly of the length called for */
 #define EXPANDER_BAD_POSITION 4u     /* position not rising, or N or more */
 #define EXPANDER_BAD_NOISE 5u        /* noise value not admitted */
@@ -72,6 +73,9 @@ extern "C" {
 #define EXPANDER_BAD_NUMBER 11u      /* number in a record not in its shortest form, or too long */
 #define EXPANDER_BYTES_AFTER 12u     /* bytes after the record */
 #define EXPANDER_BUFFER_SHORT 13u    /* output buffer too short */
+#define EXPANDER_NO_CALLER 14u       /* no such caller */
+#define EXPANDER_SHARE_SPENT 15u     /* the caller's remaining share is under count */
+#define EXPANDER_SHARES_ABOVE 16u    /* shares sum above n */
 #define EXPANDER_AMOUNT_OUT_OF_RANGE 19u /* amount below -(2^60 - 1) or above 2^60 - 1 */
 
 /* Bytes of the longest records. */
@@ -80,6 +84,10 @@ extern "C" {
 
 /* The most outputs in a batch of chosen messages. */
 #define EXPANDER_BATCH_MAX 4096
+
+/* The most callers of a stock, and the most outputs that it is opened for. */
+#define EXPANDER_CALLERS_MAX 8
+#define EXPANDER_OUTPUTS_MAX 32768
 
 /* A number, and what was written to the first and to the second output buffer. */
 struct expander_two_lengths {
@@ -104,6 +112,30 @@ struct expander_amount {
 struct expander_written_amount {
     uint32_t number;
     uint64_t element;
+};
+
+/* Outputs held for callers: caller k has yet to draw the indices next[k] to end[k] - 1. Entries
+ * past the callers are 0. Its owner passes it to each call as the call before returned it: an older
+ * copy hands indices out again. Contents that no call returned are taken as they are: there is no
+ * caller from 8 on, and nothing is left where next[k] is end[k] or more. */
+struct expander_stock {
+    uint32_t callers;
+    uint32_t next[EXPANDER_CALLERS_MAX];
+    uint32_t end[EXPANDER_CALLERS_MAX];
+};
+
+/* A number, and the stock that was opened. */
+struct expander_opened_stock {
+    uint32_t number;
+    struct expander_stock stock;
+};
+
+/* A number, the window that was drawn, and the stock after the draw. */
+struct expander_drawn {
+    uint32_t number;
+    size_t first;
+    size_t count;
+    struct expander_stock stock;
 };
 
 /** Make a noise record and a scalar record of one dealing.
@@ -442,6 +474,41 @@ struct expander_one_length expander_triples(
     const uint8_t *pads, size_t pads_len,
     const uint8_t *messages, size_t messages_len,
     uint8_t *triples_out, size_t triples_out_len);
+
+/** Open a stock: give each caller a share of a dealing's outputs, as consecutive blocks of indices
+ *  from 0 in caller order.
+ *
+ *  Returns:  a number, and the stock.
+ *             0: accepted
+ *             2: shares_len is 0 or above 8, or outputs is outside 1 to 32768
+ *            16: the shares sum to more than outputs
+ *  In:       outputs: n of the dealing, 1 to EXPANDER_OUTPUTS_MAX
+ *            shares:  how many outputs each caller is to have, 0 too; shares_len is the number of
+ *                     callers, 1 to EXPANDER_CALLERS_MAX
+ *  Out:      none.
+ *  Refused:  the stock has no callers: all of it is 0.
+ *  Overlap:  none.
+ */
+struct expander_opened_stock expander_open_stock(
+    size_t outputs,
+    const uint32_t *shares, size_t shares_len);
+
+/** Draw a caller's next count indices: first to first + count - 1, a window for the online and pad
+ *  calls of both ends.
+ *
+ *  Returns:  a number, the window, and the stock after the draw.
+ *             0: accepted
+ *            14: caller is not below the stock's number of callers
+ *            15: the caller's remaining share is under count
+ *  In:       stock:  the stock as the call before returned it
+ *            caller: the caller, counted from 0
+ *            count:  how many indices; a draw of 0 changes nothing, and its first is the caller's
+ *                    next index
+ *  Out:      none; no memory is lent.
+ *  Refused:  first and count are 0, and the stock is as it was.
+ *  Overlap:  none.
+ */
+struct expander_drawn expander_draw(struct expander_stock stock, size_t caller, size_t count);
 
 /** Read an element of field 2 as a signed amount: up to 2^60 - 1 as itself, above that as
  *  element - p. The sum modulo p of two elements stands for the sum of their amounts, while that is

@@ -57,6 +57,20 @@ bytesAfter = 12
 abbrev pub bufferShort : ℕ
 bufferShort = 13
 
+-- ---- document 02
+
+-- no such caller
+abbrev pub noCaller : ℕ
+noCaller = 14
+
+-- the caller's remaining share is under c
+abbrev pub shareSpent : ℕ
+shareSpent = 15
+
+-- shares sum above n
+abbrev pub sharesAbove : ℕ
+sharesAbove = 16
+
 -- an amount below −(2^60 − 1) or above 2^60 − 1 (document 02, 13)
 abbrev pub amountOutOfRange : ℕ
 amountOutOfRange = 19

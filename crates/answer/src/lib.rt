@@ -29,6 +29,15 @@ pub const BAD_NUMBER: u32 = 11;
 pub const BYTES_AFTER: u32 = 12;
 // Output buffer too short.
 pub const BUFFER_SHORT: u32 = 13;
+
+// The numbers that document 02 adds.
+
+// No such caller.
+pub const NO_CALLER: u32 = 14;
+// The caller's remaining share is under c.
+pub const SHARE_SPENT: u32 = 15;
+// Shares sum above n.
+pub const SHARES_ABOVE: u32 = 16;
 // An amount below −(2^60 − 1) or above 2^60 − 1.
 pub const AMOUNT_OUT_OF_RANGE: u32 = 19;
 

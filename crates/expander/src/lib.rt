@@ -10,11 +10,11 @@ ghost use Rattle.scalar_end.specs.Online as scalarOnline;
 
 mod and_triples;
 mod chosen_messages;
+mod signed_amounts;
+mod stocks;
 
 use answer::OneLength;
 use answer::TwoLengths;
-
-mod signed_amounts;
 
 // Deals both records from field, sizes, roots, positions, noise values, Δ and code key.
 #[no_mangle]

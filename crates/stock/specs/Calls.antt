@@ -1,0 +1,79 @@
+-- The calls on a stock (document 02, 2): from everything that a caller passes to everything that it gets.
+use mathlib.Core.Bool.{Bool, not, _&&_}
+use mathlib.Core.List.{List}
+use Prim.Native.Nat.{ℕ, zero, suc, _+_}
+use lib.Dec.{leb, ltb}
+use lib.ListN.{length, getD, set}
+use Rattle.algebra.specs.Choice.{choose}
+use Rattle.answer.specs.Numbers.{accepted, badSize, noCaller, shareSpent, sharesAbove}
+use Rattle.stock.specs.declared.Drawn.{Drawn}
+use Rattle.stock.specs.declared.OpenedStock.{OpenedStock}
+use Rattle.stock.specs.declared.Stock.{Stock}
+use Rattle.stock.specs.Stock.{isCaller, nextOf, holds, sumOf, blocks}
+
+-- 1 to a largest number
+abbrev pub isUpTo : ℕ → ℕ → Bool
+isUpTo most n = leb 1 n && leb n most
+
+-- what an accepted call, of number 0, gives, or what a refused one gives
+abbrev pub byNumber : {A : Type 0} → ℕ → A → A → A
+byNumber zero given refused = given
+byNumber (suc n) given refused = refused
+
+-- ---- opening
+
+-- caller k's share
+abbrev pub shareOf : List ℕ → ℕ → ℕ
+shareOf shares k = getD shares k 0
+
+-- 0 or more than eight callers, or n outside 1 to 32,768, gives 2; then shares that sum above n give 16
+unfoldable pub openNumber : ℕ → List ℕ → ℕ
+openNumber outputs shares =
+    choose (not (isUpTo 8 (length shares) && isUpTo 32768 outputs)) badSize
+    (choose (ltb outputs (sumOf (length shares) (shareOf shares))) sharesAbove
+    accepted)
+
+-- a stock without callers
+unfoldable pub noCallers : Stock
+noCallers = blocks 0 (λ k. 0)
+
+-- the answer, and the shares as they stand on return
+pub record Opening : Type 0 where
+  pub opened : OpenedStock
+  pub shares : List ℕ
+
+abbrev pub opening : OpenedStock → List ℕ → Opening
+opening opened shares = record { opened = opened; shares = shares }
+
+-- opening a stock names n and a share per caller
+unfoldable pub openStock : ℕ → List ℕ → Opening
+openStock outputs shares =
+    opening
+    (record {
+      number = openNumber outputs shares;
+      stock = byNumber (openNumber outputs shares) (blocks (length shares) (shareOf shares)) noCallers;
+    })
+    shares
+
+-- ---- draws
+
+-- no such caller gives 14; then a remaining share under c gives 15
+unfoldable pub drawNumber : Stock → ℕ → ℕ → ℕ
+drawNumber s k c =
+    choose (not (isCaller s k)) noCaller
+    (choose (ltb (holds s k) c) shareSpent
+    accepted)
+
+-- the stock with caller k's next index raised by c
+unfoldable pub advanced : Stock → ℕ → ℕ → Stock
+advanced s k c = record { callers = s .callers; next = set (s .next) k (nextOf s k + c); end = s .end }
+
+-- a draw of c returns the caller's next c indices, as a window; a refused draw names no index and changes nothing
+unfoldable pub draw : Stock → ℕ → ℕ → Drawn
+draw s k c =
+    record {
+      number = drawNumber s k c;
+      first = byNumber (drawNumber s k c) (nextOf s k) 0;
+      count = byNumber (drawNumber s k c) c 0;
+      stock = byNumber (drawNumber s k c) (advanced s k c) s;
+    }

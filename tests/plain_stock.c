@@ -1,0 +1,74 @@
+/* A plain second implementation of document 02, request 2 (plain_stock.h). */
+#include "plain_stock.h"
+
+#include <string.h>
+
+enum { CALLERS_MOST = 8, OUTPUTS_MOST = 32768 };
+
+static int is_caller(const struct expander_stock *stock, size_t caller)
+{
+    return caller < CALLERS_MOST && caller < stock->callers;
+}
+
+uint32_t plain_left(const struct expander_stock *stock, size_t caller)
+{
+    if (!is_caller(stock, caller) || stock->next[caller] >= stock->end[caller])
+        return 0;
+    return stock->end[caller] - stock->next[caller];
+}
+
+/* Give the callers consecutive blocks of these lengths, from index 0. */
+static void lay_blocks(struct expander_stock *stock, const uint32_t *shares, size_t callers)
+{
+    uint32_t at = 0;
+    memset(stock->next, 0, sizeof stock->next);
+    memset(stock->end, 0, sizeof stock->end);
+    for (size_t k = 0; k < callers; k++) {
+        stock->next[k] = at;
+        at += shares[k];
+        stock->end[k] = at;
+    }
+}
+
+static uint64_t sum(const uint32_t *shares, size_t callers)
+{
+    uint64_t all = 0;
+    for (size_t k = 0; k < callers; k++)
+        all += shares[k];
+    return all;
+}
+
+struct expander_opened_stock plain_open_stock(
+    size_t outputs, const uint32_t *shares, size_t shares_len)
+{
+    struct expander_opened_stock r;
+    memset(&r, 0, sizeof r);
+    if (shares_len == 0 || shares_len > CALLERS_MOST || outputs == 0 || outputs > OUTPUTS_MOST) {
+        r.number = 2;
+        return r;
+    }
+    if (sum(shares, shares_len) > outputs) {
+        r.number = 16;
+        return r;
+    }
+    r.stock.callers = (uint32_t)shares_len;
+    lay_blocks(&r.stock, shares, shares_len);
+    return r;
+}
+
+struct expander_drawn plain_draw(struct expander_stock stock, size_t caller, size_t count)
+{
+    struct expander_drawn r;
+    memset(&r, 0, sizeof r);
+    r.stock = stock;
+    if (!is_caller(&stock, caller)) {
+        r.number = 14;
+    } else if (plain_left(&stock, caller) < count) {
+        r.number = 15;
+    } else {
+        r.first = stock.next[caller];
+        r.count = count;
+        r.stock.next[caller] += (uint32_t)count;
+    }
+    return r;
+}

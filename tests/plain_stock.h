@@ -1,0 +1,16 @@
+/* A plain second implementation of document 02, request 2, to hold the library to. Written from
+ * that document alone. Parameters lie as in expander.h, and the results are of its types.
+ */
+#ifndef PLAIN_STOCK_H
+#define PLAIN_STOCK_H
+
+#include "expander.h"
+
+/* What a caller has not drawn yet; 0 if there is no such caller. */
+uint32_t plain_left(const struct expander_stock *stock, size_t caller);
+
+struct expander_opened_stock plain_open_stock(
+    size_t outputs, const uint32_t *shares, size_t shares_len);
+struct expander_drawn plain_draw(struct expander_stock stock, size_t caller, size_t count);
+
+#endif
