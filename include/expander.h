@@ -138,6 +138,14 @@ struct expander_drawn {
     struct expander_stock stock;
 };
 
+/* A number, the window that a draw would return, and the stock after that draw. */
+struct expander_previewed {
+    uint32_t number;
+    size_t first;
+    size_t count;
+    struct expander_stock after;
+};
+
 /** Make a noise record and a scalar record of one dealing.
  *
  *  The caller draws roots, positions, values, delta and code_key at random, and sends each end its
@@ -509,6 +517,23 @@ struct expander_opened_stock expander_open_stock(
  *  Overlap:  none.
  */
 struct expander_drawn expander_draw(struct expander_stock stock, size_t caller, size_t count);
+
+/** Show what a draw would return, without making it: all as expander_draw on a copy of the stock.
+ *  The stock to pass to the next call is still the one that was passed to this.
+ *
+ *  Returns:  a number, the window, and the stock after that draw.
+ *             0: accepted
+ *            14: caller is not below the stock's number of callers
+ *            15: the caller's remaining share is under count
+ *  In:       stock:  the stock as the call before returned it
+ *            caller: the caller, counted from 0
+ *            count:  how many indices; a preview of 0 shows the caller's next index as first
+ *  Out:      none; no memory is lent.
+ *  Refused:  first and count are 0, and after is the stock as it was.
+ *  Overlap:  none.
+ */
+struct expander_previewed expander_preview(
+    struct expander_stock stock, size_t caller, size_t count);
 
 /** Read an element of field 2 as a signed amount: up to 2^60 - 1 as itself, above that as
  *  element - p. The sum modulo p of two elements stands for the sum of their amounts, while that is

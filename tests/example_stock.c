@@ -8,6 +8,7 @@ int main(void)
     static const uint32_t shares[3] = {300, 200, 12}; /* of n = 512 outputs */
     struct expander_opened_stock opened = expander_open_stock(512, shares, 3);
     struct expander_stock stock = opened.stock;
+    struct expander_previewed previewed;
     struct expander_drawn drawn;
     if (opened.number != EXPANDER_ACCEPTED)
         return 1;
@@ -25,9 +26,10 @@ int main(void)
         return 1;
     stock = drawn.stock;
 
-    /* Task 1 goes on where it stopped. */
+    /* Task 1 goes on where it stopped; a look before the draw shows the same window. */
+    previewed = expander_preview(stock, 1, 40);
     drawn = expander_draw(stock, 1, 40);
-    if (drawn.number != EXPANDER_ACCEPTED)
+    if (drawn.number != EXPANDER_ACCEPTED || previewed.first != drawn.first)
         return 1;
     printf(", then %d from %d\n", (int)drawn.count, (int)drawn.first);
     return 0;

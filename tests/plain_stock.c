@@ -1,4 +1,4 @@
-/* A plain second implementation of document 02, request 2 (plain_stock.h). */
+/* A plain second implementation of document 02, requests 2 and 5 (plain_stock.h). */
 #include "plain_stock.h"
 
 #include <string.h>
@@ -70,5 +70,18 @@ struct expander_drawn plain_draw(struct expander_stock stock, size_t caller, siz
         r.count = count;
         r.stock.next[caller] += (uint32_t)count;
     }
+    return r;
+}
+
+/* The draw on a copy. */
+struct expander_previewed plain_preview(struct expander_stock stock, size_t caller, size_t count)
+{
+    struct expander_drawn drawn = plain_draw(stock, caller, count);
+    struct expander_previewed r;
+    memset(&r, 0, sizeof r);
+    r.number = drawn.number;
+    r.first = drawn.first;
+    r.count = drawn.count;
+    r.after = drawn.stock;
     return r;
 }

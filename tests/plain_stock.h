@@ -1,5 +1,5 @@
-/* A plain second implementation of document 02, request 2, to hold the library to. Written from
- * that document alone. Parameters lie as in expander.h, and the results are of its types.
+/* A plain second implementation of document 02, requests 2 and 5, to hold the library to. Written
+ * from that document alone. Parameters lie as in expander.h, and the results are of its types.
  */
 #ifndef PLAIN_STOCK_H
 #define PLAIN_STOCK_H
@@ -12,5 +12,6 @@ uint32_t plain_left(const struct expander_stock *stock, size_t caller);
 struct expander_opened_stock plain_open_stock(
     size_t outputs, const uint32_t *shares, size_t shares_len);
 struct expander_drawn plain_draw(struct expander_stock stock, size_t caller, size_t count);
+struct expander_previewed plain_preview(struct expander_stock stock, size_t caller, size_t count);
 
 #endif

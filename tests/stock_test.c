@@ -5,11 +5,12 @@
 #include <string.h>
 
 enum { CALLERS = EXPANDER_CALLERS_MAX, OUTPUTS = EXPANDER_OUTPUTS_MAX };
-enum { OPEN_STOCK, DRAW, CALLS };
+enum { OPEN_STOCK, DRAW, PREVIEW, CALLS };
 
 static const struct call calls[CALLS] = {
     {"open_stock", BIT(0) | BIT(2) | BIT(16)},
     {"draw", BIT(0) | BIT(14) | BIT(15)},
+    {"preview", BIT(0) | BIT(14) | BIT(15)},
 };
 
 typedef struct expander_stock stock;
@@ -47,22 +48,45 @@ static struct expander_opened_stock try_open(size_t outputs, const uint32_t *sha
     return mine;
 }
 
-static struct expander_drawn try_draw(stock from, size_t caller, size_t count)
+/* Compare a reply and the stock of a draw, or of a preview. */
+static void settle_draw(int call, struct expander_drawn mine, struct expander_drawn plain,
+                        const stock *from)
 {
-    struct expander_drawn mine, plain;
-    int same;
-    describe("draw(stock of %u, caller %zu, %zu)", from.callers, caller, count);
-    mine = expander_draw(from, caller, count);
-    plain = plain_draw(from, caller, count);
-    same = same_result(mine.number, plain.number, &mine.stock, &plain.stock);
+    int same = same_result(mine.number, plain.number, &mine.stock, &plain.stock);
     if (mine.first != plain.first || mine.count != plain.count) {
         complain("window %zu and %zu; the plain implementation %zu and %zu", mine.first,
                  mine.count, plain.first, plain.count);
         same = 0;
     }
-    settle_lent(DRAW, same, plain.number, 0, 0, 0, 0);
+    settle_lent(call, same, plain.number, 0, 0, 0, 0);
     EXPECT(mine.number == 0 || (mine.first == 0 && mine.count == 0
-                                && same_stock(&mine.stock, &from)));
+                                && same_stock(&mine.stock, from)));
+}
+
+static struct expander_drawn try_draw(stock from, size_t caller, size_t count)
+{
+    struct expander_drawn mine;
+    describe("draw(stock of %u, caller %zu, %zu)", from.callers, caller, count);
+    mine = expander_draw(from, caller, count);
+    settle_draw(DRAW, mine, plain_draw(from, caller, count), &from);
+    return mine;
+}
+
+/* A preview, in the form of the draw that it shows. */
+static struct expander_drawn as_drawn(struct expander_previewed r)
+{
+    struct expander_drawn same = {r.number, r.first, r.count, r.after};
+    return same;
+}
+
+static struct expander_drawn try_preview(stock from, size_t caller, size_t count)
+{
+    struct expander_drawn mine;
+    stock kept = from;
+    describe("preview(stock of %u, caller %zu, %zu)", from.callers, caller, count);
+    mine = as_drawn(expander_preview(from, caller, count));
+    EXPECT(same_stock(&from, &kept));
+    settle_draw(PREVIEW, mine, as_drawn(plain_preview(from, caller, count)), &from);
     return mine;
 }
 
@@ -121,12 +145,13 @@ static void wide_shares(void)
     EXPECT(try_open(OUTPUTS, shares, CALLERS).number == 16);
 }
 
-/* ---- Lists of draws ---- */
+/* ---- Lists of draws and previews ---- */
 
 enum { LIST = 60 };
 
 /* A call of a list. */
 struct asked {
+    int preview;
     size_t caller, count;
 };
 
@@ -152,71 +177,116 @@ static size_t some_count(size_t left)
     return random_below(3) == 0 ? others[random_below(7)] : random_below(left / 3 + 2);
 }
 
-/* Make the draws of a list one after the other, each on the stock that the one before left, and
- * keep the replies. */
-static stock run(stock from, const struct asked *list, int calls_made,
-                 struct expander_drawn *replies)
+/* Make the calls of a list one after the other, each on the stock that the draw before left, and
+ * keep the replies. Returns the last stock. */
+static stock run(stock from, const struct asked *list, int length, struct expander_drawn *replies)
 {
-    for (int k = 0; k < calls_made; k++) {
-        replies[k] = try_draw(from, list[k].caller, list[k].count);
-        from = replies[k].stock;
+    for (int k = 0; k < length; k++) {
+        const struct asked *a = &list[k];
+        replies[k] = (a->preview ? try_preview : try_draw)(from, a->caller, a->count);
+        if (!a->preview)
+            from = replies[k].stock;
     }
     return from;
 }
 
-/* One list after an opening with these shares: what is handed out and what is held make up the sum
- * of the shares, each accepted draw is the caller's next indices of its block, and so none is
- * handed out twice. */
+/* Run the calls of a list that are not struck out: their replies are as they were. */
+static stock strike_out(stock from, const struct asked *list, const unsigned char *struck,
+                        const struct expander_drawn *replies)
+{
+    static struct asked left[LIST];
+    static struct expander_drawn again[LIST];
+    stock last;
+    int n = 0;
+    for (int k = 0; k < LIST; k++)
+        if (!struck[k])
+            left[n++] = list[k];
+    last = run(from, left, n, again);
+    n = 0;
+    for (int k = 0; k < LIST; k++)
+        if (!struck[k])
+            EXPECT(same_reply(&replies[k], &again[n++]));
+    return last;
+}
+
+/* What one list handed out, against its opening. */
+static struct account {
+    size_t outputs, callers, begins[CALLERS], shares[CALLERS], drawn[CALLERS], all, handed;
+    unsigned char taken[OUTPUTS];
+} account;
+
+static void open_account(size_t outputs, const uint32_t *shares, size_t callers)
+{
+    memset(&account, 0, sizeof account);
+    account.outputs = outputs;
+    account.callers = callers;
+    for (size_t k = 0; k < callers; k++) {
+        account.begins[k] = account.all;
+        account.shares[k] = shares[k];
+        account.all += shares[k];
+    }
+}
+
+/* A draw: accepted, it is the caller's next indices of its block, and so none is handed out twice;
+ * what is handed out and what is held make up the sum of the shares. */
+static void book(const struct asked *a, const struct expander_drawn *r)
+{
+    size_t caller = a->caller, held = 0;
+    if (caller >= account.callers) {
+        EXPECT(r->number == 14);
+    } else if (r->number == 0) {
+        EXPECT(r->count == a->count
+               && r->first == account.begins[caller] + account.drawn[caller]);
+        account.drawn[caller] += r->count;
+        account.handed += r->count;
+        EXPECT(account.drawn[caller] <= account.shares[caller]);
+        EXPECT(r->first + r->count <= account.outputs);
+        for (size_t j = r->first; j < r->first + r->count && j < OUTPUTS; j++) {
+            EXPECT(!account.taken[j]);
+            account.taken[j] = 1;
+        }
+    } else {
+        EXPECT(r->number == 15);
+        EXPECT(a->count > account.shares[caller] - account.drawn[caller]);
+    }
+    for (size_t j = 0; j < account.callers; j++)
+        held += r->stock.end[j] - r->stock.next[j];
+    EXPECT(account.handed + held == account.all);
+}
+
+/* One list after an opening with these shares. */
 static void draws(size_t outputs, const uint32_t *shares, size_t callers)
 {
-    static struct asked list[LIST], own[LIST];
-    static struct expander_drawn replies[LIST], alone_replies[LIST];
-    static unsigned char taken[OUTPUTS];
+    static struct asked list[LIST];
+    static struct expander_drawn replies[LIST];
+    unsigned char struck[LIST];
     struct expander_opened_stock opened = try_open(outputs, shares, callers);
-    stock at = opened.stock;
-    size_t begins[CALLERS], drawn[CALLERS] = {0}, all = 0, handed = 0, held;
+    stock at = opened.stock, last;
     EXPECT(opened.number == 0);
-    memset(taken, 0, sizeof taken);
-    for (size_t k = 0; k < callers; k++) {
-        begins[k] = all;
-        all += shares[k];
-    }
+    open_account(outputs, shares, callers);
     for (int k = 0; k < LIST; k++) {
-        size_t caller = some_caller(callers);
-        const struct expander_drawn *r = &replies[k];
-        list[k].caller = caller;
-        list[k].count = some_count(plain_left(&at, caller));
-        replies[k] = try_draw(at, caller, list[k].count);
-        at = r->stock;
-        if (r->number == 0) {
-            EXPECT(r->count == list[k].count && r->first == begins[caller] + drawn[caller]);
-            drawn[caller] += r->count;
-            handed += r->count;
-            EXPECT(drawn[caller] <= shares[caller] && r->first + r->count <= outputs);
-            for (size_t j = r->first; j < r->first + r->count; j++) {
-                EXPECT(!taken[j]);
-                taken[j] = 1;
-            }
+        struct asked *a = &list[k];
+        a->preview = random_below(3) == 0;
+        a->caller = some_caller(callers);
+        a->count = some_count(plain_left(&at, a->caller));
+        last = at;
+        at = run(at, a, 1, &replies[k]);
+        if (a->preview) {
+            struct expander_drawn made = try_draw(at, a->caller, a->count); /* and not kept */
+            EXPECT(same_reply(&replies[k], &made) && same_stock(&replies[k].stock, &made.stock));
+            EXPECT(same_stock(&at, &last));
         } else {
-            EXPECT(r->number == (caller >= callers ? 14u : 15u));
-            EXPECT(caller >= callers || list[k].count > shares[caller] - drawn[caller]);
+            book(a, &replies[k]);
         }
-        held = 0;
-        for (size_t j = 0; j < callers; j++)
-            held += at.end[j] - at.next[j];
-        EXPECT(handed + held == all);
     }
-    /* A caller's replies are those of the list with the others' draws struck out. */
-    for (size_t caller = 0; caller < callers; caller++) {
-        int n = 0;
+    for (int k = 0; k < LIST; k++) /* previews change nothing */
+        struck[k] = list[k].preview;
+    last = strike_out(opened.stock, list, struck, replies);
+    EXPECT(same_stock(&at, &last));
+    for (size_t caller = 0; caller < callers; caller++) { /* nor do other callers' draws */
         for (int k = 0; k < LIST; k++)
-            if (list[k].caller == caller)
-                own[n++] = list[k];
-        run(opened.stock, own, n, alone_replies);
-        n = 0;
-        for (int k = 0; k < LIST; k++)
-            if (list[k].caller == caller)
-                EXPECT(same_reply(&replies[k], &alone_replies[n++]));
+            struck[k] = list[k].caller != caller;
+        strike_out(opened.stock, list, struck, replies);
     }
 }
 
@@ -268,6 +338,7 @@ static void any_stocks(int rounds)
         size_t left = plain_left(&s, caller);
         struct expander_drawn r = try_draw(s, caller, some_count(left));
         EXPECT(r.number != 0 || r.count <= left);
+        try_preview(s, caller, some_count(left));
         if (caller < CALLERS) /* between what is left and the numbers that wrap */
             try_draw(s, caller, (size_t)(s.end[caller] - s.next[caller]));
     }
@@ -278,7 +349,7 @@ int main(void)
     begin(calls, CALLS);
     openings();
     wide_shares();
-    lists(1500);
-    any_stocks(30000);
+    lists(1000);
+    any_stocks(20000);
     return finish();
 }

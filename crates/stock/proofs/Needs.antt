@@ -14,7 +14,7 @@ use Rattle.answer.specs.Numbers.{noCaller, shareSpent}
 use Rattle.stock.specs.declared.Drawn.{Drawn}
 use Rattle.stock.specs.declared.Stock.{Stock}
 use Rattle.stock.specs.Stock.{isCaller, nextOf, endOf, holds, sumOf, entries, blocks}
-use Rattle.stock.specs.Calls.{isUpTo, shareOf, drawNumber, advanced, draw}
+use Rattle.stock.specs.Calls.{isUpTo, shareOf, drawNumber, advanced, draw, preview}
 use Rattle.stock.specs.Inner.Steps.{takenDraw, refusedDraw, starts, ends}
 use Rattle.stock.proofs.Entries.{entries-none, entries-more, entries-min, sum-suc, sum-one-more, sum-grows}
 
@@ -106,6 +106,13 @@ module _ (s : Stock) (k c : ℕ) (t : Bool) (told : t ≡ isCaller s k) where
     pub draw-accepted : {r : Drawn} → c ≤ h → r ≡ takenDraw s k c → r ≡ draw s k c
     unfolding draw drawNumber
     draw-accepted enough e = rw (← told, not-false t is, ← rest, le-ltb h c enough) e
+
+-- ---- preview
+
+pub preview-is : (s : Stock) (k c : ℕ) (d : Drawn) → d ≡ draw s k c
+    → record { number = d .number; first = d .first; count = d .count; after = d .stock } ≡ preview s k c
+unfolding preview
+preview-is s k c d e = rw e
 
 -- ---- padded, total and blocks_of, turn by turn
 

@@ -1,6 +1,6 @@
 -- The claim about every list of calls, by induction over the list.
 use mathlib.Core.Path.{_≡_, refl, sym, ap, ap₂, subst, _∙_}
-use mathlib.Core.Bool.{Bool, true, false, _&&_}
+use mathlib.Core.Bool.{Bool, true, false, _&&_, false≢true}
 use mathlib.Core.List.{List, [], _∷_}
 use Prim.Native.Nat.{ℕ, zero, suc, _+_, _≤_, _<_}
 use native.Mathlib.Nat.{not-suc-le-zero, le-of-suc-le-suc}
@@ -14,7 +14,7 @@ use Rattle.answer.specs.Numbers.{accepted}
 use Rattle.stock.specs.declared.Stock.{Stock}
 use Rattle.stock.specs.Stock.{nextOf, endOf, held, sumOf, blocks}
 use Rattle.stock.specs.Calls.{isUpTo, shareOf, openNumber, openStock}
-use Rattle.stock.specs.Lists.{Call, draws, Reply, Made, make, run, last, those, every, drawsOf, handed, replies, HandsOut, NextOf, madeAt, Claim, Lists}
+use Rattle.stock.specs.Lists.{Call, draws, previews, Reply, Made, make, run, last, those, aDraw, drawsOf, handed, replies, HandsOut, NextOf, madeAt, Claim, Lists, Unchanged, Previews}
 use Rattle.stock.proofs.Cases.{by-test}
 use Rattle.stock.proofs.Blocks.{Well, blocks-next, blocks-end, blocks-callers, blocks-well, blocks-held, is-caller, fits-block}
 use Rattle.stock.proofs.Entries.{sum-grows}
@@ -47,7 +47,7 @@ last-next s W (c ∷ calls) k =
     let n = stayed s W c .next k in
     omega arith
 
-pub sums-run : (s : Stock) → Well s → (calls : List Call) → handed every (run s calls) + held (last s calls) ≡ held s
+pub sums-run : (s : Stock) → Well s → (calls : List Call) → handed aDraw (run s calls) + held (last s calls) ≡ held s
 unfolding last run handed
 sums-run s W [] = omega arith
 sums-run s W (c ∷ calls) =
@@ -55,11 +55,17 @@ sums-run s W (c ∷ calls) =
     let n = stayed s W c .held in
     omega arith
 
+-- a preview hands out nothing
+no-preview : (s : Stock) (k c x : ℕ) → HandsOut (make s (previews k c)) x → ⊥
+unfolding make
+no-preview s k c x o = false≢true (o .drawn)
+
 -- what is handed out anywhere in a list was free before it
 free-run : (s : Stock) → Well s → (calls : List Call) (i : ℕ) → i < length calls → (x : ℕ) → HandsOut (madeAt (run s calls) i) x → Free s x
 unfolding run
 free-run s W [] i h x o = absurd (not-suc-le-zero h)
 free-run s W (draws k c ∷ calls) zero h x o = hands-free s W k c x o
+free-run s W (previews k c ∷ calls) zero h x o = absurd (no-preview s k c x o)
 free-run s W (c ∷ calls) (suc i) h x o =
     free-before s (make s c) (stayed s W c) x (free-run (make s c .after) (stayed s W c .well) calls i (le-of-suc-le-suc h) x o)
 
@@ -72,6 +78,8 @@ once-run s W (draws k c ∷ calls) zero (suc j) h w x o p =
     absurd (hands-gone s W k c x o (free-run (make s (draws k c) .after) (stayed s W (draws k c) .well) calls j (le-of-suc-le-suc w) x p))
 once-run s W (draws k c ∷ calls) (suc i) zero h w x o p =
     absurd (hands-gone s W k c x p (free-run (make s (draws k c) .after) (stayed s W (draws k c) .well) calls i (le-of-suc-le-suc h) x o))
+once-run s W (previews k c ∷ calls) zero (suc j) h w x o p = absurd (no-preview s k c x o)
+once-run s W (previews k c ∷ calls) (suc i) zero h w x o p = absurd (no-preview s k c x p)
 once-run s W (c ∷ calls) (suc i) (suc j) h w x o p =
     ap suc (once-run (make s c .after) (stayed s W c .well) calls i j (le-of-suc-le-suc h) (le-of-suc-le-suc w) x o p)
 
@@ -87,7 +95,9 @@ own-run k s t W U A (draws j c ∷ calls) =
     let next = subst (λ (x : ℕ). Agree x (make s (draws j c) .after) (make t (draws j c) .after)) (sym e) (agree-after j s t W U B c) in
     let ih = own-run k _ _ (stayed s W (draws j c) .well) (stayed t U (draws j c) .well) next calls in
     rw (make-call s (draws j c), y) (ap₂ (λ (r : Reply) (l : List Reply). r ∷ l) (agree-reply j s t B c) ih))
-    (λ n. rw (make-call s (draws j c), n) (own-run k _ t (stayed s W (draws j c) .well) U (agree-other k j c s t W A n) calls))
+    (λ n. rw (make-call s (draws j c), n) (own-run k _ t (stayed s W (draws j c) .well) U (agree-other k (draws j c) s t W A n) calls))
+own-run k s t W U A (previews j c ∷ calls) =
+    rw (make-call s (previews j c)) (own-run k _ t (stayed s W (previews j c) .well) U (agree-other k (previews j c) s t W A refl) calls)
 
 -- ---- the made call at a place
 
@@ -165,3 +175,16 @@ module _ (outputs : ℕ) (shares : List ℕ) (O : Opened outputs shares) where
 
 pub lists : Lists
 lists outputs shares e calls = let O = opened outputs shares e in rw (O .stock) (claim outputs shares O calls)
+
+-- ---- previews
+
+unchanged : (s : Stock) (calls : List Call) → Unchanged s calls
+unfolding run last those make
+unchanged s [] = record { others = refl; stock = refl }
+unchanged s (draws k c ∷ calls) =
+    let ih = unchanged (make s (draws k c) .after) calls in
+    record { others = ap (λ (h : List Made). make s (draws k c) ∷ h) (ih .others); stock = ih .stock }
+unchanged s (previews k c ∷ calls) = let ih = unchanged s calls in record { others = ih .others; stock = ih .stock }
+
+pub previews-nothing : Previews
+previews-nothing = unchanged

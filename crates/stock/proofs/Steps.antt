@@ -4,12 +4,11 @@ use mathlib.Core.Bool.{false}
 use mathlib.Core.Logic.{⊎-elim}
 use Prim.Native.Nat.{ℕ, suc, _+_, _≤_, _<_}
 use native.Mathlib.Omega.{arith}
-use lib.Dec.{eqb}
 use borrow.Author.Tests.{eq-eqb, ne-eqb}
 use Rattle.stock.specs.declared.Stock.{Stock}
 use Rattle.stock.specs.Stock.{isCaller, nextOf, endOf, holds, held}
 use Rattle.stock.specs.Calls.{byNumber, drawNumber, advanced, draw}
-use Rattle.stock.specs.Lists.{Call, draws, Reply, Made, make, every, drawsOf, part, HandsOut}
+use Rattle.stock.specs.Lists.{Call, draws, previews, Reply, Made, make, aDraw, drawsOf, part, HandsOut}
 use Rattle.stock.proofs.Cases.{by-order, by-equality}
 use Rattle.stock.proofs.Blocks.{Well, Accepted, Refused, draw-cases, is-caller, advanced-callers, advanced-end, advanced-next, advanced-other, fits-block, advanced-well, advanced-holds, advanced-keeps, advanced-held}
 
@@ -20,7 +19,7 @@ pub record Stayed (s : Stock) (m : Made) : Type 0 where
   pub end : (j : ℕ) → endOf (m .after) j ≡ endOf s j
   pub next : (j : ℕ) → nextOf (m .after) j ≡ nextOf s j + part (drawsOf j) m
   pub holds : (j : ℕ) → part (drawsOf j) m + holds (m .after) j ≡ holds s j
-  pub held : part every m + held (m .after) ≡ held s
+  pub held : part aDraw m + held (m .after) ≡ held s
 
 -- an accepted draw, and a refused one
 abbrev pub drawn : Stock → ℕ → ℕ → Made
@@ -32,6 +31,7 @@ turned s k c n = record { call = draws k c; reply = record { number = suc n; fir
 pub make-call : (s : Stock) (c : Call) → make s c .call ≡ c
 unfolding make
 make-call s (draws k c) = refl
+make-call s (previews k c) = refl
 
 pub make-drawn : (s : Stock) (k c : ℕ) → Accepted s k c → make s (draws k c) ≡ drawn s k c
 unfolding make
@@ -69,7 +69,13 @@ module _ (s : Stock) (W : Well s) where
         held = omega arith;
       }
 
+  stayed-previewed : (k c : ℕ) → Stayed s (make s (previews k c))
+  unfolding make
+  stayed-previewed k c =
+      record { well = W; callers = refl; end = λ j. refl; next = λ j. omega arith; holds = λ j. omega arith; held = omega arith }
+
   pub stayed : (c : Call) → Stayed s (make s c)
+  stayed (previews k c) = stayed-previewed k c
   stayed (draws k c) =
       ⊎-elim
       (λ a. rw (make-drawn s k c a) (stayed-drawn k c a))
@@ -171,10 +177,10 @@ agree-after k s t W U A c =
       end = S .end k ∙ A .end ∙ sym (T .end k);
     }
 
-pub agree-other : (k j c : ℕ) (s t : Stock) → Well s → Agree k s t → eqb k j ≡ false → Agree k (make s (draws j c) .after) t
-agree-other k j c s t W A n =
-    let S = stayed s W (draws j c) in
-    let none : part (drawsOf k) (make s (draws j c)) ≡ 0 = unfold make in rw n in
+pub agree-other : (k : ℕ) (c : Call) (s t : Stock) → Well s → Agree k s t → drawsOf k c ≡ false → Agree k (make s c .after) t
+agree-other k c s t W A n =
+    let S = stayed s W c in
+    let none : part (drawsOf k) (make s c) ≡ 0 = rw (make-call s c, n) in
     record {
       callers = S .callers ∙ A .callers;
       next = let e = S .next k in let a = A .next in omega arith;

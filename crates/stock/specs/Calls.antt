@@ -1,4 +1,4 @@
--- The calls on a stock (document 02, 2): from everything that a caller passes to everything that it gets.
+-- The calls on a stock (document 02, 2 and 5): from everything that a caller passes to everything that it gets.
 use mathlib.Core.Bool.{Bool, not, _&&_}
 use mathlib.Core.List.{List}
 use Prim.Native.Nat.{ℕ, zero, suc, _+_}
@@ -8,6 +8,7 @@ use Rattle.algebra.specs.Choice.{choose}
 use Rattle.answer.specs.Numbers.{accepted, badSize, noCaller, shareSpent, sharesAbove}
 use Rattle.stock.specs.declared.Drawn.{Drawn}
 use Rattle.stock.specs.declared.OpenedStock.{OpenedStock}
+use Rattle.stock.specs.declared.Previewed.{Previewed}
 use Rattle.stock.specs.declared.Stock.{Stock}
 use Rattle.stock.specs.Stock.{isCaller, nextOf, holds, sumOf, blocks}
 
@@ -76,4 +77,17 @@ draw s k c =
       first = byNumber (drawNumber s k c) (nextOf s k) 0;
       count = byNumber (drawNumber s k c) c 0;
       stock = byNumber (drawNumber s k c) (advanced s k c) s;
+    }
+
+-- ---- previews
+
+-- a preview gives the reply and the stock afterwards: it equals making that draw on a copy, refused draws included
+-- (document 02, 5)
+unfoldable pub preview : Stock → ℕ → ℕ → Previewed
+preview s k c =
+    record {
+      number = draw s k c .number;
+      first = draw s k c .first;
+      count = draw s k c .count;
+      after = draw s k c .stock;
     }

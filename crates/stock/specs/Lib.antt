@@ -1,4 +1,4 @@
--- Stock for up to eight callers (document 02, 2): what a stock holds, the calls, and lists of calls.
+-- Stock for up to eight callers (document 02, 2 and 5): what a stock holds, the calls, and lists of calls.
 pub mod Stock
 pub mod Calls
 pub mod Lists

@@ -1,8 +1,8 @@
-// A dealing's outputs shared among up to eight callers: opening a stock, and draws from it.
+// A dealing's outputs shared among up to eight callers: opening a stock, draws from it, and previews of draws.
 ghost use mathlib.Core.Bool.{true};
 ghost use mathlib.Core.Path.{_≡_};
 ghost use Prim.Native.Nat.{_≤_};
-ghost use Rattle.stock.specs.Calls.{opening, openStock, draw as drawStock};
+ghost use Rattle.stock.specs.Calls.{opening, openStock, draw as drawStock, preview as previewStock};
 ghost use Rattle.stock.specs.Inner.Steps.{refusedOpening, refusedDraw, takenDraw};
 ghost use Rattle.stock.specs.Stock.{isCaller, holds};
 
@@ -41,6 +41,15 @@ pub struct Drawn {
     pub first: usize,
     pub count: usize,
     pub stock: Stock,
+}
+
+// The answer of a preview: a draw's number and window, and the stock as it would be afterwards.
+#[repr(C)]
+pub struct Previewed {
+    pub number: u32,
+    pub first: usize,
+    pub count: usize,
+    pub after: Stock,
 }
 
 // Opens a stock with a share for each caller, as consecutive blocks of the outputs.
@@ -111,5 +120,19 @@ fn refused_draw(stock: Stock, number: u32) -> Drawn
         first: 0,
         count: 0,
         stock,
+    }
+}
+
+// What a draw would return, and the stock that it would leave.
+pub fn preview(stock: Stock, caller: usize, count: usize) -> Previewed
+    ensures { λ r. ⌜ r ≡ previewStock stock caller count ⌝ }
+{
+    let drawn = draw(stock, caller, count);
+    let after = drawn.stock;
+    Previewed {
+        number: drawn.number,
+        first: drawn.first,
+        count: drawn.count,
+        after,
     }
 }
