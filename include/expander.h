@@ -8,7 +8,8 @@
  * choosing over such pads: the noise end sends correction bits, the scalar end answers with both
  * messages masked, and the noise end opens the one that it wants. Two dealings with the roles
  * exchanged give AND triples: bits of which each end holds a share, to be combined by exclusive or.
- * A stock divides a dealing's outputs among callers, so that no index is used twice.
+ * A stock divides a dealing's outputs among callers, so that no index is used twice; what is left
+ * of it can pass to another dealing.
  *
  * Sizes
  *   d  depth of a tree, 1 to 16; N is 2^d
@@ -75,8 +76,10 @@ extern "C" {
 #define EXPANDER_BUFFER_SHORT 13u    /* output buffer too short */
 #define EXPANDER_NO_CALLER 14u       /* no such caller */
 #define EXPANDER_SHARE_SPENT 15u     /* the caller's remaining share is under count */
-#define EXPANDER_SHARES_ABOVE 16u    /* shares sum above n */
+#define EXPANDER_SHARES_ABOVE 16u    /* shares, or what is left of them, sum above n */
 #define EXPANDER_AMOUNT_OUT_OF_RANGE 19u /* amount below -(2^60 - 1) or above 2^60 - 1 */
+#define EXPANDER_LABEL_NOT_ABOVE 20u /* label not above the one in use */
+#define EXPANDER_LABEL_NOT_IN_USE 21u /* label not the one in use */
 
 /* Bytes of the longest records. */
 #define EXPANDER_NOISE_RECORD_MAX 17563
@@ -114,17 +117,24 @@ struct expander_written_amount {
     uint64_t element;
 };
 
-/* Outputs held for callers: caller k has yet to draw the indices next[k] to end[k] - 1. Entries
- * past the callers are 0. Its owner passes it to each call as the call before returned it: an older
- * copy hands indices out again. Contents that no call returned are taken as they are: there is no
- * caller from 8 on, and nothing is left where next[k] is end[k] or more. */
+/* A dealing's label. Labels compare as numbers of 16 bytes, least byte first. */
+struct expander_label {
+    uint8_t bytes[16];
+};
+
+/* Outputs of the dealing with this label, held for callers: caller k has yet to draw the indices
+ * next[k] to end[k] - 1. Entries past the callers are 0. Its owner passes it to each call as the
+ * call before returned it: an older copy hands indices out again. Contents that no call returned
+ * are taken as they are: there is no caller from 8 on, and nothing is left where next[k] is end[k]
+ * or more. */
 struct expander_stock {
     uint32_t callers;
+    struct expander_label label;
     uint32_t next[EXPANDER_CALLERS_MAX];
     uint32_t end[EXPANDER_CALLERS_MAX];
 };
 
-/* A number, and the stock that was opened. */
+/* A number, and the stock that was opened or passed on. */
 struct expander_opened_stock {
     uint32_t number;
     struct expander_stock stock;
@@ -490,15 +500,16 @@ struct expander_one_length expander_triples(
  *             0: accepted
  *             2: shares_len is 0 or above 8, or outputs is outside 1 to 32768
  *            16: the shares sum to more than outputs
- *  In:       outputs: n of the dealing, 1 to EXPANDER_OUTPUTS_MAX
+ *  In:       label:   the dealing's label, any; 0 too
+ *            outputs: n of the dealing, 1 to EXPANDER_OUTPUTS_MAX
  *            shares:  how many outputs each caller is to have, 0 too; shares_len is the number of
  *                     callers, 1 to EXPANDER_CALLERS_MAX
  *  Out:      none.
- *  Refused:  the stock has no callers: all of it is 0.
+ *  Refused:  the stock has no callers, and label 0: all of it is 0.
  *  Overlap:  none.
  */
 struct expander_opened_stock expander_open_stock(
-    size_t outputs,
+    struct expander_label label, size_t outputs,
     const uint32_t *shares, size_t shares_len);
 
 /** Draw a caller's next count indices: first to first + count - 1, a window for the online and pad
@@ -506,9 +517,11 @@ struct expander_opened_stock expander_open_stock(
  *
  *  Returns:  a number, the window, and the stock after the draw.
  *             0: accepted
+ *            21: label is not the stock's
  *            14: caller is not below the stock's number of callers
  *            15: the caller's remaining share is under count
  *  In:       stock:  the stock as the call before returned it
+ *            label:  the label of the dealing that the caller draws from
  *            caller: the caller, counted from 0
  *            count:  how many indices; a draw of 0 changes nothing, and its first is the caller's
  *                    next index
@@ -516,16 +529,19 @@ struct expander_opened_stock expander_open_stock(
  *  Refused:  first and count are 0, and the stock is as it was.
  *  Overlap:  none.
  */
-struct expander_drawn expander_draw(struct expander_stock stock, size_t caller, size_t count);
+struct expander_drawn expander_draw(
+    struct expander_stock stock, struct expander_label label, size_t caller, size_t count);
 
 /** Show what a draw would return, without making it: all as expander_draw on a copy of the stock.
  *  The stock to pass to the next call is still the one that was passed to this.
  *
  *  Returns:  a number, the window, and the stock after that draw.
  *             0: accepted
+ *            21: label is not the stock's
  *            14: caller is not below the stock's number of callers
  *            15: the caller's remaining share is under count
  *  In:       stock:  the stock as the call before returned it
+ *            label:  the label of the dealing that the caller draws from
  *            caller: the caller, counted from 0
  *            count:  how many indices; a preview of 0 shows the caller's next index as first
  *  Out:      none; no memory is lent.
@@ -533,7 +549,27 @@ struct expander_drawn expander_draw(struct expander_stock stock, size_t caller, 
  *  Overlap:  none.
  */
 struct expander_previewed expander_preview(
-    struct expander_stock stock, size_t caller, size_t count);
+    struct expander_stock stock, struct expander_label label, size_t caller, size_t count);
+
+/** Pass a stock to another dealing: each caller keeps what it has not drawn, as consecutive blocks
+ *  of the fresh dealing's indices from 0 in caller order. Labels rise, so that no pair of label and
+ *  index is drawn twice.
+ *
+ *  Returns:  a number, and the stock of the fresh dealing.
+ *             0: accepted
+ *             2: outputs is outside 1 to 32768
+ *            20: label is not above the stock's
+ *            16: what the callers have not drawn sums to more than outputs
+ *  In:       stock:   the stock as the call before returned it; that of a refused opening passes on
+ *                     without callers
+ *            label:   the fresh dealing's label, above the stock's
+ *            outputs: n of the fresh dealing, 1 to EXPANDER_OUTPUTS_MAX
+ *  Out:      none; no memory is lent.
+ *  Refused:  the stock is as it was.
+ *  Overlap:  none.
+ */
+struct expander_opened_stock expander_pass_stock(
+    struct expander_stock stock, struct expander_label label, size_t outputs);
 
 /** Read an element of field 2 as a signed amount: up to 2^60 - 1 as itself, above that as
  *  element - p. The sum modulo p of two elements stands for the sum of their amounts, while that is

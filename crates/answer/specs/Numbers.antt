@@ -74,3 +74,11 @@ sharesAbove = 16
 -- an amount below −(2^60 − 1) or above 2^60 − 1 (document 02, 13)
 abbrev pub amountOutOfRange : ℕ
 amountOutOfRange = 19
+
+-- the label is not above the one in use
+abbrev pub labelNotAbove : ℕ
+labelNotAbove = 20
+
+-- a draw or preview with a label not in use
+abbrev pub labelNotInUse : ℕ
+labelNotInUse = 21

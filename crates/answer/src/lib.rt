@@ -40,6 +40,10 @@ pub const SHARE_SPENT: u32 = 15;
 pub const SHARES_ABOVE: u32 = 16;
 // An amount below −(2^60 − 1) or above 2^60 − 1.
 pub const AMOUNT_OUT_OF_RANGE: u32 = 19;
+// The label is not above the one in use.
+pub const LABEL_NOT_ABOVE: u32 = 20;
+// A draw or preview with a label not in use.
+pub const LABEL_NOT_IN_USE: u32 = 21;
 
 // The answer of a call with two output buffers.
 #[repr(C)]

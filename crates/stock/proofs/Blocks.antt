@@ -1,18 +1,20 @@
--- Stocks whose blocks follow each other: what opening makes, and what a draw leaves.
+-- Stocks whose blocks follow each other: what opening and passage make, and what a draw leaves.
 use mathlib.Core.Path.{_≡_, refl, sym, _∙_}
 use mathlib.Core.Bool.{true}
 use mathlib.Core.Logic.{_⊎_, inl, inr}
 use Prim.Native.Nat.{ℕ, suc, _+_, _-_, _≤_, _<_}
 use native.Mathlib.Omega.{arith}
-use lib.Dec.{ltb}
+use lib.Dec.{ltb, eqb}
 use lib.ListN.{length, length-set}
 use lib.Seq.{getD-set-same, getD-set-other}
-use borrow.Author.Tests.{ltb-true, ltb-false, lt-ltb, le-ltb}
+use borrow.Author.Tests.{ltb-true, ltb-false, eqb-true, lt-ltb, le-ltb}
 use Rattle.algebra.proofs.Tests.{and-left, and-right}
+use Rattle.stock.specs.declared.Label.{Label}
 use Rattle.stock.specs.declared.Stock.{Stock}
+use Rattle.stock.specs.Label.{numberOf}
 use Rattle.stock.specs.Stock.{isCaller, nextOf, endOf, holds, sumOf, held, blocks}
-use Rattle.stock.specs.Calls.{drawNumber, advanced, draw}
-use Rattle.stock.specs.Inner.Steps.{takenDraw, refusedDraw}
+use Rattle.stock.specs.Calls.{isUpTo, drawNumber, advanced, draw, passNumber, pass}
+use Rattle.stock.specs.Inner.Steps.{takenDraw, refusedDraw, refusedPassage}
 use Rattle.stock.proofs.Cases.{by-test, by-order, by-equality}
 use Rattle.stock.proofs.Entries.{entries-length, entries-in, sum-suc, sum-grows, sum-same, sum-stays, sum-less}
 
@@ -40,20 +42,20 @@ holds-past s k most h = by-order k 8 (λ b. rw (lt-ltb k 8 b, le-ltb k (s .calle
 
 -- ---- blocks
 
-module _ (n : ℕ) (share : ℕ → ℕ) (most : n ≤ 8) where
-  pub blocks-next : (k : ℕ) → k < n → nextOf (blocks n share) k ≡ sumOf k share
+module _ (l : Label) (n : ℕ) (share : ℕ → ℕ) (most : n ≤ 8) where
+  pub blocks-next : (k : ℕ) → k < n → nextOf (blocks l n share) k ≡ sumOf k share
   unfolding blocks
   blocks-next k h = entries-in n (λ k. sumOf k share) k (omega arith) h
 
-  pub blocks-end : (k : ℕ) → k < n → endOf (blocks n share) k ≡ sumOf (suc k) share
+  pub blocks-end : (k : ℕ) → k < n → endOf (blocks l n share) k ≡ sumOf (suc k) share
   unfolding blocks
   blocks-end k h = entries-in n (λ k. sumOf (suc k) share) k (omega arith) h
 
-  pub blocks-callers : blocks n share .callers ≡ n
+  pub blocks-callers : blocks l n share .callers ≡ n
   unfolding blocks
   blocks-callers = refl
 
-  pub blocks-well : Well (blocks n share)
+  pub blocks-well : Well (blocks l n share)
   blocks-well =
       record {
         size = unfold blocks in entries-length n (λ k. sumOf k share);
@@ -64,41 +66,54 @@ module _ (n : ℕ) (share : ℕ → ℕ) (most : n ≤ 8) where
             rw (blocks-next k w, blocks-end j (omega arith)) (sum-grows (suc j) k share b);
       }
 
-  pub blocks-holds : ((k : ℕ) → n ≤ k → share k ≡ 0) → (k : ℕ) → holds (blocks n share) k ≡ share k
+  pub blocks-holds : ((k : ℕ) → n ≤ k → share k ≡ 0) → (k : ℕ) → holds (blocks l n share) k ≡ share k
   blocks-holds none k =
       by-order k n
-      (λ b. holds-in (blocks n share) k (blocks-well .most) (rw blocks-callers b)
+      (λ b. holds-in (blocks l n share) k (blocks-well .most) (rw blocks-callers b)
       ∙ (let e = blocks-next k b in let f = blocks-end k b in let g = sum-suc k share in omega arith))
-      (λ a. holds-past (blocks n share) k (blocks-well .most) (rw blocks-callers a) ∙ sym (none k a))
+      (λ a. holds-past (blocks l n share) k (blocks-well .most) (rw blocks-callers a) ∙ sym (none k a))
 
-  pub blocks-held : ((k : ℕ) → n ≤ k → share k ≡ 0) → held (blocks n share) ≡ sumOf n share
+  pub blocks-held : ((k : ℕ) → n ≤ k → share k ≡ 0) → held (blocks l n share) ≡ sumOf n share
   unfolding held
-  blocks-held none = sum-same 8 (holds (blocks n share)) share (λ k h. blocks-holds none k) ∙ sum-stays n 8 share most none
+  blocks-held none = sum-same 8 (holds (blocks l n share)) share (λ k h. blocks-holds none k) ∙ sum-stays n 8 share most none
 
 -- ---- a draw
 
 -- an accepted draw raises the caller's next index; a refused one changes nothing
-pub record Accepted (s : Stock) (k c : ℕ) : Type 0 where
+pub record Accepted (s : Stock) (l : Label) (k c : ℕ) : Type 0 where
+  pub label : numberOf l ≡ numberOf (s .label)
   pub caller : isCaller s k ≡ true
   pub enough : c ≤ holds s k
-  pub drawn : draw s k c ≡ takenDraw s k c
+  pub drawn : draw s l k c ≡ takenDraw s k c
 
-pub record Refused (s : Stock) (k c : ℕ) : Type 0 where
+pub record Refused (s : Stock) (l : Label) (k c : ℕ) : Type 0 where
   pub fault : ℕ
-  pub kept : draw s k c ≡ refusedDraw s (suc fault)
+  pub kept : draw s l k c ≡ refusedDraw s (suc fault)
 
-pub draw-cases : (s : Stock) (k c : ℕ) → Accepted s k c ⊎ Refused s k c
+pub draw-cases : (s : Stock) (l : Label) (k c : ℕ) → Accepted s l k c ⊎ Refused s l k c
 unfolding draw drawNumber
-draw-cases s k c =
-    by-test (isCaller s k)
+draw-cases s l k c =
+    by-test (eqb (numberOf l) (numberOf (s .label)))
+    (λ same. by-test (isCaller s k)
     (λ is. by-test (ltb (holds s k) c)
-    (λ t. inr (record { fault = 14; kept = rw (is, t) }))
-    (λ t. inl (record { caller = is; enough = ltb-false (holds s k) c t; drawn = rw (is, t) })))
-    (λ t. inr (record { fault = 13; kept = rw t }))
+    (λ t. inr (record { fault = 14; kept = rw (same, is, t) }))
+    (λ t. inl
+    (record {
+      label = eqb-true (numberOf l) (numberOf (s .label)) same;
+      caller = is;
+      enough = ltb-false (holds s k) c t;
+      drawn = rw (same, is, t);
+    })))
+    (λ t. inr (record { fault = 13; kept = rw (same, t) })))
+    (λ t. inr (record { fault = 20; kept = rw t }))
 
-module _ (s : Stock) (W : Well s) (k c : ℕ) (a : Accepted s k c) where
+module _ (s : Stock) (W : Well s) (l : Label) (k c : ℕ) (a : Accepted s l k c) where
   below : (k < 8) × (k < s .callers)
   below = is-caller s k (a .caller)
+
+  pub advanced-label : advanced s k c .label ≡ s .label
+  unfolding advanced
+  advanced-label = refl
 
   pub advanced-callers : advanced s k c .callers ≡ s .callers
   unfolding advanced
@@ -157,3 +172,31 @@ module _ (s : Stock) (W : Well s) (k c : ℕ) (a : Accepted s k c) where
   pub advanced-held : c + held (advanced s k c) ≡ held s
   unfolding held
   advanced-held = let l = sum-less 8 k c (holds s) (holds (advanced s k c)) (below .0) advanced-holds advanced-keeps in omega arith
+
+-- ---- a passage
+
+-- an accepted passage raises the label and lays the unspent shares out anew; a refused one changes nothing
+pub record Fresh (s : Stock) (l : Label) (n : ℕ) : Type 0 where
+  pub above : numberOf (s .label) < numberOf l
+  pub room : held s ≤ n
+  pub gave : pass s l n ≡ record { number = 0; stock = blocks l (s .callers) (holds s) }
+
+pub record Stale (s : Stock) (l : Label) (n : ℕ) : Type 0 where
+  pub fault : ℕ
+  pub kept : pass s l n ≡ refusedPassage s (suc fault)
+
+pub pass-cases : (s : Stock) (l : Label) (n : ℕ) → Fresh s l n ⊎ Stale s l n
+unfolding pass passNumber
+pass-cases s l n =
+    by-test (isUpTo 32768 n)
+    (λ sized. by-test (ltb (numberOf (s .label)) (numberOf l))
+    (λ up. by-test (ltb n (held s))
+    (λ t. inr (record { fault = 15; kept = rw (sized, up, t) }))
+    (λ t. inl
+    (record {
+      above = ltb-true (numberOf (s .label)) (numberOf l) up;
+      room = ltb-false n (held s) t;
+      gave = rw (sized, up, t);
+    })))
+    (λ t. inr (record { fault = 19; kept = rw (sized, t) })))
+    (λ t. inr (record { fault = 1; kept = rw t }))

@@ -4,15 +4,17 @@ use mathlib.Core.Bool.{Bool, true, false, not}
 use mathlib.Core.List.{List}
 use Prim.Native.Nat.{ℕ, suc, _+_, _-_, _*_, _≤_, _<_, min}
 use native.Mathlib.Omega.{arith}
-use lib.Dec.{leb, ltb}
+use lib.Dec.{leb, ltb, eqb}
 use lib.ListN.{length, getD, set, replicate}
 use mir.Syntax.{w32, w64}
 use mir.Val.{Fits}
 use borrow.Author.Tests.{ltb-true, lt-ltb, le-ltb, le-leb, lt-leb, not-true, not-false}
 use Rattle.algebra.proofs.Tests.{and-left}
-use Rattle.answer.specs.Numbers.{noCaller, shareSpent}
+use Rattle.answer.specs.Numbers.{noCaller, shareSpent, labelNotInUse}
 use Rattle.stock.specs.declared.Drawn.{Drawn}
+use Rattle.stock.specs.declared.Label.{Label}
 use Rattle.stock.specs.declared.Stock.{Stock}
+use Rattle.stock.specs.Label.{numberOf}
 use Rattle.stock.specs.Stock.{isCaller, nextOf, endOf, holds, sumOf, entries, blocks}
 use Rattle.stock.specs.Calls.{isUpTo, shareOf, drawNumber, advanced, draw, preview}
 use Rattle.stock.specs.Inner.Steps.{takenDraw, refusedDraw, starts, ends}
@@ -36,7 +38,7 @@ pub caller-in : (s : Stock) (k : ℕ) → k < 8 → ltb k (s .callers) ≡ isCal
 unfolding isCaller
 caller-in s k h = rw (lt-ltb k 8 h)
 
--- ---- holding
+-- ---- holding, and draw
 
 module _ (s : Stock) (k : ℕ) (t : Bool) (told : t ≡ isCaller s k) where
   pub holds-none : not t ≡ true → 0 ≡ holds s k
@@ -82,7 +84,7 @@ module _ (s : Stock) (k : ℕ) (is : isCaller s k ≡ true) where
         number = 0;
         first = nextOf s k;
         count = c;
-        stock = record { callers = s .callers; next = set (s .next) k (nextOf s k + c); end = s .end };
+        stock = record { callers = s .callers; label = s .label; next = set (s .next) k (nextOf s k + c); end = s .end };
       }
       ≡ takenDraw s k c
   unfolding advanced
@@ -93,26 +95,31 @@ is-so t x e n = sym e ∙ not-false t n
 
 -- ---- draw, test by test
 
-module _ (s : Stock) (k c : ℕ) (t : Bool) (told : t ≡ isCaller s k) where
-  pub draw-no-caller : {r : Drawn} → r ≡ refusedDraw s noCaller → not t ≡ true → r ≡ draw s k c
+module _ (s : Stock) (l : Label) (k c : ℕ) (u : Bool) (used : u ≡ eqb (numberOf l) (numberOf (s .label))) where
+  pub draw-other-label : {r : Drawn} → r ≡ refusedDraw s labelNotInUse → not u ≡ true → r ≡ draw s l k c
   unfolding draw drawNumber
-  draw-no-caller e n = rw (← told, not-true t n) e
+  draw-other-label e n = rw (← used, not-true u n) e
 
-  module _ (is : not t ≡ false) (h : ℕ) (rest : h ≡ holds s k) where
-    pub draw-spent : {r : Drawn} → r ≡ refusedDraw s shareSpent → h < c → r ≡ draw s k c
+  module _ (same : not u ≡ false) (t : Bool) (told : t ≡ isCaller s k) where
+    pub draw-no-caller : {r : Drawn} → r ≡ refusedDraw s noCaller → not t ≡ true → r ≡ draw s l k c
     unfolding draw drawNumber
-    draw-spent e w = rw (← told, not-false t is, ← rest, lt-ltb h c w) e
+    draw-no-caller e n = rw (← used, not-false u same, ← told, not-true t n) e
 
-    pub draw-accepted : {r : Drawn} → c ≤ h → r ≡ takenDraw s k c → r ≡ draw s k c
-    unfolding draw drawNumber
-    draw-accepted enough e = rw (← told, not-false t is, ← rest, le-ltb h c enough) e
+    module _ (is : not t ≡ false) (h : ℕ) (rest : h ≡ holds s k) where
+      pub draw-spent : {r : Drawn} → r ≡ refusedDraw s shareSpent → h < c → r ≡ draw s l k c
+      unfolding draw drawNumber
+      draw-spent e w = rw (← used, not-false u same, ← told, not-false t is, ← rest, lt-ltb h c w) e
+
+      pub draw-accepted : {r : Drawn} → c ≤ h → r ≡ takenDraw s k c → r ≡ draw s l k c
+      unfolding draw drawNumber
+      draw-accepted enough e = rw (← used, not-false u same, ← told, not-false t is, ← rest, le-ltb h c enough) e
 
 -- ---- preview
 
-pub preview-is : (s : Stock) (k c : ℕ) (d : Drawn) → d ≡ draw s k c
-    → record { number = d .number; first = d .first; count = d .count; after = d .stock } ≡ preview s k c
+pub preview-is : (s : Stock) (l : Label) (k c : ℕ) (d : Drawn) → d ≡ draw s l k c
+    → record { number = d .number; first = d .first; count = d .count; after = d .stock } ≡ preview s l k c
 unfolding preview
-preview-is s k c d e = rw e
+preview-is s l k c d e = rw e
 
 -- ---- padded, total and blocks_of, turn by turn
 
@@ -164,9 +171,18 @@ module _ (shares : List ℕ) (k : ℕ) where
         rw e
         (entries-more (λ j. sumOf (suc j) (shareOf shares)) k (at + getD shares k 0) (omega arith) (rw (w, sum-suc k (shareOf shares))))
 
-    pub blocks-done : {next end : List ℕ} → k ≤ n → n ≤ k → next ≡ starts k shares → end ≡ ends k shares
-        → record { callers = callers; next = next; end = end } ≡ blocks callers (shareOf shares)
+    pub blocks-done : (label : Label) {next end : List ℕ} → k ≤ n → n ≤ k → next ≡ starts k shares → end ≡ ends k shares
+        → record { callers = callers; label = label; next = next; end = end } ≡ blocks label callers (shareOf shares)
     unfolding blocks starts ends
-    blocks-done h w e q =
+    blocks-done label h w e q =
         let all : k ≡ min 8 callers = omega arith in
         rw (e, q, all, entries-min callers (λ j. sumOf j (shareOf shares)), entries-min callers (λ j. sumOf (suc j) (shareOf shares)))
+
+-- ---- rest, turn by turn
+
+module _ (s : Stock) (k : ℕ) where
+  pub rest-more : {each : List ℕ} (h : ℕ) → k < 8 → h ≡ holds s k → each ≡ entries k (holds s) → set each k h ≡ entries (k + 1) (holds s)
+  rest-more h b e q = rw q (entries-more (holds s) k h b e)
+
+  pub rest-done : {each : List ℕ} → k ≤ 8 → 8 ≤ k → each ≡ entries k (holds s) → each ≡ entries 8 (holds s)
+  rest-done h w e = let all : k ≡ 8 = omega arith in e ∙ rw all

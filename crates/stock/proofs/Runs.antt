@@ -1,190 +1,294 @@
--- The claim about every list of calls, by induction over the list.
-use mathlib.Core.Path.{_≡_, refl, sym, ap, ap₂, subst, _∙_}
-use mathlib.Core.Bool.{Bool, true, false, _&&_, false≢true}
-use mathlib.Core.List.{List, [], _∷_}
+-- Sums, indices and replies over every list of calls, by induction over the list.
+use mathlib.Core.Path.{_≡_, refl, sym, ap, subst, _∙_}
+use mathlib.Core.Bool.{Bool, true, false}
+use mathlib.Core.List.{List, [], _∷_, _++_}
+use mathlib.Core.Logic.{⊎-elim}
 use Prim.Native.Nat.{ℕ, zero, suc, _+_, _≤_, _<_}
 use native.Mathlib.Nat.{not-suc-le-zero, le-of-suc-le-suc}
 use native.Mathlib.Omega.{arith}
-use lib.Dec.{eqb}
-use lib.ListN.{length, take, List·getD-eq-default}
-use borrow.Author.Tests.{eqb-true, ltb-false}
-use Rattle.algebra.proofs.Tests.{and-left, passed as passed-not}
+use lib.ListN.{length}
+use borrow.Author.Tests.{eq-eqb, ne-eqb}
 use Rattle.algebra.specs.Choice.{choose}
-use Rattle.answer.specs.Numbers.{accepted}
+use Rattle.stock.specs.declared.Label.{Label}
 use Rattle.stock.specs.declared.Stock.{Stock}
-use Rattle.stock.specs.Stock.{nextOf, endOf, held, sumOf, blocks}
-use Rattle.stock.specs.Calls.{isUpTo, shareOf, openNumber, openStock}
-use Rattle.stock.specs.Lists.{Call, draws, previews, Reply, Made, make, run, last, those, aDraw, drawsOf, handed, replies, HandsOut, NextOf, madeAt, Claim, Lists, Unchanged, Previews}
-use Rattle.stock.proofs.Cases.{by-test}
-use Rattle.stock.proofs.Blocks.{Well, blocks-next, blocks-end, blocks-callers, blocks-well, blocks-held, is-caller, fits-block}
-use Rattle.stock.proofs.Entries.{sum-grows}
-use Rattle.stock.proofs.Opened.{up-to-most}
-use Rattle.stock.proofs.Steps.{stayed, Free, hands-free, hands-gone, free-before, Agree, agree-reply, agree-after, agree-other, accepted-draw, make-call, make-drawn}
+use Rattle.stock.specs.Label.{numberOf}
+use Rattle.stock.specs.Stock.{nextOf, endOf, holds, held, sumOf}
+use Rattle.stock.specs.Lists.{Call, draws, previews, passes, Made, make, run, last, those, aDraw, drawsOf, drawsUnder, passed, part, handed, stocks, heldFirst, heldLast, Use, outputsOf, useAfter, HandsOut, madeAt, Unchanged, Previews}
+use Rattle.stock.proofs.Cases.{by-order, by-equality}
+use Rattle.stock.proofs.Blocks.{Well}
+use Rattle.stock.proofs.Steps.{Stayed, Moved, kept, step, stayed-draw, label-rises, Free, hands-label, hands-free, hands-gone, hands-none, free-before}
 
--- ---- any stock whose blocks follow each other
+-- ---- sums
 
--- each caller's next index has moved on by what it was handed; its block's end is where it was
 pub last-well : (s : Stock) → Well s → (calls : List Call) → Well (last s calls)
 unfolding last
 last-well s W [] = W
-last-well s W (c ∷ calls) = last-well (make s c .after) (stayed s W c .well) calls
-
-pub last-callers : (s : Stock) → Well s → (calls : List Call) → last s calls .callers ≡ s .callers
-unfolding last
-last-callers s W [] = refl
-last-callers s W (c ∷ calls) = last-callers (make s c .after) (stayed s W c .well) calls ∙ stayed s W c .callers
-
-pub last-end : (s : Stock) → Well s → (calls : List Call) (k : ℕ) → endOf (last s calls) k ≡ endOf s k
-unfolding last
-last-end s W [] k = refl
-last-end s W (c ∷ calls) k = last-end (make s c .after) (stayed s W c .well) calls k ∙ stayed s W c .end k
-
-pub last-next : (s : Stock) → Well s → (calls : List Call) (k : ℕ) → nextOf (last s calls) k ≡ nextOf s k + handed (drawsOf k) (run s calls)
-unfolding last run handed
-last-next s W [] k = omega arith
-last-next s W (c ∷ calls) k =
-    let ih = last-next (make s c .after) (stayed s W c .well) calls k in
-    let n = stayed s W c .next k in
-    omega arith
+last-well s W (c ∷ calls) = last-well (make s c .after) (kept s W c .well) calls
 
 pub sums-run : (s : Stock) → Well s → (calls : List Call) → handed aDraw (run s calls) + held (last s calls) ≡ held s
 unfolding last run handed
 sums-run s W [] = omega arith
 sums-run s W (c ∷ calls) =
-    let ih = sums-run (make s c .after) (stayed s W c .well) calls in
-    let n = stayed s W c .held in
+    let ih = sums-run (make s c .after) (kept s W c .well) calls in
+    let n = kept s W c .held in
     omega arith
 
--- a preview hands out nothing
-no-preview : (s : Stock) (k c x : ℕ) → HandsOut (make s (previews k c)) x → ⊥
-unfolding make
-no-preview s k c x o = false≢true (o .drawn)
+pub callers-run : (s : Stock) → Well s → (calls : List Call) (k : ℕ) → handed (drawsOf k) (run s calls) + holds (last s calls) k ≡ holds s k
+unfolding last run handed
+callers-run s W [] k = omega arith
+callers-run s W (c ∷ calls) k =
+    let ih = callers-run (make s c .after) (kept s W c .well) calls k in
+    let n = kept s W c .holds k in
+    omega arith
 
--- what is handed out anywhere in a list was free before it
-free-run : (s : Stock) → Well s → (calls : List Call) (i : ℕ) → i < length calls → (x : ℕ) → HandsOut (madeAt (run s calls) i) x → Free s x
-unfolding run
-free-run s W [] i h x o = absurd (not-suc-le-zero h)
-free-run s W (draws k c ∷ calls) zero h x o = hands-free s W k c x o
-free-run s W (previews k c ∷ calls) zero h x o = absurd (no-preview s k c x o)
-free-run s W (c ∷ calls) (suc i) h x o =
-    free-before s (make s c) (stayed s W c) x (free-run (make s c .after) (stayed s W c .well) calls i (le-of-suc-le-suc h) x o)
+-- ---- labels
 
-once-run : (s : Stock) → Well s → (calls : List Call) (i j : ℕ) → i < length calls → j < length calls → (x : ℕ)
-    → HandsOut (madeAt (run s calls) i) x → HandsOut (madeAt (run s calls) j) x → i ≡ j
-unfolding run
-once-run s W [] i j h w x o p = absurd (not-suc-le-zero h)
-once-run s W (c ∷ calls) zero zero h w x o p = refl
-once-run s W (draws k c ∷ calls) zero (suc j) h w x o p =
-    absurd (hands-gone s W k c x o (free-run (make s (draws k c) .after) (stayed s W (draws k c) .well) calls j (le-of-suc-le-suc w) x p))
-once-run s W (draws k c ∷ calls) (suc i) zero h w x o p =
-    absurd (hands-gone s W k c x p (free-run (make s (draws k c) .after) (stayed s W (draws k c) .well) calls i (le-of-suc-le-suc h) x o))
-once-run s W (previews k c ∷ calls) zero (suc j) h w x o p = absurd (no-preview s k c x o)
-once-run s W (previews k c ∷ calls) (suc i) zero h w x o p = absurd (no-preview s k c x p)
-once-run s W (c ∷ calls) (suc i) (suc j) h w x o p =
-    ap suc (once-run (make s c .after) (stayed s W c .well) calls i j (le-of-suc-le-suc h) (le-of-suc-le-suc w) x o p)
+-- a call under a label that is not in use hands out nothing
+other-part : (s : Stock) → Well s → (c : Call) (L : ℕ) → (L ≡ numberOf (s .label) → ⊥) → part (drawsUnder L) (make s c) ≡ 0
+other-part s W c L d = ⊎-elim (λ S. S .other L d) (λ M. M .other L) (step s W c)
 
-own-run : (k : ℕ) (s t : Stock) → Well s → Well t → Agree k s t → (calls : List Call)
-    → replies (those (λ m. drawsOf k (m .call)) (run s calls)) ≡ replies (run t (those (drawsOf k) calls))
-unfolding run those replies
-own-run k s t W U A [] = refl
-own-run k s t W U A (draws j c ∷ calls) =
-    by-test (eqb k j)
-    (λ y.
-    let e = eqb-true k j y in
-    let B : Agree j s t = rw e at A in
-    let next = subst (λ (x : ℕ). Agree x (make s (draws j c) .after) (make t (draws j c) .after)) (sym e) (agree-after j s t W U B c) in
-    let ih = own-run k _ _ (stayed s W (draws j c) .well) (stayed t U (draws j c) .well) next calls in
-    rw (make-call s (draws j c), y) (ap₂ (λ (r : Reply) (l : List Reply). r ∷ l) (agree-reply j s t B c) ih))
-    (λ n. rw (make-call s (draws j c), n) (own-run k _ t (stayed s W (draws j c) .well) U (agree-other k (draws j c) s t W A n) calls))
-own-run k s t W U A (previews j c ∷ calls) =
-    rw (make-call s (previews j c)) (own-run k _ t (stayed s W (previews j c) .well) U (agree-other k (previews j c) s t W A refl) calls)
+-- a stock under the label, and one under another
+module _ (L : ℕ) (s : Stock) (l : List Stock) where
+  first-in : L ≡ numberOf (s .label) → heldFirst L (s ∷ l) ≡ held s
+  unfolding heldFirst
+  first-in e = rw (eq-eqb L (numberOf (s .label)) e)
 
--- ---- the made call at a place
+  first-out : (L ≡ numberOf (s .label) → ⊥) → heldFirst L (s ∷ l) ≡ heldFirst L l
+  unfolding heldFirst
+  first-out d = rw (ne-eqb L (numberOf (s .label)) d)
 
-made-at : (s : Stock) (calls : List Call) (i : ℕ) → i < length calls
-    → madeAt (run s calls) i ≡ make (last s (take i calls)) (madeAt (run s calls) i .call)
-unfolding run last
-made-at s [] i h = absurd (not-suc-le-zero h)
-made-at s (c ∷ calls) zero h = ap (make s) (sym (make-call s c))
-made-at s (c ∷ calls) (suc i) h = made-at (make s c .after) calls i (le-of-suc-le-suc h)
+  last-in : (none : ℕ) → L ≡ numberOf (s .label) → heldLast L none (s ∷ l) ≡ heldLast L (held s) l
+  unfolding heldLast
+  last-in none e = ap (λ (t : Bool). heldLast L (choose t (held s) none) l) (eq-eqb L (numberOf (s .label)) e)
 
-take-run : (s : Stock) (calls : List Call) (i : ℕ) → take i (run s calls) ≡ run s (take i calls)
-unfolding run
-take-run s calls zero = refl
-take-run s [] (suc i) = refl
-take-run s (c ∷ calls) (suc i) = ap (λ (h : List Made). make s c ∷ h) (take-run (make s c .after) calls i)
+  last-out : (none : ℕ) → (L ≡ numberOf (s .label) → ⊥) → heldLast L none (s ∷ l) ≡ heldLast L none l
+  unfolding heldLast
+  last-out none d = ap (λ (t : Bool). heldLast L (choose t (held s) none) l) (ne-eqb L (numberOf (s .label)) d)
 
--- ---- after an accepted opening
+last-end : (L none : ℕ) → heldLast L none [] ≡ none
+unfolding heldLast
+last-end L none = refl
 
-passed : (t : Bool) (n rest : ℕ) → choose t (suc n) rest ≡ 0 → t ≡ false
-passed true n rest e = absurd (omega arith)
-passed false n rest e = refl
+first-end : (L : ℕ) → heldFirst L [] ≡ 0
+unfolding heldFirst
+first-end L = refl
 
-pub record Opened (outputs : ℕ) (shares : List ℕ) : Type 0 where
-  pub most : length shares ≤ 8
-  pub sum : sumOf (length shares) (shareOf shares) ≤ outputs
-  pub stock : openStock outputs shares .opened .stock ≡ blocks (length shares) (shareOf shares)
+-- a label below the one in use is out of use
+pub record Over (L : ℕ) (s : Stock) (calls : List Call) : Type 0 where
+  pub handed-none : handed (drawsUnder L) (run s calls) ≡ 0
+  pub last-none : (none : ℕ) → heldLast L none (stocks s calls) ≡ none
+  pub first-none : heldFirst L (stocks s calls) ≡ 0
 
-pub opened : (outputs : ℕ) (shares : List ℕ) → openStock outputs shares .opened .number ≡ accepted → Opened outputs shares
-unfolding openStock openNumber
-opened outputs shares e =
-    let p = passed-not (isUpTo 8 (length shares) && isUpTo 32768 outputs) 1 _ e in
+over : (L : ℕ) (s : Stock) → Well s → (calls : List Call) → L < numberOf (s .label) → Over L s calls
+unfolding run handed stocks
+over L s W [] h =
     record {
-      most = up-to-most 8 (length shares) (and-left (isUpTo 8 (length shares)) (isUpTo 32768 outputs) (p .0));
-      sum = ltb-false outputs (sumOf (length shares) (shareOf shares)) (passed _ 15 0 (p .1));
-      stock = rw e;
+      handed-none = refl;
+      last-none = λ none. last-out L s [] none (λ e. omega arith) ∙ last-end L none;
+      first-none = first-out L s [] (λ e. omega arith) ∙ first-end L;
+    }
+over L s W (c ∷ calls) h =
+    let r = label-rises s W c in
+    let ih = over L (make s c .after) (kept s W c .well) calls (omega arith) in
+    let p = other-part s W c L (λ e. omega arith) in
+    let q = ih .handed-none in
+    record {
+      handed-none = omega arith;
+      last-none = λ none. last-out L s _ none (λ e. omega arith) ∙ ih .last-none none;
+      first-none = first-out L s _ (λ e. omega arith) ∙ ih .first-none;
     }
 
-module _ (outputs : ℕ) (shares : List ℕ) (O : Opened outputs shares) where
-  abbrev start : Stock
-  start = blocks (length shares) (shareOf shares)
+-- the label in use
+in-use : (s : Stock) → Well s → (calls : List Call) (L : ℕ) → L ≡ numberOf (s .label) → (none : ℕ)
+    → handed (drawsUnder L) (run s calls) + heldLast L none (stocks s calls) ≡ held s
+unfolding run handed stocks
+in-use s W [] L e none = let q = last-in L s [] none e ∙ last-end L (held s) in omega arith
+in-use s W (c ∷ calls) L e none =
+    let t = make s c .after in
+    let T = kept s W c .well in
+    let q = last-in L s (stocks t calls) none e in
+    ⊎-elim
+    (λ S.
+    let ih = in-use t T calls L (e ∙ ap numberOf (sym (S .label))) (held s) in
+    let p : part (drawsUnder L) (make s c) ≡ part aDraw (make s c) = rw e (S .under) in
+    let k = kept s W c .held in
+    omega arith)
+    (λ M.
+    let a = M .above in
+    let o = over L t T calls (omega arith) in
+    let z = M .other L in
+    let y = o .handed-none in
+    let x = o .last-none (held s) in
+    omega arith)
+    (step s W c)
 
-  well : Well start
-  well = blocks-well (length shares) (shareOf shares) (O .most)
+first-head : (s : Stock) (calls : List Call) (L : ℕ) → L ≡ numberOf (s .label) → heldFirst L (stocks s calls) ≡ held s
+unfolding stocks
+first-head s [] L e = first-in L s [] e
+first-head s (c ∷ calls) L e = first-in L s (stocks (make s c .after) calls) e
 
-  next-of : (calls : List Call) (k c : ℕ) → make (last start calls) (draws k c) .reply .number ≡ accepted
-      → NextOf outputs shares (run start calls) k c (make (last start calls) (draws k c) .reply)
-  next-of calls k c z =
-      let t = last start calls in
-      let T = last-well start well calls in
-      let a = accepted-draw t T k c z in
-      let callers = last-callers start well calls ∙ blocks-callers (length shares) (shareOf shares) (O .most) in
-      let n : k < length shares = rw callers at (is-caller t k (a .caller) .1) in
-      let from = last-next start well calls k ∙ ap (λ (b : ℕ). b + handed (drawsOf k) (run start calls)) (blocks-next (length shares) (shareOf shares) (O .most) k n) in
-      let to = last-end start well calls k ∙ blocks-end (length shares) (shareOf shares) (O .most) k n in
-      rw (make-drawn t k c a)
-      (record {
-        caller = n;
-        count = refl;
-        first = from;
-        block = let f = fits-block t T k c a in omega arith;
-        within = let g = sum-grows (suc k) (length shares) (shareOf shares) n in let m = O .sum in omega arith;
-      })
+-- a label in use or out of use
+not-later : (s : Stock) → Well s → (calls : List Call) (L : ℕ) → L ≤ numberOf (s .label)
+    → handed (drawsUnder L) (run s calls) + heldLast L 0 (stocks s calls) ≡ heldFirst L (stocks s calls)
+not-later s W calls L h =
+    by-equality L (numberOf (s .label))
+    (λ e. in-use s W calls L e 0 ∙ sym (first-head s calls L e))
+    (λ d.
+    let b : L < numberOf (s .label) = by-order L (numberOf (s .label)) (λ r. r) (λ r. absurd (d (omega arith))) in
+    let o = over L s W calls b in
+    let x = o .handed-none in
+    let y = o .last-none 0 in
+    let z = o .first-none in
+    omega arith)
 
-  claim : (calls : List Call) → Claim outputs shares start calls
-  claim calls =
+-- a label that comes into use later, or never
+later : (s : Stock) → Well s → (calls : List Call) (L : ℕ) → numberOf (s .label) < L
+    → handed (drawsUnder L) (run s calls) + heldLast L 0 (stocks s calls) ≡ heldFirst L (stocks s calls)
+unfolding run handed stocks
+later s W [] L h =
+    let p = last-out L s [] 0 (λ e. omega arith) ∙ last-end L 0 in
+    let q = first-out L s [] (λ e. omega arith) ∙ first-end L in
+    omega arith
+later s W (c ∷ calls) L h =
+    let p = other-part s W c L (λ e. omega arith) in
+    let t = make s c .after in
+    let T = kept s W c .well in
+    let x = last-out L s (stocks t calls) 0 (λ e. omega arith) in
+    let y = first-out L s (stocks t calls) (λ e. omega arith) in
+    let rest : handed (drawsUnder L) (run t calls) + heldLast L 0 (stocks t calls) ≡ heldFirst L (stocks t calls) =
+    by-order (numberOf (t .label)) L (λ b. later t T calls L b) (λ a. not-later t T calls L a) in
+    omega arith
+
+pub labels-run : (s : Stock) → Well s → (calls : List Call) (L : ℕ)
+    → handed (drawsUnder L) (run s calls) + heldLast L 0 (stocks s calls) ≡ heldFirst L (stocks s calls)
+labels-run s W calls L =
+    by-order (numberOf (s .label)) L (λ b. later s W calls L b) (λ a. not-later s W calls L a)
+
+-- ---- no pair of label and index twice
+
+-- what is handed out is handed out under the label in use or a later one
+hands-later : (s : Stock) → Well s → (calls : List Call) (i : ℕ) → i < length calls → (L x : ℕ) → HandsOut (madeAt (run s calls) i) L x
+    → numberOf (s .label) ≤ L
+unfolding run
+hands-later s W [] i h L x o = absurd (not-suc-le-zero h)
+hands-later s W (draws l k c ∷ calls) zero h L x o = let e = hands-label s W l k c L x o in omega arith
+hands-later s W (previews l k c ∷ calls) zero h L x o = absurd (hands-none s (previews l k c) L x refl o)
+hands-later s W (passes l n ∷ calls) zero h L x o = absurd (hands-none s (passes l n) L x refl o)
+hands-later s W (c ∷ calls) (suc i) h L x o =
+    let ih = hands-later (make s c .after) (kept s W c .well) calls i (le-of-suc-le-suc h) L x o in
+    let r = label-rises s W c in
+    omega arith
+
+-- what is handed out anywhere in a list under the label in use was free before it
+free-run : (s : Stock) → Well s → (calls : List Call) (i : ℕ) → i < length calls → (L x : ℕ) → HandsOut (madeAt (run s calls) i) L x
+    → L ≡ numberOf (s .label) → Free s x
+unfolding run
+free-run s W [] i h L x o e = absurd (not-suc-le-zero h)
+free-run s W (draws l k c ∷ calls) zero h L x o e = hands-free s W l k c L x o
+free-run s W (previews l k c ∷ calls) zero h L x o e = absurd (hands-none s (previews l k c) L x refl o)
+free-run s W (passes l n ∷ calls) zero h L x o e = absurd (hands-none s (passes l n) L x refl o)
+free-run s W (c ∷ calls) (suc i) h L x o e =
+    let t = make s c .after in
+    let T = kept s W c .well in
+    ⊎-elim
+    (λ S. free-before s (make s c) (kept s W c) S x
+    (free-run t T calls i (le-of-suc-le-suc h) L x o (e ∙ ap numberOf (sym (S .label)))))
+    (λ M. let a = M .above in let r = hands-later t T calls i (le-of-suc-le-suc h) L x o in absurd (omega arith))
+    (step s W c)
+
+module _ (s : Stock) (W : Well s) (l : Label) (k c : ℕ) (calls : List Call) (L x : ℕ) (o : HandsOut (make s (draws l k c)) L x) where
+  -- not after a draw has handed it out
+  twice : (i : ℕ) → i < length calls → HandsOut (madeAt (run (make s (draws l k c) .after) calls) i) L x → ⊥
+  twice i h p =
+      hands-gone s W l k c L x o
+      (free-run (make s (draws l k c) .after) (kept s W (draws l k c) .well) calls i h L x p
+      (hands-label s W l k c L x o ∙ ap numberOf (sym (stayed-draw s W l k c .label))))
+
+pub once-run : (s : Stock) → Well s → (calls : List Call) (i j : ℕ) → i < length calls → j < length calls → (L x : ℕ)
+    → HandsOut (madeAt (run s calls) i) L x → HandsOut (madeAt (run s calls) j) L x → i ≡ j
+unfolding run
+once-run s W [] i j h w L x o p = absurd (not-suc-le-zero h)
+once-run s W (c ∷ calls) zero zero h w L x o p = refl
+once-run s W (draws l k c ∷ calls) zero (suc j) h w L x o p = absurd (twice s W l k c calls L x o j (le-of-suc-le-suc w) p)
+once-run s W (draws l k c ∷ calls) (suc i) zero h w L x o p = absurd (twice s W l k c calls L x p i (le-of-suc-le-suc h) o)
+once-run s W (previews l k c ∷ calls) zero (suc j) h w L x o p = absurd (hands-none s (previews l k c) L x refl o)
+once-run s W (previews l k c ∷ calls) (suc i) zero h w L x o p = absurd (hands-none s (previews l k c) L x refl p)
+once-run s W (passes l n ∷ calls) zero (suc j) h w L x o p = absurd (hands-none s (passes l n) L x refl o)
+once-run s W (passes l n ∷ calls) (suc i) zero h w L x o p = absurd (hands-none s (passes l n) L x refl p)
+once-run s W (c ∷ calls) (suc i) (suc j) h w L x o p =
+    ap suc (once-run (make s c .after) (kept s W c .well) calls i j (le-of-suc-le-suc h) (le-of-suc-le-suc w) L x o p)
+
+-- ---- the blocks of the label in use
+
+handed-snoc : (p : Call → Bool) (h : List Made) (m : Made) → handed p (h ++ (m ∷ [])) ≡ handed p h + part p m
+unfolding handed
+handed-snoc p [] m = omega arith
+handed-snoc p (n ∷ h) m = let ih = handed-snoc p h m in omega arith
+
+-- each caller's block, by what was held when the label came into use, and its next index, by what it drew since
+pub record InUse (u : Use) (s : Stock) : Type 0 where
+  pub next : (k : ℕ) → k < s .callers → nextOf s k ≡ sumOf k (holds (u .came)) + handed (drawsOf k) (u .since)
+  pub end : (k : ℕ) → k < s .callers → endOf s k ≡ sumOf (suc k) (holds (u .came))
+  pub within : sumOf 8 (holds (u .came)) ≤ u .outputs
+
+-- the use after a call under which the label stays, and after an accepted passage
+abbrev goesOn : Use → Made → Use
+goesOn u m = record { outputs = u .outputs; came = u .came; since = u .since ++ (m ∷ []) }
+
+abbrev anew : Made → Use
+anew m = record { outputs = outputsOf (m .call); came = m .after; since = [] }
+
+use-step : (u : Use) (m : Made) (h : List Made) (t : Bool) → passed m ≡ t → useAfter u (m ∷ h) ≡ useAfter (choose t (anew m) (goesOn u m)) h
+unfolding useAfter
+use-step u m h t e = ap (λ (t : Bool). useAfter (choose t (anew m) (goesOn u m)) h) e
+
+module _ (s : Stock) (W : Well s) (c : Call) where
+  in-use-on : (u : Use) → InUse u s → Stayed s (make s c) → InUse (goesOn u (make s c)) (make s c .after)
+  in-use-on u I S =
       record {
-        sums = sums-run start well calls
-            ∙ blocks-held (length shares) (shareOf shares) (O .most) (λ k h. List·getD-eq-default shares 0 h);
-        once = once-run start well calls;
-        next = λ i h k c e z.
-            let m = made-at start calls i h ∙ ap (make (last start (take i calls))) e in
-            rw (m, take-run start calls i) (next-of (take i calls) k c (rw m at z));
-        own = λ k. own-run k start start well well (record { callers = refl; next = refl; end = refl }) calls;
+        next = λ k h.
+            let a = I .next k (rw (kept s W c .callers) at h) in
+            let b = S .next k in
+            let e = handed-snoc (drawsOf k) (u .since) (make s c) in
+            omega arith;
+        end = λ k h. S .end k ∙ I .end k (rw (kept s W c .callers) at h);
+        within = I .within;
       }
 
-pub lists : Lists
-lists outputs shares e calls = let O = opened outputs shares e in rw (O .stock) (claim outputs shares O calls)
+  in-use-anew : Moved s (make s c) → InUse (anew (make s c)) (make s c .after)
+  unfolding handed held
+  in-use-anew M =
+      record {
+        next = λ k h. let e = M .next k (rw (kept s W c .callers) at h) in omega arith;
+        end = λ k h. M .end k (rw (kept s W c .callers) at h);
+        within = M .room;
+      }
+
+pub use-run : (s : Stock) → Well s → (calls : List Call) (u : Use) → InUse u s → InUse (useAfter u (run s calls)) (last s calls)
+unfolding run last
+use-run s W [] u I = unfold useAfter in I
+use-run s W (c ∷ calls) u I =
+    let m = make s c in
+    let h = run (m .after) calls in
+    let t = last (m .after) calls in
+    let T = kept s W c .well in
+    ⊎-elim
+    (λ S. subst (λ (v : Use). InUse v t) (sym (use-step u m h false (S .not-passed))) (use-run (m .after) T calls (goesOn u m) (in-use-on s W c u I S)))
+    (λ M. subst (λ (v : Use). InUse v t) (sym (use-step u m h true (M .is-passed))) (use-run (m .after) T calls (anew m) (in-use-anew s W c M)))
+    (step s W c)
 
 -- ---- previews
 
 unchanged : (s : Stock) (calls : List Call) → Unchanged s calls
 unfolding run last those make
 unchanged s [] = record { others = refl; stock = refl }
-unchanged s (draws k c ∷ calls) =
-    let ih = unchanged (make s (draws k c) .after) calls in
-    record { others = ap (λ (h : List Made). make s (draws k c) ∷ h) (ih .others); stock = ih .stock }
-unchanged s (previews k c ∷ calls) = let ih = unchanged s calls in record { others = ih .others; stock = ih .stock }
+unchanged s (draws l k c ∷ calls) =
+    let ih = unchanged (make s (draws l k c) .after) calls in
+    record { others = ap (λ (h : List Made). make s (draws l k c) ∷ h) (ih .others); stock = ih .stock }
+unchanged s (previews l k c ∷ calls) = let ih = unchanged s calls in record { others = ih .others; stock = ih .stock }
+unchanged s (passes l n ∷ calls) =
+    let ih = unchanged (make s (passes l n) .after) calls in
+    record { others = ap (λ (h : List Made). make s (passes l n) ∷ h) (ih .others); stock = ih .stock }
 
 pub previews-nothing : Previews
 previews-nothing = unchanged

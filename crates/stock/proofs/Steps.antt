@@ -1,95 +1,218 @@
 -- What one call of a list does to a stock.
 use mathlib.Core.Path.{_≡_, refl, sym, ap, _∙_}
-use mathlib.Core.Bool.{false}
-use mathlib.Core.Logic.{⊎-elim}
+use mathlib.Core.Bool.{Bool, true, false, false≢true}
+use mathlib.Core.Logic.{_⊎_, inl, inr, ⊎-elim}
 use Prim.Native.Nat.{ℕ, suc, _+_, _≤_, _<_}
 use native.Mathlib.Omega.{arith}
-use borrow.Author.Tests.{eq-eqb, ne-eqb}
+use lib.Dec.{eqb, eqb·suc-zero}
+use borrow.Author.Tests.{eq-eqb, ne-eqb, eqb-true}
+use Rattle.algebra.specs.Choice.{choose}
+use Rattle.stock.specs.declared.Label.{Label}
 use Rattle.stock.specs.declared.Stock.{Stock}
-use Rattle.stock.specs.Stock.{isCaller, nextOf, endOf, holds, held}
+use Rattle.stock.specs.Label.{numberOf}
+use Rattle.stock.specs.Stock.{isCaller, nextOf, endOf, holds, sumOf, held, blocks}
 use Rattle.stock.specs.Calls.{byNumber, drawNumber, advanced, draw}
-use Rattle.stock.specs.Lists.{Call, draws, previews, Reply, Made, make, aDraw, drawsOf, part, HandsOut}
+use Rattle.stock.specs.Lists.{Call, draws, previews, passes, Reply, Made, make, aDraw, drawsOf, drawsUnder, passed, part, outputsOf, HandsOut}
 use Rattle.stock.proofs.Cases.{by-order, by-equality}
-use Rattle.stock.proofs.Blocks.{Well, Accepted, Refused, draw-cases, is-caller, advanced-callers, advanced-end, advanced-next, advanced-other, fits-block, advanced-well, advanced-holds, advanced-keeps, advanced-held}
+use Rattle.stock.proofs.Blocks.{Well, holds-past, blocks-next, blocks-end, blocks-callers, blocks-well, blocks-holds, Accepted, Refused, draw-cases, Fresh, Stale, pass-cases, is-caller, advanced-label, advanced-callers, advanced-end, advanced-next, advanced-other, fits-block, advanced-well, advanced-holds, advanced-keeps, advanced-held}
+use Rattle.stock.proofs.Entries.{sum-same}
 
--- the blocks stay, and each caller's next index moves on by what the call hands it
-pub record Stayed (s : Stock) (m : Made) : Type 0 where
+-- what every call keeps: the blocks follow each other, and what it hands out is what its caller, and all callers, hold less
+pub record Kept (s : Stock) (m : Made) : Type 0 where
   pub well : Well (m .after)
   pub callers : m .after .callers ≡ s .callers
-  pub end : (j : ℕ) → endOf (m .after) j ≡ endOf s j
-  pub next : (j : ℕ) → nextOf (m .after) j ≡ nextOf s j + part (drawsOf j) m
   pub holds : (j : ℕ) → part (drawsOf j) m + holds (m .after) j ≡ holds s j
   pub held : part aDraw m + held (m .after) ≡ held s
 
--- an accepted draw, and a refused one
-abbrev pub drawn : Stock → ℕ → ℕ → Made
-drawn s k c = record { call = draws k c; reply = record { number = 0; first = nextOf s k; count = c }; after = advanced s k c }
+-- a call under which the label stays: so do the blocks, and each caller's next index moves on by what the call hands it
+pub record Stayed (s : Stock) (m : Made) : Type 0 where
+  pub label : m .after .label ≡ s .label
+  pub end : (j : ℕ) → endOf (m .after) j ≡ endOf s j
+  pub next : (j : ℕ) → nextOf (m .after) j ≡ nextOf s j + part (drawsOf j) m
+  pub under : part (drawsUnder (numberOf (s .label))) m ≡ part aDraw m
+  pub other : (L : ℕ) → (L ≡ numberOf (s .label) → ⊥) → part (drawsUnder L) m ≡ 0
+  pub not-passed : passed m ≡ false
 
-abbrev turned : Stock → ℕ → ℕ → ℕ → Made
-turned s k c n = record { call = draws k c; reply = record { number = suc n; first = 0; count = 0 }; after = s }
+-- an accepted passage: the label rises, and the blocks are laid out anew
+pub record Moved (s : Stock) (m : Made) : Type 0 where
+  pub above : numberOf (s .label) < numberOf (m .after .label)
+  pub next : (j : ℕ) → j < s .callers → nextOf (m .after) j ≡ sumOf j (holds (m .after))
+  pub end : (j : ℕ) → j < s .callers → endOf (m .after) j ≡ sumOf (suc j) (holds (m .after))
+  pub room : held (m .after) ≤ outputsOf (m .call)
+  pub other : (L : ℕ) → part (drawsUnder L) m ≡ 0
+  pub is-passed : passed m ≡ true
+
+-- ---- the calls as they are made
 
 pub make-call : (s : Stock) (c : Call) → make s c .call ≡ c
 unfolding make
-make-call s (draws k c) = refl
-make-call s (previews k c) = refl
+make-call s (draws l k c) = refl
+make-call s (previews l k c) = refl
+make-call s (passes l n) = refl
 
-pub make-drawn : (s : Stock) (k c : ℕ) → Accepted s k c → make s (draws k c) ≡ drawn s k c
-unfolding make
-make-drawn s k c a = rw (a .drawn)
+abbrev pub drawn : Stock → Label → ℕ → ℕ → Made
+drawn s l k c = record { call = draws l k c; reply = record { number = 0; first = nextOf s k; count = c }; after = advanced s k c }
 
-make-turned : (s : Stock) (k c : ℕ) (r : Refused s k c) → make s (draws k c) ≡ turned s k c (r .fault)
+-- a refused call
+abbrev turned : Stock → Call → ℕ → Made
+turned s c n = record { call = c; reply = record { number = suc n; first = 0; count = 0 }; after = s }
+
+abbrev moved : Stock → Label → ℕ → Made
+moved s l n = record { call = passes l n; reply = record { number = 0; first = 0; count = 0 }; after = blocks l (s .callers) (holds s) }
+
+pub make-drawn : (s : Stock) (l : Label) (k c : ℕ) → Accepted s l k c → make s (draws l k c) ≡ drawn s l k c
 unfolding make
-make-turned s k c r = rw (r .kept)
+make-drawn s l k c a = rw (a .drawn)
+
+make-turned : (s : Stock) (l : Label) (k c : ℕ) (r : Refused s l k c) → make s (draws l k c) ≡ turned s (draws l k c) (r .fault)
+unfolding make
+make-turned s l k c r = rw (r .kept)
+
+pub make-moved : (s : Stock) (l : Label) (n : ℕ) → Fresh s l n → make s (passes l n) ≡ moved s l n
+unfolding make
+make-moved s l n f = rw (f .gave)
+
+pub make-stale : (s : Stock) (l : Label) (n : ℕ) (t : Stale s l n) → make s (passes l n) ≡ turned s (passes l n) (t .fault)
+unfolding make
+make-stale s l n t = rw (t .kept)
+
+-- a refused call hands out nothing
+none-turned : (p : Call → Bool) (s : Stock) (c : Call) (n : ℕ) → part p (turned s c n) ≡ 0
+none-turned p s c n = choose-none (p c)
+  where
+    choose-none : (t : Bool) → _≡_ {A = ℕ} (choose t 0 0) 0
+    choose-none true = refl
+    choose-none false = refl
 
 module _ (s : Stock) (W : Well s) where
-  stayed-drawn : (k c : ℕ) → Accepted s k c → Stayed s (drawn s k c)
-  stayed-drawn k c a =
-      record {
-        well = advanced-well s W k c a;
-        callers = advanced-callers s W k c a;
-        end = advanced-end s W k c a;
-        next = λ j. by-equality j k
-            (λ e. rw (e, eq-eqb k k refl) (advanced-next s W k c a))
-            (λ n. rw (ne-eqb j k n) (let o = advanced-other s W k c a j n in omega arith));
-        holds = λ j. by-equality j k
-            (λ e. rw (e, eq-eqb k k refl) (let h = advanced-holds s W k c a in omega arith))
-            (λ n. rw (ne-eqb j k n) (let o = advanced-keeps s W k c a j n in omega arith));
-        held = advanced-held s W k c a;
-      }
-
-  stayed-turned : (k c n : ℕ) → Stayed s (turned s k c n)
-  stayed-turned k c n =
-      let none : (j : ℕ) → part (drawsOf j) (turned s k c n) ≡ 0 = λ j. by-equality j k (λ e. rw (eq-eqb j k e)) (λ d. rw (ne-eqb j k d)) in
+  kept-turned : (c : Call) (n : ℕ) → Kept s (turned s c n)
+  kept-turned c n =
       record {
         well = W;
         callers = refl;
-        end = λ j. refl;
-        next = λ j. let z = none j in omega arith;
-        holds = λ j. let z = none j in omega arith;
-        held = omega arith;
+        holds = λ j. let z = none-turned (drawsOf j) s c n in omega arith;
+        held = let z = none-turned aDraw s c n in omega arith;
       }
 
-  stayed-previewed : (k c : ℕ) → Stayed s (make s (previews k c))
-  unfolding make
-  stayed-previewed k c =
-      record { well = W; callers = refl; end = λ j. refl; next = λ j. omega arith; holds = λ j. omega arith; held = omega arith }
+  stayed-turned : (c : Call) (n : ℕ) → passed (turned s c n) ≡ false → Stayed s (turned s c n)
+  stayed-turned c n q =
+      record {
+        label = refl;
+        end = λ j. refl;
+        next = λ j. let z = none-turned (drawsOf j) s c n in omega arith;
+        under = none-turned (drawsUnder (numberOf (s .label))) s c n ∙ sym (none-turned aDraw s c n);
+        other = λ L d. none-turned (drawsUnder L) s c n;
+        not-passed = q;
+      }
 
-  pub stayed : (c : Call) → Stayed s (make s c)
-  stayed (previews k c) = stayed-previewed k c
-  stayed (draws k c) =
+  kept-drawn : (l : Label) (k c : ℕ) → Accepted s l k c → Kept s (drawn s l k c)
+  kept-drawn l k c a =
+      record {
+        well = advanced-well s W l k c a;
+        callers = advanced-callers s W l k c a;
+        holds = λ j. by-equality j k
+            (λ e. rw (e, eq-eqb k k refl) (let h = advanced-holds s W l k c a in omega arith))
+            (λ n. rw (ne-eqb j k n) (let o = advanced-keeps s W l k c a j n in omega arith));
+        held = advanced-held s W l k c a;
+      }
+
+  stayed-drawn : (l : Label) (k c : ℕ) → Accepted s l k c → Stayed s (drawn s l k c)
+  stayed-drawn l k c a =
+      record {
+        label = advanced-label s W l k c a;
+        end = advanced-end s W l k c a;
+        next = λ j. by-equality j k
+            (λ e. rw (e, eq-eqb k k refl) (advanced-next s W l k c a))
+            (λ n. rw (ne-eqb j k n) (let o = advanced-other s W l k c a j n in omega arith));
+        under = rw (eq-eqb (numberOf (s .label)) (numberOf l) (sym (a .label)));
+        other = λ L d. rw (ne-eqb L (numberOf l) (λ e. d (e ∙ a .label)));
+        not-passed = refl;
+      }
+
+  same-holds : (l : Label) (j : ℕ) → holds (blocks l (s .callers) (holds s)) j ≡ holds s j
+  same-holds l j = blocks-holds l (s .callers) (holds s) (W .most) (λ k h. holds-past s k (W .most) h) j
+
+  same-held : (l : Label) → held (blocks l (s .callers) (holds s)) ≡ held s
+  unfolding held
+  same-held l = sum-same 8 _ _ (λ j h. same-holds l j)
+
+  kept-moved : (l : Label) (n : ℕ) → Kept s (moved s l n)
+  kept-moved l n =
+      record {
+        well = blocks-well l (s .callers) (holds s) (W .most);
+        callers = blocks-callers l (s .callers) (holds s) (W .most);
+        holds = λ j. let e = same-holds l j in omega arith;
+        held = let e = same-held l in omega arith;
+      }
+
+  moved-moved : (l : Label) (n : ℕ) → Fresh s l n → Moved s (moved s l n)
+  moved-moved l n f =
+      record {
+        above = unfold blocks in f .above;
+        next = λ j h. blocks-next l (s .callers) (holds s) (W .most) j h ∙ sym (sum-same j _ _ (λ i b. same-holds l i));
+        end = λ j h. blocks-end l (s .callers) (holds s) (W .most) j h ∙ sym (sum-same (suc j) _ _ (λ i b. same-holds l i));
+        room = let e = same-held l in let r = f .room in omega arith;
+        other = λ L. refl;
+        is-passed = refl;
+      }
+
+  kept-previewed : (l : Label) (k c : ℕ) → Kept s (make s (previews l k c))
+  unfolding make
+  kept-previewed l k c = record { well = W; callers = refl; holds = λ j. omega arith; held = omega arith }
+
+  pub stayed-preview : (l : Label) (k c : ℕ) → Stayed s (make s (previews l k c))
+  unfolding make
+  stayed-preview l k c =
+      record { label = refl; end = λ j. refl; next = λ j. omega arith; under = refl; other = λ L d. refl; not-passed = refl }
+
+  pub kept : (c : Call) → Kept s (make s c)
+  kept (draws l k c) =
       ⊎-elim
-      (λ a. rw (make-drawn s k c a) (stayed-drawn k c a))
-      (λ r. rw (make-turned s k c r) (stayed-turned k c (r .fault)))
-      (draw-cases s k c)
+      (λ a. rw (make-drawn s l k c a) (kept-drawn l k c a))
+      (λ r. rw (make-turned s l k c r) (kept-turned (draws l k c) (r .fault)))
+      (draw-cases s l k c)
+  kept (previews l k c) = kept-previewed l k c
+  kept (passes l n) =
+      ⊎-elim
+      (λ f. rw (make-moved s l n f) (kept-moved l n))
+      (λ t. rw (make-stale s l n t) (kept-turned (passes l n) (t .fault)))
+      (pass-cases s l n)
+
+  pub stayed-draw : (l : Label) (k c : ℕ) → Stayed s (make s (draws l k c))
+  stayed-draw l k c =
+      ⊎-elim
+      (λ a. rw (make-drawn s l k c a) (stayed-drawn l k c a))
+      (λ r. rw (make-turned s l k c r) (stayed-turned (draws l k c) (r .fault) refl))
+      (draw-cases s l k c)
+
+  pub stayed-stale : (l : Label) (n : ℕ) → Stale s l n → Stayed s (make s (passes l n))
+  stayed-stale l n t = rw (make-stale s l n t) (stayed-turned (passes l n) (t .fault) (eqb·suc-zero (t .fault)))
+
+  moved-fresh : (l : Label) (n : ℕ) → Fresh s l n → Moved s (make s (passes l n))
+  moved-fresh l n f = rw (make-moved s l n f) (moved-moved l n f)
+
+  pub moved-passed : (l : Label) (n : ℕ) → Fresh s l n → passed (make s (passes l n)) ≡ true
+  moved-passed l n f = moved-fresh l n f .is-passed
+
+  pub step : (c : Call) → Stayed s (make s c) ⊎ Moved s (make s c)
+  step (draws l k c) = inl (stayed-draw l k c)
+  step (previews l k c) = inl (stayed-preview l k c)
+  step (passes l n) =
+      ⊎-elim (λ f. inr (moved-fresh l n f)) (λ t. inl (stayed-stale l n t)) (pass-cases s l n)
+
+  -- labels do not fall
+  pub label-rises : (c : Call) → numberOf (s .label) ≤ numberOf (make s c .after .label)
+  label-rises c =
+      ⊎-elim (λ S. let e = ap numberOf (S .label) in omega arith) (λ M. let a = M .above in omega arith) (step c)
 
   -- ---- the indices that are not handed out yet
 
-  pub accepted-draw : (k c : ℕ) → make s (draws k c) .reply .number ≡ 0 → Accepted s k c
-  accepted-draw k c z =
+  pub accepted-draw : (l : Label) (k c : ℕ) → make s (draws l k c) .reply .number ≡ 0 → Accepted s l k c
+  accepted-draw l k c z =
       ⊎-elim
       (λ a. a)
-      (λ r. let e = ap (λ (m : Made). m .reply .number) (make-turned s k c r) in absurd (omega arith))
-      (draw-cases s k c)
+      (λ r. let e = ap (λ (m : Made). m .reply .number) (make-turned s l k c r) in absurd (omega arith))
+      (draw-cases s l k c)
 
 -- an index of what a caller still holds
 pub record Free (s : Stock) (x : ℕ) : Type 0 where
@@ -98,14 +221,19 @@ pub record Free (s : Stock) (x : ℕ) : Type 0 where
   pub from : nextOf s k ≤ x
   pub below : x < endOf s k
 
--- a call hands out what was free before it and is not free after it
-module _ (s : Stock) (W : Well s) (k c x : ℕ) (h : HandsOut (make s (draws k c)) x) where
-  accept : Accepted s k c
-  accept = accepted-draw s W k c (h .taken)
+-- a draw hands out, under the label in use, what was free before it and is not free after it
+module _ (s : Stock) (W : Well s) (l : Label) (k c L x : ℕ) (h : HandsOut (make s (draws l k c)) L x) where
+  accept : Accepted s l k c
+  accept = accepted-draw s W l k c (h .taken)
+
+  pub hands-label : L ≡ numberOf (s .label)
+  hands-label =
+      let d : eqb L (numberOf l) ≡ true = rw (make-call s (draws l k c)) at (h .drawn) in
+      eqb-true L (numberOf l) d ∙ accept .label
 
   window : (nextOf s k ≤ x) × (x < nextOf s k + c)
   window =
-      let e = make-drawn s k c accept in
+      let e = make-drawn s l k c accept in
       (rw e at (h .from), rw e at (h .below))
 
   pub hands-free : Free s x
@@ -114,36 +242,40 @@ module _ (s : Stock) (W : Well s) (k c x : ℕ) (h : HandsOut (make s (draws k c
         k = k;
         caller = is-caller s k (accept .caller) .1;
         from = window .0;
-        below = let f = fits-block s W k c accept in let w = window in omega arith;
+        below = let f = fits-block s W l k c accept in let w = window in omega arith;
       }
 
   gone : Free (advanced s k c) x → ⊥
   gone f =
       let j = f .k in
       let w = window in
-      let b = fits-block s W k c accept in
+      let b = fits-block s W l k c accept in
       let n = is-caller s k (accept .caller) .1 in
-      let d = advanced-end s W k c accept j in
-      let u = advanced-callers s W k c accept in
+      let d = advanced-end s W l k c accept j in
+      let u = advanced-callers s W l k c accept in
       let lo = f .from in
       let hi = f .below in
       let cj = f .caller in
       by-equality j k
-      (λ e. let g : nextOf (advanced s k c) j ≡ nextOf s k + c = rw e (advanced-next s W k c accept) in omega arith)
-      (λ q. let o = advanced-other s W k c accept j q in
+      (λ e. let g : nextOf (advanced s k c) j ≡ nextOf s k + c = rw e (advanced-next s W l k c accept) in omega arith)
+      (λ q. let o = advanced-other s W l k c accept j q in
       by-order j k
       (λ l. let p = W .apart j k l n in omega arith)
       (λ l. let p = W .apart k j (by-order k j (λ r. r) (λ r. absurd (q (omega arith)))) (omega arith) in omega arith))
 
-  pub hands-gone : Free (make s (draws k c) .after) x → ⊥
-  hands-gone f = gone (rw (make-drawn s k c accept) at f)
+  pub hands-gone : Free (make s (draws l k c) .after) x → ⊥
+  hands-gone f = gone (rw (make-drawn s l k c accept) at f)
 
--- what is free after a call was free before it
-pub free-before : (s : Stock) (m : Made) → Stayed s m → (x : ℕ) → Free (m .after) x → Free s x
-free-before s m S x f =
+-- nothing but a draw hands out anything
+pub hands-none : (s : Stock) (c : Call) (L x : ℕ) → drawsUnder L c ≡ false → HandsOut (make s c) L x → ⊥
+hands-none s c L x n o = false≢true (sym (ap (drawsUnder L) (make-call s c) ∙ n) ∙ o .drawn)
+
+-- while the label stays, what is free after a call was free before it
+pub free-before : (s : Stock) (m : Made) → Kept s m → Stayed s m → (x : ℕ) → Free (m .after) x → Free s x
+free-before s m K S x f =
     record {
       k = f .k;
-      caller = rw (S .callers) at (f .caller);
+      caller = rw (K .callers) at (f .caller);
       from = let n = S .next (f .k) in let l = f .from in omega arith;
       below = rw (S .end (f .k)) at (f .below);
     }
@@ -151,38 +283,41 @@ free-before s m S x f =
 -- ---- two stocks that agree on a caller give it the same replies
 
 pub record Agree (k : ℕ) (s t : Stock) : Type 0 where
+  pub label : s .label ≡ t .label
   pub callers : s .callers ≡ t .callers
   pub next : nextOf s k ≡ nextOf t k
   pub end : endOf s k ≡ endOf t k
 
-pub agree-reply : (k : ℕ) (s t : Stock) → Agree k s t → (c : ℕ) → make s (draws k c) .reply ≡ make t (draws k c) .reply
+pub agree-reply : (k : ℕ) (s t : Stock) → Agree k s t → (l : Label) (c : ℕ) → make s (draws l k c) .reply ≡ make t (draws l k c) .reply
 unfolding make draw drawNumber holds isCaller
-agree-reply k s t A c = rw (A .callers, A .next, A .end)
+agree-reply k s t A l c = rw (A .label, A .callers, A .next, A .end)
 
 -- a caller's part, by its reply
-own-part : (k c : ℕ) (s : Stock) → part (drawsOf k) (make s (draws k c)) ≡ byNumber (make s (draws k c) .reply .number) (make s (draws k c) .reply .count) 0
+pub own-part : (s : Stock) (l : Label) (k c : ℕ)
+    → part (drawsOf k) (make s (draws l k c)) ≡ byNumber (make s (draws l k c) .reply .number) (make s (draws l k c) .reply .count) 0
 unfolding make
-own-part k c s = rw (eq-eqb k k refl)
+own-part s l k c = rw (eq-eqb k k refl)
 
-pub agree-after : (k : ℕ) (s t : Stock) → Well s → Well t → Agree k s t → (c : ℕ)
-    → Agree k (make s (draws k c) .after) (make t (draws k c) .after)
-agree-after k s t W U A c =
-    let S = stayed s W (draws k c) in
-    let T = stayed t U (draws k c) in
+pub agree-after : (k : ℕ) (s t : Stock) → Well s → Well t → Agree k s t → (l : Label) (c : ℕ)
+    → Agree k (make s (draws l k c) .after) (make t (draws l k c) .after)
+agree-after k s t W U A l c =
+    let S = stayed-draw s W l k c in
+    let T = stayed-draw t U l k c in
     record {
-      callers = S .callers ∙ A .callers ∙ sym (T .callers);
-      next = S .next k ∙ (let e = own-part k c s in let f = own-part k c t in
-          let r = ap (λ (r : Reply). byNumber (r .number) (r .count) 0) (agree-reply k s t A c) in
+      label = S .label ∙ A .label ∙ sym (T .label);
+      callers = kept s W (draws l k c) .callers ∙ A .callers ∙ sym (kept t U (draws l k c) .callers);
+      next = S .next k ∙ (let e = own-part s l k c in let f = own-part t l k c in
+          let r = ap (λ (r : Reply). byNumber (r .number) (r .count) 0) (agree-reply k s t A l c) in
           let n = A .next in let o = T .next k in omega arith);
       end = S .end k ∙ A .end ∙ sym (T .end k);
     }
 
-pub agree-other : (k : ℕ) (c : Call) (s t : Stock) → Well s → Agree k s t → drawsOf k c ≡ false → Agree k (make s c .after) t
-agree-other k c s t W A n =
-    let S = stayed s W c in
+pub agree-other : (k : ℕ) (c : Call) (s t : Stock) → Well s → Stayed s (make s c) → Agree k s t → drawsOf k c ≡ false → Agree k (make s c .after) t
+agree-other k c s t W S A n =
     let none : part (drawsOf k) (make s c) ≡ 0 = rw (make-call s c, n) in
     record {
-      callers = S .callers ∙ A .callers;
+      label = S .label ∙ A .label;
+      callers = kept s W c .callers ∙ A .callers;
       next = let e = S .next k in let a = A .next in omega arith;
       end = S .end k ∙ A .end;
     }

@@ -1,22 +1,25 @@
--- Lists of calls on one stock (document 02, 2 and 5): each on the stock that the call before left.
+-- Lists of calls on one stock (document 02, 2, 5 and 14): each on the stock that the call before left.
 use mathlib.Core.Path.{_≡_}
-use mathlib.Core.Bool.{Bool, true, false}
-use mathlib.Core.List.{List, [], _∷_}
+use mathlib.Core.Bool.{Bool, true, false, _&&_, _||_}
+use mathlib.Core.List.{List, [], _∷_, _++_}
 use Prim.Native.Nat.{ℕ, suc, _+_, _≤_, _<_}
 use lib.Dec.{eqb}
 use lib.ListN.{length, getD, take}
 use Rattle.algebra.specs.Choice.{choose}
 use Rattle.answer.specs.Numbers.{accepted, noCaller}
+use Rattle.stock.specs.declared.Label.{Label}
 use Rattle.stock.specs.declared.Stock.{Stock}
-use Rattle.stock.specs.Stock.{sumOf, held}
-use Rattle.stock.specs.Calls.{byNumber, shareOf, noCallers, openStock, draw, preview}
+use Rattle.stock.specs.Label.{numberOf, labelZero}
+use Rattle.stock.specs.Stock.{holds, sumOf, held}
+use Rattle.stock.specs.Calls.{byNumber, shareOf, noCallers, openStock, draw, preview, pass}
 
 -- ---- lists of calls
 
 -- a call that a list names
 pub data Call : Type 0 where
-  draws : (caller count : ℕ) → Call
-  previews : (caller count : ℕ) → Call
+  draws : (label : Label) (caller count : ℕ) → Call
+  previews : (label : Label) (caller count : ℕ) → Call
+  passes : (label : Label) (outputs : ℕ) → Call
 
 -- what a call replies: its number, and a window
 pub record Reply : Type 0 where
@@ -32,17 +35,23 @@ pub record Made : Type 0 where
 
 -- a call made on a stock; a preview hands on the stock that it was given
 unfoldable pub make : Stock → Call → Made
-make s (draws k c) =
+make s (draws l k c) =
     record {
-      call = draws k c;
-      reply = record { number = draw s k c .number; first = draw s k c .first; count = draw s k c .count };
-      after = draw s k c .stock;
+      call = draws l k c;
+      reply = record { number = draw s l k c .number; first = draw s l k c .first; count = draw s l k c .count };
+      after = draw s l k c .stock;
     }
-make s (previews k c) =
+make s (previews l k c) =
     record {
-      call = previews k c;
-      reply = record { number = preview s k c .number; first = preview s k c .first; count = preview s k c .count };
+      call = previews l k c;
+      reply = record { number = preview s l k c .number; first = preview s l k c .first; count = preview s l k c .count };
       after = s;
+    }
+make s (passes l n) =
+    record {
+      call = passes l n;
+      reply = record { number = pass s l n .number; first = 0; count = 0 };
+      after = pass s l n .stock;
     }
 
 -- the calls of a list as they are made, each on the stock that the call before left
@@ -60,18 +69,35 @@ unfoldable pub those : {A : Type 0} → (A → Bool) → List A → List A
 those p [] = []
 those p (a ∷ l) = choose (p a) (a ∷ those p l) (those p l)
 
--- draws, the draws of caller k, and all but previews
+-- draws, the draws of caller k, those under a label of number L, all but previews, and passages
 abbrev pub aDraw : Call → Bool
-aDraw (draws j c) = true
-aDraw (previews j c) = false
+aDraw (draws l j c) = true
+aDraw (previews l j c) = false
+aDraw (passes l n) = false
 
 abbrev pub drawsOf : ℕ → Call → Bool
-drawsOf k (draws j c) = eqb k j
-drawsOf k (previews j c) = false
+drawsOf k (draws l j c) = eqb k j
+drawsOf k (previews l j c) = false
+drawsOf k (passes l n) = false
+
+abbrev pub drawsUnder : ℕ → Call → Bool
+drawsUnder L (draws l j c) = eqb L (numberOf l)
+drawsUnder L (previews l j c) = false
+drawsUnder L (passes l n) = false
 
 abbrev pub noPreview : Call → Bool
-noPreview (draws j c) = true
-noPreview (previews j c) = false
+noPreview (draws l j c) = true
+noPreview (previews l j c) = false
+noPreview (passes l n) = true
+
+abbrev pub aPassage : Call → Bool
+aPassage (draws l j c) = false
+aPassage (previews l j c) = false
+aPassage (passes l n) = true
+
+-- an accepted passage
+abbrev pub passed : Made → Bool
+passed m = aPassage (m .call) && eqb (m .reply .number) accepted
 
 -- outputs that a made call hands out, if a test picks it: an accepted reply's own count
 abbrev pub part : (Call → Bool) → Made → ℕ
@@ -82,52 +108,112 @@ unfoldable pub handed : (Call → Bool) → List Made → ℕ
 handed p [] = 0
 handed p (m ∷ h) = part p m + handed p h
 
--- the replies, in their order
+-- the replies, their numbers, and the calls, in their order
 unfoldable pub replies : List Made → List Reply
 replies [] = []
 replies (m ∷ h) = m .reply ∷ replies h
 
+unfoldable pub numbers : List Made → List ℕ
+numbers [] = []
+numbers (m ∷ h) = m .reply .number ∷ numbers h
+
+unfoldable pub callsOf : List Made → List Call
+callsOf [] = []
+callsOf (m ∷ h) = m .call ∷ callsOf h
+
+-- ---- labels in use
+
+-- the stock before each call of a list, and the last one
+unfoldable pub stocks : Stock → List Call → List Stock
+stocks s [] = s ∷ []
+stocks s (c ∷ calls) = s ∷ stocks (make s c .after) calls
+
+-- what the first stock under a label of number L held, when the label came into use; 0 where it never does
+unfoldable pub heldFirst : ℕ → List Stock → ℕ
+heldFirst L [] = 0
+heldFirst L (s ∷ l) = choose (eqb L (numberOf (s .label))) (held s) (heldFirst L l)
+
+-- what the last stock under it held, when it went out of use or the list ended; `none` where there is none
+unfoldable pub heldLast : ℕ → ℕ → List Stock → ℕ
+heldLast L none [] = none
+heldLast L none (s ∷ l) = heldLast L (choose (eqb L (numberOf (s .label))) (held s) none) l
+
+-- a label's use: n of the opening or of the accepted passage that brought it, the stock that this left, and the calls since
+pub record Use : Type 0 where
+  pub outputs : ℕ
+  pub came : Stock
+  pub since : List Made
+
+-- the n that a call names
+abbrev pub outputsOf : Call → ℕ
+outputsOf (draws l k c) = 0
+outputsOf (previews l k c) = 0
+outputsOf (passes l n) = n
+
+-- the use at the end of a list of made calls
+unfoldable pub useAfter : Use → List Made → Use
+useAfter u [] = u
+useAfter u (m ∷ h) =
+    useAfter
+    (choose (passed m)
+    (record { outputs = outputsOf (m .call); came = m .after; since = [] })
+    (record { outputs = u .outputs; came = u .came; since = u .since ++ (m ∷ []) }))
+    h
+
 -- ---- what is claimed of every list
 
--- a made call hands out index x: it is an accepted draw, and x is in its window
-pub record HandsOut (m : Made) (x : ℕ) : Type 0 where
-  pub drawn : aDraw (m .call) ≡ true
+-- a made call hands out index x under a label of number L: it is an accepted draw under it, and x is in its window
+pub record HandsOut (m : Made) (L x : ℕ) : Type 0 where
+  pub drawn : drawsUnder L (m .call) ≡ true
   pub taken : m .reply .number ≡ accepted
   pub from : m .reply .first ≤ x
   pub below : x < m .reply .first + m .reply .count
 
--- a reply is caller k's next c indices of its block, which begins at the shares summed before it, after what k drew before;
--- the block is within n
-pub record NextOf (outputs : ℕ) (shares : List ℕ) (before : List Made) (k c : ℕ) (r : Reply) : Type 0 where
-  pub caller : k < length shares
+-- a reply is caller k's next c indices of its block, which begins at what the callers before k held when the label came into use,
+-- after what k drew since; the block is within the n in use
+pub record NextOf (u : Use) (k c : ℕ) (r : Reply) : Type 0 where
   pub count : r .count ≡ c
-  pub first : r .first ≡ sumOf k (shareOf shares) + handed (drawsOf k) before
-  pub block : r .first + c ≤ sumOf (suc k) (shareOf shares)
-  pub within : sumOf (suc k) (shareOf shares) ≤ outputs
+  pub first : r .first ≡ sumOf k (holds (u .came)) + handed (drawsOf k) (u .since)
+  pub block : r .first + c ≤ sumOf (suc k) (holds (u .came))
+  pub within : sumOf (suc k) (holds (u .came)) ≤ u .outputs
 
 -- the call at place i of a list of made calls
 abbrev pub madeAt : List Made → ℕ → Made
 madeAt h i =
-    getD h i (record { call = draws 0 0; reply = record { number = noCaller; first = 0; count = 0 }; after = noCallers })
+    getD h i
+    (record { call = draws labelZero 0 0; reply = record { number = noCaller; first = 0; count = 0 }; after = noCallers })
 
--- a list of draws and previews after an accepted opening
+-- what concerns caller k: its draws, and the accepted passages
+abbrev pub concerns : ℕ → Made → Bool
+concerns k m = drawsOf k (m .call) || passed m
+
+-- a list of draws, previews and passages after an accepted opening
 pub record Claim (outputs : ℕ) (shares : List ℕ) (s : Stock) (calls : List Call) : Type 0 where
+  -- no pair of label and index is handed out twice
+  pub once : (i j : ℕ) → i < length calls → j < length calls → (L x : ℕ)
+      → HandsOut (madeAt (run s calls) i) L x → HandsOut (madeAt (run s calls) j) L x → i ≡ j
   -- outputs handed out and outputs still held make up the sum of shares
   pub sums : handed aDraw (run s calls) + held (last s calls) ≡ sumOf (length shares) (shareOf shares)
-  -- no index is handed out twice
-  pub once : (i j : ℕ) → i < length calls → j < length calls → (x : ℕ)
-      → HandsOut (madeAt (run s calls) i) x → HandsOut (madeAt (run s calls) j) x → i ≡ j
+  -- under each label, outputs handed out and outputs held when it goes out of use make up those held when it came into use
+  pub labels : (L : ℕ) → handed (drawsUnder L) (run s calls) + heldLast L 0 (stocks s calls) ≡ heldFirst L (stocks s calls)
+  -- all that a caller draws and what it still holds make up its opening share
+  pub callers : (k : ℕ) → handed (drawsOf k) (run s calls) + holds (last s calls) k ≡ shareOf shares k
   -- an accepted draw of c returns the caller's next c indices
-  pub next : (i : ℕ) → i < length calls → (k c : ℕ) → madeAt (run s calls) i .call ≡ draws k c
+  pub next : (i : ℕ) → i < length calls → (l : Label) (k c : ℕ) → madeAt (run s calls) i .call ≡ draws l k c
       → madeAt (run s calls) i .reply .number ≡ accepted
-      → NextOf outputs shares (take i (run s calls)) k c (madeAt (run s calls) i .reply)
-  -- a caller's replies are those of the list with the other callers' draws struck out
-  pub own : (k : ℕ) → replies (those (λ m. drawsOf k (m .call)) (run s calls)) ≡ replies (run s (those (drawsOf k) calls))
+      → NextOf (useAfter (record { outputs = outputs; came = s; since = [] }) (take i (run s calls))) k c
+      (madeAt (run s calls) i .reply)
+  -- a caller's numbers are those of every list with the same accepted passages and the same draws of this caller, in their order
+  pub refusals : (k : ℕ) (other : List Call) → callsOf (those (concerns k) (run s calls)) ≡ callsOf (those (concerns k) (run s other))
+      → numbers (those (λ m. drawsOf k (m .call)) (run s calls)) ≡ numbers (those (λ m. drawsOf k (m .call)) (run s other))
+  -- before any passage, a caller's replies are those of the list with all but its own draws struck out
+  pub own : (k : ℕ) → those passed (run s calls) ≡ []
+      → replies (those (λ m. drawsOf k (m .call)) (run s calls)) ≡ replies (run s (those (drawsOf k) calls))
 
 abbrev pub Lists : Type 0
 Lists =
-    (outputs : ℕ) (shares : List ℕ) → openStock outputs shares .opened .number ≡ accepted
-    → (calls : List Call) → Claim outputs shares (openStock outputs shares .opened .stock) calls
+    (label : Label) (outputs : ℕ) (shares : List ℕ) → openStock label outputs shares .opened .number ≡ accepted
+    → (calls : List Call) → Claim outputs shares (openStock label outputs shares .opened .stock) calls
 
 -- previews change nothing, on any stock: the other calls and what they reply and leave, and the last stock, are those of the
 -- list without the previews

@@ -1,10 +1,11 @@
--- What a stock holds (document 02, 2): caller k draws from its next index up to its block's end.
+-- What a stock holds (document 02, 2 and 14): a label, under which caller k draws from its next index up to its block's end.
 use mathlib.Core.Bool.{Bool, _&&_}
 use mathlib.Core.List.{List, [], _∷_}
 use Prim.Native.Nat.{ℕ, zero, suc, _+_, _-_}
 use lib.Dec.{ltb}
 use lib.ListN.{getD}
 use Rattle.algebra.specs.Choice.{choose}
+use Rattle.stock.specs.declared.Label.{Label}
 use Rattle.stock.specs.declared.Stock.{Stock}
 
 -- callers count from 0, and there are at most eight
@@ -41,10 +42,11 @@ entries callers f = eight (λ k. choose (ltb k callers) (f k) 0)
 
 -- the shares as consecutive blocks of outputs, from index 0 in caller order: a caller's block begins at the sum of the shares
 -- before it
-unfoldable pub blocks : ℕ → (ℕ → ℕ) → Stock
-blocks callers share =
+unfoldable pub blocks : Label → ℕ → (ℕ → ℕ) → Stock
+blocks label callers share =
     record {
       callers = callers;
+      label = label;
       next = entries callers (λ k. sumOf k share);
       end = entries callers (λ k. sumOf (suc k) share);
     }

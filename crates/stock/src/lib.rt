@@ -1,33 +1,53 @@
-// A dealing's outputs shared among up to eight callers: opening a stock, draws from it, and previews of draws.
-ghost use mathlib.Core.Bool.{true};
+// A dealing's outputs shared among up to eight callers: opening a stock, draws from it, previews of draws, and the passage to
+// a fresh dealing.
 ghost use mathlib.Core.Path.{_≡_};
+ghost use mathlib.Core.Bool.{true};
 ghost use Prim.Native.Nat.{_≤_};
-ghost use Rattle.stock.specs.Calls.{opening, openStock, draw as drawStock, preview as previewStock};
-ghost use Rattle.stock.specs.Inner.Steps.{refusedOpening, refusedDraw, takenDraw};
+ghost use Rattle.stock.specs.Calls.{opening, openStock, draw as drawStock, preview as previewStock, pass as passStock};
+ghost use Rattle.stock.specs.Inner.Steps.{refusedOpening, refusedDraw, takenDraw, refusedPassage};
 ghost use Rattle.stock.specs.Stock.{isCaller, holds};
 
+mod labels;
 mod shares;
 
 use answer::BAD_SIZE;
+use answer::LABEL_NOT_ABOVE;
+use answer::LABEL_NOT_IN_USE;
 use answer::NO_CALLER;
 use answer::SHARE_SPENT;
 use answer::SHARES_ABOVE;
+use labels::is_above;
+use labels::is_same;
 use shares::blocks_of;
 use shares::holding;
 use shares::is_caller;
 use shares::is_up_to;
 use shares::padded;
+use shares::rest;
 use shares::total;
 
-// Caller k draws from next[k] up to end[k]; entries past `callers` are zero.
+// The most callers of a stock.
+const MOST_CALLERS: usize = 8;
+
+// The most outputs of a dealing.
+const MOST_OUTPUTS: usize = 32768;
+
+// A dealing's label.
+#[repr(C)]
+pub struct Label {
+    pub bytes: [u8; 16],
+}
+
+// Under the label in use, caller k draws from next[k] up to end[k]; entries past `callers` are zero.
 #[repr(C)]
 pub struct Stock {
     pub callers: u32,
+    pub label: Label,
     pub next: [u32; 8],
     pub end: [u32; 8],
 }
 
-// The answer of an opening: its number, and the stock.
+// The answer of an opening or a passage: its number, and the stock.
 #[repr(C)]
 pub struct OpenedStock {
     pub number: u32,
@@ -52,30 +72,31 @@ pub struct Previewed {
     pub after: Stock,
 }
 
-// Opens a stock with a share for each caller, as consecutive blocks of the outputs.
-pub fn open(outputs: usize, shares: &[u32]) -> OpenedStock
-    ensures { λ r. ⌜ opening r (now (shares .exit)) ≡ openStock outputs (now (shares .entry)) ⌝ }
+// Opens a stock under a label with a share for each caller, as consecutive blocks of the outputs.
+pub fn open(label: Label, outputs: usize, shares: &[u32]) -> OpenedStock
+    ensures { λ r. ⌜ opening r (now (shares .exit)) ≡ openStock label outputs (now (shares .entry)) ⌝ }
 {
-    if !is_up_to(8, shares.len()) {
+    if !is_up_to(MOST_CALLERS, shares.len()) {
         return refused_opening(BAD_SIZE);
     }
-    if !is_up_to(32768, outputs) {
+    if !is_up_to(MOST_OUTPUTS, outputs) {
         return refused_opening(BAD_SIZE);
     }
     let each = padded(shares);
     if outputs < total(each) {
         return refused_opening(SHARES_ABOVE);
     }
-    let stock = blocks_of(shares.len() as u32, each);
+    let stock = blocks_of(label, shares.len() as u32, each);
     OpenedStock { number: 0, stock }
 }
 
-// A refused opening: a stock without callers.
+// A refused opening: a stock without callers, under label 0.
 fn refused_opening(number: u32) -> OpenedStock
     ensures { λ r. ⌜ r ≡ refusedOpening number ⌝ }
 {
     let stock = Stock {
         callers: 0,
+        label: Label { bytes: [0; 16] },
         next: [0; 8],
         end: [0; 8],
     };
@@ -83,9 +104,13 @@ fn refused_opening(number: u32) -> OpenedStock
 }
 
 // The caller's next `count` indices, as a window.
-pub fn draw(stock: Stock, caller: usize, count: usize) -> Drawn
-    ensures { λ r. ⌜ r ≡ drawStock stock caller count ⌝ }
+pub fn draw(stock: Stock, label: Label, caller: usize, count: usize) -> Drawn
+    ensures { λ r. ⌜ r ≡ drawStock stock label caller count ⌝ }
 {
+    let used = stock.label;
+    if !is_same(label, used) {
+        return refused_draw(stock, LABEL_NOT_IN_USE);
+    }
     if !is_caller(stock, caller) {
         return refused_draw(stock, NO_CALLER);
     }
@@ -124,10 +149,10 @@ fn refused_draw(stock: Stock, number: u32) -> Drawn
 }
 
 // What a draw would return, and the stock that it would leave.
-pub fn preview(stock: Stock, caller: usize, count: usize) -> Previewed
-    ensures { λ r. ⌜ r ≡ previewStock stock caller count ⌝ }
+pub fn preview(stock: Stock, label: Label, caller: usize, count: usize) -> Previewed
+    ensures { λ r. ⌜ r ≡ previewStock stock label caller count ⌝ }
 {
-    let drawn = draw(stock, caller, count);
+    let drawn = draw(stock, label, caller, count);
     let after = drawn.stock;
     Previewed {
         number: drawn.number,
@@ -135,4 +160,33 @@ pub fn preview(stock: Stock, caller: usize, count: usize) -> Previewed
         count: drawn.count,
         after,
     }
+}
+
+// Passes a stock to a dealing with another label: each caller keeps its unspent share, as a block of the fresh outputs.
+pub fn pass(stock: Stock, label: Label, outputs: usize) -> OpenedStock
+    ensures { λ r. ⌜ r ≡ passStock stock label outputs ⌝ }
+{
+    if !is_up_to(MOST_OUTPUTS, outputs) {
+        return refused_passage(stock, BAD_SIZE);
+    }
+    let used = stock.label;
+    if !is_above(label, used) {
+        return refused_passage(stock, LABEL_NOT_ABOVE);
+    }
+    let each = rest(stock);
+    if outputs < total(each) {
+        return refused_passage(stock, SHARES_ABOVE);
+    }
+    let fresh = blocks_of(label, stock.callers, each);
+    OpenedStock {
+        number: 0,
+        stock: fresh,
+    }
+}
+
+// A refused passage: the stock as it was.
+fn refused_passage(stock: Stock, number: u32) -> OpenedStock
+    ensures { λ r. ⌜ r ≡ refusedPassage stock number ⌝ }
+{
+    OpenedStock { number, stock }
 }

@@ -4,6 +4,7 @@ ghost use Prim.Native.Nat.{_≤_, min};
 ghost use lib.ListN.{length};
 ghost use Rattle.stock.specs.Stock.{isCaller, holds, sumOf, entries, blocks};
 ghost use Rattle.stock.specs.Calls.{isUpTo, shareOf};
+use crate::Label;
 use crate::Stock;
 
 // Whether a number is 1 to a largest one.
@@ -54,9 +55,9 @@ fn at_most_eight(callers: u32) -> usize
 }
 
 // Consecutive blocks of the outputs, from index 0 in caller order.
-pub fn blocks_of(callers: u32, shares: [u32; 8]) -> Stock
+pub fn blocks_of(label: Label, callers: u32, shares: [u32; 8]) -> Stock
     requires { ⌜ sumOf 8 (shareOf shares) ≤ 32768 ⌝ }
-    ensures { λ r. ⌜ r ≡ blocks callers (shareOf shares) ⌝ }
+    ensures { λ r. ⌜ r ≡ blocks label callers (shareOf shares) ⌝ }
 {
     let n = at_most_eight(callers);
     let mut next = [0u32; 8];
@@ -69,7 +70,12 @@ pub fn blocks_of(callers: u32, shares: [u32; 8]) -> Stock
         end[k] = at;
         k += 1;
     }
-    Stock { callers, next, end }
+    Stock {
+        callers,
+        label,
+        next,
+        end,
+    }
 }
 
 // Whether a stock has a caller.
@@ -95,4 +101,17 @@ pub fn holding(stock: Stock, caller: usize) -> u32
         return 0;
     }
     end - next
+}
+
+// What each of the eight callers has not drawn.
+pub fn rest(stock: Stock) -> [u32; 8]
+    ensures { λ r. ⌜ r ≡ entries 8 (holds stock) ⌝ }
+{
+    let mut each = [0u32; 8];
+    let mut caller: usize = 0;
+    while caller < 8 {
+        each[caller] = holding(stock, caller);
+        caller += 1;
+    }
+    each
 }

@@ -24,3 +24,6 @@ starts n shares = entries n (λ k. sumOf k (shareOf shares))
 
 unfoldable pub ends : ℕ → List ℕ → List ℕ
 ends n shares = entries n (λ k. sumOf (suc k) (shareOf shares))
+
+abbrev pub refusedPassage : Stock → ℕ → OpenedStock
+refusedPassage s number = record { number = number; stock = s }

@@ -13,14 +13,14 @@ use Rattle.stock.proofs.shares.blocks_of.Statement.{statement}
 use Rattle.stock.proofs.shares.blocks_of.Tie as tie
 
 abbrev Inv-loop : tie.InvT-loop
-Inv-loop callers shares n next₀ end₀ at₀ k₀ next end at k =
+Inv-loop label callers shares n next₀ end₀ at₀ k₀ next end at k =
     (k ≤ n)
     × (next ≡ starts k shares)
     × (end ≡ ends k shares)
     × (at ≡ sumOf k (shareOf shares))
 
 abbrev μ-loop : tie.MeasureT-loop
-μ-loop callers shares n next₀ end₀ at₀ k₀ next end at k = n - k
+μ-loop label callers shares n next₀ end₀ at₀ k₀ next end at k = n - k
 
 pub blocks-of-spec : {M : Type 1} → statement M
 blocks-of-spec =

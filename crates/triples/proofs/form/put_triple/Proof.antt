@@ -25,5 +25,5 @@ put-triple-spec =
     (λ c. search needs)  -- add-triples-2
     (λ c. simp length-set (omega arith))  -- slice-write-triples-3
     (λ c. search needs)  -- same-length
-    (λ c. triple-stored _ _ _ _ _)  -- returns
+    (λ c. search triple-stored)  -- returns
     )
