@@ -898,6 +898,87 @@ static void faulty_pads(int rounds)
     EXPECT(try_noise_pads(0, SIZE_MAX, v_bytes, 16, choices, 1, 16, NULL) == 3);
 }
 
+/* ---- Outputs whose blocks differ by their indices (document 02, 4) ---- */
+
+/* The block b, exclusive-or the block of an index. */
+static void store_moved(uint8_t bytes[16], block b, size_t index)
+{
+    b.lo ^= index;
+    plain_store(bytes, b);
+}
+
+/* Whether any two of c blocks, `apart` bytes from one to the next, are equal. */
+static int any_equal(const uint8_t *blocks, size_t apart, size_t c)
+{
+    for (size_t i = 0; i < c; i++)
+        for (size_t j = i + 1; j < c; j++)
+            if (memcmp(blocks + apart * i, blocks + apart * j, 16) == 0)
+                return 1;
+    return 0;
+}
+
+/* Two outputs by calls of their own: both ends' pads are different. */
+static void two_apart(size_t first, size_t second)
+{
+    const size_t index[2] = {first, second};
+    uint8_t bytes[16], scalar[16], noise_end[32], scalar_end[64];
+    block b;
+    random_bytes(bytes, 16);
+    random_bytes(scalar, 16);
+    b = plain_load(bytes);
+    for (int k = 0; k < 2; k++) {
+        const uint8_t choice = random_word() & 1;
+        store_moved(bytes, b, index[k]);
+        EXPECT(try_noise_pads(index[k], 1, bytes, 16, &choice, 1, 16, noise_end + 16 * k) == 0);
+        EXPECT(try_scalar_pads(index[k], 1, bytes, 16, scalar, 16, 32, scalar_end + 32 * k) == 0);
+    }
+    EXPECT(!any_equal(noise_end, 16, 2));
+    EXPECT(!any_equal(scalar_end, 16, 4)); /* messages 0 and 1 of both */
+
+    /* Equal blocks, and Delta the difference of the indices: message 0 of one, 1 of the other. */
+    plain_store(bytes, b);
+    memset(scalar, 0, 16);
+    scalar[0] = (uint8_t)(first ^ second);
+    scalar[1] = (uint8_t)((first ^ second) >> 8);
+    for (int k = 0; k < 2; k++)
+        EXPECT(try_scalar_pads(index[k], 1, bytes, 16, scalar, 16, 32, scalar_end + 32 * k) == 0);
+    EXPECT(!any_equal(scalar_end, 16, 4));
+}
+
+/* A window of outputs of which every two differ by their indices. */
+static void window_apart(size_t first, size_t c)
+{
+    uint8_t bytes[16], scalar[16];
+    block b;
+    random_bytes(bytes, 16);
+    random_bytes(scalar, 16);
+    b = plain_load(bytes);
+    for (size_t k = 0; k < c; k++) {
+        store_moved(v_bytes + 16 * k, b, first + k);
+        choices[k] = random_word() & 1;
+    }
+    EXPECT(try_noise_pads(first, c, v_bytes, 16 * c, choices, c, 16 * c, one_pad) == 0);
+    EXPECT(try_scalar_pads(first, c, v_bytes, 16 * c, scalar, 16, 32 * c, both_pads) == 0);
+    EXPECT(!any_equal(one_pad, 16, c));
+    EXPECT(!any_equal(both_pads, 16, 2 * c));
+}
+
+static void blocks_apart(int rounds)
+{
+    static const size_t pairs[][2] = {{0, 1}, {0, 128}, {255, 256}, {1, 256}, {0, 32767},
+                                      {16384, 16383}, {32766, 32767}};
+    for (size_t k = 0; k < sizeof pairs / sizeof *pairs; k++)
+        two_apart(pairs[k][0], pairs[k][1]);
+    for (int round = 0; round < rounds; round++) {
+        size_t first = random_below(32768), second = random_below(32768);
+        if (first != second)
+            two_apart(first, second);
+    }
+    window_apart(0, 64);
+    window_apart(224, 64);
+    window_apart(32768 - 64, 64);
+}
+
 /* ---- Document 01's cases ---- */
 
 static void cases(void)
@@ -955,6 +1036,7 @@ int main(void)
     longest_records();
     faulty_deals(8000);
     faulty_pads(8000);
+    blocks_apart(500);
     edge_products();
     edge_sums();
     odd_records(40000);

@@ -1,4 +1,4 @@
-/* A plain second implementation of document 01 (plain.h). */
+/* A plain second implementation of document 01, its pads by document 02, request 4 (plain.h). */
 #include "plain.h"
 
 #include <string.h>
@@ -790,11 +790,11 @@ static int is_multiple(size_t len, size_t size, size_t count)
     return len % size == 0 && len / size == count;
 }
 
-/* E(FF.., z) exclusive-or z, where z is b exclusive-or the block of x. */
+/* E(FF.., a exclusive-or the block of x) exclusive-or a, where a is E(FF.., b). */
 static block pad(size_t x, block b)
 {
-    b.lo ^= x;
-    return exclusive_or(plain_encrypt(&pad_key, b), b);
+    block index = {x, 0}, a = plain_encrypt(&pad_key, b);
+    return exclusive_or(plain_encrypt(&pad_key, exclusive_or(a, index)), a);
 }
 
 uint32_t plain_noise_pads(

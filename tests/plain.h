@@ -1,5 +1,5 @@
-/* A plain second implementation of document 01, to hold the library to. Written from that document
- * and FIPS 197 alone. Parameters lie as in expander.h.
+/* A plain second implementation of document 01, its pads by document 02, request 4, to hold the
+ * library to. Written from those documents and FIPS 197 alone. Parameters lie as in expander.h.
  */
 #ifndef PLAIN_H
 #define PLAIN_H

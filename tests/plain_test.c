@@ -1,5 +1,5 @@
-/* The plain implementation held to FIPS 197, to document 01's cases, and, on random dealings, to
- * document 01's definitions written out place by place.
+/* The plain implementation held to FIPS 197, to document 01's cases, to the pads of document 02,
+ * request 4, and, on random dealings, to the documents' definitions written out place by place.
  */
 #include "dealing.h"
 #include "plain.h"
@@ -249,16 +249,77 @@ static int same(block a, block b)
     return a.lo == b.lo && a.hi == b.hi;
 }
 
+/* Two steps: a is the block encrypted, and the pad E(FF.., a exclusive-or the index) combined with
+ * a. The index is a number of 16 bytes, least byte first. */
 static block pad(uint64_t index, block b)
 {
-    uint8_t key[16], z[16], out[16];
+    uint8_t key[16], in[16], a[16], out[16];
     memset(key, 0xff, 16);
-    b.lo ^= index;
-    plain_store(z, b);
-    encrypt_bytes(key, z, out);
+    plain_store(in, b);
+    encrypt_bytes(key, in, a);
     for (int k = 0; k < 16; k++)
-        out[k] ^= z[k];
+        in[k] = (uint8_t)(a[k] ^ (k < 8 ? index >> (8 * k) & 0xff : 0));
+    encrypt_bytes(key, in, out);
+    for (int k = 0; k < 16; k++)
+        out[k] ^= a[k];
     return plain_load(out);
+}
+
+/* Both calls' pads of one block at one index, Delta being d, are those of the rule. */
+static void test_pad(size_t index, block b, block d)
+{
+    const uint8_t choice = index & 1;
+    uint8_t bytes[16], delta[16], one[16], both[32];
+    plain_store(bytes, b);
+    plain_store(delta, d);
+    CHECK(plain_noise_pads(index, 1, bytes, 16, &choice, 1, one, 16) == 0);
+    CHECK(plain_scalar_pads(index, 1, bytes, 16, delta, 16, both, 32) == 0);
+    CHECK(same(plain_load(one), pad(index, b)));
+    CHECK(same(plain_load(both), pad(index, b)));
+    CHECK(same(plain_load(both + 16), pad(index, plain_add(1, b, d))));
+}
+
+static void test_pads(void)
+{
+    /* Pads of the block 00 01 .. 0f, worked out with OpenSSL's AES-128. */
+    static const struct {
+        size_t index;
+        uint8_t pad[16];
+    } known[] = {{0, {0x0f, 0xcc, 0x00, 0x0f, 0xe4, 0xd8, 0xcb, 0xa7,
+                      0xde, 0x7c, 0x32, 0xd9, 0x41, 0xdf, 0xf0, 0x90}},
+                 {1, {0x68, 0x16, 0x3d, 0x50, 0x18, 0x75, 0xa4, 0x31,
+                      0x36, 0xe6, 0x70, 0xcb, 0x99, 0x19, 0x79, 0xd5}},
+                 {32767, {0x0e, 0xaa, 0x68, 0xe0, 0xe1, 0x2c, 0x37, 0xb0,
+                          0x6f, 0xb4, 0x15, 0x2a, 0x9a, 0xba, 0x96, 0x88}}};
+    uint8_t block_bytes[16], bytes[32], choices[2] = {0, 1}, one[32];
+
+    for (uint8_t k = 0; k < 16; k++)
+        block_bytes[k] = k;
+    for (size_t k = 0; k < sizeof known / sizeof *known; k++) {
+        CHECK(plain_noise_pads(known[k].index, 1, block_bytes, 16, choices, 1, one, 16) == 0);
+        CHECK(memcmp(one, known[k].pad, 16) == 0);
+        test_pad(known[k].index, plain_load(block_bytes), element(1));
+    }
+    for (int round = 0; round < 2000; round++) {
+        size_t first = random_below(32767), other = random_below(32768);
+        block b, d;
+        random_bytes(bytes, 32);
+        b = plain_load(bytes);
+        d = plain_load(bytes + 16);
+        test_pad(first, b, d);
+
+        /* The block at another index that had this pad by the rule before has it no more. */
+        if (other != first) {
+            block moved = {b.lo ^ first ^ other, b.hi};
+            test_pad(other, moved, d);
+            CHECK(!same(pad(first, b), pad(other, moved)));
+        }
+
+        /* In a window an index counts from 0, not from the window's start. */
+        CHECK(plain_noise_pads(first, 2, bytes, 32, choices, 2, one, 32) == 0);
+        CHECK(same(plain_load(one), pad(first, b)));
+        CHECK(same(plain_load(one + 16), pad(first + 1, d)));
+    }
 }
 
 static void test_definitions(unsigned field, size_t depth)
@@ -353,16 +414,19 @@ static void test_definitions(unsigned field, size_t depth)
 
 int main(void)
 {
-    unsigned long cipher, cases;
+    unsigned long cipher, cases, pads;
     test_cipher();
     cipher = checks;
     test_cases();
     cases = checks;
+    test_pads();
+    pads = checks;
     for (int round = 0; round < 6; round++)
         for (size_t depth = 1; depth <= 5; depth++)
             for (unsigned field = 1; field <= 2; field++)
                 test_definitions(field, depth);
-    printf("plain implementation: %lu facts of the cipher, %lu of cases, %lu of dealings hold\n",
-           cipher, cases - cipher, checks - cases);
+    printf("plain implementation: %lu facts of the cipher, %lu of cases, %lu of pads, "
+           "%lu of dealings hold\n",
+           cipher, cases - cipher, pads - cases, checks - pads);
     return 0;
 }

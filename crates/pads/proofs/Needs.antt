@@ -16,7 +16,7 @@ use Rattle.field.specs.Binary.{block, blockAdd, blockLeaf}
 use Rattle.field.specs.Bytes.{columnsOf}
 use Rattle.field.specs.Inner.Written.{withWord}
 use Rattle.pads.specs.Inner.Written.{withBlock, withMessages}
-use Rattle.pads.specs.Pad.{padKey, hash, pad, messages}
+use Rattle.pads.specs.Pad.{padKey, underPadKey, pad, messages}
 use Rattle.pads.specs.Calls.{anyAbove}
 use Rattle.pads.proofs.Written.{two-words, two-blocks}
 
@@ -30,12 +30,17 @@ pub put-both : (l l′ l″ : List ℕ) (at x : ℕ) (w d s p q : Block) → p �
 unfolding messages
 put-both l l′ l″ at x w d s p q pe se qe e g = g ∙ rw (e, qe, se, pe) (two-blocks l at (messages pad x w d))
 
--- the pad from the cipher's result
-pub pad-is : (x : ℕ) (w z r : Block) (keys : List (List (List ℕ))) (s e : List (List ℕ))
-    → keys ≡ keyExpansion padKey → z ≡ blockAdd w (block x 0) → s ≡ columnsOf (z .low) (z .high)
-    → e ≡ xorState (cipher keys s) s → r ≡ blockLeaf e → r ≡ pad x w
-unfolding pad hash aes
-pad-is x w z r keys s e ks ze se ee re = rw (re, ee, se, ze, ks)
+-- the cipher's result on a block
+pub under-is : (b r : Block) (keys : List (List (List ℕ))) (s e : List (List ℕ))
+    → keys ≡ keyExpansion padKey → s ≡ columnsOf (b .low) (b .high) → e ≡ cipher keys s → r ≡ blockLeaf e → r ≡ underPadKey b
+unfolding underPadKey aes
+under-is b r keys s e ks se ee re = rw (re, ee, se, ks)
+
+-- the pad from both steps
+pub pad-is : (x : ℕ) (w a z e r : Block)
+    → a ≡ underPadKey w → z ≡ blockAdd a (block x 0) → e ≡ underPadKey z → r ≡ blockAdd e a → r ≡ pad x w
+unfolding pad
+pad-is x w a z e r ae ze ee re = rw (re, ee, ze, ae)
 
 -- tests that hold together have one value
 same : (s t : Bool) → (s ≡ true → t ≡ true) → (t ≡ true → s ≡ true) → s ≡ t

@@ -1,8 +1,8 @@
--- The pad rule (document 01, 'Pads'). A rule is any function of the index and the block; the index counts from the start of
--- the dealing's outputs.
+-- The pad rule (document 01, 'Pads', as document 02, 4 replaces it). A rule is any function of the index and the block; the
+-- index counts from the start of the dealing's outputs.
 use mathlib.Core.List.{List}
 use Prim.Native.Nat.{ℕ}
-use Rattle.aes128.specs.State.{four, xorState}
+use Rattle.aes128.specs.State.{four}
 use Rattle.aes128.specs.Cipher.{aes}
 use Rattle.field.specs.declared.block.Block.{Block}
 use Rattle.field.specs.Binary.{block, blockAdd, blockOf}
@@ -25,13 +25,14 @@ indexBlock x = block x 0
 abbrev pub state : Block → List (List ℕ)
 state b = columnsOf (b .low) (b .high)
 
--- E(16 bytes FF, z) exclusive-or z
-unfoldable pub hash : Block → Block
-hash z = blockOf (xorState (aes padKey (state z)) (state z))
+-- E(16 bytes FF, b)
+unfoldable pub underPadKey : Block → Block
+underPadKey b = blockOf (aes padKey (state b))
 
--- the pad of index x and block w: that of z, where z is w exclusive-or the 16-byte LE block of x
+-- the pad of index x and block w, in two steps: with a = E(16 bytes FF, w), E(16 bytes FF, a exclusive-or the index block)
+-- exclusive-or a (document 02, 4)
 unfoldable pub pad : Rule
-pad x w = hash (blockAdd w (indexBlock x))
+pad x w = let a = underPadKey w in blockAdd (underPadKey (blockAdd a (indexBlock x))) a
 
 -- messages 0 and 1 of index x: the pad of w, then that of w exclusive-or Δ
 unfoldable pub messages : Rule → ℕ → Block → Block → Messages

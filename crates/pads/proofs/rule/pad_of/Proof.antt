@@ -8,9 +8,9 @@ pub pad-of-spec : {M : Type 1} → statement M
 pad-of-spec =
     tie.close
     (tie.spec
+    (λ c κs. search needs)  -- under-pad-key-requires
     (λ c κs. search needs)  -- add-requires
-    (λ c κs. search needs)  -- columns-requires
-    (λ c κs. search needs)  -- encrypt-xor-requires
-    (λ c κs. search needs)  -- of-columns-requires
+    (λ c κs. search needs)  -- under-pad-key-requires-2
+    (λ c κs. search needs)  -- add-requires-2
     (λ c. search pad-is)  -- returns
     )
