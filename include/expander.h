@@ -1,5 +1,5 @@
 /* Correlation expander: dealing, the noise end and the scalar end, pads, signed amounts,
- * messages of the caller's choosing, AND triples, a stock of outputs for several callers.
+ * messages of the caller's choosing, AND triples, a stock of outputs for several callers, circuits.
  *
  * A dealing makes two key records. The noise end expands its record to u and v, the scalar end
  * expands its own to w, and w = Delta * u + v at every index below n. In field 1 the pad calls turn
@@ -8,8 +8,9 @@
  * choosing over such pads: the noise end sends correction bits, the scalar end answers with both
  * messages masked, and the noise end opens the one that it wants. Two dealings with the roles
  * exchanged give AND triples: bits of which each end holds a share, to be combined by exclusive or.
- * A stock divides a dealing's outputs among callers, so that no index is used twice; what is left
- * of it can pass to another dealing.
+ * With them both ends run a circuit on bits that neither of them knows. A stock divides a dealing's
+ * outputs among callers, so that no index is used twice; what is left of it can pass to another
+ * dealing.
  *
  * Sizes
  *   d  depth of a tree, 1 to 16; N is 2^d
@@ -33,8 +34,8 @@
  *   Accepted      The number is 0. Each output buffer holds the result from its start, and the
  *                 lengths returned say how much of it; what lies past that is untouched.
  *   Refused       The number is that of the first test that failed, tests being taken in the order
- *                 listed. All else that is returned is 0, but a stock that was passed is returned
- *                 as it was, and all memory is as it was before the call.
+ *                 listed. All else that is returned is 0, but a stock or state that was passed is
+ *                 returned as it was, and all memory is as it was before the call.
  *   In both cases every input buffer is as it was before the call. No call allocates, or keeps
  *   anything between calls, so calls on different output buffers may run at the same time. Sums and
  *   products of what the caller passes do not wrap: first and count may have any value.
@@ -69,14 +70,16 @@ extern "C" {
 #define EXPANDER_BAD_DELTA 6u        /* Delta zero, or not as its field wants it */
 #define EXPANDER_WINDOW_PAST_END 7u  /* first + count too large */
 #define EXPANDER_NOT_ELEMENT 8u      /* correction or used word no element; bit or choice above 1 */
-#define EXPANDER_WRONG_END 9u        /* end byte not this end's */
-#define EXPANDER_RECORD_ENDS 10u     /* record ends inside a field */
-#define EXPANDER_BAD_NUMBER 11u      /* number in a record not in its shortest form, or too long */
-#define EXPANDER_BYTES_AFTER 12u     /* bytes after the record */
+#define EXPANDER_WRONG_END 9u        /* end byte not this end's; role not 1 or 2 */
+#define EXPANDER_RECORD_ENDS 10u     /* record or circuit ends inside a field */
+#define EXPANDER_BAD_NUMBER 11u      /* number read not in its shortest form, or too long */
+#define EXPANDER_BYTES_AFTER 12u     /* bytes after the record or circuit */
 #define EXPANDER_BUFFER_SHORT 13u    /* output buffer too short */
 #define EXPANDER_NO_CALLER 14u       /* no such caller */
 #define EXPANDER_SHARE_SPENT 15u     /* the caller's remaining share is under count */
 #define EXPANDER_SHARES_ABOVE 16u    /* shares, or what is left of them, sum above n */
+#define EXPANDER_BAD_CIRCUIT 17u     /* size, kind, wire or state not admitted */
+#define EXPANDER_TOO_FEW_TRIPLES 18u /* fewer triples than AND gates */
 #define EXPANDER_AMOUNT_OUT_OF_RANGE 19u /* amount below -(2^60 - 1) or above 2^60 - 1 */
 #define EXPANDER_LABEL_NOT_ABOVE 20u /* label not above the one in use */
 #define EXPANDER_LABEL_NOT_IN_USE 21u /* label not the one in use */
@@ -91,6 +94,24 @@ extern "C" {
 /* The most callers of a stock, and the most outputs that it is opened for. */
 #define EXPANDER_CALLERS_MAX 8
 #define EXPANDER_OUTPUTS_MAX 32768
+
+/* The most wires of a circuit, inputs and gates together, and the most outputs. */
+#define EXPANDER_WIRES_MAX 4096
+#define EXPANDER_CIRCUIT_OUTPUTS_MAX 4096
+
+/* Kinds of gates. */
+#define EXPANDER_GATE_XOR 1
+#define EXPANDER_GATE_AND 2
+#define EXPANDER_GATE_NOT 3
+
+/* Roles in a run: the noise end of the triples' first dealing, and its scalar end. */
+#define EXPANDER_ROLE_NOISE 1
+#define EXPANDER_ROLE_SCALAR 2
+
+/* Phases of a run. */
+#define EXPANDER_RUN_FRESH 0u    /* no step is made yet */
+#define EXPANDER_RUN_WAITS 1u    /* it waits for the far bits of an AND */
+#define EXPANDER_RUN_FINISHED 2u /* the outputs are written */
 
 /* A number, and what was written to the first and to the second output buffer. */
 struct expander_two_lengths {
@@ -154,6 +175,26 @@ struct expander_previewed {
     size_t first;
     size_t count;
     struct expander_stock after;
+};
+
+/* One end's run of a circuit: its phase, the gate that it has come to, and its shares of the inputs
+ * and of the gates passed. A fresh one is all 0. Its owner passes it to each step as the accepted
+ * step before returned it. Contents that no step returned, but for the test of phase and gate, are
+ * taken as they are. */
+struct expander_run {
+    uint32_t phase;
+    uint32_t gate;
+    uint8_t wires[EXPANDER_WIRES_MAX];
+};
+
+/* A number, what was written to the output buffer, the two bits to send, and the run after the
+ * step. */
+struct expander_stepped {
+    uint32_t number;
+    size_t written;
+    uint8_t first_bit;
+    uint8_t second_bit;
+    struct expander_run state;
 };
 
 /** Make a noise record and a scalar record of one dealing.
@@ -492,6 +533,60 @@ struct expander_one_length expander_triples(
     const uint8_t *pads, size_t pads_len,
     const uint8_t *messages, size_t messages_len,
     uint8_t *triples_out, size_t triples_out_len);
+
+/** Run one end's shares of a circuit up to the next AND, or to the end. What a wire carries is the
+ *  exclusive or of both ends' shares of it.
+ *
+ *  A circuit is numbers as in the records: the number of inputs, of gates and of outputs; of each
+ *  gate, its kind (1 exclusive or, 2 AND, 3 NOT) and its two wires, of a NOT its one; the output
+ *  wires. Wires count from 0, inputs first, then gates in order; a gate's wires come before it.
+ *
+ *  A run begins with a fresh state, all 0. While the state returned is in phase 1, the two bits
+ *  returned are sent to the other end, and the next step takes that state and the two bits that the
+ *  other end's step returned. In phase 2 the output holds this end's shares of the outputs. Every
+ *  step of a run gets the same role, circuit, shares and triples; a further step on a finished run
+ *  writes the outputs again. A circuit with A ANDs takes A + 1 steps.
+ *
+ *  Returns:  a number, the bytes written to output (of a finished run, the number of outputs; else
+ *            0), the two bits to send (of a finished run, 0), and the state after the step.
+ *             0: accepted
+ *            Reading circuit from front to back, each number first read whole and then tested:
+ *            10: circuit ends before a number or inside it
+ *            11: the number is not in its shortest form, or its third byte has the top bit set
+ *            17: the number of inputs is 0 or above 4096; inputs and gates together are above 4096;
+ *                the number of outputs is 0 or above 4096; a kind is not 1, 2 or 3; a gate's wire
+ *                is not before the gate; an output wire is none of the wires
+ *            and at the end:
+ *            12: bytes follow the circuit
+ *            17: state.phase is above 2, or is 1 where state.gate is no AND of the circuit
+ *             9: role is not 1 or 2
+ *             3: shares_len is not the number of inputs, or triples_len is no multiple of 3
+ *            13: output_len is below the number of outputs
+ *             8: a share or a triple's bit is above 1, in unused triples too; or, in phase 1, a far
+ *                bit is
+ *            18: there are fewer triples than ANDs
+ *  In:       role:       1 at the noise end of the triples' first dealing, 2 at the other end
+ *            circuit:    the circuit, of exactly circuit_len bytes, the same at both ends
+ *            shares:     this end's share of each input, one byte 0 or 1; shares_len is the number
+ *                        of inputs
+ *            triples:    this end's triples as expander_triples wrote them, of the same outputs at
+ *                        both ends; AND j, counted from 0, uses triple j; triples_len is 3 times
+ *                        their number, at least 3 A
+ *            far_first:  the first bit of the other end's step; read and tested in phase 1 alone
+ *            far_second: the second bit, likewise
+ *            state:      the state as the accepted step before returned it, at first all 0
+ *  Out:      output:     of a finished run, this end's share of each output, one byte 0 or 1
+ *  Refused:  the output buffer is as it was, the bits are 0, and the state is as it was.
+ *  Overlap:  output overlaps neither circuit nor shares nor triples.
+ */
+struct expander_stepped expander_circuit_step(
+    uint8_t role,
+    const uint8_t *circuit, size_t circuit_len,
+    const uint8_t *shares, size_t shares_len,
+    const uint8_t *triples, size_t triples_len,
+    uint8_t *output, size_t output_len,
+    uint8_t far_first, uint8_t far_second,
+    struct expander_run state);
 
 /** Open a stock: give each caller a share of a dealing's outputs, as consecutive blocks of indices
  *  from 0 in caller order.

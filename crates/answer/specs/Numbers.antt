@@ -71,6 +71,14 @@ shareSpent = 15
 abbrev pub sharesAbove : ℕ
 sharesAbove = 16
 
+-- a size, kind or wire of a circuit that is not admitted; a state that waits at no AND of the circuit
+abbrev pub badCircuit : ℕ
+badCircuit = 17
+
+-- fewer triples than AND gates
+abbrev pub tooFewTriples : ℕ
+tooFewTriples = 18
+
 -- an amount below −(2^60 − 1) or above 2^60 − 1 (document 02, 13)
 abbrev pub amountOutOfRange : ℕ
 amountOutOfRange = 19

@@ -38,6 +38,10 @@ pub const NO_CALLER: u32 = 14;
 pub const SHARE_SPENT: u32 = 15;
 // Shares sum above n.
 pub const SHARES_ABOVE: u32 = 16;
+// A size, kind or wire of a circuit that is not admitted, or a state that no step left.
+pub const BAD_CIRCUIT: u32 = 17;
+// Fewer triples than AND gates.
+pub const TOO_FEW_TRIPLES: u32 = 18;
 // An amount below −(2^60 − 1) or above 2^60 − 1.
 pub const AMOUNT_OUT_OF_RANGE: u32 = 19;
 // The label is not above the one in use.

@@ -6,7 +6,7 @@ use native.Mathlib.Omega.{arith}
 use native.Mathlib.Numerals.{add-one}
 use lib.ListN.{length, getD, take, length-append}
 use lib.Seq.{drop-cons}
-use Rattle.field.specs.Bytes.{wordAt}
+use Rattle.field.specs.Bytes.{wordAt, fourAt}
 use Rattle.number.specs.Reading.{part}
 use Rattle.record.proofs.Writes.{length-head, length-element}
 use Rattle.record.specs.Content.{NoiseTree}
@@ -15,7 +15,6 @@ use Rattle.record.specs.Writing.{writeEach, writeBlocks, writeHead, writeWords,
 use Rattle.record.specs.Inner.Lengths.{frontLength, treesLength, noiseLength, scalarLength}
 use Rattle.tree.proofs.Blocks.{length-block}
 use Rattle.tree.proofs.Listed.{listed-none, listed-front, listed-cong, listed-getD}
-use Rattle.field.specs.Bytes.{fourAt}
 use Rattle.tree.specs.Columns.{columnsAt, columnsBytes}
 use Rattle.tree.specs.Tree.{listed}
 use Rattle.dealing.specs.Admitted.{Admitted}

@@ -15,7 +15,7 @@ use Rattle.algebra.proofs.Tests.{and-left}
 use Rattle.algebra.specs.Expansion.{correction}
 use Rattle.algebra.specs.Field.{NoiseValue}
 use Rattle.field.proofs.ByteWords.{leNumber-below, lowOf-below, highOf-below}
-use Rattle.field.specs.Bytes.{eightAt, wordAt}
+use Rattle.field.specs.Bytes.{eightAt, wordAt, fourAt}
 use Rattle.field.specs.Binary.{block, blockScale}
 use Rattle.field.specs.declared.prime.Prime.{Prime}
 use Rattle.field.specs.Kind.{kindOf, elementWords}
@@ -30,7 +30,6 @@ use Rattle.tree.proofs.ChildLaws.{leaf-state, siblings-states}
 use Rattle.tree.proofs.Laws as tree
 use Rattle.tree.proofs.Listed.{length-listed, listed-none, listed-front, listed-at}
 use Rattle.tree.specs.Child.{child}
-use Rattle.field.specs.Bytes.{fourAt}
 use Rattle.tree.specs.Columns.{columnsAt, columnsBytes}
 use Rattle.tree.specs.Tree.{listed, siblings, leafAt}
 use Rattle.dealing.specs.Admitted.{InMemory, Admitted}

@@ -9,7 +9,7 @@ use lib.ListN.{getD, replicate}
 use Rattle.algebra.proofs.Tests.{and-left, and-right}
 use Rattle.answer.specs.Numbers.{accepted, windowPastEnd}
 use Rattle.dealing.specs.Admitted.{InMemory}
-use Rattle.dealing.specs.Input.{Input}
+use Rattle.dealing.specs.Input.{Input, sizesAdmitted, lengthsAdmitted, positionsAdmitted, everyNoise, deltaAdmitted, fault}
 use Rattle.algebra.specs.Coding as coding
 use Rattle.algebra.specs.Expansion.{rising, noise, correction, punctured, whole}
 use Rattle.algebra.specs.Row.{output}
@@ -32,7 +32,6 @@ use Rattle.record.specs.Writing.{writeHead, writeFront, writeTree, writeTrees, 
 use Rattle.record.specs.Reading.{items, readItems, readSize, readPosition, readValue, readCorrection, readDelta, readField, readSizes, readHead, readTree, readTrees, readNoise, readScalar}
 use Rattle.rows.specs.Usable.{windowUsable}
 use Rattle.dealing.specs.Deal.{deal}
-use Rattle.dealing.specs.Input.{sizesAdmitted, lengthsAdmitted, positionsAdmitted, everyNoise, deltaAdmitted, fault}
 use Rattle.dealing.specs.Parts.{noiseTree}
 use Rattle.noise_end.specs.Offline as noiseOffline
 use Rattle.noise_end.specs.Online as noiseOnline

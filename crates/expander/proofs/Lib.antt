@@ -10,3 +10,4 @@ pub mod Buffers
 mod Taken
 pub mod Messages
 pub mod Triples
+pub mod CircuitRuns

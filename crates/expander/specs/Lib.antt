@@ -8,3 +8,4 @@ pub mod Cases
 pub mod Taken
 pub mod Messages
 pub mod Triples
+pub mod Circuits

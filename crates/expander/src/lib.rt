@@ -10,6 +10,7 @@ ghost use Rattle.scalar_end.specs.Online as scalarOnline;
 
 mod and_triples;
 mod chosen_messages;
+mod circuits;
 mod signed_amounts;
 mod stocks;
 

@@ -16,12 +16,7 @@ pub fn pad_keys(sbox: &[u8; 256]) -> [[[u8; 4]; 4]; 11]
 }
 
 // The cipher's result on a block.
-fn under_pad_key(
-    sbox: &[u8; 256],
-    mix: &[u32; 256],
-    keys: &[[[u8; 4]; 4]; 11],
-    b: Block,
-) -> Block
+fn under_pad_key(sbox: &[u8; 256], mix: &[u32; 256], keys: &[[[u8; 4]; 4]; 11], b: Block) -> Block
     requires { ⌜ PadKeys (now sbox) (now mix) (now keys) ⌝ }
     ensures { λ r. ⌜ r ≡ underPadKey b ⌝ }
 {

@@ -1,0 +1,10 @@
+-- The laws of `circuit`.
+pub mod Ands
+pub mod Exact
+pub mod Lists
+pub mod Refusals
+pub mod Second
+pub mod Values
+mod Circuits
+mod Fields
+mod Turns

@@ -1,0 +1,3 @@
+-- Inner: no promise cites these files. What the functions of `circuit` say to each other.
+pub mod Opens
+pub mod GateKinds

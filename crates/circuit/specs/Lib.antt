@@ -1,0 +1,8 @@
+-- Circuits (document 02, 9): content, what is admitted, value, writing, reading, and that each content has one writing.
+pub mod Content
+pub mod Admitted
+pub mod Value
+pub mod Writing
+pub mod Reading
+pub mod OneWriting
+pub mod Inner

@@ -1,0 +1,249 @@
+-- Each return of `step_run` gives what the definition says there. Assumes nothing.
+use Prim.Native.Nat.{ℕ, zero, suc, _+_, _*_, _≤_, _<_}
+use mathlib.Core.Bool.{Bool, true, false}
+use mathlib.Core.List.{List, _++_}
+use mathlib.Core.Path.{_≡_, refl, sym, ap, _∙_, subst}
+use borrow.Author.Tests.{eq-eqb, ne-eqb, eqb-true}
+use native.Mathlib.Omega.{arith}
+use lib.Bits.{bitXor}
+use lib.Dec.{eqb}
+use lib.ListN.{length, getD, drop}
+use mir.Syntax.{w32, w64}
+use mir.Val.{Fits}
+use Rattle.algebra.specs.Choice.{choose}
+use Rattle.circuit.proofs.Ands.{before-few}
+use Rattle.circuit.specs.Content.{And, Circuit}
+use Rattle.circuit.specs.Inner.Opens.{content, Opens, OpenedAs, refusalOf}
+use Rattle.circuit.specs.Reading.{readCircuit}
+use Rattle.circuit.specs.Value.{atWires}
+use Rattle.circuit.specs.declared.Front.{Front}
+use Rattle.circuit.specs.declared.Opened.{Opened}
+use Rattle.circuit.specs.declared.Opened.the-variants.{Accepted, Fault}
+use Rattle.number.proofs.Places.{either, choose-yes, choose-no}
+use Rattle.number.specs.Reading.{Reading, Refused}
+use Rattle.circuit_run.proofs.Gates.{gatesOf}
+use Rattle.circuit_run.proofs.Numbers.{asked-passes, state-phase}
+use Rattle.circuit_run.specs.Inner.Places.{Spots, Ready, Tested, Checks, Stops, givenAnd, proceeded, steppedWith, acceptedOn}
+use Rattle.circuit_run.specs.Inner.Tests.{askedNumber}
+use Rattle.circuit_run.specs.Step.{Lent, lentWith, Outcome, outcome, stepped, runWith, stepNumber, gateAt, freshWires, runOn, maskedFirst, maskedSecond, shareOf, withAnd, stepRun, withOutputs, acceptedStep, refusedStep, answered, stepRead, step}
+use Rattle.circuit_run.specs.declared.Run.{Run}
+use Rattle.circuit_run.specs.declared.Stepped.{Stepped}
+use Rattle.circuit_run.specs.declared.checking.Checked.{Checked}
+use Rattle.circuit_run.specs.declared.input.Asked.{Asked}
+use Rattle.circuit_run.specs.declared.running.Reached.{Reached}
+use Rattle.circuit_run.specs.declared.waiting.Spot.{Spot}
+
+-- what a circuit that was read opens
+pub opened-front : {s : List ℕ} {r : Opened} {f : Front} → OpenedAs s r → r ≡ Accepted f → Opens s f
+opened-front {s} h e = subst (OpenedAs s) e h
+
+abbrev pub askedWith : ℕ → Bool → ℕ → ℕ → Asked
+askedWith role waits first second = record { role = role; waits = waits; «far_first» = first; «far_second» = second }
+
+-- a circuit that is refused
+pub circuit-refused : (role : ℕ) {s : List ℕ} (shares triples output : List ℕ) (far1 far2 : ℕ) {state : Run} {r : Opened} {j k : ℕ} {answer : Stepped}
+    → OpenedAs s r → r ≡ Fault j → k ≡ refusalOf r → answer ≡ steppedWith k 0 0 0 state
+    → stepped answer (lentWith role s shares triples output far1 far2) ≡ step (lentWith role s shares triples output far1 far2) state
+unfolding step
+circuit-refused role {s} shares triples output far1 far2 {state} {r} {j} {k} {answer} h e n w =
+    let l : Lent = lentWith role s shares triples output far1 far2 in
+    let m : readCircuit s ≡ Refused j = subst (OpenedAs s) e h in
+    ap (λ (x : Stepped). stepped x l) w
+    ∙ ap (λ (i : ℕ). refusedStep i l state) (n ∙ ap refusalOf e)
+    ∙ sym (ap (λ (x : Reading Circuit). stepRead x l state) m)
+
+answered-refused : (n : ℕ) (c : Circuit) (l : Lent) (s : Run) → (n ≡ 0 → ⊥) → refusedStep n l s ≡ answered n c l s
+unfolding answered
+answered-refused zero c l s h = absurd (h refl)
+answered-refused (suc n) c l s h = refl
+
+answered-accepted : (n : ℕ) (c : Circuit) (l : Lent) (s : Run) → n ≡ 0 → answered n c l s ≡ acceptedStep c l (stepRun c l s)
+unfolding answered
+answered-accepted n c l s e = ap (λ (m : ℕ). answered m c l s) e
+
+-- ---- a step that has passed every test
+
+module _ {s : List ℕ} {f : Front} {a : Asked} {r : Spot} {shares triples : List ℕ} {space phase gate : ℕ}
+    (t : Tested s f a r shares triples space phase gate) where
+  pub tested-opens : Opens s f
+  tested-opens = t .opens
+
+  pub tested-ready : Ready s f a r shares triples
+  tested-ready = t .ready
+
+  pub tested-room : f .outputs ≤ space
+  tested-room = t .room
+
+  module _ {before : Run} {reached : Reached} {wires : List ℕ} (stops : Stops s f before reached wires) where
+    few : reached .ands ≤ 4096
+    few =
+        omega (
+          arith,
+          stops .below,
+          t .opens .most,
+          stops .ands,
+          before-few (gatesOf s) (reached .gate) (omega (arith, stops .below, t .opens .gates)),
+        )
+
+    pub gate-fits : Fits w32 (reached .gate)
+    gate-fits = record { fits = omega (arith, stops .below, t .opens .most) }
+
+    pub triple-fits : Fits w64 (3 * reached .ands)
+    triple-fits = record { fits = omega (arith, few) }
+
+    pub second-fits : Fits w64 (3 * reached .ands + 1)
+    second-fits = record { fits = omega (arith, few) }
+
+    pub wire-first : reached .first < 4096
+    wire-first = stops .first .1
+
+    pub wire-second : reached .second < 4096
+    wire-second = stops .second .1
+
+    module _ (waiting : reached .waits ≡ true) where
+      pub first-below : 3 * reached .ands < length triples
+      first-below = omega (arith, stops .few waiting, t .ready .enough)
+
+      pub second-below : 3 * reached .ands + 1 < length triples
+      second-below = omega (arith, stops .few waiting, t .ready .enough)
+
+module _ {s : List ℕ} {f : Front} {a : Asked} {r : Spot} {shares triples : List ℕ} (state : Run) (output : List ℕ)
+    (t : Tested s f a r shares triples (length output) (state .phase) (state .gate)) where
+  abbrev c : Circuit
+  c = content s
+
+  abbrev l : Lent
+  l = lentWith (a .role) s shares triples output (a .«far_first») (a .«far_second»)
+
+  abbrev wrote : List ℕ → Lent
+  wrote x = lentWith (a .role) s shares triples x (a .«far_first») (a .«far_second»)
+
+  finished-is : (after : Run) {x : List ℕ} → stepRun c l state ≡ after → (after .phase ≡ 1 → ⊥)
+      → x ≡ atWires (after .wires) (c .outputs) ++ drop (f .outputs) output
+      → stepped (steppedWith 0 (f .outputs) 0 0 after) (wrote x) ≡ acceptedOn c l state
+  unfolding acceptedOn acceptedStep withOutputs
+  finished-is after {x} e n1 w =
+      let g : wrote x ≡ withOutputs c l after =
+      ap wrote (w ∙ ap (λ (m : ℕ). atWires (after .wires) (c .outputs) ++ drop m output) (t .opens .outputs)) in
+      ap (λ (y : Lent). outcome 0 (f .outputs) 0 0 after y) g
+      ∙ ap (λ (m : ℕ). outcome 0 m 0 0 after (withOutputs c l after)) (t .opens .outputs)
+      ∙ sym (choose-no {A = Outcome} _ (outcome 0 (length (c .outputs)) 0 0 after (withOutputs c l after)) (ne-eqb (after .phase) 1 n1))
+      ∙ ap (acceptedStep c l) (sym e)
+
+  pub step-again : state .phase ≡ 2 → {x : List ℕ} {answer : Stepped} → answer ≡ steppedWith 0 (f .outputs) 0 0 state
+      → x ≡ atWires (state .wires) (content s .outputs) ++ drop (f .outputs) output
+      → stepped answer (lentWith (a .role) s shares triples x (a .«far_first») (a .«far_second»))
+      ≡ acceptedOn (content s) (lentWith (a .role) s shares triples output (a .«far_first») (a .«far_second»)) state
+  unfolding stepRun
+  step-again two {x} g w =
+      ap (λ (r : Stepped). stepped r (wrote x)) g
+      ∙ finished-is state
+      (choose-no {A = Run} _ _ (ne-eqb (state .phase) 0 (λ e. omega arith)) ∙ choose-no {A = Run} _ state (ne-eqb (state .phase) 1 (λ e. omega arith)))
+      (λ e. omega arith) w
+
+  module _ (going : state .phase ≡ 2 → ⊥) where
+    -- the AND of a run that waits gets its share
+    and-is : state .phase ≡ 1 → givenAnd a r (f .inputs + r .gate) triples (state .wires) ≡ withAnd c l state
+    unfolding givenAnd withAnd shareOf maskedFirst maskedSecond
+    and-is one =
+        let w = t .ready .waits (t .asks ∙ eq-eqb (state .phase) 1 one) in
+        let g : gateAt c (state .gate) ≡ And (r .first) (r .second) = ap (gateAt c) (sym (t .number)) ∙ w .gate in
+        rw (t .opens .inputs, w .ands, t .number, g)
+
+    proceeded-is : proceeded s f a r shares triples (state .wires) ≡ stepRun c l state
+    unfolding proceeded stepRun
+    proceeded-is =
+        either (state .phase) 1
+        (λ one.
+        choose-yes {A = Run} _ _ (t .asks ∙ eq-eqb (state .phase) 1 one)
+        ∙ ap (λ (w : List ℕ). runOn (a .role) (f .inputs) (drop (r .gate + 1) (gatesOf s)) (r .gate + 1) w) (and-is one)
+        ∙ ap (λ (g : ℕ). runOn (a .role) (f .inputs) (drop (g + 1) (gatesOf s)) (g + 1) (withAnd c l state)) (t .number)
+        ∙ ap (λ (i : ℕ). runOn (a .role) i (drop (state .gate + 1) (gatesOf s)) (state .gate + 1) (withAnd c l state)) (t .opens .inputs)
+        ∙ sym (choose-no {A = Run} _ _ (ne-eqb (state .phase) 0 (λ e. omega arith)) ∙ choose-yes {A = Run} _ _ (eq-eqb (state .phase) 1 one)))
+        (λ other.
+        let z : state .phase ≡ 0 = omega (arith, t .known) in
+        choose-no {A = Run} _ _ (t .asks ∙ ne-eqb (state .phase) 1 other)
+        ∙ ap (λ (i : ℕ). runOn (a .role) i (gatesOf s) 0 (freshWires shares)) (t .opens .inputs)
+        ∙ sym (choose-yes {A = Run} _ _ (eq-eqb (state .phase) 0 z)))
+
+    module _ {reached : Reached} {wires : List ℕ} (stops : Stops s f (proceeded s f a r shares triples (state .wires)) reached wires) where
+      pub step-waits : reached .waits ≡ true
+          → stepped
+          (steppedWith 0 0
+          (bitXor (getD wires (reached .first) 0) (getD triples (3 * reached .ands) 0))
+          (bitXor (getD wires (reached .second) 0) (getD triples (3 * reached .ands + 1) 0))
+          (runWith 1 (reached .gate) wires))
+          (lentWith (a .role) s shares triples output (a .«far_first») (a .«far_second»))
+          ≡ acceptedOn (content s) (lentWith (a .role) s shares triples output (a .«far_first») (a .«far_second»)) state
+      unfolding acceptedOn acceptedStep maskedFirst maskedSecond
+      step-waits stopped =
+          let after : Run = runWith 1 (reached .gate) wires in
+          let e : stepRun c l state ≡ after = sym proceeded-is ∙ stops .run ∙ ap (λ (b : Bool). runWith (choose b 1 2) (reached .gate) wires) stopped in
+          rw (stops .first .0, stops .second .0, stops .ands) (ap (acceptedStep c l) (sym e))
+
+      pub step-finishes : reached .waits ≡ false → {x : List ℕ} {answer : Stepped} → answer ≡ steppedWith 0 (f .outputs) 0 0 (runWith 2 (reached .gate) wires)
+          → x ≡ atWires wires (content s .outputs) ++ drop (f .outputs) output
+          → stepped answer (lentWith (a .role) s shares triples x (a .«far_first») (a .«far_second»))
+          ≡ acceptedOn (content s) (lentWith (a .role) s shares triples output (a .«far_first») (a .«far_second»)) state
+      step-finishes ended {x} g w =
+          ap (λ (r : Stepped). stepped r (wrote x)) g
+          ∙ finished-is (runWith 2 (reached .gate) wires)
+          (sym proceeded-is ∙ stops .run ∙ ap (λ (b : Bool). runWith (choose b 1 2) (reached .gate) wires) ended) (λ e. omega arith) w
+
+-- ---- the tests together
+
+module _ {s : List ℕ} {f : Front} (o : Opens s f) {a : Asked} (phase : ℕ) (asks : a .waits ≡ eqb phase 1) {gate : ℕ} {r : Spot}
+    (spots : Spots s f phase gate r) (shares triples : List ℕ) (space : ℕ) {n : ℕ} (number : n ≡ askedNumber f (r .admitted) a shares triples space) where
+  pub checks : Checks s f a phase gate shares triples space (record { number = n; spot = r })
+  checks =
+      record {
+        number = number ∙ ap (λ (t : Bool). askedNumber f t a shares triples space) (spots .admitted);
+        tested =
+            λ none.
+            let p = asked-passes f (r .admitted) a shares triples space (sym number ∙ none) in
+            record {
+              opens = o;
+              ready =
+                  record {
+                    few = omega (arith, p .one-each, o .most);
+                    enough = p .enough;
+                    waits = λ e. spots .waits (eqb-true phase 1 (sym asks ∙ e)) (p .state);
+                  };
+              room = p .room;
+              known = state-phase (content s) phase gate (sym (spots .admitted) ∙ p .state);
+              asks = asks;
+              number = spots .number;
+            };
+      }
+
+-- ---- the call
+
+pub checked-tested : {s : List ℕ} {f : Front} {a : Asked} {phase gate : ℕ} {shares triples : List ℕ} {space : ℕ} {r : Checked}
+    → Checks s f a phase gate shares triples space r → r .number ≡ 0 → Tested s f a (r .spot) shares triples space phase gate
+checked-tested ch none = ch .tested none
+
+module _ (role : ℕ) {s : List ℕ} {shares triples : List ℕ} (output : List ℕ) (far1 far2 : ℕ) (state : Run) {f : Front} (o : Opens s f) {r : Checked}
+    (ch : Checks s f (askedWith role (eqb (state .phase) 1) far1 far2) (state .phase) (state .gate) shares triples (length output) r) where
+  abbrev lent : Lent
+  lent = lentWith role s shares triples output far1 far2
+
+  number-is : r .number ≡ stepNumber (content s) lent state
+  unfolding askedNumber stepNumber
+  number-is = ch .number ∙ rw (o .inputs, o .outputs, o .ands)
+
+  step-is : step lent state ≡ answered (stepNumber (content s) lent state) (content s) lent state
+  unfolding step
+  step-is = ap (λ (x : Reading Circuit). stepRead x lent state) (o .whole)
+
+  pub step-refused : {answer : Stepped} → (r .number ≡ 0 → ⊥) → answer ≡ steppedWith (r .number) 0 0 0 state
+      → stepped answer (lentWith role s shares triples output far1 far2) ≡ step (lentWith role s shares triples output far1 far2) state
+  step-refused h w =
+      ap (λ (x : Stepped). stepped x lent) w
+      ∙ answered-refused (r .number) (content s) lent state h
+      ∙ ap (λ (m : ℕ). answered m (content s) lent state) number-is
+      ∙ sym step-is
+
+  pub step-accepted : r .number ≡ 0 → {answer : Stepped} {after : Lent} → stepped answer after ≡ acceptedOn (content s) (lentWith role s shares triples output far1 far2) state
+      → stepped answer after ≡ step (lentWith role s shares triples output far1 far2) state
+  unfolding acceptedOn
+  step-accepted none w = w ∙ sym (step-is ∙ answered-accepted (stepNumber (content s) lent state) (content s) lent state (sym number-is ∙ none))

@@ -1,0 +1,108 @@
+-- Inner: no promise cites this file. Where a run stands in a circuit that was read.
+use Prim.Native.Nat.{ℕ, _+_, _-_, _*_, _≤_, _<_}
+use mathlib.Core.Bool.{true}
+use mathlib.Core.List.{List}
+use mathlib.Core.Path.{_≡_}
+use lib.Bits.{bitXor}
+use lib.Dec.{eqb}
+use lib.ListN.{length, getD, set, drop}
+use Rattle.algebra.specs.Choice.{choose}
+use Rattle.circuit.specs.Content.{And, Circuit}
+use Rattle.circuit.specs.Inner.Opens.{content, Opens}
+use Rattle.circuit.specs.Reading.{readGates}
+use Rattle.circuit.specs.declared.Front.{Front}
+use Rattle.number.specs.Reading.{Whole}
+use Rattle.circuit_run.specs.Step.{gateAt, andsBefore, firstWire, secondWire, tripleFirst, tripleSecond, tripleThird, stateAdmitted, flipped, andShare, freshWires, runOn, runWith, Lent, Outcome, stepRun, acceptedStep}
+use Rattle.circuit_run.specs.Inner.Tests.{askedNumber}
+use Rattle.circuit_run.specs.declared.checking.Checked.{Checked}
+use Rattle.circuit_run.specs.declared.input.Asked.{Asked}
+use Rattle.circuit_run.specs.declared.waiting.Place.{Place}
+use Rattle.circuit_run.specs.declared.waiting.Spot.{Spot}
+use Rattle.circuit_run.specs.declared.running.Reached.{Reached}
+use Rattle.circuit_run.specs.declared.Run.{Run}
+use Rattle.circuit_run.specs.declared.Stepped.{Stepped}
+
+-- the share of a gate that is no AND, by its kind
+abbrev pub localShare : ℕ → ℕ → ℕ → ℕ → ℕ
+localShare role kind x y = choose (eqb kind 1) (bitXor x y) (flipped role x)
+
+-- the gates from gate i on are read from a place on
+pub record Left (s : List ℕ) (inputs i at : ℕ) : Type 0 where
+  pub below : i ≤ length (content s .gates)
+  pub end : ℕ
+  pub read : readGates (length (content s .gates) - i) (inputs + i) s at ≡ Whole (drop i (content s .gates), end)
+
+-- a gate's number, its place in the bytes, and how many ANDs come before it
+pub record Stands (s : List ℕ) (f : Front) (p : Place) : Type 0 where
+  pub left : Left s (f .inputs) (p .gate) (p .at)
+  pub ands : p .ands ≡ andsBefore (content s) (p .gate)
+
+-- the AND at a gate: its wires, how many ANDs come before it, and the place after it
+pub record Waits (s : List ℕ) (f : Front) (r : Spot) : Type 0 where
+  pub gate : gateAt (content s) (r .gate) ≡ And (r .first) (r .second)
+  pub below : r .gate < f .gates
+  pub first : r .first < 4096
+  pub second : r .second < 4096
+  pub ands : r .ands ≡ andsBefore (content s) (r .gate)
+  pub few : r .ands < f .ands
+  pub left : Left s (f .inputs) (r .gate + 1) (r .next)
+
+-- whether a state is admitted, and the AND that it waits at
+pub record Spots (s : List ℕ) (f : Front) (phase gate : ℕ) (r : Spot) : Type 0 where
+  pub admitted : r .admitted ≡ stateAdmitted (content s) phase gate
+  pub number : r .gate ≡ gate
+  pub waits : phase ≡ 1 → r .admitted ≡ true → Waits s f r
+
+-- what a step that is not finished rests on: shares for the wires, a triple for each AND, and the AND that it waits at
+pub record Ready (s : List ℕ) (f : Front) (a : Asked) (r : Spot) (shares triples : List ℕ) : Type 0 where
+  pub few : length shares ≤ 4096
+  pub enough : f .ands * 3 ≤ length triples
+  pub waits : a .waits ≡ true → Waits s f r
+
+-- what a step has once all tests are passed
+pub record Tested (s : List ℕ) (f : Front) (a : Asked) (r : Spot) (shares triples : List ℕ) (space phase gate : ℕ) : Type 0 where
+  pub opens : Opens s f
+  pub ready : Ready s f a r shares triples
+  pub room : f .outputs ≤ space
+  pub known : phase ≤ 2
+  pub asks : a .waits ≡ eqb phase 1
+  pub number : r .gate ≡ gate
+
+-- a step's number, and what it has where that is 0
+pub record Checks (s : List ℕ) (f : Front) (a : Asked) (phase gate : ℕ) (shares triples : List ℕ) (space : ℕ) (r : Checked) : Type 0 where
+  pub number : r .number ≡ askedNumber f (stateAdmitted (content s) phase gate) a shares triples space
+  pub tested : r .number ≡ 0 → Tested s f a (r .spot) shares triples space phase gate
+
+-- where a run stops: at an AND or at the end
+pub record Stops (s : List ℕ) (f : Front) (before : Run) (r : Reached) (wires : List ℕ) : Type 0 where
+  pub run : before ≡ runWith (choose (r .waits) 1 2) (r .gate) wires
+  pub below : r .gate ≤ f .gates
+  pub first : (r .first ≡ firstWire (gateAt (content s) (r .gate))) × (r .first < 4096)
+  pub second : (r .second ≡ secondWire (gateAt (content s) (r .gate))) × (r .second < 4096)
+  pub ands : r .ands ≡ andsBefore (content s) (r .gate)
+  pub few : r .waits ≡ true → r .ands < f .ands
+
+-- the wires of a run that waits, with the AND's share
+unfoldable pub givenAnd : Asked → Spot → ℕ → List ℕ → List ℕ → List ℕ
+givenAnd a r wire triples wires =
+    set wires wire
+    (andShare (a .role)
+    (bitXor (bitXor (getD wires (r .first) 0) (tripleFirst triples (r .ands))) (a .«far_first»))
+    (bitXor (bitXor (getD wires (r .second) 0) (tripleSecond triples (r .ands))) (a .«far_second»))
+    (tripleFirst triples (r .ands)) (tripleSecond triples (r .ands)) (tripleThird triples (r .ands)))
+
+-- the state after a step of a fresh run, or of one that waits
+unfoldable pub proceeded : List ℕ → Front → Asked → Spot → List ℕ → List ℕ → List ℕ → Run
+proceeded s f a r shares triples wires =
+    choose (a .waits)
+    (runOn (a .role) (f .inputs) (drop (r .gate + 1) (content s .gates)) (r .gate + 1) (givenAnd a r (f .inputs + r .gate) triples wires))
+    (runOn (a .role) (f .inputs) (drop 0 (content s .gates)) 0 (freshWires shares))
+
+-- the answer of these parts
+abbrev pub steppedWith : ℕ → ℕ → ℕ → ℕ → Run → Stepped
+steppedWith number written first second state =
+    record { number = number; written = written; «first_bit» = first; «second_bit» = second; state = state }
+
+-- an accepted step on a state
+unfoldable pub acceptedOn : Circuit → Lent → Run → Outcome
+acceptedOn c l state = acceptedStep c l (stepRun c l state)

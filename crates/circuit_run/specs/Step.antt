@@ -1,0 +1,212 @@
+-- A step of an end's run of a circuit (document 02, 9): from everything lent and the state that the step before left to everything
+-- that stands on return. It tests the reading (10, 11, 17, 12), then 17, 9, 3, 13, 8, 18.
+use Prim.Native.Nat.{ℕ, zero, suc, _+_, _-_, _*_, _/_, _%_}
+use mathlib.Core.Bool.{Bool, true, not, _&&_, _||_}
+use mathlib.Core.List.{List, [], _∷_, _++_}
+use lib.Bits.{bitXor, bitAnd}
+use lib.Dec.{leb, ltb, eqb}
+use lib.ListN.{length, getD, take, drop, set, replicate}
+use Rattle.algebra.specs.Choice.{choose}
+use Rattle.answer.specs.Numbers.{accepted, badLength, notElement, wrongEnd, bufferShort, badCircuit, tooFewTriples}
+use Rattle.circuit.specs.Admitted.{mostWires}
+use Rattle.circuit.specs.Content.{Gate, Xor, And, Not, Circuit, isAnd, andsIn}
+use Rattle.circuit.specs.Reading.{readCircuit}
+use Rattle.circuit.specs.Value.{atWires}
+use Rattle.number.specs.Reading.{Reading, Whole, Refused}
+use Rattle.circuit_run.specs.declared.Run.{Run}
+use Rattle.circuit_run.specs.declared.Stepped.{Stepped}
+
+-- ---- what a step gets and gives
+
+-- all that a step gets but the state: the role (1 the first pairing's noise end, 2 the other end), the circuit's bytes, this end's
+-- shares of the inputs, its triples, the output buffer, the far bits
+pub record Lent : Type 0 where
+  pub role : ℕ
+  pub circuit : List ℕ
+  pub shares : List ℕ
+  pub triples : List ℕ
+  pub output : List ℕ
+  pub farFirst : ℕ
+  pub farSecond : ℕ
+
+abbrev pub lentWith : ℕ → List ℕ → List ℕ → List ℕ → List ℕ → ℕ → ℕ → Lent
+lentWith role circuit shares triples output farFirst farSecond =
+    record {
+      role = role;
+      circuit = circuit;
+      shares = shares;
+      triples = triples;
+      output = output;
+      farFirst = farFirst;
+      farSecond = farSecond;
+    }
+
+-- the number, the bytes written, the two bits to send, the state, and all that is lent as it stands on return
+pub record Outcome : Type 0 where
+  pub number : ℕ
+  pub written : ℕ
+  pub firstBit : ℕ
+  pub secondBit : ℕ
+  pub state : Run
+  pub lent : Lent
+
+abbrev pub outcome : ℕ → ℕ → ℕ → ℕ → Run → Lent → Outcome
+outcome number written firstBit secondBit state lent =
+    record { number = number; written = written; firstBit = firstBit; secondBit = secondBit; state = state; lent = lent }
+
+-- what the answer of the call and all that is lent at exit say
+abbrev pub stepped : Stepped → Lent → Outcome
+stepped r lent = outcome (r .number) (r .written) (r .«first_bit») (r .«second_bit») (r .state) lent
+
+-- the state of a phase, a gate and the wires: phase 0 fresh, 1 waits for the far bits of the AND at the gate, 2 finished; the wires
+-- are this end's shares of the inputs and of the gates passed, zero past them
+abbrev pub runWith : ℕ → ℕ → List ℕ → Run
+runWith phase gate wires = record { phase = phase; gate = gate; wires = wires }
+
+-- ---- tests
+
+-- each byte is a bit, 0 or 1
+unfoldable pub everyBit : List ℕ → Bool
+everyBit [] = true
+everyBit (b ∷ bytes) = leb b 1 && everyBit bytes
+
+-- the gate of a number, from 0; past the last there is none, which a NOT stands for, since it is asked for ANDs alone
+abbrev pub gateAt : Circuit → ℕ → Gate
+gateAt c i = getD (c .gates) i (Not 0)
+
+-- a state of a known phase which, in phase 1, waits at an AND of this circuit
+abbrev pub stateAdmitted : Circuit → ℕ → ℕ → Bool
+stateAdmitted c phase gate = leb phase 2 && (not (eqb phase 1) || isAnd (gateAt c gate))
+
+abbrev pub isRole : ℕ → Bool
+isRole role = eqb role 1 || eqb role 2
+
+-- shares one an input, triple bits three each
+abbrev pub lengthsAdmitted : Circuit → Lent → Bool
+lengthsAdmitted c l = eqb (length (l .shares)) (c .inputs) && eqb (length (l .triples) % 3) 0
+
+-- shares and triples are bits, unused triples too; in phase 1 alone the far bits also
+abbrev pub bitsAdmitted : Lent → Run → Bool
+bitsAdmitted l s = everyBit (l .shares) && everyBit (l .triples) && (not (eqb (s .phase) 1) || (leb (l .farFirst) 1 && leb (l .farSecond) 1))
+
+-- the number of a step on a circuit that was read
+unfoldable pub stepNumber : Circuit → Lent → Run → ℕ
+stepNumber c l s =
+    choose (not (stateAdmitted c (s .phase) (s .gate))) badCircuit
+    (choose (not (isRole (l .role))) wrongEnd
+    (choose (not (lengthsAdmitted c l)) badLength
+    (choose (ltb (length (l .output)) (length (c .outputs))) bufferShort
+    (choose (not (bitsAdmitted l s)) notElement
+    (choose (ltb (length (l .triples) / 3) (andsIn (c .gates))) tooFewTriples
+    accepted)))))
+
+-- ---- what an accepted step does
+
+-- the wires before the first gate: the shares, and zero past them
+unfoldable pub freshWires : List ℕ → List ℕ
+freshWires shares = shares ++ replicate (mostWires - length shares) 0
+
+-- NOT: role 1 alone flips
+unfoldable pub flipped : ℕ → ℕ → ℕ
+flipped role x = choose (eqb role 1) (bitXor x 1) x
+
+-- from gate i on, the gates from there given, to the next AND, which the run waits at, or to the end, where it has finished
+unfoldable pub runOn : ℕ → ℕ → List Gate → ℕ → List ℕ → Run
+runOn role inputs [] i wires = runWith 2 i wires
+runOn role inputs (Xor a b ∷ gs) i wires = runOn role inputs gs (i + 1) (set wires (inputs + i) (bitXor (getD wires a 0) (getD wires b 0)))
+runOn role inputs (And a b ∷ gs) i wires = runWith 1 i wires
+runOn role inputs (Not a ∷ gs) i wires = runOn role inputs gs (i + 1) (set wires (inputs + i) (flipped role (getD wires a 0)))
+
+abbrev pub advance : ℕ → Circuit → ℕ → List ℕ → Run
+advance role c i wires = runOn role (c .inputs) (drop i (c .gates)) i wires
+
+-- the AND with j ANDs before it takes triple j
+abbrev pub andsBefore : Circuit → ℕ → ℕ
+andsBefore c i = andsIn (take i (c .gates))
+
+-- the first, second and third bit of triple j
+abbrev pub tripleFirst : List ℕ → ℕ → ℕ
+tripleFirst triples j = getD triples (3 * j) 0
+
+abbrev pub tripleSecond : List ℕ → ℕ → ℕ
+tripleSecond triples j = getD triples (3 * j + 1) 0
+
+abbrev pub tripleThird : List ℕ → ℕ → ℕ
+tripleThird triples j = getD triples (3 * j + 2) 0
+
+-- the wires of an AND
+abbrev pub firstWire : Gate → ℕ
+firstWire (Xor a b) = a
+firstWire (And a b) = a
+firstWire (Not a) = a
+
+abbrev pub secondWire : Gate → ℕ
+secondWire (Xor a b) = b
+secondWire (And a b) = b
+secondWire (Not a) = 0
+
+-- the two bits to send at the AND at gate i: each wire share masked by the next triple's first or second bit
+unfoldable pub maskedFirst : Circuit → List ℕ → List ℕ → ℕ → ℕ
+maskedFirst c triples wires i = bitXor (getD wires (firstWire (gateAt c i)) 0) (tripleFirst triples (andsBefore c i))
+
+unfoldable pub maskedSecond : Circuit → List ℕ → List ℕ → ℕ → ℕ
+maskedSecond c triples wires i = bitXor (getD wires (secondWire (gateAt c i)) 0) (tripleSecond triples (andsBefore c i))
+
+-- the AND's share, with D and E the combined bits: the third bit, exclusive-or D AND the second, exclusive-or E AND the first; role 1
+-- also adds D AND E
+unfoldable pub andShare : ℕ → ℕ → ℕ → ℕ → ℕ → ℕ → ℕ
+andShare role d e first second third =
+    choose (eqb role 1)
+    (bitXor (bitXor (bitXor third (bitAnd d second)) (bitAnd e first)) (bitAnd d e))
+    (bitXor (bitXor third (bitAnd d second)) (bitAnd e first))
+
+-- the share of the AND that a run waits at, its masked bits combined with the far bits
+unfoldable pub shareOf : Circuit → Lent → Run → ℕ
+shareOf c l s =
+    andShare (l .role)
+    (bitXor (maskedFirst c (l .triples) (s .wires) (s .gate)) (l .farFirst))
+    (bitXor (maskedSecond c (l .triples) (s .wires) (s .gate)) (l .farSecond))
+    (tripleFirst (l .triples) (andsBefore c (s .gate)))
+    (tripleSecond (l .triples) (andsBefore c (s .gate)))
+    (tripleThird (l .triples) (andsBefore c (s .gate)))
+
+-- the wires of a run that waits at an AND, with the AND's share
+unfoldable pub withAnd : Circuit → Lent → Run → List ℕ
+withAnd c l s = set (s .wires) (c .inputs + s .gate) (shareOf c l s)
+
+-- the state that an accepted step leaves: a fresh run takes the shares and runs from gate 0, one that waits gives its AND the share
+-- and runs on, a finished one stays
+unfoldable pub stepRun : Circuit → Lent → Run → Run
+stepRun c l s =
+    choose (eqb (s .phase) 0) (advance (l .role) c 0 (freshWires (l .shares)))
+    (choose (eqb (s .phase) 1) (advance (l .role) c (s .gate + 1) (withAnd c l s))
+    s)
+
+-- the shares of the output wires, in front of what stood in the output buffer
+unfoldable pub withOutputs : Circuit → Lent → Run → Lent
+withOutputs c l s =
+    lentWith (l .role) (l .circuit) (l .shares) (l .triples) (atWires (s .wires) (c .outputs) ++ drop (length (c .outputs)) (l .output)) (l .farFirst) (l .farSecond)
+
+-- an accepted step: one that waits gives the two bits to send, a finished one writes the outputs
+unfoldable pub acceptedStep : Circuit → Lent → Run → Outcome
+acceptedStep c l s =
+    choose (eqb (s .phase) 1)
+    (outcome accepted 0 (maskedFirst c (l .triples) (s .wires) (s .gate)) (maskedSecond c (l .triples) (s .wires) (s .gate)) s l)
+    (outcome accepted (length (c .outputs)) 0 0 s (withOutputs c l s))
+
+-- a refused step returns zeros, the state and all that is lent as it was
+abbrev pub refusedStep : ℕ → Lent → Run → Outcome
+refusedStep number l s = outcome number 0 0 0 s l
+
+-- a step by its number
+unfoldable pub answered : ℕ → Circuit → Lent → Run → Outcome
+answered zero c l s = acceptedStep c l (stepRun c l s)
+answered (suc n) c l s = refusedStep (suc n) l s
+
+abbrev pub stepRead : Reading Circuit → Lent → Run → Outcome
+stepRead (Whole c) l s = answered (stepNumber c l s) c l s
+stepRead (Refused k) l s = refusedStep k l s
+
+-- the step
+unfoldable pub step : Lent → Run → Outcome
+step l s = stepRead (readCircuit (l .circuit)) l s

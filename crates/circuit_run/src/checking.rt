@@ -1,0 +1,38 @@
+// All tests of a step whose circuit is read.
+ghost use mathlib.Core.Path.{_≡_};
+ghost use lib.Dec.{eqb};
+ghost use Rattle.circuit.specs.Inner.Opens.{Opens};
+ghost use Rattle.circuit_run.specs.Inner.Places.{Checks};
+use crate::input::Asked;
+use crate::input::step_number;
+use crate::waiting::Spot;
+use crate::waiting::spot_of;
+use circuit::Front;
+
+// A step's number, and where its state stands.
+pub struct Checked {
+    pub number: u32,
+    pub spot: Spot,
+}
+
+// The number of a step on a state of this phase and gate, with room for an output of `room` bytes.
+pub fn check(
+    source: &[u8],
+    front: Front,
+    asked: Asked,
+    phase: u32,
+    gate: usize,
+    shares: &[u8],
+    triples: &[u8],
+    room: usize,
+) -> Checked
+    requires { ⌜ Opens (now source) front × (asked .waits ≡ eqb phase 1) ⌝ }
+    ensures { λ r. ⌜ Checks (now (source .entry)) front asked phase gate (now (shares .entry)) (now (triples .entry)) room r ⌝ }
+{
+    let spot = spot_of(source, front, phase, gate);
+    let number = step_number(front, spot.admitted, asked, shares, triples, room);
+    Checked {
+        number: number,
+        spot: spot,
+    }
+}

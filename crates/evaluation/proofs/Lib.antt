@@ -1,0 +1,8 @@
+-- The statements about runs of a circuit.
+pub mod Accepts
+pub mod Evaluates
+pub mod Progresses
+mod Bits
+mod Chains
+mod Joins
+mod Reaches

@@ -1,0 +1,217 @@
+-- Progress of a run: where it stands after each accepted step, that its shares are bits, and that far bits count in phase 1 alone.
+-- Assumes nothing.
+use Prim.Native.Nat.{ℕ, zero, suc, _+_, _-_, _≤_, _<_}
+use mathlib.Core.Bool.{true}
+use mathlib.Core.List.{List, [], _∷_}
+use mathlib.Core.Path.{_≡_, refl, sym, ap, _∙_, subst}
+use borrow.Author.Tests.{eq-eqb, ne-eqb}
+use native.Mathlib.Omega.{arith}
+use lib.ListN.{length, drop}
+use Rattle.circuit.specs.Admitted.{mostWires}
+use Rattle.circuit.specs.Content.{Circuit, isAnd, andsIn}
+use Rattle.circuit.specs.Reading.{readCircuit}
+use Rattle.circuit.specs.Value.{atWires}
+use Rattle.number.proofs.Places.{either}
+use Rattle.number.specs.Reading.{Reading, Whole, Refused}
+use Rattle.evaluation.proofs.Bits.{xor-bit, share-bit}
+use Rattle.evaluation.proofs.Chains.{accepted-state, accepted-waits, accepted-ends, ends-written, Took, took, took-state, took-gave, took-on, step-refused, Chain, chain-of, first-made, next-made, step-before}
+use Rattle.circuit_run.proofs.Numbers.{Passes, passes, state-phase, state-and}
+use Rattle.evaluation.proofs.Reaches.{Standing, waiting, finished, standing, from-start, and-inside, and-after, and-before, run-fresh, run-waits, run-ends, WireBits, set-bits, run-bits, zeros-bits, append-bits}
+use Rattle.evaluation.specs.Progress.{OnCircuit, GivesBits, withFar, farLent, Progress}
+use Rattle.evaluation.specs.Runs.{fresh, Made, runOf, IsStep, writtenBy}
+use Rattle.circuit_run.specs.Step.{Lent, Outcome, gateAt, andsBefore, freshWires, advance, maskedFirst, maskedSecond, shareOf, withAnd, stepNumber, stepRun, withOutputs, acceptedStep, answered, stepRead, step}
+use Rattle.circuit_run.specs.declared.Run.{Run}
+
+-- ---- where a run stands
+
+-- after an accepted step of a run that waits
+module _ {c : Circuit} {l : Lent} {s : Run} (one : s .phase ≡ 1) (t : Took c l s) where
+  pub and-gate : isAnd (gateAt c (s .gate)) ≡ true
+  and-gate = state-and c (s .phase) (s .gate) (passes c l s (t .number) .state) one
+
+  after-and : Standing c (s .gate + 1) (andsBefore c (s .gate) + 1) (step l s .state)
+  after-and =
+      subst (λ (r : Run). Standing c (s .gate + 1) (andsBefore c (s .gate) + 1) r) (sym (took-state t ∙ run-waits c l s one))
+      (subst (λ (n : ℕ). Standing c (s .gate + 1) n (advance (l .role) c (s .gate + 1) (withAnd c l s))) (and-after c (s .gate) and-gate)
+      (standing (l .role) c (s .gate + 1) (withAnd c l s) (omega (arith, and-inside c (s .gate) and-gate))))
+
+risen : {c : Circuit} {i n : ℕ} {r : Run} → i ≤ length (c .gates) → Standing c i n r → i ≤ r .gate
+risen h (waiting p l k a e) = l
+risen h (finished p q k) = omega arith
+
+passes-gate : (l : Lent) (s : Run) → s .phase ≡ 1 → step l s .number ≡ 0 → s .gate < step l s .state .gate
+passes-gate l s one e =
+    let t = took l s e in
+    omega (arith, risen (omega (arith, and-inside (t .0) (s .gate) (and-gate one (t .1)))) (after-and one (t .1)))
+
+pub phase-fresh : fresh .phase ≡ 0
+unfolding fresh
+phase-fresh = refl
+
+-- after the first accepted step
+pub first-stands : {c : Circuit} {l : Lent} → Took c l fresh → Standing c 0 0 (step l fresh .state)
+unfolding andsIn
+first-stands {c} {l} t =
+    subst (λ (r : Run). Standing c 0 0 r) (sym (took-state t ∙ run-fresh c l fresh phase-fresh)) (standing (l .role) c 0 (freshWires (l .shares)) (omega arith))
+
+-- after one more
+pub next-stands : {c : Circuit} {k : ℕ} {l : Lent} {s : Run} → Took c l s → Standing c 0 k s → Standing c 0 (suc k) (step l s .state)
+next-stands {c} {k} {l} {s} t (waiting one i h a n) =
+    subst (λ (m : ℕ). Standing c 0 m (step l s .state)) {x = andsBefore c (s .gate) + 1} {y = suc k} (omega arith) (from-start (after-and one t))
+next-stands {c} {k} {l} {s} t (finished two h n) =
+    subst (λ (r : Run). Standing c 0 (suc k) r) (sym (took-state t ∙ run-ends c l s two)) (finished two h (omega arith))
+
+-- accepted step k of a run, on a circuit that stays
+module _ (circuit : List ℕ) (c : Circuit) (read : readCircuit circuit ≡ Whole c) (calls : List Lent) (stays : OnCircuit circuit (runOf calls)) where
+  chain : Chain fresh (runOf calls)
+  chain = chain-of fresh calls
+
+  reads : (k : ℕ) {m : Made} → IsStep (runOf calls) k m → readCircuit (m .got .circuit) ≡ Whole c
+  reads k {m} e = ap readCircuit (stays k m e) ∙ read
+
+  pub first-took : {m : Made} → IsStep (runOf calls) 0 m → (m .gave ≡ step (m .got) fresh) × Took c (m .got) fresh
+  first-took {m} e =
+      let f = first-made fresh (runOf calls) chain e in
+      (f .0, took-on (m .got) fresh (reads 0 e) (ap (λ (o : Outcome). o .number) (sym (f .0)) ∙ f .1))
+
+  pub next-took : (k : ℕ) {a m : Made} → IsStep (runOf calls) k a → IsStep (runOf calls) (suc k) m
+      → (m .gave ≡ step (m .got) (a .gave .state)) × Took c (m .got) (a .gave .state)
+  next-took k {a} {m} e g =
+      let f = next-made k fresh (runOf calls) chain e g in
+      (f .0, took-on (m .got) (a .gave .state) (reads (suc k) g) (ap (λ (o : Outcome). o .number) (sym (f .0)) ∙ f .1))
+
+  pub stands : (k : ℕ) (m : Made) → IsStep (runOf calls) k m → Standing c 0 k (m .gave .state)
+  stands zero m e = let t = first-took e in subst (λ (o : Outcome). Standing c 0 0 (o .state)) (sym (t .0)) (first-stands (t .1))
+  stands (suc k) m e =
+      let b = step-before k (runOf calls) e in
+      let t = next-took k (b .1) e in
+      subst (λ (o : Outcome). Standing c 0 (suc k) (o .state)) (sym (t .0)) (next-stands (t .1) (stands k (b .0) (b .1)))
+
+  pub finishes : (k : ℕ) (m : Made) → IsStep (runOf calls) k m
+      → (k < andsIn (c .gates) → m .gave .state .phase ≡ 1) × (andsIn (c .gates) ≤ k → m .gave .state .phase ≡ 2)
+  finishes k m e = of (stands k m e)
+    where
+      of : {r : Run} → Standing c 0 k r → (k < andsIn (c .gates) → r .phase ≡ 1) × (andsIn (c .gates) ≤ k → r .phase ≡ 2)
+      of {r} (waiting p l h a n) = (λ _. p, λ g. absurd (let z = and-before c (r .gate) a in omega arith))
+      of (finished p q h) = (λ g. absurd (omega arith), λ _. p)
+
+-- ---- a finished run
+
+again : (l l′ : Lent) (s : Run) → l′ .circuit ≡ l .circuit → step l s .number ≡ 0 → step l s .state .phase ≡ 2 → step l′ (step l s .state) .number ≡ 0
+    → (step l′ (step l s .state) .state ≡ step l s .state) × (writtenBy (step l′ (step l s .state)) ≡ writtenBy (step l s))
+again l l′ s same e two f =
+    let r : Run = step l s .state in
+    let t = took l s e in
+    let c : Circuit = t .0 in
+    let u : Took c l′ r = took-on l′ r (ap readCircuit same ∙ t .1 .read) f in
+    let n : r .phase ≡ 1 → ⊥ = λ z. omega arith in
+    let k : step l′ r .state ≡ r = took-state u ∙ run-ends c l′ r two in (
+      k,
+      ap writtenBy (took-gave u ∙ ap (acceptedStep c l′) k) ∙ ends-written c l′ r n ∙ sym (ap writtenBy (took-gave (t .1)) ∙ ends-written c l r n),
+    )
+
+-- ---- bits
+
+outputs-bits : (wires ws : List ℕ) → WireBits wires → WireBits (atWires wires ws)
+outputs-bits wires [] all i = omega arith
+outputs-bits wires (w ∷ ws) all zero = all w
+outputs-bits wires (w ∷ ws) all (suc i) = outputs-bits wires ws all i
+
+gives : (c : Circuit) (l : Lent) (r : Run) → WireBits (r .wires) → WireBits (l .triples) → GivesBits (acceptedStep c l r)
+unfolding maskedFirst maskedSecond
+gives c l r wires triples =
+    either (r .phase) 1
+    (λ one.
+    subst GivesBits (sym (accepted-waits c l r one))
+    (record { first = xor-bit (wires _) (triples _); second = xor-bit (wires _) (triples _); wires = wires; outputs = λ i. omega arith }))
+    (λ n.
+    record {
+      first = subst (λ (o : Outcome). o .firstBit ≤ 1) (sym (accepted-ends c l r n)) (omega arith);
+      second = subst (λ (o : Outcome). o .secondBit ≤ 1) (sym (accepted-ends c l r n)) (omega arith);
+      wires = subst (λ (x : Run). WireBits (x .wires)) (sym (accepted-state c l r)) wires;
+      outputs = subst WireBits (sym (ends-written c l r n)) (outputs-bits (r .wires) (c .outputs) wires);
+    })
+
+-- the wires after an accepted step
+pub step-bits : (c : Circuit) (l : Lent) (s : Run) → Passes c l s → WireBits (s .wires) → WireBits (stepRun c l s .wires)
+unfolding freshWires withAnd shareOf maskedFirst maskedSecond
+step-bits c l s p wires =
+    either (s .phase) 0
+    (λ e.
+    subst (λ (r : Run). WireBits (r .wires)) (sym (run-fresh c l s e))
+    (run-bits (l .role) (c .inputs) (c .gates) 0 (freshWires (l .shares)) (append-bits (l .shares) _ (p .share-bits) (zeros-bits (mostWires - length (l .shares))))))
+    (λ n. either (s .phase) 1
+    (λ e.
+    let far = p .far (eq-eqb (s .phase) 1 e) in
+    subst (λ (r : Run). WireBits (r .wires)) (sym (run-waits c l s e))
+    (run-bits (l .role) (c .inputs) (drop (s .gate + 1) (c .gates)) (s .gate + 1) (withAnd c l s)
+    (set-bits (s .wires) (c .inputs + s .gate) (shareOf c l s) wires
+    (share-bit (l .role) (xor-bit (xor-bit (wires _) (p .triple-bits _)) (far .0)) (xor-bit (xor-bit (wires _) (p .triple-bits _)) (far .1))
+    (p .triple-bits _) (p .triple-bits _) (p .triple-bits _)))))
+    (λ m.
+    let two : s .phase ≡ 2 = omega (arith, state-phase c (s .phase) (s .gate) (p .state)) in
+    subst (λ (r : Run). WireBits (r .wires)) (sym (run-ends c l s two)) wires))
+
+fresh-bits : WireBits (fresh .wires)
+unfolding fresh
+fresh-bits = zeros-bits mostWires
+
+-- an accepted step on a state of bits gives bits
+step-gives : (l : Lent) (s : Run) → step l s .number ≡ 0 → WireBits (s .wires) → GivesBits (step l s)
+step-gives l s e wires =
+    let t = took l s e in
+    let p = passes (t .0) l s (t .1 .number) in
+    subst GivesBits (sym (t .1 .is)) (gives (t .0) l (stepRun (t .0) l s) (step-bits (t .0) l s p wires) (p .triple-bits))
+
+run-gives : (calls : List Lent) (k : ℕ) (m : Made) → IsStep (runOf calls) k m → GivesBits (m .gave)
+run-gives calls zero m e =
+    let f = first-made fresh (runOf calls) (chain-of fresh calls) e in
+    subst GivesBits (sym (f .0)) (step-gives (m .got) fresh (ap (λ (o : Outcome). o .number) (sym (f .0)) ∙ f .1) fresh-bits)
+run-gives calls (suc k) m e =
+    let b = step-before k (runOf calls) e in
+    let f = next-made k fresh (runOf calls) (chain-of fresh calls) (b .1) e in
+    subst GivesBits (sym (f .0))
+    (step-gives (m .got) (b .0 .gave .state) (ap (λ (o : Outcome). o .number) (sym (f .0)) ∙ f .1) (run-gives calls k (b .0) (b .1) .wires))
+
+-- ---- far bits
+
+module _ (l : Lent) (s : Run) (n : s .phase ≡ 1 → ⊥) (x y : ℕ) where
+  far-number : (c : Circuit) → stepNumber c (withFar x y l) s ≡ stepNumber c l s
+  unfolding stepNumber
+  far-number c = rw (ne-eqb (s .phase) 1 n)
+
+  far-run : (c : Circuit) → stepRun c (withFar x y l) s ≡ stepRun c l s
+  unfolding stepRun
+  far-run c = rw (ne-eqb (s .phase) 1 n)
+
+  far-accepted : (c : Circuit) (r : Run) → acceptedStep c (withFar x y l) r ≡ farLent x y (acceptedStep c l r)
+  unfolding withOutputs
+  far-accepted c r =
+      either (r .phase) 1
+      (λ e. accepted-waits c (withFar x y l) r e ∙ ap (farLent x y) (sym (accepted-waits c l r e)))
+      (λ m. accepted-ends c (withFar x y l) r m ∙ ap (farLent x y) (sym (accepted-ends c l r m)))
+
+  far-answered : (m : ℕ) (c : Circuit) → answered m c (withFar x y l) s ≡ farLent x y (answered m c l s)
+  unfolding answered
+  far-answered zero c = ap (acceptedStep c (withFar x y l)) (far-run c) ∙ far-accepted c (stepRun c l s)
+  far-answered (suc m) c = refl
+
+  far-unread : step (withFar x y l) s ≡ farLent x y (step l s)
+  unfolding step
+  far-unread = of (readCircuit (l .circuit))
+    where
+      of : (r : Reading Circuit) → stepRead r (withFar x y l) s ≡ farLent x y (stepRead r l s)
+      of (Whole c) = ap (λ (m : ℕ). answered m c (withFar x y l) s) (far-number c) ∙ far-answered (stepNumber c l s) c
+      of (Refused k) = refl
+
+-- document 02, 9: progress
+pub progress : Progress
+progress =
+    record {
+      refused = step-refused;
+      passes = passes-gate;
+      finishes = finishes;
+      again = again;
+      bits = run-gives;
+      far = far-unread;
+    }

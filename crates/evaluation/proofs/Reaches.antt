@@ -1,0 +1,126 @@
+-- Where a run stops: at the next AND or at the end. Assumes nothing.
+use Prim.Native.Nat.{ℕ, zero, suc, _+_, _≤_, _<_}
+use mathlib.Core.Bool.{Bool, true, false, true≢false}
+use mathlib.Core.List.{List, [], _∷_, _++_}
+use mathlib.Core.Path.{_≡_, refl, sym, ap, _∙_}
+use borrow.Author.Tests.{eq-eqb, ne-eqb}
+use native.Mathlib.Nat.{add-zero}
+use native.Mathlib.Omega.{arith}
+use lib.Bits.{bitXor}
+use lib.ListN.{length, getD, take, drop, set, replicate, length-drop, take-append-drop, List·getD-eq-default}
+use lib.Seq.{take-add, getD-drop, drop-cons}
+use Rattle.algebra.specs.Choice.{choose}
+use Rattle.circuit.specs.Content.{Gate, Xor, And, Not, Circuit, isAnd, andsIn}
+use Rattle.number.proofs.Places.{split, choose-yes, choose-no}
+use Rattle.evaluation.proofs.Bits.{xor-bit, flipped-bit}
+use Rattle.circuit.proofs.Ands.{ands-append, ands-more, ands-split}
+use Rattle.circuit_run.specs.Step.{Lent, gateAt, andsBefore, flipped, freshWires, runOn, advance, withAnd, stepRun}
+use Rattle.circuit_run.specs.declared.Run.{Run}
+
+-- ---- stops
+
+pub data Reach (gs : List Gate) (i : ℕ) (r : Run) : Type 0 where
+  waits : (m : ℕ) → m < length gs → isAnd (getD gs m (Not 0)) ≡ true → andsIn (take m gs) ≡ 0 → r .phase ≡ 1 → r .gate ≡ i + m → Reach gs i r
+  ends : andsIn gs ≡ 0 → r .phase ≡ 2 → r .gate ≡ i + length gs → Reach gs i r
+
+-- one gate more in front that is no AND
+later : (g : Gate) (gs : List Gate) (i : ℕ) (r : Run) → isAnd g ≡ false → Reach gs (i + 1) r → Reach (g ∷ gs) i r
+unfolding andsIn
+later g gs i r e (waits m h a z p q) =
+    waits (suc m) (omega arith) a (omega (arith, z, ap (λ (b : Bool). choose {A = ℕ} b 1 0) e)) p (omega arith)
+later g gs i r e (ends z p q) = ends (omega (arith, z, ap (λ (b : Bool). choose {A = ℕ} b 1 0) e)) p (omega arith)
+
+pub reach : (role inputs : ℕ) (gs : List Gate) (i : ℕ) (wires : List ℕ) → Reach gs i (runOn role inputs gs i wires)
+unfolding runOn andsIn
+reach role inputs [] i wires = ends refl refl (sym (add-zero i))
+reach role inputs (Xor a b ∷ gs) i wires = later (Xor a b) gs i _ refl (reach role inputs gs (i + 1) (set wires (inputs + i) (bitXor (getD wires a 0) (getD wires b 0))))
+reach role inputs (And a b ∷ gs) i wires = waits 0 (omega arith) refl refl refl (sym (add-zero i))
+reach role inputs (Not a ∷ gs) i wires = later (Not a) gs i _ refl (reach role inputs gs (i + 1) (set wires (inputs + i) (flipped role (getD wires a 0))))
+
+-- where a run of a circuit stands after a number of ANDs
+pub data Standing (c : Circuit) (i n : ℕ) (r : Run) : Type 0 where
+  waiting : r .phase ≡ 1 → i ≤ r .gate → r .gate < length (c .gates) → isAnd (gateAt c (r .gate)) ≡ true → andsBefore c (r .gate) ≡ n → Standing c i n r
+  finished : r .phase ≡ 2 → r .gate ≡ length (c .gates) → andsIn (c .gates) ≤ n → Standing c i n r
+
+pub standing : (role : ℕ) (c : Circuit) (i : ℕ) (wires : List ℕ) → i ≤ length (c .gates) → Standing c i (andsBefore c i) (advance role c i wires)
+standing role c i wires h = of (reach role (c .inputs) (drop i (c .gates)) i wires)
+  where
+    of : {r : Run} → Reach (drop i (c .gates)) i r → Standing c i (andsBefore c i) r
+    of {r} (waits m k a z p q) =
+        waiting p (omega arith) (omega (arith, length-drop i (c .gates)))
+        (ap (λ (n : ℕ). isAnd (gateAt c n)) q ∙ ap isAnd (sym (getD-drop i (c .gates) m (Not 0))) ∙ a)
+        (ap (andsBefore c) q ∙ ap andsIn (take-add i m (c .gates)) ∙ ands-append (take i (c .gates)) (take m (drop i (c .gates)))
+        ∙ ap (λ (n : ℕ). andsIn (take i (c .gates)) + n) z ∙ add-zero (andsIn (take i (c .gates))))
+    of {r} (ends z p q) =
+        finished p (omega (arith, length-drop i (c .gates)))
+        (omega (arith, z, ap andsIn (take-append-drop i (c .gates)), ands-append (take i (c .gates)) (drop i (c .gates))))
+
+pub from-start : {c : Circuit} {i n : ℕ} {r : Run} → Standing c i n r → Standing c 0 n r
+from-start (waiting p l h a e) = waiting p (omega arith) h a e
+from-start (finished p q h) = finished p q h
+
+-- ---- an AND of a circuit
+
+module _ (c : Circuit) (i : ℕ) (a : isAnd (gateAt c i) ≡ true) where
+  pub and-inside : i < length (c .gates)
+  and-inside =
+      split i (length (c .gates)) (λ h. h)
+      (λ h. absurd (true≢false (sym a ∙ ap isAnd (List·getD-eq-default (c .gates) (Not 0) h))))
+
+  pub and-here : drop i (c .gates) ≡ gateAt c i ∷ drop (suc i) (c .gates)
+  and-here = drop-cons (c .gates) i (Not 0) and-inside
+
+  pub and-after : andsBefore c (i + 1) ≡ andsBefore c i + 1
+  and-after = ands-more (c .gates) i and-here ∙ ap (λ (b : Bool). andsBefore c i + choose {A = ℕ} b 1 0) a
+
+  pub and-before : andsBefore c i < andsIn (c .gates)
+  and-before = omega (arith, ands-split (c .gates) i and-here, ap (λ (b : Bool). choose {A = ℕ} b 1 0) a)
+
+-- ---- the state that an accepted step leaves
+
+module _ (c : Circuit) (l : Lent) (s : Run) where
+  pub run-fresh : s .phase ≡ 0 → stepRun c l s ≡ advance (l .role) c 0 (freshWires (l .shares))
+  unfolding stepRun
+  run-fresh e = choose-yes {A = Run} _ _ (eq-eqb (s .phase) 0 e)
+
+  pub run-waits : s .phase ≡ 1 → stepRun c l s ≡ advance (l .role) c (s .gate + 1) (withAnd c l s)
+  unfolding stepRun
+  run-waits e = choose-no {A = Run} _ _ (ne-eqb (s .phase) 0 (λ z. omega arith)) ∙ choose-yes {A = Run} _ _ (eq-eqb (s .phase) 1 e)
+
+  pub run-ends : s .phase ≡ 2 → stepRun c l s ≡ s
+  unfolding stepRun
+  run-ends e = choose-no {A = Run} _ _ (ne-eqb (s .phase) 0 (λ z. omega arith)) ∙ choose-no {A = Run} _ s (ne-eqb (s .phase) 1 (λ z. omega arith))
+
+-- ---- bits
+
+-- every wire is a bit
+abbrev pub WireBits : List ℕ → Type 0
+WireBits wires = (w : ℕ) → getD wires w 0 ≤ 1
+
+pub set-bits : (wires : List ℕ) (i x : ℕ) → WireBits wires → x ≤ 1 → WireBits (set wires i x)
+set-bits [] i x all h w = all w
+set-bits (y ∷ ys) zero x all h zero = h
+set-bits (y ∷ ys) zero x all h (suc w) = all (suc w)
+set-bits (y ∷ ys) (suc i) x all h zero = all 0
+set-bits (y ∷ ys) (suc i) x all h (suc w) = set-bits ys i x (λ v. all (suc v)) h w
+
+pub run-bits : (role inputs : ℕ) (gs : List Gate) (i : ℕ) (wires : List ℕ) → WireBits wires → WireBits (runOn role inputs gs i wires .wires)
+unfolding runOn
+run-bits role inputs [] i wires all = all
+run-bits role inputs (Xor a b ∷ gs) i wires all =
+    run-bits role inputs gs (i + 1) (set wires (inputs + i) (bitXor (getD wires a 0) (getD wires b 0)))
+    (set-bits wires (inputs + i) (bitXor (getD wires a 0) (getD wires b 0)) all (xor-bit (all a) (all b)))
+run-bits role inputs (And a b ∷ gs) i wires all = all
+run-bits role inputs (Not a ∷ gs) i wires all =
+    run-bits role inputs gs (i + 1) (set wires (inputs + i) (flipped role (getD wires a 0)))
+    (set-bits wires (inputs + i) (flipped role (getD wires a 0)) all (flipped-bit role (all a)))
+
+pub zeros-bits : (n : ℕ) → WireBits (replicate n 0)
+zeros-bits zero w = omega arith
+zeros-bits (suc n) zero = omega arith
+zeros-bits (suc n) (suc w) = zeros-bits n w
+
+pub append-bits : (xs ys : List ℕ) → WireBits xs → WireBits ys → WireBits (xs ++ ys)
+append-bits [] ys h g w = g w
+append-bits (x ∷ xs) ys h g zero = h 0
+append-bits (x ∷ xs) ys h g (suc w) = append-bits xs ys (λ v. h (suc v)) g w

@@ -1,0 +1,574 @@
+/* The call of circuits held to the plain implementation, through expander.h (lend.h). */
+#include "lend.h"
+#include "pairing.h"
+#include "plain_circuit.h"
+
+#include <string.h>
+
+enum { WIRES = EXPANDER_WIRES_MAX, OUTPUTS = EXPANDER_CIRCUIT_OUTPUTS_MAX };
+enum { XOR = EXPANDER_GATE_XOR, AND = EXPANDER_GATE_AND, NOT = EXPANDER_GATE_NOT };
+enum { FRESH = EXPANDER_RUN_FRESH, WAITS = EXPANDER_RUN_WAITS, FINISHED = EXPANDER_RUN_FINISHED };
+enum { CIRCUIT_STEP, CALLS };
+
+static const struct call calls[CALLS] = {
+    {"circuit_step", BIT(0) | BIT(10) | BIT(11) | BIT(17) | BIT(12) | BIT(9) | BIT(3) | BIT(13)
+                         | BIT(8) | BIT(18)},
+};
+
+typedef struct expander_run run;
+typedef struct expander_stepped stepped;
+
+static const run fresh;
+
+static int same_run(const run *a, const run *b)
+{
+    return a->phase == b->phase && a->gate == b->gate && memcmp(a->wires, b->wires, WIRES) == 0;
+}
+
+/* ---- The call, made by both ---- */
+
+/* All that a step is lent but its output buffer. */
+struct asked {
+    uint8_t role, far_first, far_second;
+    const uint8_t *circuit, *shares, *triples;
+    size_t circuit_len, shares_len, triples_len;
+};
+
+/* One step with so much room; what the library wrote goes to out, if not NULL. */
+static stepped try_step(const struct asked *a, size_t room, const run *state, uint8_t *out)
+{
+    static stepped mine, plain;
+    int same;
+    describe("circuit_step(role %u, circuit of %zu bytes, %zu, %zu, %zu, bits %u %u, phase %u, "
+             "gate %u)", a->role, a->circuit_len, a->shares_len, a->triples_len, room, a->far_first,
+             a->far_second, state->phase, state->gate);
+    lend(0, a->circuit, a->circuit_len, 1);
+    lend(1, a->shares, a->shares_len, 1);
+    lend(2, a->triples, a->triples_len, 1);
+    lend(3, NULL, room, 1);
+    mine = expander_circuit_step(a->role, LIBRARY(0, uint8_t), a->circuit_len, LIBRARY(1, uint8_t),
+                                 a->shares_len, LIBRARY(2, uint8_t), a->triples_len,
+                                 LIBRARY(3, uint8_t), room, a->far_first, a->far_second, *state);
+    plain = plain_circuit_step(a->role, PLAIN(0, uint8_t), a->circuit_len, PLAIN(1, uint8_t),
+                               a->shares_len, PLAIN(2, uint8_t), a->triples_len, PLAIN(3, uint8_t),
+                               room, a->far_first, a->far_second, *state);
+    same = mine.number == plain.number && mine.written == plain.written
+        && mine.first_bit == plain.first_bit && mine.second_bit == plain.second_bit;
+    if (!same)
+        complain("returned %u, %zu, bits %u %u; the plain implementation %u, %zu, bits %u %u",
+                 mine.number, mine.written, mine.first_bit, mine.second_bit, plain.number,
+                 plain.written, plain.first_bit, plain.second_bit);
+    else if (!same_run(&mine.state, &plain.state)) {
+        complain("number %u: state in phase %u at gate %u; the plain implementation's in phase %u "
+                 "at gate %u, or with other wires", mine.number, mine.state.phase, mine.state.gate,
+                 plain.state.phase, plain.state.gate);
+        same = 0;
+    }
+    settle_lent(CIRCUIT_STEP, same, plain.number, 3, 1, plain.written, 0);
+    keep(out, 3, plain.written);
+    EXPECT(mine.number == 0
+           || (mine.written == 0 && mine.first_bit == 0 && mine.second_bit == 0
+               && same_run(&mine.state, state)));
+    return mine;
+}
+
+/* ---- Circuits ---- */
+
+/* A circuit as it was made, and its bytes; where each number begins, for faults. */
+static struct made {
+    struct plain_circuit c;
+    uint32_t ands;
+    uint8_t bytes[3 * (3 + 4 * WIRES) + 8];
+    size_t len, numbers, begins[3 + 4 * WIRES];
+} made;
+
+static void put(uint32_t number)
+{
+    made.begins[made.numbers++] = made.len;
+    made.len += plain_write_number(made.bytes + made.len, number);
+}
+
+static void write_circuit(void)
+{
+    const struct plain_circuit *c = &made.c;
+    made.len = made.numbers = made.ands = 0;
+    put(c->inputs);
+    put(c->gates);
+    put(c->outputs);
+    for (uint32_t g = 0; g < c->gates; g++) {
+        put(c->gate[g].kind);
+        put(c->gate[g].a);
+        if (c->gate[g].kind != NOT)
+            put(c->gate[g].b);
+        made.ands += c->gate[g].kind == AND;
+    }
+    for (uint32_t k = 0; k < c->outputs; k++)
+        put(c->output[k]);
+}
+
+/* A wire below `bound`: the first, the last, a late one, or any. */
+static uint32_t some_wire(uint32_t bound)
+{
+    switch (random_below(6)) {
+    case 0:
+        return 0;
+    case 1:
+        return bound - 1;
+    case 2:
+    case 3:
+        return bound - 1 - (uint32_t)random_below(bound < 8 ? bound : 8);
+    default:
+        return (uint32_t)random_below(bound);
+    }
+}
+
+/* Make a circuit of these sizes; of a hundred gates so many are ANDs. */
+static void make_circuit(uint32_t inputs, uint32_t gates, uint32_t outputs, size_t percent)
+{
+    static struct plain_circuit back;
+    struct plain_circuit *c = &made.c;
+    c->inputs = inputs;
+    c->gates = gates;
+    c->outputs = outputs;
+    for (uint32_t g = 0; g < gates; g++) {
+        struct plain_gate *gate = &c->gate[g];
+        gate->kind = random_below(100) < percent ? AND : random_below(3) ? XOR : NOT;
+        gate->a = some_wire(inputs + g);
+        gate->b = gate->kind == NOT ? 0 : some_wire(inputs + g);
+    }
+    for (uint32_t k = 0; k < outputs; k++)
+        c->output[k] = some_wire(inputs + gates);
+    write_circuit();
+    EXPECT(plain_read_circuit(&back, made.bytes, made.len) == 0);
+    EXPECT(back.inputs == inputs && back.gates == gates && back.outputs == outputs
+           && memcmp(back.gate, c->gate, gates * sizeof *c->gate) == 0
+           && memcmp(back.output, c->output, outputs * sizeof *c->output) == 0);
+}
+
+static void random_bits(uint8_t *bits, size_t count)
+{
+    for (size_t k = 0; k < count; k++)
+        bits[k] = random_word() & 1;
+}
+
+/* ---- Runs by both ends ---- */
+
+/* Both ends' triples of two dealings with the roles exchanged. End 0 is the first's noise end. */
+static uint8_t triples[2][3 * PAIRING_MOST];
+
+static void make_triples(void)
+{
+    static struct pairing pairings[2];
+    for (int k = 0; k < 2; k++)
+        make_pairing(&pairings[k], PAIRING_MOST);
+    for (int end = 0; end < 2; end++) {
+        const struct pairing *noise = &pairings[end], *scalar = &pairings[1 - end];
+        struct expander_one_length r = expander_triples(
+            noise->choices, PAIRING_MOST, noise->noise_pads, 16 * PAIRING_MOST,
+            scalar->scalar_pads, 32 * PAIRING_MOST, triples[end], sizeof triples[end]);
+        EXPECT(r.number == 0 && r.written == sizeof triples[end]);
+    }
+}
+
+/* A refused step in the middle of a run, on the run's own state: it changes nothing. */
+static void refused_step(const struct asked *a, const run *state)
+{
+    struct asked odd = *a;
+    size_t room = made.c.outputs;
+    uint32_t number = 0;
+    switch (random_below(6)) {
+    case 0:
+        odd.role = (uint8_t)(random_below(2) ? 0 : 3 + random_below(253));
+        number = 9;
+        break;
+    case 1:
+        odd.circuit_len--;
+        number = 10;
+        break;
+    case 2:
+        odd.shares_len--;
+        number = 3;
+        break;
+    case 3:
+        room--;
+        number = 13;
+        break;
+    case 4:
+        if (state->phase != WAITS)
+            return;
+        odd.far_second = 2;
+        number = 8;
+        break;
+    case 5:
+        if (made.ands == 0)
+            return;
+        odd.triples_len = 3 * (size_t)made.ands - 3;
+        number = 18;
+        break;
+    }
+    EXPECT(try_step(&odd, room, state, NULL).number == number);
+}
+
+/* Run the circuit at both ends on random inputs, with refused steps among the others if wanted. */
+static void run_both(int refused)
+{
+    static uint8_t shares[2][WIRES], inputs[WIRES], value[OUTPUTS], outputs[2][OUTPUTS],
+        again[OUTPUTS];
+    static run states[2];
+    static stepped now[2], last;
+    struct asked a[2];
+    size_t first = random_below(PAIRING_MOST - made.ands + 1), n = made.c.outputs, spare;
+    for (int end = 0; end < 2; end++) {
+        random_bits(shares[end], made.c.inputs);
+        states[end] = fresh;
+        spare = PAIRING_MOST - first - made.ands; /* lengths may differ at the ends */
+        spare = random_below(spare < 5 ? spare + 1 : 5);
+        a[end] = (struct asked){(uint8_t)(end + 1), (uint8_t)random_word(), (uint8_t)random_word(),
+                                made.bytes, shares[end], triples[end] + 3 * first, made.len,
+                                made.c.inputs, 3 * (made.ands + spare)};
+    }
+    for (size_t k = 0; k < made.c.inputs; k++)
+        inputs[k] = shares[0][k] ^ shares[1][k];
+    plain_circuit_value(&made.c, inputs, value);
+    for (uint32_t step = 0; step <= made.ands; step++) {
+        for (int end = 0; end < 2; end++) {
+            if (refused && random_below(3) == 0)
+                refused_step(&a[end], &states[end]);
+            now[end] = try_step(&a[end], n + random_below(2) * random_below(9), &states[end],
+                                outputs[end]);
+            EXPECT(now[end].number == 0);
+            EXPECT(step == 0 || now[end].state.gate > states[end].gate);
+            EXPECT(now[end].state.phase == (step < made.ands ? WAITS : FINISHED));
+            EXPECT(now[end].written == (step < made.ands ? 0 : n));
+            EXPECT(now[end].first_bit <= 1 && now[end].second_bit <= 1);
+            states[end] = now[end].state;
+        }
+        for (int end = 0; end < 2; end++) {
+            a[end].far_first = now[1 - end].first_bit;
+            a[end].far_second = now[1 - end].second_bit;
+        }
+    }
+    for (size_t k = 0; k < n; k++)
+        EXPECT(outputs[0][k] <= 1 && outputs[1][k] <= 1
+               && (outputs[0][k] ^ outputs[1][k]) == value[k]);
+    for (int end = 0; end < 2; end++) { /* a finished run gives its outputs again */
+        a[end].far_first = (uint8_t)random_word();
+        a[end].far_second = (uint8_t)random_word();
+        last = try_step(&a[end], n, &states[end], again);
+        EXPECT(last.number == 0 && last.written == n && same_run(&last.state, &states[end]));
+        EXPECT(memcmp(again, outputs[end], n) == 0);
+    }
+}
+
+static void runs(void)
+{
+    const struct {
+        uint32_t inputs, gates, outputs;
+        size_t percent;
+    } edges[] = {{1, 0, 1, 0}, {1, 1, 1, 100}, {1, 1, 1, 0}, {2, 1, 3, 100}, {4096, 0, 4096, 0},
+                 {4095, 1, 4096, 100}, {1, 4095, 4096, 2}, {1, 4095, 1, 0}, {128, 128, 128, 30},
+                 {96, 4000, 64, 8}};
+    for (size_t k = 0; k < sizeof edges / sizeof *edges; k++) {
+        make_circuit(edges[k].inputs, edges[k].gates, edges[k].outputs, edges[k].percent);
+        run_both(1);
+    }
+    for (int round = 0; round < 400; round++) {
+        uint32_t inputs = 1 + (uint32_t)random_below(random_below(4) ? 6 : 40);
+        make_circuit(inputs, (uint32_t)random_below(random_below(4) ? 12 : 60),
+                     1 + (uint32_t)random_below(9), (size_t[]){0, 20, 50, 100}[random_below(4)]);
+        run_both(1);
+    }
+    make_circuit(1, 4095, 5, 25);
+    run_both(0);
+}
+
+/* Each kind of gate on every share and far bit and triple. */
+static void every_bit(void)
+{
+    for (int set = 0; set < 1 << 10; set++) {
+        uint8_t shares[2] = {set & 1, set >> 1 & 1}, out[1];
+        uint8_t triple[3] = {set >> 2 & 1, set >> 3 & 1, set >> 4 & 1};
+        uint8_t d, e;
+        struct asked a = {(uint8_t)(1 + (set >> 5 & 1)), set >> 6 & 1, set >> 7 & 1, made.bytes,
+                          shares, triple, 0, 2, 3};
+        stepped r;
+        made.c.inputs = 2;
+        made.c.gates = 1;
+        made.c.outputs = 1;
+        made.c.output[0] = 2;
+        made.c.gate[0].kind = AND;
+        made.c.gate[0].a = set >> 8 & 1;
+        made.c.gate[0].b = set >> 9 & 1;
+        write_circuit();
+        a.circuit_len = made.len;
+        r = try_step(&a, 1, &fresh, NULL);
+        EXPECT(r.first_bit == (shares[made.c.gate[0].a] ^ triple[0]));
+        EXPECT(r.second_bit == (shares[made.c.gate[0].b] ^ triple[1]));
+        d = r.first_bit ^ a.far_first;
+        e = r.second_bit ^ a.far_second;
+        r = try_step(&a, 1, &r.state, out);
+        EXPECT(out[0] == (triple[2] ^ (d & triple[1]) ^ (e & triple[0])
+                          ^ (a.role == 1 ? d & e : 0)));
+    }
+}
+
+/* ---- Faults in the circuit ---- */
+
+static uint8_t raw[sizeof made.bytes + 16], bits[WIRES + 3 * WIRES], finished_bits[OUTPUTS];
+static size_t raw_len;
+
+/* Lend a circuit on a fresh state, with as many shares as it was made with. */
+static uint32_t try_raw(void)
+{
+    const struct asked a = {(uint8_t)(1 + random_below(2)), 0, 1, raw, bits, bits + WIRES, raw_len,
+                            made.c.inputs, 3 * (size_t)made.ands};
+    return try_step(&a, made.c.outputs, &fresh, finished_bits).number;
+}
+
+/* The circuit with number k in another form: longer than its shortest, without an end, or as
+ * another number. */
+enum form { AS_IT_IS, LONGER, ENDLESS, OTHER };
+
+static void put_raw(size_t k, enum form form, uint32_t other)
+{
+    size_t from = made.begins[k];
+    size_t to = k + 1 < made.numbers ? made.begins[k + 1] : made.len;
+    size_t n = to - from;
+    memcpy(raw + raw_len, made.bytes + from, n);
+    if (form == OTHER)
+        n = plain_write_number(raw + raw_len, other);
+    if (form == LONGER) { /* no number of a circuit takes three bytes */
+        raw[raw_len + n - 1] |= 0x80;
+        raw[raw_len + n++] = 0;
+    }
+    if (form == ENDLESS) {
+        for (; n < 3; n++)
+            raw[raw_len + n] = 0;
+        raw[raw_len] |= 0x80;
+        raw[raw_len + 1] |= 0x80;
+        raw[raw_len + 2] |= 0x80;
+    }
+    raw_len += n;
+}
+
+/* A number at k that is not admitted there: one past its range, at either end, or far past it. */
+static uint32_t not_admitted(size_t k)
+{
+    const struct plain_circuit *c = &made.c;
+    size_t at = 3;
+    uint32_t far = 2097151;
+    if (k == 0)
+        return (uint32_t[]){0, 4097, far}[random_below(3)];
+    if (k == 1)
+        return (uint32_t[]){4097 - c->inputs, 4096, far}[c->inputs == 1 ? 0 : random_below(3)];
+    if (k == 2)
+        return (uint32_t[]){0, 4097, far}[random_below(3)];
+    for (uint32_t g = 0; g < c->gates; g++) {
+        size_t wires = c->gate[g].kind == NOT ? 1 : 2;
+        if (k == at)
+            return (uint32_t[]){0, 4, far}[random_below(3)];
+        if (k <= at + wires)
+            return (uint32_t[]){c->inputs + g, c->inputs + g + 1, far}[random_below(3)];
+        at += 1 + wires;
+    }
+    return (uint32_t[]){c->inputs + c->gates, c->inputs + c->gates + 1, far}[random_below(3)];
+}
+
+/* Write the circuit with two faults at numbers i and j of it. */
+static void write_raw(size_t i, enum form form, size_t j, enum form other)
+{
+    raw_len = 0;
+    for (size_t k = 0; k < made.numbers; k++) {
+        enum form at = k == i ? form : k == j ? other : AS_IT_IS;
+        put_raw(k, at, at == OTHER ? not_admitted(k) : 0);
+    }
+}
+
+static uint32_t number_of(enum form form)
+{
+    return form == AS_IT_IS ? 0 : form == OTHER ? 17 : 11;
+}
+
+/* A circuit cut short, with bytes after it, and with each two faults in it, in both orders. */
+static void damaged_circuits(void)
+{
+    memcpy(raw, made.bytes, made.len);
+    for (raw_len = 0; raw_len < made.len; raw_len++)
+        EXPECT(try_raw() == 10);
+    for (size_t more = 1; more <= 3; more++) {
+        raw[made.len + more - 1] = (uint8_t)random_word();
+        raw_len = made.len + more;
+        EXPECT(try_raw() == 12);
+    }
+    for (size_t i = 0; i < made.numbers; i++)
+        for (enum form form = LONGER; form <= OTHER; form++) {
+            write_raw(i, form, i, AS_IT_IS);
+            EXPECT(try_raw() == number_of(form));
+            raw[raw_len++] = 0; /* and bytes after it */
+            EXPECT(try_raw() == number_of(form));
+            for (enum form other = LONGER; other <= OTHER; other++) {
+                size_t j = random_below(made.numbers);
+                if (j == i)
+                    continue;
+                write_raw(i, form, j, other);
+                EXPECT(try_raw() == number_of(i < j ? form : other));
+            }
+            write_raw(i, form, i, AS_IT_IS); /* cut before the fault, inside it, after it */
+            raw_len = made.begins[i] + random_below(raw_len - made.begins[i] + 1);
+            try_raw();
+            raw_len = made.begins[i];
+            EXPECT(try_raw() == 10);
+        }
+    for (int round = 0; round < 60; round++) { /* any bytes changed */
+        memcpy(raw, made.bytes, made.len);
+        raw_len = made.len - random_below(2) * random_below(2) + random_below(2) * random_below(2);
+        for (size_t k = 1 + random_below(3); k > 0; k--)
+            raw[random_below(made.len)] = (uint8_t)(random_below(2) ? random_below(8)
+                                                                    : random_word());
+        try_raw();
+    }
+}
+
+/* Sizes at their bounds: inputs, gates and outputs, on both sides. */
+static void sizes(void)
+{
+    const struct {
+        uint32_t inputs, gates, outputs, number;
+    } tries[] = {{4096, 0, 1, 0}, {4096, 1, 1, 17}, {4097, 0, 1, 17}, {0, 0, 1, 17}, {0, 5, 1, 17},
+                 {1, 4095, 1, 0}, {1, 4096, 1, 17}, {2000, 2096, 1, 0}, {2000, 2097, 1, 17},
+                 {1, 0, 0, 17}, {1, 0, 4096, 0}, {1, 0, 4097, 17}, {128, 16384, 1, 17},
+                 {16384, 0, 1, 17}, {3, 2097151, 1, 17}, {2097151, 2097151, 1, 17},
+                 {1, 1, 16384, 17}};
+    for (size_t k = 0; k < sizeof tries / sizeof *tries; k++) {
+        uint32_t gates = tries[k].gates <= WIRES ? tries[k].gates : 0;
+        struct plain_circuit *c = &made.c;
+        c->inputs = tries[k].inputs;
+        c->gates = gates;
+        c->outputs = tries[k].outputs <= OUTPUTS ? tries[k].outputs : 0;
+        for (uint32_t g = 0; g < gates; g++)
+            c->gate[g] = (struct plain_gate){NOT, 0, 0};
+        memset(c->output, 0, sizeof c->output);
+        write_circuit();
+        raw_len = 0;
+        put_raw(0, AS_IT_IS, 0);
+        put_raw(1, OTHER, tries[k].gates);
+        put_raw(2, OTHER, tries[k].outputs);
+        for (size_t j = 3; j < made.numbers; j++)
+            put_raw(j, AS_IT_IS, 0);
+        if (c->inputs > WIRES)
+            c->inputs = WIRES;
+        EXPECT(try_raw() == tries[k].number);
+    }
+}
+
+/* ---- Faults beside the circuit ---- */
+
+/* A state in phase `phase` of the circuit, or one that no step of it left. */
+static run some_state(int which, uint32_t an_and, uint32_t no_and)
+{
+    run s = fresh;
+    random_bits(s.wires, made.c.inputs + made.c.gates);
+    s.phase = (uint32_t[]){FRESH, WAITS, FINISHED, WAITS, WAITS, WAITS, 3, UINT32_MAX}[which];
+    s.gate = (uint32_t[]){0, an_and, made.c.gates, no_and, made.c.gates, UINT32_MAX, an_and,
+                          an_and}[which];
+    return s;
+}
+
+/* Every set of faults in a step of a small circuit: exclusive or, AND, NOT, AND, with three inputs
+ * and two outputs. The number is that of the first test that fails. */
+static void refusals(void)
+{
+    enum { INPUTS = 3, TRIPLES = 2 };
+    uint8_t shares[INPUTS + 1], triple_bits[3 * TRIPLES + 4];
+    made.c.inputs = INPUTS;
+    made.c.gates = 4;
+    made.c.outputs = 2;
+    made.c.gate[0] = (struct plain_gate){XOR, 0, 1};
+    made.c.gate[1] = (struct plain_gate){AND, 2, 3};
+    made.c.gate[2] = (struct plain_gate){NOT, 4, 0};
+    made.c.gate[3] = (struct plain_gate){AND, 5, 1};
+    made.c.output[0] = 6;
+    made.c.output[1] = 4;
+    write_circuit();
+    for (int set = 0; set < 8 * 4 * 3 * 5 * 3 * 3 * 3 * 3; set++) {
+        int which = set % 8, rest = set / 8;
+        uint32_t two = 2 * (uint32_t)random_below(2); /* ANDs are gates 1 and 3 */
+        run state = some_state(which, 1 + two, two);
+        uint8_t role = (uint8_t[]){1, 2, 0, 3}[rest % 4];
+        size_t shares_len = (size_t[]){INPUTS, INPUTS + 1, INPUTS - 1}[rest / 4 % 3];
+        size_t triples_len = (size_t[]){6, 9, 3, 7, 5}[rest / 12 % 5];
+        size_t room = (size_t[]){2, 1, 0}[rest / 60 % 3];
+        int bad_share = rest / 180 % 3, bad_triple = rest / 540 % 3, bad_far = rest / 1620 % 3;
+        uint8_t far_first = bad_far == 1 ? 2 : random_word() & 1;
+        uint8_t far_second = bad_far == 2 ? 0xff : random_word() & 1;
+        struct asked a = {role, far_first, far_second, made.bytes, shares, triple_bits, made.len,
+                          shares_len, triples_len};
+        uint32_t number;
+        random_bits(shares, sizeof shares);
+        random_bits(triple_bits, sizeof triple_bits);
+        if (bad_share)
+            shares[bad_share == 1 ? 0 : shares_len - 1] = bad_share == 1 ? 2 : 0x80;
+        if (bad_triple)
+            triple_bits[bad_triple == 1 ? 0 : triples_len - 1] = bad_triple == 1 ? 2 : 0xff;
+        number = which > 2 ? 17 : role < 1 || role > 2 ? 9
+               : shares_len != INPUTS || triples_len % 3 != 0 ? 3
+               : room < 2 ? 13
+               : bad_share || bad_triple || (bad_far && state.phase == WAITS) ? 8
+               : triples_len < 6 ? 18 : 0;
+        EXPECT(try_step(&a, room, &state, NULL).number == number);
+        if (set % 7 == 0) { /* a fault in the circuit comes before all of these */
+            a.circuit_len--;
+            EXPECT(try_step(&a, room, &state, NULL).number == 10);
+            a.circuit_len += 2;
+            EXPECT(try_step(&a, room, &state, NULL).number == 12);
+        }
+    }
+}
+
+/* A step on a state that no step left: any bytes in the wires, any gate. */
+static void any_state(void)
+{
+    static run state;
+    struct asked a = {(uint8_t)(1 + random_below(2)), random_word() & 1, random_word() & 1,
+                      made.bytes, bits, bits + WIRES, made.len, made.c.inputs,
+                      3 * (size_t)made.ands};
+    random_bits(bits, a.shares_len);
+    random_bits(bits + WIRES, a.triples_len);
+    random_bytes(&state, sizeof state);
+    state.phase = (uint32_t)random_below(random_below(8) ? 3 : 5);
+    if (random_below(8))
+        state.gate = random_below(2) ? (uint32_t)random_below(made.c.gates + 1)
+                                     : some_wire(made.c.gates + 1);
+    try_step(&a, made.c.outputs, &state, NULL);
+}
+
+static void any_states(void)
+{
+    for (int round = 0; round < 1000; round++) {
+        make_circuit(1 + (uint32_t)random_below(8), (uint32_t)random_below(30),
+                     1 + (uint32_t)random_below(9), (size_t[]){20, 50, 100}[random_below(3)]);
+        for (int k = 0; k < 8; k++)
+            any_state();
+    }
+    make_circuit(1, 4095, 4096, 100); /* the most ANDs that a circuit can have */
+    for (int k = 0; k < 400; k++)
+        any_state();
+}
+
+int main(void)
+{
+    begin(calls, CALLS);
+    make_triples();
+    every_bit();
+    runs();
+    random_bits(bits, sizeof bits);
+    for (int round = 0; round < 40; round++) {
+        make_circuit(1 + (uint32_t)random_below(round < 30 ? 5 : 300), (uint32_t)random_below(9),
+                     1 + (uint32_t)random_below(4), 40);
+        damaged_circuits();
+    }
+    sizes();
+    refusals();
+    any_states();
+    return finish();
+}
