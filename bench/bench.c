@@ -5,13 +5,12 @@
 #include "dealing.h"
 #include "expander.h"
 #include "plain.h"
+#include "stack.h"
 
 #include <stdio.h>
 #include <stdlib.h>
 #include <string.h>
-#include <sys/mman.h>
 #include <time.h>
-#include <ucontext.h>
 
 enum { DEPTH = 16, N = 1 << DEPTH, TREES = 64, TERMS = 32, OUTPUTS = N / 2 };
 
@@ -127,45 +126,6 @@ static double median(double *values, int n)
     return n % 2 ? values[n / 2] : (values[n / 2 - 1] + values[n / 2]) / 2;
 }
 
-/* ---- Stack ---- */
-
-enum { STACK = 8 << 20 };
-static const uint64_t paint = UINT64_C(0x5a17ed5a17ed5a17);
-static ucontext_t outside, inside;
-static const struct job *stack_job;
-static int stack_who;
-
-static void on_painted_stack(void)
-{
-    if (stack_job != NULL)
-        stack_job->call(stack_who);
-}
-
-/* The bytes of stack that are no longer painted after the job; an empty one if it is NULL. */
-static size_t stack_touched(const struct job *job, int who)
-{
-    static uint64_t *stack;
-    size_t words = STACK / sizeof *stack, clean = 0;
-    if (stack == NULL)
-        stack = mmap(NULL, STACK, PROT_READ | PROT_WRITE, MAP_PRIVATE | MAP_ANONYMOUS, -1, 0);
-    if (stack == MAP_FAILED || getcontext(&inside) != 0) {
-        perror("bench: stack");
-        exit(1);
-    }
-    for (size_t k = 0; k < words; k++)
-        stack[k] = paint;
-    stack_job = job;
-    stack_who = who;
-    inside.uc_stack.ss_sp = stack;
-    inside.uc_stack.ss_size = STACK;
-    inside.uc_link = &outside;
-    makecontext(&inside, on_painted_stack, 0);
-    swapcontext(&outside, &inside);
-    while (clean < words && stack[clean] == paint)
-        clean++;
-    return STACK - clean * sizeof *stack;
-}
-
 /* ---- The table ---- */
 
 static void bench(const struct job *job)
@@ -183,7 +143,7 @@ static void bench(const struct job *job)
     }
     printf("%-15s %5u %12.3f %12.3f %8.2f %14zu %12zu\n", job->name, x.field,
            median(library, samples), median(plain, samples), median(ratio, samples),
-           stack_touched(job, 0) - empty, stack_touched(job, 1) - empty);
+           stack_touched(job->call, 0) - empty, stack_touched(job->call, 1) - empty);
     fflush(stdout);
 }
 

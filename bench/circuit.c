@@ -1,11 +1,12 @@
 /* One end's run of a circuit of 4,000 ANDs, by the library and by the plain implementation in turn:
- * times and their ratio.
+ * times, their ratio, and the deepest stack.
  */
 #define _GNU_SOURCE
 #include "dealing.h"
 #include "expander.h"
 #include "plain.h"
 #include "plain_circuit.h"
+#include "stack.h"
 
 #include <stdio.h>
 #include <stdlib.h>
@@ -73,6 +74,11 @@ static double run(int who)
     return now() - from;
 }
 
+static void run_once(int who)
+{
+    (void)run(who);
+}
+
 static int rising(const void *a, const void *b)
 {
     double d = *(const double *)a - *(const double *)b;
@@ -104,5 +110,8 @@ int main(void)
     }
     printf("circuit of %d ANDs, a run at one end: library %.1f ms, plain %.1f ms, ratio %.2f "
            "(medians of CPU time)\n", ANDS, median(library), median(plain), median(ratio));
+    size_t empty = stack_touched(NULL, 0);
+    printf("deepest stack of a step, its states by value and the loop around it included: library %zu bytes, "
+           "plain %zu bytes\n", stack_touched(run_once, 0) - empty, stack_touched(run_once, 1) - empty);
     return 0;
 }

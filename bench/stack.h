@@ -1,0 +1,11 @@
+/* The stack that a call takes. */
+#ifndef STACK_H
+#define STACK_H
+
+#include <stddef.h>
+
+/* The bytes of a painted stack that are no longer painted after call(who); of an empty call if it is
+ * NULL. */
+size_t stack_touched(void (*call)(int), int who);
+
+#endif
