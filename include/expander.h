@@ -64,12 +64,12 @@ extern "C" {
 #define EXPANDER_ACCEPTED 0u         /* the result is written */
 #define EXPANDER_BAD_FIELD 1u        /* field byte not 1 or 2 */
 #define EXPANDER_BAD_SIZE 2u         /* d, t, l, n or the number of callers outside its range */
-#define EXPANDER_BAD_LENGTH 3u       /* input buffer not exactly of the length called for */
+#define EXPANDER_BAD_LENGTH 3u       /* input buffer not of the length called for; batch too large */
 #define EXPANDER_BAD_POSITION 4u     /* position not rising, or N or more */
 #define EXPANDER_BAD_NOISE 5u        /* noise value not admitted */
 #define EXPANDER_BAD_DELTA 6u        /* Delta zero, or not as its field wants it */
 #define EXPANDER_WINDOW_PAST_END 7u  /* first + count too large */
-#define EXPANDER_NOT_ELEMENT 8u      /* correction or used word no element; bit or choice above 1 */
+#define EXPANDER_NOT_ELEMENT 8u      /* word that must be an element is none; bit byte above 1 */
 #define EXPANDER_WRONG_END 9u        /* end byte not this end's; role not 1 or 2 */
 #define EXPANDER_RECORD_ENDS 10u     /* record or circuit ends inside a field */
 #define EXPANDER_BAD_NUMBER 11u      /* number read not in its shortest form, or too long */
@@ -104,7 +104,8 @@ extern "C" {
 #define EXPANDER_GATE_AND 2
 #define EXPANDER_GATE_NOT 3
 
-/* Roles in a run: the noise end of the triples' first dealing, and its scalar end. */
+/* Roles in a run. Both ends call one of the triples' two dealings the first: its noise end takes
+ * role 1 and its scalar end role 2, so one end takes each. */
 #define EXPANDER_ROLE_NOISE 1
 #define EXPANDER_ROLE_SCALAR 2
 
@@ -138,7 +139,8 @@ struct expander_written_amount {
     uint64_t element;
 };
 
-/* A dealing's label. Labels compare as numbers of 16 bytes, least byte first. */
+/* A dealing's label, which its owners choose: records do not hold it yet. Labels compare as numbers
+ * of 16 bytes, least byte first, and rise from dealing to dealing. */
 struct expander_label {
     uint8_t bytes[16];
 };
@@ -179,8 +181,9 @@ struct expander_previewed {
 
 /* One end's run of a circuit: its phase, the gate that it has come to, and its shares of the inputs
  * and of the gates passed. A fresh one is all 0. Its owner passes it to each step as the accepted
- * step before returned it. Contents that no step returned, but for the test of phase and gate, are
- * taken as they are. */
+ * step before returned it. Contents that no step returned are refused only where the phase is above
+ * 2, or where phase 1 waits at no AND; else they are taken as they are, and in phase 0 gate and wires
+ * are not looked at. */
 struct expander_run {
     uint32_t phase;
     uint32_t gate;
@@ -565,7 +568,8 @@ struct expander_one_length expander_triples(
  *             8: a share or a triple's bit is above 1, in unused triples too; or, in phase 1, a far
  *                bit is
  *            18: there are fewer triples than ANDs
- *  In:       role:       1 at the noise end of the triples' first dealing, 2 at the other end
+ *  In:       role:       one end takes 1, the other 2: 1 the noise end of the one of the triples' two
+ *                        dealings that both ends call the first, 2 its scalar end
  *            circuit:    the circuit, of exactly circuit_len bytes, the same at both ends
  *            shares:     this end's share of each input, one byte 0 or 1; shares_len is the number
  *                        of inputs
@@ -613,7 +617,7 @@ struct expander_opened_stock expander_open_stock(
  *  Returns:  a number, the window, and the stock after the draw.
  *             0: accepted
  *            21: label is not the stock's
- *            14: caller is not below the stock's number of callers
+ *            14: caller is not below the stock's number of callers, or is 8 or more
  *            15: the caller's remaining share is under count
  *  In:       stock:  the stock as the call before returned it
  *            label:  the label of the dealing that the caller draws from
@@ -633,7 +637,7 @@ struct expander_drawn expander_draw(
  *  Returns:  a number, the window, and the stock after that draw.
  *             0: accepted
  *            21: label is not the stock's
- *            14: caller is not below the stock's number of callers
+ *            14: caller is not below the stock's number of callers, or is 8 or more
  *            15: the caller's remaining share is under count
  *  In:       stock:  the stock as the call before returned it
  *            label:  the label of the dealing that the caller draws from

@@ -1,4 +1,4 @@
-/* The library's seven calls held to the plain implementation, through expander.h (lend.h). */
+/* Document 01's seven calls held to the plain implementation, through expander.h (lend.h). */
 #include "lend.h"
 
 #include <string.h>

@@ -43,7 +43,7 @@ void plain_accumulate_noise(unsigned field, uint64_t *noise, size_t n);
 size_t plain_term(const struct plain_key *code, unsigned field, unsigned depth, uint64_t x,
                   uint64_t i, uint64_t *coefficient);
 
-/* The seven calls. */
+/* Document 01's seven calls. */
 struct plain_result plain_deal(
     uint8_t field, size_t depth, size_t trees, size_t terms, size_t outputs,
     const uint8_t *roots, size_t roots_len, const uint32_t *positions, size_t positions_len,

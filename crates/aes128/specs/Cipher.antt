@@ -71,16 +71,16 @@ rcon i = power (i - 1) ∷ 0 ∷ 0 ∷ 0 ∷ []
 unfoldable pub temp : ℕ → List ℕ → List ℕ
 temp i t = choose (eqb (i % 4) 0) (xorWord (subWord (rotWord t)) (rcon (i / 4))) t
 
--- 5.2: w[i], from the scheduleWords before it
+-- 5.2: w[i], from the words before it
 abbrev pub nextWord : ℕ → List (List ℕ) → List ℕ
 nextWord i w = xorWord (getD w (i - 4) []) (temp i (getD w (i - 1) []))
 
--- 5.2: the scheduleWords w[0] to w[n + 3]
+-- 5.2: the words w[0] to w[n + 3]
 unfoldable pub scheduleWords : List (List ℕ) → ℕ → List (List ℕ)
 scheduleWords key zero = key
 scheduleWords key (suc n) = scheduleWords key n ++ (nextWord (n + 4) (scheduleWords key n) ∷ [])
 
--- the scheduleWords 4i to 4i + 3, as round key i
+-- the words 4i to 4i + 3, as round key i
 abbrev pub keyOf : List (List ℕ) → ℕ → List (List ℕ)
 keyOf w i = four (λ c. getD w (4 * i + c) [])
 
@@ -89,7 +89,7 @@ unfoldable pub keysOf : List (List ℕ) → ℕ → List (List (List ℕ))
 keysOf w zero = []
 keysOf w (suc n) = keysOf w n ++ (keyOf w n ∷ [])
 
--- 5.2: KeyExpansion: the forty-four scheduleWords, as eleven round keys
+-- 5.2: KeyExpansion: the forty-four words, as eleven round keys
 unfoldable pub keyExpansion : List (List ℕ) → List (List (List ℕ))
 keyExpansion key = keysOf (scheduleWords key 40) 11
 

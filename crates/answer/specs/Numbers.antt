@@ -1,4 +1,4 @@
--- The numbers that the calls return (document 01, 'Numbers of the calls'), by the names of the C header.
+-- The numbers that the calls return (document 01, 'Numbers of the calls'; document 02), by the names of the C header.
 use Prim.Native.Nat.{ℕ}
 
 -- the call is accepted
@@ -9,11 +9,11 @@ accepted = 0
 abbrev pub badField : ℕ
 badField = 1
 
--- d, t, ℓ or n outside its range
+-- d, t, ℓ or n outside its range; 0 or more than eight callers of a stock
 abbrev pub badSize : ℕ
 badSize = 2
 
--- an input slice not exactly the length that the sizes or c call for
+-- an input slice not exactly the length that the sizes or c call for; a batch above 4,096
 abbrev pub badLength : ℕ
 badLength = 3
 
@@ -33,15 +33,16 @@ badDelta = 6
 abbrev pub windowPastEnd : ℕ
 windowPastEnd = 7
 
--- correction, or a word that the window's rows use, not an element, or in binary noise above 1; choice byte above 1
+-- correction, or a word that the window's rows use, not an element, or in binary noise above 1; choice
+-- byte, or any other byte that stands for a bit, above 1; an element of p or more read as an amount
 abbrev pub notElement : ℕ
 notElement = 8
 
--- end byte not this end's
+-- end byte not this end's; a role of a circuit's step that is not 1 or 2
 abbrev pub wrongEnd : ℕ
 wrongEnd = 9
 
--- record ends inside a field
+-- record or circuit ends inside a field
 abbrev pub recordEnds : ℕ
 recordEnds = 10
 
@@ -49,7 +50,7 @@ recordEnds = 10
 abbrev pub badNumber : ℕ
 badNumber = 11
 
--- bytes after the record
+-- bytes after the record or circuit
 abbrev pub bytesAfter : ℕ
 bytesAfter = 12
 
@@ -67,7 +68,7 @@ noCaller = 14
 abbrev pub shareSpent : ℕ
 shareSpent = 15
 
--- shares sum above n
+-- shares, or at a passage unspent shares, sum above n
 abbrev pub sharesAbove : ℕ
 sharesAbove = 16
 

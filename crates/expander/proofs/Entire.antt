@@ -1,4 +1,4 @@
--- The inhabitants of the statements about the seven calls together: records, demand 3 entire, and what is accepted.
+-- The inhabitants of the statements about the calls of document 01 together: records, demand 3 entire, and what is accepted.
 use mathlib.Core.Path.{_≡_, ap, _∙_}
 use Prim.Native.Nat.{_+_, _*_}
 use borrow.Author.Tests.{le-ltb}

@@ -111,5 +111,3 @@ readScalar s =
     then (readDelta (h .field) s body) λ delta at.
     then (readBlocks (h .trees) s at) λ roots end.
     ended s end (record { head = h; delta = delta; roots = roots })
-
--- ---- what the answers of the code say

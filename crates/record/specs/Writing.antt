@@ -1,4 +1,4 @@
--- The writing of key records (document 01, 'Key records'), and its length.
+-- The writing of key records (document 01, 'Key records').
 use Prim.Native.Nat.{ℕ, _+_, _-_}
 use mathlib.Core.List.{List, [], _∷_, _++_}
 use lib.Dec.{eqb}
@@ -50,5 +50,3 @@ writeNoise p = writeHead 1 (p .head) ++ writeTrees (p .head .field) 0 (p .trees)
 -- the scalar record: Δ, then t roots
 unfoldable pub writeScalar : ScalarPart → List ℕ
 writeScalar p = writeHead 2 (p .head) ++ (writeWords (p .delta) ++ writeBlocks (p .roots))
-
--- ---- lengths, from the sizes and positions alone

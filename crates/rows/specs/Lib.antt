@@ -1,5 +1,5 @@
--- The field, the places and the rows that the head of a record gives, the sizes of one that was read, a window's outputs, and the
--- test of the words that rows use.
+-- The field, the places and the rows that the head of a record gives, when a window passes its end, and which windows have only
+-- usable places.
 pub mod Head
 pub mod Usable
 pub mod Window

@@ -1,5 +1,4 @@
--- A window at either end (document 01, 'Offline and online', 'Numbers of the calls'): when it passes n, and its outputs on the
--- words of a vector of elements, from the round keys and the sizes.
+-- A window at either end (document 01, 'Sizes', 'Numbers of the calls'): when it passes n.
 use mathlib.Core.Bool.{Bool}
 use Prim.Native.Nat.{ℕ, _+_}
 use lib.Dec.{ltb}

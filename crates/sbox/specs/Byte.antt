@@ -11,7 +11,7 @@ unfoldable pub multiples : ℕ → ℕ → ℕ → ℕ
 multiples zero a b = 0
 multiples (suc n) a b = bitXor (b % 2 * a) (multiples n (xtime a) (b / 2))
 
--- 4.2: the mulBytes of two bytes
+-- 4.2: the product of two bytes
 unfoldable pub mulBytes : ℕ → ℕ → ℕ
 mulBytes a b = multiples 8 a b
 
