@@ -16,15 +16,15 @@ use Rattle.number.specs.declared.Number.the-variants.{Value, Fault}
 use Rattle.circuit.proofs.Fields.{within-parts}
 use Rattle.circuit.proofs.Lists.{gates-length, wires-length}
 use Rattle.circuit.specs.Content.{Gate, Circuit, andsIn}
-use Rattle.circuit.specs.Inner.Opens.{counted, placed, content, contentOf, Opens}
+use Rattle.circuit.specs.Inner.Fronts.{countedAnds, placed, content, circuitOf, HasFront}
 use Rattle.circuit.specs.Reading.{readWithin, readGates, readWires, readCircuit}
 use Rattle.circuit.specs.declared.Front.{Front}
 
-counted-refused : (n : ℕ) (x : Step (List Gate)) {k : ℕ} → counted n x ≡ Refused k → x ≡ Refused k
+counted-refused : (n : ℕ) (x : Step (List Gate)) {k : ℕ} → countedAnds n x ≡ Refused k → x ≡ Refused k
 counted-refused n (Whole r) e = absurd (refused-whole (sym e) refl)
 counted-refused n (Refused j) e = cc
 
-counted-whole : (n : ℕ) (x : Step (List Gate)) {a end : ℕ} → counted n x ≡ Whole (a, end) → (gs : List Gate) × (x ≡ Whole (gs, end)) × (a ≡ n + andsIn gs)
+counted-whole : (n : ℕ) (x : Step (List Gate)) {a end : ℕ} → countedAnds n x ≡ Whole (a, end) → (gs : List Gate) × (x ≡ Whole (gs, end)) × (a ≡ n + andsIn gs)
 counted-whole n (Whole r) e = let z = whole-is e in (r .0, ap (λ (p : ℕ × ℕ). Whole (r .0, p .1)) z, ap (λ (p : ℕ × ℕ). p .0) (sym z))
 counted-whole n (Refused j) e = absurd (refused-whole refl e)
 
@@ -69,7 +69,7 @@ module _ (s : List ℕ) {r0 : Number} (read0 : numberRead r0 ≡ readWithin 1 40
           unfolding readCircuit
           fault-2 e w = simp (← read0, v0, ← read1, v1, ← read2, w, e)
 
-          module _ {outputs body : ℕ} (v2 : r2 ≡ Value outputs body) {r3 : Number} (read3 : numberRead r3 ≡ counted 0 (readGates gates inputs s body)) where
+          module _ {outputs body : ℕ} (v2 : r2 ≡ Value outputs body) {r3 : Number} (read3 : numberRead r3 ≡ countedAnds 0 (readGates gates inputs s body)) where
             pub fault-3 : {j k : ℕ} → r3 ≡ Fault j → k ≡ numberFault r3 → readCircuit s ≡ Refused k
             unfolding readCircuit
             fault-3 e w =
@@ -92,14 +92,14 @@ module _ (s : List ℕ) {r0 : Number} (read0 : numberRead r0 ≡ readWithin 1 40
                     let y = placed-whole (readWires outputs (inputs + gates) s tail) (sym read4 ∙ ap numberRead v4) in
                     simp (← read0, v0, ← read1, v1, ← read2, v2, x .1, y .1, lt-ltb _ _ h)
 
-                pub opened : length s ≤ end → Opens s (frontWith inputs gates outputs ands body tail)
+                pub opened : length s ≤ end → HasFront s (frontWith inputs gates outputs ands body tail)
                 unfolding readCircuit
                 opened h =
                     let x = counted-whole 0 (readGates gates inputs s body) (sym read3 ∙ ap numberRead v3) in
                     let y = placed-whole (readWires outputs (inputs + gates) s tail) (sym read4 ∙ ap numberRead v4) in
                     let c : Circuit = record { inputs = inputs; gates = x .0; outputs = y .0 } in
                     let w : readCircuit s ≡ Whole c = simp (← read0, v0, ← read1, v1, ← read2, v2, x .1, y .1, le-ltb _ _ h) in
-                    let e : content s ≡ c = ap contentOf w in
+                    let e : content s ≡ c = ap circuitOf w in
                     record {
                       whole = w ∙ ap (λ (d : Circuit). Whole d) (sym e);
                       inputs = ap (λ (d : Circuit). d .inputs) (sym e);

@@ -17,7 +17,7 @@ use Rattle.number.specs.Reading.{Whole, Refused, choose, tested, Bytes}
 use Rattle.number.specs.Inner.Known.{Has}
 use Rattle.circuit.proofs.Fields.{within-parts, wire-parts, twoWires, GateParts, one, two, gate-parts}
 use Rattle.circuit.proofs.Lists.{first-gate, first-wire, no-gate, no-wire, gates-length, wires-length, gates-below, wires-below}
-use Rattle.circuit.specs.Admitted.{mostWires, GateBelow, GatesBelow, WiresBelow, Admitted}
+use Rattle.circuit.specs.Admitted.{mostWires, GateBelow, GatesBelow, WiresBelow, AdmittedCircuit}
 use Rattle.circuit.specs.Content.{Gate, Xor, And, Not, Circuit}
 use Rattle.circuit.specs.OneWriting.{OneWriting}
 use Rattle.circuit.specs.Reading.{readWithin, readWire, readGate, readGates, readWires, readCircuit}
@@ -87,7 +87,7 @@ module _ (s : List ℕ) where
       let e₁ = wires-read limit (after at (N w)) ws (ok .1) m (has-back s at (N w) (writeWires ws) h) in
       simp (e₀, e₁) (ap (λ (x : ℕ). Whole (w ∷ ws, x)) (omega (arith, length-append (N w) (writeWires ws))))
 
-pub back : (c : Circuit) → Admitted c → readCircuit (writeCircuit c) ≡ Whole c
+pub back : (c : Circuit) → AdmittedCircuit c → readCircuit (writeCircuit c) ≡ Whole c
 unfolding readCircuit writeCircuit
 back c ok =
     let I : List ℕ = N (c .inputs) in
@@ -225,7 +225,7 @@ circuit-parts s c e =
     })
 
 -- an accepted circuit is admitted
-pub admitted : (s : List ℕ) (c : Circuit) → readCircuit s ≡ Whole c → Admitted c
+pub admitted : (s : List ℕ) (c : Circuit) → readCircuit s ≡ Whole c → AdmittedCircuit c
 admitted s c e =
     let p = circuit-parts s c e in
     let i = within-parts 1 mostWires s 0 (p .inputs) in
@@ -243,7 +243,7 @@ admitted s c e =
           (wires-below (p .wanted) (c .inputs + p .count) s (p .at4) (p .tail));
     }
 
-exact : (s : List ℕ) → Bytes s → (c : Circuit) → readCircuit s ≡ Whole c → Admitted c × (s ≡ writeCircuit c)
+exact : (s : List ℕ) → Bytes s → (c : Circuit) → readCircuit s ≡ Whole c → AdmittedCircuit c × (s ≡ writeCircuit c)
 unfolding writeCircuit
 exact s bytes c e =
     let p = circuit-parts s c e in

@@ -15,7 +15,7 @@ use Rattle.number.specs.declared.Number.the-variants.{Value, Fault}
 use Rattle.circuit.specs.Admitted.{within}
 use Rattle.circuit.specs.Content.{Gate, Xor, And, Not}
 use Rattle.circuit.specs.Inner.GateKinds.{kindNumber}
-use Rattle.circuit.specs.Inner.Opens.{gateKind, andOf}
+use Rattle.circuit.specs.Inner.Fronts.{gateKind, andOf}
 use Rattle.circuit.specs.Reading.{readWithin, readWire, readGate}
 
 -- ---- a number with a test

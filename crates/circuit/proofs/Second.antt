@@ -12,7 +12,7 @@ use Rattle.number.specs.Inner.Known.{isWhole}
 use Rattle.circuit.proofs.Fields.{GateParts, one, two, gate-parts, within-parts, wire-parts, two-kind}
 use Rattle.circuit.specs.Content.{Gate}
 use Rattle.circuit.specs.Inner.GateKinds.{kindNumber}
-use Rattle.circuit.specs.Inner.Opens.{gateOf}
+use Rattle.circuit.specs.Inner.Fronts.{gateOf}
 use Rattle.circuit.specs.Reading.{readWithin, readWire, readGate}
 use Rattle.circuit.specs.declared.GateRead.{GateRead}
 

@@ -14,7 +14,7 @@ use Rattle.number.specs.declared.Number.{Number}
 use Rattle.number.specs.declared.Number.the-variants.{Value, Fault}
 use Rattle.circuit.specs.Content.{Gate, Xor, And, Not, isAnd, andsIn}
 use Rattle.circuit.specs.Inner.GateKinds.{kindNumber}
-use Rattle.circuit.specs.Inner.Opens.{andOf, gateKind, counted, placed}
+use Rattle.circuit.specs.Inner.Fronts.{andOf, gateKind, countedAnds, placed}
 use Rattle.circuit.specs.Reading.{readWire, readGate, readGates, readWires}
 
 -- ---- gates
@@ -33,7 +33,7 @@ and-kind (Xor a b) = refl
 and-kind (And a b) = refl
 and-kind (Not a) = refl
 
-counted-more : (n : ℕ) (g : Gate) (x : Step (List Gate)) → counted n (then x λ gs end. Whole (g ∷ gs, end)) ≡ counted (n + andOf (kindNumber g)) x
+counted-more : (n : ℕ) (g : Gate) (x : Step (List Gate)) → countedAnds n (then x λ gs end. Whole (g ∷ gs, end)) ≡ countedAnds (n + andOf (kindNumber g)) x
 unfolding andsIn
 counted-more n g (Whole r) = ap (λ (m : ℕ). Whole (m, r .1)) (omega (arith, and-kind g))
 counted-more n g (Refused k) = refl
@@ -43,7 +43,7 @@ and-small kind = either kind 2 (λ e. simp (eq-eqb _ _ e) (omega arith)) (λ n. 
 
 -- the loop's invariant
 pub record GatesTurn (s : List ℕ) (body gates inputs at ands i : ℕ) : Type 0 where
-  pub answer : counted 0 (readGates gates inputs s body) ≡ counted ands (readGates (gates - i) (inputs + i) s at)
+  pub answer : countedAnds 0 (readGates gates inputs s body) ≡ countedAnds ands (readGates (gates - i) (inputs + i) s at)
   pub turns : i ≤ gates
   pub few : ands ≤ i
 
@@ -54,19 +54,19 @@ gates-start s body gates inputs =
 module _ {s : List ℕ} {body gates inputs at ands i : ℕ} (turn : GatesTurn s body gates inputs at ands i) where
   module _ (more : i < gates) where
     step : (x : Step Gate) → readGate (inputs + i) s at ≡ x
-        → counted 0 (readGates gates inputs s body)
-        ≡ counted ands (then x λ g next. then (readGates (gates - (i + 1)) (inputs + i + 1) s next) λ gs end. Whole (g ∷ gs, end))
+        → countedAnds 0 (readGates gates inputs s body)
+        ≡ countedAnds ands (then x λ g next. then (readGates (gates - (i + 1)) (inputs + i + 1) s next) λ gs end. Whole (g ∷ gs, end))
     unfolding readGates
     step x e =
         turn .answer
-        ∙ ap (λ (n : ℕ). counted ands (readGates n (inputs + i) s at)) {x = gates - i} {y = suc (gates - (i + 1))} (omega arith)
-        ∙ ap (λ (y : Step Gate). counted ands (then y λ g next. then (readGates (gates - (i + 1)) (inputs + i + 1) s next) λ gs end. Whole (g ∷ gs, end))) e
+        ∙ ap (λ (n : ℕ). countedAnds ands (readGates n (inputs + i) s at)) {x = gates - i} {y = suc (gates - (i + 1))} (omega arith)
+        ∙ ap (λ (y : Step Gate). countedAnds ands (then y λ g next. then (readGates (gates - (i + 1)) (inputs + i + 1) s next) λ gs end. Whole (g ∷ gs, end))) e
 
     pub gates-fits : (kind : ℕ) {n : ℕ} → n ≡ andOf kind → inputs + gates ≤ 4096 → Fits w64 (ands + n)
     gates-fits kind w h = record { fits = omega (arith, turn .few, and-small kind, w) }
 
     module _ {r : Number} (read : numberRead r ≡ gateKind (readGate (inputs + i) s at)) where
-      pub gates-fault : {k : ℕ} → r ≡ Fault k → numberRead r ≡ counted 0 (readGates gates inputs s body)
+      pub gates-fault : {k : ℕ} → r ≡ Fault k → numberRead r ≡ countedAnds 0 (readGates gates inputs s body)
       gates-fault {k} e =
           let x = kind-refused (readGate (inputs + i) s at) (sym read ∙ ap numberRead e) in
           ap numberRead e ∙ sym (step (Refused k) x)
@@ -78,17 +78,17 @@ module _ {s : List ℕ} {body gates inputs at ands i : ℕ} (turn : GatesTurn s 
             answer =
                 step (Whole (x .0, next)) (x .1)
                 ∙ counted-more ands (x .0) (readGates (gates - (i + 1)) (inputs + i + 1) s next)
-                ∙ ap (λ (m : ℕ). counted (ands + m) (readGates (gates - (i + 1)) (inputs + i + 1) s next)) (ap andOf (x .2) ∙ sym w)
-                ∙ ap (λ (m : ℕ). counted (ands + n) (readGates (gates - (i + 1)) m s next)) {x = inputs + i + 1} {y = inputs + (i + 1)} (omega arith);
+                ∙ ap (λ (m : ℕ). countedAnds (ands + m) (readGates (gates - (i + 1)) (inputs + i + 1) s next)) (ap andOf (x .2) ∙ sym w)
+                ∙ ap (λ (m : ℕ). countedAnds (ands + n) (readGates (gates - (i + 1)) m s next)) {x = inputs + i + 1} {y = inputs + (i + 1)} (omega arith);
             turns = omega arith;
             few = omega (arith, turn .few, and-small kind, w);
           }
 
-  pub gates-done : gates ≤ i → Whole (ands, at) ≡ counted 0 (readGates gates inputs s body)
+  pub gates-done : gates ≤ i → Whole (ands, at) ≡ countedAnds 0 (readGates gates inputs s body)
   unfolding readGates andsIn
   gates-done over =
       sym (turn .answer
-      ∙ ap (λ (n : ℕ). counted ands (readGates n (inputs + i) s at)) {x = gates - i} {y = 0} (omega arith)
+      ∙ ap (λ (n : ℕ). countedAnds ands (readGates n (inputs + i) s at)) {x = gates - i} {y = 0} (omega arith)
       ∙ ap (λ (n : ℕ). Whole (n, at)) (add-zero ands))
 
 -- ---- wires

@@ -32,7 +32,7 @@ WiresBelow limit [] = Unit {0}
 WiresBelow limit (w ∷ ws) = (w < limit) × WiresBelow limit ws
 
 -- an admitted circuit
-pub record Admitted (c : Circuit) : Type 0 where
+pub record AdmittedCircuit (c : Circuit) : Type 0 where
   pub inputs : 1 ≤ c .inputs
   pub wires : c .inputs + length (c .gates) ≤ mostWires
   pub outputs : (1 ≤ length (c .outputs)) × (length (c .outputs) ≤ mostWires)

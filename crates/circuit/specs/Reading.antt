@@ -2,10 +2,10 @@
 use Prim.Native.Nat.{ℕ, zero, suc, _+_, _-_}
 use mathlib.Core.List.{List, [], _∷_}
 use lib.Dec.{ltb, eqb}
-use lib.ListN.{length}
-use Rattle.answer.specs.Numbers.{badCircuit, bytesAfter}
+use Rattle.answer.specs.Numbers.{badCircuit}
 use Rattle.number.specs.Number.{readNumber}
-use Rattle.number.specs.Reading.{Reading, Whole, Refused, Step, then, choose, tested}
+use Rattle.number.specs.Reading.{Reading, Whole, Step, then, choose, tested}
+use Rattle.record.specs.Reading.{ended}
 use Rattle.circuit.specs.Admitted.{mostWires, within}
 use Rattle.circuit.specs.Content.{Gate, Xor, And, Not, Circuit}
 
@@ -42,11 +42,8 @@ readWires (suc n) limit s at =
     then (readWires n limit s next) λ ws end.
     Whole (w ∷ ws, end)
 
--- the end; 12: bytes after it
-abbrev pub ended : {A : Type 0} → List ℕ → ℕ → A → Reading A
-ended s at x = choose (ltb at (length s)) (Refused bytesAfter) (Whole x)
-
--- the circuit: inputs 1 to 4,096, gates up to 4,096 wires together, outputs 1 to 4,096; the gates; the output wires
+-- the circuit: inputs 1 to 4,096, gates up to 4,096 wires together, outputs 1 to 4,096; the gates; the output wires; then its end,
+-- as of a record
 unfoldable pub readCircuit : List ℕ → Reading Circuit
 readCircuit s =
     then (readWithin 1 mostWires s 0) λ inputs at1.

@@ -5,7 +5,7 @@ ghost use Prim.Native.Nat.{_<_};
 ghost use Rattle.number.specs.Reading.{Whole};
 ghost use Rattle.number.specs.Inner.Known.{isWhole};
 ghost use Rattle.circuit.specs.Inner.GateKinds.{kindNumber};
-ghost use Rattle.circuit.specs.Inner.Opens.{gateOf};
+ghost use Rattle.circuit.specs.Inner.Fronts.{gateOf};
 ghost use Rattle.circuit.specs.Reading.{readWire, readGate};
 use crate::GateRead;
 use number::Known;

@@ -3,7 +3,7 @@ ghost use mathlib.Core.Path.{_≡_};
 ghost use Prim.Native.Nat.{_+_, _≤_};
 ghost use Rattle.number.specs.Inner.Answers.{numberRead};
 ghost use Rattle.circuit.specs.Admitted.{mostWires};
-ghost use Rattle.circuit.specs.Inner.Opens.{gateKind, andOf, counted, placed};
+ghost use Rattle.circuit.specs.Inner.Fronts.{gateKind, andOf, countedAnds, placed};
 ghost use Rattle.circuit.specs.Reading.{readWithin, readWire, readGate, readGates, readWires};
 use answer::BAD_CIRCUIT;
 use number::Number;
@@ -72,7 +72,7 @@ pub fn and_of(kind: usize) -> usize
 // Gates, the first at wire `inputs`; the value is the number of ANDs.
 pub fn read_gates(source: &[u8], body: usize, gates: usize, inputs: usize) -> Number
     requires { ⌜ inputs + gates ≤ mostWires ⌝ }
-    ensures { λ r. ⌜ numberRead r ≡ counted 0 (readGates gates inputs (now (source .entry)) body) ⌝ }
+    ensures { λ r. ⌜ numberRead r ≡ countedAnds 0 (readGates gates inputs (now (source .entry)) body) ⌝ }
 {
     let mut at = body;
     let mut ands: usize = 0;

@@ -17,7 +17,7 @@ use Rattle.circuit.proofs.Ands.{head-at, tail-at, ands-more, ands-split}
 use Rattle.circuit.proofs.Lists.{FirstGate, first-gate}
 use Rattle.circuit.specs.Content.{Gate, Xor, And, Not, isAnd, andsIn}
 use Rattle.circuit.specs.Inner.GateKinds.{kindNumber}
-use Rattle.circuit.specs.Inner.Opens.{andOf, gateBy, content, Opens}
+use Rattle.circuit.specs.Inner.Fronts.{andOf, gateBy, content, HasFront}
 use Rattle.circuit.specs.Reading.{readGate, readGates}
 use Rattle.circuit.specs.declared.Front.{Front}
 use Rattle.number.proofs.Places.{either, whole-is, choose-yes, choose-no}
@@ -64,7 +64,7 @@ by-3 kind a b e = simp e
 abbrev pub gatesOf : List ℕ → List Gate
 gatesOf s = content s .gates
 
-pub left-start : {s : List ℕ} {f : Front} → Opens s f → Left s (f .inputs) 0 (f .body)
+pub left-start : {s : List ℕ} {f : Front} → HasFront s f → Left s (f .inputs) 0 (f .body)
 left-start {s} {f} o =
     record {
       below = omega arith;
@@ -120,7 +120,7 @@ pub run-start : {s : List ℕ} {f : Front} {p : Place} (role : ℕ) (wires : Lis
     → RunTurn s (f .inputs) role (p .ands) (p .gate) wires (p .at) (p .gate) wires
 run-start role wires st = record { left = st .left; run = refl; counted = st .ands }
 
-module _ {s : List ℕ} {f : Front} (o : Opens s f) {role ands i₀ : ℕ} {wires₀ : List ℕ} {at i : ℕ} {wires : List ℕ}
+module _ {s : List ℕ} {f : Front} (o : HasFront s f) {role ands i₀ : ℕ} {wires₀ : List ℕ} {at i : ℕ} {wires : List ℕ}
     (turn : RunTurn s (f .inputs) role ands i₀ wires₀ at i wires) where
   pub gates-below : i ≤ f .gates
   gates-below = omega (arith, turn .left .below, o .gates)
@@ -227,11 +227,11 @@ pub record PlaceTurn (s : List ℕ) (inputs gate at ands i : ℕ) : Type 0 where
   pub turns : i ≤ gate
   pub few : ands ≤ i
 
-pub place-start : {s : List ℕ} {f : Front} (gate : ℕ) → Opens s f → PlaceTurn s (f .inputs) gate (f .body) 0 0
+pub place-start : {s : List ℕ} {f : Front} (gate : ℕ) → HasFront s f → PlaceTurn s (f .inputs) gate (f .body) 0 0
 unfolding andsIn
 place-start gate o = record { left = left-start o; counted = refl; turns = omega arith; few = omega arith }
 
-module _ {s : List ℕ} {f : Front} (o : Opens s f) {gate : ℕ} (room : gate ≤ f .gates) {at ands i : ℕ}
+module _ {s : List ℕ} {f : Front} (o : HasFront s f) {gate : ℕ} (room : gate ≤ f .gates) {at ands i : ℕ}
     (turn : PlaceTurn s (f .inputs) gate at ands i) where
   module _ (more : i < gate) where
     within-gates : i < length (gatesOf s)
@@ -280,7 +280,7 @@ abbrev pub spotWith : Bool → ℕ → ℕ → ℕ → ℕ → ℕ → Spot
 spotWith admitted gate first second ands next =
     record { admitted = admitted; gate = gate; first = first; second = second; ands = ands; next = next }
 
-module _ {s : List ℕ} {f : Front} (o : Opens s f) (phase gate : ℕ) where
+module _ {s : List ℕ} {f : Front} (o : HasFront s f) (phase gate : ℕ) where
   pub spot-other : {r : Spot} → (phase ≡ 1 → ⊥) → r .admitted ≡ leb phase 2 → r .gate ≡ gate → Spots s f phase gate r
   spot-other n e g =
       record {

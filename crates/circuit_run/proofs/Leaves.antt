@@ -1,53 +1,39 @@
 -- Each return of the small functions gives what the definition says there. Assumes nothing.
-use Prim.Native.Nat.{ℕ, _+_, _/_, _%_, _≤_, _<_}
+use Prim.Native.Nat.{ℕ, _/_, _%_, _≤_, _<_}
 use mathlib.Core.Bool.{Bool, true, false, not}
 use mathlib.Core.List.{List}
-use mathlib.Core.Path.{_≡_, sym, _∙_}
-use borrow.Author.Tests.{lt-leb, le-leb, eq-eqb, ne-eqb, not-true, not-false, lt-ltb, le-ltb}
-use native.Mathlib.Numerals.{add-one}
+use mathlib.Core.Path.{_≡_}
+use borrow.Author.Tests.{lt-leb, le-leb, eq-eqb, ne-eqb, lt-ltb, le-ltb}
 use lib.Bits.{bitXor, bitAnd}
 use lib.Dec.{leb, eqb}
-use lib.ListN.{length, getD, drop, drop-of-length-le}
-use lib.Seq.{drop-cons}
+use lib.ListN.{length}
 use Rattle.circuit.specs.declared.Front.{Front}
+use Rattle.pads.specs.Bytes.{anyAbove}
 use Rattle.circuit_run.specs.Inner.Places.{localShare}
 use Rattle.circuit_run.specs.Inner.Tests.{bitsAsked, lengthsAsked, askedNumber}
-use Rattle.circuit_run.specs.Step.{everyBit, isRole, flipped, andShare}
+use Rattle.circuit_run.specs.Step.{isRole, flipped, andShare}
 use Rattle.circuit_run.specs.declared.input.Asked.{Asked}
 
 -- ---- bits
 
-module _ (bytes : List ℕ) (i : ℕ) (so : everyBit bytes ≡ everyBit (drop i bytes)) where
-  pub bit-above : i < length bytes → 1 < getD bytes i 0 → false ≡ everyBit bytes
-  unfolding everyBit
-  bit-above h a = sym (so ∙ rw (drop-cons bytes i 0 h, lt-leb (getD bytes i 0) 1 a))
+module _ (a : Asked) (shares triples : List ℕ) (t : Bool) (first : t ≡ anyAbove 1 shares) where
+  pub asked-shares : t ≡ true → false ≡ bitsAsked a shares triples
+  asked-shares e = rw (← first, e)
 
-  pub bit-later : i < length bytes → getD bytes i 0 ≤ 1 → everyBit bytes ≡ everyBit (drop (i + 1) bytes)
-  unfolding everyBit
-  bit-later h a = so ∙ rw (drop-cons bytes i 0 h, le-leb (getD bytes i 0) 1 a, add-one)
+  module _ (none : t ≡ false) (u : Bool) (second : u ≡ anyAbove 1 triples) where
+    pub asked-triples : u ≡ true → false ≡ bitsAsked a shares triples
+    asked-triples e = rw (← first, none, ← second, e)
 
-  pub bits-all : length bytes ≤ i → true ≡ everyBit bytes
-  unfolding everyBit
-  bits-all h = sym (so ∙ rw (drop-of-length-le bytes h))
-
-module _ (a : Asked) (shares triples : List ℕ) (t : Bool) (first : t ≡ everyBit shares) where
-  pub asked-shares : not t ≡ true → false ≡ bitsAsked a shares triples
-  asked-shares e = rw (← first, not-true t e)
-
-  module _ (yes : not t ≡ false) (u : Bool) (second : u ≡ everyBit triples) where
-    pub asked-triples : not u ≡ true → false ≡ bitsAsked a shares triples
-    asked-triples e = rw (← first, not-false t yes, ← second, not-true u e)
-
-    module _ (yes-u : not u ≡ false) where
+    module _ (none-u : u ≡ false) where
       pub asked-no-far : not (a .waits) ≡ true → true ≡ bitsAsked a shares triples
-      asked-no-far e = rw (← first, not-false t yes, ← second, not-false u yes-u, e)
+      asked-no-far e = rw (← first, none, ← second, none-u, e)
 
       module _ (w : not (a .waits) ≡ false) where
         pub asked-first : 1 < a .«far_first» → false ≡ bitsAsked a shares triples
-        asked-first h = rw (← first, not-false t yes, ← second, not-false u yes-u, w, lt-leb (a .«far_first») 1 h)
+        asked-first h = rw (← first, none, ← second, none-u, w, lt-leb (a .«far_first») 1 h)
 
         pub asked-second : a .«far_first» ≤ 1 → leb (a .«far_second») 1 ≡ bitsAsked a shares triples
-        asked-second h = rw (← first, not-false t yes, ← second, not-false u yes-u, w, le-leb (a .«far_first») 1 h)
+        asked-second h = rw (← first, none, ← second, none-u, w, le-leb (a .«far_first») 1 h)
 
 -- ---- role and lengths
 

@@ -1,17 +1,19 @@
 -- The tests of a step: what is known where they give 0. Assumes nothing.
-use Prim.Native.Nat.{ℕ, zero, suc, _*_, _/_, _%_, _≤_}
+use Prim.Native.Nat.{ℕ, suc, _*_, _/_, _%_, _≤_}
 use mathlib.Core.Bool.{Bool, true, false, not, _&&_, _||_, true≢false}
-use mathlib.Core.List.{List, [], _∷_}
+use mathlib.Core.List.{List}
 use mathlib.Core.Path.{_≡_, refl, sym, ap}
-use borrow.Author.Tests.{ltb-false, leb-true, eqb-true, eq-eqb, not-false}
+use borrow.Author.Tests.{ltb-false, leb-true, eqb-true, eq-eqb, not-true, not-false}
 use native.Mathlib.Omega.{arith}
 use lib.Dec.{leb, ltb, eqb}
 use lib.ListN.{length, getD}
 use Rattle.algebra.specs.Choice.{choose}
 use Rattle.circuit.specs.Content.{Circuit, isAnd, andsIn}
 use Rattle.circuit.specs.declared.Front.{Front}
+use Rattle.pads.proofs.Numbers.{none-above}
+use Rattle.pads.specs.Bytes.{anyAbove}
 use Rattle.circuit_run.specs.Inner.Tests.{bitsAsked, lengthsAsked, askedNumber}
-use Rattle.circuit_run.specs.Step.{Lent, everyBit, gateAt, stateAdmitted, isRole, stepNumber}
+use Rattle.circuit_run.specs.Step.{StepLent, gateAt, stateAdmitted, isRole, stepNumber}
 use Rattle.circuit_run.specs.declared.Run.{Run}
 use Rattle.circuit_run.specs.declared.input.Asked.{Asked}
 
@@ -27,13 +29,6 @@ both false b e = absurd (true≢false (sym e))
 either-true : (a b : Bool) → a || b ≡ true → a ≡ false → b ≡ true
 either-true true b e f = absurd (true≢false f)
 either-true false b e f = e
-
--- bytes that are bits
-pub bits-each : (bytes : List ℕ) → everyBit bytes ≡ true → (k : ℕ) → getD bytes k 0 ≤ 1
-unfolding everyBit
-bits-each [] e k = omega arith
-bits-each (b ∷ bytes) e zero = leb-true b 1 (both (leb b 1) (everyBit bytes) e .0)
-bits-each (b ∷ bytes) e (suc k) = bits-each bytes (both (leb b 1) (everyBit bytes) e .1) k
 
 -- a state that is admitted
 pub state-phase : (c : Circuit) (phase gate : ℕ) → stateAdmitted c phase gate ≡ true → phase ≤ 2
@@ -68,16 +63,16 @@ asked-passes f t a shares triples space e =
     let p₆ = passed (ltb (length triples / 3) (f .ands)) 17 _ (p₅ .1) in
     let lengths = both (eqb (length shares) (f .inputs)) (eqb (length triples % 3) 0) (not-false _ (p₃ .0)) in
     let far : Bool = leb (a .«far_first») 1 && leb (a .«far_second») 1 in
-    let b₁ = both (everyBit shares && everyBit triples) (not (a .waits) || far) (not-false _ (p₅ .0)) in
-    let b₂ = both (everyBit shares) (everyBit triples) (b₁ .0) in
+    let b₁ = both (not (anyAbove 1 shares) && not (anyAbove 1 triples)) (not (a .waits) || far) (not-false _ (p₅ .0)) in
+    let b₂ = both (not (anyAbove 1 shares)) (not (anyAbove 1 triples)) (b₁ .0) in
     record {
       state = not-false t (p₁ .0);
       role = not-false _ (p₂ .0);
       one-each = eqb-true _ _ (lengths .0);
       three-each = eqb-true _ _ (lengths .1);
       room = ltb-false _ _ (p₄ .0);
-      share-bits = bits-each shares (b₂ .0);
-      triple-bits = bits-each triples (b₂ .1);
+      share-bits = none-above 1 shares (not-true _ (b₂ .0));
+      triple-bits = none-above 1 triples (not-true _ (b₂ .1));
       far =
           λ one.
           let g = both (leb (a .«far_first») 1) (leb (a .«far_second») 1) (either-true (not (a .waits)) far (b₁ .1) (ap not one)) in
@@ -89,13 +84,13 @@ asked-passes f t a shares triples space e =
 abbrev pub frontOf : Circuit → Front
 frontOf c = record { inputs = c .inputs; gates = 0; outputs = length (c .outputs); ands = andsIn (c .gates); body = 0; tail = 0 }
 
-abbrev pub askedBy : Lent → Run → Asked
+abbrev pub askedBy : StepLent → Run → Asked
 askedBy l s = record { role = l .role; waits = eqb (s .phase) 1; «far_first» = l .farFirst; «far_second» = l .farSecond }
 
 -- what a step with number 0 has passed
-abbrev pub Passes : Circuit → Lent → Run → Type 0
+abbrev pub Passes : Circuit → StepLent → Run → Type 0
 Passes c l s = AskedPasses (frontOf c) (stateAdmitted c (s .phase) (s .gate)) (askedBy l s) (l .shares) (l .triples) (length (l .output))
 
-pub passes : (c : Circuit) (l : Lent) (s : Run) → stepNumber c l s ≡ 0 → Passes c l s
+pub passes : (c : Circuit) (l : StepLent) (s : Run) → stepNumber c l s ≡ 0 → Passes c l s
 unfolding stepNumber askedNumber
 passes c l s e = asked-passes (frontOf c) (stateAdmitted c (s .phase) (s .gate)) (askedBy l s) (l .shares) (l .triples) (length (l .output)) e

@@ -11,11 +11,11 @@ use mir.Val.{Fits}
 use Rattle.algebra.specs.Choice.{choose}
 use Rattle.circuit.proofs.Ands.{ands-more, before-few}
 use Rattle.circuit.specs.Content.{Gate, Not, isAnd, andsIn}
-use Rattle.circuit.specs.Inner.Opens.{content, Opens}
+use Rattle.circuit.specs.Inner.Fronts.{content, HasFront}
 use Rattle.circuit.specs.declared.Front.{Front}
 use Rattle.number.proofs.Places.{choose-yes, choose-no}
 use Rattle.circuit_run.proofs.Gates.{gatesOf, left-start}
-use Rattle.circuit_run.specs.Inner.Places.{Stands, Waits, Ready, Stops, givenAnd, proceeded}
+use Rattle.circuit_run.specs.Inner.Places.{Stands, Waits, CanProceed, Stops, givenAnd, proceeded}
 use Rattle.circuit_run.specs.Step.{gateAt, freshWires, runOn}
 use Rattle.circuit_run.specs.declared.Run.{Run}
 use Rattle.circuit_run.specs.declared.input.Asked.{Asked}
@@ -29,7 +29,7 @@ placeWith gate at ands = record { gate = gate; at = at; ands = ands }
 -- ---- a run that waits
 
 module _ {s : List ℕ} {f : Front} {a : Asked} {r : Spot} {shares triples : List ℕ}
-    (o : Opens s f) (ready : Ready s f a r shares triples) (yes : a .waits ≡ true) where
+    (o : HasFront s f) (ready : CanProceed s f a r shares triples) (yes : a .waits ≡ true) where
   w : Waits s f r
   w = ready .waits yes
 
@@ -42,7 +42,7 @@ module _ {s : List ℕ} {f : Front} {a : Asked} {r : Spot} {shares triples : Lis
   pub and-second : r .second < 4096
   and-second = w .second
 
-  pub and-triple : 3 * r .ands + 2 < length triples
+  pub and-triple : r .ands * 3 + 2 < length triples
   and-triple = omega (arith, w .few, ready .enough)
 
   pub and-room : f .inputs + r .gate < 4096
@@ -76,7 +76,7 @@ module _ {s : List ℕ} {f : Front} {a : Asked} {r : Spot} {shares triples : Lis
 
 -- ---- a fresh run
 
-module _ {s : List ℕ} {f : Front} (o : Opens s f) where
+module _ {s : List ℕ} {f : Front} (o : HasFront s f) where
   pub fresh-start : Stands s f (placeWith 0 (f .body) 0)
   unfolding andsIn
   fresh-start = record { left = left-start o; ands = refl }

@@ -13,7 +13,7 @@ use mir.Val.{Fits}
 use Rattle.algebra.specs.Choice.{choose}
 use Rattle.circuit.proofs.Ands.{before-few}
 use Rattle.circuit.specs.Content.{And, Circuit}
-use Rattle.circuit.specs.Inner.Opens.{content, Opens, OpenedAs, refusalOf}
+use Rattle.circuit.specs.Inner.Fronts.{content, HasFront, OpenedAs, refusalOf}
 use Rattle.circuit.specs.Reading.{readCircuit}
 use Rattle.circuit.specs.Value.{atWires}
 use Rattle.circuit.specs.declared.Front.{Front}
@@ -23,9 +23,9 @@ use Rattle.number.proofs.Places.{either, choose-yes, choose-no}
 use Rattle.number.specs.Reading.{Reading, Refused}
 use Rattle.circuit_run.proofs.Gates.{gatesOf}
 use Rattle.circuit_run.proofs.Numbers.{asked-passes, state-phase}
-use Rattle.circuit_run.specs.Inner.Places.{Spots, Ready, Tested, Checks, Stops, givenAnd, proceeded, steppedWith, acceptedOn}
+use Rattle.circuit_run.specs.Inner.Places.{Spots, CanProceed, Tested, Checks, Stops, givenAnd, proceeded, steppedWith, acceptedOn}
 use Rattle.circuit_run.specs.Inner.Tests.{askedNumber}
-use Rattle.circuit_run.specs.Step.{Lent, lentWith, Outcome, outcome, stepped, runWith, stepNumber, gateAt, freshWires, runOn, maskedFirst, maskedSecond, shareOf, withAnd, stepRun, withOutputs, acceptedStep, refusedStep, answered, stepRead, step}
+use Rattle.circuit_run.specs.Step.{StepLent, lentWith, StepOutcome, stepOutcome, stepped, runWith, stepNumber, gateAt, freshWires, runOn, maskedFirst, maskedSecond, waitingShare, withAnd, stepRun, withOutputs, acceptedStep, refusedStep, stepBy, stepRead, step}
 use Rattle.circuit_run.specs.declared.Run.{Run}
 use Rattle.circuit_run.specs.declared.Stepped.{Stepped}
 use Rattle.circuit_run.specs.declared.checking.Checked.{Checked}
@@ -34,7 +34,7 @@ use Rattle.circuit_run.specs.declared.running.Reached.{Reached}
 use Rattle.circuit_run.specs.declared.waiting.Spot.{Spot}
 
 -- what a circuit that was read opens
-pub opened-front : {s : List ℕ} {r : Opened} {f : Front} → OpenedAs s r → r ≡ Accepted f → Opens s f
+pub opened-front : {s : List ℕ} {r : Opened} {f : Front} → OpenedAs s r → r ≡ Accepted f → HasFront s f
 opened-front {s} h e = subst (OpenedAs s) e h
 
 abbrev pub askedWith : ℕ → Bool → ℕ → ℕ → Asked
@@ -46,29 +46,29 @@ pub circuit-refused : (role : ℕ) {s : List ℕ} (shares triples output : List 
     → stepped answer (lentWith role s shares triples output far1 far2) ≡ step (lentWith role s shares triples output far1 far2) state
 unfolding step
 circuit-refused role {s} shares triples output far1 far2 {state} {r} {j} {k} {answer} h e n w =
-    let l : Lent = lentWith role s shares triples output far1 far2 in
+    let l : StepLent = lentWith role s shares triples output far1 far2 in
     let m : readCircuit s ≡ Refused j = subst (OpenedAs s) e h in
     ap (λ (x : Stepped). stepped x l) w
     ∙ ap (λ (i : ℕ). refusedStep i l state) (n ∙ ap refusalOf e)
     ∙ sym (ap (λ (x : Reading Circuit). stepRead x l state) m)
 
-answered-refused : (n : ℕ) (c : Circuit) (l : Lent) (s : Run) → (n ≡ 0 → ⊥) → refusedStep n l s ≡ answered n c l s
-unfolding answered
-answered-refused zero c l s h = absurd (h refl)
-answered-refused (suc n) c l s h = refl
+by-refused : (n : ℕ) (c : Circuit) (l : StepLent) (s : Run) → (n ≡ 0 → ⊥) → refusedStep n l s ≡ stepBy n c l s
+unfolding stepBy
+by-refused zero c l s h = absurd (h refl)
+by-refused (suc n) c l s h = refl
 
-answered-accepted : (n : ℕ) (c : Circuit) (l : Lent) (s : Run) → n ≡ 0 → answered n c l s ≡ acceptedStep c l (stepRun c l s)
-unfolding answered
-answered-accepted n c l s e = ap (λ (m : ℕ). answered m c l s) e
+by-accepted : (n : ℕ) (c : Circuit) (l : StepLent) (s : Run) → n ≡ 0 → stepBy n c l s ≡ acceptedStep c l (stepRun c l s)
+unfolding stepBy
+by-accepted n c l s e = ap (λ (m : ℕ). stepBy m c l s) e
 
 -- ---- a step that has passed every test
 
 module _ {s : List ℕ} {f : Front} {a : Asked} {r : Spot} {shares triples : List ℕ} {space phase gate : ℕ}
     (t : Tested s f a r shares triples space phase gate) where
-  pub tested-opens : Opens s f
+  pub tested-opens : HasFront s f
   tested-opens = t .opens
 
-  pub tested-ready : Ready s f a r shares triples
+  pub tested-ready : CanProceed s f a r shares triples
   tested-ready = t .ready
 
   pub tested-room : f .outputs ≤ space
@@ -88,10 +88,10 @@ module _ {s : List ℕ} {f : Front} {a : Asked} {r : Spot} {shares triples : Lis
     pub gate-fits : Fits w32 (reached .gate)
     gate-fits = record { fits = omega (arith, stops .below, t .opens .most) }
 
-    pub triple-fits : Fits w64 (3 * reached .ands)
+    pub triple-fits : Fits w64 (reached .ands * 3)
     triple-fits = record { fits = omega (arith, few) }
 
-    pub second-fits : Fits w64 (3 * reached .ands + 1)
+    pub second-fits : Fits w64 (reached .ands * 3 + 1)
     second-fits = record { fits = omega (arith, few) }
 
     pub wire-first : reached .first < 4096
@@ -101,10 +101,10 @@ module _ {s : List ℕ} {f : Front} {a : Asked} {r : Spot} {shares triples : Lis
     wire-second = stops .second .1
 
     module _ (waiting : reached .waits ≡ true) where
-      pub first-below : 3 * reached .ands < length triples
+      pub first-below : reached .ands * 3 < length triples
       first-below = omega (arith, stops .few waiting, t .ready .enough)
 
-      pub second-below : 3 * reached .ands + 1 < length triples
+      pub second-below : reached .ands * 3 + 1 < length triples
       second-below = omega (arith, stops .few waiting, t .ready .enough)
 
 module _ {s : List ℕ} {f : Front} {a : Asked} {r : Spot} {shares triples : List ℕ} (state : Run) (output : List ℕ)
@@ -112,10 +112,10 @@ module _ {s : List ℕ} {f : Front} {a : Asked} {r : Spot} {shares triples : Lis
   abbrev c : Circuit
   c = content s
 
-  abbrev l : Lent
+  abbrev l : StepLent
   l = lentWith (a .role) s shares triples output (a .«far_first») (a .«far_second»)
 
-  abbrev wrote : List ℕ → Lent
+  abbrev wrote : List ℕ → StepLent
   wrote x = lentWith (a .role) s shares triples x (a .«far_first») (a .«far_second»)
 
   finished-is : (after : Run) {x : List ℕ} → stepRun c l state ≡ after → (after .phase ≡ 1 → ⊥)
@@ -125,9 +125,9 @@ module _ {s : List ℕ} {f : Front} {a : Asked} {r : Spot} {shares triples : Lis
   finished-is after {x} e n1 w =
       let g : wrote x ≡ withOutputs c l after =
       ap wrote (w ∙ ap (λ (m : ℕ). atWires (after .wires) (c .outputs) ++ drop m output) (t .opens .outputs)) in
-      ap (λ (y : Lent). outcome 0 (f .outputs) 0 0 after y) g
-      ∙ ap (λ (m : ℕ). outcome 0 m 0 0 after (withOutputs c l after)) (t .opens .outputs)
-      ∙ sym (choose-no {A = Outcome} _ (outcome 0 (length (c .outputs)) 0 0 after (withOutputs c l after)) (ne-eqb (after .phase) 1 n1))
+      ap (λ (y : StepLent). stepOutcome 0 (f .outputs) 0 0 after y) g
+      ∙ ap (λ (m : ℕ). stepOutcome 0 m 0 0 after (withOutputs c l after)) (t .opens .outputs)
+      ∙ sym (choose-no {A = StepOutcome} _ (stepOutcome 0 (length (c .outputs)) 0 0 after (withOutputs c l after)) (ne-eqb (after .phase) 1 n1))
       ∙ ap (acceptedStep c l) (sym e)
 
   pub step-again : state .phase ≡ 2 → {x : List ℕ} {answer : Stepped} → answer ≡ steppedWith 0 (f .outputs) 0 0 state
@@ -144,7 +144,7 @@ module _ {s : List ℕ} {f : Front} {a : Asked} {r : Spot} {shares triples : Lis
   module _ (going : state .phase ≡ 2 → ⊥) where
     -- the AND of a run that waits gets its share
     and-is : state .phase ≡ 1 → givenAnd a r (f .inputs + r .gate) triples (state .wires) ≡ withAnd c l state
-    unfolding givenAnd withAnd shareOf maskedFirst maskedSecond
+    unfolding givenAnd withAnd waitingShare maskedFirst maskedSecond
     and-is one =
         let w = t .ready .waits (t .asks ∙ eq-eqb (state .phase) 1 one) in
         let g : gateAt c (state .gate) ≡ And (r .first) (r .second) = ap (gateAt c) (sym (t .number)) ∙ w .gate in
@@ -170,8 +170,8 @@ module _ {s : List ℕ} {f : Front} {a : Asked} {r : Spot} {shares triples : Lis
       pub step-waits : reached .waits ≡ true
           → stepped
           (steppedWith 0 0
-          (bitXor (getD wires (reached .first) 0) (getD triples (3 * reached .ands) 0))
-          (bitXor (getD wires (reached .second) 0) (getD triples (3 * reached .ands + 1) 0))
+          (bitXor (getD wires (reached .first) 0) (getD triples (reached .ands * 3) 0))
+          (bitXor (getD wires (reached .second) 0) (getD triples (reached .ands * 3 + 1) 0))
           (runWith 1 (reached .gate) wires))
           (lentWith (a .role) s shares triples output (a .«far_first») (a .«far_second»))
           ≡ acceptedOn (content s) (lentWith (a .role) s shares triples output (a .«far_first») (a .«far_second»)) state
@@ -192,7 +192,7 @@ module _ {s : List ℕ} {f : Front} {a : Asked} {r : Spot} {shares triples : Lis
 
 -- ---- the tests together
 
-module _ {s : List ℕ} {f : Front} (o : Opens s f) {a : Asked} (phase : ℕ) (asks : a .waits ≡ eqb phase 1) {gate : ℕ} {r : Spot}
+module _ {s : List ℕ} {f : Front} (o : HasFront s f) {a : Asked} (phase : ℕ) (asks : a .waits ≡ eqb phase 1) {gate : ℕ} {r : Spot}
     (spots : Spots s f phase gate r) (shares triples : List ℕ) (space : ℕ) {n : ℕ} (number : n ≡ askedNumber f (r .admitted) a shares triples space) where
   pub checks : Checks s f a phase gate shares triples space (record { number = n; spot = r })
   checks =
@@ -222,16 +222,16 @@ pub checked-tested : {s : List ℕ} {f : Front} {a : Asked} {phase gate : ℕ} {
     → Checks s f a phase gate shares triples space r → r .number ≡ 0 → Tested s f a (r .spot) shares triples space phase gate
 checked-tested ch none = ch .tested none
 
-module _ (role : ℕ) {s : List ℕ} {shares triples : List ℕ} (output : List ℕ) (far1 far2 : ℕ) (state : Run) {f : Front} (o : Opens s f) {r : Checked}
+module _ (role : ℕ) {s : List ℕ} {shares triples : List ℕ} (output : List ℕ) (far1 far2 : ℕ) (state : Run) {f : Front} (o : HasFront s f) {r : Checked}
     (ch : Checks s f (askedWith role (eqb (state .phase) 1) far1 far2) (state .phase) (state .gate) shares triples (length output) r) where
-  abbrev lent : Lent
+  abbrev lent : StepLent
   lent = lentWith role s shares triples output far1 far2
 
   number-is : r .number ≡ stepNumber (content s) lent state
   unfolding askedNumber stepNumber
   number-is = ch .number ∙ rw (o .inputs, o .outputs, o .ands)
 
-  step-is : step lent state ≡ answered (stepNumber (content s) lent state) (content s) lent state
+  step-is : step lent state ≡ stepBy (stepNumber (content s) lent state) (content s) lent state
   unfolding step
   step-is = ap (λ (x : Reading Circuit). stepRead x lent state) (o .whole)
 
@@ -239,11 +239,11 @@ module _ (role : ℕ) {s : List ℕ} {shares triples : List ℕ} (output : List 
       → stepped answer (lentWith role s shares triples output far1 far2) ≡ step (lentWith role s shares triples output far1 far2) state
   step-refused h w =
       ap (λ (x : Stepped). stepped x lent) w
-      ∙ answered-refused (r .number) (content s) lent state h
-      ∙ ap (λ (m : ℕ). answered m (content s) lent state) number-is
+      ∙ by-refused (r .number) (content s) lent state h
+      ∙ ap (λ (m : ℕ). stepBy m (content s) lent state) number-is
       ∙ sym step-is
 
-  pub step-accepted : r .number ≡ 0 → {answer : Stepped} {after : Lent} → stepped answer after ≡ acceptedOn (content s) (lentWith role s shares triples output far1 far2) state
+  pub step-accepted : r .number ≡ 0 → {answer : Stepped} {after : StepLent} → stepped answer after ≡ acceptedOn (content s) (lentWith role s shares triples output far1 far2) state
       → stepped answer after ≡ step (lentWith role s shares triples output far1 far2) state
   unfolding acceptedOn
-  step-accepted none w = w ∙ sym (step-is ∙ answered-accepted (stepNumber (content s) lent state) (content s) lent state (sym number-is ∙ none))
+  step-accepted none w = w ∙ sym (step-is ∙ by-accepted (stepNumber (content s) lent state) (content s) lent state (sym number-is ∙ none))

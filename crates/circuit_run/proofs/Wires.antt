@@ -1,5 +1,5 @@
 -- Wires in memory: the fresh wires, the share of an AND, and the outputs. Assumes nothing.
-use Prim.Native.Nat.{ℕ, zero, suc, _+_, _-_, _*_, _≤_, _<_}
+use Prim.Native.Nat.{ℕ, suc, _+_, _-_, _*_, _≤_, _<_}
 use mathlib.Core.Bool.{true}
 use mathlib.Core.List.{List, [], _∷_, _++_, append-assoc}
 use mathlib.Core.Path.{_≡_, refl, sym, ap, _∙_}
@@ -12,7 +12,7 @@ use lib.Seq.{set-at, take-suc, take-length, take-all, drop-cons, drop-drop, leng
 use mir.Syntax.{w64}
 use mir.Val.{Fits}
 use Rattle.circuit.proofs.Lists.{FirstWire, first-wire}
-use Rattle.circuit.specs.Inner.Opens.{content, Opens}
+use Rattle.circuit.specs.Inner.Fronts.{content, HasFront}
 use Rattle.circuit.specs.Reading.{readWire, readWires}
 use Rattle.circuit.specs.Value.{atWires}
 use Rattle.circuit.specs.declared.Front.{Front}
@@ -56,9 +56,9 @@ module _ (shares : List ℕ) (i : ℕ) (few : length shares ≤ 4096) where
 
 pub given : (a : Asked) (r : Spot) (wire : ℕ) (triples wires : List ℕ) (x : ℕ)
     → x ≡ andShare (a .role)
-    (bitXor (bitXor (getD wires (r .first) 0) (getD triples (3 * r .ands) 0)) (a .«far_first»))
-    (bitXor (bitXor (getD wires (r .second) 0) (getD triples (3 * r .ands + 1) 0)) (a .«far_second»))
-    (getD triples (3 * r .ands) 0) (getD triples (3 * r .ands + 1) 0) (getD triples (3 * r .ands + 2) 0)
+    (bitXor (bitXor (getD wires (r .first) 0) (getD triples (r .ands * 3) 0)) (a .«far_first»))
+    (bitXor (bitXor (getD wires (r .second) 0) (getD triples (r .ands * 3 + 1) 0)) (a .«far_second»))
+    (getD triples (r .ands * 3) 0) (getD triples (r .ands * 3 + 1) 0) (getD triples (r .ands * 3 + 2) 0)
     → set wires wire x ≡ givenAnd a r wire triples wires
 unfolding givenAnd
 given a r wire triples wires x e = ap (set wires wire) e
@@ -75,7 +75,7 @@ pub record OutputTurn (s : List ℕ) (wires output₀ : List ℕ) (outputs limit
   pub read : readWires (outputs - i) limit s at ≡ Whole (drop i (outputsOf s), end)
   pub written : output ≡ atWires wires (take i (outputsOf s)) ++ drop i output₀
 
-pub output-start : {s : List ℕ} {f : Front} (wires output : List ℕ) → Opens s f
+pub output-start : {s : List ℕ} {f : Front} (wires output : List ℕ) → HasFront s f
     → OutputTurn s wires output (f .outputs) (f .inputs + f .gates) output (f .tail) 0
 output-start {s} {f} wires output o =
     record {
@@ -85,14 +85,14 @@ output-start {s} {f} wires output o =
       written = refl;
     }
 
-pub limit-fits : {s : List ℕ} {f : Front} → Opens s f → Fits w64 (f .inputs + f .gates)
+pub limit-fits : {s : List ℕ} {f : Front} → HasFront s f → Fits w64 (f .inputs + f .gates)
 limit-fits o = record { fits = omega (arith, o .most) }
 
 map-append : (wires xs ys : List ℕ) → atWires wires (xs ++ ys) ≡ atWires wires xs ++ atWires wires ys
 map-append wires [] ys = refl
 map-append wires (x ∷ xs) ys = ap (λ (l : List ℕ). getD wires x 0 ∷ l) (map-append wires xs ys)
 
-module _ {s : List ℕ} {f : Front} (o : Opens s f) {wires output₀ : List ℕ} (room : f .outputs ≤ length output₀) {output : List ℕ} {at i : ℕ}
+module _ {s : List ℕ} {f : Front} (o : HasFront s f) {wires output₀ : List ℕ} (room : f .outputs ≤ length output₀) {output : List ℕ} {at i : ℕ}
     (turn : OutputTurn s wires output₀ (f .outputs) (f .inputs + f .gates) output at i) where
   pub output-length : length output ≡ length output₀
   output-length =

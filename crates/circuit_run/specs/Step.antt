@@ -1,18 +1,21 @@
 -- A step of an end's run of a circuit (document 02, 9): from everything lent and the state that the step before left to everything
 -- that stands on return. It tests the reading (10, 11, 17, 12), then 17, 9, 3, 13, 8, 18.
-use Prim.Native.Nat.{ℕ, zero, suc, _+_, _-_, _*_, _/_, _%_}
-use mathlib.Core.Bool.{Bool, true, not, _&&_, _||_}
+use Prim.Native.Nat.{ℕ, zero, suc, _+_, _-_, _/_, _%_}
+use mathlib.Core.Bool.{Bool, not, _&&_, _||_}
 use mathlib.Core.List.{List, [], _∷_, _++_}
 use lib.Bits.{bitXor, bitAnd}
 use lib.Dec.{leb, ltb, eqb}
 use lib.ListN.{length, getD, take, drop, set, replicate}
 use Rattle.algebra.specs.Choice.{choose}
+use Rattle.algebra.specs.Coding.{at}
 use Rattle.answer.specs.Numbers.{accepted, badLength, notElement, wrongEnd, bufferShort, badCircuit, tooFewTriples}
 use Rattle.circuit.specs.Admitted.{mostWires}
 use Rattle.circuit.specs.Content.{Gate, Xor, And, Not, Circuit, isAnd, andsIn}
 use Rattle.circuit.specs.Reading.{readCircuit}
 use Rattle.circuit.specs.Value.{atWires}
 use Rattle.number.specs.Reading.{Reading, Whole, Refused}
+use Rattle.pads.specs.Bytes.{anyAbove}
+use Rattle.triples.specs.Triple.{tripleBytes}
 use Rattle.circuit_run.specs.declared.Run.{Run}
 use Rattle.circuit_run.specs.declared.Stepped.{Stepped}
 
@@ -20,7 +23,7 @@ use Rattle.circuit_run.specs.declared.Stepped.{Stepped}
 
 -- all that a step gets but the state: the role (1 the first pairing's noise end, 2 the other end), the circuit's bytes, this end's
 -- shares of the inputs, its triples, the output buffer, the far bits
-pub record Lent : Type 0 where
+pub record StepLent : Type 0 where
   pub role : ℕ
   pub circuit : List ℕ
   pub shares : List ℕ
@@ -29,7 +32,7 @@ pub record Lent : Type 0 where
   pub farFirst : ℕ
   pub farSecond : ℕ
 
-abbrev pub lentWith : ℕ → List ℕ → List ℕ → List ℕ → List ℕ → ℕ → ℕ → Lent
+abbrev pub lentWith : ℕ → List ℕ → List ℕ → List ℕ → List ℕ → ℕ → ℕ → StepLent
 lentWith role circuit shares triples output farFirst farSecond =
     record {
       role = role;
@@ -42,21 +45,21 @@ lentWith role circuit shares triples output farFirst farSecond =
     }
 
 -- the number, the bytes written, the two bits to send, the state, and all that is lent as it stands on return
-pub record Outcome : Type 0 where
+pub record StepOutcome : Type 0 where
   pub number : ℕ
   pub written : ℕ
   pub firstBit : ℕ
   pub secondBit : ℕ
   pub state : Run
-  pub lent : Lent
+  pub lent : StepLent
 
-abbrev pub outcome : ℕ → ℕ → ℕ → ℕ → Run → Lent → Outcome
-outcome number written firstBit secondBit state lent =
+abbrev pub stepOutcome : ℕ → ℕ → ℕ → ℕ → Run → StepLent → StepOutcome
+stepOutcome number written firstBit secondBit state lent =
     record { number = number; written = written; firstBit = firstBit; secondBit = secondBit; state = state; lent = lent }
 
 -- what the answer of the call and all that is lent at exit say
-abbrev pub stepped : Stepped → Lent → Outcome
-stepped r lent = outcome (r .number) (r .written) (r .«first_bit») (r .«second_bit») (r .state) lent
+abbrev pub stepped : Stepped → StepLent → StepOutcome
+stepped r lent = stepOutcome (r .number) (r .written) (r .«first_bit») (r .«second_bit») (r .state) lent
 
 -- the state of a phase, a gate and the wires: phase 0 fresh, 1 waits for the far bits of the AND at the gate, 2 finished; the wires
 -- are this end's shares of the inputs and of the gates passed, zero past them
@@ -64,11 +67,6 @@ abbrev pub runWith : ℕ → ℕ → List ℕ → Run
 runWith phase gate wires = record { phase = phase; gate = gate; wires = wires }
 
 -- ---- tests
-
--- each byte is a bit, 0 or 1
-unfoldable pub everyBit : List ℕ → Bool
-everyBit [] = true
-everyBit (b ∷ bytes) = leb b 1 && everyBit bytes
 
 -- the gate of a number, from 0; past the last there is none, which a NOT stands for, since it is asked for ANDs alone
 abbrev pub gateAt : Circuit → ℕ → Gate
@@ -82,19 +80,20 @@ abbrev pub isRole : ℕ → Bool
 isRole role = eqb role 1 || eqb role 2
 
 -- shares one an input, triple bits three each
-abbrev pub lengthsAdmitted : Circuit → Lent → Bool
-lengthsAdmitted c l = eqb (length (l .shares)) (c .inputs) && eqb (length (l .triples) % 3) 0
+abbrev pub slicesAdmitted : Circuit → StepLent → Bool
+slicesAdmitted c l = eqb (length (l .shares)) (c .inputs) && eqb (length (l .triples) % 3) 0
 
 -- shares and triples are bits, unused triples too; in phase 1 alone the far bits also
-abbrev pub bitsAdmitted : Lent → Run → Bool
-bitsAdmitted l s = everyBit (l .shares) && everyBit (l .triples) && (not (eqb (s .phase) 1) || (leb (l .farFirst) 1 && leb (l .farSecond) 1))
+abbrev pub bitsAdmitted : StepLent → Run → Bool
+bitsAdmitted l s =
+    not (anyAbove 1 (l .shares)) && not (anyAbove 1 (l .triples)) && (not (eqb (s .phase) 1) || (leb (l .farFirst) 1 && leb (l .farSecond) 1))
 
 -- the number of a step on a circuit that was read
-unfoldable pub stepNumber : Circuit → Lent → Run → ℕ
+unfoldable pub stepNumber : Circuit → StepLent → Run → ℕ
 stepNumber c l s =
     choose (not (stateAdmitted c (s .phase) (s .gate))) badCircuit
     (choose (not (isRole (l .role))) wrongEnd
-    (choose (not (lengthsAdmitted c l)) badLength
+    (choose (not (slicesAdmitted c l)) badLength
     (choose (ltb (length (l .output)) (length (c .outputs))) bufferShort
     (choose (not (bitsAdmitted l s)) notElement
     (choose (ltb (length (l .triples) / 3) (andsIn (c .gates))) tooFewTriples
@@ -126,13 +125,13 @@ andsBefore c i = andsIn (take i (c .gates))
 
 -- the first, second and third bit of triple j
 abbrev pub tripleFirst : List ℕ → ℕ → ℕ
-tripleFirst triples j = getD triples (3 * j) 0
+tripleFirst triples j = at tripleBytes triples j .first
 
 abbrev pub tripleSecond : List ℕ → ℕ → ℕ
-tripleSecond triples j = getD triples (3 * j + 1) 0
+tripleSecond triples j = at tripleBytes triples j .second
 
 abbrev pub tripleThird : List ℕ → ℕ → ℕ
-tripleThird triples j = getD triples (3 * j + 2) 0
+tripleThird triples j = at tripleBytes triples j .third
 
 -- the wires of an AND
 abbrev pub firstWire : Gate → ℕ
@@ -161,8 +160,8 @@ andShare role d e first second third =
     (bitXor (bitXor third (bitAnd d second)) (bitAnd e first))
 
 -- the share of the AND that a run waits at, its masked bits combined with the far bits
-unfoldable pub shareOf : Circuit → Lent → Run → ℕ
-shareOf c l s =
+unfoldable pub waitingShare : Circuit → StepLent → Run → ℕ
+waitingShare c l s =
     andShare (l .role)
     (bitXor (maskedFirst c (l .triples) (s .wires) (s .gate)) (l .farFirst))
     (bitXor (maskedSecond c (l .triples) (s .wires) (s .gate)) (l .farSecond))
@@ -171,42 +170,42 @@ shareOf c l s =
     (tripleThird (l .triples) (andsBefore c (s .gate)))
 
 -- the wires of a run that waits at an AND, with the AND's share
-unfoldable pub withAnd : Circuit → Lent → Run → List ℕ
-withAnd c l s = set (s .wires) (c .inputs + s .gate) (shareOf c l s)
+unfoldable pub withAnd : Circuit → StepLent → Run → List ℕ
+withAnd c l s = set (s .wires) (c .inputs + s .gate) (waitingShare c l s)
 
 -- the state that an accepted step leaves: a fresh run takes the shares and runs from gate 0, one that waits gives its AND the share
 -- and runs on, a finished one stays
-unfoldable pub stepRun : Circuit → Lent → Run → Run
+unfoldable pub stepRun : Circuit → StepLent → Run → Run
 stepRun c l s =
     choose (eqb (s .phase) 0) (advance (l .role) c 0 (freshWires (l .shares)))
     (choose (eqb (s .phase) 1) (advance (l .role) c (s .gate + 1) (withAnd c l s))
     s)
 
 -- the shares of the output wires, in front of what stood in the output buffer
-unfoldable pub withOutputs : Circuit → Lent → Run → Lent
+unfoldable pub withOutputs : Circuit → StepLent → Run → StepLent
 withOutputs c l s =
     lentWith (l .role) (l .circuit) (l .shares) (l .triples) (atWires (s .wires) (c .outputs) ++ drop (length (c .outputs)) (l .output)) (l .farFirst) (l .farSecond)
 
 -- an accepted step: one that waits gives the two bits to send, a finished one writes the outputs
-unfoldable pub acceptedStep : Circuit → Lent → Run → Outcome
+unfoldable pub acceptedStep : Circuit → StepLent → Run → StepOutcome
 acceptedStep c l s =
     choose (eqb (s .phase) 1)
-    (outcome accepted 0 (maskedFirst c (l .triples) (s .wires) (s .gate)) (maskedSecond c (l .triples) (s .wires) (s .gate)) s l)
-    (outcome accepted (length (c .outputs)) 0 0 s (withOutputs c l s))
+    (stepOutcome accepted 0 (maskedFirst c (l .triples) (s .wires) (s .gate)) (maskedSecond c (l .triples) (s .wires) (s .gate)) s l)
+    (stepOutcome accepted (length (c .outputs)) 0 0 s (withOutputs c l s))
 
 -- a refused step returns zeros, the state and all that is lent as it was
-abbrev pub refusedStep : ℕ → Lent → Run → Outcome
-refusedStep number l s = outcome number 0 0 0 s l
+abbrev pub refusedStep : ℕ → StepLent → Run → StepOutcome
+refusedStep number l s = stepOutcome number 0 0 0 s l
 
 -- a step by its number
-unfoldable pub answered : ℕ → Circuit → Lent → Run → Outcome
-answered zero c l s = acceptedStep c l (stepRun c l s)
-answered (suc n) c l s = refusedStep (suc n) l s
+unfoldable pub stepBy : ℕ → Circuit → StepLent → Run → StepOutcome
+stepBy zero c l s = acceptedStep c l (stepRun c l s)
+stepBy (suc n) c l s = refusedStep (suc n) l s
 
-abbrev pub stepRead : Reading Circuit → Lent → Run → Outcome
-stepRead (Whole c) l s = answered (stepNumber c l s) c l s
+abbrev pub stepRead : Reading Circuit → StepLent → Run → StepOutcome
+stepRead (Whole c) l s = stepBy (stepNumber c l s) c l s
 stepRead (Refused k) l s = refusedStep k l s
 
 -- the step
-unfoldable pub step : Lent → Run → Outcome
+unfoldable pub step : StepLent → Run → StepOutcome
 step l s = stepRead (readCircuit (l .circuit)) l s

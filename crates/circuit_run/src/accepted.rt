@@ -3,7 +3,7 @@ ghost use mathlib.Core.Path.{_≡_};
 ghost use mathlib.Core.List.{_++_};
 ghost use Prim.Native.Nat.{_≤_};
 ghost use lib.ListN.{length, drop};
-ghost use Rattle.circuit.specs.Inner.Opens.{content, Opens};
+ghost use Rattle.circuit.specs.Inner.Fronts.{content, HasFront};
 ghost use Rattle.circuit.specs.Value.{atWires};
 ghost use Rattle.circuit_run.specs.Inner.Places.{Tested, steppedWith, acceptedOn};
 ghost use Rattle.circuit_run.specs.Step.{lentWith, stepped};
@@ -17,7 +17,7 @@ use circuit::Front;
 
 // A finished run: writes the outputs.
 fn finish(circuit: &[u8], front: Front, output: &mut [u8], state: Run) -> Stepped
-    requires { ⌜ Opens (now circuit) front × (front .outputs ≤ length (now output)) ⌝ }
+    requires { ⌜ HasFront (now circuit) front × (front .outputs ≤ length (now output)) ⌝ }
     ensures { λ r. ⌜ (r ≡ steppedWith 0 (front .outputs) 0 0 state)
         × (now (output .exit) ≡ atWires (state .wires) (content (now (circuit .entry)) .outputs) ++ drop (front .outputs) (now (output .entry))) ⌝ }
 {
@@ -57,7 +57,7 @@ pub fn accepted_step(
     if reached.waits {
         let first = reached.first;
         let second = reached.second;
-        let at = 3 * reached.ands;
+        let at = reached.ands * 3;
         return Stepped {
             number: 0,
             written: 0,

@@ -1,7 +1,7 @@
 // All tests of a step whose circuit is read.
 ghost use mathlib.Core.Path.{_≡_};
 ghost use lib.Dec.{eqb};
-ghost use Rattle.circuit.specs.Inner.Opens.{Opens};
+ghost use Rattle.circuit.specs.Inner.Fronts.{HasFront};
 ghost use Rattle.circuit_run.specs.Inner.Places.{Checks};
 use crate::input::Asked;
 use crate::input::step_number;
@@ -26,7 +26,7 @@ pub fn check(
     triples: &[u8],
     room: usize,
 ) -> Checked
-    requires { ⌜ Opens (now source) front × (asked .waits ≡ eqb phase 1) ⌝ }
+    requires { ⌜ HasFront (now source) front × (asked .waits ≡ eqb phase 1) ⌝ }
     ensures { λ r. ⌜ Checks (now (source .entry)) front asked phase gate (now (shares .entry)) (now (triples .entry)) room r ⌝ }
 {
     let spot = spot_of(source, front, phase, gate);

@@ -1,7 +1,7 @@
 // The tests of a step, once its circuit is read.
 ghost use mathlib.Core.Path.{_≡_};
 ghost use Rattle.circuit_run.specs.Inner.Tests.{bitsAsked, lengthsAsked, askedNumber};
-ghost use Rattle.circuit_run.specs.Step.{everyBit, isRole};
+ghost use Rattle.circuit_run.specs.Step.{isRole};
 use answer::BAD_CIRCUIT;
 use answer::BAD_LENGTH;
 use answer::BUFFER_SHORT;
@@ -9,6 +9,7 @@ use answer::NOT_ELEMENT;
 use answer::TOO_FEW_TRIPLES;
 use answer::WRONG_END;
 use circuit::Front;
+use pads::any_above;
 
 // The numbers that a step gets: the role, whether its state waits for the far bits, and these.
 pub struct Asked {
@@ -18,28 +19,14 @@ pub struct Asked {
     pub far_second: u8,
 }
 
-// Whether each byte is 0 or 1.
-fn every_bit(bytes: &[u8]) -> bool
-    ensures { λ r. ⌜ r ≡ everyBit (now (bytes .entry)) ⌝ }
-{
-    let mut i: usize = 0;
-    while i < bytes.len() {
-        if 1 < bytes[i] {
-            return false;
-        }
-        i += 1;
-    }
-    true
-}
-
 // Whether shares and triples are bits, and the far bits of a run that waits.
 fn bits_asked(asked: Asked, shares: &[u8], triples: &[u8]) -> bool
     ensures { λ r. ⌜ r ≡ bitsAsked asked (now (shares .entry)) (now (triples .entry)) ⌝ }
 {
-    if !every_bit(shares) {
+    if any_above(1, shares) {
         return false;
     }
-    if !every_bit(triples) {
+    if any_above(1, triples) {
         return false;
     }
     if !asked.waits {

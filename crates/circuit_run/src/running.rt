@@ -3,9 +3,9 @@ ghost use mathlib.Core.List.{_++_};
 ghost use mathlib.Core.Path.{_≡_};
 ghost use Prim.Native.Nat.{_+_, _*_, _<_, _≤_};
 ghost use lib.ListN.{length, drop};
-ghost use Rattle.circuit.specs.Inner.Opens.{content, Opens};
+ghost use Rattle.circuit.specs.Inner.Fronts.{content, HasFront};
 ghost use Rattle.circuit.specs.Value.{atWires};
-ghost use Rattle.circuit_run.specs.Inner.Places.{localShare, Stands, Ready, Stops, givenAnd, proceeded};
+ghost use Rattle.circuit_run.specs.Inner.Places.{localShare, Stands, CanProceed, Stops, givenAnd, proceeded};
 ghost use Rattle.circuit_run.specs.Step.{flipped, andShare, freshWires, runOn};
 use crate::input::Asked;
 use crate::waiting::Place;
@@ -42,7 +42,7 @@ fn local_share(role: u8, kind: usize, x: u8, y: u8) -> u8
 
 // Runs from a place to the next AND or to the end.
 fn run_on(source: &[u8], front: Front, role: u8, from: Place, wires: &mut [u8; 4096]) -> Reached
-    requires { ⌜ Opens (now source) front × Stands (now source) front from ⌝ }
+    requires { ⌜ HasFront (now source) front × Stands (now source) front from ⌝ }
     ensures { λ r. ⌜ Stops (now (source .entry)) front (runOn role (front .inputs) (drop (from .gate) (content (now (source .entry)) .gates)) (from .gate) (now (wires .entry))) r (now (wires .exit)) ⌝ }
 {
     let inputs = front.inputs;
@@ -87,10 +87,10 @@ fn and_share(role: u8, d: u8, e: u8, first: u8, second: u8, third: u8) -> u8
 
 // Gives the AND that a run waits at its share.
 fn give_and(asked: Asked, spot: Spot, wire: usize, triples: &[u8], wires: &mut [u8; 4096])
-    requires { ⌜ (spot .first < 4096) × (spot .second < 4096) × (3 * spot .ands + 2 < length (now triples)) × (wire < 4096) ⌝ }
+    requires { ⌜ (spot .first < 4096) × (spot .second < 4096) × (spot .ands * 3 + 2 < length (now triples)) × (wire < 4096) ⌝ }
     ensures { λ _. ⌜ now (wires .exit) ≡ givenAnd asked spot wire (now (triples .entry)) (now (wires .entry)) ⌝ }
 {
-    let at = 3 * spot.ands;
+    let at = spot.ands * 3;
     let x = spot.first;
     let y = spot.second;
     let first = triples[at];
@@ -125,7 +125,7 @@ pub fn proceed(
     triples: &[u8],
     wires: &mut [u8; 4096],
 ) -> Reached
-    requires { ⌜ Opens (now source) front × Ready (now source) front asked spot (now shares) (now triples) ⌝ }
+    requires { ⌜ HasFront (now source) front × CanProceed (now source) front asked spot (now shares) (now triples) ⌝ }
     ensures { λ r. ⌜ Stops (now (source .entry)) front (proceeded (now (source .entry)) front asked spot (now (shares .entry)) (now (triples .entry)) (now (wires .entry))) r (now (wires .exit)) ⌝ }
 {
     if asked.waits {
@@ -149,7 +149,7 @@ pub fn proceed(
 
 // Writes the shares of the output wires.
 pub fn write_outputs(source: &[u8], front: Front, wires: &[u8; 4096], output: &mut [u8])
-    requires { ⌜ Opens (now source) front × (front .outputs ≤ length (now output)) ⌝ }
+    requires { ⌜ HasFront (now source) front × (front .outputs ≤ length (now output)) ⌝ }
     ensures { λ _. ⌜ now (output .exit) ≡ atWires (now (wires .entry)) (content (now (source .entry)) .outputs) ++ drop (front .outputs) (now (output .entry)) ⌝ }
 {
     let outputs = front.outputs;

@@ -1,7 +1,7 @@
 // Where a run stands in its circuit.
 ghost use mathlib.Core.Path.{_≡_};
 ghost use Prim.Native.Nat.{_≤_};
-ghost use Rattle.circuit.specs.Inner.Opens.{content, Opens};
+ghost use Rattle.circuit.specs.Inner.Fronts.{content, HasFront};
 ghost use Rattle.circuit_run.specs.Inner.Places.{Left, Spots};
 ghost use Rattle.circuit_run.specs.Step.{andsBefore};
 use circuit::Front;
@@ -27,7 +27,7 @@ pub struct Spot {
 
 // The place of a gate, or after the last.
 fn place_of(source: &[u8], front: Front, gate: usize) -> Place
-    requires { ⌜ Opens (now source) front × (gate ≤ front .gates) ⌝ }
+    requires { ⌜ HasFront (now source) front × (gate ≤ front .gates) ⌝ }
     ensures { λ r. ⌜ Left (now (source .entry)) (front .inputs) gate (r .at) × (r .ands ≡ andsBefore (content (now (source .entry))) gate) ⌝ }
 {
     let inputs = front.inputs;
@@ -63,7 +63,7 @@ fn no_spot(admitted: bool, gate: usize) -> Spot
 
 // Where a state of a phase and a gate stands.
 pub fn spot_of(source: &[u8], front: Front, phase: u32, gate: usize) -> Spot
-    requires { ⌜ Opens (now source) front ⌝ }
+    requires { ⌜ HasFront (now source) front ⌝ }
     ensures { λ r. ⌜ Spots (now (source .entry)) front phase gate r ⌝ }
 {
     if phase != 1 {

@@ -16,8 +16,8 @@ use Rattle.circuit.specs.Reading.{readCircuit}
 use Rattle.circuit.specs.Value.{atWires}
 use Rattle.number.proofs.Places.{choose-yes, choose-no}
 use Rattle.number.specs.Reading.{Reading, Whole, Refused}
-use Rattle.evaluation.specs.Runs.{Made, acceptedSteps, IsStep, writtenBy}
-use Rattle.circuit_run.specs.Step.{Lent, Outcome, outcome, stepNumber, stepRun, maskedFirst, maskedSecond, withOutputs, acceptedStep, refusedStep, answered, stepRead, step}
+use Rattle.evaluation.specs.Runs.{StepMade, acceptedSteps, IsStep, writtenBy}
+use Rattle.circuit_run.specs.Step.{StepLent, StepOutcome, stepOutcome, stepNumber, stepRun, maskedFirst, maskedSecond, withOutputs, acceptedStep, refusedStep, stepBy, stepRead, step}
 use Rattle.circuit_run.specs.declared.Run.{Run}
 
 some-is : {A : Type 0} {x y : A} → some x ≡ some y → x ≡ y
@@ -28,13 +28,13 @@ none-some {A} {x} e = let z : _≡_ {A = ℕ} 0 1 = cc in omega arith
 
 -- ---- an accepted step's outcome
 
-module _ (c : Circuit) (l : Lent) (r : Run) where
+module _ (c : Circuit) (l : StepLent) (r : Run) where
   pub accepted-number : acceptedStep c l r .number ≡ 0
   unfolding acceptedStep
   accepted-number = of (eqb (r .phase) 1)
     where
-      of : (b : Bool) → choose b (outcome 0 0 (maskedFirst c (l .triples) (r .wires) (r .gate)) (maskedSecond c (l .triples) (r .wires) (r .gate)) r l)
-          (outcome 0 (length (c .outputs)) 0 0 r (withOutputs c l r)) .number ≡ 0
+      of : (b : Bool) → choose b (stepOutcome 0 0 (maskedFirst c (l .triples) (r .wires) (r .gate)) (maskedSecond c (l .triples) (r .wires) (r .gate)) r l)
+          (stepOutcome 0 (length (c .outputs)) 0 0 r (withOutputs c l r)) .number ≡ 0
       of true = refl
       of false = refl
 
@@ -42,19 +42,19 @@ module _ (c : Circuit) (l : Lent) (r : Run) where
   unfolding acceptedStep
   accepted-state = of (eqb (r .phase) 1)
     where
-      of : (b : Bool) → choose b (outcome 0 0 (maskedFirst c (l .triples) (r .wires) (r .gate)) (maskedSecond c (l .triples) (r .wires) (r .gate)) r l)
-          (outcome 0 (length (c .outputs)) 0 0 r (withOutputs c l r)) .state ≡ r
+      of : (b : Bool) → choose b (stepOutcome 0 0 (maskedFirst c (l .triples) (r .wires) (r .gate)) (maskedSecond c (l .triples) (r .wires) (r .gate)) r l)
+          (stepOutcome 0 (length (c .outputs)) 0 0 r (withOutputs c l r)) .state ≡ r
       of true = refl
       of false = refl
 
   pub accepted-waits : r .phase ≡ 1
-      → acceptedStep c l r ≡ outcome 0 0 (maskedFirst c (l .triples) (r .wires) (r .gate)) (maskedSecond c (l .triples) (r .wires) (r .gate)) r l
+      → acceptedStep c l r ≡ stepOutcome 0 0 (maskedFirst c (l .triples) (r .wires) (r .gate)) (maskedSecond c (l .triples) (r .wires) (r .gate)) r l
   unfolding acceptedStep
-  accepted-waits e = choose-yes {A = Outcome} _ (outcome 0 (length (c .outputs)) 0 0 r (withOutputs c l r)) (eq-eqb (r .phase) 1 e)
+  accepted-waits e = choose-yes {A = StepOutcome} _ (stepOutcome 0 (length (c .outputs)) 0 0 r (withOutputs c l r)) (eq-eqb (r .phase) 1 e)
 
-  pub accepted-ends : (r .phase ≡ 1 → ⊥) → acceptedStep c l r ≡ outcome 0 (length (c .outputs)) 0 0 r (withOutputs c l r)
+  pub accepted-ends : (r .phase ≡ 1 → ⊥) → acceptedStep c l r ≡ stepOutcome 0 (length (c .outputs)) 0 0 r (withOutputs c l r)
   unfolding acceptedStep
-  accepted-ends n = choose-no {A = Outcome} (outcome 0 0 (maskedFirst c (l .triples) (r .wires) (r .gate)) (maskedSecond c (l .triples) (r .wires) (r .gate)) r l) _ (ne-eqb (r .phase) 1 n)
+  accepted-ends n = choose-no {A = StepOutcome} (stepOutcome 0 0 (maskedFirst c (l .triples) (r .wires) (r .gate)) (maskedSecond c (l .triples) (r .wires) (r .gate)) r l) _ (ne-eqb (r .phase) 1 n)
 
   -- a finished step wrote the shares of the output wires
   pub ends-written : (r .phase ≡ 1 → ⊥) → writtenBy (acceptedStep c l r) ≡ atWires (r .wires) (c .outputs)
@@ -66,30 +66,30 @@ module _ (c : Circuit) (l : Lent) (r : Run) where
 -- ---- a step by its number
 
 -- what an accepted step had
-pub record Took (c : Circuit) (l : Lent) (s : Run) : Type 0 where
+pub record Took (c : Circuit) (l : StepLent) (s : Run) : Type 0 where
   pub read : readCircuit (l .circuit) ≡ Whole c
   pub number : stepNumber c l s ≡ 0
   pub is : step l s ≡ acceptedStep c l (stepRun c l s)
 
-answered-number : (n : ℕ) (c : Circuit) (l : Lent) (s : Run) → answered n c l s .number ≡ 0 → n ≡ 0
-unfolding answered
-answered-number zero c l s e = refl
-answered-number (suc n) c l s e = e
+step-by-number : (n : ℕ) (c : Circuit) (l : StepLent) (s : Run) → stepBy n c l s .number ≡ 0 → n ≡ 0
+unfolding stepBy
+step-by-number zero c l s e = refl
+step-by-number (suc n) c l s e = e
 
-answered-zero : (n : ℕ) (c : Circuit) (l : Lent) (s : Run) → n ≡ 0 → answered n c l s ≡ acceptedStep c l (stepRun c l s)
-unfolding answered
-answered-zero n c l s e = ap (λ (m : ℕ). answered m c l s) e
+step-by-zero : (n : ℕ) (c : Circuit) (l : StepLent) (s : Run) → n ≡ 0 → stepBy n c l s ≡ acceptedStep c l (stepRun c l s)
+unfolding stepBy
+step-by-zero n c l s e = ap (λ (m : ℕ). stepBy m c l s) e
 
 -- with a circuit that is known
-pub took-on : {c : Circuit} (l : Lent) (s : Run) → readCircuit (l .circuit) ≡ Whole c → step l s .number ≡ 0 → Took c l s
+pub took-on : {c : Circuit} (l : StepLent) (s : Run) → readCircuit (l .circuit) ≡ Whole c → step l s .number ≡ 0 → Took c l s
 unfolding step
 took-on {c} l s f e =
-    let g : stepRead (readCircuit (l .circuit)) l s ≡ answered (stepNumber c l s) c l s = ap (λ (x : Reading Circuit). stepRead x l s) f in
-    let z = answered-number (stepNumber c l s) c l s (ap (λ (o : Outcome). o .number) (sym g) ∙ e) in
-    record { read = f; number = z; is = g ∙ answered-zero (stepNumber c l s) c l s z }
+    let g : stepRead (readCircuit (l .circuit)) l s ≡ stepBy (stepNumber c l s) c l s = ap (λ (x : Reading Circuit). stepRead x l s) f in
+    let z = step-by-number (stepNumber c l s) c l s (ap (λ (o : StepOutcome). o .number) (sym g) ∙ e) in
+    record { read = f; number = z; is = g ∙ step-by-zero (stepNumber c l s) c l s z }
 
 -- with any
-pub took : (l : Lent) (s : Run) → step l s .number ≡ 0 → (c : Circuit) × Took c l s
+pub took : (l : StepLent) (s : Run) → step l s .number ≡ 0 → (c : Circuit) × Took c l s
 unfolding step
 took l s e = of (readCircuit (l .circuit)) refl e
   where
@@ -98,19 +98,19 @@ took l s e = of (readCircuit (l .circuit)) refl e
     of (Refused k) f g = absurd (let h = refused-numbered (l .circuit) k f in omega arith)
 
 -- the state that it left, and what it gave by that state
-pub took-state : {c : Circuit} {l : Lent} {s : Run} → Took c l s → step l s .state ≡ stepRun c l s
-took-state {c} {l} {s} t = ap (λ (o : Outcome). o .state) (t .is) ∙ accepted-state c l (stepRun c l s)
+pub took-state : {c : Circuit} {l : StepLent} {s : Run} → Took c l s → step l s .state ≡ stepRun c l s
+took-state {c} {l} {s} t = ap (λ (o : StepOutcome). o .state) (t .is) ∙ accepted-state c l (stepRun c l s)
 
-pub took-gave : {c : Circuit} {l : Lent} {s : Run} → Took c l s → step l s ≡ acceptedStep c l (step l s .state)
+pub took-gave : {c : Circuit} {l : StepLent} {s : Run} → Took c l s → step l s ≡ acceptedStep c l (step l s .state)
 took-gave {c} {l} {s} t = t .is ∙ ap (acceptedStep c l) (sym (took-state t))
 
 -- a refused step
-by-number : (n : ℕ) (c : Circuit) (l : Lent) (s : Run) → (answered n c l s .number ≡ 0 → ⊥) → answered n c l s ≡ refusedStep (answered n c l s .number) l s
-unfolding answered
+by-number : (n : ℕ) (c : Circuit) (l : StepLent) (s : Run) → (stepBy n c l s .number ≡ 0 → ⊥) → stepBy n c l s ≡ refusedStep (stepBy n c l s .number) l s
+unfolding stepBy
 by-number zero c l s g = absurd (g (accepted-number c l (stepRun c l s)))
 by-number (suc n) c l s g = refl
 
-pub step-refused : (l : Lent) (s : Run) → (step l s .number ≡ 0 → ⊥) → step l s ≡ refusedStep (step l s .number) l s
+pub step-refused : (l : StepLent) (s : Run) → (step l s .number ≡ 0 → ⊥) → step l s ≡ refusedStep (step l s .number) l s
 unfolding step
 step-refused l s h = of (readCircuit (l .circuit)) h
   where
@@ -121,11 +121,11 @@ step-refused l s h = of (readCircuit (l .circuit)) h
 -- ---- one after the other
 
 -- each accepted step is on the state that the one before left
-unfoldable pub Chain : Run → List Made → Type 0
+unfoldable pub Chain : Run → List StepMade → Type 0
 Chain s [] = Unit {0}
 Chain s (m ∷ ms) = (m .gave ≡ step (m .got) s) × (m .gave .number ≡ 0) × Chain (m .gave .state) ms
 
-pub chain-of : (s : Run) (calls : List Lent) → Chain s (acceptedSteps s calls)
+pub chain-of : (s : Run) (calls : List StepLent) → Chain s (acceptedSteps s calls)
 unfolding Chain acceptedSteps
 chain-of s [] = tt
 chain-of s (l ∷ ls) = of (eqb (step l s .number) 0) refl (chain-of (step l s .state) ls)
@@ -135,27 +135,27 @@ chain-of s (l ∷ ls) = of (eqb (step l s .number) 0) refl (chain-of (step l s .
     of true e later = (refl, eqb-true _ _ e, later)
     of false e later =
         let r = step-refused l s (eqb-false _ _ e) in
-        let k : step l s .state ≡ s = ap (λ (o : Outcome). o .state) r in
+        let k : step l s .state ≡ s = ap (λ (o : StepOutcome). o .state) r in
         subst (λ (z : Run). Chain z (acceptedSteps (step l s .state) ls)) k later
 
 -- accepted step k had this
-pub first-made : (s : Run) (ms : List Made) → Chain s ms → {m : Made} → IsStep ms 0 m → (m .gave ≡ step (m .got) s) × (m .gave .number ≡ 0)
+pub first-made : (s : Run) (ms : List StepMade) → Chain s ms → {m : StepMade} → IsStep ms 0 m → (m .gave ≡ step (m .got) s) × (m .gave .number ≡ 0)
 unfolding Chain
 first-made s [] h e = absurd (none-some e)
 first-made s (x ∷ ms) h {m} e =
     let p : x ≡ m = some-is e in
-    (subst (λ (y : Made). y .gave ≡ step (y .got) s) p (h .0), subst (λ (y : Made). y .gave .number ≡ 0) p (h .1))
+    (subst (λ (y : StepMade). y .gave ≡ step (y .got) s) p (h .0), subst (λ (y : StepMade). y .gave .number ≡ 0) p (h .1))
 
-pub next-made : (k : ℕ) (s : Run) (ms : List Made) → Chain s ms → {a m : Made} → IsStep ms k a → IsStep ms (suc k) m
+pub next-made : (k : ℕ) (s : Run) (ms : List StepMade) → Chain s ms → {a m : StepMade} → IsStep ms k a → IsStep ms (suc k) m
     → (m .gave ≡ step (m .got) (a .gave .state)) × (m .gave .number ≡ 0)
 unfolding Chain
 next-made k s [] h e f = absurd (none-some e)
 next-made zero s (x ∷ ms) h {a} {m} e f =
-    subst (λ (y : Made). (m .gave ≡ step (m .got) (y .gave .state)) × (m .gave .number ≡ 0)) (some-is e) (first-made (x .gave .state) ms (h .2) f)
+    subst (λ (y : StepMade). (m .gave ≡ step (m .got) (y .gave .state)) × (m .gave .number ≡ 0)) (some-is e) (first-made (x .gave .state) ms (h .2) f)
 next-made (suc k) s (x ∷ ms) h e f = next-made k (x .gave .state) ms (h .2) e f
 
 -- there is a step before a step
-pub step-before : (k : ℕ) (ms : List Made) {m : Made} → IsStep ms (suc k) m → (a : Made) × IsStep ms k a
+pub step-before : (k : ℕ) (ms : List StepMade) {m : StepMade} → IsStep ms (suc k) m → (a : StepMade) × IsStep ms k a
 step-before k [] e = absurd (none-some e)
 step-before zero (x ∷ ms) e = (x, refl)
 step-before (suc k) (x ∷ ms) e = step-before k ms e

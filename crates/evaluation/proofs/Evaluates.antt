@@ -10,7 +10,7 @@ use lib.Bits.{bitXor}
 use lib.ListN.{length, getD, set}
 use Rattle.circuit.proofs.Exact.{admitted}
 use Rattle.circuit.proofs.Values.{Holds, values-keep, values-hold}
-use Rattle.circuit.specs.Admitted.{Admitted, GatesBelow}
+use Rattle.circuit.specs.Admitted.{AdmittedCircuit, GatesBelow}
 use Rattle.circuit.specs.Content.{Circuit, isAnd, andsIn}
 use Rattle.circuit.specs.Reading.{readCircuit}
 use Rattle.circuit.specs.Value.{wireValues, valueOf, atWires}
@@ -23,38 +23,38 @@ use Rattle.evaluation.proofs.Progresses.{phase-fresh, and-gate, first-t
 use Rattle.evaluation.proofs.Reaches.{Standing, waiting, finished, run-fresh, run-waits, run-ends}
 use Rattle.evaluation.specs.Evaluation.{combined, Unaltered, Ends, Evaluation}
 use Rattle.evaluation.specs.Progress.{OnCircuit}
-use Rattle.evaluation.specs.Runs.{fresh, Made, runOf, IsStep, writtenBy}
-use Rattle.circuit_run.specs.Step.{Lent, Outcome, gateAt, andsBefore, freshWires, advance, maskedFirst, maskedSecond, andShare, shareOf, withAnd, acceptedStep, step}
-use Rattle.evaluation.specs.Triples.{Matching}
+use Rattle.evaluation.specs.Runs.{fresh, StepMade, runOf, IsStep, writtenBy}
+use Rattle.circuit_run.specs.Step.{StepLent, StepOutcome, gateAt, andsBefore, freshWires, advance, maskedFirst, maskedSecond, andShare, waitingShare, withAnd, acceptedStep, step}
+use Rattle.triples.specs.Matching.{Matching}
 use Rattle.circuit_run.specs.declared.Run.{Run}
 
 -- ---- one end
 
 -- an end's accepted steps, its own things unaltered
-module _ (circuit : List ℕ) (c : Circuit) (read : readCircuit circuit ≡ Whole c) (role : ℕ) (shares triples : List ℕ) (calls : List Lent)
+module _ (circuit : List ℕ) (c : Circuit) (read : readCircuit circuit ≡ Whole c) (role : ℕ) (shares triples : List ℕ) (calls : List StepLent)
     (own : Unaltered role circuit shares triples (runOf calls)) where
   pub on-circuit : OnCircuit circuit (runOf calls)
   on-circuit k m e = own k m e .own-circuit
 
   -- what accepted step k had and left
-  pub record Stood (k : ℕ) (m : Made) : Type 0 where
+  pub record Stood (k : ℕ) (m : StepMade) : Type 0 where
     pub gave : m .gave ≡ acceptedStep c (m .got) (m .gave .state)
     pub one-each : length shares ≡ c .inputs
     pub share-bits : (w : ℕ) → getD shares w 0 ≤ 1
     pub triple-bits : (w : ℕ) → getD triples w 0 ≤ 1
 
-  of-took : (k : ℕ) (m : Made) → IsStep (runOf calls) k m → (s : Run) → m .gave ≡ step (m .got) s → Took c (m .got) s → Stood k m
+  of-took : (k : ℕ) (m : StepMade) → IsStep (runOf calls) k m → (s : Run) → m .gave ≡ step (m .got) s → Took c (m .got) s → Stood k m
   of-took k m e s g t =
       let p = passes c (m .got) s (t .number) in
       let o = own k m e in
       record {
-        gave = g ∙ took-gave t ∙ ap (λ (x : Outcome). acceptedStep c (m .got) (x .state)) (sym g);
+        gave = g ∙ took-gave t ∙ ap (λ (x : StepOutcome). acceptedStep c (m .got) (x .state)) (sym g);
         one-each = ap length (sym (o .own-shares)) ∙ p .one-each;
         share-bits = λ w. subst (λ (l : List ℕ). getD l w 0 ≤ 1) (o .own-shares) (p .share-bits w);
         triple-bits = λ w. subst (λ (l : List ℕ). getD l w 0 ≤ 1) (o .own-triples) (p .triple-bits w);
       }
 
-  pub stood : (k : ℕ) (m : Made) → IsStep (runOf calls) k m → Stood k m
+  pub stood : (k : ℕ) (m : StepMade) → IsStep (runOf calls) k m → Stood k m
   stood zero m e = let t = first-took circuit c read calls on-circuit e in of-took zero m e fresh (t .0) (t .1)
   stood (suc k) m e =
       let b = step-before k (runOf calls) e in
@@ -62,11 +62,11 @@ module _ (circuit : List ℕ) (c : Circuit) (read : readCircuit circuit ≡ Whol
       of-took (suc k) m e (b .0 .gave .state) (t .0) (t .1)
 
   -- the state that the first left
-  pub first-state : (m : Made) → IsStep (runOf calls) 0 m → m .gave .state ≡ advance role c 0 (freshWires shares)
+  pub first-state : (m : StepMade) → IsStep (runOf calls) 0 m → m .gave .state ≡ advance role c 0 (freshWires shares)
   first-state m e =
       let t = first-took circuit c read calls on-circuit e in
       let o = own 0 m e in
-      ap (λ (x : Outcome). x .state) (t .0) ∙ took-state (t .1) ∙ run-fresh c (m .got) fresh phase-fresh
+      ap (λ (x : StepOutcome). x .state) (t .0) ∙ took-state (t .1) ∙ run-fresh c (m .got) fresh phase-fresh
       ∙ ap₂ (λ (r : ℕ) (l : List ℕ). advance r c 0 (freshWires l)) (o .own-role) (o .own-shares)
 
   -- the share that an AND gets from far bits
@@ -75,15 +75,15 @@ module _ (circuit : List ℕ) (c : Circuit) (read : readCircuit circuit ≡ Whol
       andShare role
       (bitXor (maskedFirst c triples (s .wires) (s .gate)) far1)
       (bitXor (maskedSecond c triples (s .wires) (s .gate)) far2)
-      (getD triples (3 * andsBefore c (s .gate)) 0) (getD triples (3 * andsBefore c (s .gate) + 1) 0) (getD triples (3 * andsBefore c (s .gate) + 2) 0)
+      (getD triples (andsBefore c (s .gate) * 3) 0) (getD triples (andsBefore c (s .gate) * 3 + 1) 0) (getD triples (andsBefore c (s .gate) * 3 + 2) 0)
 
   -- the state that a later one left
-  module _ (k : ℕ) (a m : Made) (e : IsStep (runOf calls) k a) (f : IsStep (runOf calls) (suc k) m) where
+  module _ (k : ℕ) (a m : StepMade) (e : IsStep (runOf calls) k a) (f : IsStep (runOf calls) (suc k) m) where
     t : (m .gave ≡ step (m .got) (a .gave .state)) × Took c (m .got) (a .gave .state)
     t = next-took circuit c read calls on-circuit k e f
 
     pub next-ends : a .gave .state .phase ≡ 2 → m .gave .state ≡ a .gave .state
-    next-ends two = ap (λ (x : Outcome). x .state) (t .0) ∙ took-state (t .1) ∙ run-ends c (m .got) (a .gave .state) two
+    next-ends two = ap (λ (x : StepOutcome). x .state) (t .0) ∙ took-state (t .1) ∙ run-ends c (m .got) (a .gave .state) two
 
     pub next-gate : a .gave .state .phase ≡ 1 → isAnd (gateAt c (a .gave .state .gate)) ≡ true
     next-gate one = and-gate one (t .1)
@@ -91,25 +91,25 @@ module _ (circuit : List ℕ) (c : Circuit) (read : readCircuit circuit ≡ Whol
     pub next-waits : (far1 far2 : ℕ) → m .got .farFirst ≡ far1 → m .got .farSecond ≡ far2 → a .gave .state .phase ≡ 1
         → m .gave .state ≡ advance role c (a .gave .state .gate + 1)
         (set (a .gave .state .wires) (c .inputs + a .gave .state .gate) (shareBy (a .gave .state) far1 far2))
-    unfolding withAnd shareOf
+    unfolding withAnd waitingShare
     next-waits far1 far2 p q one =
         let o = own (suc k) m f in
-        ap (λ (x : Outcome). x .state) (t .0) ∙ took-state (t .1) ∙ run-waits c (m .got) (a .gave .state) one
+        ap (λ (x : StepOutcome). x .state) (t .0) ∙ took-state (t .1) ∙ run-waits c (m .got) (a .gave .state) one
         ∙ rw (o .own-role, o .own-triples, p, q)
 
   -- at a waiting step, the bits that it gave
-  pub sent : (k : ℕ) (m : Made) → IsStep (runOf calls) k m → m .gave .state .phase ≡ 1
+  pub sent : (k : ℕ) (m : StepMade) → IsStep (runOf calls) k m → m .gave .state .phase ≡ 1
       → (m .gave .firstBit ≡ maskedFirst c triples (m .gave .state .wires) (m .gave .state .gate))
       × (m .gave .secondBit ≡ maskedSecond c triples (m .gave .state .wires) (m .gave .state .gate))
   sent k m e one =
       let g = stood k m e .gave ∙ accepted-waits c (m .got) (m .gave .state) one in
       let o = own k m e .own-triples in (
-        ap (λ (x : Outcome). x .firstBit) g ∙ ap (λ (l : List ℕ). maskedFirst c l (m .gave .state .wires) (m .gave .state .gate)) o,
-        ap (λ (x : Outcome). x .secondBit) g ∙ ap (λ (l : List ℕ). maskedSecond c l (m .gave .state .wires) (m .gave .state .gate)) o,
+        ap (λ (x : StepOutcome). x .firstBit) g ∙ ap (λ (l : List ℕ). maskedFirst c l (m .gave .state .wires) (m .gave .state .gate)) o,
+        ap (λ (x : StepOutcome). x .secondBit) g ∙ ap (λ (l : List ℕ). maskedSecond c l (m .gave .state .wires) (m .gave .state .gate)) o,
       )
 
   -- a step not before the last AND's
-  pub step-at : (k n : ℕ) (m : Made) → IsStep (runOf calls) k m → n ≤ k → (a : Made) × IsStep (runOf calls) n a × (a .gave .state .phase ≡ 2 → m .gave .state ≡ a .gave .state)
+  pub step-at : (k n : ℕ) (m : StepMade) → IsStep (runOf calls) k m → n ≤ k → (a : StepMade) × IsStep (runOf calls) n a × (a .gave .state .phase ≡ 2 → m .gave .state ≡ a .gave .state)
   step-at zero n m e h = (m, subst (λ (j : ℕ). IsStep (runOf calls) j m) {x = 0} {y = n} (omega arith) e, λ _. refl)
   step-at (suc k) n m e h =
       split k n (λ g. (m, subst (λ (j : ℕ). IsStep (runOf calls) j m) {x = suc k} {y = n} (omega arith) e, λ _. refl))
@@ -119,7 +119,7 @@ module _ (circuit : List ℕ) (c : Circuit) (read : readCircuit circuit ≡ Whol
       (r .0, r .1, λ two. next-ends k (b .0) m (b .1) e (ap (λ (x : Run). x .phase) (r .2 two) ∙ two) ∙ r .2 two))
 
   -- a finished step wrote the shares of the output wires
-  pub wrote : (k : ℕ) (m : Made) → IsStep (runOf calls) k m → m .gave .state .phase ≡ 2 → writtenBy (m .gave) ≡ atWires (m .gave .state .wires) (c .outputs)
+  pub wrote : (k : ℕ) (m : StepMade) → IsStep (runOf calls) k m → m .gave .state .phase ≡ 2 → writtenBy (m .gave) ≡ atWires (m .gave .state .wires) (c .outputs)
   wrote k m e two = ap writtenBy (stood k m e .gave) ∙ ends-written c (m .got) (m .gave .state) (λ z. omega arith)
 
 -- ---- both ends
@@ -134,15 +134,15 @@ ended-gate (waiting p l h a e) two = absurd (omega arith)
 ended-gate (finished p q h) two = q
 
 -- a finished step is not before the last AND's
-late : (circuit : List ℕ) (c : Circuit) → readCircuit circuit ≡ Whole c → (calls : List Lent) → OnCircuit circuit (runOf calls)
-    → (k : ℕ) (m : Made) → IsStep (runOf calls) k m → m .gave .state .phase ≡ 2 → andsIn (c .gates) ≤ k
+late : (circuit : List ℕ) (c : Circuit) → readCircuit circuit ≡ Whole c → (calls : List StepLent) → OnCircuit circuit (runOf calls)
+    → (k : ℕ) (m : StepMade) → IsStep (runOf calls) k m → m .gave .state .phase ≡ 2 → andsIn (c .gates) ≤ k
 late circuit c read calls on k m e two =
     split k (andsIn (c .gates)) (λ h. absurd (let z = finishes circuit c read calls on k m e .0 h in omega arith)) (λ h. h)
 
-module _ (circuit : List ℕ) (c : Circuit) (read : readCircuit circuit ≡ Whole c) (calls₁ calls₂ : List Lent)
+module _ (circuit : List ℕ) (c : Circuit) (read : readCircuit circuit ≡ Whole c) (calls₁ calls₂ : List StepLent)
     (shares₁ triples₁ shares₂ triples₂ : List ℕ) (ends : Ends circuit shares₁ triples₁ shares₂ triples₂ (runOf calls₁) (runOf calls₂))
     (matching : Matching (andsIn (c .gates)) triples₁ triples₂) where
-  ok : Admitted c
+  ok : AdmittedCircuit c
   ok = admitted circuit c read
 
   -- the values of all wires on the combined inputs
@@ -180,7 +180,7 @@ module _ (circuit : List ℕ) (c : Circuit) (read : readCircuit circuit ≡ Whol
         (omega (arith, fresh-length shares₂ (omega (arith, ok .wires)), ok .wires))
 
   -- both wait: each gets the other's bits
-  module _ (k : ℕ) (a₁ a₂ m₁ m₂ : Made) (b₁ : IsStep (runOf calls₁) k a₁) (b₂ : IsStep (runOf calls₂) k a₂)
+  module _ (k : ℕ) (a₁ a₂ m₁ m₂ : StepMade) (b₁ : IsStep (runOf calls₁) k a₁) (b₂ : IsStep (runOf calls₂) k a₂)
       (e₁ : IsStep (runOf calls₁) (suc k) m₁) (e₂ : IsStep (runOf calls₂) (suc k) m₂)
       (j : Joint (c .inputs) all values (a₁ .gave .state) (a₂ .gave .state)) where
     abbrev S : Run
@@ -218,7 +218,7 @@ module _ (circuit : List ℕ) (c : Circuit) (read : readCircuit circuit ≡ Whol
         (andShare 2
         (bitXor (maskedFirst c triples₂ (T .wires) h) (maskedFirst c triples₁ (S .wires) h))
         (bitXor (maskedSecond c triples₂ (T .wires) h) (maskedSecond c triples₁ (S .wires) h))
-        (getD triples₂ (3 * andsBefore c h) 0) (getD triples₂ (3 * andsBefore c h + 1) 0) (getD triples₂ (3 * andsBefore c h + 2) 0)))) g))
+        (getD triples₂ (andsBefore c h * 3) 0) (getD triples₂ (andsBefore c h * 3 + 1) 0) (getD triples₂ (andsBefore c h * 3 + 2) 0)))) g))
         both)
 
     -- both have finished
@@ -230,7 +230,7 @@ module _ (circuit : List ℕ) (c : Circuit) (read : readCircuit circuit ≡ Whol
         (sym (next-ends circuit c read 2 shares₂ triples₂ calls₂ (ends .role-2) k a₂ m₂ b₂ e₂ (sym (j .phases) ∙ two))) j)
 
   -- after accepted step k of both
-  joint : (k : ℕ) (m₁ m₂ : Made) → IsStep (runOf calls₁) k m₁ → IsStep (runOf calls₂) k m₂ → Joint (c .inputs) all values (m₁ .gave .state) (m₂ .gave .state)
+  joint : (k : ℕ) (m₁ m₂ : StepMade) → IsStep (runOf calls₁) k m₁ → IsStep (runOf calls₂) k m₂ → Joint (c .inputs) all values (m₁ .gave .state) (m₂ .gave .state)
   joint zero m₁ m₂ e₁ e₂ =
       let a = stood circuit c read 1 shares₁ triples₁ calls₁ (ends .role-1) 0 m₁ e₁ in
       let b = stood circuit c read 2 shares₂ triples₂ calls₂ (ends .role-2) 0 m₂ e₂ in
@@ -245,7 +245,7 @@ module _ (circuit : List ℕ) (c : Circuit) (read : readCircuit circuit ≡ Whol
       (λ n. same-joint k (b₁ .0) (b₂ .0) m₁ m₂ (b₁ .1) (b₂ .1) e₁ e₂ j
       (ended (stands circuit c read calls₁ (on-circuit circuit c read 1 shares₁ triples₁ calls₁ (ends .role-1)) k (b₁ .0) (b₁ .1)) n))
 
-  evaluated : (k₁ k₂ : ℕ) (m₁ m₂ : Made) → IsStep (runOf calls₁) k₁ m₁ → IsStep (runOf calls₂) k₂ m₂ → m₁ .gave .state .phase ≡ 2 → m₂ .gave .state .phase ≡ 2
+  evaluated : (k₁ k₂ : ℕ) (m₁ m₂ : StepMade) → IsStep (runOf calls₁) k₁ m₁ → IsStep (runOf calls₂) k₂ m₂ → m₁ .gave .state .phase ≡ 2 → m₂ .gave .state .phase ≡ 2
       → combined (writtenBy (m₁ .gave)) (writtenBy (m₂ .gave)) ≡ valueOf c (combined shares₁ shares₂)
   unfolding valueOf values
   evaluated k₁ k₂ m₁ m₂ e₁ e₂ two₁ two₂ =

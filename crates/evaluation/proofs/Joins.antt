@@ -1,6 +1,6 @@
 -- Two ends' wires together: shares that agree with the circuit's values stay so gate by gate, and through an AND. Assumes nothing.
 use Prim.Native.Nat.{ℕ, zero, suc, _+_, _-_, _≤_, _<_}
-use mathlib.Core.Bool.{true, false, true≢false}
+use mathlib.Core.Bool.{true, true≢false}
 use mathlib.Core.List.{List, [], _∷_}
 use mathlib.Core.Path.{_≡_, refl, sym, ap, ap₂, _∙_, subst}
 use native.Mathlib.Omega.{arith}
@@ -16,7 +16,7 @@ use Rattle.evaluation.proofs.Bits.{xor-bit, not-shares, xor-shares, and
 use Rattle.evaluation.proofs.Reaches.{WireBits, and-inside, and-here, and-before}
 use Rattle.evaluation.specs.Evaluation.{combined}
 use Rattle.circuit_run.specs.Step.{gateAt, andsBefore, firstWire, secondWire, tripleFirst, tripleSecond, tripleThird, flipped, freshWires, runOn, maskedFirst, maskedSecond, andShare}
-use Rattle.evaluation.specs.Triples.{Matching}
+use Rattle.triples.specs.Matching.{Matching}
 use Rattle.circuit_run.specs.declared.Run.{Run}
 
 -- below n, both ends' wires are bits and combined the values

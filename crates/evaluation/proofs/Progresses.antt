@@ -18,14 +18,14 @@ use Rattle.evaluation.proofs.Chains.{accepted-state, accepted-waits, ac
 use Rattle.circuit_run.proofs.Numbers.{Passes, passes, state-phase, state-and}
 use Rattle.evaluation.proofs.Reaches.{Standing, waiting, finished, standing, from-start, and-inside, and-after, and-before, run-fresh, run-waits, run-ends, WireBits, set-bits, run-bits, zeros-bits, append-bits}
 use Rattle.evaluation.specs.Progress.{OnCircuit, GivesBits, withFar, farLent, Progress}
-use Rattle.evaluation.specs.Runs.{fresh, Made, runOf, IsStep, writtenBy}
-use Rattle.circuit_run.specs.Step.{Lent, Outcome, gateAt, andsBefore, freshWires, advance, maskedFirst, maskedSecond, shareOf, withAnd, stepNumber, stepRun, withOutputs, acceptedStep, answered, stepRead, step}
+use Rattle.evaluation.specs.Runs.{fresh, StepMade, runOf, IsStep, writtenBy}
+use Rattle.circuit_run.specs.Step.{StepLent, StepOutcome, gateAt, andsBefore, freshWires, advance, maskedFirst, maskedSecond, waitingShare, withAnd, stepNumber, stepRun, withOutputs, acceptedStep, stepBy, stepRead, step}
 use Rattle.circuit_run.specs.declared.Run.{Run}
 
 -- ---- where a run stands
 
 -- after an accepted step of a run that waits
-module _ {c : Circuit} {l : Lent} {s : Run} (one : s .phase ≡ 1) (t : Took c l s) where
+module _ {c : Circuit} {l : StepLent} {s : Run} (one : s .phase ≡ 1) (t : Took c l s) where
   pub and-gate : isAnd (gateAt c (s .gate)) ≡ true
   and-gate = state-and c (s .phase) (s .gate) (passes c l s (t .number) .state) one
 
@@ -39,7 +39,7 @@ risen : {c : Circuit} {i n : ℕ} {r : Run} → i ≤ length (c .gates) → Stan
 risen h (waiting p l k a e) = l
 risen h (finished p q k) = omega arith
 
-passes-gate : (l : Lent) (s : Run) → s .phase ≡ 1 → step l s .number ≡ 0 → s .gate < step l s .state .gate
+passes-gate : (l : StepLent) (s : Run) → s .phase ≡ 1 → step l s .number ≡ 0 → s .gate < step l s .state .gate
 passes-gate l s one e =
     let t = took l s e in
     omega (arith, risen (omega (arith, and-inside (t .0) (s .gate) (and-gate one (t .1)))) (after-and one (t .1)))
@@ -49,45 +49,45 @@ unfolding fresh
 phase-fresh = refl
 
 -- after the first accepted step
-pub first-stands : {c : Circuit} {l : Lent} → Took c l fresh → Standing c 0 0 (step l fresh .state)
+pub first-stands : {c : Circuit} {l : StepLent} → Took c l fresh → Standing c 0 0 (step l fresh .state)
 unfolding andsIn
 first-stands {c} {l} t =
     subst (λ (r : Run). Standing c 0 0 r) (sym (took-state t ∙ run-fresh c l fresh phase-fresh)) (standing (l .role) c 0 (freshWires (l .shares)) (omega arith))
 
 -- after one more
-pub next-stands : {c : Circuit} {k : ℕ} {l : Lent} {s : Run} → Took c l s → Standing c 0 k s → Standing c 0 (suc k) (step l s .state)
+pub next-stands : {c : Circuit} {k : ℕ} {l : StepLent} {s : Run} → Took c l s → Standing c 0 k s → Standing c 0 (suc k) (step l s .state)
 next-stands {c} {k} {l} {s} t (waiting one i h a n) =
     subst (λ (m : ℕ). Standing c 0 m (step l s .state)) {x = andsBefore c (s .gate) + 1} {y = suc k} (omega arith) (from-start (after-and one t))
 next-stands {c} {k} {l} {s} t (finished two h n) =
     subst (λ (r : Run). Standing c 0 (suc k) r) (sym (took-state t ∙ run-ends c l s two)) (finished two h (omega arith))
 
 -- accepted step k of a run, on a circuit that stays
-module _ (circuit : List ℕ) (c : Circuit) (read : readCircuit circuit ≡ Whole c) (calls : List Lent) (stays : OnCircuit circuit (runOf calls)) where
+module _ (circuit : List ℕ) (c : Circuit) (read : readCircuit circuit ≡ Whole c) (calls : List StepLent) (stays : OnCircuit circuit (runOf calls)) where
   chain : Chain fresh (runOf calls)
   chain = chain-of fresh calls
 
-  reads : (k : ℕ) {m : Made} → IsStep (runOf calls) k m → readCircuit (m .got .circuit) ≡ Whole c
+  reads : (k : ℕ) {m : StepMade} → IsStep (runOf calls) k m → readCircuit (m .got .circuit) ≡ Whole c
   reads k {m} e = ap readCircuit (stays k m e) ∙ read
 
-  pub first-took : {m : Made} → IsStep (runOf calls) 0 m → (m .gave ≡ step (m .got) fresh) × Took c (m .got) fresh
+  pub first-took : {m : StepMade} → IsStep (runOf calls) 0 m → (m .gave ≡ step (m .got) fresh) × Took c (m .got) fresh
   first-took {m} e =
       let f = first-made fresh (runOf calls) chain e in
-      (f .0, took-on (m .got) fresh (reads 0 e) (ap (λ (o : Outcome). o .number) (sym (f .0)) ∙ f .1))
+      (f .0, took-on (m .got) fresh (reads 0 e) (ap (λ (o : StepOutcome). o .number) (sym (f .0)) ∙ f .1))
 
-  pub next-took : (k : ℕ) {a m : Made} → IsStep (runOf calls) k a → IsStep (runOf calls) (suc k) m
+  pub next-took : (k : ℕ) {a m : StepMade} → IsStep (runOf calls) k a → IsStep (runOf calls) (suc k) m
       → (m .gave ≡ step (m .got) (a .gave .state)) × Took c (m .got) (a .gave .state)
   next-took k {a} {m} e g =
       let f = next-made k fresh (runOf calls) chain e g in
-      (f .0, took-on (m .got) (a .gave .state) (reads (suc k) g) (ap (λ (o : Outcome). o .number) (sym (f .0)) ∙ f .1))
+      (f .0, took-on (m .got) (a .gave .state) (reads (suc k) g) (ap (λ (o : StepOutcome). o .number) (sym (f .0)) ∙ f .1))
 
-  pub stands : (k : ℕ) (m : Made) → IsStep (runOf calls) k m → Standing c 0 k (m .gave .state)
-  stands zero m e = let t = first-took e in subst (λ (o : Outcome). Standing c 0 0 (o .state)) (sym (t .0)) (first-stands (t .1))
+  pub stands : (k : ℕ) (m : StepMade) → IsStep (runOf calls) k m → Standing c 0 k (m .gave .state)
+  stands zero m e = let t = first-took e in subst (λ (o : StepOutcome). Standing c 0 0 (o .state)) (sym (t .0)) (first-stands (t .1))
   stands (suc k) m e =
       let b = step-before k (runOf calls) e in
       let t = next-took k (b .1) e in
-      subst (λ (o : Outcome). Standing c 0 (suc k) (o .state)) (sym (t .0)) (next-stands (t .1) (stands k (b .0) (b .1)))
+      subst (λ (o : StepOutcome). Standing c 0 (suc k) (o .state)) (sym (t .0)) (next-stands (t .1) (stands k (b .0) (b .1)))
 
-  pub finishes : (k : ℕ) (m : Made) → IsStep (runOf calls) k m
+  pub finishes : (k : ℕ) (m : StepMade) → IsStep (runOf calls) k m
       → (k < andsIn (c .gates) → m .gave .state .phase ≡ 1) × (andsIn (c .gates) ≤ k → m .gave .state .phase ≡ 2)
   finishes k m e = of (stands k m e)
     where
@@ -97,7 +97,7 @@ module _ (circuit : List ℕ) (c : Circuit) (read : readCircuit circuit ≡ Whol
 
 -- ---- a finished run
 
-again : (l l′ : Lent) (s : Run) → l′ .circuit ≡ l .circuit → step l s .number ≡ 0 → step l s .state .phase ≡ 2 → step l′ (step l s .state) .number ≡ 0
+again : (l l′ : StepLent) (s : Run) → l′ .circuit ≡ l .circuit → step l s .number ≡ 0 → step l s .state .phase ≡ 2 → step l′ (step l s .state) .number ≡ 0
     → (step l′ (step l s .state) .state ≡ step l s .state) × (writtenBy (step l′ (step l s .state)) ≡ writtenBy (step l s))
 again l l′ s same e two f =
     let r : Run = step l s .state in
@@ -117,7 +117,7 @@ outputs-bits wires [] all i = omega arith
 outputs-bits wires (w ∷ ws) all zero = all w
 outputs-bits wires (w ∷ ws) all (suc i) = outputs-bits wires ws all i
 
-gives : (c : Circuit) (l : Lent) (r : Run) → WireBits (r .wires) → WireBits (l .triples) → GivesBits (acceptedStep c l r)
+gives : (c : Circuit) (l : StepLent) (r : Run) → WireBits (r .wires) → WireBits (l .triples) → GivesBits (acceptedStep c l r)
 unfolding maskedFirst maskedSecond
 gives c l r wires triples =
     either (r .phase) 1
@@ -126,15 +126,15 @@ gives c l r wires triples =
     (record { first = xor-bit (wires _) (triples _); second = xor-bit (wires _) (triples _); wires = wires; outputs = λ i. omega arith }))
     (λ n.
     record {
-      first = subst (λ (o : Outcome). o .firstBit ≤ 1) (sym (accepted-ends c l r n)) (omega arith);
-      second = subst (λ (o : Outcome). o .secondBit ≤ 1) (sym (accepted-ends c l r n)) (omega arith);
+      first = subst (λ (o : StepOutcome). o .firstBit ≤ 1) (sym (accepted-ends c l r n)) (omega arith);
+      second = subst (λ (o : StepOutcome). o .secondBit ≤ 1) (sym (accepted-ends c l r n)) (omega arith);
       wires = subst (λ (x : Run). WireBits (x .wires)) (sym (accepted-state c l r)) wires;
       outputs = subst WireBits (sym (ends-written c l r n)) (outputs-bits (r .wires) (c .outputs) wires);
     })
 
 -- the wires after an accepted step
-pub step-bits : (c : Circuit) (l : Lent) (s : Run) → Passes c l s → WireBits (s .wires) → WireBits (stepRun c l s .wires)
-unfolding freshWires withAnd shareOf maskedFirst maskedSecond
+pub step-bits : (c : Circuit) (l : StepLent) (s : Run) → Passes c l s → WireBits (s .wires) → WireBits (stepRun c l s .wires)
+unfolding freshWires withAnd waitingShare maskedFirst maskedSecond
 step-bits c l s p wires =
     either (s .phase) 0
     (λ e.
@@ -145,7 +145,7 @@ step-bits c l s p wires =
     let far = p .far (eq-eqb (s .phase) 1 e) in
     subst (λ (r : Run). WireBits (r .wires)) (sym (run-waits c l s e))
     (run-bits (l .role) (c .inputs) (drop (s .gate + 1) (c .gates)) (s .gate + 1) (withAnd c l s)
-    (set-bits (s .wires) (c .inputs + s .gate) (shareOf c l s) wires
+    (set-bits (s .wires) (c .inputs + s .gate) (waitingShare c l s) wires
     (share-bit (l .role) (xor-bit (xor-bit (wires _) (p .triple-bits _)) (far .0)) (xor-bit (xor-bit (wires _) (p .triple-bits _)) (far .1))
     (p .triple-bits _) (p .triple-bits _) (p .triple-bits _)))))
     (λ m.
@@ -157,25 +157,25 @@ unfolding fresh
 fresh-bits = zeros-bits mostWires
 
 -- an accepted step on a state of bits gives bits
-step-gives : (l : Lent) (s : Run) → step l s .number ≡ 0 → WireBits (s .wires) → GivesBits (step l s)
+step-gives : (l : StepLent) (s : Run) → step l s .number ≡ 0 → WireBits (s .wires) → GivesBits (step l s)
 step-gives l s e wires =
     let t = took l s e in
     let p = passes (t .0) l s (t .1 .number) in
     subst GivesBits (sym (t .1 .is)) (gives (t .0) l (stepRun (t .0) l s) (step-bits (t .0) l s p wires) (p .triple-bits))
 
-run-gives : (calls : List Lent) (k : ℕ) (m : Made) → IsStep (runOf calls) k m → GivesBits (m .gave)
+run-gives : (calls : List StepLent) (k : ℕ) (m : StepMade) → IsStep (runOf calls) k m → GivesBits (m .gave)
 run-gives calls zero m e =
     let f = first-made fresh (runOf calls) (chain-of fresh calls) e in
-    subst GivesBits (sym (f .0)) (step-gives (m .got) fresh (ap (λ (o : Outcome). o .number) (sym (f .0)) ∙ f .1) fresh-bits)
+    subst GivesBits (sym (f .0)) (step-gives (m .got) fresh (ap (λ (o : StepOutcome). o .number) (sym (f .0)) ∙ f .1) fresh-bits)
 run-gives calls (suc k) m e =
     let b = step-before k (runOf calls) e in
     let f = next-made k fresh (runOf calls) (chain-of fresh calls) (b .1) e in
     subst GivesBits (sym (f .0))
-    (step-gives (m .got) (b .0 .gave .state) (ap (λ (o : Outcome). o .number) (sym (f .0)) ∙ f .1) (run-gives calls k (b .0) (b .1) .wires))
+    (step-gives (m .got) (b .0 .gave .state) (ap (λ (o : StepOutcome). o .number) (sym (f .0)) ∙ f .1) (run-gives calls k (b .0) (b .1) .wires))
 
 -- ---- far bits
 
-module _ (l : Lent) (s : Run) (n : s .phase ≡ 1 → ⊥) (x y : ℕ) where
+module _ (l : StepLent) (s : Run) (n : s .phase ≡ 1 → ⊥) (x y : ℕ) where
   far-number : (c : Circuit) → stepNumber c (withFar x y l) s ≡ stepNumber c l s
   unfolding stepNumber
   far-number c = rw (ne-eqb (s .phase) 1 n)
@@ -191,17 +191,17 @@ module _ (l : Lent) (s : Run) (n : s .phase ≡ 1 → ⊥) (x y : ℕ) where
       (λ e. accepted-waits c (withFar x y l) r e ∙ ap (farLent x y) (sym (accepted-waits c l r e)))
       (λ m. accepted-ends c (withFar x y l) r m ∙ ap (farLent x y) (sym (accepted-ends c l r m)))
 
-  far-answered : (m : ℕ) (c : Circuit) → answered m c (withFar x y l) s ≡ farLent x y (answered m c l s)
-  unfolding answered
-  far-answered zero c = ap (acceptedStep c (withFar x y l)) (far-run c) ∙ far-accepted c (stepRun c l s)
-  far-answered (suc m) c = refl
+  far-by : (m : ℕ) (c : Circuit) → stepBy m c (withFar x y l) s ≡ farLent x y (stepBy m c l s)
+  unfolding stepBy
+  far-by zero c = ap (acceptedStep c (withFar x y l)) (far-run c) ∙ far-accepted c (stepRun c l s)
+  far-by (suc m) c = refl
 
   far-unread : step (withFar x y l) s ≡ farLent x y (step l s)
   unfolding step
   far-unread = of (readCircuit (l .circuit))
     where
       of : (r : Reading Circuit) → stepRead r (withFar x y l) s ≡ farLent x y (stepRead r l s)
-      of (Whole c) = ap (λ (m : ℕ). answered m c (withFar x y l) s) (far-number c) ∙ far-answered (stepNumber c l s) c
+      of (Whole c) = ap (λ (m : ℕ). stepBy m c (withFar x y l) s) (far-number c) ∙ far-by (stepNumber c l s) c
       of (Refused k) = refl
 
 -- document 02, 9: progress

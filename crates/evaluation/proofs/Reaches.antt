@@ -14,7 +14,7 @@ use Rattle.circuit.specs.Content.{Gate, Xor, And, Not, Circuit, isAnd, andsIn}
 use Rattle.number.proofs.Places.{split, choose-yes, choose-no}
 use Rattle.evaluation.proofs.Bits.{xor-bit, flipped-bit}
 use Rattle.circuit.proofs.Ands.{ands-append, ands-more, ands-split}
-use Rattle.circuit_run.specs.Step.{Lent, gateAt, andsBefore, flipped, freshWires, runOn, advance, withAnd, stepRun}
+use Rattle.circuit_run.specs.Step.{StepLent, gateAt, andsBefore, flipped, freshWires, runOn, advance, withAnd, stepRun}
 use Rattle.circuit_run.specs.declared.Run.{Run}
 
 -- ---- stops
@@ -78,7 +78,7 @@ module _ (c : Circuit) (i : ℕ) (a : isAnd (gateAt c i) ≡ true) where
 
 -- ---- the state that an accepted step leaves
 
-module _ (c : Circuit) (l : Lent) (s : Run) where
+module _ (c : Circuit) (l : StepLent) (s : Run) where
   pub run-fresh : s .phase ≡ 0 → stepRun c l s ≡ advance (l .role) c 0 (freshWires (l .shares))
   unfolding stepRun
   run-fresh e = choose-yes {A = Run} _ _ (eq-eqb (s .phase) 0 e)

@@ -1,34 +1,35 @@
 -- Which steps are accepted (document 02, 9), said apart from the numbers, and that a run can go on.
-use Prim.Native.Nat.{ℕ, _*_, _%_, _≤_, _<_}
+use Prim.Native.Nat.{_*_, _%_, _≤_}
 use mathlib.Core.Bool.{true}
 use mathlib.Core.Logic.{_↔_}
 use mathlib.Core.Path.{_≡_}
-use lib.ListN.{length, getD}
+use lib.ListN.{length}
 use Rattle.answer.specs.Numbers.{accepted}
 use Rattle.circuit.specs.Content.{Circuit, isAnd, andsIn}
 use Rattle.circuit.specs.Reading.{readCircuit}
 use Rattle.number.specs.Reading.{Whole}
-use Rattle.circuit_run.specs.Step.{Lent, gateAt, isRole, step}
+use Rattle.pads.specs.Bytes.{Bits}
+use Rattle.circuit_run.specs.Step.{StepLent, gateAt, isRole, step}
 use Rattle.circuit_run.specs.declared.Run.{Run}
 
 -- a state that is fresh, finished, or waits at an AND; role 1 or 2; shares one an input and triples three bits each, a triple for each
 -- AND, all of them bits; room for the outputs; far bits that are bits, where they are read
-pub record StepAdmitted (c : Circuit) (l : Lent) (s : Run) : Type 0 where
+pub record StepAdmitted (c : Circuit) (l : StepLent) (s : Run) : Type 0 where
   pub phase : s .phase ≤ 2
   pub gate : s .phase ≡ 1 → isAnd (gateAt c (s .gate)) ≡ true
   pub role : isRole (l .role) ≡ true
   pub shares : length (l .shares) ≡ c .inputs
   pub triples : length (l .triples) % 3 ≡ 0
   pub room : length (c .outputs) ≤ length (l .output)
-  pub share-bits : (k : ℕ) → k < length (l .shares) → getD (l .shares) k 0 ≤ 1
-  pub triple-bits : (k : ℕ) → k < length (l .triples) → getD (l .triples) k 0 ≤ 1
+  pub share-bits : Bits (length (l .shares)) (l .shares)
+  pub triple-bits : Bits (length (l .triples)) (l .triples)
   pub far : s .phase ≡ 1 → (l .farFirst ≤ 1) × (l .farSecond ≤ 1)
   pub enough : andsIn (c .gates) * 3 ≤ length (l .triples)
 
-pub record Acceptance : Type 0 where
+pub record StepAcceptance : Type 0 where
   -- a step on a circuit that is read is accepted exactly if it is admitted
-  pub accepts : (c : Circuit) (l : Lent) (s : Run) → readCircuit (l .circuit) ≡ Whole c → StepAdmitted c l s ↔ step l s .number ≡ accepted
+  pub accepts : (c : Circuit) (l : StepLent) (s : Run) → readCircuit (l .circuit) ≡ Whole c → StepAdmitted c l s ↔ step l s .number ≡ accepted
   -- after an accepted step the next one with the same circuit, role, shares and triples, room enough and far bits is accepted
-  pub goes-on : (l l′ : Lent) (s : Run) → step l s .number ≡ accepted → l′ .circuit ≡ l .circuit → l′ .role ≡ l .role → l′ .shares ≡ l .shares
+  pub goes-on : (l l′ : StepLent) (s : Run) → step l s .number ≡ accepted → l′ .circuit ≡ l .circuit → l′ .role ≡ l .role → l′ .shares ≡ l .shares
       → l′ .triples ≡ l .triples → length (l .output) ≤ length (l′ .output) → l′ .farFirst ≤ 1 → l′ .farSecond ≤ 1
       → step l′ (step l s .state) .number ≡ accepted

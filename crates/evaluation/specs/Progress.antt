@@ -7,43 +7,43 @@ use Rattle.answer.specs.Numbers.{accepted}
 use Rattle.circuit.specs.Content.{Circuit, andsIn}
 use Rattle.circuit.specs.Reading.{readCircuit}
 use Rattle.number.specs.Reading.{Whole}
-use Rattle.evaluation.specs.Runs.{Made, runOf, IsStep, writtenBy}
-use Rattle.circuit_run.specs.Step.{Lent, lentWith, Outcome, outcome, refusedStep, step}
+use Rattle.evaluation.specs.Runs.{StepMade, runOf, IsStep, writtenBy}
+use Rattle.circuit_run.specs.Step.{StepLent, lentWith, StepOutcome, stepOutcome, refusedStep, step}
 use Rattle.circuit_run.specs.declared.Run.{Run}
 
 -- each of these steps got this circuit
-abbrev pub OnCircuit : List ℕ → List Made → Type 0
-OnCircuit circuit steps = (k : ℕ) (m : Made) → IsStep steps k m → m .got .circuit ≡ circuit
+abbrev pub OnCircuit : List ℕ → List StepMade → Type 0
+OnCircuit circuit steps = (k : ℕ) (m : StepMade) → IsStep steps k m → m .got .circuit ≡ circuit
 
 -- bits and bytes of a step's outcome are 0 or 1
-pub record GivesBits (o : Outcome) : Type 0 where
+pub record GivesBits (o : StepOutcome) : Type 0 where
   pub first : o .firstBit ≤ 1
   pub second : o .secondBit ≤ 1
   pub wires : (w : ℕ) → getD (o .state .wires) w 0 ≤ 1
   pub outputs : (i : ℕ) → getD (writtenBy o) i 0 ≤ 1
 
 -- other far bits
-abbrev pub withFar : ℕ → ℕ → Lent → Lent
+abbrev pub withFar : ℕ → ℕ → StepLent → StepLent
 withFar first second l = lentWith (l .role) (l .circuit) (l .shares) (l .triples) (l .output) first second
 
-abbrev pub farLent : ℕ → ℕ → Outcome → Outcome
-farLent first second o = outcome (o .number) (o .written) (o .firstBit) (o .secondBit) (o .state) (withFar first second (o .lent))
+abbrev pub farLent : ℕ → ℕ → StepOutcome → StepOutcome
+farLent first second o = stepOutcome (o .number) (o .written) (o .firstBit) (o .secondBit) (o .state) (withFar first second (o .lent))
 
 pub record Progress : Type 0 where
   -- a refused step changes nothing, and gives zeros beside its number
-  pub refused : (l : Lent) (s : Run) → (step l s .number ≡ accepted → ⊥) → step l s ≡ refusedStep (step l s .number) l s
+  pub refused : (l : StepLent) (s : Run) → (step l s .number ≡ accepted → ⊥) → step l s ≡ refusedStep (step l s .number) l s
   -- an accepted step of a run that waits passes at least one gate
-  pub passes : (l : Lent) (s : Run) → s .phase ≡ 1 → step l s .number ≡ accepted → s .gate < step l s .state .gate
+  pub passes : (l : StepLent) (s : Run) → s .phase ≡ 1 → step l s .number ≡ accepted → s .gate < step l s .state .gate
   -- while the circuit stays, a run from the fresh state waits after as many accepted steps as the circuit has ANDs, or fewer, and has
   -- finished after one more
-  pub finishes : (circuit : List ℕ) (c : Circuit) → readCircuit circuit ≡ Whole c → (calls : List Lent) → OnCircuit circuit (runOf calls)
-      → (k : ℕ) (m : Made) → IsStep (runOf calls) k m
+  pub finishes : (circuit : List ℕ) (c : Circuit) → readCircuit circuit ≡ Whole c → (calls : List StepLent) → OnCircuit circuit (runOf calls)
+      → (k : ℕ) (m : StepMade) → IsStep (runOf calls) k m
       → (k < andsIn (c .gates) → m .gave .state .phase ≡ 1) × (andsIn (c .gates) ≤ k → m .gave .state .phase ≡ 2)
   -- a finished run gives its outputs again, and its state stays
-  pub again : (l l′ : Lent) (s : Run) → l′ .circuit ≡ l .circuit → step l s .number ≡ accepted → step l s .state .phase ≡ 2
+  pub again : (l l′ : StepLent) (s : Run) → l′ .circuit ≡ l .circuit → step l s .number ≡ accepted → step l s .state .phase ≡ 2
       → step l′ (step l s .state) .number ≡ accepted
       → (step l′ (step l s .state) .state ≡ step l s .state) × (writtenBy (step l′ (step l s .state)) ≡ writtenBy (step l s))
   -- what the accepted steps of a run give is 0 or 1, so a far bit that the far end sent never gives 8
-  pub bits : (calls : List Lent) (k : ℕ) (m : Made) → IsStep (runOf calls) k m → GivesBits (m .gave)
+  pub bits : (calls : List StepLent) (k : ℕ) (m : StepMade) → IsStep (runOf calls) k m → GivesBits (m .gave)
   -- the first step and a finished run neither read nor test far bits
-  pub far : (l : Lent) (s : Run) → (s .phase ≡ 1 → ⊥) → (first second : ℕ) → step (withFar first second l) s ≡ farLent first second (step l s)
+  pub far : (l : StepLent) (s : Run) → (s .phase ≡ 1 → ⊥) → (first second : ℕ) → step (withFar first second l) s ≡ farLent first second (step l s)

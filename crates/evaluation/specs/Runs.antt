@@ -9,7 +9,7 @@ use lib.ListN.{take, getElem?, replicate}
 use Rattle.algebra.specs.Choice.{choose}
 use Rattle.answer.specs.Numbers.{accepted}
 use Rattle.circuit.specs.Admitted.{mostWires}
-use Rattle.circuit_run.specs.Step.{Lent, Outcome, runWith, step}
+use Rattle.circuit_run.specs.Step.{StepLent, StepOutcome, runWith, step}
 use Rattle.circuit_run.specs.declared.Run.{Run}
 
 -- a fresh state is all zero
@@ -17,12 +17,12 @@ unfoldable pub fresh : Run
 fresh = runWith 0 0 (replicate mostWires 0)
 
 -- a step: what it got, and what it gave
-pub record Made : Type 0 where
-  pub got : Lent
-  pub gave : Outcome
+pub record StepMade : Type 0 where
+  pub got : StepLent
+  pub gave : StepOutcome
 
 -- the accepted steps among steps that get these in turn, from a state on
-unfoldable pub acceptedSteps : Run → List Lent → List Made
+unfoldable pub acceptedSteps : Run → List StepLent → List StepMade
 acceptedSteps s [] = []
 acceptedSteps s (l ∷ ls) =
     choose (eqb (step l s .number) accepted)
@@ -30,13 +30,13 @@ acceptedSteps s (l ∷ ls) =
     (acceptedSteps (step l s .state) ls)
 
 -- the accepted steps of a run
-abbrev pub runOf : List Lent → List Made
+abbrev pub runOf : List StepLent → List StepMade
 runOf calls = acceptedSteps fresh calls
 
 -- m is accepted step k, from 0
-abbrev pub IsStep : List Made → ℕ → Made → Type 0
+abbrev pub IsStep : List StepMade → ℕ → StepMade → Type 0
 IsStep steps k m = getElem? steps k ≡ some m
 
 -- the bytes that a step wrote
-abbrev pub writtenBy : Outcome → List ℕ
+abbrev pub writtenBy : StepOutcome → List ℕ
 writtenBy o = take (o .written) (o .lent .output)

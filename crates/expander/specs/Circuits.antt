@@ -8,9 +8,9 @@ use lib.ListN.{length}
 use Rattle.circuit.specs.Content.{Circuit, andsIn}
 use Rattle.circuit.specs.Reading.{readCircuit}
 use Rattle.circuit.specs.Value.{valueOf}
-use Rattle.circuit_run.specs.Step.{Lent}
+use Rattle.circuit_run.specs.Step.{StepLent}
 use Rattle.evaluation.specs.Evaluation.{combined, Ends}
-use Rattle.evaluation.specs.Runs.{Made, runOf, IsStep, writtenBy}
+use Rattle.evaluation.specs.Runs.{StepMade, runOf, IsStep, writtenBy}
 use Rattle.number.specs.Reading.{Whole}
 use Rattle.triples.specs.Call.{TriplesLent, triples}
 use Rattle.triples.specs.Matching.{triplesOf}
@@ -24,8 +24,8 @@ Circuits =
     → Taken second (length (l .choices)) (l′ .choices) (l′ .pads) (l .messages)
     → triples l .number ≡ 0 → triples l′ .number ≡ 0
     → (circuit : List ℕ) (c : Circuit) → readCircuit circuit ≡ Whole c → andsIn (c .gates) ≤ length (l .choices)
-    → (calls₁ calls₂ : List Lent) (shares₁ shares₂ : List ℕ)
+    → (calls₁ calls₂ : List StepLent) (shares₁ shares₂ : List ℕ)
     → Ends circuit shares₁ (triplesOf l) shares₂ (triplesOf l′) (runOf calls₁) (runOf calls₂)
-    → (k₁ k₂ : ℕ) (m₁ m₂ : Made) → IsStep (runOf calls₁) k₁ m₁ → IsStep (runOf calls₂) k₂ m₂
+    → (k₁ k₂ : ℕ) (m₁ m₂ : StepMade) → IsStep (runOf calls₁) k₁ m₁ → IsStep (runOf calls₂) k₂ m₂
     → m₁ .gave .state .phase ≡ 2 → m₂ .gave .state .phase ≡ 2
     → combined (writtenBy (m₁ .gave)) (writtenBy (m₂ .gave)) ≡ valueOf c (combined shares₁ shares₂)

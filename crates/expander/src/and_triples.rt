@@ -1,6 +1,6 @@
 // The call that forms AND triples, by its exported name.
 ghost use mathlib.Core.Path.{_≡_};
-ghost use Rattle.messages.specs.Answer.{outcome};
+ghost use Rattle.messages.specs.Outcome.{outcome};
 ghost use Rattle.triples.specs.Call.{triples};
 use answer::OneLength;
 

@@ -1,6 +1,6 @@
 // The three calls that pass messages of the callers' own choosing under pads, by their exported names.
 ghost use mathlib.Core.Path.{_≡_};
-ghost use Rattle.messages.specs.Answer.{outcome};
+ghost use Rattle.messages.specs.Outcome.{outcome};
 ghost use Rattle.messages.specs.Calls.{correctionBits, maskMessages, unmaskMessages};
 use answer::OneLength;
 

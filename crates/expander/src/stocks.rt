@@ -1,6 +1,6 @@
 // The calls on a stock under their exported names.
 ghost use mathlib.Core.Path.{_≡_};
-ghost use Rattle.stock.specs.Calls.{opening, openStock, draw, preview, pass};
+ghost use Rattle.stock.specs.Calls.{stockOpening, openStock, draw, preview, pass};
 use stock::Drawn;
 use stock::Label;
 use stock::OpenedStock;
@@ -10,7 +10,7 @@ use stock::Stock;
 // Opens a stock under a label with a share for each caller, as consecutive blocks of the outputs.
 #[no_mangle]
 pub extern "C" fn expander_open_stock(label: Label, outputs: usize, shares: &[u32]) -> OpenedStock
-    ensures { λ r. ⌜ opening r (now (shares .exit)) ≡ openStock label outputs (now (shares .entry)) ⌝ }
+    ensures { λ r. ⌜ stockOpening r (now (shares .exit)) ≡ openStock label outputs (now (shares .entry)) ⌝ }
 {
     stock::open(label, outputs, shares)
 }

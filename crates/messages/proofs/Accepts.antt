@@ -2,22 +2,22 @@
 use mathlib.Core.Path.{_≡_, refl, sym, _∙_}
 use mathlib.Core.Bool.{false}
 use mathlib.Core.List.{List}
-use Prim.Native.Nat.{ℕ, zero, suc, _≤_, _<_}
+use Prim.Native.Nat.{ℕ, zero, suc}
 use native.Mathlib.Omega.{arith}
-use lib.ListN.{length, getD}
+use lib.ListN.{length}
 use borrow.Author.Tests.{leb-true, ltb-false, eqb-true, le-leb, le-ltb, eq-eqb, not-false}
-use Rattle.pads.specs.Calls.{anyAbove}
+use Rattle.pads.specs.Bytes.{anyAbove, Bits}
 use Rattle.pads.proofs.Numbers.{neither, none-above, above-none}
-use Rattle.messages.specs.Answer.{answer, firstFault}
+use Rattle.messages.specs.Outcome.{outcomeOf, firstFault}
 use Rattle.messages.specs.Calls.{CorrectionLent, MaskLent, UnmaskLent, correctionNumber, maskNumber, unmaskNumber, correctionBits, maskMessages, unmaskMessages}
 use Rattle.messages.specs.Admitted.{CorrectionAdmitted, MaskAdmitted, UnmaskAdmitted, Accepts}
 use Rattle.messages.proofs.Numbers.{passed, both}
 
 -- the number of an answer
-pub answer-number : {L : Type 0} (n written : ℕ) (lent after : L) → answer n written lent after .number ≡ n
-unfolding answer
-answer-number zero written lent after = refl
-answer-number (suc n) written lent after = refl
+pub outcome-number : {L : Type 0} (n written : ℕ) (lent after : L) → outcomeOf n written lent after .number ≡ n
+unfolding outcomeOf
+outcome-number zero written lent after = refl
+outcome-number (suc n) written lent after = refl
 
 -- ---- a number of 0 says that the input is admitted
 
@@ -72,7 +72,7 @@ unmask-number count wanted pads answers messages e =
 -- ---- and admitted input has it
 
 -- no byte of a list of bits is above 1
-bits-none : (count : ℕ) (bytes : List ℕ) → length bytes ≡ count → ((k : ℕ) → k < count → getD bytes k 0 ≤ 1) → anyAbove 1 bytes ≡ false
+bits-none : (count : ℕ) (bytes : List ℕ) → length bytes ≡ count → Bits count bytes → anyAbove 1 bytes ≡ false
 bits-none count bytes e all = above-none 1 bytes (λ k h. all k (omega arith))
 
 correction-zero : (count : ℕ) (l : CorrectionLent) → CorrectionAdmitted count l
@@ -119,15 +119,15 @@ unfolding correctionBits maskMessages unmaskMessages
 accepts =
     record {
       correction = λ count l. (
-        λ a. answer-number _ _ _ _ ∙ correction-zero count l a,
-        λ e. correction-number count (l .choices) (l .wanted) (l .bits) (sym (answer-number _ _ _ _) ∙ e),
+        λ a. outcome-number _ _ _ _ ∙ correction-zero count l a,
+        λ e. correction-number count (l .choices) (l .wanted) (l .bits) (sym (outcome-number _ _ _ _) ∙ e),
       );
       mask = λ count l. (
-        λ a. answer-number _ _ _ _ ∙ mask-zero count l a,
-        λ e. mask-number count (l .bits) (l .pads) (l .messages) (l .answers) (sym (answer-number _ _ _ _) ∙ e),
+        λ a. outcome-number _ _ _ _ ∙ mask-zero count l a,
+        λ e. mask-number count (l .bits) (l .pads) (l .messages) (l .answers) (sym (outcome-number _ _ _ _) ∙ e),
       );
       unmask = λ count l. (
-        λ a. answer-number _ _ _ _ ∙ unmask-zero count l a,
-        λ e. unmask-number count (l .wanted) (l .pads) (l .answers) (l .messages) (sym (answer-number _ _ _ _) ∙ e),
+        λ a. outcome-number _ _ _ _ ∙ unmask-zero count l a,
+        λ e. unmask-number count (l .wanted) (l .pads) (l .answers) (l .messages) (sym (outcome-number _ _ _ _) ∙ e),
       );
     }

@@ -6,8 +6,8 @@ use Prim.Native.Nat.{ℕ, suc, _*_}
 use native.Mathlib.Omega.{arith}
 use lib.Dec.{leb, ltb, eqb}
 use lib.ListN.{length}
-use Rattle.pads.specs.Calls.{anyAbove}
-use Rattle.messages.specs.Answer.{firstFault}
+use Rattle.pads.specs.Bytes.{anyAbove}
+use Rattle.messages.specs.Outcome.{firstFault}
 use Rattle.messages.specs.Calls.{correctionNumber, maskNumber, unmaskNumber}
 
 module _ (t : Bool) (n : ℕ) (t′ : Bool) (n′ : ℕ) (t″ : Bool) (n″ : ℕ) where

@@ -10,20 +10,20 @@ use lib.Seq.{getD-drop, getD-take}
 use Rattle.algebra.specs.Coding.{over}
 use Rattle.field.proofs.Xor.{xor-back}
 use Rattle.pads.specs.Choice.{padAt, messageAt}
-use Rattle.messages.specs.Answer.{Outcome, answer}
+use Rattle.messages.specs.Outcome.{Outcome, outcomeOf}
 use Rattle.messages.specs.Bytes.{Two, byte, sixteen, thirtyTwo}
-use Rattle.messages.specs.Calls.{CorrectionLent, MaskLent, UnmaskLent, correction, answerOf, openedOf, correctionBits, maskMessages, unmaskMessages}
-use Rattle.messages.specs.Opening.{Batch, BatchFits, NamedAt, Opening, corrected, sentBits, answered, sentAnswers, opened}
+use Rattle.messages.specs.Calls.{CorrectionLent, MaskLent, UnmaskLent, correctionBit, answerOf, openedOf, correctionBits, maskMessages, unmaskMessages}
+use Rattle.messages.specs.Opening.{Batch, BatchFits, NamedAt, Opening, correctedBatch, sentBits, maskedBatch, sentAnswers, openedBatch}
 use Rattle.messages.proofs.Accepts.{accepts}
 use Rattle.messages.proofs.Turns.{wide-byte, wide-sixteen, wide-two}
 use Rattle.messages.proofs.Fronts.{value-over, length-front, byte-front, flat-equal, take-flat, byte-0, byte-1}
 
 -- what an accepted answer says
-pub answer-accepted : {L : Type 0} (n written : ℕ) (lent after : L) → answer n written lent after .number ≡ 0
-    → answer n written lent after ≡ record { number = 0; written = written; lent = after }
-unfolding answer
-answer-accepted zero written lent after e = refl
-answer-accepted (suc n) written lent after e = absurd (omega arith)
+pub outcome-accepted : {L : Type 0} (n written : ℕ) (lent after : L) → outcomeOf n written lent after .number ≡ 0
+    → outcomeOf n written lent after ≡ record { number = 0; written = written; lent = after }
+unfolding outcomeOf
+outcome-accepted zero written lent after e = refl
+outcome-accepted (suc n) written lent after e = absurd (omega arith)
 
 -- ---- bits
 
@@ -68,7 +68,7 @@ named-byte choices noisePads scalarPads k N =
 -- ---- the front that each call sends
 
 module _ (B : Batch) (F : BatchFits B) (N : (k : ℕ) → k < B .count → NamedAt (B .choices) (B .noisePads) (B .scalarPads) k) where
-  corrected-zero : corrected B .number ≡ 0
+  corrected-zero : correctedBatch B .number ≡ 0
   corrected-zero =
       accepts .correction (B .count) _ .0
       (record {
@@ -80,26 +80,26 @@ module _ (B : Batch) (F : BatchFits B) (N : (k : ℕ) → k < B .count → Named
         room = F .bits-room;
       })
 
-  bits-are : sentBits B ≡ take (B .count * 1) (over byte (B .count) (correction (B .choices) (B .wanted)) (B .bitsOut))
+  bits-are : sentBits B ≡ take (B .count * 1) (over byte (B .count) (correctionBit (B .choices) (B .wanted)) (B .bitsOut))
   unfolding correctionBits
   bits-are =
-      ap (λ (o : Outcome CorrectionLent). take (o .written) (o .lent .bits)) (answer-accepted _ _ _ _ corrected-zero)
+      ap (λ (o : Outcome CorrectionLent). take (o .written) (o .lent .bits)) (outcome-accepted _ _ _ _ corrected-zero)
       ∙ rw (mul-one (B .count))
 
   bits-length : length (sentBits B) ≡ B .count
   bits-length =
-      ap length bits-are ∙ length-front byte wide-byte (B .count) (correction (B .choices) (B .wanted)) (B .bitsOut) (omega (arith, F .bits-room))
+      ap length bits-are ∙ length-front byte wide-byte (B .count) (correctionBit (B .choices) (B .wanted)) (B .bitsOut) (omega (arith, F .bits-room))
       ∙ mul-one (B .count)
 
   bit-is : (k : ℕ) → k < B .count → getD (sentBits B) k 0 ≡ bitXor (getD (B .choices) k 0) (getD (B .wanted) k 0)
   bit-is k h =
       let i : k ≡ k * 1 + 0 = omega arith in
       ap (λ (l : List ℕ). getD l k 0) bits-are
-      ∙ ap (λ (n : ℕ). getD (take (B .count * 1) (over byte (B .count) (correction (B .choices) (B .wanted)) (B .bitsOut))) n 0) i
-      ∙ byte-front byte wide-byte (B .count) (correction (B .choices) (B .wanted)) (B .bitsOut) k 0 h (omega arith)
+      ∙ ap (λ (n : ℕ). getD (take (B .count * 1) (over byte (B .count) (correctionBit (B .choices) (B .wanted)) (B .bitsOut))) n 0) i
+      ∙ byte-front byte wide-byte (B .count) (correctionBit (B .choices) (B .wanted)) (B .bitsOut) k 0 h (omega arith)
 
-  answered-zero : answered B .number ≡ 0
-  answered-zero =
+  masked-zero : maskedBatch B .number ≡ 0
+  masked-zero =
       accepts .mask (B .count) _ .0
       (record {
         batch = F .batch;
@@ -116,7 +116,7 @@ module _ (B : Batch) (F : BatchFits B) (N : (k : ℕ) → k < B .count → Named
   answers-are : sentAnswers B ≡ take (B .count * 32) (over thirtyTwo (B .count) answer-at (B .answersOut))
   unfolding maskMessages
   answers-are =
-      ap (λ (o : Outcome MaskLent). take (o .written) (o .lent .answers)) (answer-accepted _ _ _ _ answered-zero)
+      ap (λ (o : Outcome MaskLent). take (o .written) (o .lent .answers)) (outcome-accepted _ _ _ _ masked-zero)
       ∙ rw (mul-comm 32 (B .count))
 
   answers-length : length (sentAnswers B) ≡ 32 * B .count
@@ -131,7 +131,7 @@ module _ (B : Batch) (F : BatchFits B) (N : (k : ℕ) → k < B .count → Named
       ∙ ap (λ (n : ℕ). getD (take (B .count * 32) (over thirtyTwo (B .count) answer-at (B .answersOut))) (n + j) 0) (mul-comm 32 k)
       ∙ byte-front thirtyTwo wide-two (B .count) answer-at (B .answersOut) k j h i
 
-  opened-zero : opened B .number ≡ 0
+  opened-zero : openedBatch B .number ≡ 0
   opened-zero =
       accepts .unmask (B .count) _ .0
       (record {
@@ -143,9 +143,9 @@ module _ (B : Batch) (F : BatchFits B) (N : (k : ℕ) → k < B .count → Named
         room = F .messages-room;
       })
 
-  opened-are : opened B .lent .messages ≡ over sixteen (B .count) (openedOf (B .wanted) (B .noisePads) (sentAnswers B)) (B .messagesOut)
+  opened-are : openedBatch B .lent .messages ≡ over sixteen (B .count) (openedOf (B .wanted) (B .noisePads) (sentAnswers B)) (B .messagesOut)
   unfolding unmaskMessages
-  opened-are = ap (λ (o : Outcome UnmaskLent). o .lent .messages) (answer-accepted _ _ _ _ opened-zero)
+  opened-are = ap (λ (o : Outcome UnmaskLent). o .lent .messages) (outcome-accepted _ _ _ _ opened-zero)
 
   -- a byte of the block wanted: the message's, masked by the pad that the choice names
   wanted-byte : (k i u w : ℕ) → k < B .count → i < 16 → u ≤ 1 → w ≤ 1 → getD (sentBits B) k 0 ≡ bitXor u w
@@ -179,13 +179,13 @@ module _ (B : Batch) (F : BatchFits B) (N : (k : ℕ) → k < B .count → Named
             (getD (B .scalarPads) (32 * k + 16 * getD (B .choices) k 0 + i) 0),
       )
 
-  opens-at : (k : ℕ) → k < B .count → padAt (opened B .lent .messages) 0 k ≡ messageAt (B .messages) 0 k (getD (B .wanted) k 0)
+  opens-at : (k : ℕ) → k < B .count → padAt (openedBatch B .lent .messages) 0 k ≡ messageAt (B .messages) 0 k (getD (B .wanted) k 0)
   opens-at k h =
       let w = getD (B .wanted) k 0 in
       let bit : w ≤ 1 = F .wanted-bits k h in
       let m = F .messages-length in
       let f = openedOf (B .wanted) (B .noisePads) (sentAnswers B) in
-      pad-from-0 (opened B .lent .messages) k
+      pad-from-0 (openedBatch B .lent .messages) k
       ∙ rw (opened-are, mul-comm 16 k) (value-over sixteen wide-sixteen (B .count) f (B .messagesOut) k h)
       ∙ flat-equal 16 (f k) (λ i. getD (B .messages) (32 * k + 16 * w + i) 0) (λ i j. opened-byte k i h j)
       ∙ sym (take-flat 16 (B .messages) (32 * k + 16 * w) (omega arith))
@@ -195,7 +195,7 @@ pub opening : Opening
 opening B F N =
     record {
       corrected-accepted = corrected-zero B F N;
-      answered-accepted = answered-zero B F N;
+      masked-accepted = masked-zero B F N;
       opened-accepted = opened-zero B F N;
       opens = opens-at B F N;
     }

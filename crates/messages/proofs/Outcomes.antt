@@ -7,21 +7,21 @@ use lib.ListN.{length}
 use mir.Syntax.{w64}
 use mir.Val.{Fits}
 use Rattle.algebra.specs.Coding.{over}
-use Rattle.messages.specs.Answer.{answer}
+use Rattle.messages.specs.Outcome.{outcomeOf}
 use Rattle.messages.specs.Bytes.{byte, sixteen, thirtyTwo}
-use Rattle.messages.specs.Calls.{CorrectionLent, MaskLent, UnmaskLent, correctionNumber, maskNumber, unmaskNumber, correction, answerOf, openedOf, correctionBits, maskMessages, unmaskMessages}
+use Rattle.messages.specs.Calls.{CorrectionLent, MaskLent, UnmaskLent, correctionNumber, maskNumber, unmaskNumber, correctionBit, answerOf, openedOf, correctionBits, maskMessages, unmaskMessages}
 use Rattle.messages.specs.Admitted.{CorrectionAdmitted, MaskAdmitted, UnmaskAdmitted}
 use Rattle.messages.proofs.Accepts.{correction-number, mask-number, unmask-number}
 
 -- an answer by its number
 module _ {L : Type 0} (written : ℕ) (lent after : L) where
-  pub refused : (n : ℕ) → (n ≡ 0 → ⊥) → record { number = n; written = 0; lent = lent } ≡ answer n written lent after
-  unfolding answer
+  pub refused : (n : ℕ) → (n ≡ 0 → ⊥) → record { number = n; written = 0; lent = lent } ≡ outcomeOf n written lent after
+  unfolding outcomeOf
   refused zero h = absurd (h refl)
   refused (suc n) h = refl
 
-  pub accepted : (n : ℕ) → n ≡ 0 → record { number = 0; written = written; lent = after } ≡ answer n written lent after
-  unfolding answer
+  pub accepted : (n : ℕ) → n ≡ 0 → record { number = 0; written = written; lent = after } ≡ outcomeOf n written lent after
+  unfolding outcomeOf
   accepted n e = rw e
 
 module _ (count : ℕ) (choices wanted bits : List ℕ) (n : ℕ) (tested : n ≡ correctionNumber count choices wanted (length bits)) where
@@ -35,7 +35,7 @@ module _ (count : ℕ) (choices wanted bits : List ℕ) (n : ℕ) (tested : n �
   pub correction-admitted : n ≡ 0 → CorrectionAdmitted count (lent-1 bits)
   correction-admitted z = correction-number count choices wanted bits (sym tested ∙ z)
 
-  pub correction-accepted : n ≡ 0 → (b : List ℕ) → b ≡ over byte count (correction choices wanted) bits
+  pub correction-accepted : n ≡ 0 → (b : List ℕ) → b ≡ over byte count (correctionBit choices wanted) bits
       → record { number = 0; written = count; lent = lent-1 b } ≡ correctionBits count (lent-1 bits)
   unfolding correctionBits
   correction-accepted z b e = rw (← tested, e) (accepted count (lent-1 bits) _ n z)

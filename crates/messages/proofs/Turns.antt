@@ -11,9 +11,9 @@ use lib.Seq.{sets}
 use Rattle.algebra.specs.Coding.{flat, over}
 use Rattle.pads.proofs.Turns.{turn}
 use Rattle.pads.proofs.Written.{Wide, sets-append, length-flat, over-none}
-use Rattle.messages.specs.Bytes.{Sixteen, byte, sixteen, thirtyTwo, blockOf, masked}
+use Rattle.messages.specs.Bytes.{Sixteen, byte, sixteen, thirtyTwo, oneOfTwo, masked}
 use Rattle.messages.specs.Inner.Writing.{withValue}
-use Rattle.messages.specs.Calls.{correction, answerOf, openedOf}
+use Rattle.messages.specs.Calls.{correctionBit, answerOf, openedOf}
 use Rattle.messages.specs.Admitted.{MaskAdmitted, UnmaskAdmitted}
 
 -- every value has its coding's width
@@ -29,14 +29,14 @@ wide-two t = refl
 
 -- ---- correction bits
 
-pub bits-none : (choices wanted b : List ℕ) → b ≡ over byte 0 (correction choices wanted) b
-bits-none choices wanted b = over-none byte wide-byte (correction choices wanted) b
+pub bits-none : (choices wanted b : List ℕ) → b ≡ over byte 0 (correctionBit choices wanted) b
+bits-none choices wanted b = over-none byte wide-byte (correctionBit choices wanted) b
 
 pub bits-more : (choices wanted b l : List ℕ) (k count : ℕ) → k < count → count ≤ length b
-    → l ≡ over byte k (correction choices wanted) b
-    → set l k (bitXor (getD choices k 0) (getD wanted k 0)) ≡ over byte (k + 1) (correction choices wanted) b
+    → l ≡ over byte k (correctionBit choices wanted) b
+    → set l k (bitXor (getD choices k 0) (getD wanted k 0)) ≡ over byte (k + 1) (correctionBit choices wanted) b
 bits-more choices wanted b l k count h room e =
-    turn byte wide-byte (correction choices wanted) k count b l _ h (omega arith) e (rw (mul-one k))
+    turn byte wide-byte (correctionBit choices wanted) k count b l _ h (omega arith) e (rw (mul-one k))
 
 -- ---- one block
 
@@ -64,11 +64,11 @@ pub answer-both : (k : ℕ) (bits pads messages l l′ l″ : List ℕ)
 unfolding answerOf withValue
 answer-both k bits pads messages l l′ l″ e g =
     let bit = getD bits k 0 in
-    let f0 = masked (blockOf messages k 0) (blockOf pads k bit) in
-    let w1 = flat byte 16 (masked (blockOf messages k 1) (blockOf pads k (1 - bit))) in
+    let f0 = masked (oneOfTwo messages k 0) (oneOfTwo pads k bit) in
+    let w1 = flat byte 16 (masked (oneOfTwo messages k 1) (oneOfTwo pads k (1 - bit))) in
     let place : 32 * k ≡ 32 * k + 16 * 0 = omega arith in
     let e0 : l′ ≡ sets l (32 * k) (flat byte 16 f0) =
-    e ∙ ap (λ (n : ℕ). sets l (32 * k) (flat byte 16 (masked (sixteen .read messages n) (blockOf pads k bit)))) place in
+    e ∙ ap (λ (n : ℕ). sets l (32 * k) (flat byte 16 (masked (sixteen .read messages n) (oneOfTwo pads k bit)))) place in
     g ∙ rw (e0, sets-append l (32 * k) (flat byte 16 f0) w1, wide-sixteen f0)
 
 module _ (bits pads messages b : List ℕ) where

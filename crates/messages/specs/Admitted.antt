@@ -1,14 +1,10 @@
 -- Which input each call admits (document 02, 1), said apart from the numbers, and that a call accepts exactly that.
 use mathlib.Core.Path.{_≡_}
 use mathlib.Core.Logic.{_↔_}
-use mathlib.Core.List.{List}
-use Prim.Native.Nat.{ℕ, _*_, _≤_, _<_}
-use lib.ListN.{length, getD}
+use Prim.Native.Nat.{ℕ, _*_, _≤_}
+use lib.ListN.{length}
+use Rattle.pads.specs.Bytes.{Bits}
 use Rattle.messages.specs.Calls.{CorrectionLent, MaskLent, UnmaskLent, correctionBits, maskMessages, unmaskMessages}
-
--- the bytes below a count are 0 or 1
-abbrev pub Bits : ℕ → List ℕ → Type 0
-Bits count bytes = (k : ℕ) → k < count → getD bytes k 0 ≤ 1
 
 -- choices and wanted bits have a byte an output, 0 or 1; the batch has at most 4,096 outputs; the buffer has room
 pub record CorrectionAdmitted (count : ℕ) (l : CorrectionLent) : Type 0 where

@@ -37,8 +37,8 @@ abbrev pub oneOf : List ℕ → ℕ → Sixteen
 oneOf bytes k = sixteen .read bytes (16 * k)
 
 -- block 0 or 1 of output k, 32 bytes an output
-abbrev pub blockOf : List ℕ → ℕ → ℕ → Sixteen
-blockOf bytes k bit = sixteen .read bytes (32 * k + 16 * bit)
+abbrev pub oneOfTwo : List ℕ → ℕ → ℕ → Sixteen
+oneOfTwo bytes k bit = sixteen .read bytes (32 * k + 16 * bit)
 
 -- a block masked by another: the exclusive or of their bytes
 abbrev pub masked : Sixteen → Sixteen → Sixteen

@@ -8,9 +8,9 @@ use lib.Dec.{leb, ltb, eqb}
 use lib.ListN.{length, getD}
 use Rattle.algebra.specs.Coding.{over}
 use Rattle.answer.specs.Numbers.{badLength, notElement, bufferShort}
-use Rattle.pads.specs.Calls.{anyAbove}
-use Rattle.messages.specs.Answer.{Outcome, answer, firstFault}
-use Rattle.messages.specs.Bytes.{Sixteen, Two, byte, sixteen, thirtyTwo, oneOf, blockOf, masked}
+use Rattle.pads.specs.Bytes.{anyAbove}
+use Rattle.messages.specs.Outcome.{Outcome, outcomeOf, firstFault}
+use Rattle.messages.specs.Bytes.{Sixteen, Two, byte, sixteen, thirtyTwo, oneOf, oneOfTwo, masked}
 
 -- a batch has at most 4,096 outputs
 abbrev pub isBatch : ℕ → Bool
@@ -32,14 +32,14 @@ correctionNumber count choices wanted room =
     (ltb room count) bufferShort
 
 -- choice exclusive-or wanted bit
-abbrev pub correction : List ℕ → List ℕ → ℕ → ℕ
-correction choices wanted k = bitXor (getD choices k 0) (getD wanted k 0)
+abbrev pub correctionBit : List ℕ → List ℕ → ℕ → ℕ
+correctionBit choices wanted k = bitXor (getD choices k 0) (getD wanted k 0)
 
 -- the call: a byte an output
 unfoldable pub correctionBits : ℕ → CorrectionLent → Outcome CorrectionLent
 correctionBits count l =
-    answer (correctionNumber count (l .choices) (l .wanted) (length (l .bits))) count l
-    (record { choices = l .choices; wanted = l .wanted; bits = over byte count (correction (l .choices) (l .wanted)) (l .bits) })
+    outcomeOf (correctionNumber count (l .choices) (l .wanted) (length (l .bits))) count l
+    (record { choices = l .choices; wanted = l .wanted; bits = over byte count (correctionBit (l .choices) (l .wanted)) (l .bits) })
 
 -- ---- the scalar end answers with two blocks
 
@@ -62,14 +62,14 @@ maskNumber count bits pads messages room =
 unfoldable pub answerOf : List ℕ → List ℕ → List ℕ → ℕ → Two
 answerOf bits pads messages k =
     record {
-      block0 = masked (blockOf messages k 0) (blockOf pads k (getD bits k 0));
-      block1 = masked (blockOf messages k 1) (blockOf pads k (1 - getD bits k 0));
+      block0 = masked (oneOfTwo messages k 0) (oneOfTwo pads k (getD bits k 0));
+      block1 = masked (oneOfTwo messages k 1) (oneOfTwo pads k (1 - getD bits k 0));
     }
 
 -- the call: 32 bytes an output
 unfoldable pub maskMessages : ℕ → MaskLent → Outcome MaskLent
 maskMessages count l =
-    answer (maskNumber count (l .bits) (l .pads) (l .messages) (length (l .answers))) (32 * count) l
+    outcomeOf (maskNumber count (l .bits) (l .pads) (l .messages) (length (l .answers))) (32 * count) l
     (record {
       bits = l .bits;
       pads = l .pads;
@@ -96,12 +96,12 @@ unmaskNumber count wanted pads answers room =
 
 -- the wanted block of the answer, masked again by the noise end's pad
 unfoldable pub openedOf : List ℕ → List ℕ → List ℕ → ℕ → Sixteen
-openedOf wanted pads answers k = masked (blockOf answers k (getD wanted k 0)) (oneOf pads k)
+openedOf wanted pads answers k = masked (oneOfTwo answers k (getD wanted k 0)) (oneOf pads k)
 
 -- the call: 16 bytes an output
 unfoldable pub unmaskMessages : ℕ → UnmaskLent → Outcome UnmaskLent
 unmaskMessages count l =
-    answer (unmaskNumber count (l .wanted) (l .pads) (l .answers) (length (l .messages))) (16 * count) l
+    outcomeOf (unmaskNumber count (l .wanted) (l .pads) (l .answers) (length (l .messages))) (16 * count) l
     (record {
       wanted = l .wanted;
       pads = l .pads;

@@ -1,6 +1,6 @@
 -- Messages of the callers' own choosing (document 02, 1): what the three calls answer, blocks of bytes, the calls, which input
 -- is admitted, and that the message wanted is opened.
-pub mod Answer
+pub mod Outcome
 pub mod Bytes
 pub mod Calls
 pub mod Admitted

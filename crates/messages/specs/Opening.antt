@@ -4,10 +4,10 @@ use mathlib.Core.Path.{_≡_}
 use mathlib.Core.List.{List}
 use Prim.Native.Nat.{ℕ, _*_, _≤_, _<_}
 use lib.ListN.{length, getD, take}
+use Rattle.pads.specs.Bytes.{Bits}
 use Rattle.pads.specs.Choice.{padAt, messageAt}
-use Rattle.messages.specs.Answer.{Outcome}
+use Rattle.messages.specs.Outcome.{Outcome}
 use Rattle.messages.specs.Calls.{CorrectionLent, MaskLent, UnmaskLent, correctionBits, maskMessages, unmaskMessages}
-use Rattle.messages.specs.Admitted.{Bits}
 
 -- one batch at both ends: its count; choices, wanted bits and pads of the noise end; pads and messages of the scalar end; and
 -- the buffers lent for the bits, the answers and the messages opened
@@ -37,22 +37,22 @@ pub record BatchFits (B : Batch) : Type 0 where
 
 -- ---- the three calls in turn; what is sent is the front that a call wrote, of the returned length
 
-abbrev pub corrected : Batch → Outcome CorrectionLent
-corrected B = correctionBits (B .count) (record { choices = B .choices; wanted = B .wanted; bits = B .bitsOut })
+abbrev pub correctedBatch : Batch → Outcome CorrectionLent
+correctedBatch B = correctionBits (B .count) (record { choices = B .choices; wanted = B .wanted; bits = B .bitsOut })
 
 abbrev pub sentBits : Batch → List ℕ
-sentBits B = take (corrected B .written) (corrected B .lent .bits)
+sentBits B = take (correctedBatch B .written) (correctedBatch B .lent .bits)
 
-abbrev pub answered : Batch → Outcome MaskLent
-answered B =
+abbrev pub maskedBatch : Batch → Outcome MaskLent
+maskedBatch B =
     maskMessages (B .count)
     (record { bits = sentBits B; pads = B .scalarPads; messages = B .messages; answers = B .answersOut })
 
 abbrev pub sentAnswers : Batch → List ℕ
-sentAnswers B = take (answered B .written) (answered B .lent .answers)
+sentAnswers B = take (maskedBatch B .written) (maskedBatch B .lent .answers)
 
-abbrev pub opened : Batch → Outcome UnmaskLent
-opened B =
+abbrev pub openedBatch : Batch → Outcome UnmaskLent
+openedBatch B =
     unmaskMessages (B .count)
     (record { wanted = B .wanted; pads = B .noisePads; answers = sentAnswers B; messages = B .messagesOut })
 
@@ -63,11 +63,11 @@ pub record NamedAt (choices noisePads scalarPads : List ℕ) (k : ℕ) : Type 0 
 
 -- all three calls are accepted, and what is opened at each k is exactly the message wanted there
 pub record Opens (B : Batch) : Type 0 where
-  pub corrected-accepted : corrected B .number ≡ 0
-  pub answered-accepted : answered B .number ≡ 0
-  pub opened-accepted : opened B .number ≡ 0
+  pub corrected-accepted : correctedBatch B .number ≡ 0
+  pub masked-accepted : maskedBatch B .number ≡ 0
+  pub opened-accepted : openedBatch B .number ≡ 0
   pub opens : (k : ℕ) → k < B .count
-      → padAt (opened B .lent .messages) 0 k ≡ messageAt (B .messages) 0 k (getD (B .wanted) k 0)
+      → padAt (openedBatch B .lent .messages) 0 k ≡ messageAt (B .messages) 0 k (getD (B .wanted) k 0)
 
 abbrev pub Opening : Type 0
 Opening =

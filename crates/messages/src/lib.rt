@@ -1,7 +1,7 @@
 // Messages of the callers' own choosing, passed under pads of field 1: the noise end's correction bits, the scalar end's
 // answers, and their opening.
 ghost use mathlib.Core.Path.{_≡_};
-ghost use Rattle.messages.specs.Answer.{outcome};
+ghost use Rattle.messages.specs.Outcome.{outcome};
 ghost use Rattle.messages.specs.Calls.{correctionBits, maskMessages, unmaskMessages};
 
 mod length;

@@ -4,7 +4,7 @@ ghost use Prim.Native.Nat.{_+_, _*_, _≤_, _<_};
 ghost use lib.ListN.{length, getD};
 ghost use Rattle.algebra.specs.Coding.{over};
 ghost use Rattle.messages.specs.Bytes.{byte, sixteen, thirtyTwo, masked};
-ghost use Rattle.messages.specs.Calls.{correction, answerOf, openedOf};
+ghost use Rattle.messages.specs.Calls.{correctionBit, answerOf, openedOf};
 ghost use Rattle.messages.specs.Inner.Writing.{withValue};
 ghost use Rattle.messages.specs.Admitted.{CorrectionAdmitted, MaskAdmitted, UnmaskAdmitted};
 
@@ -12,7 +12,7 @@ ghost use Rattle.messages.specs.Admitted.{CorrectionAdmitted, MaskAdmitt
 pub fn write_bits(count: usize, choices: &[u8], wanted: &[u8], bits_out: &mut [u8])
     requires { ⌜ CorrectionAdmitted count (record { choices = now choices; wanted = now wanted; bits = now «bits_out» }) ⌝ }
     ensures { λ _. ⌜ now («bits_out» .exit)
-        ≡ over byte count (correction (now (choices .entry)) (now (wanted .entry))) (now («bits_out» .entry)) ⌝ }
+        ≡ over byte count (correctionBit (now (choices .entry)) (now (wanted .entry))) (now («bits_out» .entry)) ⌝ }
 {
     let mut k: usize = 0;
     while k < count {

@@ -1,6 +1,6 @@
 // The numbers that the calls return, by document 02's tests and in their order.
 ghost use mathlib.Core.Path.{_≡_};
-ghost use Rattle.messages.specs.Answer.{firstFault};
+ghost use Rattle.messages.specs.Outcome.{firstFault};
 ghost use Rattle.messages.specs.Calls.{correctionNumber, maskNumber, unmaskNumber};
 use crate::length::is_short;
 use crate::length::is_times;

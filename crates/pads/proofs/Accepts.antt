@@ -13,10 +13,10 @@ use Rattle.algebra.specs.Coding.{at}
 use Rattle.field.specs.declared.block.Block.{Block}
 use Rattle.field.specs.Binary.{blockZero}
 use Rattle.field.specs.Bytes.{leNumber, wordAt}
-use Rattle.pads.specs.Bytes.{blockBytes}
+use Rattle.pads.specs.Bytes.{anyAbove, blockBytes}
 use Rattle.pads.specs.Pad.{Rule}
-use Rattle.pads.specs.Calls.{anyAbove, noiseNumber, scalarNumber, noisePadsBy, scalarPadsBy}
-use Rattle.pads.specs.Admitted.{NoiseAdmitted, ScalarAdmitted, Accepts}
+use Rattle.pads.specs.Calls.{noiseNumber, scalarNumber, noisePadsBy, scalarPadsBy}
+use Rattle.pads.specs.Admitted.{NoisePadsAdmitted, ScalarPadsAdmitted, Accepts}
 use Rattle.pads.proofs.Numbers.{passed, both, is-true, answer-number, none-above, above-none}
 
 -- what holds of each number below n, written out
@@ -44,7 +44,7 @@ bytes-zero bytes size e =
     above-none 0 bytes (λ k h. each (λ k. getD bytes k 0 ≤ 0) 16 all k (omega arith))
 
 pub noise-number : (first count : ℕ) (v choices pads : List ℕ)
-    → noiseNumber first count v choices (length pads) ≡ 0 → NoiseAdmitted first count v choices pads
+    → noiseNumber first count v choices (length pads) ≡ 0 → NoisePadsAdmitted first count v choices pads
 unfolding noiseNumber
 noise-number first count v choices pads e =
     let p1 = passed (not (eqb (length v) (16 * count) && eqb (length choices) count)) 2 _ e in
@@ -61,7 +61,7 @@ noise-number first count v choices pads e =
     }
 
 noise-zero : (first count : ℕ) (v choices pads : List ℕ)
-    → NoiseAdmitted first count v choices pads → noiseNumber first count v choices (length pads) ≡ 0
+    → NoisePadsAdmitted first count v choices pads → noiseNumber first count v choices (length pads) ≡ 0
 unfolding noiseNumber
 noise-zero first count v choices pads a =
     rw (
@@ -73,7 +73,7 @@ noise-zero first count v choices pads a =
     )
 
 pub scalar-number : (first count : ℕ) (w delta pads : List ℕ)
-    → scalarNumber first count w delta (length pads) ≡ 0 → ScalarAdmitted first count w delta pads
+    → scalarNumber first count w delta (length pads) ≡ 0 → ScalarPadsAdmitted first count w delta pads
 unfolding scalarNumber
 scalar-number first count w delta pads e =
     let p1 = passed (not (eqb (length w) (16 * count) && eqb (length delta) 16)) 2 _ e in
@@ -90,7 +90,7 @@ scalar-number first count w delta pads e =
     }
 
 scalar-zero : (first count : ℕ) (w delta pads : List ℕ)
-    → ScalarAdmitted first count w delta pads → scalarNumber first count w delta (length pads) ≡ 0
+    → ScalarPadsAdmitted first count w delta pads → scalarNumber first count w delta (length pads) ≡ 0
 unfolding scalarNumber
 scalar-zero first count w delta pads a =
     rw (

@@ -10,10 +10,10 @@ use Rattle.algebra.specs.Coding.{Coding, at, over}
 use Rattle.field.specs.declared.block.Block.{Block}
 use Rattle.field.specs.Binary.{blockAdd, blockScale}
 use Rattle.field.proofs.Xor.{xor-back}
-use Rattle.pads.specs.Bytes.{Messages, blockBytes, messageBytes}
-use Rattle.pads.specs.Pad.{Rule, messages}
+use Rattle.pads.specs.Bytes.{MessagePair, blockBytes, messageBytes}
+use Rattle.pads.specs.Pad.{Rule, messagePair}
 use Rattle.pads.specs.Calls.{noisePadsBy, scalarPadsBy}
-use Rattle.pads.specs.Admitted.{NoiseAdmitted}
+use Rattle.pads.specs.Admitted.{NoisePadsAdmitted}
 use Rattle.pads.specs.Choice.{InWindow, padAt, messageAt, Choice}
 use Rattle.pads.proofs.Numbers.{answer-written}
 use Rattle.pads.proofs.Written.{Wide, drop-flat, wide-block, wide-messages}
@@ -43,12 +43,12 @@ noise-bytes rule first count vs choices pads e x i =
     ∙ ap (λ (y : ℕ). blockBytes .words (rule y (at blockBytes vs (x - first)))) here
 
 -- message 0 or 1 of two
-abbrev named : ℕ → Messages → Block
+abbrev named : ℕ → MessagePair → Block
 named zero m = m .message0
 named (suc u) m = m .message1
 
 -- the 16 bytes of each of two messages
-message-bytes : (m : Messages) (rest : List ℕ) (u : ℕ) → u ≤ 1
+message-bytes : (m : MessagePair) (rest : List ℕ) (u : ℕ) → u ≤ 1
     → take 16 (drop (16 * u) (messageBytes .words m ++ rest)) ≡ blockBytes .words (named u m)
 message-bytes m rest zero h =
     rw
@@ -66,33 +66,33 @@ message-bytes m rest (suc (suc u)) h = absurd (omega arith)
 scalar-bytes : (rule : Rule) (first count : ℕ) (ws delta pads : List ℕ) → scalarPadsBy rule first count ws delta pads .number ≡ 0
     → (x : ℕ) → InWindow first count x → (u : ℕ) → u ≤ 1
     → messageAt (scalarPadsBy rule first count ws delta pads .pads) first x u
-    ≡ blockBytes .words (named u (messages rule x (at blockBytes ws (x - first)) (at blockBytes delta 0)))
+    ≡ blockBytes .words (named u (messagePair rule x (at blockBytes ws (x - first)) (at blockBytes delta 0)))
 unfolding scalarPadsBy
 scalar-bytes rule first count ws delta pads e x i u h =
     let Δ = at blockBytes delta 0 in
-    let f : ℕ → Messages = λ k. messages rule (first + k) (at blockBytes ws k) Δ in
+    let f : ℕ → MessagePair = λ k. messagePair rule (first + k) (at blockBytes ws k) Δ in
     let here : first + (x - first) ≡ x = omega arith in
     let place : 32 * (x - first) ≡ (x - first) * 32 = omega arith in
     ap (λ (l : List ℕ). messageAt l first x u) (answer-written _ _ pads _ _ e)
     ∙ rw
     (place, ← drop-drop (16 * u), drop-over messageBytes wide-messages count f pads (x - first) (omega arith))
     (message-bytes (f (x - first)) _ u h)
-    ∙ ap (λ (y : ℕ). blockBytes .words (named u (messages rule y (at blockBytes ws (x - first)) Δ))) here
+    ∙ ap (λ (y : ℕ). blockBytes .words (named u (messagePair rule y (at blockBytes ws (x - first)) Δ))) here
 
 -- Δ added twice is nothing added
 cancel : (d v : ℕ) → bitXor (bitXor d v) d ≡ v
 cancel d v = xor-comm (bitXor d v) d ∙ ap (bitXor d) (xor-comm d v) ∙ xor-back v d
 
 -- where w = Δu + v, the pad of v is message u
-named-pad : (rule : Rule) (x : ℕ) (v Δ : Block) (u : ℕ) → u ≤ 1 → rule x v ≡ named u (messages rule x (blockAdd (blockScale u Δ) v) Δ)
-unfolding messages blockScale
+named-pad : (rule : Rule) (x : ℕ) (v Δ : Block) (u : ℕ) → u ≤ 1 → rule x v ≡ named u (messagePair rule x (blockAdd (blockScale u Δ) v) Δ)
+unfolding messagePair blockScale
 named-pad rule x v Δ zero h = simp xor-zero-l
 named-pad rule x v Δ (suc zero) h = simp cancel
 named-pad rule x v Δ (suc (suc u)) h = absurd (omega arith)
 
 pub choice : (rule : Rule) → Choice rule
 choice rule first count vs choices pads e first′ count′ ws delta pads′ e′ x i i′ v w Δ u lent =
-    let admitted : NoiseAdmitted first count vs choices pads = accepts rule .noise first count vs choices pads .1 e in
+    let admitted : NoisePadsAdmitted first count vs choices pads = accepts rule .noise first count vs choices pads .1 e in
     let bit : u ≤ 1 = omega (arith, admitted .bits (x - first) (omega arith)) in
     noise-bytes rule first count vs choices pads e x i
     ∙ ap (λ (b : Block). blockBytes .words (rule x b)) (lent .v-lent)

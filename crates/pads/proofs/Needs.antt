@@ -9,15 +9,14 @@ use lib.Dec.{ltb, eqb}
 use lib.ListN.{length, getD, drop, drop-of-length-le}
 use lib.Seq.{drop-cons}
 use borrow.Author.Tests.{ltb-true, eqb-true, lt-ltb, le-ltb, eq-eqb, ne-eqb}
-use Rattle.aes128.specs.State.{xorState}
 use Rattle.aes128.specs.Cipher.{cipher, keyExpansion, aes}
 use Rattle.field.specs.declared.block.Block.{Block}
 use Rattle.field.specs.Binary.{block, blockAdd, blockLeaf}
 use Rattle.field.specs.Bytes.{columnsOf}
+use Rattle.pads.specs.Bytes.{anyAbove}
 use Rattle.field.specs.Inner.Written.{withWord}
 use Rattle.pads.specs.Inner.Written.{withBlock, withMessages}
-use Rattle.pads.specs.Pad.{padKey, underPadKey, pad, messages}
-use Rattle.pads.specs.Calls.{anyAbove}
+use Rattle.pads.specs.Pad.{padKey, underPadKey, pad, messagePair}
 use Rattle.pads.proofs.Written.{two-words, two-blocks}
 
 -- both words of a block written
@@ -26,9 +25,9 @@ put-words l l′ l″ at b e g = g ∙ rw e (two-words l at b)
 
 -- both messages written
 pub put-both : (l l′ l″ : List ℕ) (at x : ℕ) (w d s p q : Block) → p ≡ pad x w → s ≡ blockAdd w d → q ≡ pad x s
-    → l′ ≡ withBlock l at p → l″ ≡ withBlock l′ (at + 16) q → l″ ≡ withMessages l at (messages pad x w d)
-unfolding messages
-put-both l l′ l″ at x w d s p q pe se qe e g = g ∙ rw (e, qe, se, pe) (two-blocks l at (messages pad x w d))
+    → l′ ≡ withBlock l at p → l″ ≡ withBlock l′ (at + 16) q → l″ ≡ withMessages l at (messagePair pad x w d)
+unfolding messagePair
+put-both l l′ l″ at x w d s p q pe se qe e g = g ∙ rw (e, qe, se, pe) (two-blocks l at (messagePair pad x w d))
 
 -- the cipher's result on a block
 pub under-is : (b r : Block) (keys : List (List (List ℕ))) (s e : List (List ℕ))

@@ -10,7 +10,8 @@ use mir.Syntax.{w64}
 use mir.Val.{Fits}
 use borrow.Author.Tests.{ltb-false, lt-ltb, le-ltb, eq-eqb, ne-eqb, not-true, not-false}
 use Rattle.algebra.specs.Choice.{choose}
-use Rattle.pads.specs.Calls.{answered, anyAbove, noiseNumber, scalarNumber}
+use Rattle.pads.specs.Bytes.{anyAbove}
+use Rattle.pads.specs.Calls.{answered, noiseNumber, scalarNumber}
 
 -- a chain of tests gives 0 only if the first test fails and the rest gives 0
 pub passed : (t : Bool) (n rest : ℕ) → choose t (suc n) rest ≡ 0 → (t ≡ false) × (rest ≡ 0)

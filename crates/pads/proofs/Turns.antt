@@ -9,17 +9,17 @@ use lib.ListN.{length}
 use lib.Seq.{sets}
 use Rattle.algebra.specs.Coding.{Coding, at, over}
 use Rattle.field.specs.declared.block.Block.{Block}
-use Rattle.pads.specs.Bytes.{Messages, blockBytes, messageBytes}
+use Rattle.pads.specs.Bytes.{MessagePair, blockBytes, messageBytes}
 use Rattle.pads.specs.Inner.Written.{withBlock, withMessages}
-use Rattle.pads.specs.Pad.{pad, messages}
+use Rattle.pads.specs.Pad.{pad, messagePair}
 use Rattle.pads.proofs.Written.{Wide, over-none, over-more, wide-block, wide-messages}
 
 -- the pad, and the messages, of output k of a window
 abbrev pub padOf : ℕ → List ℕ → ℕ → Block
 padOf first vs k = pad (first + k) (at blockBytes vs k)
 
-abbrev pub messagesOf : ℕ → List ℕ → Block → ℕ → Messages
-messagesOf first ws Δ k = messages pad (first + k) (at blockBytes ws k) Δ
+abbrev pub messagesOf : ℕ → List ℕ → Block → ℕ → MessagePair
+messagesOf first ws Δ k = messagePair pad (first + k) (at blockBytes ws k) Δ
 
 -- before the first turn
 pub pads-none : (first : ℕ) (vs b : List ℕ) → b ≡ over blockBytes 0 (padOf first vs) b
@@ -44,7 +44,7 @@ pads-more first k count vs b l l′ w p h room e we pe g =
 
 pub messages-more : (first k count : ℕ) (ws b l l′ : List ℕ) (w Δ : Block) → k < count → count * 32 ≤ length b
     → l ≡ over messageBytes k (messagesOf first ws Δ) b → w ≡ blockBytes .read ws (16 * k)
-    → l′ ≡ withMessages l (32 * k) (messages pad (first + k) w Δ) → l′ ≡ over messageBytes (k + 1) (messagesOf first ws Δ) b
+    → l′ ≡ withMessages l (32 * k) (messagePair pad (first + k) w Δ) → l′ ≡ over messageBytes (k + 1) (messagesOf first ws Δ) b
 unfolding withMessages
 messages-more first k count ws b l l′ w Δ h room e we g =
     turn messageBytes wide-messages (messagesOf first ws Δ) k count b l l′ h room e (g ∙ rw (we, mul-comm 32 k, mul-comm 16 k))

@@ -12,7 +12,7 @@ use Rattle.algebra.specs.Coding.{Coding, at, flat, over}
 use Rattle.field.specs.declared.block.Block.{Block}
 use Rattle.field.specs.Bytes.{leBytes}
 use Rattle.field.specs.Inner.Written.{withWord}
-use Rattle.pads.specs.Bytes.{Messages, blockBytes, messageBytes}
+use Rattle.pads.specs.Bytes.{MessagePair, blockBytes, messageBytes}
 use Rattle.pads.specs.Inner.Written.{withBlock, withMessages}
 
 -- every value has as many words as the coding's width
@@ -83,7 +83,7 @@ unfolding withWord withBlock leBytes
 two-words l at b = sym (sets-append l at (leBytes 8 (b .low)) (leBytes 8 (b .high)))
 
 -- messages are written as two blocks
-pub two-blocks : (l : List ℕ) (at : ℕ) (m : Messages)
+pub two-blocks : (l : List ℕ) (at : ℕ) (m : MessagePair)
     → withBlock (withBlock l at (m .message0)) (at + 16) (m .message1) ≡ withMessages l at m
 unfolding withBlock withMessages leBytes
 two-blocks l at m = sym (sets-append l at (blockBytes .words (m .message0)) (blockBytes .words (m .message1)))

@@ -1,15 +1,15 @@
 -- Both pad calls (document 01, 'Pads' and 'Numbers of the calls'): from everything lent to everything that stands on return,
 -- the input slices too. They test 3, 7, 6, 13, 8. The calls are defined over any rule; the calls' own is `pad`.
-use mathlib.Core.Bool.{Bool, false, not, _&&_, _||_}
-use mathlib.Core.List.{List, [], _∷_}
+use mathlib.Core.Bool.{not, _&&_}
+use mathlib.Core.List.{List}
 use Prim.Native.Nat.{ℕ, zero, suc, _+_, _*_}
 use lib.Dec.{ltb, eqb}
 use lib.ListN.{length}
 use Rattle.answer.specs.Numbers.{accepted, badLength, badDelta, windowPastEnd, notElement, bufferShort}
 use Rattle.algebra.specs.Choice.{choose}
 use Rattle.algebra.specs.Coding.{at, over}
-use Rattle.pads.specs.Bytes.{blockBytes, messageBytes}
-use Rattle.pads.specs.Pad.{Rule, pad, messages}
+use Rattle.pads.specs.Bytes.{anyAbove, blockBytes, messageBytes}
+use Rattle.pads.specs.Pad.{Rule, pad, messagePair}
 
 -- the number returned, and all that is lent: v at the noise end or w at the scalar end, the choices or Δ, the output buffer
 pub record PadsOutcome : Type 0 where
@@ -27,11 +27,6 @@ outcome number values choicesOrDelta pads =
 unfoldable pub answered : ℕ → List ℕ → List ℕ → List ℕ → List ℕ → PadsOutcome
 answered zero values choicesOrDelta pads written = outcome 0 values choicesOrDelta written
 answered (suc n) values choicesOrDelta pads written = outcome (suc n) values choicesOrDelta pads
-
--- some byte is above a limit
-unfoldable pub anyAbove : ℕ → List ℕ → Bool
-anyAbove limit [] = false
-anyAbove limit (byte ∷ bytes) = ltb limit byte || anyAbove limit bytes
 
 -- the noise end's number, with v of 16 bytes an output and a choice byte each, and room for as many pads
 unfoldable pub noiseNumber : ℕ → ℕ → List ℕ → List ℕ → ℕ → ℕ
@@ -61,7 +56,7 @@ noisePadsBy rule first count v choices pads =
 unfoldable pub scalarPadsBy : Rule → ℕ → ℕ → List ℕ → List ℕ → List ℕ → PadsOutcome
 scalarPadsBy rule first count w delta pads =
     answered (scalarNumber first count w delta (length pads)) w delta pads
-    (over messageBytes count (λ k. messages rule (first + k) (at blockBytes w k) (at blockBytes delta 0)) pads)
+    (over messageBytes count (λ k. messagePair rule (first + k) (at blockBytes w k) (at blockBytes delta 0)) pads)
 
 -- both calls
 abbrev pub noisePads : ℕ → ℕ → List ℕ → List ℕ → List ℕ → PadsOutcome

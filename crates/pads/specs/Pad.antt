@@ -7,7 +7,7 @@ use Rattle.aes128.specs.Cipher.{aes}
 use Rattle.field.specs.declared.block.Block.{Block}
 use Rattle.field.specs.Binary.{block, blockAdd, blockOf}
 use Rattle.field.specs.Bytes.{columnsOf}
-use Rattle.pads.specs.Bytes.{Messages}
+use Rattle.pads.specs.Bytes.{MessagePair}
 
 -- what gives the pad of an index and a block
 abbrev pub Rule : Type 0
@@ -35,5 +35,5 @@ unfoldable pub pad : Rule
 pad x w = let a = underPadKey w in blockAdd (underPadKey (blockAdd a (indexBlock x))) a
 
 -- messages 0 and 1 of index x: the pad of w, then that of w exclusive-or Δ
-unfoldable pub messages : Rule → ℕ → Block → Block → Messages
-messages rule x w Δ = record { message0 = rule x w; message1 = rule x (blockAdd w Δ) }
+unfoldable pub messagePair : Rule → ℕ → Block → Block → MessagePair
+messagePair rule x w Δ = record { message0 = rule x w; message1 = rule x (blockAdd w Δ) }

@@ -2,9 +2,8 @@
 ghost use mathlib.Core.Path.{_≡_};
 ghost use Prim.Native.Nat.{_+_, _≤_};
 ghost use lib.ListN.{length};
-ghost use Rattle.pads.specs.Bytes.{blockBytes};
+ghost use Rattle.pads.specs.Bytes.{anyAbove, blockBytes};
 ghost use Rattle.pads.specs.Inner.Written.{withBlock};
-ghost use Rattle.pads.specs.Calls.{anyAbove};
 use field::Block;
 
 // The block whose 16 bytes begin at a place.

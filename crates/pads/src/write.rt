@@ -5,7 +5,7 @@ ghost use lib.ListN.{length};
 ghost use Rattle.algebra.specs.Coding.{at, over};
 ghost use Rattle.pads.specs.Bytes.{blockBytes, messageBytes};
 ghost use Rattle.pads.specs.Inner.Written.{withMessages};
-ghost use Rattle.pads.specs.Pad.{pad, messages};
+ghost use Rattle.pads.specs.Pad.{pad, messagePair};
 ghost use Rattle.pads.specs.Inner.Steps.{PadKeys, WindowFits};
 use crate::bytes::block_at;
 use crate::bytes::put_block;
@@ -46,7 +46,7 @@ fn put_messages(
     at: usize,
 )
     requires { ⌜ PadKeys (now sbox) (now mix) (now keys) × (at + 32 ≤ length (now pads)) ⌝ }
-    ensures { λ _. ⌜ now (pads .exit) ≡ withMessages (now (pads .entry)) at (messages pad x w delta) ⌝ }
+    ensures { λ _. ⌜ now (pads .exit) ≡ withMessages (now (pads .entry)) at (messagePair pad x w delta) ⌝ }
 {
     let m0 = pad_of(sbox, mix, keys, x, w);
     let m1 = pad_of(sbox, mix, keys, x, w.add(delta));
@@ -66,7 +66,7 @@ pub fn write_messages(
     pads: &mut [u8],
 )
     requires { ⌜ PadKeys (now sbox) (now mix) (now keys) × WindowFits first count (length (now w)) 32 (length (now pads)) ⌝ }
-    ensures { λ _. ⌜ now (pads .exit) ≡ over messageBytes count (λ k. messages pad (first + k) (at blockBytes (now (w .entry)) k) delta) (now (pads .entry)) ⌝ }
+    ensures { λ _. ⌜ now (pads .exit) ≡ over messageBytes count (λ k. messagePair pad (first + k) (at blockBytes (now (w .entry)) k) delta) (now (pads .entry)) ⌝ }
 {
     let mut k: usize = 0;
     while k < count {

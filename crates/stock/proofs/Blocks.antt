@@ -12,7 +12,7 @@ use Rattle.algebra.proofs.Tests.{and-left, and-right}
 use Rattle.stock.specs.declared.Label.{Label}
 use Rattle.stock.specs.declared.Stock.{Stock}
 use Rattle.stock.specs.Label.{numberOf}
-use Rattle.stock.specs.Stock.{isCaller, nextOf, endOf, holds, sumOf, held, blocks}
+use Rattle.stock.specs.Stock.{isCaller, nextOf, endOf, remaining, sumOf, held, shareBlocks}
 use Rattle.stock.specs.Calls.{isUpTo, drawNumber, advanced, draw, passNumber, pass}
 use Rattle.stock.specs.Inner.Steps.{takenDraw, refusedDraw, refusedPassage}
 use Rattle.stock.proofs.Cases.{by-test, by-order, by-equality}
@@ -32,33 +32,33 @@ unfolding isCaller
 is-caller s k e =
     (ltb-true k 8 (and-left (ltb k 8) (ltb k (s .callers)) e), ltb-true k (s .callers) (and-right (ltb k 8) (ltb k (s .callers)) e))
 
-pub holds-in : (s : Stock) (k : ℕ) → s .callers ≤ 8 → k < s .callers → holds s k ≡ endOf s k - nextOf s k
-unfolding holds isCaller
+pub holds-in : (s : Stock) (k : ℕ) → s .callers ≤ 8 → k < s .callers → remaining s k ≡ endOf s k - nextOf s k
+unfolding remaining isCaller
 holds-in s k most h = rw (lt-ltb k 8 (omega arith), lt-ltb k (s .callers) h)
 
-pub holds-past : (s : Stock) (k : ℕ) → s .callers ≤ 8 → s .callers ≤ k → holds s k ≡ 0
-unfolding holds isCaller
+pub holds-past : (s : Stock) (k : ℕ) → s .callers ≤ 8 → s .callers ≤ k → remaining s k ≡ 0
+unfolding remaining isCaller
 holds-past s k most h = by-order k 8 (λ b. rw (lt-ltb k 8 b, le-ltb k (s .callers) h)) (λ a. rw (le-ltb k 8 a))
 
 -- ---- blocks
 
 module _ (l : Label) (n : ℕ) (share : ℕ → ℕ) (most : n ≤ 8) where
-  pub blocks-next : (k : ℕ) → k < n → nextOf (blocks l n share) k ≡ sumOf k share
-  unfolding blocks
+  pub blocks-next : (k : ℕ) → k < n → nextOf (shareBlocks l n share) k ≡ sumOf k share
+  unfolding shareBlocks
   blocks-next k h = entries-in n (λ k. sumOf k share) k (omega arith) h
 
-  pub blocks-end : (k : ℕ) → k < n → endOf (blocks l n share) k ≡ sumOf (suc k) share
-  unfolding blocks
+  pub blocks-end : (k : ℕ) → k < n → endOf (shareBlocks l n share) k ≡ sumOf (suc k) share
+  unfolding shareBlocks
   blocks-end k h = entries-in n (λ k. sumOf (suc k) share) k (omega arith) h
 
-  pub blocks-callers : blocks l n share .callers ≡ n
-  unfolding blocks
+  pub blocks-callers : shareBlocks l n share .callers ≡ n
+  unfolding shareBlocks
   blocks-callers = refl
 
-  pub blocks-well : Well (blocks l n share)
+  pub blocks-well : Well (shareBlocks l n share)
   blocks-well =
       record {
-        size = unfold blocks in entries-length n (λ k. sumOf k share);
+        size = unfold shareBlocks in entries-length n (λ k. sumOf k share);
         most = rw blocks-callers most;
         ordered = λ k h. let w : k < n = rw (sym blocks-callers) h in rw (blocks-next k w, blocks-end k w) (sum-grows k (suc k) share (omega arith));
         apart = λ j k b h.
@@ -66,16 +66,16 @@ module _ (l : Label) (n : ℕ) (share : ℕ → ℕ) (most : n ≤ 8) where
             rw (blocks-next k w, blocks-end j (omega arith)) (sum-grows (suc j) k share b);
       }
 
-  pub blocks-holds : ((k : ℕ) → n ≤ k → share k ≡ 0) → (k : ℕ) → holds (blocks l n share) k ≡ share k
+  pub blocks-holds : ((k : ℕ) → n ≤ k → share k ≡ 0) → (k : ℕ) → remaining (shareBlocks l n share) k ≡ share k
   blocks-holds none k =
       by-order k n
-      (λ b. holds-in (blocks l n share) k (blocks-well .most) (rw blocks-callers b)
+      (λ b. holds-in (shareBlocks l n share) k (blocks-well .most) (rw blocks-callers b)
       ∙ (let e = blocks-next k b in let f = blocks-end k b in let g = sum-suc k share in omega arith))
-      (λ a. holds-past (blocks l n share) k (blocks-well .most) (rw blocks-callers a) ∙ sym (none k a))
+      (λ a. holds-past (shareBlocks l n share) k (blocks-well .most) (rw blocks-callers a) ∙ sym (none k a))
 
-  pub blocks-held : ((k : ℕ) → n ≤ k → share k ≡ 0) → held (blocks l n share) ≡ sumOf n share
+  pub blocks-held : ((k : ℕ) → n ≤ k → share k ≡ 0) → held (shareBlocks l n share) ≡ sumOf n share
   unfolding held
-  blocks-held none = sum-same 8 (holds (blocks l n share)) share (λ k h. blocks-holds none k) ∙ sum-stays n 8 share most none
+  blocks-held none = sum-same 8 (remaining (shareBlocks l n share)) share (λ k h. blocks-holds none k) ∙ sum-stays n 8 share most none
 
 -- ---- a draw
 
@@ -83,7 +83,7 @@ module _ (l : Label) (n : ℕ) (share : ℕ → ℕ) (most : n ≤ 8) where
 pub record Accepted (s : Stock) (l : Label) (k c : ℕ) : Type 0 where
   pub label : numberOf l ≡ numberOf (s .label)
   pub caller : isCaller s k ≡ true
-  pub enough : c ≤ holds s k
+  pub enough : c ≤ remaining s k
   pub drawn : draw s l k c ≡ takenDraw s k c
 
 pub record Refused (s : Stock) (l : Label) (k c : ℕ) : Type 0 where
@@ -95,13 +95,13 @@ unfolding draw drawNumber
 draw-cases s l k c =
     by-test (eqb (numberOf l) (numberOf (s .label)))
     (λ same. by-test (isCaller s k)
-    (λ is. by-test (ltb (holds s k) c)
+    (λ is. by-test (ltb (remaining s k) c)
     (λ t. inr (record { fault = 14; kept = rw (same, is, t) }))
     (λ t. inl
     (record {
       label = eqb-true (numberOf l) (numberOf (s .label)) same;
       caller = is;
-      enough = ltb-false (holds s k) c t;
+      enough = ltb-false (remaining s k) c t;
       drawn = rw (same, is, t);
     })))
     (λ t. inr (record { fault = 13; kept = rw (same, t) })))
@@ -153,14 +153,14 @@ module _ (s : Stock) (W : Well s) (l : Label) (k c : ℕ) (a : Accepted s l k c)
             let p = W .apart i j b w in let g = advanced-grows j in let d = advanced-end i in omega arith;
       }
 
-  pub advanced-holds : holds s k ≡ holds (advanced s k c) k + c
+  pub advanced-holds : remaining s k ≡ remaining (advanced s k c) k + c
   advanced-holds =
       let h = holds-in s k (W .most) (below .1) in
       let g = holds-in (advanced s k c) k (advanced-well .most) (rw advanced-callers (below .1)) in
       let n = advanced-next in let d = advanced-end k in let e = a .enough in
       omega arith
 
-  pub advanced-keeps : (j : ℕ) → (j ≡ k → ⊥) → holds s j ≡ holds (advanced s k c) j
+  pub advanced-keeps : (j : ℕ) → (j ≡ k → ⊥) → remaining s j ≡ remaining (advanced s k c) j
   advanced-keeps j n =
       by-order j (s .callers)
       (λ b. let h = holds-in s j (W .most) b in
@@ -171,7 +171,7 @@ module _ (s : Stock) (W : Well s) (l : Label) (k c : ℕ) (a : Accepted s l k c)
 
   pub advanced-held : c + held (advanced s k c) ≡ held s
   unfolding held
-  advanced-held = let l = sum-less 8 k c (holds s) (holds (advanced s k c)) (below .0) advanced-holds advanced-keeps in omega arith
+  advanced-held = let l = sum-less 8 k c (remaining s) (remaining (advanced s k c)) (below .0) advanced-holds advanced-keeps in omega arith
 
 -- ---- a passage
 
@@ -179,7 +179,7 @@ module _ (s : Stock) (W : Well s) (l : Label) (k c : ℕ) (a : Accepted s l k c)
 pub record Fresh (s : Stock) (l : Label) (n : ℕ) : Type 0 where
   pub above : numberOf (s .label) < numberOf l
   pub room : held s ≤ n
-  pub gave : pass s l n ≡ record { number = 0; stock = blocks l (s .callers) (holds s) }
+  pub gave : pass s l n ≡ record { number = 0; stock = shareBlocks l (s .callers) (remaining s) }
 
 pub record Stale (s : Stock) (l : Label) (n : ℕ) : Type 0 where
   pub fault : ℕ

@@ -15,9 +15,9 @@ use Rattle.answer.specs.Numbers.{accepted, noCaller, shareSpent, labelNotInUse}
 use Rattle.stock.specs.declared.Label.{Label}
 use Rattle.stock.specs.declared.Stock.{Stock}
 use Rattle.stock.specs.Label.{numberOf}
-use Rattle.stock.specs.Stock.{isCaller, holds, held, sumOf, blocks}
+use Rattle.stock.specs.Stock.{isCaller, remaining, held, sumOf, shareBlocks}
 use Rattle.stock.specs.Calls.{isUpTo, byNumber, shareOf, openNumber, openStock, draw, drawNumber}
-use Rattle.stock.specs.Lists.{Call, draws, previews, passes, Reply, Made, make, run, last, those, drawsOf, passed, part, handed, replies, numbers, callsOf, Use, useAfter, NextOf, madeAt, concerns, Claim, Lists}
+use Rattle.stock.specs.Lists.{Call, draws, previews, passes, Reply, Made, make, run, last, those, drawsOf, passed, handedBy, handed, replies, replyNumbers, callsOf, Use, useAfter, NextOf, madeAt, concerns, StockClaim, StockLists}
 use Rattle.stock.proofs.Cases.{by-test}
 use Rattle.stock.proofs.Blocks.{Well, blocks-next, blocks-end, blocks-callers, blocks-well, blocks-holds, blocks-held, is-caller, fits-block, Fresh, pass-cases}
 use Rattle.stock.proofs.Entries.{sum-grows, sum-same}
@@ -114,8 +114,8 @@ numbersBy is L left (passes l n ∷ calls) = numbersBy is (numberOf l) left call
 
 abbrev ByModel : ℕ → Stock → List Call → Type 0
 ByModel k s calls =
-    numbers (those (mine k) (run s calls))
-    ≡ numbersBy (isCaller s k) (numberOf (s .label)) (holds s k) (callsOf (those (concerns k) (run s calls)))
+    replyNumbers (those (mine k) (run s calls))
+    ≡ numbersBy (isCaller s k) (numberOf (s .label)) (remaining s k) (callsOf (those (concerns k) (run s calls)))
 
 same-caller : (s t : Stock) (k : ℕ) → t .callers ≡ s .callers → isCaller t k ≡ isCaller s k
 unfolding isCaller
@@ -128,14 +128,14 @@ unfolding run
 by-skip k s W c calls n S ih =
     let m = make s c in
     let out : concerns k m ≡ false = or-neither (mine-call k s c false n) (S .not-passed) in
-    let none : part (drawsOf k) m ≡ 0 = rw (make-call s c, n) in
-    let left : holds (m .after) k ≡ holds s k = let h = kept s W c .holds k in omega arith in
+    let none : handedBy (drawsOf k) m ≡ 0 = rw (make-call s c, n) in
+    let left : remaining (m .after) k ≡ remaining s k = let h = kept s W c .remaining k in omega arith in
     let is = same-caller s (m .after) k (kept s W c .callers) in
-    let same : numbersBy (isCaller (m .after) k) (numberOf (m .after .label)) (holds (m .after) k) (callsOf (those (concerns k) (run (m .after) calls)))
-    ≡ numbersBy (isCaller s k) (numberOf (s .label)) (holds s k) (callsOf (those (concerns k) (run (m .after) calls))) =
+    let same : numbersBy (isCaller (m .after) k) (numberOf (m .after .label)) (remaining (m .after) k) (callsOf (those (concerns k) (run (m .after) calls)))
+    ≡ numbersBy (isCaller s k) (numberOf (s .label)) (remaining s k) (callsOf (those (concerns k) (run (m .after) calls))) =
     rw (is, S .label, left) in
-    ap numbers (those-out (mine k) m _ (mine-call k s c false n)) ∙ ih ∙ same
-    ∙ ap (λ (h : List Made). numbersBy (isCaller s k) (numberOf (s .label)) (holds s k) (callsOf h))
+    ap replyNumbers (those-out (mine k) m _ (mine-call k s c false n)) ∙ ih ∙ same
+    ∙ ap (λ (h : List Made). numbersBy (isCaller s k) (numberOf (s .label)) (remaining s k) (callsOf h))
     (sym (those-out (concerns k) m (run (m .after) calls) out))
 
 -- a draw of the caller
@@ -144,57 +144,57 @@ by-byNumber zero c = refl
 by-byNumber (suc n) c = refl
 
 draw-number : (k : ℕ) (s : Stock) (l : Label) (c : ℕ)
-    → make s (draws l k c) .reply .number ≡ numberBy (isCaller s k) (numberOf (s .label)) (holds s k) l c
+    → make s (draws l k c) .reply .number ≡ numberBy (isCaller s k) (numberOf (s .label)) (remaining s k) l c
 unfolding make draw drawNumber
 draw-number k s l c = refl
 
 draw-part : (k : ℕ) (s : Stock) (l : Label) (c : ℕ)
-    → part (drawsOf k) (make s (draws l k c)) ≡ byNumber (numberBy (isCaller s k) (numberOf (s .label)) (holds s k) l c) c 0
+    → handedBy (drawsOf k) (make s (draws l k c)) ≡ byNumber (numberBy (isCaller s k) (numberOf (s .label)) (remaining s k) l c) c 0
 unfolding make draw drawNumber
-draw-part k s l c = rw (eq-eqb k k refl) (by-byNumber (numberBy (isCaller s k) (numberOf (s .label)) (holds s k) l c) c)
+draw-part k s l c = rw (eq-eqb k k refl) (by-byNumber (numberBy (isCaller s k) (numberOf (s .label)) (remaining s k) l c) c)
 
 by-draw : (k : ℕ) (s : Stock) → Well s → (l : Label) (c : ℕ) (calls : List Call)
     → ByModel k (make s (draws l k c) .after) calls → ByModel k s (draws l k c ∷ calls)
-unfolding run numbers callsOf numbersBy
+unfolding run replyNumbers callsOf numbersBy
 by-draw k s W l c calls ih =
     let d = draws l k c in
     let m = make s d in
     let y : mine k m ≡ true = mine-call k s d true (eq-eqb k k refl) in
     let z : concerns k m ≡ true = rw y in
-    let n = numberBy (isCaller s k) (numberOf (s .label)) (holds s k) l c in
-    let left : holds (m .after) k ≡ holds s k - byNumber n c 0 = let h = kept s W d .holds k in let p = draw-part k s l c in omega arith in
+    let n = numberBy (isCaller s k) (numberOf (s .label)) (remaining s k) l c in
+    let left : remaining (m .after) k ≡ remaining s k - byNumber n c 0 = let h = kept s W d .remaining k in let p = draw-part k s l c in omega arith in
     let is = same-caller s (m .after) k (kept s W d .callers) in
     let label = stayed-draw s W l k c .label in
-    let rest : numbers (those (mine k) (run (m .after) calls))
-    ≡ numbersBy (isCaller s k) (numberOf (s .label)) (holds s k - byNumber n c 0) (callsOf (those (concerns k) (run (m .after) calls))) =
+    let rest : replyNumbers (those (mine k) (run (m .after) calls))
+    ≡ numbersBy (isCaller s k) (numberOf (s .label)) (remaining s k - byNumber n c 0) (callsOf (those (concerns k) (run (m .after) calls))) =
     ih ∙ rw (is, label, left) in
-    ap numbers (those-in (mine k) m _ y)
+    ap replyNumbers (those-in (mine k) m _ y)
     ∙ ap₂ (λ (x : ℕ) (l : List ℕ). x ∷ l) (draw-number k s l c) rest
     ∙ rw (those-in (concerns k) m (run (m .after) calls) z, make-call s d)
 
 moved-label : (s : Stock) (l : Label) (n : ℕ) → Fresh s l n → make s (passes l n) .after .label ≡ l
-unfolding blocks
+unfolding shareBlocks
 moved-label s l n f = ap (λ (m : Made). m .after .label) (make-moved s l n f)
 
 by-pass : (k : ℕ) (s : Stock) → Well s → (l : Label) (n : ℕ) (calls : List Call) → Fresh s l n
     → ByModel k (make s (passes l n) .after) calls → ByModel k s (passes l n ∷ calls)
-unfolding run numbers callsOf numbersBy
+unfolding run replyNumbers callsOf numbersBy
 by-pass k s W l n calls f ih =
     let d = passes l n in
     let m = make s d in
     let out : mine k m ≡ false = mine-call k s d false refl in
     let z : concerns k m ≡ true = rw (out, moved-passed s W l n f) in
-    let none : part (drawsOf k) m ≡ 0 = rw (make-call s d) in
-    let left : holds (m .after) k ≡ holds s k = let h = kept s W d .holds k in omega arith in
+    let none : handedBy (drawsOf k) m ≡ 0 = rw (make-call s d) in
+    let left : remaining (m .after) k ≡ remaining s k = let h = kept s W d .remaining k in omega arith in
     let is = same-caller s (m .after) k (kept s W d .callers) in
-    let same : numbersBy (isCaller (m .after) k) (numberOf (m .after .label)) (holds (m .after) k) (callsOf (those (concerns k) (run (m .after) calls)))
-    ≡ numbersBy (isCaller s k) (numberOf l) (holds s k) (callsOf (those (concerns k) (run (m .after) calls))) =
+    let same : numbersBy (isCaller (m .after) k) (numberOf (m .after .label)) (remaining (m .after) k) (callsOf (those (concerns k) (run (m .after) calls)))
+    ≡ numbersBy (isCaller s k) (numberOf l) (remaining s k) (callsOf (those (concerns k) (run (m .after) calls))) =
     rw (is, moved-label s l n f, left) in
-    ap numbers (those-out (mine k) m _ out) ∙ ih ∙ same
+    ap replyNumbers (those-out (mine k) m _ out) ∙ ih ∙ same
     ∙ rw (those-in (concerns k) m (run (m .after) calls) z, make-call s d)
 
 by-model : (k : ℕ) (s : Stock) → Well s → (calls : List Call) → ByModel k s calls
-unfolding run those numbers callsOf numbersBy
+unfolding run those replyNumbers callsOf numbersBy
 by-model k s W [] = refl
 by-model k s W (draws l j c ∷ calls) =
     let d = draws l j c in
@@ -245,7 +245,7 @@ next-of s W calls u I l k c z =
       count = refl;
       first = N .next k (b .1);
       block = let f = fits-block t T l k c a in let e = N .end k (b .1) in omega arith;
-      within = let g = sum-grows (suc k) 8 (holds (useAfter u (run s calls) .came)) (b .0) in let w = N .within in omega arith;
+      within = let g = sum-grows (suc k) 8 (remaining (useAfter u (run s calls) .came)) (b .0) in let w = N .within in omega arith;
     })
 
 -- ---- after an accepted opening
@@ -257,7 +257,7 @@ passed-test false n rest e = refl
 pub record Opened (label : Label) (outputs : ℕ) (shares : List ℕ) : Type 0 where
   pub most : length shares ≤ 8
   pub sum : sumOf (length shares) (shareOf shares) ≤ outputs
-  pub stock : openStock label outputs shares .opened .stock ≡ blocks label (length shares) (shareOf shares)
+  pub stock : openStock label outputs shares .opened .stock ≡ shareBlocks label (length shares) (shareOf shares)
 
 opened : (label : Label) (outputs : ℕ) (shares : List ℕ) → openStock label outputs shares .opened .number ≡ accepted → Opened label outputs shares
 unfolding openStock openNumber
@@ -271,7 +271,7 @@ opened label outputs shares e =
 
 module _ (label : Label) (outputs : ℕ) (shares : List ℕ) (O : Opened label outputs shares) where
   abbrev start : Stock
-  start = blocks label (length shares) (shareOf shares)
+  start = shareBlocks label (length shares) (shareOf shares)
 
   well : Well start
   well = blocks-well label (length shares) (shareOf shares) (O .most)
@@ -279,7 +279,7 @@ module _ (label : Label) (outputs : ℕ) (shares : List ℕ) (O : Opened label o
   none-past : (k : ℕ) → length shares ≤ k → shareOf shares k ≡ 0
   none-past k h = List·getD-eq-default shares 0 h
 
-  start-holds : (k : ℕ) → holds start k ≡ shareOf shares k
+  start-holds : (k : ℕ) → remaining start k ≡ shareOf shares k
   start-holds = blocks-holds label (length shares) (shareOf shares) (O .most) none-past
 
   start-held : held start ≡ sumOf (length shares) (shareOf shares)
@@ -295,16 +295,16 @@ module _ (label : Label) (outputs : ℕ) (shares : List ℕ) (O : Opened label o
         next = λ k h.
             let b : k < length shares = rw (blocks-callers label (length shares) (shareOf shares) (O .most)) at h in
             let e = blocks-next label (length shares) (shareOf shares) (O .most) k b in
-            let f = sum-same k (holds start) (shareOf shares) (λ j g. start-holds j) in
+            let f = sum-same k (remaining start) (shareOf shares) (λ j g. start-holds j) in
             omega arith;
         end = λ k h.
             let b : k < length shares = rw (blocks-callers label (length shares) (shareOf shares) (O .most)) at h in
             blocks-end label (length shares) (shareOf shares) (O .most) k b
-            ∙ sym (sum-same (suc k) (holds start) (shareOf shares) (λ j g. start-holds j));
+            ∙ sym (sum-same (suc k) (remaining start) (shareOf shares) (λ j g. start-holds j));
         within = let e = start-held in let w = O .sum in omega arith;
       }
 
-  claim : (calls : List Call) → Claim outputs shares start calls
+  claim : (calls : List Call) → StockClaim outputs shares start calls
   claim calls =
       record {
         once = once-run start well calls;
@@ -315,12 +315,12 @@ module _ (label : Label) (outputs : ℕ) (shares : List ℕ) (O : Opened label o
             let m = made-at start calls i h ∙ ap (make (last start (take i calls))) e in
             rw (m, take-run start calls i) (next-of start well (take i calls) opening-use in-use l k c (rw m at z));
         refusals = λ k other same. by-model k start well calls
-            ∙ ap (numbersBy (isCaller start k) (numberOf (start .label)) (holds start k)) same
+            ∙ ap (numbersBy (isCaller start k) (numberOf (start .label)) (remaining start k)) same
             ∙ sym (by-model k start well other);
         own = λ k none. own-run k start start well well (record { label = refl; callers = refl; next = refl; end = refl }) calls none;
       }
 
-pub lists : Lists
+pub lists : StockLists
 lists label outputs shares e calls =
     let O = opened label outputs shares e in
     rw (O .stock) (claim label outputs shares O calls)

@@ -15,7 +15,7 @@ use Rattle.stock.specs.declared.Drawn.{Drawn}
 use Rattle.stock.specs.declared.Label.{Label}
 use Rattle.stock.specs.declared.Stock.{Stock}
 use Rattle.stock.specs.Label.{numberOf}
-use Rattle.stock.specs.Stock.{isCaller, nextOf, endOf, holds, sumOf, entries, blocks}
+use Rattle.stock.specs.Stock.{isCaller, nextOf, endOf, remaining, sumOf, entries, shareBlocks}
 use Rattle.stock.specs.Calls.{isUpTo, shareOf, drawNumber, advanced, draw, preview}
 use Rattle.stock.specs.Inner.Steps.{takenDraw, refusedDraw, starts, ends}
 use Rattle.stock.proofs.Entries.{entries-none, entries-more, entries-min, sum-suc, sum-one-more, sum-grows}
@@ -41,8 +41,8 @@ caller-in s k h = rw (lt-ltb k 8 h)
 -- ---- holding, and draw
 
 module _ (s : Stock) (k : ℕ) (t : Bool) (told : t ≡ isCaller s k) where
-  pub holds-none : not t ≡ true → 0 ≡ holds s k
-  unfolding holds
+  pub holds-none : not t ≡ true → 0 ≡ remaining s k
+  unfolding remaining
   holds-none n = rw (← told, not-true t n)
 
   module _ (is : not t ≡ false) where
@@ -53,12 +53,12 @@ module _ (s : Stock) (k : ℕ) (t : Bool) (told : t ≡ isCaller s k) where
     pub caller-fits : Fits w64 (k * 4)
     caller-fits = let h = caller-below in omega arith
 
-    pub holds-spent : endOf s k < nextOf s k → 0 ≡ holds s k
-    unfolding holds
+    pub holds-spent : endOf s k < nextOf s k → 0 ≡ remaining s k
+    unfolding remaining
     holds-spent h = rw (← told, not-false t is) (omega arith)
 
-    pub holds-rest : nextOf s k ≤ endOf s k → endOf s k - nextOf s k ≡ holds s k
-    unfolding holds
+    pub holds-rest : nextOf s k ≤ endOf s k → endOf s k - nextOf s k ≡ remaining s k
+    unfolding remaining
     holds-rest h = rw (← told, not-false t is)
 
 -- ---- taken
@@ -71,13 +71,13 @@ module _ (s : Stock) (k : ℕ) (is : isCaller s k ≡ true) where
   pub taken-offset : Fits w64 (k * 4)
   taken-offset = let h = taken-below in omega arith
 
-  pub taken-count : (c : ℕ) → c ≤ holds s k → Fits w32 (endOf s k) → Fits w32 c
-  unfolding holds
-  taken-count c enough e = let left : holds s k ≡ endOf s k - nextOf s k = rw is in omega arith
+  pub taken-count : (c : ℕ) → c ≤ remaining s k → Fits w32 (endOf s k) → Fits w32 c
+  unfolding remaining
+  taken-count c enough e = let left : remaining s k ≡ endOf s k - nextOf s k = rw is in omega arith
 
-  pub taken-fits : (c : ℕ) → c ≤ holds s k → Fits w32 (endOf s k) → Fits w32 (nextOf s k) → Fits w32 (nextOf s k + c)
-  unfolding holds
-  taken-fits c enough e n = let left : holds s k ≡ endOf s k - nextOf s k = rw is in omega arith
+  pub taken-fits : (c : ℕ) → c ≤ remaining s k → Fits w32 (endOf s k) → Fits w32 (nextOf s k) → Fits w32 (nextOf s k + c)
+  unfolding remaining
+  taken-fits c enough e n = let left : remaining s k ≡ endOf s k - nextOf s k = rw is in omega arith
 
   pub taken-is : (c : ℕ)
       → record {
@@ -105,7 +105,7 @@ module _ (s : Stock) (l : Label) (k c : ℕ) (u : Bool) (used : u ≡ eqb (numbe
     unfolding draw drawNumber
     draw-no-caller e n = rw (← used, not-false u same, ← told, not-true t n) e
 
-    module _ (is : not t ≡ false) (h : ℕ) (rest : h ≡ holds s k) where
+    module _ (is : not t ≡ false) (h : ℕ) (rest : h ≡ remaining s k) where
       pub draw-spent : {r : Drawn} → r ≡ refusedDraw s shareSpent → h < c → r ≡ draw s l k c
       unfolding draw drawNumber
       draw-spent e w = rw (← used, not-false u same, ← told, not-false t is, ← rest, lt-ltb h c w) e
@@ -172,8 +172,8 @@ module _ (shares : List ℕ) (k : ℕ) where
         (entries-more (λ j. sumOf (suc j) (shareOf shares)) k (at + getD shares k 0) (omega arith) (rw (w, sum-suc k (shareOf shares))))
 
     pub blocks-done : (label : Label) {next end : List ℕ} → k ≤ n → n ≤ k → next ≡ starts k shares → end ≡ ends k shares
-        → record { callers = callers; label = label; next = next; end = end } ≡ blocks label callers (shareOf shares)
-    unfolding blocks starts ends
+        → record { callers = callers; label = label; next = next; end = end } ≡ shareBlocks label callers (shareOf shares)
+    unfolding shareBlocks starts ends
     blocks-done label h w e q =
         let all : k ≡ min 8 callers = omega arith in
         rw (e, q, all, entries-min callers (λ j. sumOf j (shareOf shares)), entries-min callers (λ j. sumOf (suc j) (shareOf shares)))
@@ -181,8 +181,8 @@ module _ (shares : List ℕ) (k : ℕ) where
 -- ---- rest, turn by turn
 
 module _ (s : Stock) (k : ℕ) where
-  pub rest-more : {each : List ℕ} (h : ℕ) → k < 8 → h ≡ holds s k → each ≡ entries k (holds s) → set each k h ≡ entries (k + 1) (holds s)
-  rest-more h b e q = rw q (entries-more (holds s) k h b e)
+  pub rest-more : {each : List ℕ} (h : ℕ) → k < 8 → h ≡ remaining s k → each ≡ entries k (remaining s) → set each k h ≡ entries (k + 1) (remaining s)
+  rest-more h b e q = rw q (entries-more (remaining s) k h b e)
 
-  pub rest-done : {each : List ℕ} → k ≤ 8 → 8 ≤ k → each ≡ entries k (holds s) → each ≡ entries 8 (holds s)
+  pub rest-done : {each : List ℕ} → k ≤ 8 → 8 ≤ k → each ≡ entries k (remaining s) → each ≡ entries 8 (remaining s)
   rest-done h w e = let all : k ≡ 8 = omega arith in e ∙ rw all

@@ -14,8 +14,8 @@ use Rattle.answer.specs.Numbers.{badSize, sharesAbove}
 use Rattle.stock.specs.declared.Label.{Label}
 use Rattle.stock.specs.declared.OpenedStock.{OpenedStock}
 use Rattle.stock.specs.declared.Stock.{Stock}
-use Rattle.stock.specs.Stock.{sumOf, entries, blocks}
-use Rattle.stock.specs.Calls.{isUpTo, shareOf, openNumber, opening, openStock}
+use Rattle.stock.specs.Stock.{sumOf, entries, shareBlocks}
+use Rattle.stock.specs.Calls.{isUpTo, shareOf, openNumber, stockOpening, openStock}
 use Rattle.stock.specs.Inner.Steps.{refusedOpening}
 use Rattle.stock.proofs.Cases.{by-order}
 use Rattle.stock.proofs.Entries.{entries-in, entries-past, sum-stays}
@@ -39,7 +39,7 @@ padded-shares shares most =
     (λ a. entries-past (length shares) (shareOf shares) k a ∙ sym (List·getD-eq-default shares 0 a))
 
 module _ (label : Label) (outputs : ℕ) (shares : List ℕ) (t : Bool) (callers : t ≡ isUpTo 8 (length shares)) where
-  pub open-no-callers : {r : OpenedStock} → r ≡ refusedOpening badSize → not t ≡ true → opening r shares ≡ openStock label outputs shares
+  pub open-no-callers : {r : OpenedStock} → r ≡ refusedOpening badSize → not t ≡ true → stockOpening r shares ≡ openStock label outputs shares
   unfolding openStock openNumber
   open-no-callers e n = rw (← callers, not-true t n, e)
 
@@ -51,7 +51,7 @@ module _ (label : Label) (outputs : ℕ) (shares : List ℕ) (t : Bool) (callers
     open-fits = let h = open-most in omega arith
 
     module _ (u : Bool) (sized : u ≡ isUpTo 32768 outputs) where
-      pub open-no-outputs : {r : OpenedStock} → r ≡ refusedOpening badSize → not u ≡ true → opening r shares ≡ openStock label outputs shares
+      pub open-no-outputs : {r : OpenedStock} → r ≡ refusedOpening badSize → not u ≡ true → stockOpening r shares ≡ openStock label outputs shares
       unfolding openStock openNumber
       open-no-outputs e n = rw (← callers, not-false t some, ← sized, not-true u n, e)
 
@@ -65,7 +65,7 @@ module _ (label : Label) (outputs : ℕ) (shares : List ℕ) (t : Bool) (callers
             summed ∙ ap (sumOf 8) same-shares
             ∙ sum-stays (length shares) 8 (shareOf shares) open-most (λ k h. List·getD-eq-default shares 0 h)
 
-        pub open-above : {r : OpenedStock} → r ≡ refusedOpening sharesAbove → outputs < sum → opening r shares ≡ openStock label outputs shares
+        pub open-above : {r : OpenedStock} → r ≡ refusedOpening sharesAbove → outputs < sum → stockOpening r shares ≡ openStock label outputs shares
         unfolding openStock openNumber
         open-above e h =
             rw (← callers, not-false t some, ← sized, not-false u within, ← sum-of-shares, lt-ltb outputs sum h, e)
@@ -74,8 +74,8 @@ module _ (label : Label) (outputs : ℕ) (shares : List ℕ) (t : Bool) (callers
           pub open-below : sumOf 8 (shareOf each) ≤ 32768
           open-below = below-most summed enough (most-outputs outputs u sized within)
 
-          pub open-accepted : {b : Stock} → b ≡ blocks label (length shares) (shareOf each)
-              → opening (record { number = 0; stock = b }) shares ≡ openStock label outputs shares
+          pub open-accepted : {b : Stock} → b ≡ shareBlocks label (length shares) (shareOf each)
+              → stockOpening (record { number = 0; stock = b }) shares ≡ openStock label outputs shares
           unfolding openStock openNumber
           open-accepted e =
               rw (← callers, not-false t some, ← sized, not-false u within, ← sum-of-shares, le-ltb outputs sum enough, e, same-shares)

@@ -10,23 +10,23 @@ use Rattle.stock.specs.declared.Label.{Label}
 use Rattle.stock.specs.declared.OpenedStock.{OpenedStock}
 use Rattle.stock.specs.declared.Stock.{Stock}
 use Rattle.stock.specs.Label.{numberOf}
-use Rattle.stock.specs.Stock.{isCaller, holds, sumOf, held, entries, blocks}
+use Rattle.stock.specs.Stock.{isCaller, remaining, sumOf, held, entries, shareBlocks}
 use Rattle.stock.specs.Calls.{isUpTo, shareOf, passNumber, pass}
 use Rattle.stock.specs.Inner.Steps.{refusedPassage}
 use Rattle.stock.proofs.Cases.{by-order}
 use Rattle.stock.proofs.Entries.{entries-in, entries-past}
 
 -- past the eight entries nothing is held
-holds-none-past : (s : Stock) (k : ℕ) → 8 ≤ k → holds s k ≡ 0
-unfolding holds isCaller
+holds-none-past : (s : Stock) (k : ℕ) → 8 ≤ k → remaining s k ≡ 0
+unfolding remaining isCaller
 holds-none-past s k h = rw (le-ltb k 8 h)
 
-rest-holds : (s : Stock) → shareOf (entries 8 (holds s)) ≡ holds s
+rest-holds : (s : Stock) → shareOf (entries 8 (remaining s)) ≡ remaining s
 rest-holds s =
     fun-ext λ k.
     by-order k 8
-    (λ b. entries-in 8 (holds s) k b b)
-    (λ a. entries-past 8 (holds s) k a ∙ sym (holds-none-past s k a))
+    (λ b. entries-in 8 (remaining s) k b b)
+    (λ a. entries-past 8 (remaining s) k a ∙ sym (holds-none-past s k a))
 
 module _ (s : Stock) (l : Label) (outputs : ℕ) (u : Bool) (sized : u ≡ isUpTo 32768 outputs) where
   pub pass-no-outputs : {r : OpenedStock} → r ≡ refusedPassage s badSize → not u ≡ true → r ≡ pass s l outputs
@@ -38,8 +38,8 @@ module _ (s : Stock) (l : Label) (outputs : ℕ) (u : Bool) (sized : u ≡ isUpT
     unfolding pass passNumber
     pass-not-above e n = rw (← sized, not-false u within, ← above, not-true t n) e
 
-    module _ (rises : not t ≡ false) (each : List ℕ) (kept : each ≡ entries 8 (holds s)) (sum : ℕ) (summed : sum ≡ sumOf 8 (shareOf each)) where
-      same-rest : shareOf each ≡ holds s
+    module _ (rises : not t ≡ false) (each : List ℕ) (kept : each ≡ entries 8 (remaining s)) (sum : ℕ) (summed : sum ≡ sumOf 8 (shareOf each)) where
+      same-rest : shareOf each ≡ remaining s
       same-rest = ap shareOf kept ∙ rest-holds s
 
       sum-held : sum ≡ held s
@@ -51,7 +51,7 @@ module _ (s : Stock) (l : Label) (outputs : ℕ) (u : Bool) (sized : u ≡ isUpT
       pass-above e h = rw (← sized, not-false u within, ← above, not-false t rises, ← sum-held, lt-ltb outputs sum h) e
 
       module _ (enough : sum ≤ outputs) where
-        pub pass-accepted : {b : Stock} → b ≡ blocks l (s .callers) (shareOf each) → record { number = 0; stock = b } ≡ pass s l outputs
+        pub pass-accepted : {b : Stock} → b ≡ shareBlocks l (s .callers) (shareOf each) → record { number = 0; stock = b } ≡ pass s l outputs
         unfolding pass passNumber
         pass-accepted e =
             rw (← sized, not-false u within, ← above, not-false t rises, ← sum-held, le-ltb outputs sum enough, e, same-rest)

@@ -12,8 +12,8 @@ use Rattle.algebra.specs.Choice.{choose}
 use Rattle.stock.specs.declared.Label.{Label}
 use Rattle.stock.specs.declared.Stock.{Stock}
 use Rattle.stock.specs.Label.{numberOf}
-use Rattle.stock.specs.Stock.{nextOf, endOf, holds, held, sumOf}
-use Rattle.stock.specs.Lists.{Call, draws, previews, passes, Made, make, run, last, those, aDraw, drawsOf, drawsUnder, passed, part, handed, stocks, heldFirst, heldLast, Use, outputsOf, useAfter, HandsOut, madeAt, Unchanged, Previews}
+use Rattle.stock.specs.Stock.{nextOf, endOf, remaining, held, sumOf}
+use Rattle.stock.specs.Lists.{Call, draws, previews, passes, Made, make, run, last, those, aDraw, drawsOf, drawsUnder, passed, handedBy, handed, stocks, heldFirst, heldLast, Use, outputsOf, useAfter, HandsOut, madeAt, Unchanged, Previews}
 use Rattle.stock.proofs.Cases.{by-order, by-equality}
 use Rattle.stock.proofs.Blocks.{Well}
 use Rattle.stock.proofs.Steps.{Stayed, Moved, kept, step, stayed-draw, label-rises, Free, hands-label, hands-free, hands-gone, hands-none, free-before}
@@ -33,18 +33,18 @@ sums-run s W (c ∷ calls) =
     let n = kept s W c .held in
     omega arith
 
-pub callers-run : (s : Stock) → Well s → (calls : List Call) (k : ℕ) → handed (drawsOf k) (run s calls) + holds (last s calls) k ≡ holds s k
+pub callers-run : (s : Stock) → Well s → (calls : List Call) (k : ℕ) → handed (drawsOf k) (run s calls) + remaining (last s calls) k ≡ remaining s k
 unfolding last run handed
 callers-run s W [] k = omega arith
 callers-run s W (c ∷ calls) k =
     let ih = callers-run (make s c .after) (kept s W c .well) calls k in
-    let n = kept s W c .holds k in
+    let n = kept s W c .remaining k in
     omega arith
 
 -- ---- labels
 
 -- a call under a label that is not in use hands out nothing
-other-part : (s : Stock) → Well s → (c : Call) (L : ℕ) → (L ≡ numberOf (s .label) → ⊥) → part (drawsUnder L) (make s c) ≡ 0
+other-part : (s : Stock) → Well s → (c : Call) (L : ℕ) → (L ≡ numberOf (s .label) → ⊥) → handedBy (drawsUnder L) (make s c) ≡ 0
 other-part s W c L d = ⊎-elim (λ S. S .other L d) (λ M. M .other L) (step s W c)
 
 -- a stock under the label, and one under another
@@ -110,7 +110,7 @@ in-use s W (c ∷ calls) L e none =
     ⊎-elim
     (λ S.
     let ih = in-use t T calls L (e ∙ ap numberOf (sym (S .label))) (held s) in
-    let p : part (drawsUnder L) (make s c) ≡ part aDraw (make s c) = rw e (S .under) in
+    let p : handedBy (drawsUnder L) (make s c) ≡ handedBy aDraw (make s c) = rw e (S .under) in
     let k = kept s W c .held in
     omega arith)
     (λ M.
@@ -220,16 +220,16 @@ once-run s W (c ∷ calls) (suc i) (suc j) h w L x o p =
 
 -- ---- the blocks of the label in use
 
-handed-snoc : (p : Call → Bool) (h : List Made) (m : Made) → handed p (h ++ (m ∷ [])) ≡ handed p h + part p m
+handed-snoc : (p : Call → Bool) (h : List Made) (m : Made) → handed p (h ++ (m ∷ [])) ≡ handed p h + handedBy p m
 unfolding handed
 handed-snoc p [] m = omega arith
 handed-snoc p (n ∷ h) m = let ih = handed-snoc p h m in omega arith
 
 -- each caller's block, by what was held when the label came into use, and its next index, by what it drew since
 pub record InUse (u : Use) (s : Stock) : Type 0 where
-  pub next : (k : ℕ) → k < s .callers → nextOf s k ≡ sumOf k (holds (u .came)) + handed (drawsOf k) (u .since)
-  pub end : (k : ℕ) → k < s .callers → endOf s k ≡ sumOf (suc k) (holds (u .came))
-  pub within : sumOf 8 (holds (u .came)) ≤ u .outputs
+  pub next : (k : ℕ) → k < s .callers → nextOf s k ≡ sumOf k (remaining (u .came)) + handed (drawsOf k) (u .since)
+  pub end : (k : ℕ) → k < s .callers → endOf s k ≡ sumOf (suc k) (remaining (u .came))
+  pub within : sumOf 8 (remaining (u .came)) ≤ u .outputs
 
 -- the use after a call under which the label stays, and after an accepted passage
 abbrev goesOn : Use → Made → Use

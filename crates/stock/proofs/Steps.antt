@@ -10,9 +10,9 @@ use Rattle.algebra.specs.Choice.{choose}
 use Rattle.stock.specs.declared.Label.{Label}
 use Rattle.stock.specs.declared.Stock.{Stock}
 use Rattle.stock.specs.Label.{numberOf}
-use Rattle.stock.specs.Stock.{isCaller, nextOf, endOf, holds, sumOf, held, blocks}
+use Rattle.stock.specs.Stock.{isCaller, nextOf, endOf, remaining, sumOf, held, shareBlocks}
 use Rattle.stock.specs.Calls.{byNumber, drawNumber, advanced, draw}
-use Rattle.stock.specs.Lists.{Call, draws, previews, passes, Reply, Made, make, aDraw, drawsOf, drawsUnder, passed, part, outputsOf, HandsOut}
+use Rattle.stock.specs.Lists.{Call, draws, previews, passes, Reply, Made, make, aDraw, drawsOf, drawsUnder, passed, handedBy, outputsOf, HandsOut}
 use Rattle.stock.proofs.Cases.{by-order, by-equality}
 use Rattle.stock.proofs.Blocks.{Well, holds-past, blocks-next, blocks-end, blocks-callers, blocks-well, blocks-holds, Accepted, Refused, draw-cases, Fresh, Stale, pass-cases, is-caller, advanced-label, advanced-callers, advanced-end, advanced-next, advanced-other, fits-block, advanced-well, advanced-holds, advanced-keeps, advanced-held}
 use Rattle.stock.proofs.Entries.{sum-same}
@@ -21,25 +21,25 @@ use Rattle.stock.proofs.Entries.{sum-same}
 pub record Kept (s : Stock) (m : Made) : Type 0 where
   pub well : Well (m .after)
   pub callers : m .after .callers ≡ s .callers
-  pub holds : (j : ℕ) → part (drawsOf j) m + holds (m .after) j ≡ holds s j
-  pub held : part aDraw m + held (m .after) ≡ held s
+  pub remaining : (j : ℕ) → handedBy (drawsOf j) m + remaining (m .after) j ≡ remaining s j
+  pub held : handedBy aDraw m + held (m .after) ≡ held s
 
 -- a call under which the label stays: so do the blocks, and each caller's next index moves on by what the call hands it
 pub record Stayed (s : Stock) (m : Made) : Type 0 where
   pub label : m .after .label ≡ s .label
   pub end : (j : ℕ) → endOf (m .after) j ≡ endOf s j
-  pub next : (j : ℕ) → nextOf (m .after) j ≡ nextOf s j + part (drawsOf j) m
-  pub under : part (drawsUnder (numberOf (s .label))) m ≡ part aDraw m
-  pub other : (L : ℕ) → (L ≡ numberOf (s .label) → ⊥) → part (drawsUnder L) m ≡ 0
+  pub next : (j : ℕ) → nextOf (m .after) j ≡ nextOf s j + handedBy (drawsOf j) m
+  pub under : handedBy (drawsUnder (numberOf (s .label))) m ≡ handedBy aDraw m
+  pub other : (L : ℕ) → (L ≡ numberOf (s .label) → ⊥) → handedBy (drawsUnder L) m ≡ 0
   pub not-passed : passed m ≡ false
 
 -- an accepted passage: the label rises, and the blocks are laid out anew
 pub record Moved (s : Stock) (m : Made) : Type 0 where
   pub above : numberOf (s .label) < numberOf (m .after .label)
-  pub next : (j : ℕ) → j < s .callers → nextOf (m .after) j ≡ sumOf j (holds (m .after))
-  pub end : (j : ℕ) → j < s .callers → endOf (m .after) j ≡ sumOf (suc j) (holds (m .after))
+  pub next : (j : ℕ) → j < s .callers → nextOf (m .after) j ≡ sumOf j (remaining (m .after))
+  pub end : (j : ℕ) → j < s .callers → endOf (m .after) j ≡ sumOf (suc j) (remaining (m .after))
   pub room : held (m .after) ≤ outputsOf (m .call)
-  pub other : (L : ℕ) → part (drawsUnder L) m ≡ 0
+  pub other : (L : ℕ) → handedBy (drawsUnder L) m ≡ 0
   pub is-passed : passed m ≡ true
 
 -- ---- the calls as they are made
@@ -58,7 +58,7 @@ abbrev turned : Stock → Call → ℕ → Made
 turned s c n = record { call = c; reply = record { number = suc n; first = 0; count = 0 }; after = s }
 
 abbrev moved : Stock → Label → ℕ → Made
-moved s l n = record { call = passes l n; reply = record { number = 0; first = 0; count = 0 }; after = blocks l (s .callers) (holds s) }
+moved s l n = record { call = passes l n; reply = record { number = 0; first = 0; count = 0 }; after = shareBlocks l (s .callers) (remaining s) }
 
 pub make-drawn : (s : Stock) (l : Label) (k c : ℕ) → Accepted s l k c → make s (draws l k c) ≡ drawn s l k c
 unfolding make
@@ -77,7 +77,7 @@ unfolding make
 make-stale s l n t = rw (t .kept)
 
 -- a refused call hands out nothing
-none-turned : (p : Call → Bool) (s : Stock) (c : Call) (n : ℕ) → part p (turned s c n) ≡ 0
+none-turned : (p : Call → Bool) (s : Stock) (c : Call) (n : ℕ) → handedBy p (turned s c n) ≡ 0
 none-turned p s c n = choose-none (p c)
   where
     choose-none : (t : Bool) → _≡_ {A = ℕ} (choose t 0 0) 0
@@ -90,7 +90,7 @@ module _ (s : Stock) (W : Well s) where
       record {
         well = W;
         callers = refl;
-        holds = λ j. let z = none-turned (drawsOf j) s c n in omega arith;
+        remaining = λ j. let z = none-turned (drawsOf j) s c n in omega arith;
         held = let z = none-turned aDraw s c n in omega arith;
       }
 
@@ -110,7 +110,7 @@ module _ (s : Stock) (W : Well s) where
       record {
         well = advanced-well s W l k c a;
         callers = advanced-callers s W l k c a;
-        holds = λ j. by-equality j k
+        remaining = λ j. by-equality j k
             (λ e. rw (e, eq-eqb k k refl) (let h = advanced-holds s W l k c a in omega arith))
             (λ n. rw (ne-eqb j k n) (let o = advanced-keeps s W l k c a j n in omega arith));
         held = advanced-held s W l k c a;
@@ -129,28 +129,28 @@ module _ (s : Stock) (W : Well s) where
         not-passed = refl;
       }
 
-  same-holds : (l : Label) (j : ℕ) → holds (blocks l (s .callers) (holds s)) j ≡ holds s j
-  same-holds l j = blocks-holds l (s .callers) (holds s) (W .most) (λ k h. holds-past s k (W .most) h) j
+  same-holds : (l : Label) (j : ℕ) → remaining (shareBlocks l (s .callers) (remaining s)) j ≡ remaining s j
+  same-holds l j = blocks-holds l (s .callers) (remaining s) (W .most) (λ k h. holds-past s k (W .most) h) j
 
-  same-held : (l : Label) → held (blocks l (s .callers) (holds s)) ≡ held s
+  same-held : (l : Label) → held (shareBlocks l (s .callers) (remaining s)) ≡ held s
   unfolding held
   same-held l = sum-same 8 _ _ (λ j h. same-holds l j)
 
   kept-moved : (l : Label) (n : ℕ) → Kept s (moved s l n)
   kept-moved l n =
       record {
-        well = blocks-well l (s .callers) (holds s) (W .most);
-        callers = blocks-callers l (s .callers) (holds s) (W .most);
-        holds = λ j. let e = same-holds l j in omega arith;
+        well = blocks-well l (s .callers) (remaining s) (W .most);
+        callers = blocks-callers l (s .callers) (remaining s) (W .most);
+        remaining = λ j. let e = same-holds l j in omega arith;
         held = let e = same-held l in omega arith;
       }
 
   moved-moved : (l : Label) (n : ℕ) → Fresh s l n → Moved s (moved s l n)
   moved-moved l n f =
       record {
-        above = unfold blocks in f .above;
-        next = λ j h. blocks-next l (s .callers) (holds s) (W .most) j h ∙ sym (sum-same j _ _ (λ i b. same-holds l i));
-        end = λ j h. blocks-end l (s .callers) (holds s) (W .most) j h ∙ sym (sum-same (suc j) _ _ (λ i b. same-holds l i));
+        above = unfold shareBlocks in f .above;
+        next = λ j h. blocks-next l (s .callers) (remaining s) (W .most) j h ∙ sym (sum-same j _ _ (λ i b. same-holds l i));
+        end = λ j h. blocks-end l (s .callers) (remaining s) (W .most) j h ∙ sym (sum-same (suc j) _ _ (λ i b. same-holds l i));
         room = let e = same-held l in let r = f .room in omega arith;
         other = λ L. refl;
         is-passed = refl;
@@ -158,7 +158,7 @@ module _ (s : Stock) (W : Well s) where
 
   kept-previewed : (l : Label) (k c : ℕ) → Kept s (make s (previews l k c))
   unfolding make
-  kept-previewed l k c = record { well = W; callers = refl; holds = λ j. omega arith; held = omega arith }
+  kept-previewed l k c = record { well = W; callers = refl; remaining = λ j. omega arith; held = omega arith }
 
   pub stayed-preview : (l : Label) (k c : ℕ) → Stayed s (make s (previews l k c))
   unfolding make
@@ -289,12 +289,12 @@ pub record Agree (k : ℕ) (s t : Stock) : Type 0 where
   pub end : endOf s k ≡ endOf t k
 
 pub agree-reply : (k : ℕ) (s t : Stock) → Agree k s t → (l : Label) (c : ℕ) → make s (draws l k c) .reply ≡ make t (draws l k c) .reply
-unfolding make draw drawNumber holds isCaller
+unfolding make draw drawNumber remaining isCaller
 agree-reply k s t A l c = rw (A .label, A .callers, A .next, A .end)
 
 -- a caller's part, by its reply
 pub own-part : (s : Stock) (l : Label) (k c : ℕ)
-    → part (drawsOf k) (make s (draws l k c)) ≡ byNumber (make s (draws l k c) .reply .number) (make s (draws l k c) .reply .count) 0
+    → handedBy (drawsOf k) (make s (draws l k c)) ≡ byNumber (make s (draws l k c) .reply .number) (make s (draws l k c) .reply .count) 0
 unfolding make
 own-part s l k c = rw (eq-eqb k k refl)
 
@@ -314,7 +314,7 @@ agree-after k s t W U A l c =
 
 pub agree-other : (k : ℕ) (c : Call) (s t : Stock) → Well s → Stayed s (make s c) → Agree k s t → drawsOf k c ≡ false → Agree k (make s c .after) t
 agree-other k c s t W S A n =
-    let none : part (drawsOf k) (make s c) ≡ 0 = rw (make-call s c, n) in
+    let none : handedBy (drawsOf k) (make s c) ≡ 0 = rw (make-call s c, n) in
     record {
       label = S .label ∙ A .label;
       callers = kept s W c .callers ∙ A .callers;

@@ -12,7 +12,7 @@ use Rattle.stock.specs.declared.OpenedStock.{OpenedStock}
 use Rattle.stock.specs.declared.Previewed.{Previewed}
 use Rattle.stock.specs.declared.Stock.{Stock}
 use Rattle.stock.specs.Label.{numberOf, labelZero}
-use Rattle.stock.specs.Stock.{isCaller, nextOf, holds, sumOf, held, blocks}
+use Rattle.stock.specs.Stock.{isCaller, nextOf, remaining, sumOf, held, shareBlocks}
 
 -- 1 to a largest number
 abbrev pub isUpTo : ℕ → ℕ → Bool
@@ -38,23 +38,23 @@ openNumber outputs shares =
 
 -- a stock without callers, under label 0
 unfoldable pub noCallers : Stock
-noCallers = blocks labelZero 0 (λ k. 0)
+noCallers = shareBlocks labelZero 0 (λ k. 0)
 
 -- the answer, and the shares as they stand on return
-pub record Opening : Type 0 where
+pub record StockOpening : Type 0 where
   pub opened : OpenedStock
   pub shares : List ℕ
 
-abbrev pub opening : OpenedStock → List ℕ → Opening
-opening opened shares = record { opened = opened; shares = shares }
+abbrev pub stockOpening : OpenedStock → List ℕ → StockOpening
+stockOpening opened shares = record { opened = opened; shares = shares }
 
 -- opening a stock names a label, n and a share per caller
-unfoldable pub openStock : Label → ℕ → List ℕ → Opening
+unfoldable pub openStock : Label → ℕ → List ℕ → StockOpening
 openStock label outputs shares =
-    opening
+    stockOpening
     (record {
       number = openNumber outputs shares;
-      stock = byNumber (openNumber outputs shares) (blocks label (length shares) (shareOf shares)) noCallers;
+      stock = byNumber (openNumber outputs shares) (shareBlocks label (length shares) (shareOf shares)) noCallers;
     })
     shares
 
@@ -65,7 +65,7 @@ unfoldable pub drawNumber : Stock → Label → ℕ → ℕ → ℕ
 drawNumber s l k c =
     choose (not (eqb (numberOf l) (numberOf (s .label)))) labelNotInUse
     (choose (not (isCaller s k)) noCaller
-    (choose (ltb (holds s k) c) shareSpent
+    (choose (ltb (remaining s k) c) shareSpent
     accepted))
 
 -- the stock with caller k's next index raised by c
@@ -111,5 +111,5 @@ unfoldable pub pass : Stock → Label → ℕ → OpenedStock
 pass s l outputs =
     record {
       number = passNumber s l outputs;
-      stock = byNumber (passNumber s l outputs) (blocks l (s .callers) (holds s)) s;
+      stock = byNumber (passNumber s l outputs) (shareBlocks l (s .callers) (remaining s)) s;
     }

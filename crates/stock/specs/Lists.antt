@@ -10,7 +10,7 @@ use Rattle.answer.specs.Numbers.{accepted, noCaller}
 use Rattle.stock.specs.declared.Label.{Label}
 use Rattle.stock.specs.declared.Stock.{Stock}
 use Rattle.stock.specs.Label.{numberOf, labelZero}
-use Rattle.stock.specs.Stock.{holds, sumOf, held}
+use Rattle.stock.specs.Stock.{remaining, sumOf, held}
 use Rattle.stock.specs.Calls.{byNumber, shareOf, noCallers, openStock, draw, preview, pass}
 
 -- ---- lists of calls
@@ -100,22 +100,22 @@ abbrev pub passed : Made → Bool
 passed m = aPassage (m .call) && eqb (m .reply .number) accepted
 
 -- outputs that a made call hands out, if a test picks it: an accepted reply's own count
-abbrev pub part : (Call → Bool) → Made → ℕ
-part p m = choose (p (m .call)) (byNumber (m .reply .number) (m .reply .count) 0) 0
+abbrev pub handedBy : (Call → Bool) → Made → ℕ
+handedBy p m = choose (p (m .call)) (byNumber (m .reply .number) (m .reply .count) 0) 0
 
 -- outputs handed out by the made calls that a test picks
 unfoldable pub handed : (Call → Bool) → List Made → ℕ
 handed p [] = 0
-handed p (m ∷ h) = part p m + handed p h
+handed p (m ∷ h) = handedBy p m + handed p h
 
 -- the replies, their numbers, and the calls, in their order
 unfoldable pub replies : List Made → List Reply
 replies [] = []
 replies (m ∷ h) = m .reply ∷ replies h
 
-unfoldable pub numbers : List Made → List ℕ
-numbers [] = []
-numbers (m ∷ h) = m .reply .number ∷ numbers h
+unfoldable pub replyNumbers : List Made → List ℕ
+replyNumbers [] = []
+replyNumbers (m ∷ h) = m .reply .number ∷ replyNumbers h
 
 unfoldable pub callsOf : List Made → List Call
 callsOf [] = []
@@ -173,9 +173,9 @@ pub record HandsOut (m : Made) (L x : ℕ) : Type 0 where
 -- after what k drew since; the block is within the n in use
 pub record NextOf (u : Use) (k c : ℕ) (r : Reply) : Type 0 where
   pub count : r .count ≡ c
-  pub first : r .first ≡ sumOf k (holds (u .came)) + handed (drawsOf k) (u .since)
-  pub block : r .first + c ≤ sumOf (suc k) (holds (u .came))
-  pub within : sumOf (suc k) (holds (u .came)) ≤ u .outputs
+  pub first : r .first ≡ sumOf k (remaining (u .came)) + handed (drawsOf k) (u .since)
+  pub block : r .first + c ≤ sumOf (suc k) (remaining (u .came))
+  pub within : sumOf (suc k) (remaining (u .came)) ≤ u .outputs
 
 -- the call at place i of a list of made calls
 abbrev pub madeAt : List Made → ℕ → Made
@@ -188,7 +188,7 @@ abbrev pub concerns : ℕ → Made → Bool
 concerns k m = drawsOf k (m .call) || passed m
 
 -- a list of draws, previews and passages after an accepted opening
-pub record Claim (outputs : ℕ) (shares : List ℕ) (s : Stock) (calls : List Call) : Type 0 where
+pub record StockClaim (outputs : ℕ) (shares : List ℕ) (s : Stock) (calls : List Call) : Type 0 where
   -- no pair of label and index is handed out twice
   pub once : (i j : ℕ) → i < length calls → j < length calls → (L x : ℕ)
       → HandsOut (madeAt (run s calls) i) L x → HandsOut (madeAt (run s calls) j) L x → i ≡ j
@@ -197,7 +197,7 @@ pub record Claim (outputs : ℕ) (shares : List ℕ) (s : Stock) (calls : List C
   -- under each label, outputs handed out and outputs held when it goes out of use make up those held when it came into use
   pub labels : (L : ℕ) → handed (drawsUnder L) (run s calls) + heldLast L 0 (stocks s calls) ≡ heldFirst L (stocks s calls)
   -- all that a caller draws and what it still holds make up its opening share
-  pub callers : (k : ℕ) → handed (drawsOf k) (run s calls) + holds (last s calls) k ≡ shareOf shares k
+  pub callers : (k : ℕ) → handed (drawsOf k) (run s calls) + remaining (last s calls) k ≡ shareOf shares k
   -- an accepted draw of c returns the caller's next c indices
   pub next : (i : ℕ) → i < length calls → (l : Label) (k c : ℕ) → madeAt (run s calls) i .call ≡ draws l k c
       → madeAt (run s calls) i .reply .number ≡ accepted
@@ -205,15 +205,15 @@ pub record Claim (outputs : ℕ) (shares : List ℕ) (s : Stock) (calls : List C
       (madeAt (run s calls) i .reply)
   -- a caller's numbers are those of every list with the same accepted passages and the same draws of this caller, in their order
   pub refusals : (k : ℕ) (other : List Call) → callsOf (those (concerns k) (run s calls)) ≡ callsOf (those (concerns k) (run s other))
-      → numbers (those (λ m. drawsOf k (m .call)) (run s calls)) ≡ numbers (those (λ m. drawsOf k (m .call)) (run s other))
+      → replyNumbers (those (λ m. drawsOf k (m .call)) (run s calls)) ≡ replyNumbers (those (λ m. drawsOf k (m .call)) (run s other))
   -- before any passage, a caller's replies are those of the list with all but its own draws struck out
   pub own : (k : ℕ) → those passed (run s calls) ≡ []
       → replies (those (λ m. drawsOf k (m .call)) (run s calls)) ≡ replies (run s (those (drawsOf k) calls))
 
-abbrev pub Lists : Type 0
-Lists =
+abbrev pub StockLists : Type 0
+StockLists =
     (label : Label) (outputs : ℕ) (shares : List ℕ) → openStock label outputs shares .opened .number ≡ accepted
-    → (calls : List Call) → Claim outputs shares (openStock label outputs shares .opened .stock) calls
+    → (calls : List Call) → StockClaim outputs shares (openStock label outputs shares .opened .stock) calls
 
 -- previews change nothing, on any stock: the other calls and what they reply and leave, and the last stock, are those of the
 -- list without the previews

@@ -20,8 +20,8 @@ abbrev pub endOf : Stock → ℕ → ℕ
 endOf s k = getD (s .end) k 0
 
 -- a caller's remaining share; 0 where the next index is above the end, and where there is no such caller
-unfoldable pub holds : Stock → ℕ → ℕ
-holds s k = choose (isCaller s k) (endOf s k - nextOf s k) 0
+unfoldable pub remaining : Stock → ℕ → ℕ
+remaining s k = choose (isCaller s k) (endOf s k - nextOf s k) 0
 
 -- the sum of f at 0 to n − 1
 unfoldable pub sumOf : ℕ → (ℕ → ℕ) → ℕ
@@ -30,7 +30,7 @@ sumOf (suc n) f = sumOf n f + f n
 
 -- outputs still held, by all callers together
 unfoldable pub held : Stock → ℕ
-held s = sumOf 8 (holds s)
+held s = sumOf 8 (remaining s)
 
 -- eight entries
 abbrev pub eight : (ℕ → ℕ) → List ℕ
@@ -42,8 +42,8 @@ entries callers f = eight (λ k. choose (ltb k callers) (f k) 0)
 
 -- the shares as consecutive blocks of outputs, from index 0 in caller order: a caller's block begins at the sum of the shares
 -- before it
-unfoldable pub blocks : Label → ℕ → (ℕ → ℕ) → Stock
-blocks label callers share =
+unfoldable pub shareBlocks : Label → ℕ → (ℕ → ℕ) → Stock
+shareBlocks label callers share =
     record {
       callers = callers;
       label = label;

@@ -3,9 +3,9 @@
 ghost use mathlib.Core.Path.{_≡_};
 ghost use mathlib.Core.Bool.{true};
 ghost use Prim.Native.Nat.{_≤_};
-ghost use Rattle.stock.specs.Calls.{opening, openStock, draw as drawStock, preview as previewStock, pass as passStock};
+ghost use Rattle.stock.specs.Calls.{stockOpening, openStock, draw as drawStock, preview as previewStock, pass as passStock};
 ghost use Rattle.stock.specs.Inner.Steps.{refusedOpening, refusedDraw, takenDraw, refusedPassage};
-ghost use Rattle.stock.specs.Stock.{isCaller, holds};
+ghost use Rattle.stock.specs.Stock.{isCaller, remaining};
 
 mod labels;
 mod shares;
@@ -74,7 +74,7 @@ pub struct Previewed {
 
 // Opens a stock under a label with a share for each caller, as consecutive blocks of the outputs.
 pub fn open(label: Label, outputs: usize, shares: &[u32]) -> OpenedStock
-    ensures { λ r. ⌜ opening r (now (shares .exit)) ≡ openStock label outputs (now (shares .entry)) ⌝ }
+    ensures { λ r. ⌜ stockOpening r (now (shares .exit)) ≡ openStock label outputs (now (shares .entry)) ⌝ }
 {
     if !is_up_to(MOST_CALLERS, shares.len()) {
         return refused_opening(BAD_SIZE);
@@ -122,7 +122,7 @@ pub fn draw(stock: Stock, label: Label, caller: usize, count: usize) -> Drawn
 
 // An accepted draw: a window from the caller's next index on, which is raised by the count.
 fn taken(stock: Stock, caller: usize, count: usize) -> Drawn
-    requires { ⌜ (isCaller stock caller ≡ true) × (count ≤ holds stock caller) ⌝ }
+    requires { ⌜ (isCaller stock caller ≡ true) × (count ≤ remaining stock caller) ⌝ }
     ensures { λ r. ⌜ r ≡ takenDraw stock caller count ⌝ }
 {
     let first = stock.next[caller];

@@ -2,7 +2,7 @@
 ghost use mathlib.Core.Path.{_≡_};
 ghost use Prim.Native.Nat.{_≤_, min};
 ghost use lib.ListN.{length};
-ghost use Rattle.stock.specs.Stock.{isCaller, holds, sumOf, entries, blocks};
+ghost use Rattle.stock.specs.Stock.{isCaller, remaining, sumOf, entries, shareBlocks};
 ghost use Rattle.stock.specs.Calls.{isUpTo, shareOf};
 use crate::Label;
 use crate::Stock;
@@ -57,7 +57,7 @@ fn at_most_eight(callers: u32) -> usize
 // Consecutive blocks of the outputs, from index 0 in caller order.
 pub fn blocks_of(label: Label, callers: u32, shares: [u32; 8]) -> Stock
     requires { ⌜ sumOf 8 (shareOf shares) ≤ 32768 ⌝ }
-    ensures { λ r. ⌜ r ≡ blocks label callers (shareOf shares) ⌝ }
+    ensures { λ r. ⌜ r ≡ shareBlocks label callers (shareOf shares) ⌝ }
 {
     let n = at_most_eight(callers);
     let mut next = [0u32; 8];
@@ -90,7 +90,7 @@ pub fn is_caller(stock: Stock, caller: usize) -> bool
 
 // A caller's remaining share.
 pub fn holding(stock: Stock, caller: usize) -> u32
-    ensures { λ r. ⌜ r ≡ holds stock caller ⌝ }
+    ensures { λ r. ⌜ r ≡ remaining stock caller ⌝ }
 {
     if !is_caller(stock, caller) {
         return 0;
@@ -105,7 +105,7 @@ pub fn holding(stock: Stock, caller: usize) -> u32
 
 // What each of the eight callers has not drawn.
 pub fn rest(stock: Stock) -> [u32; 8]
-    ensures { λ r. ⌜ r ≡ entries 8 (holds stock) ⌝ }
+    ensures { λ r. ⌜ r ≡ entries 8 (remaining stock) ⌝ }
 {
     let mut each = [0u32; 8];
     let mut caller: usize = 0;

@@ -6,10 +6,10 @@ use Prim.Native.Nat.{ℕ, _*_}
 use lib.Dec.{ltb, eqb}
 use lib.ListN.{length}
 use borrow.Author.Tests.{ltb-false, eqb-true, le-ltb, eq-eqb, not-false}
-use Rattle.messages.specs.Answer.{firstFault}
-use Rattle.messages.proofs.Accepts.{answer-number}
+use Rattle.messages.specs.Outcome.{firstFault}
+use Rattle.messages.proofs.Accepts.{outcome-number}
 use Rattle.messages.proofs.Numbers.{passed, both}
-use Rattle.pads.specs.Calls.{anyAbove}
+use Rattle.pads.specs.Bytes.{anyAbove}
 use Rattle.pads.proofs.Numbers.{none-above, above-none}
 use Rattle.triples.specs.Call.{TriplesLent, triplesNumber, triples}
 use Rattle.triples.specs.Admitted.{TriplesAdmitted, Accepts}
@@ -49,6 +49,6 @@ triples-zero l a =
 pub accepts : Accepts
 unfolding triples
 accepts l = (
-  λ a. answer-number _ _ _ _ ∙ triples-zero l a,
-  λ e. triples-number (l .choices) (l .pads) (l .messages) (l .triples) (sym (answer-number _ _ _ _) ∙ e),
+  λ a. outcome-number _ _ _ _ ∙ triples-zero l a,
+  λ e. triples-number (l .choices) (l .pads) (l .messages) (l .triples) (sym (outcome-number _ _ _ _) ∙ e),
 )

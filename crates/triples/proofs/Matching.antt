@@ -11,11 +11,11 @@ use lib.Dec.{eqb}
 use lib.ListN.{length, getD, take}
 use borrow.Author.Tests.{eqb-true}
 use Rattle.algebra.specs.Coding.{at, over}
-use Rattle.messages.specs.Answer.{Outcome}
+use Rattle.messages.specs.Outcome.{Outcome}
 use Rattle.messages.specs.Opening.{NamedAt}
 use Rattle.messages.proofs.Fronts.{byte-front}
 use Rattle.messages.proofs.Numbers.{both}
-use Rattle.messages.proofs.Opening.{answer-accepted, named-byte}
+use Rattle.messages.proofs.Opening.{outcome-accepted, named-byte}
 use Rattle.triples.specs.Triple.{Triple, tripleBytes, tripleFrom, messageBit, padBit, tripleOf}
 use Rattle.triples.specs.Call.{TriplesLent, triples}
 use Rattle.triples.specs.Matching.{MatchingAt, Match, ZeroOrOne, triplesOf}
@@ -112,7 +112,7 @@ module _ (l : TriplesLent) (e : triples l .number ≡ 0) where
   written-is : triplesOf l ≡ front
   unfolding triples
   written-is =
-      ap (λ (o : Outcome TriplesLent). take (o .written) (o .lent .triples)) (answer-accepted _ _ _ _ e)
+      ap (λ (o : Outcome TriplesLent). take (o .written) (o .lent .triples)) (outcome-accepted _ _ _ _ e)
       ∙ rw (mul-comm 3 (length (l .choices)))
 
   byte-is : (k m : ℕ) → k < length (l .choices) → m < 3

@@ -3,7 +3,7 @@ use mathlib.Core.Path.{_≡_}
 use mathlib.Core.Logic.{_↔_}
 use Prim.Native.Nat.{_*_, _≤_}
 use lib.ListN.{length}
-use Rattle.messages.specs.Admitted.{Bits}
+use Rattle.pads.specs.Bytes.{Bits}
 use Rattle.triples.specs.Call.{TriplesLent, triples}
 
 -- choices have a byte an output, 0 or 1, pads 16 bytes and messages 32; the buffer has room for three bytes an output

@@ -7,8 +7,8 @@ use lib.Dec.{ltb, eqb}
 use lib.ListN.{length}
 use Rattle.algebra.specs.Coding.{over}
 use Rattle.answer.specs.Numbers.{badLength, notElement, bufferShort}
-use Rattle.messages.specs.Answer.{Outcome, answer, firstFault}
-use Rattle.pads.specs.Calls.{anyAbove}
+use Rattle.messages.specs.Outcome.{Outcome, outcomeOf, firstFault}
+use Rattle.pads.specs.Bytes.{anyAbove}
 use Rattle.triples.specs.Triple.{tripleBytes, tripleOf}
 
 -- what is lent: the choices and the pads of the first pairing, the messages of the second, and the output buffer
@@ -29,7 +29,7 @@ triplesNumber choices pads messages room =
 -- the call: three bytes an output
 unfoldable pub triples : TriplesLent → Outcome TriplesLent
 triples l =
-    answer (triplesNumber (l .choices) (l .pads) (l .messages) (length (l .triples))) (3 * length (l .choices)) l
+    outcomeOf (triplesNumber (l .choices) (l .pads) (l .messages) (length (l .triples))) (3 * length (l .choices)) l
     (record {
       choices = l .choices;
       pads = l .pads;

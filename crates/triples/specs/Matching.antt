@@ -7,8 +7,8 @@ use Prim.Native.Nat.{ℕ, _*_, _<_}
 use lib.Bits.{bitAnd, bitXor}
 use lib.ListN.{length, take}
 use Rattle.algebra.specs.Coding.{at}
-use Rattle.messages.specs.Admitted.{Bits}
 use Rattle.messages.specs.Opening.{NamedAt}
+use Rattle.pads.specs.Bytes.{Bits}
 use Rattle.triples.specs.Triple.{Triple, tripleBytes}
 use Rattle.triples.specs.Call.{TriplesLent, triples}
 

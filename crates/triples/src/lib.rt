@@ -1,7 +1,7 @@
 // AND triples: an end's three bits of each output, from its choices and pads in one pairing and its messages in another with
 // the roles exchanged.
 ghost use mathlib.Core.Path.{_≡_};
-ghost use Rattle.messages.specs.Answer.{outcome};
+ghost use Rattle.messages.specs.Outcome.{outcome};
 ghost use Rattle.triples.specs.Call.{triples};
 
 mod form;

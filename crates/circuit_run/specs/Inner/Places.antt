@@ -8,11 +8,11 @@ use lib.Dec.{eqb}
 use lib.ListN.{length, getD, set, drop}
 use Rattle.algebra.specs.Choice.{choose}
 use Rattle.circuit.specs.Content.{And, Circuit}
-use Rattle.circuit.specs.Inner.Opens.{content, Opens}
+use Rattle.circuit.specs.Inner.Fronts.{content, HasFront}
 use Rattle.circuit.specs.Reading.{readGates}
 use Rattle.circuit.specs.declared.Front.{Front}
 use Rattle.number.specs.Reading.{Whole}
-use Rattle.circuit_run.specs.Step.{gateAt, andsBefore, firstWire, secondWire, tripleFirst, tripleSecond, tripleThird, stateAdmitted, flipped, andShare, freshWires, runOn, runWith, Lent, Outcome, stepRun, acceptedStep}
+use Rattle.circuit_run.specs.Step.{gateAt, andsBefore, firstWire, secondWire, tripleFirst, tripleSecond, tripleThird, stateAdmitted, flipped, andShare, freshWires, runOn, runWith, StepLent, StepOutcome, stepRun, acceptedStep}
 use Rattle.circuit_run.specs.Inner.Tests.{askedNumber}
 use Rattle.circuit_run.specs.declared.checking.Checked.{Checked}
 use Rattle.circuit_run.specs.declared.input.Asked.{Asked}
@@ -54,15 +54,15 @@ pub record Spots (s : List ℕ) (f : Front) (phase gate : ℕ) (r : Spot) : Type
   pub waits : phase ≡ 1 → r .admitted ≡ true → Waits s f r
 
 -- what a step that is not finished rests on: shares for the wires, a triple for each AND, and the AND that it waits at
-pub record Ready (s : List ℕ) (f : Front) (a : Asked) (r : Spot) (shares triples : List ℕ) : Type 0 where
+pub record CanProceed (s : List ℕ) (f : Front) (a : Asked) (r : Spot) (shares triples : List ℕ) : Type 0 where
   pub few : length shares ≤ 4096
   pub enough : f .ands * 3 ≤ length triples
   pub waits : a .waits ≡ true → Waits s f r
 
 -- what a step has once all tests are passed
 pub record Tested (s : List ℕ) (f : Front) (a : Asked) (r : Spot) (shares triples : List ℕ) (space phase gate : ℕ) : Type 0 where
-  pub opens : Opens s f
-  pub ready : Ready s f a r shares triples
+  pub opens : HasFront s f
+  pub ready : CanProceed s f a r shares triples
   pub room : f .outputs ≤ space
   pub known : phase ≤ 2
   pub asks : a .waits ≡ eqb phase 1
@@ -104,5 +104,5 @@ steppedWith number written first second state =
     record { number = number; written = written; «first_bit» = first; «second_bit» = second; state = state }
 
 -- an accepted step on a state
-unfoldable pub acceptedOn : Circuit → Lent → Run → Outcome
+unfoldable pub acceptedOn : Circuit → StepLent → Run → StepOutcome
 acceptedOn c l state = acceptedStep c l (stepRun c l state)

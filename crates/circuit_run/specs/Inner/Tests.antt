@@ -7,12 +7,14 @@ use lib.ListN.{length}
 use Rattle.algebra.specs.Choice.{choose}
 use Rattle.answer.specs.Numbers.{accepted, badLength, notElement, wrongEnd, bufferShort, badCircuit, tooFewTriples}
 use Rattle.circuit.specs.declared.Front.{Front}
-use Rattle.circuit_run.specs.Step.{everyBit, isRole}
+use Rattle.pads.specs.Bytes.{anyAbove}
+use Rattle.circuit_run.specs.Step.{isRole}
 use Rattle.circuit_run.specs.declared.input.Asked.{Asked}
 
 -- shares and triples are bits, and the far bits of a run that waits
 abbrev pub bitsAsked : Asked → List ℕ → List ℕ → Bool
-bitsAsked a shares triples = everyBit shares && everyBit triples && (not (a .waits) || (leb (a .«far_first») 1 && leb (a .«far_second») 1))
+bitsAsked a shares triples =
+    not (anyAbove 1 shares) && not (anyAbove 1 triples) && (not (a .waits) || (leb (a .«far_first») 1 && leb (a .«far_second») 1))
 
 -- shares one an input, triple bits three each
 abbrev pub lengthsAsked : ℕ → ℕ → ℕ → Bool

@@ -1,12 +1,12 @@
 -- `stock::refused_opening` meets its contract: the entries compute.
 use mathlib.Core.Path.{refl}
-use Rattle.stock.specs.Stock.{entries, blocks}
+use Rattle.stock.specs.Stock.{entries, shareBlocks}
 use Rattle.stock.specs.Calls.{noCallers}
 use Rattle.stock.proofs.refused_opening.Statement.{statement}
 use Rattle.stock.proofs.refused_opening.Tie as tie
 
 pub refused-opening-spec : {M : Type 1} → statement M
-unfolding noCallers blocks entries
+unfolding noCallers shareBlocks entries
 refused-opening-spec =
     tie.close
     (tie.spec

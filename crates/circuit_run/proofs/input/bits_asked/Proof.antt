@@ -8,9 +8,9 @@ pub bits-asked-spec : {M : Type 1} → statement M
 bits-asked-spec =
     tie.close
     (tie.spec
-    (λ c κs. search needs)  -- every-bit-requires
+    (λ c κs. search needs)  -- any-above-requires
     (λ c. search asked-shares)  -- returns
-    (λ c κs. search needs)  -- every-bit-requires-2
+    (λ c κs. search needs)  -- any-above-requires-2
     (λ c. search asked-triples)  -- returns-2
     (λ c. search asked-no-far)  -- returns-3
     (λ c. search asked-first)  -- returns-4

@@ -7,7 +7,7 @@ use borrow.Author.Needs.{needs}
 use lib.ListN.{length}
 use Rattle.algebra.specs.Coding.{over}
 use Rattle.messages.specs.Bytes.{byte}
-use Rattle.messages.specs.Calls.{correction}
+use Rattle.messages.specs.Calls.{correctionBit}
 use Rattle.pads.proofs.Turns.{all-turns}
 use Rattle.messages.proofs.Turns.{bits-none, bits-more}
 use Rattle.messages.proofs.mask.write_bits.Statement.{statement}
@@ -15,7 +15,7 @@ use Rattle.messages.proofs.mask.write_bits.Tie as tie
 
 abbrev Inv-loop : tie.InvT-loop
 Inv-loop count choices wanted bits₀ k₀ bits k =
-    (k ≤ count) × (length bits ≡ length bits₀) × (bits ≡ over byte k (correction choices wanted) bits₀)
+    (k ≤ count) × (length bits ≡ length bits₀) × (bits ≡ over byte k (correctionBit choices wanted) bits₀)
 
 abbrev μ-loop : tie.MeasureT-loop
 μ-loop count choices wanted bits₀ k₀ bits k = count - k

@@ -5,7 +5,7 @@ use Prim.Native.Nat.{_≤_, _-_}
 use native.Mathlib.Omega.{arith}
 use borrow.Author.Needs.{needs}
 use lib.ListN.{length, drop}
-use Rattle.pads.specs.Calls.{anyAbove}
+use Rattle.pads.specs.Bytes.{anyAbove}
 use Rattle.pads.proofs.Needs.{above-here, above-later, above-nowhere}
 use Rattle.pads.proofs.bytes.any_above.Statement.{statement}
 use Rattle.pads.proofs.bytes.any_above.Tie as tie

@@ -40,7 +40,7 @@ write-messages-spec =
       omega arith,
       messages-more _ _ _ _ _ _ _ _ _
           (begun .loop-test .taken)
-          (begun .before .before .before .before .pre .1 .outputs)
+          (omega arith)
           (begun .before .loop .inv .2)
           (block .block-at .ensures)
           (stored .put-messages .ensures),

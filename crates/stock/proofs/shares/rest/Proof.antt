@@ -4,14 +4,14 @@ use mathlib.Core.Path.{_≡_}
 use Prim.Native.Nat.{_≤_, _-_}
 use native.Mathlib.Omega.{arith}
 use borrow.Author.Needs.{needs}
-use Rattle.stock.specs.Stock.{holds, entries}
+use Rattle.stock.specs.Stock.{remaining, entries}
 use Rattle.stock.proofs.Entries.{entries-none}
 use Rattle.stock.proofs.Needs.{rest-more, rest-done}
 use Rattle.stock.proofs.shares.rest.Statement.{statement}
 use Rattle.stock.proofs.shares.rest.Tie as tie
 
 abbrev Inv-loop : tie.InvT-loop
-Inv-loop stock each₀ caller₀ each caller = (caller ≤ 8) × (each ≡ entries caller (holds stock))
+Inv-loop stock each₀ caller₀ each caller = (caller ≤ 8) × (each ≡ entries caller (remaining stock))
 
 abbrev μ-loop : tie.MeasureT-loop
 μ-loop stock each₀ caller₀ each caller = 8 - caller

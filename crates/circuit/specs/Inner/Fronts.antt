@@ -24,9 +24,9 @@ abbrev pub andOf : ℕ → ℕ
 andOf kind = choose (eqb kind 2) 1 0
 
 -- gates by how many ANDs there are with those before
-abbrev pub counted : ℕ → Step (List Gate) → Step ℕ
-counted before (Whole r) = Whole (before + andsIn (r .0), r .1)
-counted before (Refused k) = Refused k
+abbrev pub countedAnds : ℕ → Step (List Gate) → Step ℕ
+countedAnds before (Whole r) = Whole (before + andsIn (r .0), r .1)
+countedAnds before (Refused k) = Refused k
 
 -- wires by the place after them
 abbrev pub placed : Step (List ℕ) → Step ℕ
@@ -42,15 +42,15 @@ abbrev pub gateOf : GateRead → Gate
 gateOf g = gateBy (g .kind) (g .first) (g .second)
 
 -- the circuit, where one was read
-abbrev pub contentOf : Reading Circuit → Circuit
-contentOf (Whole c) = c
-contentOf (Refused k) = record { inputs = 0; gates = []; outputs = [] }
+abbrev pub circuitOf : Reading Circuit → Circuit
+circuitOf (Whole c) = c
+circuitOf (Refused k) = record { inputs = 0; gates = []; outputs = [] }
 
 abbrev pub content : List ℕ → Circuit
-content s = contentOf (readCircuit s)
+content s = circuitOf (readCircuit s)
 
 -- the numbers of a circuit that was read: its sizes, the places of its first gate and of its first output wire
-pub record Opens (s : List ℕ) (f : Front) : Type 0 where
+pub record HasFront (s : List ℕ) (f : Front) : Type 0 where
   pub whole : readCircuit s ≡ Whole (content s)
   pub inputs : f .inputs ≡ content s .inputs
   pub gates : f .gates ≡ length (content s .gates)
@@ -63,7 +63,7 @@ pub record Opens (s : List ℕ) (f : Front) : Type 0 where
 
 -- what reading a circuit gives
 abbrev pub OpenedAs : List ℕ → Opened → Type 0
-OpenedAs s (Accepted f) = Opens s f
+OpenedAs s (Accepted f) = HasFront s f
 OpenedAs s (Fault k) = readCircuit s ≡ Refused k
 
 -- the number of a refusal

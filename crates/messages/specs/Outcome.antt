@@ -17,9 +17,9 @@ outcome r lent = record { number = r .number; written = r .written; lent = lent 
 
 -- an accepted call, of number 0, has written its bytes and leaves what it wrote; a refused one has zero for the length and
 -- leaves all as it was
-unfoldable pub answer : {Lent : Type 0} → ℕ → ℕ → Lent → Lent → Outcome Lent
-answer zero written lent after = record { number = 0; written = written; lent = after }
-answer (suc n) written lent after = record { number = suc n; written = 0; lent = lent }
+unfoldable pub outcomeOf : {Lent : Type 0} → ℕ → ℕ → Lent → Lent → Outcome Lent
+outcomeOf zero written lent after = record { number = 0; written = written; lent = after }
+outcomeOf (suc n) written lent after = record { number = suc n; written = 0; lent = lent }
 
 -- the number of the first of three tests that finds a fault, in their order, each test with its number; else 0
 unfoldable pub firstFault : Bool → ℕ → Bool → ℕ → Bool → ℕ → ℕ
