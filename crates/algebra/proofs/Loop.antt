@@ -1,9 +1,8 @@
 -- Accumulation in place, as a loop does it: a running total, stored over the value that was added.
-use mathlib.Core.Path.{_≡_, refl, sym, ap, _∙_}
+use mathlib.Core.Path.{_≡_, sym, ap, _∙_}
 use mathlib.Core.List.{List}
 use Prim.Native.Nat.{ℕ, zero, suc, _+_, _*_, _≤_}
 use native.Mathlib.Omega.{arith}
-use native.Mathlib.Nat.{suc-mul}
 use native.Mathlib.Numerals.{add-one}
 use lib.ListN.{length}
 use Rattle.algebra.specs.Group.{Group}
@@ -12,19 +11,6 @@ use Rattle.algebra.specs.Coding.{Coding, CodingLaws, at, over}
 use Rattle.algebra.specs.Inner.Put.{put}
 use Rattle.algebra.proofs.Sum.{sum-none, sum-suc}
 use Rattle.algebra.proofs.Coding.{over-none, over-one, at-over-past}
-
--- the total and the list after i turns of `total = total.add(v[i]); v[i] = total;`
-pub record State (G : Group) : Type 0 where
-  pub total : G .Of
-  pub values : List ℕ
-
-unfoldable pub turn : (G : Group) → Coding (G .Of) → ℕ → State G → State G
-turn G C i s =
-    record { total = G .add (s .total) (at C (s .values) i); values = put C (s .values) i (G .add (s .total) (at C (s .values) i)) }
-
-unfoldable pub turns : (G : Group) → Coding (G .Of) → ℕ → List ℕ → State G
-turns G C zero b = record { total = G .zero; values = b }
-turns G C (suc i) b = turn G C i (turns G C i b)
 
 module _ (G : Group) (C : Coding (G .Of)) (L : CodingLaws C) (b : List ℕ) where
   -- before the first turn
@@ -51,19 +37,3 @@ module _ (G : Group) (C : Coding (G .Of)) (L : CodingLaws C) (b : List ℕ) wher
       let y : x ≡ sum G (suc i) (at C b) = loop-total i v t x e l h s ∙ ap (λ (k : ℕ). sum G k (at C b)) (add-one i) in
       ap (λ (r : List ℕ). put C r i x) l ∙ ap (put C (over C i (accumulate G (at C b)) b) i) y
       ∙ sym (over-one C L i (accumulate G (at C b)) b)
-
-  -- i turns accumulate the first i values
-  pub turns-accumulate : (i : ℕ) → i * C .width ≤ length b
-      → turns G C i b ≡ record { total = sum G i (at C b); values = over C i (accumulate G (at C b)) b }
-  unfolding turns turn
-  turns-accumulate zero h = cc (loop-total-none, loop-values-none)
-  turns-accumulate (suc i) h =
-      let m = suc-mul i (C .width) in
-      let s : State G = turns G C i b in
-      let e = turns-accumulate i (omega arith) in
-      let t : s .total ≡ sum G i (at C b) = ap (λ (r : State G). r .total) e in
-      let l : s .values ≡ over C i (accumulate G (at C b)) b = ap (λ (r : State G). r .values) e in
-      let x = G .add (s .total) (at C (s .values) i) in
-      let p = loop-total i (s .values) (s .total) x t l (omega arith) refl in
-      let q = loop-values i (s .values) (s .total) x t l (omega arith) refl in
-      cc (p, q, add-one i)

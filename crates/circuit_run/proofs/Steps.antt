@@ -8,7 +8,7 @@ use native.Mathlib.Omega.{arith}
 use lib.Bits.{bitXor}
 use lib.Dec.{eqb}
 use lib.ListN.{length, getD, drop}
-use mir.Syntax.{w32, w64}
+use mir.Syntax.{w64}
 use mir.Val.{Fits}
 use Rattle.algebra.specs.Choice.{choose}
 use Rattle.circuit.proofs.Ands.{before-few}
@@ -23,7 +23,7 @@ use Rattle.number.proofs.Places.{either, choose-yes, choose-no}
 use Rattle.number.specs.Reading.{Reading, Refused}
 use Rattle.circuit_run.proofs.Gates.{gatesOf}
 use Rattle.circuit_run.proofs.Numbers.{asked-passes, state-phase}
-use Rattle.circuit_run.specs.Inner.Places.{Spots, CanProceed, Tested, Checks, Stops, givenAnd, proceeded, steppedWith, acceptedOn}
+use Rattle.circuit_run.specs.Inner.Places.{Spots, Tested, Checks, Stops, givenAnd, proceeded, steppedWith, acceptedOn}
 use Rattle.circuit_run.specs.Inner.Tests.{askedNumber}
 use Rattle.circuit_run.specs.Step.{StepLent, lentWith, StepOutcome, stepOutcome, stepped, runWith, stepNumber, gateAt, freshWires, runOn, maskedFirst, maskedSecond, waitingShare, withAnd, stepRun, withOutputs, acceptedStep, refusedStep, stepBy, stepRead, step}
 use Rattle.circuit_run.specs.declared.Run.{Run}
@@ -65,15 +65,6 @@ by-accepted n c l s e = ap (λ (m : ℕ). stepBy m c l s) e
 
 module _ {s : List ℕ} {f : Front} {a : Asked} {r : Spot} {shares triples : List ℕ} {space phase gate : ℕ}
     (t : Tested s f a r shares triples space phase gate) where
-  pub tested-opens : HasFront s f
-  tested-opens = t .opens
-
-  pub tested-ready : CanProceed s f a r shares triples
-  tested-ready = t .ready
-
-  pub tested-room : f .outputs ≤ space
-  tested-room = t .room
-
   module _ {before : Run} {reached : Reached} {wires : List ℕ} (stops : Stops s f before reached wires) where
     few : reached .ands ≤ 4096
     few =
@@ -85,20 +76,11 @@ module _ {s : List ℕ} {f : Front} {a : Asked} {r : Spot} {shares triples : Lis
           before-few (gatesOf s) (reached .gate) (omega (arith, stops .below, t .opens .gates)),
         )
 
-    pub gate-fits : Fits w32 (reached .gate)
-    gate-fits = record { fits = omega (arith, stops .below, t .opens .most) }
-
     pub triple-fits : Fits w64 (reached .ands * 3)
     triple-fits = record { fits = omega (arith, few) }
 
     pub second-fits : Fits w64 (reached .ands * 3 + 1)
     second-fits = record { fits = omega (arith, few) }
-
-    pub wire-first : reached .first < 4096
-    wire-first = stops .first .1
-
-    pub wire-second : reached .second < 4096
-    wire-second = stops .second .1
 
     module _ (waiting : reached .waits ≡ true) where
       pub first-below : reached .ands * 3 < length triples
