@@ -1,2 +1,3 @@
 -- The computed examples.
 pub mod Computed
+pub mod PadRule

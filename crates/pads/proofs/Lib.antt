@@ -7,4 +7,3 @@ pub mod Choice
 pub mod Needs
 pub mod Turns
 pub mod Outcomes
-pub mod Examples
