@@ -39,7 +39,7 @@ use Rattle.noise_end.specs.Vectors as noiseVectors
 use Rattle.scalar_end.specs.Offline as scalarOffline
 use Rattle.scalar_end.specs.Online as scalarOnline
 use Rattle.scalar_end.specs.Vectors as scalarVectors
-use Rattle.expander.specs.Correlation.{Setting, noiseStart, noiseRun, scalarStart, scalarRun}
+use Rattle.claims.specs.Correlation.{Setting, noiseStart, noiseRun, scalarStart, scalarRun}
 use Rattle.example.specs.Example.{binaryInput, primeInput, noiseCalls, scalarCalls, noiseShown, scalarShown, Example}
 
 -- every number of a list is below a bound

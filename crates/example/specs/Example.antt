@@ -7,7 +7,7 @@ use Prim.Native.Nat.{ℕ}
 use lib.ListN.{replicate}
 use Rattle.answer.specs.Numbers.{accepted, windowPastEnd}
 use Rattle.dealing.specs.Input.{Input}
-use Rattle.expander.specs.Correlation.{Setting, NoiseCall, noiseStart, noiseRun, ScalarCall, scalarStart, scalarRun}
+use Rattle.claims.specs.Correlation.{Setting, NoiseCall, noiseStart, noiseRun, ScalarCall, scalarStart, scalarRun}
 use Rattle.noise_end.specs.Online as noiseOnline
 use Rattle.scalar_end.specs.Online as scalarOnline
 

@@ -16,8 +16,8 @@ use Rattle.pads.specs.Pad.{pad}
 use Rattle.dealing.specs.Admitted.{Admitted}
 use Rattle.dealing.specs.Input.{Input}
 use Rattle.dealing.specs.Vectors.{u, v, w, delta}
-use Rattle.expander.specs.Correlation.{PadsLent}
-use Rattle.expander.proofs.Outputs.{admitted-correlated}
+use Rattle.claims.specs.Correlation.{PadsLent}
+use Rattle.claims.proofs.Outputs.{admitted-correlated}
 
 -- two accepted pad calls and an index in both windows
 module _ (first count : ℕ) (vs choices pads : List ℕ) (noise-accepted : noisePads first count vs choices pads .number ≡ 0)

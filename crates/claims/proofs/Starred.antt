@@ -16,7 +16,7 @@ use Rattle.dealing.specs.Input.{fault, sizesAdmitted, lengthsAdmitted, position
 use Rattle.dealing.specs.Parts.{noiseTree}
 use Rattle.tree.specs.Columns.{columnsBytes}
 use Rattle.tree.specs.Tree.{path, listed, others, beside, siblings}
-use Rattle.expander.specs.Cases.{starred, Cases}
+use Rattle.claims.specs.Cases.{starred, Cases}
 
 pub starred-hold : Cases
 unfolding starred sBox affine fromBits inverse squares mulBytes multiples xtime writeNumber readNumber lastGroup readByte writeTrees writeTree writeFront writeNoise writeScalar writeHead writing.writeEach leBytes primeAdd primeSub primeMul primeReduce flat noise correction sum accumulate deal fault sizesAdmitted lengthsAdmitted positionsAdmitted rising every everyNoise deltaAdmitted noiseTree listed path beside others siblings columnsBytes wordAt leNumber

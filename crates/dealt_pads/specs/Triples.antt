@@ -4,7 +4,7 @@ use mathlib.Core.Path.{_≡_}
 use lib.ListN.{length}
 use Rattle.triples.specs.Call.{TriplesLent, triples}
 use Rattle.triples.specs.Matching.{Matching, triplesOf}
-use Rattle.expander.specs.Taken.{Dealing, Taken}
+use Rattle.dealt_pads.specs.Taken.{Dealing, Taken}
 
 -- the noise end of the first pairing lends l: its choices and pads there, and its messages as the scalar end of the second; the
 -- other end lends l′: its choices and pads as the noise end of the second, and its messages as the scalar end of the first

@@ -14,7 +14,7 @@ use Rattle.evaluation.specs.Runs.{StepMade, runOf, IsStep, writtenBy}
 use Rattle.number.specs.Reading.{Whole}
 use Rattle.triples.specs.Call.{TriplesLent, triples}
 use Rattle.triples.specs.Matching.{triplesOf}
-use Rattle.expander.specs.Taken.{Dealing, Taken}
+use Rattle.dealt_pads.specs.Taken.{Dealing, Taken}
 
 -- l is lent to the triples call of the first pairing's noise end, which has role 1, and l′ to that of the other end
 abbrev pub Circuits : Type 0

@@ -7,7 +7,3 @@ pub mod Entire
 pub mod Paired
 pub mod Starred
 pub mod Buffers
-mod Taken
-pub mod Messages
-pub mod Triples
-pub mod CircuitRuns

@@ -1,7 +1,7 @@
 -- The triples of two dealings' pads match: the law of `triples`, where in each pairing the choice names the pad.
 use Rattle.triples.proofs.Matching.{match}
-use Rattle.expander.specs.Triples.{Triples}
-use Rattle.expander.proofs.Taken.{named}
+use Rattle.dealt_pads.specs.Triples.{Triples}
+use Rattle.dealt_pads.proofs.Taken.{named}
 
 pub triples : Triples
 triples first second l l′ equal T T′ e e′ =

@@ -14,7 +14,7 @@ use Rattle.dealing.specs.Vectors.{field}
 use Rattle.noise_end.specs.Offline as noiseOffline
 use Rattle.record.specs.Writing.{writeNoise, writeScalar}
 use Rattle.scalar_end.specs.Offline as scalarOffline
-use Rattle.expander.specs.Correlation.{Setting, NoiseCall, noiseStep, noiseStart, ScalarCall, scalarStep, scalarStart}
+use Rattle.claims.specs.Correlation.{Setting, NoiseCall, noiseStep, noiseStart, ScalarCall, scalarStep, scalarStart}
 
 pub record Acceptance : Type 0 where
   -- the dealing returns 0 exactly for admitted input with room for both records

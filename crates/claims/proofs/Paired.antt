@@ -18,9 +18,9 @@ use Rattle.noise_end.specs.Vectors as noiseVectors
 use Rattle.scalar_end.specs.Vectors as scalarVectors
 use Rattle.pairing.proofs.Laws.{held-at, correlated-held}
 use Rattle.pairing.specs.Verdict.{uAt, vAt, wAt, heldAt}
-use Rattle.expander.specs.Pairing.{Held}
-use Rattle.expander.proofs.Dealt.{mu-dealt, v0-dealt, w0-dealt}
-use Rattle.expander.proofs.Outputs.{admitted-correlated}
+use Rattle.claims.specs.Pairing.{Held}
+use Rattle.claims.proofs.Dealt.{mu-dealt, v0-dealt, w0-dealt}
+use Rattle.claims.proofs.Outputs.{admitted-correlated}
 
 module _ (I : Input) (A : Admitted I) (x : ℕ) where
   u-at : uAt (noisePart I) x ≡ u I x

@@ -35,7 +35,7 @@ use Rattle.rows.specs.Head.{fieldOf, places}
 use Rattle.scalar_end.proofs.Laws as scalarLaws
 use Rattle.scalar_end.specs.Vectors as scalarEnd
 use Rattle.scalar_end.specs.Vectors.{delta, w0}
-use Rattle.expander.specs.Buffers.{NoiseExpanded, ScalarExpanded, noiseContent, scalarContent, noiseAfter, scalarAfter, muAfter, vAfter, wAfter, deltaAfter, AccumulatedAt, ExpandedAt, Below, Buffers}
+use Rattle.claims.specs.Buffers.{NoiseExpanded, ScalarExpanded, noiseContent, scalarContent, noiseAfter, scalarAfter, muAfter, vAfter, wAfter, deltaAfter, AccumulatedAt, ExpandedAt, Below, Buffers}
 
 -- ---- what is admitted, tree by tree
 

@@ -4,8 +4,8 @@ use Prim.Native.Nat.{ℕ, _≤_}
 use native.Mathlib.Omega.{arith}
 use Rattle.evaluation.proofs.Evaluates.{evaluation}
 use Rattle.triples.specs.Matching.{Matching, triplesOf}
-use Rattle.expander.specs.Circuits.{Circuits}
-use Rattle.expander.proofs.Triples.{triples}
+use Rattle.dealt_pads.specs.Circuits.{Circuits}
+use Rattle.dealt_pads.proofs.Triples.{triples}
 
 -- of matching triples the first so many match
 fewer : (n count : ℕ) (one two : List ℕ) → n ≤ count → Matching count one two → Matching n one two

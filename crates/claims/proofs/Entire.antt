@@ -8,12 +8,12 @@ use Rattle.dealing.specs.Vectors.{field}
 use Rattle.noise_end.proofs.Laws as noiseLaws
 use Rattle.record.proofs.Laws as records
 use Rattle.scalar_end.proofs.Laws as scalarLaws
-use Rattle.expander.specs.Acceptance.{Acceptance}
-use Rattle.expander.specs.Correlation.{Setting, NoiseCall, noiseStep, noiseStart, ScalarCall, scalarStep, scalarStart, Outputs, Lists, Pads, Demand3}
-use Rattle.expander.specs.Records.{Records}
-use Rattle.expander.proofs.Lists.{claim, noise-number, scalar-number}
-use Rattle.expander.proofs.Outputs.{admitted-correlated}
-use Rattle.expander.proofs.Pads.{admitted-pads}
+use Rattle.claims.specs.Acceptance.{Acceptance}
+use Rattle.claims.specs.Correlation.{Setting, NoiseCall, noiseStep, noiseStart, ScalarCall, scalarStep, scalarStart, Outputs, Lists, Pads, Demand3}
+use Rattle.claims.specs.Records.{Records}
+use Rattle.claims.proofs.Lists.{claim, noise-number, scalar-number}
+use Rattle.claims.proofs.Outputs.{admitted-correlated}
+use Rattle.claims.proofs.Pads.{admitted-pads}
 
 pub record-laws : Records
 record-laws =
@@ -48,13 +48,13 @@ demand3 = record { outputs = outputs; lists = lists; pads = pads }
 -- ---- what is accepted
 
 module _ (S : Setting) where
-  noise-listed : (c : NoiseCall) → noiseStep (noiseStart S) c .number ≡ Rattle.expander.specs.Correlation.listedNoiseNumber (S .input) c
+  noise-listed : (c : NoiseCall) → noiseStep (noiseStart S) c .number ≡ Rattle.claims.specs.Correlation.listedNoiseNumber (S .input) c
   noise-listed =
       noise-number S (dealing.deal-number (S .input) (S .noiseRecord) (S .scalarRecord) (S .dealt) .admitted)
       (dealing.noise-reads (S .input) (S .noiseRecord) (S .scalarRecord) (S .dealt) (S .inMemory))
       (dealing.scalar-reads (S .input) (S .noiseRecord) (S .scalarRecord) (S .dealt) (S .inMemory))
 
-  scalar-listed : (c : ScalarCall) → scalarStep (scalarStart S) c .number ≡ Rattle.expander.specs.Correlation.listedScalarNumber (S .input) c
+  scalar-listed : (c : ScalarCall) → scalarStep (scalarStart S) c .number ≡ Rattle.claims.specs.Correlation.listedScalarNumber (S .input) c
   scalar-listed =
       scalar-number S (dealing.deal-number (S .input) (S .noiseRecord) (S .scalarRecord) (S .dealt) .admitted)
       (dealing.noise-reads (S .input) (S .noiseRecord) (S .scalarRecord) (S .dealt) (S .inMemory))

@@ -10,8 +10,8 @@ use Rattle.messages.specs.Opening.{NamedAt}
 use Rattle.pads.proofs.Accepts.{accepts}
 use Rattle.pads.specs.Choice.{messageAt}
 use Rattle.pads.specs.Pad.{pad}
-use Rattle.expander.specs.Taken.{Dealing, TakenAt}
-use Rattle.expander.proofs.Entire.{pads}
+use Rattle.dealt_pads.specs.Taken.{Dealing, TakenAt}
+use Rattle.claims.proofs.Entire.{pads}
 
 -- noise values that are equal in field 1 are equal bytes
 same-byte : (f : ℕ) → f ≡ 1 → (a b : List ℕ) (i j : ℕ)

@@ -37,9 +37,9 @@ use Rattle.scalar_end.proofs.Laws as scalarLaws
 use Rattle.scalar_end.specs.Offline as scalarOffline
 use Rattle.scalar_end.specs.Online as scalarOnline
 use Rattle.scalar_end.specs.Vectors as scalarPartVectors
-use Rattle.expander.specs.Correlation.{Setting, noiseSource, scalarSource, NoiseMemory, NoiseCall, noiseStep, noiseLeft, noiseRun, noiseLast, noiseStart, listedNoiseNumber, NoiseHands, ScalarMemory, ScalarCall, scalarStep, scalarLeft, scalarRun, scalarLast, scalarStart, listedScalarNumber, ScalarHands, noiseCall, noiseOutcome, scalarCall, scalarOutcome, Claim}
-use Rattle.expander.proofs.Dealt.{mu-dealt, v0-dealt, w0-dealt}
-use Rattle.expander.proofs.Outputs.{admitted-correlated}
+use Rattle.claims.specs.Correlation.{Setting, noiseSource, scalarSource, NoiseMemory, NoiseCall, noiseStep, noiseLeft, noiseRun, noiseLast, noiseStart, listedNoiseNumber, NoiseHands, ScalarMemory, ScalarCall, scalarStep, scalarLeft, scalarRun, scalarLast, scalarStart, listedScalarNumber, ScalarHands, noiseCall, noiseOutcome, scalarCall, scalarOutcome, Claim}
+use Rattle.claims.proofs.Dealt.{mu-dealt, v0-dealt, w0-dealt}
+use Rattle.claims.proofs.Outputs.{admitted-correlated}
 
 -- ---- lists on any memory: each call leaves the memory as it was, so every call of a list is made on the first memory
 
