@@ -5,7 +5,3 @@ pub mod LabelOrder
 pub mod Needs
 pub mod Opened
 pub mod Passed
-pub mod Blocks
-pub mod Steps
-pub mod Runs
-pub mod Claims

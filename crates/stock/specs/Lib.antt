@@ -1,6 +1,5 @@
--- Stock for up to eight callers (document 02, 2, 5 and 14): labels, what a stock holds, the calls, and lists of calls.
+-- Stock for up to eight callers (document 02, 2, 5 and 14): labels, what a stock holds, and the calls.
 pub mod Label
 pub mod Stock
 pub mod Calls
-pub mod Lists
 pub mod Inner

@@ -7,15 +7,15 @@ use native.Mathlib.Omega.{arith}
 use lib.Dec.{eqb, eqb·suc-zero}
 use borrow.Author.Tests.{eq-eqb, ne-eqb, eqb-true}
 use Rattle.algebra.specs.Choice.{choose}
 use Rattle.stock.specs.declared.Label.{Label}
 use Rattle.stock.specs.declared.Stock.{Stock}
 use Rattle.stock.specs.Label.{numberOf}
 use Rattle.stock.specs.Stock.{isCaller, nextOf, endOf, remaining, sumOf, held, shareBlocks}
 use Rattle.stock.specs.Calls.{byNumber, drawNumber, advanced, draw}
-use Rattle.stock.specs.Lists.{Call, draws, previews, passes, Reply, Made, make, aDraw, drawsOf, drawsUnder, passed, handedBy, outputsOf, HandsOut}
+use Rattle.stock_lists.specs.Lists.{Call, draws, previews, passes, Reply, Made, make, aDraw, drawsOf, drawsUnder, passed, handedBy, outputsOf, HandsOut}
 use Rattle.stock.proofs.Cases.{by-order, by-equality}
-use Rattle.stock.proofs.Blocks.{Well, holds-past, blocks-next, blocks-end, blocks-callers, blocks-well, blocks-holds, Accepted, Refused, draw-cases, Fresh, Stale, pass-cases, is-caller, advanced-label, advanced-callers, advanced-end, advanced-next, advanced-other, fits-block, advanced-well, advanced-holds, advanced-keeps, advanced-held}
+use Rattle.stock_lists.proofs.Blocks.{Well, holds-past, blocks-next, blocks-end, blocks-callers, blocks-well, blocks-holds, Accepted, Refused, draw-cases, Fresh, Stale, pass-cases, is-caller, advanced-label, advanced-callers, advanced-end, advanced-next, advanced-other, fits-block, advanced-well, advanced-holds, advanced-keeps, advanced-held}
 use Rattle.stock.proofs.Entries.{sum-same}
 
 -- what every call keeps: the blocks follow each other, and what it hands out is what its caller, and all callers, hold less
 pub record Kept (s : Stock) (m : Made) : Type 0 where

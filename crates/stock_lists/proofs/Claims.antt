@@ -12,18 +12,18 @@ use borrow.Author.Tests.{eqb-true, eq-eqb, ltb-false}
 use Rattle.algebra.proofs.Tests.{and-left, or-neither, passed as passed-not}
 use Rattle.algebra.specs.Choice.{choose}
 use Rattle.answer.specs.Numbers.{accepted, noCaller, shareSpent, labelNotInUse}
 use Rattle.stock.specs.declared.Label.{Label}
 use Rattle.stock.specs.declared.Stock.{Stock}
 use Rattle.stock.specs.Label.{numberOf}
 use Rattle.stock.specs.Stock.{isCaller, remaining, held, sumOf, shareBlocks}
 use Rattle.stock.specs.Calls.{isUpTo, byNumber, shareOf, openNumber, openStock, draw, drawNumber}
-use Rattle.stock.specs.Lists.{Call, draws, previews, passes, Reply, Made, make, run, last, those, drawsOf, passed, handedBy, handed, replies, replyNumbers, callsOf, Use, useAfter, NextOf, madeAt, concerns, StockClaim, StockLists}
+use Rattle.stock_lists.specs.Lists.{Call, draws, previews, passes, Reply, Made, make, run, last, those, drawsOf, passed, handedBy, handed, replies, replyNumbers, callsOf, Use, useAfter, NextOf, madeAt, concerns, StockClaim, StockLists}
 use Rattle.stock.proofs.Cases.{by-test}
-use Rattle.stock.proofs.Blocks.{Well, blocks-next, blocks-end, blocks-callers, blocks-well, blocks-holds, blocks-held, is-caller, fits-block, Fresh, pass-cases}
+use Rattle.stock_lists.proofs.Blocks.{Well, blocks-next, blocks-end, blocks-callers, blocks-well, blocks-holds, blocks-held, is-caller, fits-block, Fresh, pass-cases}
 use Rattle.stock.proofs.Entries.{sum-grows, sum-same}
 use Rattle.stock.proofs.Opened.{up-to-most}
-use Rattle.stock.proofs.Runs.{last-well, sums-run, callers-run, labels-run, once-run, InUse, use-run}
-use Rattle.stock.proofs.Steps.{Stayed, kept, step, stayed-draw, Agree, agree-reply, agree-after, agree-other, accepted-draw, make-call, make-drawn, make-moved, stayed-preview, stayed-stale, moved-passed}
+use Rattle.stock_lists.proofs.Runs.{last-well, sums-run, callers-run, labels-run, once-run, InUse, use-run}
+use Rattle.stock_lists.proofs.Steps.{Stayed, kept, step, stayed-draw, Agree, agree-reply, agree-after, agree-other, accepted-draw, make-call, make-drawn, make-moved, stayed-preview, stayed-stale, moved-passed}
 
 -- ---- picked calls
 

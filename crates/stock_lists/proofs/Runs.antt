@@ -9,14 +9,14 @@ use native.Mathlib.Omega.{arith}
 use lib.ListN.{length}
 use borrow.Author.Tests.{eq-eqb, ne-eqb}
 use Rattle.algebra.specs.Choice.{choose}
 use Rattle.stock.specs.declared.Label.{Label}
 use Rattle.stock.specs.declared.Stock.{Stock}
 use Rattle.stock.specs.Label.{numberOf}
 use Rattle.stock.specs.Stock.{nextOf, endOf, remaining, held, sumOf}
-use Rattle.stock.specs.Lists.{Call, draws, previews, passes, Made, make, run, last, those, aDraw, drawsOf, drawsUnder, passed, handedBy, handed, stocks, heldFirst, heldLast, Use, outputsOf, useAfter, HandsOut, madeAt, Unchanged, Previews}
+use Rattle.stock_lists.specs.Lists.{Call, draws, previews, passes, Made, make, run, last, those, aDraw, drawsOf, drawsUnder, passed, handedBy, handed, stocks, heldFirst, heldLast, Use, outputsOf, useAfter, HandsOut, madeAt, Unchanged, Previews}
 use Rattle.stock.proofs.Cases.{by-order, by-equality}
-use Rattle.stock.proofs.Blocks.{Well}
-use Rattle.stock.proofs.Steps.{Stayed, Moved, kept, step, stayed-draw, label-rises, Free, hands-label, hands-free, hands-gone, hands-none, free-before}
+use Rattle.stock_lists.proofs.Blocks.{Well}
+use Rattle.stock_lists.proofs.Steps.{Stayed, Moved, kept, step, stayed-draw, label-rises, Free, hands-label, hands-free, hands-gone, hands-none, free-before}
 
 -- ---- sums
 

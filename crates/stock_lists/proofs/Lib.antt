@@ -1,0 +1,5 @@
+-- The laws of lists of calls on a stock, and the inhabitants of the statements.
+mod Blocks
+mod Steps
+pub mod Runs
+pub mod Claims
