@@ -12,6 +12,9 @@ use Rattle.algebra.specs.Inner.Rows.{RowWithin}
 use Rattle.algebra.proofs.Sum.{sum-cong}
 use Rattle.field.specs.Kind.{Kind, KindLaws}
 use Rattle.code.specs.Row.{termPlace, placeOf, rowOf}
+use Rattle.code.specs.declared.Shape.{Shape}
+use Rattle.code.specs.declared.Window.{Window}
+use Rattle.code.specs.Inner.Rows.{placeIn}
 use Rattle.code.specs.Inner.Used.{wordBelow, rowBelow, usedBelow, allBelow}
 use Rattle.algebra.proofs.Every.{every-at, every-all}
 
@@ -46,14 +49,11 @@ module _ (keys : List (List (List ℕ))) (N ℓ : ℕ) where
   output-below K S x f g h e =
       output-places S (rowOf (K .field .ring) (K .coefficient) keys N ℓ x) f g (λ i k. e (termPlace keys N ℓ x i) (place-below x i h))
 
-  module _ (bound : ℕ) (words : List ℕ) (first count : ℕ) where
-    -- where every word is below the bound no row can fail
-    pub used-true : 0 < N → ((j : ℕ) → j < N → getD words j 0 < bound) → usedBelow bound words keys N ℓ first count ≡ true
-    unfolding usedBelow rowBelow
-    used-true h below =
-        every-all (λ k. rowBelow bound words keys N ℓ (first + k)) count
-        (λ k g. every-all (λ i. wordBelow bound words (termPlace keys N ℓ (first + k) i)) ℓ
-        (λ i m. lt-ltb _ _ (below (termPlace keys N ℓ (first + k) i) (place-below (first + k) i h))))
-
-    pub used-all : 0 < N → length words ≡ N → allBelow bound words ≡ true → usedBelow bound words keys N ℓ first count ≡ true
-    used-all h size e = used-true h (λ j k. all-word bound words e j (rw size k))
+module _ (keys : List (List (List ℕ))) (s : Shape) (bound : ℕ) (words : List ℕ) (w : Window) where
+  -- where every word is below the bound no row can fail
+  pub used-all : 0 < s .places → length words ≡ s .places → allBelow bound words ≡ true → usedBelow bound words keys s w ≡ true
+  unfolding usedBelow rowBelow
+  used-all h size e =
+      every-all (λ k. rowBelow bound words keys s (w .first + k)) (w .count)
+      (λ k g. every-all (λ i. wordBelow bound words (placeIn keys s (w .first + k) i)) (s .terms)
+      (λ i m. lt-ltb _ _ (all-word bound words e (placeIn keys s (w .first + k) i) (rw size (place-below keys (s .places) (s .terms) (w .first + k) i h)))))

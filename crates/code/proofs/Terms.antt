@@ -19,7 +19,8 @@ use Rattle.field.specs.Bytes.{columnsOf, highOf}
 use Rattle.field.specs.Prime.{primes, primeRing, prime, primeReduce, primeAdd, primeMul}
 use Rattle.field.proofs.PrimeField.{reduced-add, reduced-mul}
 use Rattle.code.specs.Row.{termBlock, placeOf, termPlace, rowOf}
-use Rattle.code.specs.Inner.Rows.{binaryRow, primeRow}
+use Rattle.code.specs.declared.Shape.{Shape}
+use Rattle.code.specs.Inner.Rows.{placeIn, binaryRow, primeRow}
 
 -- a term, from what the cipher and the words in bytes give
 module _ (keys : List (List (List ℕ))) (x i : ℕ) {s e : List (List ℕ)} {b : Block}
@@ -59,55 +60,55 @@ module _ {R : Ring} (S : Scaled R) (row : Row R) (f : ℕ → S .group .Of) wher
 word-at : (l : List ℕ) {j k : ℕ} → j ≡ k → getD l j 0 ≡ getD l (k * 1) 0
 word-at l {j} {k} e = ap (λ (n : ℕ). getD l n 0) (e ∙ sym (mul-one k))
 
-module _ (keys : List (List (List ℕ))) (N ℓ x : ℕ) (words : List ℕ) where
+module _ (keys : List (List (List ℕ))) (s : Shape) (x : ℕ) (words : List ℕ) where
   -- the sums of u, and of v or w, in field 1 and in field 2
   unfoldable pub bitsSum : ℕ → ℕ
-  bitsSum n = termsSum (itself bitRing) (binaryRow keys N ℓ x) (at (binary .noiseValues) words) n
+  bitsSum n = termsSum (itself bitRing) (binaryRow keys s x) (at (binary .noiseValues) words) n
 
   unfoldable pub blocksSum : ℕ → Block
-  blocksSum n = termsSum blocks (binaryRow keys N ℓ x) (at (binary .elements) words) n
+  blocksSum n = termsSum blocks (binaryRow keys s x) (at (binary .elements) words) n
 
   unfoldable pub primesSum : ℕ → Prime
-  primesSum n = termsSum (itself primeRing) (primeRow keys N ℓ x) (at (primes .elements) words) n
+  primesSum n = termsSum (itself primeRing) (primeRow keys s x) (at (primes .elements) words) n
 
   pub bits-none : 0 ≡ bitsSum 0
   unfolding bitsSum
-  bits-none = terms-none (itself bitRing) (binaryRow keys N ℓ x) (at (binary .noiseValues) words)
+  bits-none = terms-none (itself bitRing) (binaryRow keys s x) (at (binary .noiseValues) words)
 
   pub blocks-none : {a : Block} → a ≡ blockZero → a ≡ blocksSum 0
   unfolding blocksSum
-  blocks-none e = e ∙ terms-none blocks (binaryRow keys N ℓ x) (at (binary .elements) words)
+  blocks-none e = e ∙ terms-none blocks (binaryRow keys s x) (at (binary .elements) words)
 
   pub primes-none : primeReduce 0 ≡ primesSum 0
   unfolding primesSum primeReduce
-  primes-none = terms-none (itself primeRing) (primeRow keys N ℓ x) (at (primes .elements) words)
+  primes-none = terms-none (itself primeRing) (primeRow keys s x) (at (primes .elements) words)
 
   module _ (i : ℕ) where
-    pub bits-done : {a : ℕ} → a ≡ bitsSum i → i ≤ ℓ → ℓ ≤ i → a ≡ output (itself bitRing) (binaryRow keys N ℓ x) (at (binary .noiseValues) words)
+    pub bits-done : {a : ℕ} → a ≡ bitsSum i → i ≤ s .terms → s .terms ≤ i → a ≡ output (itself bitRing) (binaryRow keys s x) (at (binary .noiseValues) words)
     unfolding rowOf bitsSum
-    bits-done = terms-done (itself bitRing) (binaryRow keys N ℓ x) (at (binary .noiseValues) words) i
+    bits-done = terms-done (itself bitRing) (binaryRow keys s x) (at (binary .noiseValues) words) i
 
-    pub blocks-done : {a : Block} → a ≡ blocksSum i → i ≤ ℓ → ℓ ≤ i → a ≡ output blocks (binaryRow keys N ℓ x) (at (binary .elements) words)
+    pub blocks-done : {a : Block} → a ≡ blocksSum i → i ≤ s .terms → s .terms ≤ i → a ≡ output blocks (binaryRow keys s x) (at (binary .elements) words)
     unfolding rowOf blocksSum
-    blocks-done = terms-done blocks (binaryRow keys N ℓ x) (at (binary .elements) words) i
+    blocks-done = terms-done blocks (binaryRow keys s x) (at (binary .elements) words) i
 
-    pub primes-done : (a : ℕ) {r : Prime} → primeReduce a ≡ primesSum i → i ≤ ℓ → ℓ ≤ i → r ≡ primeReduce a
-        → r ≡ output (itself primeRing) (primeRow keys N ℓ x) (at (primes .elements) words)
+    pub primes-done : (a : ℕ) {r : Prime} → primeReduce a ≡ primesSum i → i ≤ s .terms → s .terms ≤ i → r ≡ primeReduce a
+        → r ≡ output (itself primeRing) (primeRow keys s x) (at (primes .elements) words)
     unfolding rowOf primesSum
-    primes-done a e h k p = p ∙ terms-done (itself primeRing) (primeRow keys N ℓ x) (at (primes .elements) words) i e h k
+    primes-done a e h k p = p ∙ terms-done (itself primeRing) (primeRow keys s x) (at (primes .elements) words) i e h k
 
-    module _ {j : ℕ} (named : j ≡ termPlace keys N ℓ x i) where
+    module _ {j : ℕ} (named : j ≡ placeIn keys s x i) where
       pub bits-more : {u next : ℕ} → u ≡ bitsSum i → next ≡ bitAdd u (getD words j 0) → next ≡ bitsSum (i + 1)
       unfolding rowOf bitsSum
       bits-more {u} {next} e q =
-          let one : bitMul 1 (getD words j 0) ≡ bitMul 1 (at (binary .noiseValues) words (termPlace keys N ℓ x i)) =
+          let one : bitMul 1 (getD words j 0) ≡ bitMul 1 (at (binary .noiseValues) words (placeIn keys s x i)) =
           ap (bitMul 1) (word-at words named) in
-          terms-more (itself bitRing) (binaryRow keys N ℓ x) (at (binary .noiseValues) words) i e one (omega arith)
+          terms-more (itself bitRing) (binaryRow keys s x) (at (binary .noiseValues) words) i e one (omega arith)
 
       pub blocks-more : {a e next : Block} → a ≡ blocksSum i → e ≡ at (binary .elements) words j → next ≡ blockAdd a e → next ≡ blocksSum (i + 1)
       unfolding rowOf blockScale blocksSum
       blocks-more e p q =
-          terms-more blocks (binaryRow keys N ℓ x) (at (binary .elements) words) i e
+          terms-more blocks (binaryRow keys s x) (at (binary .elements) words) i e
           (p ∙ ap (at (binary .elements) words) named) q
 
       pub primes-more : (a next word : ℕ) → primeReduce a ≡ primesSum i → word ≡ highOf (termBlock keys x i)
@@ -115,6 +116,6 @@ module _ (keys : List (List (List ℕ))) (N ℓ x : ℕ) (words : List ℕ) wher
           → primeReduce next ≡ primesSum (i + 1)
       unfolding rowOf primesSum
       primes-more a next word e p q =
-          terms-more (itself primeRing) (primeRow keys N ℓ x) (at (primes .elements) words) i e
+          terms-more (itself primeRing) (primeRow keys s x) (at (primes .elements) words) i e
           (reduced-mul word (prime (getD words j 0)) ∙ ap₂ primeMul (ap primeReduce p) (ap prime (word-at words named)))
           (q ∙ reduced-add a (primeMul (prime word) (prime (getD words j 0))))

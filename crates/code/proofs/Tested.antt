@@ -10,58 +10,60 @@ use borrow.Author.Tests.{lt-ltb, le-ltb}
 use lib.ListN.{length, getD}
 use mir.Syntax.{w64}
 use mir.Val.{Fits}
-use Rattle.code.specs.Row.{termPlace}
+use Rattle.code.specs.declared.Shape.{Shape}
+use Rattle.code.specs.declared.Window.{Window}
+use Rattle.code.specs.Inner.Rows.{placeIn}
 use Rattle.algebra.specs.Every.{every}
 use Rattle.code.specs.Inner.Used.{wordBelow, rowBelow, usedBelow, allBelow}
 use Rattle.algebra.proofs.Every.{every-none, every-more, every-done, every-stop}
 use Rattle.code.proofs.Laws.{used-all}
 
 -- the words at the places of the first n terms are below the bound
-unfoldable pub termsBelow : ℕ → List ℕ → List (List (List ℕ)) → ℕ → ℕ → ℕ → ℕ → Bool
-termsBelow bound words keys N ℓ x n = every n (λ i. wordBelow bound words (termPlace keys N ℓ x i))
+unfoldable pub termsBelow : ℕ → List ℕ → List (List (List ℕ)) → Shape → ℕ → ℕ → Bool
+termsBelow bound words keys s x n = every n (λ i. wordBelow bound words (placeIn keys s x i))
 
-module _ (bound : ℕ) (words : List ℕ) (keys : List (List (List ℕ))) (N ℓ : ℕ) where
+module _ (bound : ℕ) (words : List ℕ) (keys : List (List (List ℕ))) (s : Shape) where
   module _ (x : ℕ) where
-    pub terms-below-none : termsBelow bound words keys N ℓ x 0 ≡ true
+    pub terms-none : termsBelow bound words keys s x 0 ≡ true
     unfolding termsBelow
-    terms-below-none = every-none (λ k. wordBelow bound words (termPlace keys N ℓ x k))
+    terms-none = every-none (λ k. wordBelow bound words (placeIn keys s x k))
 
-    pub terms-below-done : (i : ℕ) → termsBelow bound words keys N ℓ x i ≡ true → i ≤ ℓ → ℓ ≤ i → true ≡ rowBelow bound words keys N ℓ x
+    pub terms-done : (i : ℕ) → termsBelow bound words keys s x i ≡ true → i ≤ s .terms → s .terms ≤ i → true ≡ rowBelow bound words keys s x
     unfolding termsBelow rowBelow
-    terms-below-done i = every-done (λ k. wordBelow bound words (termPlace keys N ℓ x k)) i ℓ
+    terms-done i = every-done (λ k. wordBelow bound words (placeIn keys s x k)) i (s .terms)
 
-    module _ (i : ℕ) {j : ℕ} (named : j ≡ termPlace keys N ℓ x i) where
-      pub terms-below-more : termsBelow bound words keys N ℓ x i ≡ true → getD words j 0 < bound → termsBelow bound words keys N ℓ x (i + 1) ≡ true
+    module _ (i : ℕ) {j : ℕ} (named : j ≡ placeIn keys s x i) where
+      pub term-more : termsBelow bound words keys s x i ≡ true → getD words j 0 < bound → termsBelow bound words keys s x (i + 1) ≡ true
       unfolding termsBelow
-      terms-below-more e h =
-          every-more (λ k. wordBelow bound words (termPlace keys N ℓ x k)) i e
+      term-more e h =
+          every-more (λ k. wordBelow bound words (placeIn keys s x k)) i e
           (ap (wordBelow bound words) (sym named) ∙ lt-ltb (getD words j 0) bound h)
 
-      pub terms-below-stop : i < ℓ → bound ≤ getD words j 0 → false ≡ rowBelow bound words keys N ℓ x
+      pub term-stop : i < s .terms → bound ≤ getD words j 0 → false ≡ rowBelow bound words keys s x
       unfolding rowBelow
-      terms-below-stop k h =
-          every-stop (λ k. wordBelow bound words (termPlace keys N ℓ x k)) i ℓ k
+      term-stop k h =
+          every-stop (λ k. wordBelow bound words (placeIn keys s x k)) i (s .terms) k
           (ap (wordBelow bound words) (sym named) ∙ le-ltb (getD words j 0) bound h)
 
-  module _ (first : ℕ) where
-    pub rows-below-none : usedBelow bound words keys N ℓ first 0 ≡ true
-    unfolding usedBelow
-    rows-below-none = every-none (λ k. rowBelow bound words keys N ℓ (first + k))
+  -- the rows of a window
+  pub rows-none : (first : ℕ) → usedBelow bound words keys s (record { first = first; count = 0 }) ≡ true
+  unfolding usedBelow
+  rows-none first = every-none (λ k. rowBelow bound words keys s (first + k))
 
-    pub rows-below-more : (k : ℕ) {r : Bool} → r ≡ rowBelow bound words keys N ℓ (first + k) → r ≡ true
-        → usedBelow bound words keys N ℓ first k ≡ true → usedBelow bound words keys N ℓ first (k + 1) ≡ true
-    unfolding usedBelow
-    rows-below-more k p q e = every-more (λ i. rowBelow bound words keys N ℓ (first + i)) k e (sym p ∙ q)
+  pub rows-done : (w : Window) (k : ℕ) → usedBelow bound words keys s (record { first = w .first; count = k }) ≡ true → k ≤ w .count → w .count ≤ k
+      → true ≡ usedBelow bound words keys s w
+  unfolding usedBelow
+  rows-done w k = every-done (λ i. rowBelow bound words keys s (w .first + i)) k (w .count)
 
-    pub rows-below-stop : (k count : ℕ) {r : Bool} → r ≡ rowBelow bound words keys N ℓ (first + k) → r ≡ false → k < count
-        → false ≡ usedBelow bound words keys N ℓ first count
+  module _ (w : Window) (k : ℕ) {r : Bool} (row : r ≡ rowBelow bound words keys s (w .first + k)) where
+    pub row-more : r ≡ true → usedBelow bound words keys s (record { first = w .first; count = k }) ≡ true
+        → usedBelow bound words keys s (record { first = w .first; count = k + 1 }) ≡ true
     unfolding usedBelow
-    rows-below-stop k count p q h = every-stop (λ i. rowBelow bound words keys N ℓ (first + i)) k count h (sym p ∙ q)
+    row-more q e = every-more (λ i. rowBelow bound words keys s (w .first + i)) k e (sym row ∙ q)
 
-    pub rows-below-done : (k count : ℕ) → usedBelow bound words keys N ℓ first k ≡ true → k ≤ count → count ≤ k
-        → true ≡ usedBelow bound words keys N ℓ first count
+    pub row-stop : r ≡ false → k < w .count → false ≡ usedBelow bound words keys s w
     unfolding usedBelow
-    rows-below-done k count = every-done (λ i. rowBelow bound words keys N ℓ (first + i)) k count
+    row-stop q h = every-stop (λ i. rowBelow bound words keys s (w .first + i)) k (w .count) h (sym row ∙ q)
 
 module _ (bound : ℕ) (words : List ℕ) where
   pub all-more : (j : ℕ) → every j (wordBelow bound words) ≡ true → getD words j 0 < bound → every (j + 1) (wordBelow bound words) ≡ true
@@ -84,6 +86,6 @@ terms-fit first count ℓ h k =
     let m : count * ℓ ≤ 32768 * 32 = mul-le-mul c k in
     omega arith
 
-pub all-passes : (bound : ℕ) (words : List ℕ) (keys : List (List (List ℕ))) (N ℓ first count : ℕ) {r : Bool} → r ≡ allBelow bound words → r ≡ true
-    → 0 < N → length words ≡ N → true ≡ usedBelow bound words keys N ℓ first count
-all-passes bound words keys N ℓ first count p q h e = sym (used-all keys N ℓ bound words first count h e (sym p ∙ q))
+pub all-passes : (bound : ℕ) (words : List ℕ) (keys : List (List (List ℕ))) (s : Shape) (w : Window) {r : Bool} → r ≡ allBelow bound words → r ≡ true
+    → 0 < s .places → length words ≡ s .places → true ≡ usedBelow bound words keys s w
+all-passes bound words keys s w p q h e = sym (used-all keys s bound words w h e (sym p ∙ q))

@@ -13,3 +13,15 @@ pub use row::noise_row_prime;
 pub use row::scalar_row_binary;
 pub use row::scalar_row_prime;
 pub use used::used_below;
+
+// The code's shape: its places N, and the terms ℓ of a row.
+pub struct Shape {
+    pub places: usize,
+    pub terms: usize,
+}
+
+// A window: a first index and a count.
+pub struct Window {
+    pub first: usize,
+    pub count: usize,
+}

@@ -10,8 +10,9 @@ ghost use Rattle.sbox.specs.Inner.Tables.{Tables};
 ghost use Rattle.field.specs.Binary.{binary, bitRing, blocks};
 ghost use Rattle.field.specs.Bytes.{highOf};
 ghost use Rattle.field.specs.Prime.{primes, primeRing};
-ghost use Rattle.code.specs.Row.{termBlock, termPlace};
-ghost use Rattle.code.specs.Inner.Rows.{binaryRow, primeRow};
+ghost use Rattle.code.specs.Row.{termBlock};
+ghost use Rattle.code.specs.Inner.Rows.{placeIn, binaryRow, primeRow};
+use crate::Shape;
 use aes128::encrypt;
 use field::Block;
 use field::Prime;
@@ -35,20 +36,19 @@ pub struct Term {
     pub word: u64,
 }
 
-// Term i of row x among `size` places, in a row of `terms` terms.
+// Term i of row x.
 pub fn row_term(
     sbox: &[u8; 256],
     mix: &[u32; 256],
     keys: &[[[u8; 4]; 4]; 11],
-    size: usize,
-    terms: usize,
+    shape: Shape,
     x: usize,
     i: usize,
 ) -> Term
     requires { ⌜ Tables (now sbox) (now mix) ⌝ }
-    requires { ⌜ 0 < size ⌝ }
-    ensures { λ r. ⌜ (r .place ≡ termPlace (now (keys .entry)) size terms x i)
-        × (r .place < size) × (r .word ≡ highOf (termBlock (now (keys .entry)) x i)) ⌝ }
+    requires { ⌜ 0 < shape .places ⌝ }
+    ensures { λ r. ⌜ (r .place ≡ placeIn (now (keys .entry)) shape x i)
+        × (r .place < shape .places) × (r .word ≡ highOf (termBlock (now (keys .entry)) x i)) ⌝ }
 {
     let input = Block {
         low: x as u64,
@@ -56,7 +56,7 @@ pub fn row_term(
     };
     let block = Block::of_columns(encrypt(sbox, mix, keys, input.columns()));
     Term {
-        place: (block.low % (size as u64)) as usize,
+        place: (block.low % (shape.places as u64)) as usize,
         word: block.high,
     }
 }
@@ -78,22 +78,21 @@ pub fn noise_row_binary(
     sbox: &[u8; 256],
     mix: &[u32; 256],
     keys: &[[[u8; 4]; 4]; 11],
-    size: usize,
-    terms: usize,
+    shape: Shape,
     x: usize,
     noise: &[u64],
     v: &[u64],
 ) -> BinaryPair
     requires { ⌜ Tables (now sbox) (now mix) ⌝ }
-    requires { ⌜ (0 < size) × (length (now noise) ≡ size) × (length (now v) ≡ size * 2) ⌝ }
-    ensures { λ r. ⌜ (r .u ≡ output (itself bitRing) (binaryRow (now (keys .entry)) size terms x) (at (binary .noiseValues) (now (noise .entry))))
-        × (r .v ≡ output blocks (binaryRow (now (keys .entry)) size terms x) (at (binary .elements) (now (v .entry)))) ⌝ }
+    requires { ⌜ (0 < shape .places) × (length (now noise) ≡ shape .places) × (length (now v) ≡ shape .places * 2) ⌝ }
+    ensures { λ r. ⌜ (r .u ≡ output (itself bitRing) (binaryRow (now (keys .entry)) shape x) (at (binary .noiseValues) (now (noise .entry))))
+        × (r .v ≡ output blocks (binaryRow (now (keys .entry)) shape x) (at (binary .elements) (now (v .entry)))) ⌝ }
 {
     let mut u: u64 = 0;
     let mut total = Block::zero();
     let mut i: usize = 0;
-    while i < terms {
-        let t = row_term(sbox, mix, keys, size, terms, x, i);
+    while i < shape.terms {
+        let t = row_term(sbox, mix, keys, shape, x, i);
         let j = t.place;
         u = add_bits(u, noise[j]);
         let next = total.add(block_at(v, j));
@@ -108,22 +107,21 @@ pub fn noise_row_prime(
     sbox: &[u8; 256],
     mix: &[u32; 256],
     keys: &[[[u8; 4]; 4]; 11],
-    size: usize,
-    terms: usize,
+    shape: Shape,
     x: usize,
     noise: &[u64],
     v: &[u64],
 ) -> PrimePair
     requires { ⌜ Tables (now sbox) (now mix) ⌝ }
-    requires { ⌜ (0 < size) × (length (now noise) ≡ size) × (length (now v) ≡ size) ⌝ }
-    ensures { λ r. ⌜ (r .u ≡ output (itself primeRing) (primeRow (now (keys .entry)) size terms x) (at (primes .noiseValues) (now (noise .entry))))
-        × (r .v ≡ output (itself primeRing) (primeRow (now (keys .entry)) size terms x) (at (primes .elements) (now (v .entry)))) ⌝ }
+    requires { ⌜ (0 < shape .places) × (length (now noise) ≡ shape .places) × (length (now v) ≡ shape .places) ⌝ }
+    ensures { λ r. ⌜ (r .u ≡ output (itself primeRing) (primeRow (now (keys .entry)) shape x) (at (primes .noiseValues) (now (noise .entry))))
+        × (r .v ≡ output (itself primeRing) (primeRow (now (keys .entry)) shape x) (at (primes .elements) (now (v .entry)))) ⌝ }
 {
     let mut u: u64 = 0;
     let mut total: u64 = 0;
     let mut i: usize = 0;
-    while i < terms {
-        let t = row_term(sbox, mix, keys, size, terms, x, i);
+    while i < shape.terms {
+        let t = row_term(sbox, mix, keys, shape, x, i);
         let j = t.place;
         u = Prime::add_product(u, t.word, noise[j]);
         total = Prime::add_product(total, t.word, v[j]);
@@ -140,19 +138,18 @@ pub fn scalar_row_binary(
     sbox: &[u8; 256],
     mix: &[u32; 256],
     keys: &[[[u8; 4]; 4]; 11],
-    size: usize,
-    terms: usize,
+    shape: Shape,
     x: usize,
     w: &[u64],
 ) -> Block
     requires { ⌜ Tables (now sbox) (now mix) ⌝ }
-    requires { ⌜ (0 < size) × (length (now w) ≡ size * 2) ⌝ }
-    ensures { λ r. ⌜ r ≡ output blocks (binaryRow (now (keys .entry)) size terms x) (at (binary .elements) (now (w .entry))) ⌝ }
+    requires { ⌜ (0 < shape .places) × (length (now w) ≡ shape .places * 2) ⌝ }
+    ensures { λ r. ⌜ r ≡ output blocks (binaryRow (now (keys .entry)) shape x) (at (binary .elements) (now (w .entry))) ⌝ }
 {
     let mut total = Block::zero();
     let mut i: usize = 0;
-    while i < terms {
-        let t = row_term(sbox, mix, keys, size, terms, x, i);
+    while i < shape.terms {
+        let t = row_term(sbox, mix, keys, shape, x, i);
         let j = t.place;
         let next = total.add(block_at(w, j));
         total = next;
@@ -166,19 +163,18 @@ pub fn scalar_row_prime(
     sbox: &[u8; 256],
     mix: &[u32; 256],
     keys: &[[[u8; 4]; 4]; 11],
-    size: usize,
-    terms: usize,
+    shape: Shape,
     x: usize,
     w: &[u64],
 ) -> Prime
     requires { ⌜ Tables (now sbox) (now mix) ⌝ }
-    requires { ⌜ (0 < size) × (length (now w) ≡ size) ⌝ }
-    ensures { λ r. ⌜ r ≡ output (itself primeRing) (primeRow (now (keys .entry)) size terms x) (at (primes .elements) (now (w .entry))) ⌝ }
+    requires { ⌜ (0 < shape .places) × (length (now w) ≡ shape .places) ⌝ }
+    ensures { λ r. ⌜ r ≡ output (itself primeRing) (primeRow (now (keys .entry)) shape x) (at (primes .elements) (now (w .entry))) ⌝ }
 {
     let mut total: u64 = 0;
     let mut i: usize = 0;
-    while i < terms {
-        let t = row_term(sbox, mix, keys, size, terms, x, i);
+    while i < shape.terms {
+        let t = row_term(sbox, mix, keys, shape, x, i);
         let j = t.place;
         total = Prime::add_product(total, t.word, w[j]);
         i += 1;

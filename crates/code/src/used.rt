@@ -4,6 +4,8 @@ ghost use Prim.Native.Nat.{_+_, _<_, _≤_};
 ghost use lib.ListN.{length};
 ghost use Rattle.sbox.specs.Inner.Tables.{Tables};
 ghost use Rattle.code.specs.Inner.Used.{rowBelow, usedBelow, allBelow};
+use crate::Shape;
+use crate::Window;
 use crate::row::row_term;
 
 // Whether every word at the places of row x is below the bound.
@@ -11,19 +13,18 @@ fn row_below(
     sbox: &[u8; 256],
     mix: &[u32; 256],
     keys: &[[[u8; 4]; 4]; 11],
-    size: usize,
-    terms: usize,
+    shape: Shape,
     x: usize,
     words: &[u64],
     bound: u64,
 ) -> bool
     requires { ⌜ Tables (now sbox) (now mix) ⌝ }
-    requires { ⌜ (0 < size) × (length (now words) ≡ size) ⌝ }
-    ensures { λ r. ⌜ r ≡ rowBelow bound (now (words .entry)) (now (keys .entry)) size terms x ⌝ }
+    requires { ⌜ (0 < shape .places) × (length (now words) ≡ shape .places) ⌝ }
+    ensures { λ r. ⌜ r ≡ rowBelow bound (now (words .entry)) (now (keys .entry)) shape x ⌝ }
 {
     let mut i: usize = 0;
-    while i < terms {
-        let t = row_term(sbox, mix, keys, size, terms, x, i);
+    while i < shape.terms {
+        let t = row_term(sbox, mix, keys, shape, x, i);
         let j = t.place;
         if bound <= words[j] {
             return false;
@@ -38,20 +39,18 @@ pub fn rows_below(
     sbox: &[u8; 256],
     mix: &[u32; 256],
     keys: &[[[u8; 4]; 4]; 11],
-    size: usize,
-    terms: usize,
-    first: usize,
-    count: usize,
+    shape: Shape,
+    window: Window,
     words: &[u64],
     bound: u64,
 ) -> bool
     requires { ⌜ Tables (now sbox) (now mix) ⌝ }
-    requires { ⌜ (0 < size) × (length (now words) ≡ size) × (first + count ≤ 32768) ⌝ }
-    ensures { λ r. ⌜ r ≡ usedBelow bound (now (words .entry)) (now (keys .entry)) size terms first count ⌝ }
+    requires { ⌜ (0 < shape .places) × (length (now words) ≡ shape .places) × (window .first + window .count ≤ 32768) ⌝ }
+    ensures { λ r. ⌜ r ≡ usedBelow bound (now (words .entry)) (now (keys .entry)) shape window ⌝ }
 {
     let mut k: usize = 0;
-    while k < count {
-        let below = row_below(sbox, mix, keys, size, terms, first + k, words, bound);
+    while k < window.count {
+        let below = row_below(sbox, mix, keys, shape, window.first + k, words, bound);
         if !below {
             return false;
         }
@@ -80,22 +79,20 @@ pub fn used_below(
     sbox: &[u8; 256],
     mix: &[u32; 256],
     keys: &[[[u8; 4]; 4]; 11],
-    size: usize,
-    terms: usize,
-    first: usize,
-    count: usize,
+    shape: Shape,
+    window: Window,
     words: &[u64],
     bound: u64,
 ) -> bool
     requires { ⌜ Tables (now sbox) (now mix) ⌝ }
-    requires { ⌜ (0 < size) × (length (now words) ≡ size) × (first + count ≤ 32768) × (terms ≤ 32) ⌝ }
-    ensures { λ r. ⌜ r ≡ usedBelow bound (now (words .entry)) (now (keys .entry)) size terms first count ⌝ }
+    requires { ⌜ (0 < shape .places) × (length (now words) ≡ shape .places) × (window .first + window .count ≤ 32768) × (shape .terms ≤ 32) ⌝ }
+    ensures { λ r. ⌜ r ≡ usedBelow bound (now (words .entry)) (now (keys .entry)) shape window ⌝ }
 {
-    if size / 100 <= count * terms {
+    if shape.places / 100 <= window.count * shape.terms {
         let all = all_below(words, bound);
         if all {
             return true;
         }
     }
-    rows_below(sbox, mix, keys, size, terms, first, count, words, bound)
+    rows_below(sbox, mix, keys, shape, window, words, bound)
 }

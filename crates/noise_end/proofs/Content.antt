@@ -10,17 +10,16 @@ use Rattle.record.specs.Inner.Answers.{headOf, opened, frontOf}
 use Rattle.record.specs.declared.Front.{Front}
 use Rattle.record.specs.declared.Opened.{Opened}
 use Rattle.record.specs.declared.Opened.the-variants.{Accepted, Fault}
-use Rattle.record.proofs.Callers.{head-ranges, noise-refused, noise-opened}
+use Rattle.record.proofs.Callers.{noise-refused, noise-opened}
 use Rattle.rows.specs.Inner.Words.{recordFault}
 use Rattle.rows.proofs.Sizes.{head-sizes}
-use Rattle.noise_end.specs.Inner.Ready.{contentOf, Ready}
-use Rattle.noise_end.specs.Inner.Steps.{treesAt}
+use Rattle.noise_end.specs.Inner.Ready.{treesAt, contentOf, Ready}
 
 -- the trees that were read
-pub trees-at : (field depth trees : ℕ) (s : List ℕ) (body : ℕ) {ts : List NoiseTree} {end : ℕ}
-    → readTrees field depth trees 0 s body ≡ Whole (ts, end) → treesAt field s body depth trees ≡ ts
+pub trees-at : (s : List ℕ) (f : Front) {ts : List NoiseTree} {end : ℕ}
+    → readTrees (f .field) (f .depth) (f .trees) 0 s (f .body) ≡ Whole (ts, end) → treesAt s f ≡ ts
 unfolding treesAt
-trees-at field depth trees s body e = rw e
+trees-at s f e = rw e
 
 part-is : {p q : NoisePart} → p .head ≡ q .head → p .trees ≡ q .trees → p ≡ q
 part-is h t = λ i. record { head = h i; trees = t i }
@@ -30,11 +29,10 @@ pub ready : (s : List ℕ) {r : Opened} {f : Front} → opened s r ≡ frontOf (
 ready s {r} {f} e q =
     let y : Whole (headOf s f, f .body) ≡ frontOf (readNoise s) (readHead 1 s) = rw q at e in
     let o = noise-opened s (sym y) in
-    let t = trees-at (f .field) (f .depth) (f .trees) s (f .body) (o .2 .trees) in
+    let t = trees-at s f (o .2 .trees) in
     record {
       read = o .2 .whole ∙ ap Whole (part-is {p = o .0} {q = contentOf s f} (o .2 .same) (sym t));
       sizes = head-sizes 1 s (o .2 .head);
-      two = head-ranges 1 s (o .2 .head) .field;
       known = ap isWhole (o .2 .trees);
     }
 

@@ -1,64 +1,26 @@
--- Laws shaped like what the functions inside the two calls are asked: what each field gives at its kind, and the same at the
--- kind of a field byte.
-use mathlib.Core.Path.{_≡_, refl, ap, _∙_}
-use mathlib.Core.Bool.{Bool, true, false, _&&_}
+-- Laws shaped like what the functions of a window are asked: the test of the noise, u at the kind of a field byte, and the number
+-- of the tests 3, 7 and 13.
+use mathlib.Core.Path.{_≡_, refl, sym, ap, _∙_}
+use mathlib.Core.Bool.{Bool, true, false, _&&_, _||_, not}
 use mathlib.Core.List.{List}
-use Prim.Native.Nat.{ℕ, zero, suc, _+_, _≤_, _<_}
+use Prim.Native.Nat.{ℕ, zero, suc, _*_, _^_, _≤_, _<_}
 use native.Mathlib.Nat.{mul-one}
-use native.Mathlib.Omega.{arith}
-use lib.ListN.{length, set}
-use Rattle.field.proofs.KindOf.{kind-2}
-use Rattle.algebra.specs.Coding.{at}
-use Rattle.algebra.specs.Inner.Put.{put}
-use Rattle.algebra.specs.Group.{itself}
-use Rattle.algebra.specs.Row.{output}
-use Rattle.code.specs.Inner.Rows.{binaryRow, primeRow}
+use lib.Dec.{eqb, ltb}
+use borrow.Author.Tests.{lt-ltb, le-ltb, eq-eqb, ne-eqb}
 use Rattle.algebra.specs.Every.{every}
+use Rattle.code.specs.declared.Window.{Window}
 use Rattle.code.specs.Inner.Used.{rowBelow, usedBelow}
-use Rattle.field.specs.declared.block.Block.{Block}
-use Rattle.field.specs.declared.prime.Prime.{Prime}
-use Rattle.field.specs.Binary.{binary, bitRing, blocks}
+use Rattle.field.specs.Binary.{binary}
 use Rattle.field.specs.Kind.{kindOf, binaryKind, primeKind, elementWords}
-use Rattle.field.specs.Prime.{primes, primeRing, modulus}
-use Rattle.field.proofs.BinaryField.{binaryLaws}
-use Rattle.field.proofs.PrimeField.{primeLaws}
-use Rattle.rows.specs.Inner.Outputs.{outputAt}
-use Rattle.rows.proofs.Widths.{width-binary, width-prime}
-use Rattle.rows.proofs.Windows.{Written, written-none, written-word, written-all}
-use Rattle.rows.proofs.Filled.{binary-next, prime-next}
-use Rattle.noise_end.specs.Inner.Steps.{Fitting, TreesFit, treesAt, noiseExpansion, vExpansion, uOutputAt, uOver, noiseUsed}
-
-module _ (field size first count noise vector uRoom room : ℕ) (fits : Fitting (elementWords field) size first count noise vector uRoom room) where
-  pub fits-binary : field ≡ 1 → Fitting 2 size first count noise vector uRoom room
-  fits-binary e = rw (width-binary field e) at fits
-
-  pub fits-prime : (field ≡ 1 → ⊥) → Fitting 1 size first count noise vector uRoom room
-  fits-prime e = rw (width-prime field e) at fits
-
--- ---- the trees, at the kind of a field byte
-
-module _ (field body depth trees : ℕ) (source : List ℕ) (n m : ℕ) (trees-fit : TreesFit field (elementWords field) body depth trees source n m) where
-  pub trees-fit-binary : field ≡ 1 → TreesFit 1 2 body depth trees source n m
-  trees-fit-binary e = rw e at trees-fit
-
-  pub trees-fit-prime : (field ≡ 1 → ⊥) → TreesFit 2 1 body depth trees source n m
-  trees-fit-prime h = rw (trees-fit .two h) at trees-fit
-
-  pub noise-expanded-binary : field ≡ 1 → {w : List ℕ} → w ≡ noiseExpansion binaryKind depth trees (treesAt 1 source body depth trees)
-      → w ≡ noiseExpansion (kindOf field) depth trees (treesAt field source body depth trees)
-  noise-expanded-binary e q = rw e q
-
-  pub expanded-binary : field ≡ 1 → {v : List ℕ} → v ≡ vExpansion binaryKind depth trees (treesAt 1 source body depth trees)
-      → v ≡ vExpansion (kindOf field) depth trees (treesAt field source body depth trees)
-  expanded-binary e q = rw e q
-
-  pub noise-expanded-prime : (field ≡ 1 → ⊥) → {w : List ℕ} → w ≡ noiseExpansion primeKind depth trees (treesAt 2 source body depth trees)
-      → w ≡ noiseExpansion (kindOf field) depth trees (treesAt field source body depth trees)
-  noise-expanded-prime h q = rw (trees-fit .two h) q
-
-  pub expanded-prime : (field ≡ 1 → ⊥) → {v : List ℕ} → v ≡ vExpansion primeKind depth trees (treesAt 2 source body depth trees)
-      → v ≡ vExpansion (kindOf field) depth trees (treesAt field source body depth trees)
-  expanded-prime h q = rw (trees-fit .two h) q
+use Rattle.field.specs.Prime.{primes}
+use Rattle.field.proofs.KindOf.{kind-2, words-2}
+use Rattle.record.specs.declared.Front.{Front}
+use Rattle.rows.specs.declared.WindowRows.{WindowRows}
+use Rattle.rows.specs.Inner.Numbers.{testsNumber, wrongVector, pastOutputs, shortBuffer, lengthsNumber}
+use Rattle.rows.specs.Inner.Outputs.{ofNoise, windowOver}
+use Rattle.rows.specs.Inner.Testing.{Testing, elementsUsed}
+use Rattle.rows.proofs.Numbers.{none-failed}
+use Rattle.noise_end.specs.Inner.Steps.{bothNumber}
 
 -- ---- the words that rows use
 
@@ -74,72 +36,63 @@ unfolding every
 every-both zero s t = refl
 every-both (suc n) s t = ap (λ (b : Bool). b && (s n && t n)) (every-both n s t) ∙ and-swap (every n s) (every n t) (s n) (t n)
 
-module _ (keys : List (List (List ℕ))) (size terms first count : ℕ) (noise : List ℕ) where
-  noise-at-binary : usedBelow 2 noise keys size terms first count ≡ noiseUsed binaryKind keys size terms first count noise
-  unfolding usedBelow rowBelow noiseUsed
-  noise-at-binary = simp mul-one
+pub testing-prime : (field : ℕ) (r : WindowRows) (n : ℕ) → (field ≡ 1 → ⊥) → Testing 1 r n → Testing (elementWords field) r n
+testing-prime field r n h fits = rw (words-2 field h) fits
 
-  pub noise-binary : (field : ℕ) → field ≡ 1 → {r : Bool} → r ≡ usedBelow 2 noise keys size terms first count
-      → r ≡ noiseUsed (kindOf field) keys size terms first count noise
-  noise-binary field e q = q ∙ rw e noise-at-binary
+module _ (keys : List (List (List ℕ))) (r : WindowRows) (w : List ℕ) where
+  used-at-bits : usedBelow 2 w keys (r .shape) (r .window) ≡ elementsUsed (ofNoise binary) keys r w
+  unfolding usedBelow rowBelow elementsUsed
+  used-at-bits = simp mul-one
 
-  noise-at-prime : usedBelow modulus noise keys size terms first count ≡ noiseUsed primeKind keys size terms first count noise
-  unfolding usedBelow rowBelow noiseUsed
-  noise-at-prime = simp mul-one
-
-  pub noise-prime : (field : ℕ) → (field ≡ 1 → ⊥) → {bound : ℕ} → bound ≡ modulus → {r : Bool}
-      → r ≡ usedBelow bound noise keys size terms first count → r ≡ noiseUsed (kindOf field) keys size terms first count noise
-  noise-prime field h e q = q ∙ rw (e, kind-2 field h) noise-at-prime
-
--- ---- the window written in one field, at the kind of a field byte
-
-module _ (keys : List (List (List ℕ))) (size terms first count : ℕ) (w b : List ℕ) where
-  pub u-filled-binary : (field : ℕ) → field ≡ 1 → {x : List ℕ} → x ≡ uOver binaryKind keys size terms first count w b
-      → x ≡ uOver (kindOf field) keys size terms first count w b
-  u-filled-binary field e q = rw e q
-
-  pub u-filled-prime : (field : ℕ) → (field ≡ 1 → ⊥) → {x : List ℕ} → x ≡ uOver primeKind keys size terms first count w b
-      → x ≡ uOver (kindOf field) keys size terms first count w b
-  u-filled-prime field h q = rw (kind-2 field h) q
-
--- ---- a window written one output a turn
-
-module _ (keys : List (List (List ℕ))) (size terms first : ℕ) (w b : List ℕ) where
-  pub u-binary-none : Written (binary .noiseValues) (uOutputAt binaryKind keys size terms first w) b b 0
-  u-binary-none = written-none (binary .noiseValues) (binaryLaws .noiseValues) (uOutputAt binaryKind keys size terms first w) b
-
-  pub u-binary-more : {v : List ℕ} {k count noise vector room x : ℕ} → Written (binary .noiseValues) (uOutputAt binaryKind keys size terms first w) b v k
-      → x ≡ output (itself bitRing) (binaryRow keys size terms (first + k)) (at (binary .noiseValues) w)
-      → k < count → Fitting 2 size first count noise vector (length b) room
-      → Written (binary .noiseValues) (uOutputAt binaryKind keys size terms first w) b (set v k x) (k + 1)
-  unfolding uOutputAt
-  u-binary-more a e h fits = written-word (λ x. x) (λ x. x) (binaryLaws .noiseValues) (uOutputAt binaryKind keys size terms first w) b a e (omega (arith, a .size))
-
-  pub u-binary-all : {v : List ℕ} {k count : ℕ} → Written (binary .noiseValues) (uOutputAt binaryKind keys size terms first w) b v k → k ≤ count → count ≤ k
-      → v ≡ uOver binaryKind keys size terms first count w b
-  unfolding uOver
-  u-binary-all = written-all (binary .noiseValues) (binaryLaws .noiseValues) (uOutputAt binaryKind keys size terms first w) b
-
-  pub binary-more : {v next : List ℕ} {k count noise vector uRoom : ℕ} {x : Block} → Written (binary .elements) (outputAt binaryKind keys size terms first w) b v k
-      → next ≡ put (binary .elements) v k x → x ≡ output blocks (binaryRow keys size terms (first + k)) (at (binary .elements) w)
-      → k < count → Fitting 2 size first count noise vector uRoom (length b)
-      → Written (binary .elements) (outputAt binaryKind keys size terms first w) b next (k + 1)
-  binary-more a p e h fits = binary-next keys size terms first w b a p e (omega arith)
+  pub noise-binary : (field : ℕ) → field ≡ 1 → {t : Bool} → t ≡ usedBelow 2 w keys (r .shape) (r .window)
+      → t ≡ elementsUsed (ofNoise (kindOf field .field)) keys r w
+  noise-binary field e q = q ∙ rw e used-at-bits
 
   -- in field 2 noise values and elements are of one kind
-  pub u-prime-more : {v : List ℕ} {k count noise vector room : ℕ} {x : Prime} → Written (primes .elements) (outputAt primeKind keys size terms first w) b v k
-      → x ≡ output (itself primeRing) (primeRow keys size terms (first + k)) (at (primes .noiseValues) w)
-      → k < count → Fitting 1 size first count noise vector (length b) room
-      → Written (primes .elements) (outputAt primeKind keys size terms first w) b (set v k (x .word)) (k + 1)
-  u-prime-more a e h fits = prime-next keys size terms first w b a e (omega arith)
+  pub noise-prime : (field : ℕ) → (field ≡ 1 → ⊥) → {t : Bool} → t ≡ elementsUsed (kindOf field .field) keys r w
+      → t ≡ elementsUsed (ofNoise (kindOf field .field)) keys r w
+  noise-prime field h q = q ∙ rw (kind-2 field h)
 
-  pub v-prime-more : {v : List ℕ} {k count noise vector uRoom : ℕ} {x : Prime} → Written (primes .elements) (outputAt primeKind keys size terms first w) b v k
-      → x ≡ output (itself primeRing) (primeRow keys size terms (first + k)) (at (primes .elements) w)
-      → k < count → Fitting 1 size first count noise vector uRoom (length b)
-      → Written (primes .elements) (outputAt primeKind keys size terms first w) b (set v k (x .word)) (k + 1)
-  v-prime-more a e h fits = prime-next keys size terms first w b a e (omega arith)
+  module _ (b : List ℕ) (field : ℕ) {x : List ℕ} where
+    pub u-binary : field ≡ 1 → x ≡ windowOver (ofNoise binary) (binaryKind .coefficient) keys r w b
+        → x ≡ windowOver (ofNoise (kindOf field .field)) (kindOf field .coefficient) keys r w b
+    u-binary e q = rw e q
 
-  pub u-prime-all : {v : List ℕ} {k count : ℕ} → Written (primes .elements) (outputAt primeKind keys size terms first w) b v k → k ≤ count → count ≤ k
-      → v ≡ uOver primeKind keys size terms first count w b
-  unfolding uOver uOutputAt outputAt
-  u-prime-all = written-all (primes .elements) (primeLaws .elements) (outputAt primeKind keys size terms first w) b
+    pub u-prime : (field ≡ 1 → ⊥) → x ≡ windowOver primes (primeKind .coefficient) keys r w b
+        → x ≡ windowOver (ofNoise (kindOf field .field)) (kindOf field .coefficient) keys r w b
+    u-prime h q = rw (kind-2 field h) q
+
+-- ---- the tests 3, 7 and 13 of both vectors
+
+-- the first that fails of the tests of v is that of both, whatever the room for u
+either-fails : (wrong past short room : Bool) {k : ℕ} → k ≡ testsNumber wrong past short → (k ≡ 0 → ⊥) → k ≡ testsNumber wrong past (room || short)
+either-fails false false false room e z = absurd (z e)
+either-fails true past short room e z = e
+either-fails false true short room e z = e
+either-fails false false true true e z = e
+either-fails false false true false e z = e
+
+module _ (f : Front) (noise vector : ℕ) (w : Window) (uRoom room : ℕ) {size : ℕ} (se : size ≡ 2 ^ f .depth) where
+  pub wrong-noise : (noise ≡ size → ⊥) → 3 ≡ bothNumber f noise vector w uRoom room
+  unfolding bothNumber
+  wrong-noise h = sym (rw (ne-eqb noise (2 ^ f .depth) (λ e. h (e ∙ sym se))))
+
+  module _ (whole : noise ≡ size) {k : ℕ} (ke : k ≡ lengthsNumber f vector w room) where
+    right : eqb noise (2 ^ f .depth) ≡ true
+    right = eq-eqb noise (2 ^ f .depth) (whole ∙ se)
+
+    pub v-fails : (k ≡ 0 → ⊥) → k ≡ bothNumber f noise vector w uRoom room
+    unfolding bothNumber lengthsNumber
+    v-fails z = rw right (either-fails (wrongVector f vector) (pastOutputs f w) (shortBuffer f w room) (ltb uRoom (w .count)) ke z)
+
+    v-passed : k ≡ 0 → (wrongVector f vector ≡ false) × (pastOutputs f w ≡ false) × (shortBuffer f w room ≡ false)
+    unfolding lengthsNumber
+    v-passed z = none-failed (wrongVector f vector) (pastOutputs f w) (shortBuffer f w room) ke z
+
+    pub short-u : k ≡ 0 → uRoom < w .count → 13 ≡ bothNumber f noise vector w uRoom room
+    unfolding bothNumber
+    short-u z h = sym (rw (right, v-passed z .0, v-passed z .1, lt-ltb uRoom (w .count) h))
+
+    pub both-passed : k ≡ 0 → w .count ≤ uRoom → 0 ≡ bothNumber f noise vector w uRoom room
+    unfolding bothNumber
+    both-passed z h = sym (rw (right, v-passed z .0, v-passed z .1, le-ltb uRoom (w .count) h, v-passed z .2))

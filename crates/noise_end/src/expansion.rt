@@ -1,21 +1,28 @@
 // The expansion of an offline call: the noise values and the punctured trees added in place and accumulated.
 ghost use mathlib.Core.Path.{_≡_};
+ghost use mathlib.Core.Bool.{true};
+ghost use Prim.Native.Nat.{_*_, _^_, _≤_};
 ghost use lib.ListN.{length};
+ghost use Rattle.algebra.specs.Coding.{flat};
+ghost use Rattle.algebra.specs.Sum.{accumulate};
 ghost use Rattle.sbox.specs.Inner.Tables.{Tables};
-ghost use Rattle.field.specs.Kind.{kindOf, binaryKind, primeKind, elementWords};
-ghost use Rattle.noise_end.specs.Inner.Steps.{TreesFit, treesAt, noiseExpansion, vExpansion};
+ghost use Rattle.field.specs.Kind.{kindOf, elementWords};
+ghost use Rattle.number.specs.Inner.Known.{isWhole};
+ghost use Rattle.record.specs.Reading.{readTree};
+ghost use Rattle.noise_end.specs.Vectors.{mu, v0};
 ghost use Rattle.noise_end.specs.Offline.{expanded, expand};
-ghost use Rattle.noise_end.specs.Inner.Ready.{Ready, contentOf};
+ghost use Rattle.noise_end.specs.Inner.Ready.{Ready, TreesFit, TreeRead, TreeFits, contentOf};
+ghost use Rattle.noise_end.specs.Inner.Steps.{treeAdded};
 use answer::BUFFER_SHORT;
 use answer::TwoLengths;
-use code::accumulate_bits;
-use code::accumulate_blocks;
-use code::accumulate_primes;
 use field::Block;
 use field::Prime;
 use record::Front;
+use record::Tree;
 use record::known_tree;
 use record::leaves;
+use rows::accumulate_elements;
+use rows::accumulate_noise;
 use rows::element_width;
 use rows::zero_words;
 use tree::Punctured;
@@ -24,115 +31,103 @@ use tree::add_punctured_prime;
 use tree::left_keys;
 use tree::right_keys;
 
-// Writes the accumulated μ and v0 of field 1.
-fn expand_binary(
+// The tree at a place of an accepted record, after positions below `base`: its position is a leaf's, and its siblings lie in
+// the record.
+fn tree_at(source: &[u8], front: Front, at: usize, base: usize) -> Tree
+    requires { ⌜ (isWhole (readTree (front .field) (front .depth) base (now source) at) ≡ true) × (front .depth ≤ 16) ⌝ }
+    ensures { λ r. ⌜ TreeRead (now (source .entry)) front at base r ⌝ }
+{
+    known_tree(source, at, base, front.field, front.depth)
+}
+
+// Adds the leaves of a punctured tree, its correction at its position.
+fn add_tree(
     sbox: &[u8; 256],
     mix: &[u32; 256],
+    left: &[[[u8; 4]; 4]; 11],
+    right: &[[[u8; 4]; 4]; 11],
     source: &[u8],
-    body: usize,
-    depth: usize,
-    trees: usize,
-    noise: &mut [u64],
+    front: Front,
+    tree: Tree,
     v: &mut [u64],
 )
     requires { ⌜ Tables (now sbox) (now mix) ⌝ }
-    requires { ⌜ TreesFit 1 2 body depth trees (now source) (length (now noise)) (length (now v)) ⌝ }
-    ensures { λ _. ⌜ (now (noise .exit) ≡ noiseExpansion binaryKind depth trees (treesAt 1 (now (source .entry)) body depth trees))
-        × (now (v .exit) ≡ vExpansion binaryKind depth trees (treesAt 1 (now (source .entry)) body depth trees)) ⌝ }
+    requires { ⌜ TreeFits front tree (length (now source)) (length (now v)) ⌝ }
+    ensures { λ _. ⌜ now (v .exit) ≡ treeAdded front (now (left .entry)) (now (right .entry)) (now (source .entry)) tree (now (v .entry)) ⌝ }
 {
-    let left = left_keys(sbox);
-    let right = right_keys(sbox);
-    zero_words(noise);
-    zero_words(v);
-    let mut at = body;
-    let mut base: usize = 0;
-    let mut i: usize = 0;
-    while i < trees {
-        let tree = known_tree(source, at, base, 1, depth);
-        let position = tree.position;
-        noise[position] = tree.value;
+    let punctured = Punctured {
+        levels: front.depth,
+        position: tree.position,
+        at: tree.siblings,
+    };
+    if front.field == 1 {
         let correction = Block {
             low: tree.low,
             high: tree.high,
         };
-        let punctured = Punctured {
-            levels: depth,
-            position,
-            at: tree.siblings,
-        };
-        add_punctured_binary(sbox, mix, &left, &right, punctured, source, correction, v);
-        base = position + 1;
-        at = tree.siblings + 16 * depth;
-        i += 1;
+        add_punctured_binary(sbox, mix, left, right, punctured, source, correction, v);
+    } else {
+        let correction = Prime { word: tree.low };
+        add_punctured_prime(sbox, mix, left, right, punctured, source, correction, v);
     }
-    accumulate_bits(noise);
-    let count = v.len() / 2;
-    accumulate_blocks(v, count);
 }
 
-// Writes the accumulated μ and v0 of field 2.
-fn expand_prime(
+// Writes μ and v0, under the round keys lent.
+fn add_trees(
     sbox: &[u8; 256],
     mix: &[u32; 256],
+    left: &[[[u8; 4]; 4]; 11],
+    right: &[[[u8; 4]; 4]; 11],
     source: &[u8],
-    body: usize,
-    depth: usize,
-    trees: usize,
+    front: Front,
     noise: &mut [u64],
     v: &mut [u64],
 )
     requires { ⌜ Tables (now sbox) (now mix) ⌝ }
-    requires { ⌜ TreesFit 2 1 body depth trees (now source) (length (now noise)) (length (now v)) ⌝ }
-    ensures { λ _. ⌜ (now (noise .exit) ≡ noiseExpansion primeKind depth trees (treesAt 2 (now (source .entry)) body depth trees))
-        × (now (v .exit) ≡ vExpansion primeKind depth trees (treesAt 2 (now (source .entry)) body depth trees)) ⌝ }
+    requires { ⌜ TreesFit (now source) front (now left) (now right) (length (now noise)) (length (now v)) ⌝ }
+    ensures { λ _. ⌜ (now (noise .exit) ≡ flat (kindOf (front .field) .field .noiseValues) (2 ^ front .depth) (mu (contentOf (now (source .entry)) front)))
+        × (now (v .exit) ≡ flat (kindOf (front .field) .field .elements) (2 ^ front .depth) (v0 (contentOf (now (source .entry)) front))) ⌝ }
 {
-    let left = left_keys(sbox);
-    let right = right_keys(sbox);
     zero_words(noise);
     zero_words(v);
-    let mut at = body;
+    let mut at = front.body;
     let mut base: usize = 0;
     let mut i: usize = 0;
-    while i < trees {
-        let tree = known_tree(source, at, base, 2, depth);
+    while i < front.trees {
+        let tree = tree_at(source, front, at, base);
+        at = tree.siblings + 16 * front.depth;
         let position = tree.position;
-        noise[position] = tree.value;
-        let correction = Prime { word: tree.low };
-        let punctured = Punctured {
-            levels: depth,
-            position,
-            at: tree.siblings,
-        };
-        add_punctured_prime(sbox, mix, &left, &right, punctured, source, correction, v);
         base = position + 1;
-        at = tree.siblings + 16 * depth;
+        noise[position] = tree.value;
+        add_tree(sbox, mix, left, right, source, front, tree, v);
         i += 1;
     }
-    accumulate_primes(noise);
-    accumulate_primes(v);
 }
 
-// Writes the accumulated μ and v0 of the trees that begin at the body.
-fn expand_trees(
-    source: &[u8],
-    body: usize,
-    field: usize,
-    depth: usize,
-    trees: usize,
-    noise: &mut [u64],
-    v: &mut [u64],
-)
-    requires { ⌜ TreesFit field (elementWords field) body depth trees (now source) (length (now noise)) (length (now v)) ⌝ }
-    ensures { λ _. ⌜ (now (noise .exit) ≡ noiseExpansion (kindOf field) depth trees (treesAt field (now (source .entry)) body depth trees))
-        × (now (v .exit) ≡ vExpansion (kindOf field) depth trees (treesAt field (now (source .entry)) body depth trees)) ⌝ }
+// Writes μ and v0.
+fn write_trees(source: &[u8], front: Front, noise: &mut [u64], v: &mut [u64])
+    requires { ⌜ Ready (now source) front × (length (now noise) ≡ 2 ^ front .depth) × (length (now v) ≡ 2 ^ front .depth * elementWords (front .field)) ⌝ }
+    ensures { λ _. ⌜ (now (noise .exit) ≡ flat (kindOf (front .field) .field .noiseValues) (2 ^ front .depth) (mu (contentOf (now (source .entry)) front)))
+        × (now (v .exit) ≡ flat (kindOf (front .field) .field .elements) (2 ^ front .depth) (v0 (contentOf (now (source .entry)) front))) ⌝ }
 {
     let sb = sbox::table();
     let mx = sbox::mix_table();
-    if field == 1 {
-        expand_binary(&sb, &mx, source, body, depth, trees, noise, v);
-    } else {
-        expand_prime(&sb, &mx, source, body, depth, trees, noise, v);
-    }
+    let left = left_keys(&sb);
+    let right = right_keys(&sb);
+    add_trees(&sb, &mx, &left, &right, source, front, noise, v);
+}
+
+// Writes the accumulated μ and v0.
+fn write_accumulated(source: &[u8], front: Front, noise: &mut [u64], v: &mut [u64])
+    requires { ⌜ Ready (now source) front × (length (now noise) ≡ 2 ^ front .depth) × (length (now v) ≡ 2 ^ front .depth * elementWords (front .field)) ⌝ }
+    ensures { λ _. ⌜ (now (noise .exit) ≡ flat (kindOf (front .field) .field .noiseValues) (2 ^ front .depth)
+        (accumulate (kindOf (front .field) .field .ring .group) (mu (contentOf (now (source .entry)) front))))
+        × (now (v .exit) ≡ flat (kindOf (front .field) .field .elements) (2 ^ front .depth)
+        (accumulate (kindOf (front .field) .field .scaled .group) (v0 (contentOf (now (source .entry)) front)))) ⌝ }
+{
+    write_trees(source, front, noise, v);
+    accumulate_elements(front.field, leaves(front.depth), v);
+    accumulate_noise(front.field, noise);
 }
 
 // The offline call on a record that was accepted.
@@ -141,8 +136,7 @@ pub fn write_vectors(source: &[u8], front: Front, noise: &mut [u64], v: &mut [u6
     ensures { λ r. ⌜ expanded r (now (source .exit)) (now (noise .exit)) (now (v .exit)) ≡ expand (contentOf (now (source .entry)) front) (now (source .entry)) (now (noise .entry)) (now (v .entry)) ⌝ }
 {
     let size = leaves(front.depth);
-    let width = element_width(front.field);
-    let words = size * width;
+    let words = size * element_width(front.field);
     if noise.len() < size {
         return TwoLengths {
             number: BUFFER_SHORT,
@@ -157,15 +151,7 @@ pub fn write_vectors(source: &[u8], front: Front, noise: &mut [u64], v: &mut [u6
             second_written: 0,
         };
     }
-    expand_trees(
-        source,
-        front.body,
-        front.field,
-        front.depth,
-        front.trees,
-        &mut noise[..size],
-        &mut v[..words],
-    );
+    write_accumulated(source, front, &mut noise[..size], &mut v[..words]);
     TwoLengths {
         number: 0,
         first_written: size,

@@ -7,6 +7,7 @@ mod expansion;
 mod window;
 
 use answer::TwoLengths;
+use code::Window;
 use expansion::write_vectors;
 use record::Opened;
 use record::read_noise;
@@ -49,5 +50,13 @@ pub fn online(
             second_written: 0,
         };
     };
-    write_window(source, front, noise, v, first, count, u_out, v_out)
+    write_window(
+        source,
+        front,
+        noise,
+        v,
+        Window { first, count },
+        u_out,
+        v_out,
+    )
 }

@@ -1,17 +1,21 @@
 -- Two lists are found equal exactly if they are, and two heads exactly if field, sizes and code key are. Assumes nothing.
 use mathlib.Core.Path.{_≡_, refl, sym, ap, ap₂, _∙_}
-use mathlib.Core.Bool.{Bool, true, false, _&&_, false≢true}
+use mathlib.Core.Bool.{Bool, true, false, _&&_, not, false≢true}
 use mathlib.Core.List.{List, [], _∷_}
 use Prim.Native.Nat.{ℕ, _+_, _-_, _≤_, _<_}
+use borrow.Author.Count.{below-none, below-more}
 use native.Mathlib.Omega.{arith}
 use lib.Dec.{eqb}
 use lib.ListN.{length, getD, drop, length-drop}
 use lib.Seq.{getD-take, getD-drop, length-take-le, ext-getD}
-use borrow.Author.Tests.{eqb-true, eq-eqb}
+use borrow.Author.Tests.{eqb-true, eq-eqb, ne-eqb, not-true, not-false}
 use Rattle.algebra.proofs.Tests.{and-left, and-right, and-both}
 use Rattle.number.specs.Reading.{part}
 use Rattle.record.specs.Content.{Head}
+use Rattle.record.specs.declared.Front.{Front}
+use Rattle.record.specs.Inner.Answers.{headOf}
 use Rattle.record.specs.Inner.Heads.{headWith}
+use Rattle.pairing.specs.Inner.Steps.{sameSizes}
 use Rattle.pairing.specs.Verdict.{sameList, sameDealing}
 
 pub same-refl : (l : List ℕ) → sameList l l ≡ true
@@ -44,24 +48,31 @@ part-at s at n i h = rw (getD-take, getD-drop)
 part-length : (s : List ℕ) (at n : ℕ) → at + n ≤ length s → length (part s at n) ≡ n
 part-length s at n h = length-take-le n (drop at s) (omega (arith, length-drop at s))
 
-module _ (a : List ℕ) (x : ℕ) (b : List ℕ) (y : ℕ) where
-  pub key-differs : {i : ℕ} → i < 16 → (getD a (x - 16 + i) 0 ≡ getD b (y - 16 + i) 0 → ⊥)
-      → false ≡ sameList (part a (x - 16) 16) (part b (y - 16) 16)
-  key-differs {i} h n =
-      sym (same-not (part a (x - 16) 16) (part b (y - 16) 16)
-      (λ e. n (sym (part-at a (x - 16) 16 i h) ∙ ap (λ (l : List ℕ). getD l i 0) e ∙ part-at b (y - 16) 16 i h)))
+-- the first i bytes of both are equal
+pub record Passed (a : List ℕ) (x : ℕ) (b : List ℕ) (y i : ℕ) : Type 0 where
+  pub within : i ≤ 16
+  pub equal : (k : ℕ) → k < i → getD a (x + k) 0 ≡ getD b (y + k) 0
 
-  pub key-same : {i : ℕ} → (16 ≤ x) × (x ≤ length a) × (16 ≤ y) × (y ≤ length b) → 16 ≤ i → i ≤ 16
-      → ((k : ℕ) → k < i → getD a (x - 16 + k) 0 ≡ getD b (y - 16 + k) 0) → true ≡ sameList (part a (x - 16) 16) (part b (y - 16) 16)
-  key-same {i} room h g e =
-      let la = part-length a (x - 16) 16 (omega (arith, room .0, room .1)) in
-      let lb = part-length b (y - 16) 16 (omega (arith, room .2, room .3)) in
-      let same : part a (x - 16) 16 ≡ part b (y - 16) 16 =
-      ext-getD 0 (part a (x - 16) 16) (part b (y - 16) 16) (la ∙ sym lb)
-      (λ k below.
-      let small : k < 16 = omega arith in
-      part-at a (x - 16) 16 k small ∙ e k (omega arith) ∙ sym (part-at b (y - 16) 16 k small)) in
-      sym (ap (sameList (part a (x - 16) 16)) (sym same) ∙ same-refl (part a (x - 16) 16))
+module _ (a : List ℕ) (x : ℕ) (b : List ℕ) (y : ℕ) where
+  pub passed-none : Passed a x b y 0
+  passed-none = record { within = omega arith; equal = below-none _ }
+
+  module _ {i : ℕ} (p : Passed a x b y i) where
+    pub passed-more : i < 16 → getD a (x + i) 0 ≡ getD b (y + i) 0 → Passed a x b y (i + 1)
+    passed-more h e = record { within = omega arith; equal = below-more _ _ (p .equal) e }
+
+    pub passed-all : 16 ≤ i → x + 16 ≤ length a → y + 16 ≤ length b → true ≡ sameList (part a x 16) (part b y 16)
+    passed-all h ra rb =
+        let same : part a x 16 ≡ part b y 16 =
+        ext-getD 0 (part a x 16) (part b y 16) (part-length a x 16 ra ∙ sym (part-length b y 16 rb))
+        (λ k below.
+        let small : k < 16 = omega (arith, part-length a x 16 ra) in
+        part-at a x 16 k small ∙ p .equal k (omega arith) ∙ sym (part-at b y 16 k small)) in
+        sym (ap (sameList (part a x 16)) (sym same) ∙ same-refl (part a x 16))
+
+  pub byte-differs : {i : ℕ} → i < 16 → (getD a (x + i) 0 ≡ getD b (y + i) 0 → ⊥) → false ≡ sameList (part a x 16) (part b y 16)
+  byte-differs {i} h n =
+      sym (same-not (part a x 16) (part b y 16) (λ e. n (sym (part-at a x 16 i h) ∙ ap (λ (l : List ℕ). getD l i 0) e ∙ part-at b y 16 i h)))
 
 -- ---- the head
 
@@ -96,32 +107,46 @@ dealing-equal h k e =
     ≡ headWith (k .field) (k .depth) (k .trees) (k .terms) (k .outputs) (k .codeKey) = cc in
     all
 
-module _ (h k : Head) where
-  other : (h ≡ k → ⊥) → false ≡ sameDealing h k
-  other n = sym (never (sameDealing h k) (λ e. n (dealing-equal h k e)))
-
-  pub field-differs : (h .field ≡ k .field → ⊥) → false ≡ sameDealing h k
-  field-differs n = other (λ e. n (ap (λ (x : Head). x .field) e))
-
-  pub depth-differs : (h .depth ≡ k .depth → ⊥) → false ≡ sameDealing h k
-  depth-differs n = other (λ e. n (ap (λ (x : Head). x .depth) e))
-
-  pub trees-differ : (h .trees ≡ k .trees → ⊥) → false ≡ sameDealing h k
-  trees-differ n = other (λ e. n (ap (λ (x : Head). x .trees) e))
-
-  pub terms-differ : (h .terms ≡ k .terms → ⊥) → false ≡ sameDealing h k
-  terms-differ n = other (λ e. n (ap (λ (x : Head). x .terms) e))
-
-  pub outputs-differ : (h .outputs ≡ k .outputs → ⊥) → false ≡ sameDealing h k
-  outputs-differ n = other (λ e. n (ap (λ (x : Head). x .outputs) e))
-
-  -- sizes all equal leave the code key
-  pub sizes-same : h .field ≡ k .field → h .depth ≡ k .depth → h .trees ≡ k .trees → h .terms ≡ k .terms → h .outputs ≡ k .outputs
-      → {r : Bool} → r ≡ sameList (h .codeKey) (k .codeKey) → r ≡ sameDealing h k
-  unfolding sameDealing
-  sizes-same a b c d e q =
-      q ∙ sym (rw (eq-eqb (h .field) (k .field) a, eq-eqb (h .depth) (k .depth) b, eq-eqb (h .trees) (k .trees) c, eq-eqb (h .terms) (k .terms) d, eq-eqb (h .outputs) (k .outputs) e))
-
 -- a head is its own dealing's
 pub same-dealing : (h : Head) → sameDealing h h ≡ true
-same-dealing h = sym (sizes-same h h refl refl refl refl refl (sym (same-refl (h .codeKey))))
+unfolding sameDealing
+same-dealing h =
+    rw (eq-eqb (h .field) (h .field) refl, eq-eqb (h .depth) (h .depth) refl, eq-eqb (h .trees) (h .trees) refl, eq-eqb (h .terms) (h .terms) refl, eq-eqb (h .outputs) (h .outputs) refl)
+    (same-refl (h .codeKey))
+
+-- the sizes, one after the other
+module _ (p q : Front) where
+  pub field-differs : (p .field ≡ q .field → ⊥) → false ≡ sameSizes p q
+  field-differs n = sym (rw (ne-eqb (p .field) (q .field) n))
+
+  module _ (field : p .field ≡ q .field) where
+    pub depth-differs : (p .depth ≡ q .depth → ⊥) → false ≡ sameSizes p q
+    depth-differs n = sym (rw (eq-eqb (p .field) (q .field) field, ne-eqb (p .depth) (q .depth) n))
+
+    module _ (depth : p .depth ≡ q .depth) where
+      pub trees-differ : (p .trees ≡ q .trees → ⊥) → false ≡ sameSizes p q
+      trees-differ n = sym (rw (eq-eqb (p .field) (q .field) field, eq-eqb (p .depth) (q .depth) depth, ne-eqb (p .trees) (q .trees) n))
+
+      module _ (trees : p .trees ≡ q .trees) where
+        three : sameSizes p q ≡ (eqb (p .terms) (q .terms) && eqb (p .outputs) (q .outputs))
+        three = rw (eq-eqb (p .field) (q .field) field, eq-eqb (p .depth) (q .depth) depth, eq-eqb (p .trees) (q .trees) trees)
+
+        pub terms-differ : (p .terms ≡ q .terms → ⊥) → false ≡ sameSizes p q
+        terms-differ n = sym (three ∙ rw (ne-eqb (p .terms) (q .terms) n))
+
+        pub outputs-differ : p .terms ≡ q .terms → (p .outputs ≡ q .outputs → ⊥) → false ≡ sameSizes p q
+        outputs-differ e n = sym (three ∙ rw (eq-eqb (p .terms) (q .terms) e, ne-eqb (p .outputs) (q .outputs) n))
+
+        pub sizes-same : p .terms ≡ q .terms → p .outputs ≡ q .outputs → true ≡ sameSizes p q
+        sizes-same e n = sym (three ∙ rw (eq-eqb (p .terms) (q .terms) e, eq-eqb (p .outputs) (q .outputs) n))
+
+-- the sizes, then the code key
+module _ (s : List ℕ) (p : Front) (t : List ℕ) (q : Front) {sizes : Bool} (se : sizes ≡ sameSizes p q) where
+  pub sizes-differ : not sizes ≡ true → false ≡ sameDealing (headOf s p) (headOf t q)
+  unfolding sameDealing
+  sizes-differ e = sym (rw (← se, not-true sizes e))
+
+  pub key-left : not sizes ≡ false → {x : ℕ} → x ≡ p .body - 16 → {y : ℕ} → y ≡ q .body - 16 → {r : Bool} → r ≡ sameList (part s x 16) (part t y 16)
+      → r ≡ sameDealing (headOf s p) (headOf t q)
+  unfolding sameDealing
+  key-left e xe ye re = re ∙ rw (xe, ye) (sym (rw (← se, not-false sizes e)))

@@ -1,10 +1,15 @@
 // What is found of two records, in memory of its own.
 ghost use mathlib.Core.Path.{_≡_};
-ghost use Rattle.pairing.specs.Inner.Steps.{verdictOf, Paired};
+ghost use Prim.Native.Nat.{_^_, _≤_};
+ghost use lib.ListN.{length};
+ghost use Rattle.noise_end.specs.Inner.Ready as noise;
+ghost use Rattle.scalar_end.specs.Inner.Ready as scalar;
+ghost use Rattle.pairing.specs.Inner.Steps.{verdictOf, Paired, NoiseOutputs, ScalarOutputs};
 ghost use Rattle.pairing.specs.Verdict.{Checked, verdict};
 use crate::Finding;
 use crate::heads::same_dealing;
 use crate::held::count_held;
+use record::Front;
 use record::Opened;
 use record::leaves;
 use record::read_noise;
@@ -14,37 +19,71 @@ use rows::fault_of;
 // The leaves that there is memory for.
 const MOST_LEAVES: usize = 1024;
 
-// How many outputs hold, for two accepted records of one dealing.
-fn held_outputs(noise_record: &[u8], scalar_record: &[u8], field: usize, outputs: usize) -> usize
-    requires { ⌜ Paired (now «noise_record») (now «scalar_record») field outputs ⌝ }
-    ensures { λ r. ⌜ Checked outputs r ≡ verdict (now («noise_record» .entry)) (now («scalar_record» .entry)) ⌝ }
+// Writes u and v at every output of an accepted noise record.
+fn noise_outputs(source: &[u8], front: Front, u_out: &mut [u64], v_out: &mut [u64])
+    requires { ⌜ noise.Ready (now source) front × (2 ^ front .depth ≤ 1024) × (length (now «u_out») ≡ 512) × (length (now «v_out») ≡ 1024) ⌝ }
+    ensures { λ _. ⌜ NoiseOutputs (now (source .entry)) front (now («u_out» .exit)) (now («v_out» .exit)) ⌝ }
 {
     let mut noise = [0u64; 1024];
     let mut v = [0u64; 2048];
-    let mut w = [0u64; 2048];
-    let mut delta = [0u64; 2];
-    let noise_lengths = noise_end::offline(noise_record, &mut noise, &mut v);
-    let scalar_lengths = scalar_end::offline(scalar_record, &mut w, &mut delta);
-    let noise_words = noise_lengths.first_written;
-    let v_words = noise_lengths.second_written;
-    let w_words = scalar_lengths.first_written;
-    let mut u_out = [0u64; 512];
-    let mut v_out = [0u64; 1024];
-    let mut w_out = [0u64; 1024];
+    let lengths = noise_end::offline(source, &mut noise, &mut v);
+    let noise_words = lengths.first_written;
+    let v_words = lengths.second_written;
     noise_end::online(
-        noise_record,
+        source,
         &noise[..noise_words],
         &v[..v_words],
         0,
-        outputs,
-        &mut u_out,
-        &mut v_out,
+        front.outputs,
+        u_out,
+        v_out,
     );
-    scalar_end::online(scalar_record, &w[..w_words], 0, outputs, &mut w_out);
-    count_held(field, &delta, &u_out, &v_out, &w_out, outputs)
 }
 
-// Refused, too large, of different dealings, or checked, in that order.
+// Writes w at every output of an accepted scalar record, and Δ.
+fn scalar_outputs(source: &[u8], front: Front, w_out: &mut [u64], delta: &mut [u64])
+    requires { ⌜ scalar.Ready (now source) front × (2 ^ front .depth ≤ 1024) × (length (now «w_out») ≡ 1024) × (length (now delta) ≡ 2) ⌝ }
+    ensures { λ _. ⌜ ScalarOutputs (now (source .entry)) front (now («w_out» .exit)) (now (delta .exit)) ⌝ }
+{
+    let mut w = [0u64; 2048];
+    let lengths = scalar_end::offline(source, &mut w, delta);
+    let w_words = lengths.first_written;
+    scalar_end::online(source, &w[..w_words], 0, front.outputs, w_out);
+}
+
+// How many outputs hold, for two accepted records of one dealing.
+fn held_outputs(noise_record: &[u8], p: Front, scalar_record: &[u8], q: Front) -> usize
+    requires { ⌜ noise.Ready (now «noise_record») p × scalar.Ready (now «scalar_record») q ⌝ }
+    requires { ⌜ Paired (now «noise_record») p (now «scalar_record») q ⌝ }
+    ensures { λ r. ⌜ Checked (p .outputs) r ≡ verdict (now («noise_record» .entry)) (now («scalar_record» .entry)) ⌝ }
+{
+    let mut u = [0u64; 512];
+    let mut v = [0u64; 1024];
+    let mut w = [0u64; 1024];
+    let mut delta = [0u64; 2];
+    noise_outputs(noise_record, p, &mut u, &mut v);
+    scalar_outputs(scalar_record, q, &mut w, &mut delta);
+    count_held(p.field, &delta, &u, &v, &w, p.outputs)
+}
+
+// Two accepted records are too large, of different dealings, or checked, in that order.
+fn compare(noise_record: &[u8], p: Front, scalar_record: &[u8], q: Front) -> Finding
+    requires { ⌜ noise.Ready (now «noise_record») p × scalar.Ready (now «scalar_record») q ⌝ }
+    ensures { λ r. ⌜ verdictOf r ≡ verdict (now («noise_record» .entry)) (now («scalar_record» .entry)) ⌝ }
+{
+    if MOST_LEAVES < leaves(p.depth) {
+        return Finding::TooLarge;
+    }
+    if MOST_LEAVES < leaves(q.depth) {
+        return Finding::TooLarge;
+    }
+    if !same_dealing(noise_record, p, scalar_record, q) {
+        return Finding::Different;
+    }
+    Finding::Checked(p.outputs, held_outputs(noise_record, p, scalar_record, q))
+}
+
+// A record is refused, or both are compared.
 pub fn judge(noise_record: &[u8], scalar_record: &[u8]) -> Finding
     ensures { λ r. ⌜ verdictOf r ≡ verdict (now («noise_record» .entry)) (now («scalar_record» .entry)) ⌝ }
 {
@@ -56,17 +95,5 @@ pub fn judge(noise_record: &[u8], scalar_record: &[u8]) -> Finding
     let Opened::Accepted(q) = b else {
         return Finding::Refused(fault_of(b));
     };
-    if MOST_LEAVES < leaves(p.depth) {
-        return Finding::TooLarge;
-    }
-    if MOST_LEAVES < leaves(q.depth) {
-        return Finding::TooLarge;
-    }
-    if !same_dealing(noise_record, p, scalar_record, q) {
-        return Finding::Different;
-    }
-    Finding::Checked(
-        p.outputs,
-        held_outputs(noise_record, scalar_record, p.field, p.outputs),
-    )
+    compare(noise_record, p, scalar_record, q)
 }

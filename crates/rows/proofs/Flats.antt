@@ -1,20 +1,28 @@
--- The words of a vector: accumulated, and with one value stored, for any coding.
+-- The words of a vector at the front of a buffer, accumulated, and with one value stored, for any coding.
 use mathlib.Core.Path.{_≡_, refl, sym, ap, _∙_}
 use mathlib.Core.Bool.{Bool, true, false}
 use mathlib.Core.List.{List}
 use Prim.Native.Nat.{ℕ, suc, _+_, _*_, _≤_, _<_}
-use native.Mathlib.Nat.{suc-mul, mul-le-mul-right}
+use native.Mathlib.Nat.{mul-one, suc-mul, mul-le-mul-right}
 use native.Mathlib.Omega.{arith}
 use lib.Dec.{eqb}
-use lib.ListN.{length}
+use lib.ListN.{length, take}
+use lib.Seq.{length-take-le}
 use borrow.Author.Tests.{eqb-true, eqb-false}
 use Rattle.algebra.specs.Choice.{choose}
 use Rattle.algebra.specs.Coding.{Coding, CodingLaws, at, flat}
 use Rattle.algebra.specs.Inner.Put.{put}
+use Rattle.algebra.specs.Field.{NoiseValue, Value}
 use Rattle.algebra.specs.Group.{Group}
 use Rattle.algebra.specs.Sum.{accumulate}
 use Rattle.algebra.proofs.Coding.{flat-cong, length-flat, at-flat, ext-at, length-put, at-put-same, at-put-other}
 use Rattle.algebra.proofs.Sum.{sum-cong}
+use Rattle.field.specs.Kind.{kindOf, elementWords}
+use Rattle.field.proofs.BothKinds.{kindLaws}
+
+-- the front of a buffer has its length
+pub front-length : (n : ℕ) (l : List ℕ) → n ≤ length l → n ≡ length (take n l)
+front-length n l h = sym (length-take-le n l h)
 
 -- the words of f accumulated are those of the accumulated f
 pub flat-accumulated : (G : Group) (C : Coding (G .Of)) → CodingLaws C → (N : ℕ) (f : ℕ → G .Of) {w next : List ℕ} → w ≡ flat C N f
@@ -22,6 +30,27 @@ pub flat-accumulated : (G : Group) (C : Coding (G .Of)) → CodingLaws C → (N 
 unfolding accumulate
 flat-accumulated G C L N f {w} e q =
     q ∙ flat-cong C L N _ _ (λ j b. sum-cong G (suc j) (at C w) f (λ m c. ap (λ (l : List ℕ). at C l m) e ∙ at-flat C L N f m (omega arith)))
+
+-- the words of N elements of a field, accumulated as many as N is told to be
+module _ (field N : ℕ) (f : ℕ → Value (kindOf field .field)) {w : List ℕ} (e : w ≡ flat (kindOf field .field .elements) N f) {n : ℕ} (same : n ≡ N) where
+  pub all-words : length w ≡ n * elementWords field
+  all-words = rw same (ap length e ∙ length-flat (kindOf field .field .elements) (kindLaws field .field .elements) N f)
+
+  pub accumulated : {next : List ℕ}
+      → next ≡ flat (kindOf field .field .elements) n (accumulate (kindOf field .field .scaled .group) (at (kindOf field .field .elements) w))
+      → next ≡ flat (kindOf field .field .elements) N (accumulate (kindOf field .field .scaled .group) f)
+  accumulated q =
+      flat-accumulated (kindOf field .field .scaled .group) (kindOf field .field .elements) (kindLaws field .field .elements) N f e (rw same at q)
+
+-- the words of N noise values, all of them accumulated
+pub noise-accumulated : (field N : ℕ) (f : ℕ → NoiseValue (kindOf field .field)) {w : List ℕ} → w ≡ flat (kindOf field .field .noiseValues) N f
+    → {next : List ℕ}
+    → next ≡ flat (kindOf field .field .noiseValues) (length w) (accumulate (kindOf field .field .ring .group) (at (kindOf field .field .noiseValues) w))
+    → next ≡ flat (kindOf field .field .noiseValues) N (accumulate (kindOf field .field .ring .group) f)
+noise-accumulated field N f {w} e q =
+    let size : length w ≡ N = ap length e ∙ length-flat (kindOf field .field .noiseValues) (kindLaws field .field .noiseValues) N f
+    ∙ ap (λ (n : ℕ). N * n) (kindLaws field .noise-width) ∙ mul-one N in
+    flat-accumulated (kindOf field .field .ring .group) (kindOf field .field .noiseValues) (kindLaws field .field .noiseValues) N f e (rw size at q)
 
 module _ {A : Type 0} (C : Coding A) (L : CodingLaws C) (N : ℕ) (f : ℕ → A) (p : ℕ) (a : A) (below : p < N) where
   -- value i has its words

@@ -5,6 +5,6 @@ pub mod Sums
 pub mod Blocks
 pub mod Widths
 pub mod Windows
-pub mod Filled
 pub mod Flats
+pub mod Numbers
 mod Steps

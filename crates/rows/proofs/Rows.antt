@@ -1,46 +1,33 @@
 -- A head's rows read places below N under coefficients that are elements, and windows over usable places are usable.
-use mathlib.Core.Path.{_≡_, refl}
+use mathlib.Core.Path.{_≡_}
 use mathlib.Core.Bool.{Bool, true}
-use mathlib.Core.List.{List}
-use Prim.Native.Nat.{ℕ, zero, suc, _+_, _<_}
-use native.Mathlib.Omega.{arith}
+use Prim.Native.Nat.{ℕ, _+_, _<_}
 use lib.Pow.{pow-pos}
 use Rattle.algebra.specs.Group.{Scaled}
 use Rattle.algebra.specs.Row.{output}
 use Rattle.algebra.specs.Inner.Rows.{RowWithin}
-use Rattle.algebra.proofs.Tests.{and-both}
+use Rattle.algebra.proofs.Every.{every-all}
 use Rattle.code.specs.Row.{rowOf}
 use Rattle.algebra.specs.Every.{every}
 use Rattle.code.proofs.Laws as code
 use Rattle.field.proofs.BothKinds.{kindLaws}
-use Rattle.aes128.specs.Cipher.{keyExpansion}
-use Rattle.tree.specs.Columns.{columnsAt}
 use Rattle.record.specs.Content.{Head}
-use Rattle.rows.specs.Head.{kind, fieldOf, places, row}
+use Rattle.rows.specs.Head.{kind, fieldOf, places, codeKeys, row}
 use Rattle.rows.specs.Usable.{windowUsable}
 
--- the round keys of a head's code key
-abbrev keys : Head → List (List (List ℕ))
-keys h = keyExpansion (columnsAt (h .codeKey) 0)
-
 pub row-within : (h : Head) (x : ℕ) → RowWithin (fieldOf h .ring) (places h) (row h x)
-row-within h x = code.row-within (keys h) (places h) (h .terms) (kind h) (kindLaws (h .field)) x (pow-pos (h .depth))
+row-within h x = code.row-within (codeKeys h) (places h) (h .terms) (kind h) (kindLaws (h .field)) x (pow-pos (h .depth))
 
 -- a row's output depends on the values at places below N alone
 pub row-output : (h : Head) (x : ℕ) (S : Scaled (fieldOf h .ring)) (f g : ℕ → S .group .Of) → ((j : ℕ) → j < places h → f j ≡ g j)
     → output S (row h x) f ≡ output S (row h x) g
-row-output h x S f g e = code.output-below (keys h) (places h) (h .terms) (kind h) S x f g (pow-pos (h .depth)) e
-
-pub every-true : (n : ℕ) (test : ℕ → Bool) → ((i : ℕ) → i < n → test i ≡ true) → every n test ≡ true
-unfolding every
-every-true zero test h = refl
-every-true (suc n) test h = and-both (every-true n test (λ i b. h i (omega arith))) (h n (omega arith))
+row-output h x S f g e = code.output-below (codeKeys h) (places h) (h .terms) (kind h) S x f g (pow-pos (h .depth)) e
 
 -- where every place below N is usable, every window is
 pub window-usable : (usable : ℕ → Bool) (h : Head) (first count : ℕ) → ((j : ℕ) → j < places h → usable j ≡ true)
     → windowUsable usable h first count ≡ true
 unfolding windowUsable rowOf
 window-usable usable h first count all =
-    every-true count (λ k. every (h .terms) (λ i. usable (row h (first + k) .place i)))
-    (λ k b. every-true (h .terms) (λ i. usable (row h (first + k) .place i))
+    every-all (λ k. every (h .terms) (λ i. usable (row h (first + k) .place i))) count
+    (λ k b. every-all (λ i. usable (row h (first + k) .place i)) (h .terms)
     (λ i c. all (row h (first + k) .place i) (row-within h (first + k) .place-below i c)))

@@ -11,20 +11,26 @@ use lib.Seq.{drop-length}
 use borrow.Author.Fill.{fill-none, fill-more}
 use borrow.Author.Tests.{ltb-true, lt-ltb}
 use Rattle.algebra.proofs.Tests.{together}
-use Rattle.field.proofs.KindOf.{kind-2}
+use Rattle.algebra.specs.Coding.{at, flat}
 use Rattle.algebra.specs.Inner.Put.{put}
+use Rattle.algebra.specs.Sum.{accumulate}
+use Rattle.algebra.proofs.Every.{every-all}
 use Rattle.aes128.specs.Cipher.{keyExpansion}
 use Rattle.field.specs.declared.block.Block.{Block}
-use Rattle.field.specs.Binary.{binary, block}
-use Rattle.field.specs.Kind.{kindOf, primeKind}
-use Rattle.field.specs.Prime.{modulus}
+use Rattle.field.specs.Binary.{binary, bitRing, block, blockGroup}
+use Rattle.field.specs.Kind.{kindOf, elementWords}
+use Rattle.field.specs.Prime.{primes, primeRing, modulus}
+use Rattle.field.proofs.KindOf.{kind-2, words-1}
 use Rattle.field.proofs.Words.{put-two}
-use Rattle.record.specs.Reading.{blockAt}
+use Rattle.record.specs.declared.Front.{Front}
+use Rattle.record.specs.Inner.Answers.{headOf}
 use Rattle.tree.specs.Columns.{columnsAt}
 use Rattle.code.specs.Inner.Used.{rowBelow, usedBelow}
+use Rattle.rows.specs.declared.WindowRows.{WindowRows}
+use Rattle.rows.specs.Head.{codeKeys}
 use Rattle.rows.specs.Inner.Testing.{elementsUsed}
-use Rattle.rows.proofs.Rows.{every-true}
 use Rattle.rows.proofs.Blocks.{columns-part}
+use Rattle.rows.proofs.Widths.{whole-prime}
 
 pub past-by-first : (first count end : ℕ) → count ≤ end → ltb (end - count) first ≡ ltb end (first + count)
 past-by-first first count end h =
@@ -35,9 +41,9 @@ past-by-first first count end h =
 pub past-by-count : (first count end : ℕ) → end < count → true ≡ ltb end (first + count)
 past-by-count first count end h = sym (lt-ltb end (first + count) (omega arith))
 
-pub keys-at : (s : List ℕ) (at : ℕ) {c : List (List ℕ)} {r : List (List (List ℕ))} → c ≡ columnsAt s at → r ≡ keyExpansion c
-    → r ≡ keyExpansion (columnsAt (blockAt s at) 0)
-keys-at s at e q = q ∙ ap keyExpansion (e ∙ sym (columns-part s at))
+pub keys-at : (s : List ℕ) (f : Front) {at : ℕ} {c : List (List ℕ)} {r : List (List (List ℕ))} → at ≡ f .body - 16 → c ≡ columnsAt s at
+    → r ≡ keyExpansion c → r ≡ codeKeys (headOf s f)
+keys-at s f a e q = q ∙ ap keyExpansion (e ∙ ap (columnsAt s) a ∙ sym (columns-part s (f .body - 16)))
 
 -- the first i words of b are zeroed
 pub record Zeroed (b w : List ℕ) (i : ℕ) : Type 0 where
@@ -64,17 +70,42 @@ pub put-block-is : (l : List ℕ) (i : ℕ) (b : Block) → i * 2 + 2 ≤ length
     → set (set l (i * 2) (b .low)) (i * 2 + 1) (b .high) ≡ put (binary .elements) l i b
 put-block-is l i b h = sym (put-two (λ b. b .low) (λ b. b .high) block l i b h)
 
+-- ---- accumulated, at the kind of a field byte
+
+module _ (field : ℕ) (w : List ℕ) where
+  pub noise-binary : field ≡ 1 → {next : List ℕ} → next ≡ flat (binary .noiseValues) (length w) (accumulate (bitRing .group) (at (binary .noiseValues) w))
+      → next ≡ flat (kindOf field .field .noiseValues) (length w) (accumulate (kindOf field .field .ring .group) (at (kindOf field .field .noiseValues) w))
+  noise-binary e q = rw e q
+
+  pub noise-prime : (field ≡ 1 → ⊥) → {next : List ℕ} → next ≡ flat (primes .elements) (length w) (accumulate (primeRing .group) (at (primes .elements) w))
+      → next ≡ flat (kindOf field .field .noiseValues) (length w) (accumulate (kindOf field .field .ring .group) (at (kindOf field .field .noiseValues) w))
+  noise-prime h q = rw (kind-2 field h) q
+
+  module _ (count : ℕ) (whole : length w ≡ count * elementWords field) where
+    pub whole-binary : field ≡ 1 → length w ≡ count * 2
+    whole-binary e = rw (words-1 field e) at whole
+
+    pub elements-binary : field ≡ 1 → {next : List ℕ} → next ≡ flat (binary .elements) count (accumulate blockGroup (at (binary .elements) w))
+        → next ≡ flat (kindOf field .field .elements) count (accumulate (kindOf field .field .scaled .group) (at (kindOf field .field .elements) w))
+    elements-binary e q = rw e q
+
+    pub elements-prime : (field ≡ 1 → ⊥) → {next : List ℕ} → next ≡ flat (primes .elements) (length w) (accumulate (primeRing .group) (at (primes .elements) w))
+        → next ≡ flat (kindOf field .field .elements) count (accumulate (kindOf field .field .scaled .group) (at (kindOf field .field .elements) w))
+    elements-prime h q =
+        rw (kind-2 field h)
+        (q ∙ ap (λ (n : ℕ). flat (primes .elements) n (accumulate (primeRing .group) (at (primes .elements) w))) (whole-prime field h (length w) count whole))
+
 -- ---- the words that rows use
 
-module _ (keys : List (List (List ℕ))) (size terms first count : ℕ) (w : List ℕ) where
-  pub used-binary : (field : ℕ) → field ≡ 1 → true ≡ elementsUsed (kindOf field) keys size terms first count w
+module _ (keys : List (List (List ℕ))) (r : WindowRows) (w : List ℕ) where
+  pub used-binary : (field : ℕ) → field ≡ 1 → true ≡ elementsUsed (kindOf field .field) keys r w
   unfolding elementsUsed
-  used-binary field e = rw e (sym (every-true count _ (λ k b. every-true terms _ (λ i c. refl))))
+  used-binary field e = rw e (sym (every-all _ (r .window .count) (λ k b. every-all _ (r .shape .terms) (λ i c. refl))))
 
-  used-at-prime : usedBelow modulus w keys size terms first count ≡ elementsUsed primeKind keys size terms first count w
+  used-at-prime : usedBelow modulus w keys (r .shape) (r .window) ≡ elementsUsed primes keys r w
   unfolding usedBelow rowBelow elementsUsed
   used-at-prime = simp mul-one
 
-  pub used-prime : (field : ℕ) → (field ≡ 1 → ⊥) → {bound : ℕ} → bound ≡ modulus → {r : Bool}
-      → r ≡ usedBelow bound w keys size terms first count → r ≡ elementsUsed (kindOf field) keys size terms first count w
+  pub used-prime : (field : ℕ) → (field ≡ 1 → ⊥) → {bound : ℕ} → bound ≡ modulus → {t : Bool}
+      → t ≡ usedBelow bound w keys (r .shape) (r .window) → t ≡ elementsUsed (kindOf field .field) keys r w
   used-prime field h e q = q ∙ rw (e, kind-2 field h) used-at-prime

@@ -1,16 +1,20 @@
--- Trees added in place and accumulated: after i trees a buffer holds, at each place, the sum of their leaves there.
-use mathlib.Core.Path.{_≡_, sym, ap, _∙_}
+-- Trees added in place: after i trees a buffer holds, at each place, the sum of their leaves there.
+use mathlib.Core.Bool.{Bool, true, false}
+use mathlib.Core.Path.{_≡_, refl, sym, ap, _∙_}
 use mathlib.Core.List.{List, _∷_, _++_}
 use Prim.Native.Nat.{ℕ, zero, suc, _+_, _*_, _<_}
 use native.Mathlib.Nat.{suc-mul, zero-mul, zero-add, suc-add}
 use native.Mathlib.Numerals.{add-one}
 use native.Mathlib.Omega.{arith}
+use lib.Dec.{eqb}
 use lib.ListN.{length, replicate}
+use Rattle.algebra.specs.Choice.{choose}
 use Rattle.algebra.specs.Coding.{at, flat}
 use Rattle.algebra.specs.Field.{Field, FieldLaws, Value}
-use Rattle.algebra.specs.Sum.{sum, accumulate}
+use Rattle.algebra.specs.Sum.{sum}
 use Rattle.algebra.proofs.Coding.{flat-none, flat-suc, flat-cong, length-flat, at-flat}
-use Rattle.algebra.proofs.Sum.{sum-none, sum-suc, sum-cong}
+use Rattle.algebra.proofs.Sum.{sum-none, sum-suc}
+use Rattle.field.specs.Kind.{kindOf, binaryKind, primeKind}
 use Rattle.tree.specs.Added.{added}
 
 -- words of zero before others
@@ -21,6 +25,23 @@ replicate-add (suc n) m a = rw suc-add (ap (λ (l : List ℕ). a ∷ l) (replica
 -- the words of N elements, at each place the sum of the first i trees' leaves
 unfoldable pub treesSum : (F : Field) → ℕ → (ℕ → ℕ → Value F) → ℕ → List ℕ
 treesSum F N leaf i = flat (F .elements) N (λ j. sum (F .scaled .group) i (λ k. leaf k j))
+
+-- words of zero are zero, of elements and of noise values
+pub zero-elements : (field : ℕ) → kindOf field .field .elements .words (kindOf field .field .scaled .group .zero) ≡ replicate (kindOf field .field .elements .width) 0
+zero-elements field = of (eqb field 1)
+  where
+    of : (b : Bool) → choose b binaryKind primeKind .field .elements .words (choose b binaryKind primeKind .field .scaled .group .zero)
+        ≡ replicate (choose b binaryKind primeKind .field .elements .width) 0
+    of true = refl
+    of false = refl
+
+pub zero-noise : (field : ℕ) → kindOf field .field .noiseValues .words (kindOf field .field .ring .group .zero) ≡ replicate (kindOf field .field .noiseValues .width) 0
+zero-noise field = of (eqb field 1)
+  where
+    of : (b : Bool) → choose b binaryKind primeKind .field .noiseValues .words (choose b binaryKind primeKind .field .ring .group .zero)
+        ≡ replicate (choose b binaryKind primeKind .field .noiseValues .width) 0
+    of true = refl
+    of false = refl
 
 module _ (F : Field) (L : FieldLaws F) (N : ℕ) where
   -- words of zero are elements of zero
@@ -59,15 +80,3 @@ module _ (F : Field) (L : FieldLaws F) (N : ℕ) where
             ap (λ (l : List ℕ). at (F .elements) l j) e ∙ at-flat (F .elements) (L .elements) N (λ j. sum (F .scaled .group) i (λ k. leaf k j)) j b in
             let there : f j ≡ leaf i j = same j b in
             rw (here, there) (sym (ap (λ (k : ℕ). sum (F .scaled .group) k (λ k. leaf k j)) (add-one i) ∙ sum-suc (F .scaled .group) i (λ k. leaf k j)))
-
-    -- the sum of all trees, accumulated
-    pub trees-accumulated : (i : ℕ) {w next : List ℕ} → w ≡ treesSum F N leaf i
-        → next ≡ flat (F .elements) N (accumulate (F .scaled .group) (at (F .elements) w))
-        → next ≡ flat (F .elements) N (accumulate (F .scaled .group) (λ j. sum (F .scaled .group) i (λ k. leaf k j)))
-    unfolding treesSum accumulate
-    trees-accumulated i {w} {next} e q =
-        q
-        ∙ flat-cong (F .elements) (L .elements) N _ _
-        (λ j b. sum-cong (F .scaled .group) (suc j) (at (F .elements) w) (λ j. sum (F .scaled .group) i (λ k. leaf k j))
-        (λ m c. ap (λ (l : List ℕ). at (F .elements) l m) e
-        ∙ at-flat (F .elements) (L .elements) N (λ j. sum (F .scaled .group) i (λ k. leaf k j)) m (omega arith)))

@@ -1,4 +1,5 @@
 -- The field, N, and the rows of the code, from a record's head (document 01, 'Sizes', 'Offline and online').
+use mathlib.Core.List.{List}
 use Prim.Native.Nat.{ℕ, _^_}
 use Rattle.algebra.specs.Field.{Field}
 use Rattle.algebra.specs.Row.{Row}
@@ -19,6 +20,10 @@ fieldOf h = kind h .field
 abbrev pub places : Head → ℕ
 places h = 2 ^ h .depth
 
+-- the round keys of the code key
+abbrev pub codeKeys : Head → List (List (List ℕ))
+codeKeys h = keyExpansion (columnsAt (h .codeKey) 0)
+
 -- row x of the code, under the code key
 abbrev pub row : (h : Head) → ℕ → Row (fieldOf h .ring)
-row h x = rowOf (fieldOf h .ring) (kind h .coefficient) (keyExpansion (columnsAt (h .codeKey) 0)) (places h) (h .terms) x
+row h x = rowOf (fieldOf h .ring) (kind h .coefficient) (codeKeys h) (places h) (h .terms) x

@@ -1,6 +1,6 @@
 -- The laws of the scalar end.
 pub mod Laws
-mod Content
+pub mod Content
 mod Steps
 mod Calls
 mod Trees

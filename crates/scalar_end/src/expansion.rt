@@ -1,20 +1,23 @@
 // The expansion of an offline call: the trees added in place and accumulated, and Δ written.
 ghost use mathlib.Core.Path.{_≡_};
-ghost use mathlib.Core.List.{_++_};
-ghost use Prim.Native.Nat.{_+_, _*_, _≤_};
-ghost use lib.ListN.{length, drop};
+ghost use mathlib.Core.List.{[], _++_};
+ghost use Prim.Native.Nat.{_+_, _*_, _^_, _≤_, _<_};
+ghost use lib.ListN.{length, getD, drop};
+ghost use Rattle.algebra.specs.Coding.{flat};
+ghost use Rattle.algebra.specs.Sum.{accumulate};
 ghost use Rattle.sbox.specs.Inner.Tables.{Tables};
-ghost use Rattle.field.specs.Kind.{kindOf, binaryKind, primeKind, elementWords};
-ghost use Rattle.scalar_end.specs.Inner.Steps.{RootsFit, expansion, deltaAt};
+ghost use Rattle.field.specs.Kind.{kindOf, elementWords};
+ghost use Rattle.tree.specs.Columns.{columnsAt};
+ghost use Rattle.scalar_end.specs.Vectors.{w0};
+ghost use Rattle.scalar_end.specs.Inner.Steps.{treeAdded, deltaAt};
 ghost use Rattle.scalar_end.specs.Offline.{expanded, expand};
-ghost use Rattle.scalar_end.specs.Inner.Ready.{Ready, contentOf};
+ghost use Rattle.scalar_end.specs.Inner.Ready.{Ready, TreesFit, contentOf};
 use answer::BUFFER_SHORT;
 use answer::TwoLengths;
-use code::accumulate_blocks;
-use code::accumulate_primes;
 use field::word_at;
 use record::Front;
 use record::leaves;
+use rows::accumulate_elements;
 use rows::element_width;
 use rows::zero_words;
 use tree::add_leaves_binary;
@@ -23,71 +26,77 @@ use tree::columns_at;
 use tree::left_keys;
 use tree::right_keys;
 
-// Writes the accumulated w0 of field 1.
-fn expand_binary(
+// Root i of an accepted record.
+fn root_at(source: &[u8], front: Front, i: usize) -> [[u8; 4]; 4]
+    requires { ⌜ Ready (now source) front × (i < front .trees) ⌝ }
+    ensures { λ r. ⌜ r ≡ columnsAt (getD (contentOf (now (source .entry)) front .roots) i []) 0 ⌝ }
+{
+    columns_at(source, front.body + 8 * element_width(front.field) + 16 * i)
+}
+
+// Adds the leaves of the tree below a root.
+fn add_tree(
     sbox: &[u8; 256],
     mix: &[u32; 256],
-    source: &[u8],
-    at: usize,
-    depth: usize,
-    trees: usize,
+    left: &[[[u8; 4]; 4]; 11],
+    right: &[[[u8; 4]; 4]; 11],
+    front: Front,
+    root: [[u8; 4]; 4],
     w: &mut [u64],
 )
     requires { ⌜ Tables (now sbox) (now mix) ⌝ }
-    requires { ⌜ RootsFit 2 at depth trees (length (now source)) (length (now w)) ⌝ }
-    ensures { λ _. ⌜ now (w .exit) ≡ expansion binaryKind (now (source .entry)) at depth trees ⌝ }
+    requires { ⌜ length (now w) ≡ 2 ^ front .depth * elementWords (front .field) ⌝ }
+    ensures { λ _. ⌜ now (w .exit) ≡ treeAdded front (now (left .entry)) (now (right .entry)) root (now (w .entry)) ⌝ }
 {
-    let left = left_keys(sbox);
-    let right = right_keys(sbox);
-    zero_words(w);
-    let mut i: usize = 0;
-    while i < trees {
-        let root = columns_at(source, at + 16 * i);
-        add_leaves_binary(sbox, mix, &left, &right, depth, root, w);
-        i += 1;
+    if front.field == 1 {
+        add_leaves_binary(sbox, mix, left, right, front.depth, root, w);
+    } else {
+        add_leaves_prime(sbox, mix, left, right, front.depth, root, w);
     }
-    let count = w.len() / 2;
-    accumulate_blocks(w, count);
 }
 
-// Writes the accumulated w0 of field 2.
-fn expand_prime(
+// Writes w0, under the round keys lent.
+fn add_trees(
     sbox: &[u8; 256],
     mix: &[u32; 256],
+    left: &[[[u8; 4]; 4]; 11],
+    right: &[[[u8; 4]; 4]; 11],
     source: &[u8],
-    at: usize,
-    depth: usize,
-    trees: usize,
+    front: Front,
     w: &mut [u64],
 )
     requires { ⌜ Tables (now sbox) (now mix) ⌝ }
-    requires { ⌜ RootsFit 1 at depth trees (length (now source)) (length (now w)) ⌝ }
-    ensures { λ _. ⌜ now (w .exit) ≡ expansion primeKind (now (source .entry)) at depth trees ⌝ }
+    requires { ⌜ TreesFit (now source) front (now left) (now right) (length (now w)) ⌝ }
+    ensures { λ _. ⌜ now (w .exit) ≡ flat (kindOf (front .field) .field .elements) (2 ^ front .depth) (w0 (contentOf (now (source .entry)) front)) ⌝ }
 {
-    let left = left_keys(sbox);
-    let right = right_keys(sbox);
     zero_words(w);
     let mut i: usize = 0;
-    while i < trees {
-        let root = columns_at(source, at + 16 * i);
-        add_leaves_prime(sbox, mix, &left, &right, depth, root, w);
+    while i < front.trees {
+        add_tree(sbox, mix, left, right, front, root_at(source, front, i), w);
         i += 1;
     }
-    accumulate_primes(w);
 }
 
-// Writes the accumulated w0 of the trees whose roots begin at a place.
-fn expand_trees(source: &[u8], at: usize, field: usize, depth: usize, trees: usize, w: &mut [u64])
-    requires { ⌜ RootsFit (elementWords field) at depth trees (length (now source)) (length (now w)) ⌝ }
-    ensures { λ _. ⌜ now (w .exit) ≡ expansion (kindOf field) (now (source .entry)) at depth trees ⌝ }
+// Writes w0.
+fn write_trees(source: &[u8], front: Front, w: &mut [u64])
+    requires { ⌜ Ready (now source) front × (length (now w) ≡ 2 ^ front .depth * elementWords (front .field)) ⌝ }
+    ensures { λ _. ⌜ now (w .exit) ≡ flat (kindOf (front .field) .field .elements) (2 ^ front .depth) (w0 (contentOf (now (source .entry)) front)) ⌝ }
 {
     let sb = sbox::table();
     let mx = sbox::mix_table();
-    if field == 1 {
-        expand_binary(&sb, &mx, source, at, depth, trees, w);
-    } else {
-        expand_prime(&sb, &mx, source, at, depth, trees, w);
-    }
+    let left = left_keys(&sb);
+    let right = right_keys(&sb);
+    add_trees(&sb, &mx, &left, &right, source, front, w);
+}
+
+// Writes the accumulated w0.
+fn write_accumulated(source: &[u8], front: Front, w: &mut [u64])
+    requires { ⌜ Ready (now source) front × (length (now w) ≡ 2 ^ front .depth * elementWords (front .field)) ⌝ }
+    ensures { λ _. ⌜ now (w .exit) ≡ flat (kindOf (front .field) .field .elements) (2 ^ front .depth)
+        (accumulate (kindOf (front .field) .field .scaled .group) (w0 (contentOf (now (source .entry)) front))) ⌝ }
+{
+    write_trees(source, front, w);
+    accumulate_elements(front.field, leaves(front.depth), w);
 }
 
 // Writes the two words of Δ, which begins at a place.
@@ -108,8 +117,7 @@ pub fn write_vectors(source: &[u8], front: Front, w: &mut [u64], delta: &mut [u6
     requires { ⌜ Ready (now source) front ⌝ }
     ensures { λ r. ⌜ expanded r (now (source .exit)) (now (w .exit)) (now (delta .exit)) ≡ expand (contentOf (now (source .entry)) front) (now (source .entry)) (now (w .entry)) (now (delta .entry)) ⌝ }
 {
-    let width = element_width(front.field);
-    let words = leaves(front.depth) * width;
+    let words = leaves(front.depth) * element_width(front.field);
     if w.len() < words {
         return TwoLengths {
             number: BUFFER_SHORT,
@@ -124,15 +132,7 @@ pub fn write_vectors(source: &[u8], front: Front, w: &mut [u64], delta: &mut [u6
             second_written: 0,
         };
     }
-    let roots = front.body + 8 * width;
-    expand_trees(
-        source,
-        roots,
-        front.field,
-        front.depth,
-        front.trees,
-        &mut w[..words],
-    );
+    write_accumulated(source, front, &mut w[..words]);
     write_delta(source, front.body, front.field, delta);
     TwoLengths {
         number: 0,

@@ -8,6 +8,7 @@ mod window;
 
 use answer::OneLength;
 use answer::TwoLengths;
+use code::Window;
 use expansion::write_vectors;
 use record::Opened;
 use record::read_scalar;
@@ -41,5 +42,5 @@ pub fn online(source: &[u8], w: &[u64], first: usize, count: usize, w_out: &mut 
             written: 0,
         };
     };
-    write_window(source, front, w, first, count, w_out)
+    write_window(source, front, w, Window { first, count }, w_out)
 }

@@ -1,16 +1,21 @@
--- Inner: no promise cites this file. The rows of each field.
+-- Inner: no promise cites this file. The places and the rows of a shape, in each field.
 use mathlib.Core.List.{List}
 use Prim.Native.Nat.{ℕ}
 use Rattle.algebra.specs.Row.{Row}
 use Rattle.field.specs.Binary.{bitRing}
 use Rattle.field.specs.Kind.{binaryKind, primeKind}
 use Rattle.field.specs.Prime.{primeRing}
-use Rattle.code.specs.Row.{rowOf}
+use Rattle.code.specs.declared.Shape.{Shape}
+use Rattle.code.specs.Row.{termPlace, rowOf}
+
+-- the place of term i of row x
+abbrev pub placeIn : List (List (List ℕ)) → Shape → ℕ → ℕ → ℕ
+placeIn keys s x i = termPlace keys (s .places) (s .terms) x i
 
 -- in field 1 the coefficient is 1
-abbrev pub binaryRow : List (List (List ℕ)) → ℕ → ℕ → ℕ → Row bitRing
-binaryRow keys N ℓ x = rowOf bitRing (binaryKind .coefficient) keys N ℓ x
+abbrev pub binaryRow : List (List (List ℕ)) → Shape → ℕ → Row bitRing
+binaryRow keys s x = rowOf bitRing (binaryKind .coefficient) keys (s .places) (s .terms) x
 
 -- in field 2 it is the word modulo p
-abbrev pub primeRow : List (List (List ℕ)) → ℕ → ℕ → ℕ → Row primeRing
-primeRow keys N ℓ x = rowOf primeRing (primeKind .coefficient) keys N ℓ x
+abbrev pub primeRow : List (List (List ℕ)) → Shape → ℕ → Row primeRing
+primeRow keys s x = rowOf primeRing (primeKind .coefficient) keys (s .places) (s .terms) x

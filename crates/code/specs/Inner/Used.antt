@@ -5,19 +5,21 @@ use Prim.Native.Nat.{ℕ, _+_}
 use lib.Dec.{ltb}
 use lib.ListN.{length, getD}
 use Rattle.algebra.specs.Every.{every}
-use Rattle.code.specs.Row.{termPlace}
+use Rattle.code.specs.declared.Shape.{Shape}
+use Rattle.code.specs.declared.Window.{Window}
+use Rattle.code.specs.Inner.Rows.{placeIn}
 
 -- the word at place j is below the bound
 abbrev pub wordBelow : ℕ → List ℕ → ℕ → Bool
 wordBelow bound words j = ltb (getD words j 0) bound
 
 -- a row uses every word at its places, also under a coefficient of zero
-unfoldable pub rowBelow : ℕ → List ℕ → List (List (List ℕ)) → ℕ → ℕ → ℕ → Bool
-rowBelow bound words keys N ℓ x = every ℓ (λ i. wordBelow bound words (termPlace keys N ℓ x i))
+unfoldable pub rowBelow : ℕ → List ℕ → List (List (List ℕ)) → Shape → ℕ → Bool
+rowBelow bound words keys s x = every (s .terms) (λ i. wordBelow bound words (placeIn keys s x i))
 
--- every word that the rows first to first + count − 1 use is below the bound
-unfoldable pub usedBelow : ℕ → List ℕ → List (List (List ℕ)) → ℕ → ℕ → ℕ → ℕ → Bool
-usedBelow bound words keys N ℓ first count = every count (λ k. rowBelow bound words keys N ℓ (first + k))
+-- every word that the window's rows use is below the bound
+unfoldable pub usedBelow : ℕ → List ℕ → List (List (List ℕ)) → Shape → Window → Bool
+usedBelow bound words keys s w = every (w .count) (λ k. rowBelow bound words keys s (w .first + k))
 
 -- every word of the whole vector is below the bound
 unfoldable pub allBelow : ℕ → List ℕ → Bool

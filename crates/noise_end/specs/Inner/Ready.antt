@@ -1,22 +1,58 @@
--- Inner: no promise cites this file. An accepted record by its numbers: its trees stand from the body on, and none of their tests fails again.
+-- Inner: no promise cites this file. An accepted record by its numbers: its trees stand from the body on, and none of their tests
+-- fails again.
 use mathlib.Core.Bool.{true}
 use mathlib.Core.Path.{_≡_}
-use mathlib.Core.List.{List}
-use Prim.Native.Nat.{ℕ}
-use Rattle.number.specs.Reading.{Whole}
+use mathlib.Core.List.{List, []}
+use Prim.Native.Nat.{ℕ, _+_, _*_, _^_, _≤_, _<_}
+use lib.ListN.{length}
+use Rattle.aes128.specs.Cipher.{keyExpansion}
+use Rattle.field.specs.Kind.{elementWords}
+use Rattle.number.specs.Reading.{Whole, Refused, Step}
 use Rattle.number.specs.Inner.Known.{isWhole}
-use Rattle.record.specs.Content.{NoisePart}
-use Rattle.record.specs.Reading.{readTrees, readNoise}
-use Rattle.record.specs.Inner.Answers.{headOf}
+use Rattle.record.specs.Content.{NoiseTree, NoisePart}
+use Rattle.record.specs.Reading.{readTree, readTrees, readNoise}
+use Rattle.record.specs.Inner.Answers.{headOf, treeOf}
 use Rattle.record.specs.declared.Front.{Front}
+use Rattle.record.specs.declared.Tree.{Tree}
+use Rattle.tree.specs.Child.{childKey}
 use Rattle.rows.specs.Inner.Sizes.{Sizes}
-use Rattle.noise_end.specs.Inner.Steps.{treesAt}
 
+-- the trees of a record, which begin at the body
+unfoldable pub treesAt : List ℕ → Front → List NoiseTree
+treesAt s f = from (readTrees (f .field) (f .depth) (f .trees) 0 s (f .body))
+  where
+    from : Step (List NoiseTree) → List NoiseTree
+    from (Whole z) = z .0
+    from (Refused k) = []
+
+-- the content of an accepted record
 abbrev pub contentOf : List ℕ → Front → NoisePart
-contentOf s f = record { head = headOf s f; trees = treesAt (f .field) s (f .body) (f .depth) (f .trees) }
+contentOf s f = record { head = headOf s f; trees = treesAt s f }
 
+-- what a record that was accepted is known to be
 pub record Ready (s : List ℕ) (f : Front) : Type 0 where
   pub read : readNoise s ≡ Whole (contentOf s f)
   pub sizes : Sizes s (headOf s f) (f .body)
-  pub two : (f .field ≡ 1 → ⊥) → f .field ≡ 2
   pub known : isWhole (readTrees (f .field) (f .depth) (f .trees) 0 s (f .body)) ≡ true
+
+-- a tree that stands at a place, after positions below `base`
+pub record TreeRead (s : List ℕ) (f : Front) (place base : ℕ) (t : Tree) : Type 0 where
+  pub read : Whole (treeOf s (f .field) (f .depth) t, t .siblings + 16 * f .depth) ≡ readTree (f .field) (f .depth) base s place
+  pub below : t .position < 2 ^ f .depth
+  pub small : t .position < 65536
+  pub room : t .siblings + 16 * f .depth ≤ length s
+  pub fits : t .siblings + 16 * f .depth < 2 ^ 64
+
+-- a tree whose position is a leaf's and whose siblings lie in its record, and as many words as N elements take
+pub record TreeFits (f : Front) (t : Tree) (source v : ℕ) : Type 0 where
+  pub whole : v ≡ 2 ^ f .depth * elementWords (f .field)
+  pub below : t .position < 2 ^ f .depth
+  pub room : t .siblings + 16 * f .depth ≤ source
+
+-- an accepted record, the round keys of the child keys, and as many words as N noise values and N elements take
+pub record TreesFit (s : List ℕ) (f : Front) (left right : List (List (List ℕ))) (noise v : ℕ) : Type 0 where
+  pub ready : Ready s f
+  pub lefts : left ≡ keyExpansion (childKey 0)
+  pub rights : right ≡ keyExpansion (childKey 1)
+  pub noiseValues : noise ≡ 2 ^ f .depth
+  pub whole : v ≡ 2 ^ f .depth * elementWords (f .field)

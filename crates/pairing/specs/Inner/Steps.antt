@@ -1,18 +1,21 @@
--- Inner: no promise cites this file. The verdict of a finding, two records that are checked, and how many outputs hold.
+-- Inner: no promise cites this file. The verdict of a finding, two records that are checked, their outputs, and how many hold.
 use mathlib.Core.Path.{_≡_}
-use mathlib.Core.Bool.{Bool}
+use mathlib.Core.Bool.{Bool, _&&_}
 use mathlib.Core.List.{List}
-use Prim.Native.Nat.{ℕ, zero, suc, _+_, _≤_}
+use Prim.Native.Nat.{ℕ, zero, suc, _+_, _^_, _≤_, _<_}
+use lib.Dec.{eqb}
+use lib.ListN.{length}
 use Rattle.algebra.specs.Choice.{choose}
 use Rattle.algebra.specs.Coding.{at}
 use Rattle.algebra.specs.Field.{Field, NoiseValue, Value}
-use Rattle.number.specs.Reading.{Whole}
-use Rattle.record.specs.Content.{NoisePart, ScalarPart}
-use Rattle.record.specs.Reading.{readNoise, readScalar}
-use Rattle.rows.specs.Head.{places}
+use Rattle.field.specs.Kind.{kindOf}
+use Rattle.record.specs.declared.Front.{Front}
+use Rattle.record.specs.Inner.Answers.{headOf}
+use Rattle.noise_end.specs.Inner.Ready as noise
+use Rattle.scalar_end.specs.Inner.Ready as scalar
 use Rattle.pairing.specs.declared.Finding.{Finding}
 use Rattle.pairing.specs.declared.Finding.the-variants as finding
-use Rattle.pairing.specs.Verdict.{Verdict, Refusal, TooLarge, Different, Checked, sameList}
+use Rattle.pairing.specs.Verdict.{Verdict, Refusal, TooLarge, Different, Checked, sameList, uAt, vAt, wAt}
 
 -- what each case of a finding says
 abbrev pub verdictOf : Finding → Verdict
@@ -21,16 +24,31 @@ verdictOf finding.TooLarge = TooLarge
 verdictOf finding.Different = Different
 verdictOf (finding.Checked n held) = Checked n held
 
--- two accepted records of one dealing of at most 1,024 leaves, of this field and this count of outputs
-pub record Paired (noise scalar : List ℕ) (field outputs : ℕ) : Type 0 where
-  pub P : NoisePart
-  pub Q : ScalarPart
-  pub read : readNoise noise ≡ Whole P
-  pub other : readScalar scalar ≡ Whole Q
-  pub head : Q .head ≡ P .head
-  pub small : places (P .head) ≤ 1024
-  pub kind : P .head .field ≡ field
-  pub count : P .head .outputs ≡ outputs
+-- field and sizes all equal
+abbrev pub sameSizes : Front → Front → Bool
+sameSizes p q =
+    eqb (p .field) (q .field) && eqb (p .depth) (q .depth) && eqb (p .trees) (q .trees) && eqb (p .terms) (q .terms) && eqb (p .outputs) (q .outputs)
+
+-- a record whose code key lies before the body
+pub record KeyIn (s : List ℕ) (f : Front) : Type 0 where
+  pub key : 16 ≤ f .body
+  pub room : f .body ≤ length s
+
+-- two records of one dealing of at most 1,024 leaves
+pub record Paired (s : List ℕ) (p : Front) (t : List ℕ) (q : Front) : Type 0 where
+  pub head : headOf t q ≡ headOf s p
+  pub small : 2 ^ p .depth ≤ 1024
+  pub small-too : 2 ^ q .depth ≤ 1024
+
+-- words that are u and v at every output of a noise record
+pub record NoiseOutputs (s : List ℕ) (f : Front) (u v : List ℕ) : Type 0 where
+  pub u-is : (x : ℕ) → x < f .outputs → at (kindOf (f .field) .field .noiseValues) u x ≡ uAt (noise.contentOf s f) x
+  pub v-is : (x : ℕ) → x < f .outputs → at (kindOf (f .field) .field .elements) v x ≡ vAt (noise.contentOf s f) x
+
+-- words that are w at every output of a scalar record, and words that are its Δ
+pub record ScalarOutputs (t : List ℕ) (f : Front) (w delta : List ℕ) : Type 0 where
+  pub w-is : (x : ℕ) → x < f .outputs → at (kindOf (f .field) .field .elements) w x ≡ wAt (scalar.contentOf t f) x
+  pub delta-is : kindOf (f .field) .field .elements .read delta 0 ≡ kindOf (f .field) .field .elements .read (scalar.contentOf t f .delta) 0
 
 -- 1 for what holds
 abbrev pub counted : Bool → ℕ

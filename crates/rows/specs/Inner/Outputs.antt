@@ -1,17 +1,28 @@
--- Inner: no promise cites this file. A window's outputs on the words of a vector of elements, from the round keys and the sizes.
+-- Inner: no promise cites this file. The rows that a window asks of a record, by its numbers, and their outputs on the words of
+-- a vector, from the round keys.
 use mathlib.Core.List.{List}
-use Prim.Native.Nat.{ℕ, _+_}
+use Prim.Native.Nat.{ℕ, _+_, _^_}
 use Rattle.algebra.specs.Coding.{at, over}
-use Rattle.algebra.specs.Field.{Value}
+use Rattle.algebra.specs.Field.{Field, NoiseValue, Value}
+use Rattle.algebra.specs.Group.{itself}
 use Rattle.algebra.specs.Row.{output}
-use Rattle.field.specs.Kind.{Kind}
+use Rattle.code.specs.declared.Window.{Window}
 use Rattle.code.specs.Row.{rowOf}
+use Rattle.record.specs.declared.Front.{Front}
+use Rattle.rows.specs.declared.WindowRows.{WindowRows}
 
--- output k of the window
-unfoldable pub outputAt : (K : Kind) → List (List (List ℕ)) → ℕ → ℕ → ℕ → List ℕ → ℕ → Value (K .field)
-outputAt K keys size terms first w k =
-    output (K .field .scaled) (rowOf (K .field .ring) (K .coefficient) keys size terms (first + k)) (at (K .field .elements) w)
+abbrev pub rowsOf : Front → Window → WindowRows
+rowsOf f w = record { field = f .field; shape = record { places = 2 ^ f .depth; terms = f .terms }; window = w }
+
+-- noise values in the place of elements: what holds of v and w holds of u
+abbrev pub ofNoise : Field → Field
+ofNoise F = record { ring = F .ring; scaled = itself (F .ring); noiseValues = F .noiseValues; elements = F .noiseValues }
+
+-- output k of the window, for a rule of coefficients
+abbrev pub outputAt : (F : Field) → (ℕ → NoiseValue F) → List (List (List ℕ)) → WindowRows → List ℕ → ℕ → Value F
+outputAt F coefficient keys r w k =
+    output (F .scaled) (rowOf (F .ring) coefficient keys (r .shape .places) (r .shape .terms) (r .window .first + k)) (at (F .elements) w)
 
 -- the window over the front of a buffer
-unfoldable pub windowOver : Kind → List (List (List ℕ)) → ℕ → ℕ → ℕ → ℕ → List ℕ → List ℕ → List ℕ
-windowOver K keys size terms first count w buffer = over (K .field .elements) count (outputAt K keys size terms first w) buffer
+abbrev pub windowOver : (F : Field) → (ℕ → NoiseValue F) → List (List (List ℕ)) → WindowRows → List ℕ → List ℕ → List ℕ
+windowOver F coefficient keys r w buffer = over (F .elements) (r .window .count) (outputAt F coefficient keys r w) buffer

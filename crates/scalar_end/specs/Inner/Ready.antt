@@ -1,7 +1,7 @@
 -- Inner: no promise cites this file. An accepted record by its numbers: its content stands at the places that they give.
 use mathlib.Core.Path.{_≡_}
 use mathlib.Core.List.{List}
-use Prim.Native.Nat.{ℕ, _+_, _*_, _≤_}
+use Prim.Native.Nat.{ℕ, _+_, _*_, _^_, _≤_}
 use lib.ListN.{length}
 use Rattle.field.specs.Bytes.{wordAt}
 use Rattle.number.specs.Reading.{Whole}
@@ -9,6 +9,8 @@ use Rattle.record.specs.Content.{ScalarPart}
 use Rattle.record.specs.Reading.{items, blockAt, readScalar}
 use Rattle.record.specs.Inner.Answers.{headOf}
 use Rattle.record.specs.declared.Front.{Front}
+use Rattle.aes128.specs.Cipher.{keyExpansion}
+use Rattle.tree.specs.Child.{childKey}
 use Rattle.rows.specs.Inner.Sizes.{Sizes}
 use Rattle.field.specs.Kind.{elementWords}
 
@@ -24,7 +26,15 @@ contentOf s f =
       roots = items blockAt 16 s (rootsAt f) (f .trees);
     }
 
+-- what a record that was accepted is known to be
 pub record Ready (s : List ℕ) (f : Front) : Type 0 where
   pub read : readScalar s ≡ Whole (contentOf s f)
   pub sizes : Sizes s (headOf s f) (f .body)
   pub room : rootsAt f + 16 * f .trees ≤ length s
+
+-- such a record, the round keys of the child keys, and as many words as N elements take
+pub record TreesFit (s : List ℕ) (f : Front) (left right : List (List (List ℕ))) (words : ℕ) : Type 0 where
+  pub ready : Ready s f
+  pub lefts : left ≡ keyExpansion (childKey 0)
+  pub rights : right ≡ keyExpansion (childKey 1)
+  pub whole : words ≡ 2 ^ f .depth * elementWords (f .field)

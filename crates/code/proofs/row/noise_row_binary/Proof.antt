@@ -8,10 +8,10 @@ use Rattle.code.proofs.row.noise_row_binary.Statement.{statement}
 use Rattle.code.proofs.row.noise_row_binary.Tie as tie
 
 abbrev Inv-loop : tie.InvT-loop
-Inv-loop sbox mix keys size terms x noise v u₀ total₀ i₀ u total i = (i ≤ terms) × (u ≡ bitsSum keys size terms x noise i) × (total ≡ blocksSum keys size terms x v i)
+Inv-loop sbox mix keys shape x noise v u₀ total₀ i₀ u total i = (i ≤ shape .terms) × (u ≡ bitsSum keys shape x noise i) × (total ≡ blocksSum keys shape x v i)
 
 abbrev μ-loop : tie.MeasureT-loop
-μ-loop sbox mix keys size terms x noise v u₀ total₀ i₀ u total i = terms - i
+μ-loop sbox mix keys shape x noise v u₀ total₀ i₀ u total i = shape .terms - i
 
 pub noise-row-binary-spec : {M : Type 1} → statement M
 noise-row-binary-spec =

@@ -9,10 +9,10 @@ use Rattle.code.proofs.row.noise_row_prime.Statement.{statement}
 use Rattle.code.proofs.row.noise_row_prime.Tie as tie
 
 abbrev Inv-loop : tie.InvT-loop
-Inv-loop sbox mix keys size terms x noise v u₀ total₀ i₀ u total i = (i ≤ terms) × (primeReduce u ≡ primesSum keys size terms x noise i) × (primeReduce total ≡ primesSum keys size terms x v i)
+Inv-loop sbox mix keys shape x noise v u₀ total₀ i₀ u total i = (i ≤ shape .terms) × (primeReduce u ≡ primesSum keys shape x noise i) × (primeReduce total ≡ primesSum keys shape x v i)
 
 abbrev μ-loop : tie.MeasureT-loop
-μ-loop sbox mix keys size terms x noise v u₀ total₀ i₀ u total i = terms - i
+μ-loop sbox mix keys shape x noise v u₀ total₀ i₀ u total i = shape .terms - i
 
 pub noise-row-prime-spec : {M : Type 1} → statement M
 noise-row-prime-spec =

@@ -8,10 +8,10 @@ use Rattle.code.proofs.row.scalar_row_binary.Statement.{statement}
 use Rattle.code.proofs.row.scalar_row_binary.Tie as tie
 
 abbrev Inv-loop : tie.InvT-loop
-Inv-loop sbox mix keys size terms x w total₀ i₀ total i = (i ≤ terms) × (total ≡ blocksSum keys size terms x w i)
+Inv-loop sbox mix keys shape x w total₀ i₀ total i = (i ≤ shape .terms) × (total ≡ blocksSum keys shape x w i)
 
 abbrev μ-loop : tie.MeasureT-loop
-μ-loop sbox mix keys size terms x w total₀ i₀ total i = terms - i
+μ-loop sbox mix keys shape x w total₀ i₀ total i = shape .terms - i
 
 pub scalar-row-binary-spec : {M : Type 1} → statement M
 scalar-row-binary-spec =

@@ -9,10 +9,10 @@ use Rattle.code.proofs.row.scalar_row_prime.Statement.{statement}
 use Rattle.code.proofs.row.scalar_row_prime.Tie as tie
 
 abbrev Inv-loop : tie.InvT-loop
-Inv-loop sbox mix keys size terms x w total₀ i₀ total i = (i ≤ terms) × (primeReduce total ≡ primesSum keys size terms x w i)
+Inv-loop sbox mix keys shape x w total₀ i₀ total i = (i ≤ shape .terms) × (primeReduce total ≡ primesSum keys shape x w i)
 
 abbrev μ-loop : tie.MeasureT-loop
-μ-loop sbox mix keys size terms x w total₀ i₀ total i = terms - i
+μ-loop sbox mix keys shape x w total₀ i₀ total i = shape .terms - i
 
 pub scalar-row-prime-spec : {M : Type 1} → statement M
 scalar-row-prime-spec =

@@ -4,15 +4,15 @@ use mathlib.Core.Path.{_≡_}
 use mathlib.Core.Bool.{true}
 use Prim.Native.Nat.{_≤_, _-_}
 use borrow.Author.Needs.{needs}
-use Rattle.code.proofs.Tested.{termsBelow, terms-below-none, terms-below-more, terms-below-stop, terms-below-done}
+use Rattle.code.proofs.Tested.{termsBelow, terms-none, term-more, term-stop, terms-done}
 use Rattle.code.proofs.used.row_below.Statement.{statement}
 use Rattle.code.proofs.used.row_below.Tie as tie
 
 abbrev Inv-loop : tie.InvT-loop
-Inv-loop sbox mix keys size terms x words bound i₀ i = (i ≤ terms) × (termsBelow bound words keys size terms x i ≡ true)
+Inv-loop sbox mix keys shape x words bound i₀ i = (i ≤ shape .terms) × (termsBelow bound words keys shape x i ≡ true)
 
 abbrev μ-loop : tie.MeasureT-loop
-μ-loop sbox mix keys size terms x words bound i₀ i = terms - i
+μ-loop sbox mix keys shape x words bound i₀ i = shape .terms - i
 
 pub row-below-spec : {M : Type 1} → statement M
 row-below-spec =
@@ -20,13 +20,13 @@ row-below-spec =
     (tie.spec
     Inv-loop
     μ-loop
-    (λ c. search (needs, terms-below-none))  -- loop-holds
+    (λ c. search (needs, terms-none))  -- loop-holds
     (λ c κs. search needs)  -- row-term-requires
     (λ c. search needs)  -- mul-if1
     (λ c. search needs)  -- shared-slice-read-if1
-    (λ c. search terms-below-stop)  -- returns
+    (λ c. search term-stop)  -- returns
     (λ c. search needs)  -- add-i
     (λ c. search needs)  -- loop-less
-    (λ c. search (needs, terms-below-more))  -- loop-again
-    (λ c. search terms-below-done)  -- returns-2
+    (λ c. search (needs, term-more))  -- loop-again
+    (λ c. search terms-done)  -- returns-2
     )

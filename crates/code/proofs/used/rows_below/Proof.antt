@@ -6,15 +6,15 @@ use Prim.Native.Nat.{_≤_, _-_}
 use borrow.Author.Needs.{needs}
 use borrow.Author.Tests.{not-true, not-false}
 use Rattle.code.specs.Inner.Used.{usedBelow}
-use Rattle.code.proofs.Tested.{rows-below-none, rows-below-more, rows-below-stop, rows-below-done}
+use Rattle.code.proofs.Tested.{rows-none, row-more, row-stop, rows-done}
 use Rattle.code.proofs.used.rows_below.Statement.{statement}
 use Rattle.code.proofs.used.rows_below.Tie as tie
 
 abbrev Inv-loop : tie.InvT-loop
-Inv-loop sbox mix keys size terms first count words bound k₀ k = (k ≤ count) × (usedBelow bound words keys size terms first k ≡ true)
+Inv-loop sbox mix keys shape window words bound k₀ k = (k ≤ window .count) × (usedBelow bound words keys shape (record { first = window .first; count = k }) ≡ true)
 
 abbrev μ-loop : tie.MeasureT-loop
-μ-loop sbox mix keys size terms first count words bound k₀ k = count - k
+μ-loop sbox mix keys shape window words bound k₀ k = window .count - k
 
 pub rows-below-spec : {M : Type 1} → statement M
 rows-below-spec =
@@ -22,12 +22,12 @@ rows-below-spec =
     (tie.spec
     Inv-loop
     μ-loop
-    (λ c. search (needs, rows-below-none))  -- loop-holds
+    (λ c. search (needs, rows-none))  -- loop-holds
     (λ c. search needs)  -- add-row-below
     (λ c κs. search needs)  -- row-below-requires
-    (λ c. search (rows-below-stop, not-true))  -- returns
+    (λ c. search (row-stop, not-true))  -- returns
     (λ c. search needs)  -- add-k
     (λ c. search needs)  -- loop-less
-    (λ c. search (needs, rows-below-more, not-false))  -- loop-again
-    (λ c. search rows-below-done)  -- returns-2
+    (λ c. search (needs, row-more, not-false))  -- loop-again
+    (λ c. search rows-done)  -- returns-2
     )

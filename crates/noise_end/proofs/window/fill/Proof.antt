@@ -1,7 +1,7 @@
 -- `noise_end::window::fill` meets its contract, field by field. Assumes nothing.
 use borrow.Author.Needs.{needs}
-use Rattle.rows.proofs.Filled.{filled-binary, filled-prime}
-use Rattle.noise_end.proofs.Steps.{fits-binary, fits-prime, u-filled-binary, u-filled-prime}
+use Rattle.rows.proofs.Windows.{fits-binary, fits-prime, filled-binary, filled-prime}
+use Rattle.noise_end.proofs.Steps.{u-binary, u-prime}
 use Rattle.noise_end.proofs.window.fill.Statement.{statement}
 use Rattle.noise_end.proofs.window.fill.Tie as tie
 
@@ -9,12 +9,12 @@ pub fill-spec : {M : Type 1} → statement M
 fill-spec =
     tie.close
     (tie.spec
-    (λ c κs. (search needs, search fits-binary))  -- fill-binary-requires
-    (λ c κs. (search needs, search fits-prime))  -- fill-prime-requires
+    (λ c κs. (search needs, (search needs, search fits-binary)))  -- fill-binary-requires
+    (λ c κs. (search needs, (search needs, search fits-prime)))  -- fill-prime-requires
     (λ c. search needs)  -- same-length
     (λ c. search needs)  -- same-length-2
-    (λ c. (search u-filled-binary, search filled-binary))  -- returns
+    (λ c. (search u-binary, search filled-binary))  -- returns
     (λ c. search needs)  -- same-length-3
     (λ c. search needs)  -- same-length-4
-    (λ c. (search u-filled-prime, search filled-prime))  -- returns-2
+    (λ c. (search u-prime, search filled-prime))  -- returns-2
     )

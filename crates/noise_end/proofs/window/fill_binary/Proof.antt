@@ -4,21 +4,19 @@ use native.Mathlib.Omega.{arith}
 use borrow.Author.Needs.{needs}
 use Rattle.field.specs.Binary.{binary}
 use Rattle.field.specs.Kind.{binaryKind}
-use Rattle.rows.proofs.Windows.{Written}
-use Rattle.noise_end.specs.Inner.Steps.{uOutputAt}
-use Rattle.rows.specs.Inner.Outputs.{outputAt}
-use Rattle.rows.proofs.Filled.{binary-none, binary-all}
-use Rattle.noise_end.proofs.Steps.{u-binary-none, u-binary-more, u-binary-all, binary-more}
+use Rattle.field.proofs.BinaryField.{binaryLaws}
+use Rattle.rows.specs.Inner.Outputs.{ofNoise, outputAt}
+use Rattle.rows.proofs.Windows.{Written, written-none, written-put, written-word, written-all}
 use Rattle.noise_end.proofs.window.fill_binary.Statement.{statement}
 use Rattle.noise_end.proofs.window.fill_binary.Tie as tie
 
 abbrev Inv-loop : tie.InvT-loop
-Inv-loop sbox mix keys size terms first count noise v u-out₀ v-out₀ k₀ u-out v-out k =
-    (k ≤ count) × Written (binary .noiseValues) (uOutputAt binaryKind keys size terms first noise) u-out₀ u-out k
-    × Written (binary .elements) (outputAt binaryKind keys size terms first v) v-out₀ v-out k
+Inv-loop sbox mix keys rows noise v u-out₀ v-out₀ k₀ u-out v-out k =
+    (k ≤ rows .window .count) × Written (binary .noiseValues) (outputAt (ofNoise binary) (binaryKind .coefficient) keys rows noise) u-out₀ u-out k
+    × Written (binary .elements) (outputAt binary (binaryKind .coefficient) keys rows v) v-out₀ v-out k
 
 abbrev μ-loop : tie.MeasureT-loop
-μ-loop sbox mix keys size terms first count noise v u-out₀ v-out₀ k₀ u-out v-out k = count - k
+μ-loop sbox mix keys rows noise v u-out₀ v-out₀ k₀ u-out v-out k = rows .window .count - k
 
 pub fill-binary-spec : {M : Type 1} → statement M
 fill-binary-spec =
@@ -26,7 +24,7 @@ fill-binary-spec =
     (tie.spec
     Inv-loop
     μ-loop
-    (λ c. (search needs, search u-binary-none, search binary-none))  -- loop-holds
+    (λ c. (search needs, search (written-none (binary .noiseValues) (binaryLaws .noiseValues)), search (written-none (binary .elements) (binaryLaws .elements))))  -- loop-holds
     (λ c. search needs)  -- add-noise-row-binary
     (λ c κs. (search needs, (search needs, search needs, search needs)))  -- noise-row-binary-requires
     (λ c. search needs)  -- mul-u-out
@@ -34,8 +32,8 @@ fill-binary-spec =
     (λ c κs. omega arith)  -- put-block-requires
     (λ c. search needs)  -- add-k
     (λ c. search needs)  -- loop-less
-    (λ c. (search needs, search u-binary-more, binary-more _ _ _ _ _ _ (c .before .before .before .before .before .before .loop .inv .2) (c .before .before .put-block .ensures) (c .before .before .before .before .noise-row-binary .ensures .1) (c .before .before .before .before .before .loop-test .taken) (c .before .before .before .before .before .before .before .before .before .before .before .pre .1)))  -- loop-again
+    (λ c. (search needs, search (written-word (λ x. x) (λ x. x) (binaryLaws .noiseValues)), written-put (binary .elements) (binaryLaws .elements) _ _ (search needs) (c .before .before .put-block .ensures) (search needs) (search needs)))  -- loop-again
     (λ c. search needs)  -- same-length
     (λ c. search needs)  -- same-length-2
-    (λ c. (search u-binary-all, search binary-all))  -- returns
+    (λ c. (search (written-all (binary .noiseValues) (binaryLaws .noiseValues)), search (written-all (binary .elements) (binaryLaws .elements))))  -- returns
     )

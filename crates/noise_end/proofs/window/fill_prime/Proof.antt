@@ -2,22 +2,21 @@
 use Prim.Native.Nat.{_≤_, _-_}
 use native.Mathlib.Omega.{arith}
 use borrow.Author.Needs.{needs}
-use Rattle.field.specs.Prime.{primes}
+use Rattle.field.specs.Prime.{primes, prime}
 use Rattle.field.specs.Kind.{primeKind}
-use Rattle.rows.proofs.Windows.{Written}
+use Rattle.field.proofs.PrimeField.{primeLaws}
 use Rattle.rows.specs.Inner.Outputs.{outputAt}
-use Rattle.rows.proofs.Filled.{prime-none, prime-all}
-use Rattle.noise_end.proofs.Steps.{u-prime-more, v-prime-more, u-prime-all}
+use Rattle.rows.proofs.Windows.{Written, written-none, written-word, written-all}
 use Rattle.noise_end.proofs.window.fill_prime.Statement.{statement}
 use Rattle.noise_end.proofs.window.fill_prime.Tie as tie
 
 abbrev Inv-loop : tie.InvT-loop
-Inv-loop sbox mix keys size terms first count noise v u-out₀ v-out₀ k₀ u-out v-out k =
-    (k ≤ count) × Written (primes .elements) (outputAt primeKind keys size terms first noise) u-out₀ u-out k
-    × Written (primes .elements) (outputAt primeKind keys size terms first v) v-out₀ v-out k
+Inv-loop sbox mix keys rows noise v u-out₀ v-out₀ k₀ u-out v-out k =
+    (k ≤ rows .window .count) × Written (primes .elements) (outputAt primes (primeKind .coefficient) keys rows noise) u-out₀ u-out k
+    × Written (primes .elements) (outputAt primes (primeKind .coefficient) keys rows v) v-out₀ v-out k
 
 abbrev μ-loop : tie.MeasureT-loop
-μ-loop sbox mix keys size terms first count noise v u-out₀ v-out₀ k₀ u-out v-out k = count - k
+μ-loop sbox mix keys rows noise v u-out₀ v-out₀ k₀ u-out v-out k = rows .window .count - k
 
 pub fill-prime-spec : {M : Type 1} → statement M
 fill-prime-spec =
@@ -25,7 +24,7 @@ fill-prime-spec =
     (tie.spec
     Inv-loop
     μ-loop
-    (λ c. (search needs, search prime-none, search prime-none))  -- loop-holds
+    (λ c. (search needs, search (written-none (primes .elements) (primeLaws .elements)), search (written-none (primes .elements) (primeLaws .elements))))  -- loop-holds
     (λ c. search needs)  -- add-noise-row-prime
     (λ c κs. (search needs, (search needs, search needs, search needs)))  -- noise-row-prime-requires
     (λ c. search needs)  -- mul-u-out
@@ -34,8 +33,8 @@ fill-prime-spec =
     (λ c. omega arith)  -- slice-write-v-out
     (λ c. search needs)  -- add-k
     (λ c. search needs)  -- loop-less
-    (λ c. (search needs, search u-prime-more, search v-prime-more))  -- loop-again
+    (λ c. (search needs, search (written-word (λ x. x .word) prime (primeLaws .elements)), search (written-word (λ x. x .word) prime (primeLaws .elements))))  -- loop-again
     (λ c. search needs)  -- same-length
     (λ c. search needs)  -- same-length-2
-    (λ c. (search u-prime-all, search prime-all))  -- returns
+    (λ c. (search (written-all (primes .elements) (primeLaws .elements)), search (written-all (primes .elements) (primeLaws .elements))))  -- returns
     )

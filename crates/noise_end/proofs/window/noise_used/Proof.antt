@@ -1,7 +1,7 @@
 -- `noise_end::window::noise_used` meets its contract, field by field. Assumes nothing.
 use native.Mathlib.Omega.{arith}
 use borrow.Author.Needs.{needs}
-use Rattle.noise_end.proofs.Steps.{noise-binary, noise-prime}
+use Rattle.noise_end.proofs.Steps.{testing-prime, noise-binary, noise-prime}
 use Rattle.noise_end.proofs.window.noise_used.Statement.{statement}
 use Rattle.noise_end.proofs.window.noise_used.Tie as tie
 
@@ -11,7 +11,6 @@ noise-used-spec =
     (tie.spec
     (λ c κs. (search needs, (search needs, omega arith, search needs, search needs)))  -- used-below-requires
     (λ c. search noise-binary)  -- returns
-    (λ c κs. search needs)  -- modulus-requires
-    (λ c κs. (search needs, (search needs, omega arith, search needs, search needs)))  -- used-below-requires-2
+    (λ c κs. (search needs, search testing-prime))  -- elements-used-requires
     (λ c. search noise-prime)  -- returns-2
     )

@@ -1,6 +1,8 @@
--- `pairing::judge::judge` meets its contract, test by test. Assumes nothing.
+-- `pairing::judge::judge` meets its contract: a record is refused, or both are accepted. Assumes nothing.
 use borrow.Author.Needs.{needs}
-use Rattle.pairing.proofs.Judged.{noise-number, scalar-number, noise-depth, scalar-depth, noise-key, noise-room, scalar-key, scalar-room, first-large, second-large, other-dealing, one-dealing}
+use Rattle.noise_end.proofs.Content as noise
+use Rattle.scalar_end.proofs.Content as scalar
+use Rattle.pairing.proofs.Judged.{noise-number, scalar-number}
 use Rattle.pairing.proofs.judge.judge.Statement.{statement}
 use Rattle.pairing.proofs.judge.judge.Tie as tie
 
@@ -18,12 +20,6 @@ judge-spec =
     (λ c. search needs)  -- enum-told-2
     (λ c κs. search needs)  -- fault-of-requires-2
     (λ c. search scalar-number)  -- returns-2
-    (λ c κs. search noise-depth)  -- leaves-requires
-    (λ c. search first-large)  -- returns-3
-    (λ c κs. search scalar-depth)  -- leaves-requires-2
-    (λ c. search second-large)  -- returns-4
-    (λ c κs. (search noise-key, search noise-room, search scalar-key, search scalar-room))  -- same-dealing-requires
-    (λ c. search other-dealing)  -- returns-5
-    (λ c κs. search one-dealing)  -- held-outputs-requires
-    (λ c. search needs)  -- returns-6
+    (λ c κs. (search noise.ready, search scalar.ready))  -- compare-requires
+    (λ c. search needs)  -- returns-3
     )

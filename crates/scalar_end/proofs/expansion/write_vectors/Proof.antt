@@ -1,6 +1,8 @@
 -- `scalar_end::expansion::write_vectors` meets its contract: one law for each return. Assumes nothing.
 use borrow.Author.Needs.{needs}
-use Rattle.scalar_end.proofs.Calls.{words-fit, front-length, roots-fit, short-w, short-delta, vectors-written}
+use Rattle.rows.proofs.Flats.{front-length}
+use Rattle.rows.proofs.Numbers.{vector-fits}
+use Rattle.scalar_end.proofs.Calls.{front-words, short-w, short-delta, vectors-written}
 use Rattle.scalar_end.proofs.expansion.write_vectors.Statement.{statement}
 use Rattle.scalar_end.proofs.expansion.write_vectors.Tie as tie
 
@@ -8,16 +10,14 @@ pub write-vectors-spec : {M : Type 1} → statement M
 write-vectors-spec =
     tie.close
     (tie.spec
-    (λ c κs. search needs)  -- element-width-requires
     (λ c κs. search needs)  -- leaves-requires
-    (λ c. search words-fit)  -- mul-words
+    (λ c κs. search needs)  -- element-width-requires
+    (λ c. search vector-fits)  -- mul-words
     (λ c. search short-w)  -- returns
     (λ c. search short-delta)  -- returns-2
-    (λ c. search needs)  -- mul-roots
-    (λ c. search needs)  -- add-roots
-    (λ c. search needs)  -- slice-relend-prefix-expand-trees
-    (λ c. search front-length)  -- slice-aggregate-expand-trees
-    (λ c κs. search roots-fit)  -- expand-trees-requires
+    (λ c. search needs)  -- slice-relend-prefix-write-accumulated
+    (λ c. search front-length)  -- slice-aggregate-write-accumulated
+    (λ c κs. (search needs, search front-words))  -- write-accumulated-requires
     (λ c κs. search needs)  -- write-delta-requires
     (λ c. search needs)  -- same-length
     (λ c. search needs)  -- same-length-2

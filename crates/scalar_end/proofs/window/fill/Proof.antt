@@ -1,7 +1,6 @@
 -- `scalar_end::window::fill` meets its contract, field by field. Assumes nothing.
 use borrow.Author.Needs.{needs}
-use Rattle.rows.proofs.Filled.{filled-binary, filled-prime}
-use Rattle.scalar_end.proofs.Steps.{fits-binary, fits-prime}
+use Rattle.rows.proofs.Windows.{fits-binary, fits-prime, filled-binary, filled-prime}
 use Rattle.scalar_end.proofs.window.fill.Statement.{statement}
 use Rattle.scalar_end.proofs.window.fill.Tie as tie
 

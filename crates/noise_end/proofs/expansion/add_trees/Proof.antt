@@ -1,0 +1,36 @@
+-- `noise_end::expansion::add_trees` meets its contract. The loop's invariant: the noise values and the trees before `i` are in place, and the trees from `i` on are what is left of the record; the measure is what is left of the trees. Assumes nothing.
+use Prim.Native.Nat.{_-_}
+use borrow.Author.Needs.{needs}
+use Rattle.noise_end.proofs.Trees.{Grown, grown-none, grown-asks, grown-more, grown-mu, grown-v0}
+use Rattle.noise_end.proofs.expansion.add_trees.Statement.{statement}
+use Rattle.noise_end.proofs.expansion.add_trees.Tie as tie
+
+abbrev Inv-loop : tie.InvT-loop
+Inv-loop sbox mix left right source front noise₀ v₀ at₀ base₀ i₀ noise v at base i = Grown source front left right at base i noise v
+
+abbrev μ-loop : tie.MeasureT-loop
+μ-loop sbox mix left right source front noise₀ v₀ at₀ base₀ i₀ noise v at base i = front .trees - i
+
+pub add-trees-spec : {M : Type 1} → statement M
+add-trees-spec =
+    tie.close
+    (tie.spec
+    Inv-loop
+    μ-loop
+    (λ c κs. search needs)  -- zero-words-requires
+    (λ c κs. search needs)  -- zero-words-requires-2
+    (λ c. search grown-none)  -- loop-holds
+    (λ c κs. (grown-asks _ _ (c .before .before .loop .inv) (c .if1 .taken), search needs))  -- tree-at-requires
+    (λ c. search needs)  -- mul-at
+    (λ c. search needs)  -- add-at
+    (λ c. search needs)  -- add-base
+    (λ c. search needs)  -- mul-noise
+    (λ c. search needs)  -- slice-write-noise
+    (λ c κs. search needs)  -- add-tree-requires
+    (λ c. search needs)  -- add-i
+    (λ c. search needs)  -- loop-less
+    (λ c. search grown-more)  -- loop-again
+    (λ c. search needs)  -- same-length
+    (λ c. search needs)  -- same-length-2
+    (λ c. (search grown-mu, search grown-v0))  -- returns
+    )

@@ -1,0 +1,15 @@
+-- `rows::window::code_keys` meets its contract. Assumes nothing.
+use borrow.Author.Needs.{needs}
+use Rattle.rows.proofs.Steps.{keys-at}
+use Rattle.rows.proofs.window.code_keys.Statement.{statement}
+use Rattle.rows.proofs.window.code_keys.Tie as tie
+
+pub code-keys-spec : {M : Type 1} → statement M
+code-keys-spec =
+    tie.close
+    (tie.spec
+    (λ c κs. search needs)  -- code-key-at-requires
+    (λ c κs. search needs)  -- columns-at-requires
+    (λ c κs. search needs)  -- expand-key-requires
+    (λ c. search keys-at)  -- returns
+    )

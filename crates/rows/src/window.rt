@@ -1,0 +1,112 @@
+// A window's rows, by a record's front: the tests of its lengths and of the words that it uses, and the code key.
+ghost use mathlib.Core.Path.{_≡_};
+ghost use Prim.Native.Nat.{_+_, _-_, _≤_};
+ghost use lib.Dec.{ltb};
+ghost use lib.ListN.{length};
+ghost use Rattle.sbox.specs.Inner.Tables.{Tables};
+ghost use Rattle.sbox.specs.Table.{SBoxTable};
+ghost use Rattle.field.specs.Kind.{kindOf, elementWords};
+ghost use Rattle.record.specs.Inner.Answers.{headOf};
+ghost use Rattle.rows.specs.Head.{codeKeys};
+ghost use Rattle.rows.specs.Inner.Numbers.{lengthsNumber};
+ghost use Rattle.rows.specs.Inner.Outputs.{rowsOf};
+ghost use Rattle.rows.specs.Inner.Testing.{Testing, elementsUsed};
+use crate::WindowRows;
+use crate::element_width;
+use aes128::expand_key;
+use answer::BAD_LENGTH;
+use answer::BUFFER_SHORT;
+use answer::WINDOW_PAST_END;
+use code::Shape;
+use code::Window;
+use code::used_below;
+use field::Prime;
+use record::Front;
+use record::leaves;
+use tree::columns_at;
+
+// The rows that a window asks of a record.
+pub fn window_rows(front: Front, window: Window) -> WindowRows
+    requires { ⌜ front .depth ≤ 16 ⌝ }
+    ensures { λ r. ⌜ r ≡ rowsOf front window ⌝ }
+{
+    WindowRows {
+        field: front.field,
+        shape: Shape {
+            places: leaves(front.depth),
+            terms: front.terms,
+        },
+        window,
+    }
+}
+
+// Whether a window passes the outputs, for any two numbers.
+fn past_end(window: Window, outputs: usize) -> bool
+    ensures { λ r. ⌜ r ≡ ltb outputs (window .first + window .count) ⌝ }
+{
+    if window.count <= outputs {
+        outputs - window.count < window.first
+    } else {
+        true
+    }
+}
+
+// The number of the tests 3, 7 and 13, from the lengths of a vector of elements and of the buffer for a window of them.
+pub fn lengths_number(front: Front, vector: usize, window: Window, room: usize) -> u32
+    requires { ⌜ (front .depth ≤ 16) × (front .outputs ≤ 32768) ⌝ }
+    ensures { λ r. ⌜ r ≡ lengthsNumber front vector window room ⌝ }
+{
+    let width = element_width(front.field);
+    if vector != leaves(front.depth) * width {
+        return BAD_LENGTH;
+    }
+    if past_end(window, front.outputs) {
+        return WINDOW_PAST_END;
+    }
+    if room < window.count * width {
+        return BUFFER_SHORT;
+    }
+    0
+}
+
+// The place of the code key's 16 bytes.
+pub fn code_key_at(front: Front) -> usize
+    requires { ⌜ 16 ≤ front .body ⌝ }
+    ensures { λ r. ⌜ r ≡ front .body - 16 ⌝ }
+{
+    front.body - 16
+}
+
+// The round keys of the code key.
+pub fn code_keys(sbox: &[u8; 256], source: &[u8], front: Front) -> [[[u8; 4]; 4]; 11]
+    requires { ⌜ SBoxTable (now sbox) × (16 ≤ front .body) × (front .body ≤ length (now source)) ⌝ }
+    ensures { λ r. ⌜ r ≡ codeKeys (headOf (now (source .entry)) front) ⌝ }
+{
+    expand_key(sbox, columns_at(source, code_key_at(front)))
+}
+
+// Whether every word that the rows use is an element. In field 1 every word is.
+pub fn elements_used(
+    sbox: &[u8; 256],
+    mix: &[u32; 256],
+    keys: &[[[u8; 4]; 4]; 11],
+    rows: WindowRows,
+    words: &[u64],
+) -> bool
+    requires { ⌜ Tables (now sbox) (now mix) ⌝ }
+    requires { ⌜ Testing (elementWords (rows .field)) rows (length (now words)) ⌝ }
+    ensures { λ r. ⌜ r ≡ elementsUsed (kindOf (rows .field) .field) (now (keys .entry)) rows (now (words .entry)) ⌝ }
+{
+    if rows.field == 1 {
+        return true;
+    }
+    used_below(
+        sbox,
+        mix,
+        keys,
+        rows.shape,
+        rows.window,
+        words,
+        Prime::modulus(),
+    )
+}

@@ -1,0 +1,16 @@
+-- `scalar_end::expansion::write_accumulated` meets its contract. Assumes nothing.
+use borrow.Author.Needs.{needs}
+use Rattle.rows.proofs.Flats.{all-words, accumulated}
+use Rattle.scalar_end.proofs.expansion.write_accumulated.Statement.{statement}
+use Rattle.scalar_end.proofs.expansion.write_accumulated.Tie as tie
+
+pub write-accumulated-spec : {M : Type 1} → statement M
+write-accumulated-spec =
+    tie.close
+    (tie.spec
+    (λ c κs. search needs)  -- write-trees-requires
+    (λ c κs. search needs)  -- leaves-requires
+    (λ c κs. search all-words)  -- accumulate-elements-requires
+    (λ c. search needs)  -- same-length
+    (λ c. search accumulated)  -- returns
+    )
