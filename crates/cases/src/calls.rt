@@ -42,19 +42,20 @@ pub fn deal(
     )
 }
 
-// The number of a dealing of depth 3.
-fn deal_number(outputs: usize, positions: &[u32]) -> usize {
+// The number of a dealing.
+fn deal_number(depth: usize, outputs: usize, positions: &[u32]) -> usize {
     let mut noise = [0u8; 256];
     let mut scalar = [0u8; 256];
-    let r = deal(2, 3, outputs, positions, 1, 2, &mut noise, &mut scalar);
+    let r = deal(2, depth, outputs, positions, 1, 2, &mut noise, &mut scalar);
     r.number as usize
 }
 
-// n = 4 and n = 5 for d = 3, and two equal positions.
+// n = 4 and n = 5 for d = 3, two equal positions, and more terms than places.
 pub fn dealings() {
-    say(b"d = 3, n = 4: ", deal_number(4, &[1u32, 6]));
-    say(b"d = 3, n = 5: ", deal_number(5, &[1u32, 6]));
-    say(b"two equal positions: ", deal_number(4, &[6u32, 6]));
+    say(b"d = 3, n = 4: ", deal_number(3, 4, &[1u32, 6]));
+    say(b"d = 3, n = 5: ", deal_number(3, 5, &[1u32, 6]));
+    say(b"two equal positions: ", deal_number(3, 4, &[6u32, 6]));
+    say(b"d = 1, three terms a row: ", deal_number(1, 1, &[0u32, 1]));
 }
 
 // The number of a window at the noise end, of a record of eight leaves in field 2.

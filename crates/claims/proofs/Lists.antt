@@ -154,7 +154,7 @@ module _ (S : Setting) (A : Admitted (S .input))
   u-is x =
       output-is-matrix (field (S .input) .ring) (itself (field (S .input) .ring)) (kindLaws (S .input .field) .field .ring)
       (itself-laws (field (S .input) .ring) (kindLaws (S .input .field) .field .ring))
-      (places (head (S .input))) (row (head (S .input)) x) (row-within (head (S .input)) x) (mu (S .input))
+      (places (head (S .input))) (row (head (S .input)) x) (row-within (head (S .input)) (A .terms .2) x) (mu (S .input))
 
   module _ (c : NoiseCall) where
     pub noise-number : noiseStep (noiseStart S) c .number ≡ listedNoiseNumber (S .input) c

@@ -48,4 +48,4 @@ admitted-correlated I A x =
     (value I) (λ i h. noise-element (I .field) (I .values) i (A .field) (A .noise i h))
     (leaf I) (λ i j. laws .leaf-element (leafAt 2 child (I .depth) (root I i) j))
     (treeCorrection I) (λ i h. refl)
-    (places (head I)) (row (head I) x) (row-within (head I) x)
+    (places (head I)) (row (head I) x) (row-within (head I) (A .terms .2) x)

@@ -26,21 +26,21 @@ module _ (I : Input) (A : Admitted I) (x : ℕ) where
   u-at : uAt (noisePart I) x ≡ u I x
   unfolding u
   u-at =
-      output-same (field I .ring) (itself (field I .ring)) (places (head I)) (row (head I) x) (row-within (head I) x) _ _
+      output-same (field I .ring) (itself (field I .ring)) (places (head I)) (row (head I) x) (row-within (head I) (A .terms .2) x) _ _
       (accumulate-same (field I .ring .group) (places (head I)) (noiseVectors.mu (noisePart I)) (mu I) (λ j h. mu-dealt I A j))
       ∙ output-is-matrix (field I .ring) (itself (field I .ring)) (kindLaws (I .field) .field .ring)
-      (itself-laws (field I .ring) (kindLaws (I .field) .field .ring)) (places (head I)) (row (head I) x) (row-within (head I) x) (mu I)
+      (itself-laws (field I .ring) (kindLaws (I .field) .field .ring)) (places (head I)) (row (head I) x) (row-within (head I) (A .terms .2) x) (mu I)
 
   v-at : vAt (noisePart I) x ≡ v I x
   unfolding v
   v-at =
-      output-same (field I .ring) (field I .scaled) (places (head I)) (row (head I) x) (row-within (head I) x) _ _
+      output-same (field I .ring) (field I .scaled) (places (head I)) (row (head I) x) (row-within (head I) (A .terms .2) x) _ _
       (accumulate-same (field I .scaled .group) (places (head I)) (noiseVectors.v0 (noisePart I)) (v0 I) (v0-dealt I A))
 
   w-at : wAt (scalarPart I) x ≡ w I x
   unfolding w
   w-at =
-      output-same (field I .ring) (field I .scaled) (places (head I)) (row (head I) x) (row-within (head I) x) _ _
+      output-same (field I .ring) (field I .scaled) (places (head I)) (row (head I) x) (row-within (head I) (A .terms .2) x) _ _
       (accumulate-same (field I .scaled .group) (places (head I)) (scalarVectors.w0 (scalarPart I)) (w0 I) (λ j h. w0-dealt I A j))
 
   dealt-held : heldAt (noisePart I) (scalarPart I) x ≡ true

@@ -2,8 +2,7 @@
 use mathlib.Core.Bool.{true}
 use mathlib.Core.List.{List}
 use mathlib.Core.Path.{_≡_, ap}
-use Prim.Native.Nat.{ℕ, _+_, _<_}
-use native.Mathlib.Nat.{mod-lt}
+use Prim.Native.Nat.{ℕ, _+_, _≤_, _<_}
 use borrow.Author.Tests.{lt-ltb, ltb-true}
 use lib.ListN.{length, getD}
 use Rattle.algebra.specs.Group.{Ring, Scaled}
@@ -11,7 +10,8 @@ use Rattle.algebra.specs.Row.{Row, output}
 use Rattle.algebra.specs.Inner.Rows.{RowWithin}
 use Rattle.algebra.proofs.Sum.{sum-cong}
 use Rattle.field.specs.Kind.{Kind, KindLaws}
-use Rattle.code.specs.Row.{termPlace, placeOf, rowOf}
+use Rattle.code.specs.Row.{termPlace, rowOf}
+use Rattle.code.proofs.Strips.{place-within}
 use Rattle.code.specs.declared.Shape.{Shape}
 use Rattle.code.specs.declared.Window.{Window}
 use Rattle.code.specs.Inner.Rows.{placeIn}
@@ -33,27 +33,27 @@ all-word bound words e j h = ltb-true _ _ (every-at (wordBelow bound words) j (l
 
 module _ (keys : List (List (List ℕ))) (N ℓ : ℕ) where
   -- a place is below N
-  pub place-below : (x i : ℕ) → 0 < N → termPlace keys N ℓ x i < N
-  unfolding termPlace placeOf
-  place-below x i h = mod-lt _ h
+  pub place-below : (x i : ℕ) → i < ℓ → ℓ ≤ N → termPlace keys N ℓ x i < N
+  unfolding termPlace
+  place-below x i h full = place-within N ℓ full i h _
 
   -- the terms of a row of either kind
-  pub row-within : (K : Kind) → KindLaws K → (x : ℕ) → 0 < N → RowWithin (K .field .ring) N (rowOf (K .field .ring) (K .coefficient) keys N ℓ x)
+  pub row-within : (K : Kind) → KindLaws K → (x : ℕ) → ℓ ≤ N → RowWithin (K .field .ring) N (rowOf (K .field .ring) (K .coefficient) keys N ℓ x)
   unfolding rowOf
-  row-within K L x h = record { place-below = λ i k. place-below x i h; coefficient-element = λ i k. L .coefficient-element _ }
+  row-within K L x full = record { place-below = λ i k. place-below x i k full; coefficient-element = λ i k. L .coefficient-element _ }
 
   -- vectors that agree below N have the same outputs
-  pub output-below : (K : Kind) (S : Scaled (K .field .ring)) (x : ℕ) (f g : ℕ → S .group .Of) → 0 < N → ((j : ℕ) → j < N → f j ≡ g j)
+  pub output-below : (K : Kind) (S : Scaled (K .field .ring)) (x : ℕ) (f g : ℕ → S .group .Of) → ℓ ≤ N → ((j : ℕ) → j < N → f j ≡ g j)
       → output S (rowOf (K .field .ring) (K .coefficient) keys N ℓ x) f ≡ output S (rowOf (K .field .ring) (K .coefficient) keys N ℓ x) g
   unfolding rowOf
   output-below K S x f g h e =
-      output-places S (rowOf (K .field .ring) (K .coefficient) keys N ℓ x) f g (λ i k. e (termPlace keys N ℓ x i) (place-below x i h))
+      output-places S (rowOf (K .field .ring) (K .coefficient) keys N ℓ x) f g (λ i k. e (termPlace keys N ℓ x i) (place-below x i k h))
 
 module _ (keys : List (List (List ℕ))) (s : Shape) (bound : ℕ) (words : List ℕ) (w : Window) where
   -- where every word is below the bound no row can fail
-  pub used-all : 0 < s .places → length words ≡ s .places → allBelow bound words ≡ true → usedBelow bound words keys s w ≡ true
+  pub used-all : s .terms ≤ s .places → length words ≡ s .places → allBelow bound words ≡ true → usedBelow bound words keys s w ≡ true
   unfolding usedBelow rowBelow
   used-all h size e =
       every-all (λ k. rowBelow bound words keys s (w .first + k)) (w .count)
       (λ k g. every-all (λ i. wordBelow bound words (placeIn keys s (w .first + k) i)) (s .terms)
-      (λ i m. lt-ltb _ _ (all-word bound words e (placeIn keys s (w .first + k) i) (rw size (place-below keys (s .places) (s .terms) (w .first + k) i h)))))
+      (λ i m. lt-ltb _ _ (all-word bound words e (placeIn keys s (w .first + k) i) (rw size (place-below keys (s .places) (s .terms) (w .first + k) i m h)))))

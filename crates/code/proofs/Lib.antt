@@ -1,5 +1,6 @@
 -- The laws of `code`.
 pub mod Laws
+pub mod Strips
 mod Terms
 mod Tested
 mod InPlace

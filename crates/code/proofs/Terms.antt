@@ -1,8 +1,10 @@
 -- A row's terms one a turn: the place and the word that a term's block names, and the row's sum so far.
 use mathlib.Core.List.{List}
 use mathlib.Core.Path.{_≡_, sym, ap, ap₂, _∙_}
-use Prim.Native.Nat.{ℕ, _+_, _*_, _%_, _≤_}
-use native.Mathlib.Nat.{le-antisymm, mul-one}
+use Prim.Native.Nat.{ℕ, _+_, _*_, _%_, _≤_, _<_}
+use mir.Syntax.{w64}
+use mir.Val.{Fits}
+use native.Mathlib.Nat.{le-antisymm, mod-lt, mul-one}
 use native.Mathlib.Numerals.{add-one}
 use native.Mathlib.Omega.{arith}
 use lib.ListN.{getD}
@@ -20,7 +22,8 @@ use Rattle.field.specs.Prime.{primes, primeRing, prime, primeReduce, primeAdd, 
 use Rattle.field.proofs.PrimeField.{reduced-add, reduced-mul}
 use Rattle.code.specs.Row.{termBlock, placeOf, termPlace, rowOf}
 use Rattle.code.specs.declared.Shape.{Shape}
-use Rattle.code.specs.Inner.Rows.{placeIn, binaryRow, primeRow}
+use Rattle.code.proofs.Strips.{strip-some, strip-end, strips-within}
+use Rattle.code.specs.Inner.Rows.{Shaped, placeIn, binaryRow, primeRow}
 
 -- a term, from what the cipher and the words in bytes give
 module _ (keys : List (List (List ℕ))) (x i : ℕ) {s e : List (List ℕ)} {b : Block}
@@ -29,12 +32,35 @@ module _ (keys : List (List (List ℕ))) (x i : ℕ) {s e : List (List ℕ)} {b 
   unfolding termBlock
   block-is = r ∙ ap blockLeaf (q ∙ ap (cipher keys) p)
 
-  pub place-is : (N ℓ : ℕ) → b .low % N ≡ termPlace keys N ℓ x i
-  unfolding termPlace placeOf
-  place-is N ℓ = ap (λ (c : Block). c .low % N) block-is
+  pub place-is : (s : Shape) {j : ℕ} → j ≡ placeOf (s .places) (s .terms) i (b .low) → j ≡ placeIn keys s x i
+  unfolding termPlace
+  place-is s e = e ∙ ap (λ (c : Block). placeOf (s .places) (s .terms) i (c .low)) block-is
 
   pub word-is : b .high ≡ highOf (termBlock keys x i)
   word-is = ap (λ (c : Block). c .high) block-is
+
+-- the place that a word names for a term
+module _ (s : Shape) (shaped : Shaped s) (i : ℕ) (h : i < s .terms) where
+  pub some-place : 0 < s .strip
+  some-place = rw (shaped .strip) (strip-some (s .places) (s .terms) (shaped .full) (shaped .some))
+
+  strip-within : i * s .strip + s .strip ≤ s .places
+  strip-within =
+      rw (shaped .strip)
+      (omega (arith, strip-end (s .places) (s .terms) (shaped .full) i h, strips-within (s .places) (s .terms) (shaped .full)))
+
+  pub strip-fits : Fits w64 (i * s .strip)
+  strip-fits = record { fits = omega (arith, strip-within, shaped .most) }
+
+  pub place-fits : (word : ℕ) → Fits w64 (i * s .strip + word % s .strip)
+  place-fits word = let r = mod-lt word some-place in record { fits = omega (arith, strip-within, shaped .most) }
+
+  pub place-below : (word : ℕ) → i * s .strip + word % s .strip < s .places
+  place-below word = let r = mod-lt word some-place in omega (arith, strip-within)
+
+  pub place-named : (word : ℕ) → i * s .strip + word % s .strip ≡ placeOf (s .places) (s .terms) i word
+  unfolding placeOf
+  place-named word = rw (shaped .strip)
 
 module _ {R : Ring} (S : Scaled R) (row : Row R) (f : ℕ → S .group .Of) where
   -- the sum of a row's first n terms

@@ -87,5 +87,5 @@ terms-fit first count ℓ h k =
     omega arith
 
 pub all-passes : (bound : ℕ) (words : List ℕ) (keys : List (List (List ℕ))) (s : Shape) (w : Window) {r : Bool} → r ≡ allBelow bound words → r ≡ true
-    → 0 < s .places → length words ≡ s .places → true ≡ usedBelow bound words keys s w
+    → s .terms ≤ s .places → length words ≡ s .places → true ≡ usedBelow bound words keys s w
 all-passes bound words keys s w p q h e = sym (used-all keys s bound words w h e (sym p ∙ q))

@@ -14,10 +14,11 @@ pub use row::scalar_row_binary;
 pub use row::scalar_row_prime;
 pub use used::used_below;
 
-// The code's shape: its places N, and the terms ℓ of a row.
+// The code's shape: its places N, the terms ℓ of a row, and the strip N / ℓ.
 pub struct Shape {
     pub places: usize,
     pub terms: usize,
+    pub strip: usize,
 }
 
 // A window: a first index and a count.

@@ -1,5 +1,5 @@
-// A row's terms and a row's output: the sum of coefficient × accumulated value; repeated places count each time. In field 2 the
-// sums of a row are folded term by term and reduced at its end.
+// A row's terms and a row's output: the sum of coefficient × accumulated value. In field 2 the sums of a row are folded term by
+// term and reduced at its end.
 ghost use mathlib.Core.Path.{_≡_};
 ghost use Prim.Native.Nat.{_+_, _*_, _<_};
 ghost use lib.ListN.{length};
@@ -10,8 +10,8 @@ ghost use Rattle.sbox.specs.Inner.Tables.{Tables};
 ghost use Rattle.field.specs.Binary.{binary, bitRing, blocks};
 ghost use Rattle.field.specs.Bytes.{highOf};
 ghost use Rattle.field.specs.Prime.{primes, primeRing};
-ghost use Rattle.code.specs.Row.{termBlock};
-ghost use Rattle.code.specs.Inner.Rows.{placeIn, binaryRow, primeRow};
+ghost use Rattle.code.specs.Row.{termBlock, placeOf};
+ghost use Rattle.code.specs.Inner.Rows.{Shaped, placeIn, binaryRow, primeRow};
 use crate::Shape;
 use aes128::encrypt;
 use field::Block;
@@ -36,6 +36,15 @@ pub struct Term {
     pub word: u64,
 }
 
+// The place that a word names for term i, in strip i.
+fn place_of(shape: Shape, i: usize, word: u64) -> usize
+    requires { ⌜ Shaped shape × (i < shape .terms) ⌝ }
+    ensures { λ r. ⌜ (r ≡ placeOf (shape .places) (shape .terms) i word) × (r < shape .places) ⌝ }
+{
+    let strip = shape.strip;
+    i * strip + (word % (strip as u64)) as usize
+}
+
 // Term i of row x.
 pub fn row_term(
     sbox: &[u8; 256],
@@ -46,7 +55,7 @@ pub fn row_term(
     i: usize,
 ) -> Term
     requires { ⌜ Tables (now sbox) (now mix) ⌝ }
-    requires { ⌜ 0 < shape .places ⌝ }
+    requires { ⌜ Shaped shape × (i < shape .terms) ⌝ }
     ensures { λ r. ⌜ (r .place ≡ placeIn (now (keys .entry)) shape x i)
         × (r .place < shape .places) × (r .word ≡ highOf (termBlock (now (keys .entry)) x i)) ⌝ }
 {
@@ -56,7 +65,7 @@ pub fn row_term(
     };
     let block = Block::of_columns(encrypt(sbox, mix, keys, input.columns()));
     Term {
-        place: (block.low % (shape.places as u64)) as usize,
+        place: place_of(shape, i, block.low),
         word: block.high,
     }
 }
@@ -84,7 +93,7 @@ pub fn noise_row_binary(
     v: &[u64],
 ) -> BinaryPair
     requires { ⌜ Tables (now sbox) (now mix) ⌝ }
-    requires { ⌜ (0 < shape .places) × (length (now noise) ≡ shape .places) × (length (now v) ≡ shape .places * 2) ⌝ }
+    requires { ⌜ Shaped shape × (length (now noise) ≡ shape .places) × (length (now v) ≡ shape .places * 2) ⌝ }
     ensures { λ r. ⌜ (r .u ≡ output (itself bitRing) (binaryRow (now (keys .entry)) shape x) (at (binary .noiseValues) (now (noise .entry))))
         × (r .v ≡ output blocks (binaryRow (now (keys .entry)) shape x) (at (binary .elements) (now (v .entry)))) ⌝ }
 {
@@ -113,7 +122,7 @@ pub fn noise_row_prime(
     v: &[u64],
 ) -> PrimePair
     requires { ⌜ Tables (now sbox) (now mix) ⌝ }
-    requires { ⌜ (0 < shape .places) × (length (now noise) ≡ shape .places) × (length (now v) ≡ shape .places) ⌝ }
+    requires { ⌜ Shaped shape × (length (now noise) ≡ shape .places) × (length (now v) ≡ shape .places) ⌝ }
     ensures { λ r. ⌜ (r .u ≡ output (itself primeRing) (primeRow (now (keys .entry)) shape x) (at (primes .noiseValues) (now (noise .entry))))
         × (r .v ≡ output (itself primeRing) (primeRow (now (keys .entry)) shape x) (at (primes .elements) (now (v .entry)))) ⌝ }
 {
@@ -143,7 +152,7 @@ pub fn scalar_row_binary(
     w: &[u64],
 ) -> Block
     requires { ⌜ Tables (now sbox) (now mix) ⌝ }
-    requires { ⌜ (0 < shape .places) × (length (now w) ≡ shape .places * 2) ⌝ }
+    requires { ⌜ Shaped shape × (length (now w) ≡ shape .places * 2) ⌝ }
     ensures { λ r. ⌜ r ≡ output blocks (binaryRow (now (keys .entry)) shape x) (at (binary .elements) (now (w .entry))) ⌝ }
 {
     let mut total = Block::zero();
@@ -168,7 +177,7 @@ pub fn scalar_row_prime(
     w: &[u64],
 ) -> Prime
     requires { ⌜ Tables (now sbox) (now mix) ⌝ }
-    requires { ⌜ (0 < shape .places) × (length (now w) ≡ shape .places) ⌝ }
+    requires { ⌜ Shaped shape × (length (now w) ≡ shape .places) ⌝ }
     ensures { λ r. ⌜ r ≡ output (itself primeRing) (primeRow (now (keys .entry)) shape x) (at (primes .elements) (now (w .entry))) ⌝ }
 {
     let mut total: u64 = 0;

@@ -3,6 +3,7 @@ ghost use mathlib.Core.Path.{_≡_};
 ghost use Prim.Native.Nat.{_+_, _<_, _≤_};
 ghost use lib.ListN.{length};
 ghost use Rattle.sbox.specs.Inner.Tables.{Tables};
+ghost use Rattle.code.specs.Inner.Rows.{Shaped};
 ghost use Rattle.code.specs.Inner.Used.{rowBelow, usedBelow, allBelow};
 use crate::Shape;
 use crate::Window;
@@ -19,7 +20,7 @@ fn row_below(
     bound: u64,
 ) -> bool
     requires { ⌜ Tables (now sbox) (now mix) ⌝ }
-    requires { ⌜ (0 < shape .places) × (length (now words) ≡ shape .places) ⌝ }
+    requires { ⌜ Shaped shape × (length (now words) ≡ shape .places) ⌝ }
     ensures { λ r. ⌜ r ≡ rowBelow bound (now (words .entry)) (now (keys .entry)) shape x ⌝ }
 {
     let mut i: usize = 0;
@@ -45,7 +46,7 @@ pub fn rows_below(
     bound: u64,
 ) -> bool
     requires { ⌜ Tables (now sbox) (now mix) ⌝ }
-    requires { ⌜ (0 < shape .places) × (length (now words) ≡ shape .places) × (window .first + window .count ≤ 32768) ⌝ }
+    requires { ⌜ Shaped shape × (length (now words) ≡ shape .places) × (window .first + window .count ≤ 32768) ⌝ }
     ensures { λ r. ⌜ r ≡ usedBelow bound (now (words .entry)) (now (keys .entry)) shape window ⌝ }
 {
     let mut k: usize = 0;
@@ -85,7 +86,7 @@ pub fn used_below(
     bound: u64,
 ) -> bool
     requires { ⌜ Tables (now sbox) (now mix) ⌝ }
-    requires { ⌜ (0 < shape .places) × (length (now words) ≡ shape .places) × (window .first + window .count ≤ 32768) × (shape .terms ≤ 32) ⌝ }
+    requires { ⌜ Shaped shape × (length (now words) ≡ shape .places) × (window .first + window .count ≤ 32768) × (shape .terms ≤ 32) ⌝ }
     ensures { λ r. ⌜ r ≡ usedBelow bound (now (words .entry)) (now (keys .entry)) shape window ⌝ }
 {
     if shape.places / 100 <= window.count * shape.terms {

@@ -13,7 +13,7 @@ use Rattle.dealing.proofs.Positions.{positions-rising, positions-below,
 use Rattle.algebra.proofs.Tests.{and-left, and-right, and-both, or-cases, passed, passes}
 use Rattle.field.specs.Bytes.{wordAt}
 use Rattle.field.specs.Prime.{modulus}
-use Rattle.record.specs.Admitted.{isField, isSize, mostTrees, mostOutputs, isNoise, isScalar}
+use Rattle.record.specs.Admitted.{isField, isSize, mostTrees, mostTerms, mostOutputs, isNoise, isScalar}
 use Rattle.record.specs.Content.{elementOf}
 use Rattle.dealing.specs.Admitted.{Admitted, DeltaAdmitted, NoiseAdmitted}
 use Rattle.dealing.specs.Input.{Input, sizesAdmitted, lengthsAdmitted, positionsAdmitted, everyNoise, deltaAdmitted, fault}
@@ -118,7 +118,7 @@ fault-none I e =
     let g = passed (deltaAdmitted (I .field) (I .delta)) 5 0 (f .1) in
     let depth = isSize 16 (I .depth) in
     let trees = isSize (mostTrees (I .depth)) (I .trees) in
-    let terms = isSize 32 (I .terms) in
+    let terms = isSize (mostTerms (I .depth)) (I .terms) in
     let outputs = isSize (mostOutputs (I .depth)) (I .outputs) in
     let s3 = and-left (depth && trees && terms) outputs (b .0) in
     let s2 = and-left (depth && trees) terms s3 in
@@ -133,11 +133,12 @@ fault-none I e =
     let count : length (I .positions) ≡ I .trees = eqb-true _ _ (and-right roots positions l2) in
     let counted : length (I .values) ≡ I .trees = eqb-true _ _ (and-right (roots && positions) values l3) in
     let t = size-says (mostTrees (I .depth)) (I .trees) (and-right depth trees s2) in
+    let l = size-says (mostTerms (I .depth)) (I .terms) (and-right (depth && trees) terms s3) in
     record {
       field = field-says (I .field) (a .0);
       depth = size-says 16 (I .depth) (and-left depth trees s2);
       trees = (t .0, omega (arith, t .1), omega (arith, t .1));
-      terms = size-says 32 (I .terms) (and-right (depth && trees) terms s3);
+      terms = (l .0, omega (arith, l .1), omega (arith, l .1));
       outputs = size-says (mostOutputs (I .depth)) (I .outputs) (and-right (depth && trees && terms) outputs (b .0));
       roots = eqb-true _ _ (and-left roots positions l2);
       positions = count;
@@ -161,7 +162,7 @@ admitted-none I A =
     (and-both (and-both (and-both
     (size-is 16 (I .depth) (A .depth .0) (A .depth .1))
     (size-is (mostTrees (I .depth)) (I .trees) (A .trees .0) (omega (arith, A .trees .1, A .trees .2))))
-    (size-is 32 (I .terms) (A .terms .0) (A .terms .1)))
+    (size-is (mostTerms (I .depth)) (I .terms) (A .terms .0) (omega (arith, A .terms .1, A .terms .2))))
     (size-is (mostOutputs (I .depth)) (I .outputs) (A .outputs .0) (A .outputs .1)))
     (passes 3
     (and-both (and-both (and-both (and-both

@@ -156,7 +156,7 @@ module _ (I : Input) (A : Admitted I) (M : InMemory I) where
         field = field-is (I .field) (A .field);
         depth = size-is 16 (I .depth) (A .depth .0) (A .depth .1);
         trees = size-is _ (I .trees) (A .trees .0) (omega (arith, A .trees .1, A .trees .2));
-        terms = size-is 32 (I .terms) (A .terms .0) (A .terms .1);
+        terms = size-is _ (I .terms) (A .terms .0) (omega (arith, A .terms .1, A .terms .2));
         outputs = size-is _ (I .outputs) (A .outputs .0) (A .outputs .1);
         codeKey = (A .codeKey, M .codeKey);
       }

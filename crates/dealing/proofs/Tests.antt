@@ -17,7 +17,7 @@ use Rattle.dealing.proofs.Positions.{positions-agree}
 use Rattle.algebra.proofs.Tests.{and-left, and-right}
 use Rattle.field.specs.Bytes.{wordAt}
 use Rattle.field.specs.Prime.{modulus}
-use Rattle.record.specs.Admitted.{isField, isSize, mostTrees, mostOutputs, isNoise}
+use Rattle.record.specs.Admitted.{isField, isSize, mostTrees, mostTerms, mostOutputs, isNoise}
 use Rattle.dealing.specs.Input.{Input, sizesAdmitted, lengthsAdmitted, positionsAdmitted, everyNoise, deltaAdmitted, fault}
 
 -- ---- numbers
@@ -49,15 +49,15 @@ module _ (d t l n : ℕ) {a : Bool} (first : a ≡ isSize 16 d) where
     unfolding sizesAdmitted
     sizes-trees e = rw (← first, p, ← power, ← least, ← second, e)
 
-    module _ {x : Bool} (q : b ≡ true) (third : x ≡ isSize 32 l) where
+    module _ {few : ℕ} {x : Bool} (q : b ≡ true) (fewest : few ≡ min 32 all) (third : x ≡ isSize few l) where
       pub sizes-terms : x ≡ false → false ≡ sizesAdmitted d t l n
       unfolding sizesAdmitted
-      sizes-terms e = rw (← first, p, ← power, ← least, ← second, q, ← third, e)
+      sizes-terms e = rw (← first, p, ← power, ← least, ← second, q, ← fewest, ← third, e)
 
       pub sizes-last : {y : Bool} → x ≡ true → y ≡ isSize (all / 2) n
           → y ≡ sizesAdmitted d t l n
       unfolding sizesAdmitted
-      sizes-last r e = e ∙ rw (← first, p, ← power, ← least, ← second, q, ← third, r)
+      sizes-last r e = e ∙ rw (← first, p, ← power, ← least, ← second, q, ← fewest, ← third, r)
 
 -- ---- lengths
 
@@ -176,7 +176,7 @@ module _ (f : ℕ) (d : List ℕ) {low high : ℕ} (l : low ≡ wordAt d 0) (h :
 module _ (d t l n : ℕ) {b : Bool} (is : b ≡ sizesAdmitted d t l n) (p : b ≡ true) where
   first-two : (isSize 16 d && isSize (mostTrees d) t) ≡ true
   unfolding sizesAdmitted
-  first-two = and-left _ (isSize 32 l) (and-left _ (isSize (mostOutputs d) n) (sym is ∙ p))
+  first-two = and-left _ (isSize (mostTerms d) l) (and-left _ (isSize (mostOutputs d) n) (sym is ∙ p))
 
   pub passed-depth : d ≤ 16
   passed-depth = leb-true d 16 (and-right (leb 1 d) (leb d 16) (and-left (isSize 16 d) (isSize (mostTrees d) t) first-two))

@@ -31,7 +31,7 @@ pub record Admitted (I : Input) : Type 0 where
   pub field : (I .field ≡ 1) ⊎ (I .field ≡ 2)
   pub depth : (1 ≤ I .depth) × (I .depth ≤ 16)
   pub trees : (1 ≤ I .trees) × (I .trees ≤ 64) × (I .trees ≤ 2 ^ I .depth)
-  pub terms : (1 ≤ I .terms) × (I .terms ≤ 32)
+  pub terms : (1 ≤ I .terms) × (I .terms ≤ 32) × (I .terms ≤ 2 ^ I .depth)
   pub outputs : (1 ≤ I .outputs) × (I .outputs ≤ 2 ^ I .depth / 2)
   pub roots : length (I .roots) ≡ 16 * I .trees
   pub positions : length (I .positions) ≡ I .trees

@@ -9,7 +9,7 @@ use Rattle.algebra.specs.Choice.{choose}
 use Rattle.algebra.specs.Every.{every}
 use Rattle.algebra.specs.Expansion.{rising}
 use Rattle.field.specs.Bytes.{wordAt}
-use Rattle.record.specs.Admitted.{isField, isSize, mostTrees, mostOutputs, isNoise, isScalar}
+use Rattle.record.specs.Admitted.{isField, isSize, mostTrees, mostTerms, mostOutputs, isNoise, isScalar}
 use Rattle.record.specs.Content.{elementOf}
 
 -- field, d, t, ℓ, n, t roots of 16 bytes, t positions, t noise values, Δ, the code key
@@ -41,10 +41,10 @@ inputWith field depth trees terms outputs roots positions values delta codeKey =
       codeKey = codeKey;
     }
 
--- d is 1 to 16, t 1 to the smaller of 64 and N = 2^d, ℓ 1 to 32, n 1 to N / 2
+-- d is 1 to 16, t 1 to the smaller of 64 and N = 2^d, ℓ 1 to the smaller of 32 and N (document 02, 7), n 1 to N / 2
 unfoldable pub sizesAdmitted : ℕ → ℕ → ℕ → ℕ → Bool
 sizesAdmitted depth trees terms outputs =
-    isSize 16 depth && isSize (mostTrees depth) trees && isSize 32 terms && isSize (mostOutputs depth) outputs
+    isSize 16 depth && isSize (mostTrees depth) trees && isSize (mostTerms depth) terms && isSize (mostOutputs depth) outputs
 
 -- every input slice has exactly the length that the sizes call for
 unfoldable pub lengthsAdmitted : ℕ → List ℕ → List ℕ → List ℕ → List ℕ → List ℕ → Bool

@@ -47,7 +47,7 @@ fn sizes_admitted(depth: usize, trees: usize, terms: usize, outputs: usize) -> b
     if !is_size(smaller(64, all), trees) {
         return false;
     }
-    if !is_size(32, terms) {
+    if !is_size(smaller(32, all), terms) {
         return false;
     }
     is_size(all / 2, outputs)

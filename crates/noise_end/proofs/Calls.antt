@@ -128,14 +128,14 @@ module _ (s noise v uOut vOut : List ℕ) (a : Window) (f : Front)
 
     pub v-fitting : Ready s f → Fitting (elementWords (f .field)) (rowsOf f a) (length v) (length vOut)
     v-fitting accepted =
-        passed-fits f (length v) a (length vOut) (accepted .sizes .terms) (accepted .sizes .outputs) (lengths .0 .1) (passed .1) (lengths .1 .1)
+        passed-fits s f (length v) a (length vOut) (accepted .sizes) (lengths .0 .1) (passed .1) (lengths .1 .1)
 
     pub u-fitting : Ready s f → Fitting 1 (rowsOf f a) (length noise) (length uOut)
     u-fitting accepted =
         let t = v-fitting accepted .testing in
         record {
           testing = record {
-            places = t .places;
+            shaped = t .shaped;
             whole = eqb-true (length noise) (2 ^ f .depth) (not-false (eqb (length noise) (2 ^ f .depth)) (lengths .0 .0)) ∙ sym (mul-one (2 ^ f .depth));
             within = t .within;
             few = t .few;

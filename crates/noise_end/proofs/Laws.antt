@@ -22,6 +22,8 @@ use Rattle.field.proofs.BothKinds.{kindLaws}
 use Rattle.number.specs.Reading.{Reading, Whole, Refused}
 use Rattle.record.specs.Content.{Head, NoisePart}
 use Rattle.record.specs.Reading.{readNoise}
+use Rattle.record.proofs.Callers.{head-ranges}
+use Rattle.record.proofs.Parts.{noise-parts}
 use Rattle.rows.specs.Head.{fieldOf, places, row}
 use Rattle.rows.specs.Usable.{windowUsable}
 use Rattle.rows.proofs.Rows.{window-usable, row-output}
@@ -146,6 +148,9 @@ module _ (l : Lent) (P : NoisePart) (f : ℕ → NoiseValue (fieldOf (P .head)))
     (noiseValues : (j : ℕ) → j < places (P .head) → Element (fieldOf (P .head) .ring .group) (f j))
     (elements : (j : ℕ) → j < places (P .head) → Element (fieldOf (P .head) .scaled .group) (g j))
     (first count : ℕ) where
+  full : P .head .terms ≤ places (P .head)
+  full = head-ranges 1 (l .source) (noise-parts (l .source) read .2) .terms-leaves
+
   scalar-coding : CodingLaws (fieldOf (P .head) .noiseValues)
   scalar-coding = kindLaws (P .head .field) .field .noiseValues
 
@@ -169,7 +174,7 @@ module _ (l : Lent) (P : NoisePart) (f : ℕ → NoiseValue (fieldOf (P .head)))
   all-usable : windowUsable (usable (fieldOf (P .head)) l) (P .head) first count ≡ true
   unfolding usable
   all-usable =
-      window-usable (usable (fieldOf (P .head)) l) (P .head) first count
+      window-usable (usable (fieldOf (P .head)) l) (P .head) full first count
       (λ j h.
       and-both
       (ap (fieldOf (P .head) .ring .group .isElement) (noise-at j h) ∙ noiseValues j h)
@@ -206,7 +211,7 @@ module _ (l : Lent) (P : NoisePart) (f : ℕ → NoiseValue (fieldOf (P .head)))
   online-u n k h =
       rw (passed n (pastEnd (P .head) first count) (tooShort (P .head) count (l .uOut) (l .vOut)) refl refl)
       (at-over (fieldOf (P .head) .noiseValues) scalar-coding count (λ i. uAt (P .head) l (first + i)) (l .uOut) k h
-      ∙ row-output (P .head) (first + k) (itself (fieldOf (P .head) .ring)) (at (fieldOf (P .head) .noiseValues) (l .noise)) f noise-at)
+      ∙ row-output (P .head) full (first + k) (itself (fieldOf (P .head) .ring)) (at (fieldOf (P .head) .noiseValues) (l .noise)) f noise-at)
 
   pub online-v : online l first count .number ≡ 0 → (k : ℕ) → k < count
       → at (fieldOf (P .head) .elements) (online l first count .lent .vOut) k
@@ -215,4 +220,4 @@ module _ (l : Lent) (P : NoisePart) (f : ℕ → NoiseValue (fieldOf (P .head)))
   online-v n k h =
       rw (passed n (pastEnd (P .head) first count) (tooShort (P .head) count (l .uOut) (l .vOut)) refl refl)
       (at-over (fieldOf (P .head) .elements) coding count (λ i. vAt (P .head) l (first + i)) (l .vOut) k h
-      ∙ row-output (P .head) (first + k) (fieldOf (P .head) .scaled) (at (fieldOf (P .head) .elements) (l .v)) g v-at)
+      ∙ row-output (P .head) full (first + k) (fieldOf (P .head) .scaled) (at (fieldOf (P .head) .elements) (l .v)) g v-at)

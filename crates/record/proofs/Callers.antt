@@ -21,7 +21,7 @@ use Rattle.record.proofs.Exact.{field-exact}
 use Rattle.record.proofs.Heads.{size-range}
 use Rattle.record.proofs.Items.{items-whole}
 use Rattle.record.proofs.Parts.{head-parts, tree-parts, trees-parts, noise-parts, scalar-parts}
-use Rattle.record.specs.Admitted.{isField, isSize, mostTrees, mostOutputs, isNoise, isElement, isScalar}
+use Rattle.record.specs.Admitted.{isField, isSize, mostTrees, mostTerms, mostOutputs, isNoise, isElement, isScalar}
 use Rattle.field.specs.Kind.{elementWords}
 use Rattle.record.specs.Content.{Head, NoiseTree, NoisePart, ScalarPart}
 use Rattle.record.specs.Reading.{items, blockAt, readWords, readBlocks, readValue, readDelta, readHead, readTree, readTrees, readNoise, readScalar}
@@ -38,6 +38,7 @@ pub record Ranges (h : Head) : Type 0 where
   pub trees-leaves : h .trees ≤ 2 ^ h .depth
   pub terms-least : 1 ≤ h .terms
   pub terms-most : h .terms ≤ 32
+  pub terms-leaves : h .terms ≤ 2 ^ h .depth
   pub outputs-least : 1 ≤ h .outputs
   pub outputs-most : h .outputs ≤ 2 ^ h .depth / 2
 
@@ -53,7 +54,7 @@ head-ranges end s {h} e =
     let p = head-parts end s e in
     let d = size-range 16 s (p .at1) (p .depth) in
     let t = size-range (mostTrees (h .depth)) s (p .at2) (p .trees) in
-    let l = size-range 32 s (p .at3) (p .terms) in
+    let l = size-range (mostTerms (h .depth)) s (p .at3) (p .terms) in
     let n = size-range (mostOutputs (h .depth)) s (p .at4) (p .outputs) in
     record {
       field = either-field (h .field) (field-exact s end (p .field) .0);
@@ -63,7 +64,8 @@ head-ranges end s {h} e =
       trees-most = le-trans (t .1) (min-le-left 64 (2 ^ h .depth));
       trees-leaves = le-trans (t .1) (min-le-right 64 (2 ^ h .depth));
       terms-least = l .0;
-      terms-most = l .1;
+      terms-most = le-trans (l .1) (min-le-left 32 (2 ^ h .depth));
+      terms-leaves = le-trans (l .1) (min-le-right 32 (2 ^ h .depth));
       outputs-least = n .0;
       outputs-most = n .1;
     }

@@ -24,7 +24,7 @@ use Rattle.record.proofs.Again.{value-parts-1, value-parts-2}
 use Rattle.record.proofs.Fields.{and-both}
 use Rattle.record.proofs.Items.{items-reads, items-exact}
 use Rattle.record.proofs.Parts.{head-parts, tree-parts, trees-parts, trees-none}
-use Rattle.record.specs.Admitted.{isField, isSize, mostTrees, mostOutputs, isNoise, isElement, isScalar, Each, SixteenBytes, SixtyFourBits, AdmittedHead}
+use Rattle.record.specs.Admitted.{isField, isSize, mostTrees, mostTerms, mostOutputs, isNoise, isElement, isScalar, Each, SixteenBytes, SixtyFourBits, AdmittedHead}
 use Rattle.record.specs.Inner.Rising.{TreeFrom, TreesFrom}
 use Rattle.field.specs.Kind.{elementWords}
 use Rattle.record.specs.Content.{Head, NoiseTree}
@@ -242,7 +242,7 @@ module _ (s : List ℕ) where
       let e₀ = field-reads end (h .field) (ok .field) (has-front s 0 (end ∷ h .field ∷ []) (D ++ (T ++ (L ++ (N ++ K)))) g₀) in
       let e₁ = size-reads 16 2 (h .depth) (omega arith) (ok .depth) (has-front s 2 D (T ++ (L ++ (N ++ K))) g₁) in
       let e₂ = size-reads (mostTrees (h .depth)) at3 (h .trees) (omega (arith, min-le-left 64 (2 ^ h .depth))) (ok .trees) (has-front s at3 T (L ++ (N ++ K)) g₂) in
-      let e₃ = size-reads 32 at4 (h .terms) (omega arith) (ok .terms) (has-front s at4 L (N ++ K) g₃) in
+      let e₃ = size-reads (mostTerms (h .depth)) at4 (h .terms) (omega (arith, min-le-left 32 (2 ^ h .depth))) (ok .terms) (has-front s at4 L (N ++ K) g₃) in
       let e₄ = size-reads (mostOutputs (h .depth)) at5 (h .outputs) (omega (arith, pow-mono shallow)) (ok .outputs) (has-front s at5 N K g₄) in
       let e₅ = bytes-reads s at6 K (ok .codeKey .0) g₅ in
       let l : at6 + 16 ≡ length (end ∷ h .field ∷ (D ++ (T ++ (L ++ (N ++ K))))) =
@@ -262,7 +262,7 @@ module _ (s : List ℕ) where
       let f = field-exact end (p .field) in
       let d = size-exact bytes 16 (p .at1) (p .depth) in
       let t = size-exact bytes (mostTrees (h .depth)) (p .at2) (p .trees) in
-      let l = size-exact bytes 32 (p .at3) (p .terms) in
+      let l = size-exact bytes (mostTerms (h .depth)) (p .at3) (p .terms) in
       let n = size-exact bytes (mostOutputs (h .depth)) (p .at4) (p .outputs) in
       let k = bytes-whole s (p .at5) 16 (p .codeKey) in
       let key : Bytes K = subst Bytes (sym (k .3)) (part-bytes s (p .at5) 16 bytes) in (

@@ -46,29 +46,30 @@ module _ (field : ℕ) (s : List ℕ) (at1 : ℕ) {r1 : Number} (read1 : numberR
     unfolding readSizes
     sizes-fault-2 e w = simp (← read1, v1, ← power, ← least, ← read2, w, e)
 
-    module _ {t at3 : ℕ} (v2 : r2 ≡ Value t at3) {r3 : Number} (read3 : numberRead r3 ≡ readSize 32 s at3) where
+    module _ {t at3 : ℕ} (v2 : r2 ≡ Value t at3)
+        {few : ℕ} (fewest : few ≡ min 32 all) {r3 : Number} (read3 : numberRead r3 ≡ readSize few s at3) where
       pub sizes-fault-3 : {j k : ℕ} → r3 ≡ Fault j → k ≡ numberFault r3 → Refused k ≡ readSizes field s at1
       unfolding readSizes
-      sizes-fault-3 e w = simp (← read1, v1, ← power, ← least, ← read2, v2, ← read3, w, e)
+      sizes-fault-3 e w = simp (← read1, v1, ← power, ← least, ← read2, v2, ← fewest, ← read3, w, e)
 
       module _ {l at4 : ℕ} (v3 : r3 ≡ Value l at4) {r4 : Number} (read4 : numberRead r4 ≡ readSize (all / 2) s at4) where
         pub sizes-fault-4 : {j k : ℕ} → r4 ≡ Fault j → k ≡ numberFault r4 → Refused k ≡ readSizes field s at1
         unfolding readSizes
-        sizes-fault-4 e w = simp (← read1, v1, ← power, ← least, ← read2, v2, ← read3, v3, ← read4, w, e)
+        sizes-fault-4 e w = simp (← read1, v1, ← power, ← least, ← read2, v2, ← fewest, ← read3, v3, ← read4, w, e)
 
         module _ {n at5 : ℕ} (v4 : r4 ≡ Value n at5) {r5 : Number} (read5 : numberRead r5 ≡ skipped 16 s at5) where
           pub sizes-fault-5 : {j k : ℕ} → r5 ≡ Fault j → k ≡ numberFault r5 → Refused k ≡ readSizes field s at1
           unfolding readSizes readBytes
           sizes-fault-5 e w =
               let f = skip-fault 16 s at5 read5 e in
-              simp (← read1, v1, ← power, ← least, ← read2, v2, ← read3, v3, ← read4, v4, f .0, w, e, f .1)
+              simp (← read1, v1, ← power, ← least, ← read2, v2, ← fewest, ← read3, v3, ← read4, v4, f .0, w, e, f .1)
 
           pub sizes-whole : {x body : ℕ} → r5 ≡ Value x body → Whole (headOf s (frontWith field d t l n body), body) ≡ readSizes field s at1
           unfolding readSizes readBytes
           sizes-whole e =
               let f = skip-value 16 s at5 read5 e in
               let back : at5 + 16 - 16 ≡ at5 = omega arith in
-              simp (← read1, v1, ← power, ← least, ← read2, v2, ← read3, v3, ← read4, v4, f .0, f .1, back)
+              simp (← read1, v1, ← power, ← least, ← read2, v2, ← fewest, ← read3, v3, ← read4, v4, f .0, f .1, back)
 
 module _ (end : ℕ) (s : List ℕ) {r : Number} (read : numberRead r ≡ readField end s) where
   pub head-fault : {j k : ℕ} → r ≡ Fault j → k ≡ numberFault r → Refused k ≡ readHead end s

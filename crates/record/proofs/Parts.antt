@@ -8,7 +8,7 @@ use lib.Dec.{ltb}
 use lib.ListN.{length}
 use Rattle.number.proofs.Places.{then-whole, whole-is, refused-whole}
 use Rattle.number.specs.Reading.{Whole, Refused, choose, readBytes}
-use Rattle.record.specs.Admitted.{mostTrees, mostOutputs}
+use Rattle.record.specs.Admitted.{mostTrees, mostTerms, mostOutputs}
 use Rattle.record.specs.Content.{Head, NoiseTree, NoisePart, ScalarPart}
 use Rattle.record.specs.Reading.{readSize, readPosition, readValue, readCorrection, readBlocks, readField, readSizes, readHead, readDelta, readTree, readTrees, readNoise, readScalar}
 
@@ -21,7 +21,7 @@ pub record HeadParts (end : ℕ) (s : List ℕ) (h : Head) (body : ℕ) : Type 0
   pub field : readField end s ≡ Whole (h .field, at1)
   pub depth : readSize 16 s at1 ≡ Whole (h .depth, at2)
   pub trees : readSize (mostTrees (h .depth)) s at2 ≡ Whole (h .trees, at3)
-  pub terms : readSize 32 s at3 ≡ Whole (h .terms, at4)
+  pub terms : readSize (mostTerms (h .depth)) s at3 ≡ Whole (h .terms, at4)
   pub outputs : readSize (mostOutputs (h .depth)) s at4 ≡ Whole (h .outputs, at5)
   pub codeKey : readBytes 16 s at5 ≡ Whole (h .codeKey, body)
 
@@ -31,7 +31,7 @@ head-parts end s {h} {body} e =
     let a = then-whole (readField end s) _ e in
     let b = then-whole (readSize 16 s (a .1)) _ (a .3) in
     let c = then-whole (readSize (mostTrees (b .0)) s (b .1)) _ (b .3) in
-    let d = then-whole (readSize 32 s (c .1)) _ (c .3) in
+    let d = then-whole (readSize (mostTerms (b .0)) s (c .1)) _ (c .3) in
     let f = then-whole (readSize (mostOutputs (b .0)) s (d .1)) _ (d .3) in
     let g = then-whole (readBytes 16 s (f .1)) _ (f .3) in
     let z = whole-is (g .3) in
@@ -44,7 +44,7 @@ head-parts end s {h} {body} e =
       field = a .2 ∙ ap (λ (x : Head × ℕ). Whole (x .0 .field, a .1)) z;
       depth = b .2 ∙ ap (λ (x : Head × ℕ). Whole (x .0 .depth, b .1)) z;
       trees = ap (λ (x : Head × ℕ). readSize (mostTrees (x .0 .depth)) s (b .1)) (sym z) ∙ c .2 ∙ ap (λ (x : Head × ℕ). Whole (x .0 .trees, c .1)) z;
-      terms = d .2 ∙ ap (λ (x : Head × ℕ). Whole (x .0 .terms, d .1)) z;
+      terms = ap (λ (x : Head × ℕ). readSize (mostTerms (x .0 .depth)) s (c .1)) (sym z) ∙ d .2 ∙ ap (λ (x : Head × ℕ). Whole (x .0 .terms, d .1)) z;
       outputs = ap (λ (x : Head × ℕ). readSize (mostOutputs (x .0 .depth)) s (d .1)) (sym z) ∙ f .2 ∙ ap (λ (x : Head × ℕ). Whole (x .0 .outputs, f .1)) z;
       codeKey = g .2 ∙ ap (λ (x : Head × ℕ). Whole (x .0 .codeKey, x .1)) z;
     }

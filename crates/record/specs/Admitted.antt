@@ -24,6 +24,10 @@ isSize top n = leb 1 n && leb n top
 abbrev pub mostTrees : ℕ → ℕ
 mostTrees depth = min 64 (2 ^ depth)
 
+-- ℓ is 1 to the smaller of 32 and N (document 02, 7)
+abbrev pub mostTerms : ℕ → ℕ
+mostTerms depth = min 32 (2 ^ depth)
+
 -- Sizes: n is 1 to N / 2
 abbrev pub mostOutputs : ℕ → ℕ
 mostOutputs depth = 2 ^ depth / 2
@@ -62,7 +66,7 @@ pub record AdmittedHead (h : Head) : Type 0 where
   pub field : isField (h .field) ≡ true
   pub depth : isSize 16 (h .depth) ≡ true
   pub trees : isSize (mostTrees (h .depth)) (h .trees) ≡ true
-  pub terms : isSize 32 (h .terms) ≡ true
+  pub terms : isSize (mostTerms (h .depth)) (h .terms) ≡ true
   pub outputs : isSize (mostOutputs (h .depth)) (h .outputs) ≡ true
   pub codeKey : SixteenBytes (h .codeKey)
 

@@ -8,7 +8,7 @@ use Rattle.answer.specs.Numbers.{badField, badSize, badPosition, badNoise, badD
 use Rattle.field.specs.Bytes.{wordAt}
 use Rattle.number.specs.Number.{readNumber}
 use Rattle.number.specs.Reading.{Reading, Whole, Refused, Step, then, choose, tested, part, readByte, readBytes}
-use Rattle.record.specs.Admitted.{isField, isSize, mostTrees, mostOutputs, isNoise, isElement, isScalar}
+use Rattle.record.specs.Admitted.{isField, isSize, mostTrees, mostTerms, mostOutputs, isNoise, isElement, isScalar}
 use Rattle.field.specs.Kind.{elementWords}
 use Rattle.record.specs.Content.{Head, NoiseTree, NoisePart, ScalarPart}
 
@@ -67,7 +67,7 @@ unfoldable pub readSizes : ℕ → List ℕ → ℕ → Step Head
 readSizes field s at1 =
     then (readSize 16 s at1) λ d at2.
     then (readSize (mostTrees d) s at2) λ t at3.
-    then (readSize 32 s at3) λ l at4.
+    then (readSize (mostTerms d) s at3) λ l at4.
     then (readSize (mostOutputs d) s at4) λ n at5.
     then (readBytes 16 s at5) λ key at6.
     Whole (record { field = field; depth = d; trees = t; terms = l; outputs = n; codeKey = key }, at6)

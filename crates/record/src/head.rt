@@ -103,7 +103,7 @@ fn read_sizes(source: &[u8], at1: usize, field: usize) -> Opened
     let Number::Value(trees, at3) = r2 else {
         return Opened::Fault(fault_of(r2));
     };
-    let r3 = read_size(source, at3, 32);
+    let r3 = read_size(source, at3, smaller(32, all));
     let Number::Value(terms, at4) = r3 else {
         return Opened::Fault(fault_of(r3));
     };

@@ -1,11 +1,12 @@
 -- The tests 3, 7 and 13 of an online call: each return of the function that makes them, and what their number says of a call.
 use mathlib.Core.Path.{_≡_, refl, sym, _∙_}
 use mathlib.Core.Bool.{Bool, true, false, not}
+use mathlib.Core.List.{List}
 use Prim.Native.Nat.{ℕ, _+_, _*_, _^_, _≤_, _<_}
 use native.Mathlib.Nat.{mul-le-mul}
 use native.Mathlib.Omega.{arith}
 use lib.Dec.{ltb, eqb}
-use lib.Pow.{pow-mono, pow-pos}
+use lib.Pow.{pow-mono}
 use mir.Syntax.{w64}
 use mir.Val.{Fits}
 use borrow.Author.Tests.{lt-ltb, le-ltb, eq-eqb, ne-eqb, ltb-false, eqb-true, not-false}
@@ -14,7 +15,9 @@ use Rattle.code.specs.declared.Window.{Window}
 use Rattle.field.specs.Kind.{elementWords}
 use Rattle.record.specs.declared.Front.{Front}
 use Rattle.rows.specs.Inner.Numbers.{testsNumber, wrongVector, pastOutputs, shortBuffer, lengthsNumber}
+use Rattle.record.specs.Inner.Answers.{headOf}
 use Rattle.rows.specs.Inner.Outputs.{rowsOf}
+use Rattle.rows.specs.Inner.Sizes.{Sizes}
 use Rattle.rows.specs.Inner.Testing.{Fitting}
 use Rattle.rows.proofs.Widths.{width-most}
 
@@ -79,17 +82,17 @@ one-failed refusal false true short o e z = rw e
 one-failed refusal false false true o e z = rw e
 
 -- a vector, a window and a buffer that pass all three fit each other
-pub passed-fits : (f : Front) (vector : ℕ) (w : Window) (room : ℕ) → f .terms ≤ 32 → f .outputs ≤ 32768
+pub passed-fits : (s : List ℕ) (f : Front) (vector : ℕ) (w : Window) (room : ℕ) → Sizes s (headOf s f) (f .body)
     → wrongVector f vector ≡ false → pastOutputs f w ≡ false → shortBuffer f w room ≡ false
     → Fitting (elementWords (f .field)) (rowsOf f w) vector room
-passed-fits f vector w room terms outputs wrong past short =
+passed-fits s f vector w room sizes wrong past short =
     let n : w .first + w .count ≤ f .outputs = ltb-false (f .outputs) (w .first + w .count) past in
     record {
       testing = record {
-        places = pow-pos (f .depth);
+        shaped = record { some = sizes .some; full = sizes .full; most = pow-mono (sizes .depth); strip = refl };
         whole = eqb-true vector (2 ^ f .depth * elementWords (f .field)) (not-false (eqb vector (2 ^ f .depth * elementWords (f .field))) wrong);
-        within = omega arith;
-        few = terms;
+        within = omega (arith, sizes .outputs);
+        few = sizes .terms;
       };
       enough = ltb-false room (w .count * elementWords (f .field)) short;
     }

@@ -1,8 +1,7 @@
 -- A head's rows read places below N under coefficients that are elements, and windows over usable places are usable.
 use mathlib.Core.Path.{_≡_}
 use mathlib.Core.Bool.{Bool, true}
-use Prim.Native.Nat.{ℕ, _+_, _<_}
-use lib.Pow.{pow-pos}
+use Prim.Native.Nat.{ℕ, _+_, _≤_, _<_}
 use Rattle.algebra.specs.Group.{Scaled}
 use Rattle.algebra.specs.Row.{output}
 use Rattle.algebra.specs.Inner.Rows.{RowWithin}
@@ -15,19 +14,19 @@ use Rattle.record.specs.Content.{Head}
 use Rattle.rows.specs.Head.{kind, fieldOf, places, codeKeys, row}
 use Rattle.rows.specs.Usable.{windowUsable}
 
-pub row-within : (h : Head) (x : ℕ) → RowWithin (fieldOf h .ring) (places h) (row h x)
-row-within h x = code.row-within (codeKeys h) (places h) (h .terms) (kind h) (kindLaws (h .field)) x (pow-pos (h .depth))
+pub row-within : (h : Head) → h .terms ≤ places h → (x : ℕ) → RowWithin (fieldOf h .ring) (places h) (row h x)
+row-within h full x = code.row-within (codeKeys h) (places h) (h .terms) (kind h) (kindLaws (h .field)) x full
 
 -- a row's output depends on the values at places below N alone
-pub row-output : (h : Head) (x : ℕ) (S : Scaled (fieldOf h .ring)) (f g : ℕ → S .group .Of) → ((j : ℕ) → j < places h → f j ≡ g j)
+pub row-output : (h : Head) → h .terms ≤ places h → (x : ℕ) (S : Scaled (fieldOf h .ring)) (f g : ℕ → S .group .Of) → ((j : ℕ) → j < places h → f j ≡ g j)
     → output S (row h x) f ≡ output S (row h x) g
-row-output h x S f g e = code.output-below (codeKeys h) (places h) (h .terms) (kind h) S x f g (pow-pos (h .depth)) e
+row-output h full x S f g e = code.output-below (codeKeys h) (places h) (h .terms) (kind h) S x f g full e
 
 -- where every place below N is usable, every window is
-pub window-usable : (usable : ℕ → Bool) (h : Head) (first count : ℕ) → ((j : ℕ) → j < places h → usable j ≡ true)
+pub window-usable : (usable : ℕ → Bool) (h : Head) → h .terms ≤ places h → (first count : ℕ) → ((j : ℕ) → j < places h → usable j ≡ true)
     → windowUsable usable h first count ≡ true
 unfolding windowUsable rowOf
-window-usable usable h first count all =
+window-usable usable h full first count all =
     every-all (λ k. every (h .terms) (λ i. usable (row h (first + k) .place i))) count
     (λ k b. every-all (λ i. usable (row h (first + k) .place i)) (h .terms)
-    (λ i c. all (row h (first + k) .place i) (row-within h (first + k) .place-below i c)))
+    (λ i c. all (row h (first + k) .place i) (row-within h full (first + k) .place-below i c)))

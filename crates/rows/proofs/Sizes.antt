@@ -23,13 +23,12 @@ head-sizes end s {h} {body} e =
     let c = choose-whole (leb (p .at5 + 16) (length s)) (part s (p .at5) 16, p .at5 + 16) 10 (p .codeKey) in
     let b : p .at5 + 16 ≡ body = ap (λ (z : List ℕ × ℕ). z .1) (c .1) in
     let k : p .at5 + 16 ≤ length s = leb-true _ _ (c .0) in
-    let w : 2 ^ h .depth ≤ 65536 = pow-mono (r .depth-most) in
     record {
       depth = r .depth-most;
-      places = w;
-      trees = r .trees-most;
+      some = r .terms-least;
       terms = r .terms-most;
-      outputs = omega (arith, r .outputs-most);
+      full = r .terms-leaves;
+      outputs = omega (arith, r .outputs-most, pow-mono (r .depth-most));
       key = omega arith;
       room = omega arith;
     }

@@ -7,14 +7,8 @@ use Rattle.number.proofs.Places.{either}
 use Rattle.field.proofs.KindOf.{words-1, words-2}
 use Rattle.field.specs.Kind.{elementWords}
 
-pub width-binary : (field : ℕ) → field ≡ 1 → elementWords field ≡ 2
-width-binary = words-1
-
-pub width-prime : (field : ℕ) → (field ≡ 1 → ⊥) → elementWords field ≡ 1
-width-prime = words-2
-
 pub whole-prime : (field : ℕ) → (field ≡ 1 → ⊥) → (n size : ℕ) → n ≡ size * elementWords field → n ≡ size
-whole-prime field e n size h = h ∙ rw (width-prime field e) (mul-one size)
+whole-prime field e n size h = h ∙ rw (words-2 field e) (mul-one size)
 
 pub width-most : (field : ℕ) → elementWords field ≤ 2
 width-most field = either field 1 (λ f. omega (arith, words-1 field f)) (λ f. omega (arith, words-2 field f))

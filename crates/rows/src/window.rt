@@ -27,14 +27,16 @@ use tree::columns_at;
 
 // The rows that a window asks of a record.
 pub fn window_rows(front: Front, window: Window) -> WindowRows
-    requires { ⌜ front .depth ≤ 16 ⌝ }
+    requires { ⌜ (front .depth ≤ 16) × (1 ≤ front .terms) ⌝ }
     ensures { λ r. ⌜ r ≡ rowsOf front window ⌝ }
 {
+    let places = leaves(front.depth);
     WindowRows {
         field: front.field,
         shape: Shape {
-            places: leaves(front.depth),
+            places,
             terms: front.terms,
+            strip: places / front.terms,
         },
         window,
     }

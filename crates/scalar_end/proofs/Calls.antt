@@ -103,7 +103,7 @@ module _ (s w out : List ℕ) (a : Window) (f : Front) {number : ℕ} (ne : numb
 
     pub fitting : Ready s f → Fitting (elementWords (f .field)) (rowsOf f a) (length w) (length out)
     fitting accepted =
-        passed-fits f (length w) a (length out) (accepted .sizes .terms) (accepted .sizes .outputs) (passed .0) (passed .1) (passed .2)
+        passed-fits s f (length w) a (length out) (accepted .sizes) (passed .0) (passed .1) (passed .2)
 
 -- the window under round keys
 module _ (keys : List (List (List ℕ))) (r : WindowRows) (w out : List ℕ) {used : Bool} (ue : used ≡ elementsUsed (kindOf (r .field) .field) keys r w) where

@@ -21,6 +21,8 @@ use Rattle.field.proofs.BothKinds.{kindLaws}
 use Rattle.number.specs.Reading.{Reading, Whole, Refused}
 use Rattle.record.specs.Content.{Head, ScalarPart}
 use Rattle.record.specs.Reading.{readScalar}
+use Rattle.record.proofs.Callers.{head-ranges}
+use Rattle.record.proofs.Parts.{scalar-parts}
 use Rattle.rows.specs.Head.{fieldOf, places, row}
 use Rattle.rows.specs.Usable.{windowUsable}
 use Rattle.rows.proofs.Rows.{window-usable, row-output}
@@ -128,6 +130,9 @@ module _ (l : Lent) (P : ScalarPart) (f : ℕ → Value (fieldOf (P .head))) (re
     (whole : l .w ≡ flat (fieldOf (P .head) .elements) (places (P .head)) f)
     (elements : (j : ℕ) → j < places (P .head) → Element (fieldOf (P .head) .scaled .group) (f j))
     (first count : ℕ) where
+  full : P .head .terms ≤ places (P .head)
+  full = head-ranges 2 (l .source) (scalar-parts (l .source) read .3) .terms-leaves
+
   coding : CodingLaws (fieldOf (P .head) .elements)
   coding = kindLaws (P .head .field) .field .elements
 
@@ -142,7 +147,7 @@ module _ (l : Lent) (P : ScalarPart) (f : ℕ → Value (fieldOf (P .head))) (re
   all-usable : windowUsable (usable (fieldOf (P .head)) l) (P .head) first count ≡ true
   unfolding usable
   all-usable =
-      window-usable (usable (fieldOf (P .head)) l) (P .head) first count
+      window-usable (usable (fieldOf (P .head)) l) (P .head) full first count
       (λ j h. ap (fieldOf (P .head) .scaled .group .isElement) (vector-at j h) ∙ elements j h)
 
   listed : online l first count
@@ -167,7 +172,7 @@ module _ (l : Lent) (P : ScalarPart) (f : ℕ → Value (fieldOf (P .head))) (re
   online-values n k h =
       rw (passed (pastEnd (P .head) first count) (tooShort (P .head) count (l .wOut)) refl refl)
       (at-over (fieldOf (P .head) .elements) coding count (λ i. wAt (P .head) l (first + i)) (l .wOut) k h
-      ∙ row-output (P .head) (first + k) (fieldOf (P .head) .scaled) (at (fieldOf (P .head) .elements) (l .w)) f vector-at)
+      ∙ row-output (P .head) full (first + k) (fieldOf (P .head) .scaled) (at (fieldOf (P .head) .elements) (l .w)) f vector-at)
     where
       passed : (s t : Bool) → pastEnd (P .head) first count ≡ s → tooShort (P .head) count (l .wOut) ≡ t
           → online l first count

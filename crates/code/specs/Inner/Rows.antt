@@ -1,12 +1,20 @@
--- Inner: no promise cites this file. The places and the rows of a shape, in each field.
+-- Inner: no promise cites this file. A shape that is whole, and its places and rows in each field.
 use mathlib.Core.List.{List}
-use Prim.Native.Nat.{ℕ}
+use mathlib.Core.Path.{_≡_}
+use Prim.Native.Nat.{ℕ, _≤_}
 use Rattle.algebra.specs.Row.{Row}
 use Rattle.field.specs.Binary.{bitRing}
 use Rattle.field.specs.Kind.{binaryKind, primeKind}
 use Rattle.field.specs.Prime.{primeRing}
 use Rattle.code.specs.declared.Shape.{Shape}
-use Rattle.code.specs.Row.{termPlace, rowOf}
+use Rattle.code.specs.Row.{strip, termPlace, rowOf}
+
+-- ℓ is 1 to N, N at most 65536, and the strip N / ℓ
+pub record Shaped (s : Shape) : Type 0 where
+  pub some : 1 ≤ s .terms
+  pub full : s .terms ≤ s .places
+  pub most : s .places ≤ 65536
+  pub strip : s .strip ≡ strip (s .places) (s .terms)
 
 -- the place of term i of row x
 abbrev pub placeIn : List (List (List ℕ)) → Shape → ℕ → ℕ → ℕ

@@ -7,12 +7,12 @@ use Rattle.algebra.specs.Field.{Field, NoiseValue, Value}
 use Rattle.algebra.specs.Group.{itself}
 use Rattle.algebra.specs.Row.{output}
 use Rattle.code.specs.declared.Window.{Window}
-use Rattle.code.specs.Row.{rowOf}
+use Rattle.code.specs.Row.{strip, rowOf}
 use Rattle.record.specs.declared.Front.{Front}
 use Rattle.rows.specs.declared.WindowRows.{WindowRows}
 
 abbrev pub rowsOf : Front → Window → WindowRows
-rowsOf f w = record { field = f .field; shape = record { places = 2 ^ f .depth; terms = f .terms }; window = w }
+rowsOf f w = record { field = f .field; shape = record { places = 2 ^ f .depth; terms = f .terms; strip = strip (2 ^ f .depth) (f .terms) }; window = w }
 
 -- noise values in the place of elements: what holds of v and w holds of u
 abbrev pub ofNoise : Field → Field

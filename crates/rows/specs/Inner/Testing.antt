@@ -2,11 +2,11 @@
 use mathlib.Core.Bool.{Bool}
 use mathlib.Core.List.{List}
 use mathlib.Core.Path.{_≡_}
-use Prim.Native.Nat.{ℕ, _+_, _*_, _≤_, _<_}
+use Prim.Native.Nat.{ℕ, _+_, _*_, _≤_}
 use Rattle.algebra.specs.Coding.{at}
 use Rattle.algebra.specs.Every.{every}
 use Rattle.algebra.specs.Field.{Field}
-use Rattle.code.specs.Inner.Rows.{placeIn}
+use Rattle.code.specs.Inner.Rows.{Shaped, placeIn}
 use Rattle.rows.specs.declared.WindowRows.{WindowRows}
 
 -- every word that the rows use is an element
@@ -17,7 +17,7 @@ elementsUsed F keys r w =
 
 -- a whole vector of values of a width, a window that ends at 32768 (the largest n) or before, and rows of at most 32 terms
 pub record Testing (width : ℕ) (r : WindowRows) (vector : ℕ) : Type 0 where
-  pub places : 0 < r .shape .places
+  pub shaped : Shaped (r .shape)
   pub whole : vector ≡ r .shape .places * width
   pub within : r .window .first + r .window .count ≤ 32768
   pub few : r .shape .terms ≤ 32

@@ -1,6 +1,5 @@
 -- `code::row::row_term` meets its contract: each callee's result put into the next. Assumes nothing.
 use borrow.Author.Needs.{needs}
-use native.Mathlib.Nat.{mod-lt}
 use Rattle.code.proofs.Terms.{place-is, word-is}
 use Rattle.code.proofs.row.row_term.Statement.{statement}
 use Rattle.code.proofs.row.row_term.Tie as tie
@@ -12,6 +11,6 @@ row-term-spec =
     (λ c κs. search needs)  -- columns-requires
     (λ c κs. search needs)  -- encrypt-requires
     (λ c κs. search needs)  -- of-columns-requires
-    (λ c. search needs)  -- rem-t10
-    (λ c. (search place-is, search mod-lt, search word-is))  -- returns
+    (λ c κs. search needs)  -- place-of-requires
+    (λ c. (search place-is, search needs, search word-is))  -- returns
     )

@@ -15,6 +15,7 @@ sizes-admitted-spec =
     (λ c κs. search needs)  -- smaller-requires
     (λ c κs. search needs)  -- is-size-requires-2
     (λ c. search (sizes-trees, not-true, not-false))  -- returns-2
+    (λ c κs. search needs)  -- smaller-requires-2
     (λ c κs. search needs)  -- is-size-requires-3
     (λ c. search (sizes-terms, not-true, not-false))  -- returns-3
     (λ c κs. search needs)  -- is-size-requires-4

@@ -20,6 +20,7 @@ read-sizes-spec =
     (λ c. search needs)  -- enum-told-2
     (λ c κs. search needs)  -- fault-of-requires-2
     (λ c. search sizes-fault-2)  -- returns-2
+    (λ c κs. search needs)  -- smaller-requires-2
     (λ c κs. search needs)  -- read-size-requires-3
     (λ c. search needs)  -- enum-known-r3
     (λ c. search needs)  -- enum-told-3

@@ -8,5 +8,6 @@ window-rows-spec =
     tie.close
     (tie.spec
     (λ c κs. search needs)  -- leaves-requires
+    (λ c. search needs)  -- div-t5
     (λ c. cc)  -- returns
     )
