@@ -36,8 +36,9 @@ static void accepted(uint32_t number)
 
 #define DEAL(prefix, m) \
     prefix##_deal(x.field, DEPTH, TREES, TERMS, OUTPUTS, x.roots, 16 * TREES, x.positions, TREES, \
-                  x.values, TREES, x.delta, 16, x.code_key, 16, (m)->noise_record, \
-                  sizeof(m)->noise_record, (m)->scalar_record, sizeof(m)->scalar_record).number
+                  x.values, TREES, x.delta, 16, x.code_key, 16, x.label, 16, \
+                  (m)->noise_record, sizeof(m)->noise_record, (m)->scalar_record, \
+                  sizeof(m)->scalar_record).number
 #define NOISE_OFFLINE(prefix, m) \
     prefix##_noise_offline((m)->noise_record, noise_record_len, (m)->noise, N, (m)->v, \
                            width * N).number
@@ -160,7 +161,7 @@ int main(void)
         make_dealing(&x, field, DEPTH, TREES, TERMS, OUTPUTS);
         lengths = expander_deal(x.field, DEPTH, TREES, TERMS, OUTPUTS, x.roots, 16 * TREES,
                                 x.positions, TREES, x.values, TREES, x.delta, 16, x.code_key, 16,
-                                memory[0].noise_record, sizeof memory[0].noise_record,
+                                x.label, 16, memory[0].noise_record, sizeof memory[0].noise_record,
                                 memory[0].scalar_record, sizeof memory[0].scalar_record);
         accepted(lengths.number);
         noise_record_len = lengths.first_written;

@@ -85,8 +85,8 @@ extern "C" {
 #define EXPANDER_LABEL_NOT_IN_USE 21u /* label not the one in use */
 
 /* Bytes of the longest records. */
-#define EXPANDER_NOISE_RECORD_MAX 17563
-#define EXPANDER_SCALAR_RECORD_MAX 1064
+#define EXPANDER_NOISE_RECORD_MAX 17579
+#define EXPANDER_SCALAR_RECORD_MAX 1080
 
 /* The most outputs in a batch of chosen messages. */
 #define EXPANDER_BATCH_MAX 4096
@@ -139,8 +139,8 @@ struct expander_written_amount {
     uint64_t element;
 };
 
-/* A dealing's label, which its owners choose: records do not hold it yet. Labels compare as numbers
- * of 16 bytes, least byte first, and rise from dealing to dealing. */
+/* A dealing's label, which its owners choose; both records hold it. Labels compare as numbers of 16
+ * bytes, least byte first, and rise from dealing to dealing. */
 struct expander_label {
     uint8_t bytes[16];
 };
@@ -202,14 +202,15 @@ struct expander_stepped {
 
 /** Make a noise record and a scalar record of one dealing.
  *
- *  The caller draws roots, positions, values, delta and code_key at random, and sends each end its
- *  record alone.
+ *  The caller draws roots, positions, values, delta and code_key at random, chooses a label that no
+ *  other dealing has, and sends each end its record alone. Two records are of one dealing if field,
+ *  sizes, code key and label are all equal in them.
  *
  *  Returns:  a number, and the bytes written to noise_record and to scalar_record.
  *             0: accepted
  *             1: field is not 1 or 2
  *             2: depth, trees, terms or outputs (in this order) is outside its range
- *             3: roots, positions, values, delta or code_key does not have its exact length
+ *             3: roots, positions, values, delta, code_key or label does not have its exact length
  *             4: a position is not above the one before, or is N or more (all positions are tested
  *                before any value)
  *             5: a value is not 1 (field 1), or is 0, or p or more (field 2)
@@ -228,6 +229,7 @@ struct expander_stepped {
  *            delta:         the scalar Delta, not zero: a block in field 1; in field 2 a word below
  *                           p, least byte first, then eight bytes 00; delta_len = 16
  *            code_key:      the key of the code that both ends use; code_key_len = 16
+ *            label:         the dealing's label, any; label_len = 16
  *  Out:      noise_record:  the noise record; EXPANDER_NOISE_RECORD_MAX bytes are always enough
  *            scalar_record: the scalar record; EXPANDER_SCALAR_RECORD_MAX bytes are always enough
  *  Refused:  both output buffers are as they were.
@@ -240,6 +242,7 @@ struct expander_two_lengths expander_deal(
     const uint64_t *values, size_t values_len,
     const uint8_t *delta, size_t delta_len,
     const uint8_t *code_key, size_t code_key_len,
+    const uint8_t *label, size_t label_len,
     uint8_t *noise_record, size_t noise_record_len,
     uint8_t *scalar_record, size_t scalar_record_len);
 
@@ -248,8 +251,8 @@ struct expander_two_lengths expander_deal(
  *  Returns:  a number, and the words written to noise (N) and to v (W N).
  *             0: accepted
  *            Reading source from front to back, each field first read whole and then tested:
- *            10: source ends before a field or inside it; tested at every field (code key and
- *                siblings too), before that field's own tests
+ *            10: source ends before a field or inside it; tested at every field (code key, label
+ *                and siblings too), before that field's own tests
  *             9: the end byte is not 1
  *             1: the field byte is not 1 or 2
  *            11: d, t, l or n (each 11 and then 2, before the next) is not in its shortest form, or
@@ -280,8 +283,8 @@ struct expander_two_lengths expander_noise_offline(
  *  Returns:  a number, and the words written to w (W N) and to delta (2).
  *             0: accepted
  *            Reading source from front to back, each field first read whole and then tested:
- *            10: source ends before a field or inside it; tested at every field (code key and
- *                roots too), before that field's own tests
+ *            10: source ends before a field or inside it; tested at every field (code key, label
+ *                and roots too), before that field's own tests
  *             9: the end byte is not 2
  *             1: the field byte is not 1 or 2
  *            11: d, t, l or n (each 11 and then 2, before the next) is not in its shortest form, or
@@ -307,8 +310,8 @@ struct expander_two_lengths expander_scalar_offline(
  *  Returns:  a number, and the words written to u_out (count) and to v_out (W count).
  *             0: accepted
  *            Reading source from front to back, each field first read whole and then tested:
- *            10: source ends before a field or inside it; tested at every field (code key and
- *                siblings too), before that field's own tests
+ *            10: source ends before a field or inside it; tested at every field (code key, label
+ *                and siblings too), before that field's own tests
  *             9: the end byte is not 1
  *             1: the field byte is not 1 or 2
  *            11: d, t, l or n (each 11 and then 2, before the next) is not in its shortest form, or
@@ -351,8 +354,8 @@ struct expander_two_lengths expander_noise_online(
  *  Returns:  a number, and the words written to w_out (W count).
  *             0: accepted
  *            Reading source from front to back, each field first read whole and then tested:
- *            10: source ends before a field or inside it; tested at every field (code key and
- *                roots too), before that field's own tests
+ *            10: source ends before a field or inside it; tested at every field (code key, label
+ *                and roots too), before that field's own tests
  *             9: the end byte is not 2
  *             1: the field byte is not 1 or 2
  *            11: d, t, l or n (each 11 and then 2, before the next) is not in its shortest form, or

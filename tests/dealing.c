@@ -76,7 +76,8 @@ void make_dealing(struct dealing *x, unsigned field, size_t depth, size_t trees,
     }
     x->delta[0] |= 1;
     random_bytes(x->code_key, 16);
-    x->delta[16] = x->code_key[16] = 0;
+    random_bytes(x->label, 16);
+    x->delta[16] = x->code_key[16] = x->label[16] = 0;
 }
 
 /* 1 to most: a bound one time in four each, else anything. */

@@ -16,6 +16,7 @@ struct dealing {
     uint64_t values[MAX_TREES + 1];
     uint8_t delta[17];
     uint8_t code_key[17];
+    uint8_t label[17];
 };
 
 uint64_t random_word(void);

@@ -17,6 +17,8 @@ int main(void)
     static const uint32_t positions[TREES] = {17, 170, 400, 999};
     static const uint64_t values[TREES] = {1, 1, 1, 1};
     static const uint8_t scalar[16] = {2, 7, 1, 8}, code_key[16] = {1, 6, 1, 8};
+    /* The label is chosen, another for each dealing. */
+    static const uint8_t label[16] = {1};
     struct expander_two_lengths records, lengths;
     struct expander_one_length length;
     uint64_t u_at, v_at[2], w_at[2];
@@ -24,7 +26,7 @@ int main(void)
     records = expander_deal(EXPANDER_BINARY, DEPTH, TREES, TERMS, OUTPUTS,
                             roots, sizeof roots, positions, TREES, values, TREES,
                             scalar, sizeof scalar, code_key, sizeof code_key,
-                            noise_record, sizeof noise_record,
+                            label, sizeof label, noise_record, sizeof noise_record,
                             scalar_record, sizeof scalar_record);
     if (records.number != EXPANDER_ACCEPTED)
         return 1;

@@ -1,4 +1,6 @@
-/* Document 01's seven calls held to the plain implementation, through expander.h (lend.h). */
+/* Document 01's seven calls, as document 02 changes them, held to the plain implementation, through
+ * expander.h (lend.h).
+ */
 #include "lend.h"
 
 #include <string.h>
@@ -30,36 +32,37 @@ static const struct call calls[CALLS] = {
 
 /* How much a dealing lends of each input, and of its two buffers. */
 struct deal_lengths {
-    size_t roots, positions, values, delta, code_key, noise, scalar;
+    size_t roots, positions, values, delta, code_key, label, noise, scalar;
 };
 
 static result try_deal(const struct dealing *x, const struct deal_lengths *n, uint8_t *noise_out,
                        uint8_t *scalar_out)
 {
     result mine, plain;
-    describe("deal(field %u, d %zu, t %zu, l %zu, n %zu, lengths %zu %zu %zu %zu %zu, %zu %zu)",
+    describe("deal(field %u, d %zu, t %zu, l %zu, n %zu, lengths %zu %zu %zu %zu %zu %zu, %zu %zu)",
              x->field, x->depth, x->trees, x->terms, x->outputs, n->roots, n->positions, n->values,
-             n->delta, n->code_key, n->noise, n->scalar);
+             n->delta, n->code_key, n->label, n->noise, n->scalar);
     lend(0, x->roots, n->roots, 1);
     lend(1, x->positions, n->positions, 4);
     lend(2, x->values, n->values, 8);
     lend(3, x->delta, n->delta, 1);
     lend(4, x->code_key, n->code_key, 1);
-    lend(5, NULL, n->noise, 1);
-    lend(6, NULL, n->scalar, 1);
+    lend(5, x->label, n->label, 1);
+    lend(6, NULL, n->noise, 1);
+    lend(7, NULL, n->scalar, 1);
     mine = two(expander_deal(x->field, x->depth, x->trees, x->terms, x->outputs,
                              LIBRARY(0, uint8_t), n->roots, LIBRARY(1, uint32_t), n->positions,
                              LIBRARY(2, uint64_t), n->values, LIBRARY(3, uint8_t), n->delta,
-                             LIBRARY(4, uint8_t), n->code_key, LIBRARY(5, uint8_t), n->noise,
-                             LIBRARY(6, uint8_t), n->scalar));
+                             LIBRARY(4, uint8_t), n->code_key, LIBRARY(5, uint8_t), n->label,
+                             LIBRARY(6, uint8_t), n->noise, LIBRARY(7, uint8_t), n->scalar));
     plain = plain_deal(x->field, x->depth, x->trees, x->terms, x->outputs,
                        PLAIN(0, uint8_t), n->roots, PLAIN(1, uint32_t), n->positions,
                        PLAIN(2, uint64_t), n->values, PLAIN(3, uint8_t), n->delta,
-                       PLAIN(4, uint8_t), n->code_key, PLAIN(5, uint8_t), n->noise,
-                       PLAIN(6, uint8_t), n->scalar);
-    settle(DEAL, mine, plain, 5, 2, plain.first, plain.second);
-    keep(noise_out, 5, plain.first);
-    keep(scalar_out, 6, plain.second);
+                       PLAIN(4, uint8_t), n->code_key, PLAIN(5, uint8_t), n->label,
+                       PLAIN(6, uint8_t), n->noise, PLAIN(7, uint8_t), n->scalar);
+    settle(DEAL, mine, plain, 6, 2, plain.first, plain.second);
+    keep(noise_out, 6, plain.first);
+    keep(scalar_out, 7, plain.second);
     return mine;
 }
 
@@ -170,7 +173,7 @@ static uint32_t try_scalar_pads(size_t first, size_t count, const uint8_t *w, si
 
 /* ---- One dealing and what its ends hold ---- */
 
-enum { MOST = 1 << 16 };
+enum { MOST = 1 << 16, SIZES = 4 };
 
 static struct dealing x;
 static uint8_t noise_record[EXPANDER_NOISE_RECORD_MAX + 8];
@@ -182,7 +185,7 @@ static uint64_t u_all[MOST / 2], v_all[MOST], w_all[MOST]; /* outputs 0 to n - 1
 
 static struct deal_lengths exact_lengths(void)
 {
-    struct deal_lengths n = {16 * x.trees, x.trees, x.trees, 16, 16, noise_record_len,
+    struct deal_lengths n = {16 * x.trees, x.trees, x.trees, 16, 16, 16, noise_record_len,
                              scalar_record_len};
     return n;
 }
@@ -190,7 +193,7 @@ static struct deal_lengths exact_lengths(void)
 /* Deal x. Both records are kept. */
 static result deal(void)
 {
-    struct deal_lengths n = {16 * x.trees, x.trees, x.trees, 16, 16,
+    struct deal_lengths n = {16 * x.trees, x.trees, x.trees, 16, 16, 16,
                              EXPANDER_NOISE_RECORD_MAX, EXPANDER_SCALAR_RECORD_MAX};
     result r = try_deal(&x, &n, noise_record, scalar_record);
     noise_record_len = r.first;
@@ -331,9 +334,10 @@ static void vary_words(int rounds)
         for (size_t k = first; k < first + c; k++)
             for (size_t i = 0; i < x.terms; i++)
                 used[plain_term(&code, x.field, (unsigned)x.depth, k, i, &coefficient)] = 1;
-        if (c > 0 && random_below(2))
-            place = plain_term(&code, x.field, (unsigned)x.depth, first + random_below(c),
-                               random_below(x.terms), &coefficient);
+        if (c > 0 && random_below(2)) {
+            size_t row = first + random_below(c), term = random_below(x.terms);
+            place = plain_term(&code, x.field, (unsigned)x.depth, row, term, &coefficient);
+        }
         number = used[place] ? 8 : 0;
 
         kept = noise[place];
@@ -429,8 +433,8 @@ static void spoil_deal(struct deal_lengths *n, size_t trees)
 {
     size_t far = (size_t)1 << 32, i = random_below(x.trees - 1 < MAX_TREES ? x.trees : 1);
     size_t *const lengths[] = {&n->roots, &n->positions, &n->values, &n->delta, &n->code_key,
-                               &n->noise, &n->scalar};
-    const size_t whole[] = {16 * trees, trees, trees, 16, 16};
+                               &n->label, &n->noise, &n->scalar};
+    const size_t whole[] = {16 * trees, trees, trees, 16, 16, 16};
     size_t *len;
     switch (random_below(14)) {
     case 0:
@@ -451,7 +455,7 @@ static void spoil_deal(struct deal_lengths *n, size_t trees)
         break;
     case 5:
     case 6: /* an input length one short, one long, empty */
-        i = random_below(5);
+        i = random_below(6);
         *lengths[i] = (size_t[]){0, whole[i] - 1, whole[i] + 1}[random_below(3)];
         break;
     case 7:
@@ -472,16 +476,20 @@ static void spoil_deal(struct deal_lengths *n, size_t trees)
             x.delta[7] = 0x1f;
             x.delta[0] = (uint8_t)(0xfe + random_below(2)); /* p - 1 or p */
         }
-        if (random_below(4) == 0)
-            x.delta[8 + random_below(8)] = (uint8_t)(1 + random_below(255));
+        if (random_below(4) == 0) {
+            i = 8 + random_below(8);
+            x.delta[i] = (uint8_t)(1 + random_below(255));
+        }
         break;
     case 12:
         x.delta[7] = (uint8_t)(random_below(2) ? 0x1f : 0x20);
-        if (random_below(2))
-            x.delta[8 + random_below(8)] = (uint8_t)(1 + random_below(255));
+        if (random_below(2)) {
+            i = 8 + random_below(8);
+            x.delta[i] = (uint8_t)(1 + random_below(255));
+        }
         break;
     case 13:
-        len = lengths[5 + random_below(2)];
+        len = lengths[6 + random_below(2)];
         *len = random_below(2) ? 0 : *len - (*len > 0);
         break;
     }
@@ -491,8 +499,9 @@ static void faulty_deals(int rounds)
 {
     for (int round = 0; round < rounds; round++) {
         struct deal_lengths n;
+        unsigned field = 1 + (unsigned)random_below(2);
         size_t trees;
-        make_any_dealing(&x, 1 + (unsigned)random_below(2), 1 + random_below(8));
+        make_any_dealing(&x, field, 1 + random_below(8));
         if (random_below(16) == 0) /* every leaf taken where N is at most 64 */
             make_dealing(&x, x.field, x.depth, most_trees(x.depth), x.terms, x.outputs);
         leaves = (size_t)1 << x.depth;
@@ -508,6 +517,88 @@ static void faulty_deals(int rounds)
     }
 }
 
+/* ---- Two faults of a dealing ---- */
+
+/* What can be wrong with a dealing: at least one fault for each size, input and buffer. The tests
+ * come in the order of their numbers. */
+enum { DEAL_FAULTS = 25 };
+
+/* Put fault k into a dealing of x of depth 4 and three trees, with lengths n; its number. */
+static uint32_t deal_fault(int k, struct deal_lengths *n)
+{
+    size_t *const inputs[] = {&n->roots, &n->positions, &n->values, &n->delta, &n->code_key,
+                              &n->label};
+    switch (k) {
+    case 0:
+        x.field = 3;
+        return 1;
+    case 1:
+        x.depth = 17;
+        return 2;
+    case 2:
+        x.trees = 17;
+        return 2;
+    case 3:
+        x.terms = 0;
+        return 2;
+    case 4:
+        x.outputs = 9;
+        return 2;
+    case 5:
+        x.positions[2] = 16;
+        return 4;
+    case 6:
+        x.positions[1] = x.positions[0];
+        return 4;
+    case 7:
+        x.values[0] = 0;
+        return 5;
+    case 8:
+        x.values[2] = P;
+        return 5;
+    case 9:
+        memset(x.delta, 0, 16);
+        return 6;
+    case 10:
+        n->noise--;
+        return 13;
+    case 11:
+        n->scalar--;
+        return 13;
+    case 12:
+        x.depth = 0;
+        return 2;
+    default: /* an input empty, then one long */
+        k -= 13;
+        *inputs[k % 6] = k < 6 ? 0 : *inputs[k % 6] + 1;
+        return 3;
+    }
+}
+
+/* Every two faults of a dealing, in both orders: the one that is tested first gives the number. */
+static void two_deal_faults(void)
+{
+    static struct dealing whole;
+    for (unsigned field = 1; field <= 2; field++) {
+        struct deal_lengths lengths;
+        make_dealing(&whole, field, 4, 3, 2, 8);
+        x = whole;
+        EXPECT(deal().number == 0);
+        lengths = exact_lengths();
+        for (int a = 0; a < DEAL_FAULTS; a++)
+            for (int b = 0; b < DEAL_FAULTS; b++) {
+                struct deal_lengths n = lengths;
+                uint32_t first, second;
+                x = whole;
+                first = deal_fault(a, &n);
+                second = a == b ? first : deal_fault(b, &n);
+                EXPECT(try_deal(&x, &n, NULL, NULL).number == (first < second ? first : second));
+            }
+    }
+}
+
+/* ---- Sizes ---- */
+
 /* Every size at its bounds and one past them. */
 static void sizes_at_bounds(void)
 {
@@ -518,7 +609,7 @@ static void sizes_at_bounds(void)
                 for (int how = 0; how < 4; how++) {
                     size_t size[4] = {d, 1, 1, 1};
                     const size_t value[4] = {0, 1, most[which], most[which] + 1};
-                    struct deal_lengths n = {0, 0, 0, 16, 16, EXPANDER_NOISE_RECORD_MAX,
+                    struct deal_lengths n = {0, 0, 0, 16, 16, 16, EXPANDER_NOISE_RECORD_MAX,
                                              EXPANDER_SCALAR_RECORD_MAX};
                     size[which] = value[how];
                     make_dealing(&x, field, d, most_trees(d), 1, 1);
@@ -581,7 +672,7 @@ static void damaged_records(void)
             const uint8_t values[] = {0x00, 0x01, 0x7f, 0x80, 0xff,
                                       (uint8_t)(copy[at] ^ 1 << random_below(8)),
                                       (uint8_t)(copy[at] + 1)};
-            size_t tries = at < 24 ? sizeof values : 2, from = random_below(sizeof values);
+            size_t tries = at < 40 ? sizeof values : 2, from = random_below(sizeof values);
             for (size_t k = 0; k < tries; k++) {
                 copy[at] = values[(from + k) % sizeof values];
                 try_record(end, copy, len);
@@ -589,9 +680,11 @@ static void damaged_records(void)
             copy[at] = record[at];
         }
         for (int round = 0; round < 20; round++) { /* several bytes at once, and another length */
-            size_t n = len - random_below(3) + random_below(3);
-            for (size_t k = random_below(4); k > 0; k--)
-                copy[random_below(len)] = (uint8_t)random_word();
+            size_t n = len - 2 + random_below(5);
+            for (size_t k = random_below(4); k > 0; k--) {
+                size_t at = random_below(len);
+                copy[at] = (uint8_t)random_word();
+            }
             try_record(end, copy, n);
             memcpy(copy, record, len);
         }
@@ -680,7 +773,7 @@ static void raw_record(int end, unsigned field, size_t d, size_t t, size_t n)
     t = raw_size(t, d <= 16 ? most_trees(d) : 64);
     raw_size(1 + random_below(32), 32);
     raw_size(n, d >= 1 && d <= 16 ? (size_t)1 << (d - 1) : 1);
-    raw_any(16);
+    raw_any(16 + 16);
     if (d > 16)
         d = 16;
     if (t > MAX_TREES)
@@ -748,6 +841,255 @@ static void odd_records(int rounds)
     }
 }
 
+/* ---- Two faults of a record, or of a record and its call ---- */
+
+/* What a record's fields are, in the order in which they are read; AFTER is what follows it. */
+enum part { END, FIELD, SIZE, POSITION, VALUE, CORRECTION, DELTA, ANY, AFTER };
+
+/* The ways in which a field can be wrong, each with its number; 0 where there is no such way. In
+ * the first the record ends inside the field. */
+enum { WAYS = 6 };
+static const uint32_t wrong_ways[][WAYS] = {
+    [END] = {10, 9, 9},
+    [FIELD] = {10, 1, 1},
+    [SIZE] = {10, 2, 2, 11, 11, 10},
+    [POSITION] = {10, 4, 0, 11, 11, 10},
+    [VALUE] = {10, 5, 5},
+    [CORRECTION] = {10, 0, 8},
+    [DELTA] = {10, 6, 6},
+    [ANY] = {10},
+    [AFTER] = {0, 12},
+};
+
+/* The fields of a record of x, whose numbers all have one byte. */
+static struct field {
+    enum part part;
+    size_t from, bytes;
+} fields[32];
+static size_t field_count;
+
+static void next_field(enum part part, size_t bytes)
+{
+    struct field *f = &fields[field_count];
+    f->part = part;
+    f->from = field_count == 0 ? 0 : f[-1].from + f[-1].bytes;
+    f->bytes = bytes;
+    field_count++;
+}
+
+static void find_fields(int end)
+{
+    field_count = 0;
+    next_field(END, 1);
+    next_field(FIELD, 1);
+    for (int k = 0; k < SIZES; k++)
+        next_field(SIZE, 1);
+    next_field(ANY, 16); /* code key */
+    next_field(ANY, 16); /* label */
+    if (end == 2) {
+        next_field(DELTA, 8 * width);
+        next_field(ANY, 16 * x.trees);
+    }
+    for (size_t i = 0; end == 1 && i < x.trees; i++) {
+        next_field(POSITION, 1);
+        if (x.field == 2)
+            next_field(VALUE, 8);
+        next_field(CORRECTION, 8 * width);
+        next_field(ANY, 16 * x.depth);
+    }
+    next_field(AFTER, 0);
+}
+
+/* The number for field f wrong in this way. In field 1 every block is an element. */
+static uint32_t way_number(const struct field *f, int way)
+{
+    int blocks = x.field == 1 && (f->part == CORRECTION || f->part == DELTA);
+    return blocks && way == 2 ? 0 : wrong_ways[f->part][way];
+}
+
+/* Write field f of a record to raw, wrong in this way; whether the record goes on. */
+static int put_wrong(const uint8_t *record, const struct field *f, int way)
+{
+    if (way == 0) {
+        memcpy(raw + raw_len, record + f->from, f->bytes - 1);
+        raw_len += f->bytes - 1;
+        return 0;
+    }
+    switch (f->part) {
+    case END: /* the other end's, none */
+        raw[raw_len++] = way == 1 ? (uint8_t)(3 - record[0]) : 0;
+        break;
+    case FIELD:
+        raw[raw_len++] = way == 1 ? 0 : 3;
+        break;
+    case SIZE:
+    case POSITION: /* too large, zero; with a byte 00 too many, without an end, cut inside */
+        if (way == 1)
+            raw_len += plain_write_number(raw + raw_len, 2097151);
+        else
+            raw[raw_len++] = way == 2 ? 0 : record[f->from] | 0x80;
+        if (way == 3)
+            raw[raw_len++] = 0x00;
+        for (int k = 0; way == 4 && k < 2; k++)
+            raw[raw_len++] = 0x80;
+        return way != 5;
+    case AFTER:
+        raw[raw_len++] = 0;
+        break;
+    default: /* zero, p */
+        memset(raw + raw_len, 0, f->bytes);
+        for (size_t k = 0; way == 2 && k < 8; k++)
+            raw[raw_len + k] = (uint8_t)(P >> (8 * k));
+        raw_len += f->bytes;
+    }
+    return 1;
+}
+
+/* Write a record to raw with field a wrong in one way and field b in another. */
+static void put_record(const uint8_t *record, const struct field *a, int way_a,
+                       const struct field *b, int way_b)
+{
+    raw_len = 0;
+    for (const struct field *f = fields; f < fields + field_count; f++) {
+        if (f == a || f == b) {
+            if (!put_wrong(record, f, f == a ? way_a : way_b))
+                return;
+        } else {
+            memcpy(raw + raw_len, record + f->from, f->bytes);
+            raw_len += f->bytes;
+        }
+    }
+}
+
+/* What can be wrong with an online call beside its record, in the order of the tests: a vector's
+ * length, the window, the room, words. */
+enum { VECTOR, WINDOW, ROOM, WORDS, NOTHING };
+static const uint32_t call_numbers[] = {3, 7, 13, 8, 0};
+
+/* The record in raw, lent to its end's online call with these two faults. */
+static uint32_t try_online(int end, int a, int b)
+{
+    static uint64_t bad[64];
+    size_t n = x.outputs;
+    size_t vectors = width * (a == VECTOR || b == VECTOR ? leaves + 1 : leaves);
+    size_t first = a == WINDOW || b == WINDOW, room = a == ROOM || b == ROOM ? n - 1 : n;
+    int words = a == WORDS || b == WORDS;
+    memset(bad, 0xff, sizeof bad);
+    return end == 1 ? try_noise_online(raw, raw_len, words ? bad : noise, leaves, words ? bad : v,
+                                       vectors, first, n, room, width * n, NULL, NULL).number
+                    : try_scalar_online(raw, raw_len, words ? bad : w, vectors, first, n,
+                                        width * room, NULL).number;
+}
+
+/* The record in raw, lent to its end's offline call with one buffer too short or none. */
+static uint32_t try_short(int end, int a)
+{
+    size_t room = width * leaves - (a == ROOM);
+    return end == 1 ? try_offline(1, raw, raw_len, leaves, room, NULL, NULL).number
+                    : try_offline(2, raw, raw_len, room, 2, NULL, NULL).number;
+}
+
+/* Every two faults of one end's record and calls: the one that is tested first gives the number. */
+static void two_faults_of(int end)
+{
+    const uint8_t *record = end == 1 ? noise_record : scalar_record;
+    int most = end == 2 && x.field == 1 ? WORDS : NOTHING; /* there no word is refused */
+    find_fields(end);
+    for (const struct field *a = fields; a < fields + field_count; a++)
+        for (int way = 0; way < WAYS; way++) {
+            uint32_t number = way_number(a, way);
+            if (number == 0)
+                continue;
+            for (const struct field *b = a + 1; b < fields + field_count; b++)
+                for (int other = 0; other < WAYS; other++)
+                    if (way_number(b, other) != 0) {
+                        put_record(record, a, way, b, other);
+                        EXPECT(try_short(end, NOTHING) == number);
+                        EXPECT(try_online(end, NOTHING, NOTHING) == number);
+                    }
+            put_record(record, a, way, NULL, 0);
+            EXPECT(try_short(end, ROOM) == number);
+            for (int b = 0; b < most; b++)
+                EXPECT(try_online(end, b, NOTHING) == number);
+        }
+    put_record(record, NULL, 0, NULL, 0);
+    EXPECT(try_short(end, NOTHING) == 0);
+    EXPECT(try_short(end, ROOM) == 13);
+    EXPECT(try_online(end, NOTHING, NOTHING) == 0);
+    for (int a = 0; a < most; a++)
+        for (int b = 0; b < most; b++)
+            EXPECT(try_online(end, a, b) == call_numbers[a < b ? a : b]);
+}
+
+static void two_record_faults(void)
+{
+    for (unsigned field = 1; field <= 2; field++) {
+        make_dealing(&x, field, 3, 2, 3, 4);
+        EXPECT(deal().number == 0);
+        offline();
+        two_faults_of(1);
+        two_faults_of(2);
+    }
+}
+
+/* ---- Labels (document 02, 8) ---- */
+
+/* Where the label stands in both records of x: after end, field, sizes and code key. */
+static size_t label_at(void)
+{
+    const size_t sizes[SIZES] = {x.depth, x.trees, x.terms, x.outputs};
+    size_t at = 2 + 16;
+    uint8_t bytes[3];
+    for (int k = 0; k < SIZES; k++)
+        at += plain_write_number(bytes, (uint32_t)sizes[k]);
+    return at;
+}
+
+/* A dealing with another label differs in its records' label alone, and expands to the same. */
+static void label_alone(size_t depth, unsigned field)
+{
+    static uint8_t other_noise[EXPANDER_NOISE_RECORD_MAX];
+    static uint8_t other_scalar[EXPANDER_SCALAR_RECORD_MAX];
+    static uint64_t other[2 * MOST];
+    struct deal_lengths n;
+    size_t at, bit = random_below(128), c;
+    make_any_dealing(&x, field, depth);
+    EXPECT(deal().number == 0);
+    offline();
+    c = x.outputs;
+    EXPECT(noise_window(0, c, c, width * c, u_all, v_all) == 0);
+    EXPECT(scalar_window(0, c, width * c, w_all) == 0);
+    at = label_at();
+    EXPECT(memcmp(noise_record + at, x.label, 16) == 0);
+    EXPECT(memcmp(scalar_record + at, x.label, 16) == 0);
+
+    n = exact_lengths();
+    x.label[bit / 8] ^= (uint8_t)(1 << bit % 8);
+    EXPECT(try_deal(&x, &n, other_noise, other_scalar).number == 0);
+    EXPECT(memcmp(other_noise + at, x.label, 16) == 0);
+    EXPECT(memcmp(other_scalar + at, x.label, 16) == 0);
+    EXPECT(memcmp(other_noise, noise_record, at) == 0);
+    EXPECT(memcmp(other_scalar, scalar_record, at) == 0);
+    at += 16;
+    EXPECT(memcmp(other_noise + at, noise_record + at, noise_record_len - at) == 0);
+    EXPECT(memcmp(other_scalar + at, scalar_record + at, scalar_record_len - at) == 0);
+
+    EXPECT(try_offline(1, other_noise, noise_record_len, leaves, width * leaves, NULL, other).number
+           == 0);
+    EXPECT(memcmp(other, v, 8 * width * leaves) == 0);
+    EXPECT(try_offline(2, other_scalar, scalar_record_len, width * leaves, 2, other, NULL).number
+           == 0);
+    EXPECT(memcmp(other, w, 8 * width * leaves) == 0);
+    EXPECT(try_noise_online(other_noise, noise_record_len, noise, leaves, v, width * leaves, 0, c,
+                            c, width * c, NULL, other).number == 0);
+    EXPECT(memcmp(other, v_all, 8 * width * c) == 0);
+    EXPECT(try_scalar_online(other_scalar, scalar_record_len, w, width * leaves, 0, c, width * c,
+                             other).number == 0);
+    EXPECT(memcmp(other, w_all, 8 * width * c) == 0);
+}
+
+/* ---- The edges of field 2 ---- */
+
 /* a to the power e, modulo p. */
 static uint64_t power(uint64_t a, uint64_t e)
 {
@@ -812,7 +1154,7 @@ static void edge_sums(void)
             oddness = 0;
             memcpy(raw, head, sizeof head);
             raw_len = sizeof head;
-            raw_any(16);
+            raw_any(16 + 16);
             raw_number(0); /* the tree with noise at 0 gives leaf 1 */
             raw_word(value);
             raw_word(correction);
@@ -842,12 +1184,12 @@ static void faulty_pads(int rounds)
     static const size_t spots[] = {0, 1, 255, 256, 32767, 32768, 32769, 65536,
                                    (size_t)1 << 32, (size_t)1 << 63, SIZE_MAX - 1, SIZE_MAX};
     for (int round = 0; round < rounds; round++) {
-        size_t c = random_below(20), first = random_below(32769 - c), room, a, b;
+        size_t c = random_below(20), first = random_below(32769 - c), room, a, b, k;
         uint8_t scalar[17];
         random_bytes(v_bytes, 16 * 20 + 16);
         random_bytes(w_bytes, 16 * 20 + 16);
         random_bytes(scalar, 17);
-        for (size_t k = 0; k <= c; k++)
+        for (k = 0; k <= c; k++)
             choices[k] = random_word() & 1;
         a = 16 * c;
         b = c;
@@ -868,7 +1210,8 @@ static void faulty_pads(int rounds)
                 room = random_below(4);
                 break;
             case 4:
-                choices[random_below(c + 1)] = (uint8_t)(2 + random_below(254));
+                k = random_below(c + 1);
+                choices[k] = (uint8_t)(2 + random_below(254));
                 break;
             case 5:
                 memset(scalar, 0, 16);
@@ -987,21 +1330,21 @@ static void cases(void)
         result r;
         make_dealing(&x, field, 1, 1, 1, 1);
         r = deal();
-        EXPECT(r.number == 0 && r.first == 55 && r.second == (field == 1 ? 54 : 46));
-        EXPECT(try_offline(1, noise_record, 54, 8, 8, NULL, NULL).number == 10);
-        noise_record[55] = 0;
-        EXPECT(try_offline(1, noise_record, 56, 8, 8, NULL, NULL).number == 12);
+        EXPECT(r.number == 0 && r.first == 71 && r.second == (field == 1 ? 70 : 62));
+        EXPECT(try_offline(1, noise_record, 70, 8, 8, NULL, NULL).number == 10);
+        noise_record[71] = 0;
+        EXPECT(try_offline(1, noise_record, 72, 8, 8, NULL, NULL).number == 12);
         noise_record[2] = 0x80; /* d as 80 00 */
         noise_record[3] = 0x00;
-        EXPECT(try_offline(1, noise_record, 55, 8, 8, NULL, NULL).number == 11);
+        EXPECT(try_offline(1, noise_record, 71, 8, 8, NULL, NULL).number == 11);
 
         make_dealing(&x, field, 3, 3, 2, 4);
         x.positions[0] = 1;
         x.positions[1] = 4;
         x.positions[2] = 5;
         EXPECT(deal().number == 0);
-        EXPECT(noise_record[22] == 1 && noise_record[22 + 65] == 2
-               && noise_record[22 + 2 * 65] == 0);
+        EXPECT(noise_record[38] == 1 && noise_record[38 + 65] == 2
+               && noise_record[38 + 2 * 65] == 0);
         offline();
         EXPECT(noise_window(3, 1, 1, width, NULL, NULL) == 0);
         EXPECT(noise_window(3, 2, 2, 2 * width, NULL, NULL) == 7);
@@ -1039,12 +1382,16 @@ int main(void)
     blocks_apart(500);
     edge_products();
     edge_sums();
+    two_deal_faults();
+    two_record_faults();
     odd_records(40000);
     for (unsigned field = 1; field <= 2; field++) {
+        for (size_t depth = 1; depth <= 9; depth++)
+            label_alone(depth, field);
         for (size_t depth = 1; depth <= 4; depth++)
             for (int round = 0; round < 6; round++) {
-                make_dealing(&x, field, depth, 1 + random_below(2), 1 + random_below(4),
-                             (size_t)1 << (depth - 1));
+                size_t trees = 1 + random_below(2), terms = 1 + random_below(4);
+                make_dealing(&x, field, depth, trees, terms, (size_t)1 << (depth - 1));
                 damaged_records();
             }
         for (size_t depth = 1; depth <= 10; depth++)
@@ -1053,7 +1400,8 @@ int main(void)
                 whole_dealing(0);
             }
         for (size_t depth = 11; depth <= 16; depth++) {
-            make_dealing(&x, field, depth, 1 + random_below(8), 1 + random_below(32),
+            size_t trees = 1 + random_below(8), terms = 1 + random_below(32);
+            make_dealing(&x, field, depth, trees, terms,
                          1 + random_below((size_t)1 << (depth - 1)));
             whole_dealing(1);
         }

@@ -1,4 +1,4 @@
-/* A plain second implementation of document 01, its pads by document 02, request 4 (plain.h). */
+/* A plain second implementation of document 01 with document 02's requests 4 and 8 (plain.h). */
 #include "plain.h"
 
 #include <string.h>
@@ -308,7 +308,7 @@ struct tree {
 
 struct record {
     unsigned field, depth, trees, terms, outputs;
-    const uint8_t *code_key;
+    const uint8_t *code_key, *label;
     struct tree tree[MAX_TREES]; /* noise record */
     block delta;                 /* scalar record */
     const uint8_t *roots;        /* scalar record: t blocks */
@@ -411,6 +411,8 @@ static uint32_t read_head(struct reader *in, unsigned end, struct record *r)
         return 2;
     if ((r->code_key = take(in, 16)) == NULL)
         return 10;
+    if ((r->label = take(in, 16)) == NULL)
+        return 10;
     return 0;
 }
 
@@ -493,21 +495,23 @@ static uint8_t *put_element(uint8_t *to, unsigned field, block a)
 }
 
 static uint8_t *put_head(uint8_t *to, uint8_t end, uint8_t field, const uint32_t sizes[4],
-                         const uint8_t *code_key)
+                         const uint8_t *code_key, const uint8_t *label)
 {
     *to++ = end;
     *to++ = field;
     for (unsigned k = 0; k < 4; k++)
         to += plain_write_number(to, sizes[k]);
-    return put(to, code_key, 16);
+    to = put(to, code_key, 16);
+    return put(to, label, 16);
 }
 
 result plain_deal(
     uint8_t field, size_t depth, size_t trees, size_t terms, size_t outputs,
     const uint8_t *roots, size_t roots_len, const uint32_t *positions, size_t positions_len,
     const uint64_t *values, size_t values_len, const uint8_t *delta, size_t delta_len,
-    const uint8_t *code_key, size_t code_key_len, uint8_t *noise_record, size_t noise_record_len,
-    uint8_t *scalar_record, size_t scalar_record_len)
+    const uint8_t *code_key, size_t code_key_len, const uint8_t *label, size_t label_len,
+    uint8_t *noise_record, size_t noise_record_len, uint8_t *scalar_record,
+    size_t scalar_record_len)
 {
     size_t head_len, noise_len, scalar_len;
     uint32_t sizes[4];
@@ -521,7 +525,7 @@ result plain_deal(
         || !outputs_admitted(depth, outputs))
         return refused(2);
     if (roots_len != 16 * trees || positions_len != trees || values_len != trees
-        || delta_len != 16 || code_key_len != 16)
+        || delta_len != 16 || code_key_len != 16 || label_len != 16)
         return refused(3);
     for (size_t i = 0; i < trees; i++)
         if (positions[i] >= (uint32_t)1 << depth || (i > 0 && positions[i] <= positions[i - 1]))
@@ -537,7 +541,7 @@ result plain_deal(
     sizes[1] = (uint32_t)trees;
     sizes[2] = (uint32_t)terms;
     sizes[3] = (uint32_t)outputs;
-    head_len = 2 + 16;
+    head_len = 2 + 16 + 16;
     for (unsigned k = 0; k < 4; k++)
         head_len += number_length(sizes[k]);
     scalar_len = head_len + element_bytes(field) + 16 * trees;
@@ -547,7 +551,7 @@ result plain_deal(
     if (noise_record_len < noise_len || scalar_record_len < scalar_len)
         return refused(13);
 
-    to = put_head(noise_record, 1, field, sizes, code_key);
+    to = put_head(noise_record, 1, field, sizes, code_key, label);
     for (size_t i = 0; i < trees; i++) {
         uint32_t s = positions[i];
         block node = plain_load(roots + 16 * i);
@@ -570,7 +574,7 @@ result plain_deal(
             to += 16;
         }
     }
-    to = put_head(scalar_record, 2, field, sizes, code_key);
+    to = put_head(scalar_record, 2, field, sizes, code_key, label);
     to = put_element(to, field, scalar);
     put(to, roots, 16 * trees);
     return accepted(noise_len, scalar_len);

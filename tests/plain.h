@@ -1,5 +1,6 @@
-/* A plain second implementation of document 01, its pads by document 02, request 4, to hold the
- * library to. Written from those documents and FIPS 197 alone. Parameters lie as in expander.h.
+/* A plain second implementation of document 01 with document 02's requests 4 (pads) and 8 (labels),
+ * to hold the library to. Written from those documents and FIPS 197 alone. Parameters lie as in
+ * expander.h.
  */
 #ifndef PLAIN_H
 #define PLAIN_H
@@ -48,8 +49,9 @@ struct plain_result plain_deal(
     uint8_t field, size_t depth, size_t trees, size_t terms, size_t outputs,
     const uint8_t *roots, size_t roots_len, const uint32_t *positions, size_t positions_len,
     const uint64_t *values, size_t values_len, const uint8_t *delta, size_t delta_len,
-    const uint8_t *code_key, size_t code_key_len, uint8_t *noise_record, size_t noise_record_len,
-    uint8_t *scalar_record, size_t scalar_record_len);
+    const uint8_t *code_key, size_t code_key_len, const uint8_t *label, size_t label_len,
+    uint8_t *noise_record, size_t noise_record_len, uint8_t *scalar_record,
+    size_t scalar_record_len);
 struct plain_result plain_noise_offline(
     const uint8_t *source, size_t source_len, uint64_t *noise, size_t noise_len,
     uint64_t *v, size_t v_len);

@@ -137,11 +137,14 @@ static int writes_number(uint32_t x, size_t n, uint8_t a, uint8_t b, uint8_t c)
     return plain_write_number(bytes, x) == n && bytes[0] == a && bytes[1] == b && bytes[2] == c;
 }
 
+/* Bytes of the longest records. */
+enum { NOISE_MAX = 17579, SCALAR_MAX = 1080 };
+
 static struct plain_result deal(const struct dealing *x, uint8_t *noise, uint8_t *scalar)
 {
     return plain_deal(x->field, x->depth, x->trees, x->terms, x->outputs, x->roots, 16 * x->trees,
                       x->positions, x->trees, x->values, x->trees, x->delta, 16, x->code_key, 16,
-                      noise, 17563, scalar, 1064);
+                      x->label, 16, noise, NOISE_MAX, scalar, SCALAR_MAX);
 }
 
 static int is(struct plain_result r, uint32_t number, size_t first, size_t second)
@@ -157,7 +160,7 @@ static block element(uint64_t x)
 
 static void test_cases(void)
 {
-    static uint8_t noise[17563], scalar[1064];
+    static uint8_t noise[NOISE_MAX], scalar[SCALAR_MAX];
     static struct dealing x;
     static const struct {
         size_t first, count;
@@ -190,14 +193,14 @@ static void test_cases(void)
 
     for (unsigned field = 1; field <= 2; field++) {
         make_dealing(&x, field, 1, 1, 1, 1);
-        CHECK(is(deal(&x, noise, scalar), 0, 55, field == 1 ? 54 : 46));
-        CHECK(is(plain_noise_offline(noise, 55, words, 8, v, 16), 0, 2, field == 1 ? 4 : 2));
-        CHECK(is(plain_noise_offline(noise, 54, words, 8, v, 16), 10, 0, 0));
-        noise[55] = 0;
-        CHECK(is(plain_noise_offline(noise, 56, words, 8, v, 16), 12, 0, 0));
+        CHECK(is(deal(&x, noise, scalar), 0, 71, field == 1 ? 70 : 62));
+        CHECK(is(plain_noise_offline(noise, 71, words, 8, v, 16), 0, 2, field == 1 ? 4 : 2));
+        CHECK(is(plain_noise_offline(noise, 70, words, 8, v, 16), 10, 0, 0));
+        noise[71] = 0;
+        CHECK(is(plain_noise_offline(noise, 72, words, 8, v, 16), 12, 0, 0));
         noise[2] = 0x80; /* d as 80 00 */
         noise[3] = 0x00;
-        CHECK(is(plain_noise_offline(noise, 55, words, 8, v, 16), 11, 0, 0));
+        CHECK(is(plain_noise_offline(noise, 71, words, 8, v, 16), 11, 0, 0));
 
         make_dealing(&x, field, 3, 3, 2, 4);
         x.positions[0] = 1;
@@ -206,7 +209,7 @@ static void test_cases(void)
         r = deal(&x, noise, scalar);
         CHECK(r.number == 0);
         /* A tree takes 16 bytes of value and correction and three siblings after its position. */
-        CHECK(noise[22] == 1 && noise[22 + 65] == 2 && noise[22 + 2 * 65] == 0);
+        CHECK(noise[38] == 1 && noise[38 + 65] == 2 && noise[38 + 2 * 65] == 0);
         CHECK(plain_noise_offline(noise, r.first, words, 8, v, 16).number == 0);
         for (size_t k = 0; k < sizeof windows / sizeof *windows; k++)
             CHECK(plain_noise_online(noise, r.first, words, 8, v, field == 1 ? 16 : 8,
@@ -326,7 +329,7 @@ static void test_definitions(unsigned field, size_t depth)
 {
     enum { N = 256 };
     static struct dealing x;
-    static uint8_t noise_record[17563], scalar_record[1064];
+    static uint8_t noise_record[NOISE_MAX], scalar_record[SCALAR_MAX];
     static uint64_t mu[N], noise[N], v[2 * N], w[2 * N], delta[2], u_out[N], v_out[2 * N],
         w_out[2 * N];
     static block v0[N], w0[N];
