@@ -35,8 +35,8 @@ static void accepted(uint32_t number)
 }
 
 #define DEAL(prefix, m) \
-    prefix##_deal(x.field, DEPTH, TREES, TERMS, OUTPUTS, x.roots, 16 * TREES, x.positions, TREES, \
-                  x.values, TREES, x.delta, 16, x.code_key, 16, x.label, 16, \
+    prefix##_deal(x.field, DEPTH, 1, TREES, TERMS, OUTPUTS, x.roots, 16 * TREES, x.positions, \
+                  TREES, x.values, TREES, x.delta, 16, x.code_key, 16, x.label, 16, \
                   (m)->noise_record, sizeof(m)->noise_record, (m)->scalar_record, \
                   sizeof(m)->scalar_record).number
 #define NOISE_OFFLINE(prefix, m) \
@@ -158,8 +158,8 @@ int main(void)
         int count = field == 1 ? JOBS : JOBS - 2; /* pads are of field 1 */
         memset(memory, 0, sizeof memory);
         width = field == 1 ? 2 : 1;
-        make_dealing(&x, field, DEPTH, TREES, TERMS, OUTPUTS);
-        lengths = expander_deal(x.field, DEPTH, TREES, TERMS, OUTPUTS, x.roots, 16 * TREES,
+        make_dealing(&x, field, DEPTH, 1, TREES, TERMS, OUTPUTS);
+        lengths = expander_deal(x.field, DEPTH, 1, TREES, TERMS, OUTPUTS, x.roots, 16 * TREES,
                                 x.positions, TREES, x.values, TREES, x.delta, 16, x.code_key, 16,
                                 x.label, 16, memory[0].noise_record, sizeof memory[0].noise_record,
                                 memory[0].scalar_record, sizeof memory[0].scalar_record);

@@ -13,7 +13,9 @@
  * dealing.
  *
  * Sizes
- *   d  depth of a tree, 1 to 16; N is 2^d
+ *   d  depth of a tree, 1 to 16; N, the number of its leaves, is 2^d
+ *   g  branch bits, 1, 2 or 3: a node has 2^g children, so a tree has d / g levels; d is a multiple
+ *      of g
  *   t  trees, each with one noise place, 1 to the smaller of 64 and N
  *   l  terms in a row of the code, 1 to 32
  *   n  outputs, 1 to N / 2
@@ -63,7 +65,7 @@ extern "C" {
 /* Numbers that the calls return. */
 #define EXPANDER_ACCEPTED 0u         /* the result is written */
 #define EXPANDER_BAD_FIELD 1u        /* field byte not 1 or 2 */
-#define EXPANDER_BAD_SIZE 2u         /* d, t, l, n or the number of callers outside its range */
+#define EXPANDER_BAD_SIZE 2u         /* d, g, t, l, n or the number of callers not admitted */
 #define EXPANDER_BAD_LENGTH 3u       /* input buffer not of the length called for; batch too large */
 #define EXPANDER_BAD_POSITION 4u     /* position not rising, or N or more */
 #define EXPANDER_BAD_NOISE 5u        /* noise value not admitted */
@@ -84,9 +86,10 @@ extern "C" {
 #define EXPANDER_LABEL_NOT_ABOVE 20u /* label not above the one in use */
 #define EXPANDER_LABEL_NOT_IN_USE 21u /* label not the one in use */
 
-/* Bytes of the longest records. */
-#define EXPANDER_NOISE_RECORD_MAX 17579
-#define EXPANDER_SCALAR_RECORD_MAX 1080
+/* Bytes of the longest records: the noise record at d = 15, g = 3, the scalar record at d = 15 and
+ * d = 16. */
+#define EXPANDER_NOISE_RECORD_MAX 37034
+#define EXPANDER_SCALAR_RECORD_MAX 1081
 
 /* The most outputs in a batch of chosen messages. */
 #define EXPANDER_BATCH_MAX 4096
@@ -209,7 +212,8 @@ struct expander_stepped {
  *  Returns:  a number, and the bytes written to noise_record and to scalar_record.
  *             0: accepted
  *             1: field is not 1 or 2
- *             2: depth, trees, terms or outputs (in this order) is outside its range
+ *             2: depth, branch_bits, trees, terms or outputs (in this order) is outside its range,
+ *                or depth is no multiple of branch_bits
  *             3: roots, positions, values, delta, code_key or label does not have its exact length
  *             4: a position is not above the one before, or is N or more (all positions are tested
  *                before any value)
@@ -219,6 +223,7 @@ struct expander_stepped {
  *            13: noise_record or scalar_record is too short for its record
  *  In:       field:         1 binary, 2 prime
  *            depth:         d
+ *            branch_bits:   g
  *            trees:         t
  *            terms:         l
  *            outputs:       n
@@ -236,7 +241,7 @@ struct expander_stepped {
  *  Overlap:  noise_record and scalar_record overlap neither each other nor any input buffer.
  */
 struct expander_two_lengths expander_deal(
-    uint8_t field, size_t depth, size_t trees, size_t terms, size_t outputs,
+    uint8_t field, size_t depth, size_t branch_bits, size_t trees, size_t terms, size_t outputs,
     const uint8_t *roots, size_t roots_len,
     const uint32_t *positions, size_t positions_len,
     const uint64_t *values, size_t values_len,
@@ -255,9 +260,9 @@ struct expander_two_lengths expander_deal(
  *                and siblings too), before that field's own tests
  *             9: the end byte is not 1
  *             1: the field byte is not 1 or 2
- *            11: d, t, l or n (each 11 and then 2, before the next) is not in its shortest form, or
- *                its third byte has the top bit set
- *             2: d, t, l or n is outside its range
+ *            11: d, g, t, l or n (each 11 and then 2, before the next) is not in its shortest form,
+ *                or its third byte has the top bit set
+ *             2: d, g, t, l or n is outside its range, or d is no multiple of g
  *            then for each tree:
  *            11: the position's number is not in its shortest form, or its third byte has the top
  *                bit set
@@ -287,9 +292,9 @@ struct expander_two_lengths expander_noise_offline(
  *                and roots too), before that field's own tests
  *             9: the end byte is not 2
  *             1: the field byte is not 1 or 2
- *            11: d, t, l or n (each 11 and then 2, before the next) is not in its shortest form, or
- *                its third byte has the top bit set
- *             2: d, t, l or n is outside its range
+ *            11: d, g, t, l or n (each 11 and then 2, before the next) is not in its shortest form,
+ *                or its third byte has the top bit set
+ *             2: d, g, t, l or n is outside its range, or d is no multiple of g
  *             6: Delta is zero, or is p or more (field 2)
  *            and at the end:
  *            12: bytes follow the record
@@ -314,9 +319,9 @@ struct expander_two_lengths expander_scalar_offline(
  *                and siblings too), before that field's own tests
  *             9: the end byte is not 1
  *             1: the field byte is not 1 or 2
- *            11: d, t, l or n (each 11 and then 2, before the next) is not in its shortest form, or
- *                its third byte has the top bit set
- *             2: d, t, l or n is outside its range
+ *            11: d, g, t, l or n (each 11 and then 2, before the next) is not in its shortest form,
+ *                or its third byte has the top bit set
+ *             2: d, g, t, l or n is outside its range, or d is no multiple of g
  *            then for each tree:
  *            11: the position's number is not in its shortest form, or its third byte has the top
  *                bit set
@@ -358,9 +363,9 @@ struct expander_two_lengths expander_noise_online(
  *                and roots too), before that field's own tests
  *             9: the end byte is not 2
  *             1: the field byte is not 1 or 2
- *            11: d, t, l or n (each 11 and then 2, before the next) is not in its shortest form, or
- *                its third byte has the top bit set
- *             2: d, t, l or n is outside its range
+ *            11: d, g, t, l or n (each 11 and then 2, before the next) is not in its shortest form,
+ *                or its third byte has the top bit set
+ *             2: d, g, t, l or n is outside its range, or d is no multiple of g
  *             6: Delta is zero, or is p or more (field 2)
  *            and at the end:
  *            12: bytes follow the record

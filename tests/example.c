@@ -3,7 +3,8 @@
 
 #include <stdio.h>
 
-enum { DEPTH = 10, N = 1 << DEPTH, TREES = 4, TERMS = 8, OUTPUTS = N / 2, INDEX = 123 };
+enum { DEPTH = 10, N = 1 << DEPTH, BRANCH_BITS = 2 /* four children a node */ };
+enum { TREES = 4, TERMS = 8, OUTPUTS = N / 2, INDEX = 123 };
 
 static uint8_t noise_record[EXPANDER_NOISE_RECORD_MAX];
 static uint8_t scalar_record[EXPANDER_SCALAR_RECORD_MAX];
@@ -23,7 +24,7 @@ int main(void)
     struct expander_one_length length;
     uint64_t u_at, v_at[2], w_at[2];
 
-    records = expander_deal(EXPANDER_BINARY, DEPTH, TREES, TERMS, OUTPUTS,
+    records = expander_deal(EXPANDER_BINARY, DEPTH, BRANCH_BITS, TREES, TERMS, OUTPUTS,
                             roots, sizeof roots, positions, TREES, values, TREES,
                             scalar, sizeof scalar, code_key, sizeof code_key,
                             label, sizeof label, noise_record, sizeof noise_record,
@@ -44,7 +45,8 @@ int main(void)
     lengths = expander_scalar_offline(scalar_record, records.second_written, w, 2 * N, delta, 2);
     if (lengths.number != EXPANDER_ACCEPTED)
         return 1;
-    length = expander_scalar_online(scalar_record, records.second_written, w, 2 * N, INDEX, 1, w_at, 2);
+    length = expander_scalar_online(scalar_record, records.second_written, w, 2 * N, INDEX, 1,
+                                    w_at, 2);
     if (length.number != EXPANDER_ACCEPTED)
         return 1;
 

@@ -4,7 +4,8 @@
 #include <stdio.h>
 #include <string.h>
 
-enum { DEPTH = 10, N = 1 << DEPTH, TREES = 4, TERMS = 8, OUTPUTS = N / 2, FIRST = 100, COUNT = 3 };
+enum { DEPTH = 10, N = 1 << DEPTH, BRANCH_BITS = 2, TREES = 4, TERMS = 8, OUTPUTS = N / 2 };
+enum { FIRST = 100, COUNT = 3 };
 
 static uint8_t noise_record[EXPANDER_NOISE_RECORD_MAX];
 static uint8_t scalar_record[EXPANDER_SCALAR_RECORD_MAX];
@@ -65,7 +66,7 @@ int main(void)
     uint8_t messages[32 * COUNT], bits[COUNT], answers[32 * COUNT], opened[16 * COUNT];
     struct expander_two_lengths records;
 
-    records = expander_deal(EXPANDER_BINARY, DEPTH, TREES, TERMS, OUTPUTS,
+    records = expander_deal(EXPANDER_BINARY, DEPTH, BRANCH_BITS, TREES, TERMS, OUTPUTS,
                             roots, sizeof roots, positions, TREES, values, TREES,
                             scalar, sizeof scalar, code_key, sizeof code_key,
                             label, sizeof label, noise_record, sizeof noise_record,

@@ -5,7 +5,7 @@
 
 #include <stdio.h>
 
-enum { DEPTH = 10, N = 1 << DEPTH, TREES = 4, TERMS = 8, TASKS = 2 };
+enum { DEPTH = 10, N = 1 << DEPTH, BRANCH_BITS = 1, TREES = 4, TERMS = 8, TASKS = 2 };
 
 /* One dealing's part at the noise end. */
 struct dealt {
@@ -28,9 +28,10 @@ static int deal(struct dealt *d)
     const uint64_t values[TREES] = {1, 1, 1, 1};
     const uint8_t scalar[16] = {2, 7, 1, 8}, code_key[16] = {1, 6, 1, 8};
     struct expander_two_lengths lengths = expander_deal(
-        EXPANDER_BINARY, DEPTH, TREES, TERMS, d->outputs, roots, sizeof roots, positions, TREES,
-        values, TREES, scalar, sizeof scalar, code_key, sizeof code_key, d->label.bytes,
-        sizeof d->label.bytes, d->record, sizeof d->record, scalar_record, sizeof scalar_record);
+        EXPANDER_BINARY, DEPTH, BRANCH_BITS, TREES, TERMS, d->outputs, roots, sizeof roots,
+        positions, TREES, values, TREES, scalar, sizeof scalar, code_key, sizeof code_key,
+        d->label.bytes, sizeof d->label.bytes, d->record, sizeof d->record,
+        scalar_record, sizeof scalar_record);
     d->record_len = lengths.first_written;
     if (lengths.number != EXPANDER_ACCEPTED)
         return 0;

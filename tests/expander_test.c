@@ -39,9 +39,10 @@ static result try_deal(const struct dealing *x, const struct deal_lengths *n, ui
                        uint8_t *scalar_out)
 {
     result mine, plain;
-    describe("deal(field %u, d %zu, t %zu, l %zu, n %zu, lengths %zu %zu %zu %zu %zu %zu, %zu %zu)",
-             x->field, x->depth, x->trees, x->terms, x->outputs, n->roots, n->positions, n->values,
-             n->delta, n->code_key, n->label, n->noise, n->scalar);
+    describe("deal(field %u, d %zu, g %zu, t %zu, l %zu, n %zu, lengths %zu %zu %zu %zu %zu %zu, "
+             "%zu %zu)",
+             x->field, x->depth, x->branch_bits, x->trees, x->terms, x->outputs, n->roots,
+             n->positions, n->values, n->delta, n->code_key, n->label, n->noise, n->scalar);
     lend(0, x->roots, n->roots, 1);
     lend(1, x->positions, n->positions, 4);
     lend(2, x->values, n->values, 8);
@@ -50,12 +51,12 @@ static result try_deal(const struct dealing *x, const struct deal_lengths *n, ui
     lend(5, x->label, n->label, 1);
     lend(6, NULL, n->noise, 1);
     lend(7, NULL, n->scalar, 1);
-    mine = two(expander_deal(x->field, x->depth, x->trees, x->terms, x->outputs,
+    mine = two(expander_deal(x->field, x->depth, x->branch_bits, x->trees, x->terms, x->outputs,
                              LIBRARY(0, uint8_t), n->roots, LIBRARY(1, uint32_t), n->positions,
                              LIBRARY(2, uint64_t), n->values, LIBRARY(3, uint8_t), n->delta,
                              LIBRARY(4, uint8_t), n->code_key, LIBRARY(5, uint8_t), n->label,
                              LIBRARY(6, uint8_t), n->noise, LIBRARY(7, uint8_t), n->scalar));
-    plain = plain_deal(x->field, x->depth, x->trees, x->terms, x->outputs,
+    plain = plain_deal(x->field, x->depth, x->branch_bits, x->trees, x->terms, x->outputs,
                        PLAIN(0, uint8_t), n->roots, PLAIN(1, uint32_t), n->positions,
                        PLAIN(2, uint64_t), n->values, PLAIN(3, uint8_t), n->delta,
                        PLAIN(4, uint8_t), n->code_key, PLAIN(5, uint8_t), n->label,
@@ -173,7 +174,7 @@ static uint32_t try_scalar_pads(size_t first, size_t count, const uint8_t *w, si
 
 /* ---- One dealing and what its ends hold ---- */
 
-enum { MOST = 1 << 16, SIZES = 4 };
+enum { MOST = 1 << 16, SIZES = 5 };
 
 static struct dealing x;
 static uint8_t noise_record[EXPANDER_NOISE_RECORD_MAX + 8];
@@ -436,7 +437,7 @@ static void spoil_deal(struct deal_lengths *n, size_t trees)
                                &n->label, &n->noise, &n->scalar};
     const size_t whole[] = {16 * trees, trees, trees, 16, 16, 16};
     size_t *len;
-    switch (random_below(14)) {
+    switch (random_below(15)) {
     case 0:
         x.field = (uint8_t)(random_below(2) ? 0 : 3 + random_below(253));
         break;
@@ -492,6 +493,10 @@ static void spoil_deal(struct deal_lengths *n, size_t trees)
         len = lengths[6 + random_below(2)];
         *len = random_below(2) ? 0 : *len - (*len > 0);
         break;
+    case 14:
+        x.branch_bits = (size_t[]){0, 1, 2, 3, 4, SIZE_MAX, far + x.branch_bits, far}[
+            random_below(8)];
+        break;
     }
 }
 
@@ -500,10 +505,11 @@ static void faulty_deals(int rounds)
     for (int round = 0; round < rounds; round++) {
         struct deal_lengths n;
         unsigned field = 1 + (unsigned)random_below(2);
-        size_t trees;
-        make_any_dealing(&x, field, 1 + random_below(8));
+        size_t trees, depth = 1 + random_below(8);
+        make_any_dealing(&x, field, depth, some_branch_bits(depth));
         if (random_below(16) == 0) /* every leaf taken where N is at most 64 */
-            make_dealing(&x, x.field, x.depth, most_trees(x.depth), x.terms, x.outputs);
+            make_dealing(&x, x.field, x.depth, x.branch_bits, most_trees(x.depth), x.terms,
+                         x.outputs);
         leaves = (size_t)1 << x.depth;
         noise_record_len = EXPANDER_NOISE_RECORD_MAX;
         scalar_record_len = EXPANDER_SCALAR_RECORD_MAX;
@@ -521,7 +527,7 @@ static void faulty_deals(int rounds)
 
 /* What can be wrong with a dealing: at least one fault for each size, input and buffer. The tests
  * come in the order of their numbers. */
-enum { DEAL_FAULTS = 25 };
+enum { DEAL_FAULTS = 28 };
 
 /* Put fault k into a dealing of x of depth 4 and three trees, with lengths n; its number. */
 static uint32_t deal_fault(int k, struct deal_lengths *n)
@@ -568,8 +574,13 @@ static uint32_t deal_fault(int k, struct deal_lengths *n)
     case 12:
         x.depth = 0;
         return 2;
+    case 13:
+    case 14:
+    case 15:
+        x.branch_bits = (size_t[]){0, 3, 4}[k - 13];
+        return 2;
     default: /* an input empty, then one long */
-        k -= 13;
+        k -= 16;
         *inputs[k % 6] = k < 6 ? 0 : *inputs[k % 6] + 1;
         return 3;
     }
@@ -581,7 +592,7 @@ static void two_deal_faults(void)
     static struct dealing whole;
     for (unsigned field = 1; field <= 2; field++) {
         struct deal_lengths lengths;
-        make_dealing(&whole, field, 4, 3, 2, 8);
+        make_dealing(&whole, field, 4, 2, 3, 2, 8);
         x = whole;
         EXPECT(deal().number == 0);
         lengths = exact_lengths();
@@ -604,18 +615,22 @@ static void sizes_at_bounds(void)
 {
     for (unsigned field = 1; field <= 2; field++)
         for (size_t d = 1; d <= 16; d++) {
-            const size_t most[4] = {16, most_trees(d), 32, (size_t)1 << (d - 1)};
-            for (int which = 1; which < 4; which++)
+            const size_t most[3] = {most_trees(d), 32, (size_t)1 << (d - 1)};
+            for (size_t g = 0; g <= 5; g++) {
+                make_dealing(&x, field, d, g, 1, 1, 1);
+                EXPECT(deal().number == (may_branch(d, g) ? 0 : 2));
+            }
+            for (int which = 0; which < 3; which++)
                 for (int how = 0; how < 4; how++) {
-                    size_t size[4] = {d, 1, 1, 1};
+                    size_t size[3] = {1, 1, 1};
                     const size_t value[4] = {0, 1, most[which], most[which] + 1};
                     struct deal_lengths n = {0, 0, 0, 16, 16, 16, EXPANDER_NOISE_RECORD_MAX,
                                              EXPANDER_SCALAR_RECORD_MAX};
                     size[which] = value[how];
-                    make_dealing(&x, field, d, most_trees(d), 1, 1);
-                    x.trees = size[1];
-                    x.terms = size[2];
-                    x.outputs = size[3];
+                    make_dealing(&x, field, d, some_branch_bits(d), most_trees(d), 1, 1);
+                    x.trees = size[0];
+                    x.terms = size[1];
+                    x.outputs = size[2];
                     n.positions = n.values = x.trees;
                     n.roots = 16 * x.trees;
                     EXPECT(try_deal(&x, &n, NULL, NULL).number == (how % 3 == 0 ? 2 : 0));
@@ -627,12 +642,20 @@ static void sizes_at_bounds(void)
 static void longest_records(void)
 {
     for (unsigned field = 1; field <= 2; field++) {
-        make_dealing(&x, field, 16, MAX_TREES, 32, MOST / 2);
-        for (uint32_t i = 0; i < MAX_TREES; i++) /* three numbers of three bytes, then of two */
-            x.positions[i] = i < 3 ? 16384 + 16385 * i : 49154 + 129 * (i - 2);
+        make_dealing(&x, field, 15, 3, MAX_TREES, 32, MOST / 4);
+        for (uint32_t i = 0; i < MAX_TREES; i++) /* a number of three bytes, then of two */
+            x.positions[i] = 16384 + 129 * i;
         EXPECT(deal().number == 0);
         EXPECT(noise_record_len == EXPANDER_NOISE_RECORD_MAX);
         EXPECT(field == 2 || scalar_record_len == EXPANDER_SCALAR_RECORD_MAX);
+        for (size_t g = 1; g <= 2; g++) {
+            make_dealing(&x, field, 16, g, MAX_TREES, 32, MOST / 2);
+            for (uint32_t i = 0; i < MAX_TREES; i++) /* three numbers of three bytes, then of two */
+                x.positions[i] = i < 3 ? 16384 + 16385 * i : 49154 + 129 * (i - 2);
+            EXPECT(deal().number == 0);
+            EXPECT(noise_record_len == (g == 1 ? 17580 : 25772));
+            EXPECT(field == 2 || scalar_record_len == EXPANDER_SCALAR_RECORD_MAX);
+        }
     }
 }
 
@@ -672,7 +695,7 @@ static void damaged_records(void)
             const uint8_t values[] = {0x00, 0x01, 0x7f, 0x80, 0xff,
                                       (uint8_t)(copy[at] ^ 1 << random_below(8)),
                                       (uint8_t)(copy[at] + 1)};
-            size_t tries = at < 40 ? sizeof values : 2, from = random_below(sizeof values);
+            size_t tries = at < 41 ? sizeof values : 2, from = random_below(sizeof values);
             for (size_t k = 0; k < tries; k++) {
                 copy[at] = values[(from + k) % sizeof values];
                 try_record(end, copy, len);
@@ -763,19 +786,22 @@ static void raw_delta(unsigned field)
     }
 }
 
-static void raw_record(int end, unsigned field, size_t d, size_t t, size_t n)
+static void raw_record(int end, unsigned field, size_t d, size_t g, size_t t, size_t n)
 {
     size_t next = 0, all;
     raw_len = 0;
     raw[raw_len++] = (uint8_t)(odd() ? (unsigned)random_below(4) : (unsigned)end);
     raw[raw_len++] = (uint8_t)(odd() ? (unsigned)random_below(4) : field);
     d = raw_size(d, 16) & 31;
+    g = raw_size(g, 3) & 3;
     t = raw_size(t, d <= 16 ? most_trees(d) : 64);
     raw_size(1 + random_below(32), 32);
     raw_size(n, d >= 1 && d <= 16 ? (size_t)1 << (d - 1) : 1);
     raw_any(16 + 16);
     if (d > 16)
         d = 16;
+    if (g == 0)
+        g = 1;
     if (t > MAX_TREES)
         t = MAX_TREES;
     all = (size_t)1 << d;
@@ -797,8 +823,8 @@ static void raw_record(int end, unsigned field, size_t d, size_t t, size_t n)
                 raw_element_word();
             else
                 raw_any(16);
-            raw_any(16 * d);
-            if (odd()) { /* a leaf's word at the edges of the reduction modulo p */
+            raw_any(16 * (d / g) * (((size_t)1 << g) - 1));
+            if (d >= g && odd()) { /* a leaf's word at the edges of the reduction modulo p */
                 const uint64_t others[] = {0, P - 1, P, P + 1, 2 * P - 1, 2 * P, 7 * P, 8 * P,
                                            8 * P + 1, UINT64_MAX};
                 raw_len -= 16;
@@ -830,7 +856,7 @@ static void odd_records(int rounds)
         width = field == 1 ? 2 : 1;
         x.outputs = n = 1 + random_below(leaves / 2);
         oddness = (int[]){0, 8, 16, 16, 40, 40}[random_below(6)];
-        raw_record(end, field, d, t, n);
+        raw_record(end, field, d, some_branch_bits(d), t, n);
         for (size_t j = 0; j < leaves; j++) {
             noise[j] = field == 1 ? random_word() & 1 : random_word() % P;
             v[j] = random_word() % P;
@@ -895,7 +921,7 @@ static void find_fields(int end)
         if (x.field == 2)
             next_field(VALUE, 8);
         next_field(CORRECTION, 8 * width);
-        next_field(ANY, 16 * x.depth);
+        next_field(ANY, 16 * (x.depth / x.branch_bits) * (((size_t)1 << x.branch_bits) - 1));
     }
     next_field(AFTER, 0);
 }
@@ -1023,13 +1049,14 @@ static void two_faults_of(int end)
 
 static void two_record_faults(void)
 {
-    for (unsigned field = 1; field <= 2; field++) {
-        make_dealing(&x, field, 3, 2, 3, 4);
-        EXPECT(deal().number == 0);
-        offline();
-        two_faults_of(1);
-        two_faults_of(2);
-    }
+    for (unsigned field = 1; field <= 2; field++)
+        for (size_t g = 1; g <= 3; g += 2) {
+            make_dealing(&x, field, 3, g, 2, 3, 4);
+            EXPECT(deal().number == 0);
+            offline();
+            two_faults_of(1);
+            two_faults_of(2);
+        }
 }
 
 /* ---- Labels (document 02, 8) ---- */
@@ -1037,7 +1064,7 @@ static void two_record_faults(void)
 /* Where the label stands in both records of x: after end, field, sizes and code key. */
 static size_t label_at(void)
 {
-    const size_t sizes[SIZES] = {x.depth, x.trees, x.terms, x.outputs};
+    const size_t sizes[SIZES] = {x.depth, x.branch_bits, x.trees, x.terms, x.outputs};
     size_t at = 2 + 16;
     uint8_t bytes[3];
     for (int k = 0; k < SIZES; k++)
@@ -1053,7 +1080,7 @@ static void label_alone(size_t depth, unsigned field)
     static uint64_t other[2 * MOST];
     struct deal_lengths n;
     size_t at, bit = random_below(128), c;
-    make_any_dealing(&x, field, depth);
+    make_any_dealing(&x, field, depth, some_branch_bits(depth));
     EXPECT(deal().number == 0);
     offline();
     c = x.outputs;
@@ -1108,7 +1135,7 @@ static void edge_products(void)
     const uint64_t elements[] = {1, 2, 3, (uint64_t)1 << 60, P / 2, P - 2, P - 1};
     for (size_t a = 0; a < 7; a++)
         for (size_t b = 0; b < 7; b++) { /* Delta times a noise value */
-            make_dealing(&x, 2, 1, 1, 1, 1);
+            make_dealing(&x, 2, 1, 1, 1, 1, 1);
             for (int k = 0; k < 8; k++)
                 x.delta[k] = (uint8_t)(elements[a] >> (8 * k));
             x.values[0] = elements[b];
@@ -1120,7 +1147,7 @@ static void edge_products(void)
             uint64_t first, second, out;
             size_t i, j;
             do {
-                make_dealing(&x, 2, 4, 1, 2, 1);
+                make_dealing(&x, 2, 4, 1, 1, 2, 1);
                 plain_expand_key(&code, x.code_key);
                 i = plain_term(&code, 2, 4, 0, 0, &first);
                 j = plain_term(&code, 2, 4, 0, 1, &second);
@@ -1143,7 +1170,7 @@ static void edge_sums(void)
     const uint64_t elements[] = {0, 1, 7, P / 2, P - 8, P - 7, P - 2, P - 1};
     const uint64_t words[] = {0, 1, P - 1, P, P + 1, 2 * P - 1, 2 * P, 2 * P + 1, 7 * P - 1, 7 * P,
                               8 * P - 1, 8 * P, 8 * P + 1, UINT64_MAX};
-    static const uint8_t head[] = {1, 2, 1, 2, 5, 1};
+    static const uint8_t head[] = {1, 2, 1, 1, 2, 5, 1};
     leaves = 2;
     width = 1;
     for (size_t a = 0; a < sizeof elements / sizeof *elements; a++)
@@ -1328,23 +1355,23 @@ static void cases(void)
 {
     for (unsigned field = 1; field <= 2; field++) {
         result r;
-        make_dealing(&x, field, 1, 1, 1, 1);
+        make_dealing(&x, field, 1, 1, 1, 1, 1);
         r = deal();
-        EXPECT(r.number == 0 && r.first == 71 && r.second == (field == 1 ? 70 : 62));
-        EXPECT(try_offline(1, noise_record, 70, 8, 8, NULL, NULL).number == 10);
-        noise_record[71] = 0;
-        EXPECT(try_offline(1, noise_record, 72, 8, 8, NULL, NULL).number == 12);
+        EXPECT(r.number == 0 && r.first == 72 && r.second == (field == 1 ? 71 : 63));
+        EXPECT(try_offline(1, noise_record, 71, 8, 8, NULL, NULL).number == 10);
+        noise_record[72] = 0;
+        EXPECT(try_offline(1, noise_record, 73, 8, 8, NULL, NULL).number == 12);
         noise_record[2] = 0x80; /* d as 80 00 */
         noise_record[3] = 0x00;
-        EXPECT(try_offline(1, noise_record, 71, 8, 8, NULL, NULL).number == 11);
+        EXPECT(try_offline(1, noise_record, 72, 8, 8, NULL, NULL).number == 11);
 
-        make_dealing(&x, field, 3, 3, 2, 4);
+        make_dealing(&x, field, 3, 1, 3, 2, 4);
         x.positions[0] = 1;
         x.positions[1] = 4;
         x.positions[2] = 5;
         EXPECT(deal().number == 0);
-        EXPECT(noise_record[38] == 1 && noise_record[38 + 65] == 2
-               && noise_record[38 + 2 * 65] == 0);
+        EXPECT(noise_record[39] == 1 && noise_record[39 + 65] == 2
+               && noise_record[39 + 2 * 65] == 0);
         offline();
         EXPECT(noise_window(3, 1, 1, width, NULL, NULL) == 0);
         EXPECT(noise_window(3, 2, 2, 2 * width, NULL, NULL) == 7);
@@ -1359,7 +1386,7 @@ static void cases(void)
         EXPECT(deal().number == 4);
 
         /* Noise at 1 and 4, accumulated. */
-        make_dealing(&x, field, 3, 2, 1, 4);
+        make_dealing(&x, field, 3, 1, 2, 1, 4);
         x.positions[0] = 1;
         x.positions[1] = 4;
         x.values[0] = field == 1 ? 1 : 5;
@@ -1391,21 +1418,28 @@ int main(void)
         for (size_t depth = 1; depth <= 4; depth++)
             for (int round = 0; round < 6; round++) {
                 size_t trees = 1 + random_below(2), terms = 1 + random_below(4);
-                make_dealing(&x, field, depth, trees, terms, (size_t)1 << (depth - 1));
+                size_t g = some_branch_bits(depth);
+                make_dealing(&x, field, depth, g, trees, terms, (size_t)1 << (depth - 1));
                 damaged_records();
             }
-        for (size_t depth = 1; depth <= 10; depth++)
-            for (int round = 0; round < (depth <= 7 ? 12 : 3); round++) {
-                make_any_dealing(&x, field, depth);
-                whole_dealing(0);
-            }
-        for (size_t depth = 11; depth <= 16; depth++) {
-            size_t trees = 1 + random_below(8), terms = 1 + random_below(32);
-            make_dealing(&x, field, depth, trees, terms,
-                         1 + random_below((size_t)1 << (depth - 1)));
-            whole_dealing(1);
+        for (size_t g = 1; g <= 3; g++) {
+            for (size_t depth = g; depth <= 10; depth += g)
+                for (int round = 0; round < (depth <= 7 ? 10 : 2); round++) {
+                    make_any_dealing(&x, field, depth, g);
+                    whole_dealing(0);
+                }
+            for (size_t depth = 12; depth <= 16; depth++)
+                if (may_branch(depth, g)) {
+                    size_t trees = 1 + random_below(8), terms = 1 + random_below(32);
+                    make_dealing(&x, field, depth, g, trees, terms,
+                                 1 + random_below((size_t)1 << (depth - 1)));
+                    whole_dealing(1);
+                }
         }
-        make_dealing(&x, field, 16, 64, 32, 32768);
+    }
+    for (size_t g = 1; g <= 3; g++) { /* the largest sizes */
+        size_t depth = g == 3 ? 15 : 16;
+        make_dealing(&x, g == 2 ? 2 : 1, depth, g, 64, 32, (size_t)1 << (depth - 1));
         whole_dealing(1);
     }
     return finish();

@@ -1,4 +1,6 @@
-/* A plain second implementation of document 01 with document 02's requests 4 and 8 (plain.h). */
+/* A plain second implementation of document 01 with document 02's requests 4, 8 and 10
+ * (plain.h).
+ */
 #include "plain.h"
 
 #include <string.h>
@@ -7,6 +9,8 @@ __extension__ typedef unsigned __int128 wide;
 
 #define P PLAIN_P
 #define MAX_TREES 64
+#define MAX_CHILDREN 8
+#define MAX_SIBLINGS 35 /* d = 15, g = 3 */
 #define MAX_PAD_INDEX 32768
 
 typedef struct plain_block block;
@@ -17,7 +21,7 @@ typedef struct plain_result result;
 
 static uint8_t sbox[256];
 static uint32_t mix[4][256]; /* SubBytes and MixColumns of a byte in row 0, 1, 2, 3 */
-static round_keys child_keys[2], pad_key;
+static round_keys child_keys[MAX_CHILDREN], pad_key;
 static int ready;
 
 static uint8_t xtime(uint8_t a)
@@ -68,10 +72,10 @@ static void start(void)
             mix[row][x] = rotate_left(mix[0][x], 8 * row);
     }
     ready = 1;
-    memset(key, 0x00, 16);
-    plain_expand_key(&child_keys[0], key);
-    memset(key, 0x01, 16);
-    plain_expand_key(&child_keys[1], key);
+    for (unsigned c = 0; c < MAX_CHILDREN; c++) {
+        memset(key, (int)c, 16);
+        plain_expand_key(&child_keys[c], key);
+    }
     memset(key, 0xff, 16);
     plain_expand_key(&pad_key, key);
 }
@@ -255,15 +259,24 @@ static block load_element(unsigned field, const uint8_t *bytes)
 
 /* ---- Trees ---- */
 
-static block child(unsigned side, block s)
+static block child(unsigned c, block s)
 {
-    return exclusive_or(plain_encrypt(&child_keys[side], s), s);
+    return exclusive_or(plain_encrypt(&child_keys[c], s), s);
 }
 
-block plain_child(unsigned side, block s)
+/* A tree's levels take g bits of a path each, the highest first. */
+struct shape {
+    unsigned depth, branch_bits;
+};
+
+static unsigned children_of(struct shape tree)
 {
-    start();
-    return child(side, s);
+    return 1u << tree.branch_bits;
+}
+
+static size_t siblings_of(struct shape tree)
+{
+    return (size_t)(tree.depth / tree.branch_bits) * (children_of(tree) - 1);
 }
 
 static block leaf_element(unsigned field, block leaf)
@@ -285,16 +298,54 @@ static void add_element(unsigned field, uint64_t *sum, block a)
     }
 }
 
-/* Add the elements of all leaves below s, which is `levels` above them, to sum. */
-static void add_subtree(unsigned field, block s, unsigned levels, uint64_t *sum)
+/* Add the elements of all leaves of the tree below s to sum. */
+static void add_tree(unsigned field, block s, struct shape tree, uint64_t *sum)
 {
-    if (levels == 0) {
+    unsigned children = children_of(tree);
+    size_t part;
+    if (tree.depth == 0) {
         add_element(field, sum, leaf_element(field, s));
         return;
     }
-    add_subtree(field, child(0, s), levels - 1, sum);
-    add_subtree(field, child(1, s), levels - 1,
-                sum + ((size_t)width_of(field) << (levels - 1)));
+    tree.depth -= tree.branch_bits;
+    part = (size_t)width_of(field) << tree.depth;
+    for (unsigned c = 0; c < children; c++)
+        add_tree(field, child(c, s), tree, sum + c * part);
+}
+
+/* Add the elements of all leaves of the tree but the one at position, from the siblings. */
+static void add_punctured(unsigned field, const uint8_t *siblings, uint32_t position,
+                          struct shape tree, uint64_t *sum)
+{
+    unsigned children = children_of(tree);
+    while (tree.depth > 0) {
+        uint32_t digit, front;
+        tree.depth -= tree.branch_bits;
+        digit = position >> tree.depth & (children - 1);
+        front = (position >> tree.depth) - digit;
+        for (uint32_t c = 0; c < children; c++)
+            if (c != digit) {
+                size_t from = (size_t)(front + c) << tree.depth;
+                add_tree(field, plain_load(siblings), tree, sum + width_of(field) * from);
+                siblings += 16;
+            }
+    }
+}
+
+/* The leaf of the tree below s at position, and the siblings beside the path to it. */
+static block puncture(block s, uint32_t position, struct shape tree, block *siblings)
+{
+    unsigned children = children_of(tree);
+    while (tree.depth > 0) {
+        uint32_t digit;
+        tree.depth -= tree.branch_bits;
+        digit = position >> tree.depth & (children - 1);
+        for (uint32_t c = 0; c < children; c++)
+            if (c != digit)
+                *siblings++ = child(c, s);
+        s = child(digit, s);
+    }
+    return s;
 }
 
 /* ---- Records ---- */
@@ -303,11 +354,12 @@ struct tree {
     uint32_t position;
     uint64_t value;
     block correction;
-    const uint8_t *siblings; /* d blocks */
+    const uint8_t *siblings; /* siblings_of(shape) blocks */
 };
 
 struct record {
-    unsigned field, depth, trees, terms, outputs;
+    unsigned field, trees, terms, outputs;
+    struct shape shape;
     const uint8_t *code_key, *label;
     struct tree tree[MAX_TREES]; /* noise record */
     block delta;                 /* scalar record */
@@ -364,6 +416,11 @@ static int depth_admitted(size_t d)
     return d >= 1 && d <= 16;
 }
 
+static int branch_bits_admitted(size_t d, size_t g)
+{
+    return g >= 1 && g <= 3 && d % g == 0;
+}
+
 static int trees_admitted(size_t d, size_t t)
 {
     size_t leaves = (size_t)1 << d;
@@ -393,13 +450,17 @@ static uint32_t read_head(struct reader *in, unsigned end, struct record *r)
     if (*byte != 1 && *byte != 2)
         return 1;
     r->field = *byte;
-    if ((number = take_number(in, &r->depth)) != 0)
+    if ((number = take_number(in, &r->shape.depth)) != 0)
         return number;
-    if (!depth_admitted(r->depth))
+    if (!depth_admitted(r->shape.depth))
+        return 2;
+    if ((number = take_number(in, &r->shape.branch_bits)) != 0)
+        return number;
+    if (!branch_bits_admitted(r->shape.depth, r->shape.branch_bits))
         return 2;
     if ((number = take_number(in, &r->trees)) != 0)
         return number;
-    if (!trees_admitted(r->depth, r->trees))
+    if (!trees_admitted(r->shape.depth, r->trees))
         return 2;
     if ((number = take_number(in, &r->terms)) != 0)
         return number;
@@ -407,7 +468,7 @@ static uint32_t read_head(struct reader *in, unsigned end, struct record *r)
         return 2;
     if ((number = take_number(in, &r->outputs)) != 0)
         return number;
-    if (!outputs_admitted(r->depth, r->outputs))
+    if (!outputs_admitted(r->shape.depth, r->outputs))
         return 2;
     if ((r->code_key = take(in, 16)) == NULL)
         return 10;
@@ -428,7 +489,7 @@ static uint32_t read_noise_record(const uint8_t *source, size_t source_len, stru
         if ((number = take_number(&in, &x)) != 0)
             return number;
         tree->position = next + x;
-        if (tree->position >= (uint32_t)1 << r->depth)
+        if (tree->position >= (uint32_t)1 << r->shape.depth)
             return 4;
         next = tree->position + 1;
         tree->value = 1;
@@ -444,7 +505,7 @@ static uint32_t read_noise_record(const uint8_t *source, size_t source_len, stru
         tree->correction = load_element(r->field, bytes);
         if (!is_element(r->field, tree->correction.lo))
             return 8;
-        if ((tree->siblings = take(&in, 16 * (size_t)r->depth)) == NULL)
+        if ((tree->siblings = take(&in, 16 * siblings_of(r->shape))) == NULL)
             return 10;
     }
     return in.left > 0 ? 12 : 0;
@@ -494,19 +555,21 @@ static uint8_t *put_element(uint8_t *to, unsigned field, block a)
     return put(to, bytes, element_bytes(field));
 }
 
-static uint8_t *put_head(uint8_t *to, uint8_t end, uint8_t field, const uint32_t sizes[4],
+enum { SIZES = 5 }; /* d, g, t, l, n */
+
+static uint8_t *put_head(uint8_t *to, uint8_t end, uint8_t field, const uint32_t sizes[SIZES],
                          const uint8_t *code_key, const uint8_t *label)
 {
     *to++ = end;
     *to++ = field;
-    for (unsigned k = 0; k < 4; k++)
+    for (unsigned k = 0; k < SIZES; k++)
         to += plain_write_number(to, sizes[k]);
     to = put(to, code_key, 16);
     return put(to, label, 16);
 }
 
 result plain_deal(
-    uint8_t field, size_t depth, size_t trees, size_t terms, size_t outputs,
+    uint8_t field, size_t depth, size_t branch_bits, size_t trees, size_t terms, size_t outputs,
     const uint8_t *roots, size_t roots_len, const uint32_t *positions, size_t positions_len,
     const uint64_t *values, size_t values_len, const uint8_t *delta, size_t delta_len,
     const uint8_t *code_key, size_t code_key_len, const uint8_t *label, size_t label_len,
@@ -514,14 +577,16 @@ result plain_deal(
     size_t scalar_record_len)
 {
     size_t head_len, noise_len, scalar_len;
-    uint32_t sizes[4];
+    uint32_t sizes[SIZES];
+    struct shape shape;
     block scalar;
     uint8_t *to;
 
     start();
     if (field != 1 && field != 2)
         return refused(1);
-    if (!depth_admitted(depth) || !trees_admitted(depth, trees) || !terms_admitted(terms)
+    if (!depth_admitted(depth) || !branch_bits_admitted(depth, branch_bits)
+        || !trees_admitted(depth, trees) || !terms_admitted(terms)
         || !outputs_admitted(depth, outputs))
         return refused(2);
     if (roots_len != 16 * trees || positions_len != trees || values_len != trees
@@ -538,14 +603,18 @@ result plain_deal(
         return refused(6);
 
     sizes[0] = (uint32_t)depth;
-    sizes[1] = (uint32_t)trees;
-    sizes[2] = (uint32_t)terms;
-    sizes[3] = (uint32_t)outputs;
+    sizes[1] = (uint32_t)branch_bits;
+    sizes[2] = (uint32_t)trees;
+    sizes[3] = (uint32_t)terms;
+    sizes[4] = (uint32_t)outputs;
+    shape.depth = sizes[0];
+    shape.branch_bits = sizes[1];
     head_len = 2 + 16 + 16;
-    for (unsigned k = 0; k < 4; k++)
+    for (unsigned k = 0; k < SIZES; k++)
         head_len += number_length(sizes[k]);
     scalar_len = head_len + element_bytes(field) + 16 * trees;
-    noise_len = head_len + trees * ((field == 2 ? 8 : 0) + element_bytes(field) + 16 * depth);
+    noise_len = head_len
+              + trees * ((field == 2 ? 8 : 0) + element_bytes(field) + 16 * siblings_of(shape));
     for (size_t i = 0; i < trees; i++)
         noise_len += number_length(i == 0 ? positions[0] : positions[i] - positions[i - 1] - 1);
     if (noise_record_len < noise_len || scalar_record_len < scalar_len)
@@ -554,22 +623,17 @@ result plain_deal(
     to = put_head(noise_record, 1, field, sizes, code_key, label);
     for (size_t i = 0; i < trees; i++) {
         uint32_t s = positions[i];
-        block node = plain_load(roots + 16 * i);
-        block siblings[16];
-        for (size_t k = 0; k < depth; k++) {
-            unsigned side = s >> (depth - 1 - k) & 1;
-            siblings[k] = child(1 - side, node);
-            node = child(side, node);
-        }
+        block siblings[MAX_SIBLINGS];
+        block leaf = puncture(plain_load(roots + 16 * i), s, shape, siblings);
         to += plain_write_number(to, i == 0 ? s : s - positions[i - 1] - 1);
         if (field == 2) {
             store_word(to, values[i]);
             to += 8;
         }
         to = put_element(to, field,
-                         plain_subtract(field, leaf_element(field, node),
+                         plain_subtract(field, leaf_element(field, leaf),
                                         plain_scale(field, scalar, values[i])));
-        for (size_t k = 0; k < depth; k++) {
+        for (size_t k = 0; k < siblings_of(shape); k++) {
             plain_store(to, siblings[k]);
             to += 16;
         }
@@ -608,7 +672,7 @@ result plain_noise_offline(
     start();
     if (number != 0)
         return refused(number);
-    leaves = (size_t)1 << r.depth;
+    leaves = (size_t)1 << r.shape.depth;
     width = width_of(r.field);
     if (noise_len < leaves || v_len < width * leaves)
         return refused(13);
@@ -618,11 +682,7 @@ result plain_noise_offline(
     for (unsigned i = 0; i < r.trees; i++) {
         const struct tree *tree = &r.tree[i];
         noise[tree->position] = tree->value;
-        for (unsigned k = 0; k < r.depth; k++) {
-            unsigned levels = r.depth - 1 - k;
-            size_t from = (size_t)(tree->position >> levels ^ 1) << levels;
-            add_subtree(r.field, plain_load(tree->siblings + 16 * k), levels, v + width * from);
-        }
+        add_punctured(r.field, tree->siblings, tree->position, r.shape, v);
         add_element(r.field, v + width * tree->position, tree->correction);
     }
     plain_accumulate_noise(r.field, noise, leaves);
@@ -640,14 +700,14 @@ result plain_scalar_offline(
     start();
     if (number != 0)
         return refused(number);
-    leaves = (size_t)1 << r.depth;
+    leaves = (size_t)1 << r.shape.depth;
     width = width_of(r.field);
     if (w_len < width * leaves || delta_len < 2)
         return refused(13);
 
     memset(w, 0, 8 * width * leaves);
     for (unsigned i = 0; i < r.trees; i++)
-        add_subtree(r.field, plain_load(r.roots + 16 * i), r.depth, w);
+        add_tree(r.field, plain_load(r.roots + 16 * i), r.shape, w);
     accumulate(r.field, w, leaves);
     delta[0] = r.delta.lo;
     delta[1] = r.delta.hi;
@@ -674,7 +734,7 @@ static int noise_word_admitted(unsigned field, uint64_t word)
 static int words_admitted(const struct record *r, const round_keys *code, const uint64_t *noise,
                           const uint64_t *elements, size_t first, size_t count)
 {
-    size_t leaves = (size_t)1 << r->depth, j;
+    size_t leaves = (size_t)1 << r->shape.depth, j;
     uint64_t coefficient;
 
     /* Where no word at all is wrong there is no need to look at the rows. */
@@ -687,7 +747,7 @@ static int words_admitted(const struct record *r, const round_keys *code, const 
 
     for (size_t x = first; x < first + count; x++)
         for (unsigned i = 0; i < r->terms; i++) {
-            j = plain_term(code, r->field, r->depth, x, i, &coefficient);
+            j = plain_term(code, r->field, r->shape.depth, x, i, &coefficient);
             if ((noise != NULL && !noise_word_admitted(r->field, noise[j]))
                 || (r->field == 2 && !is_element(2, elements[j])))
                 return 0;
@@ -711,7 +771,7 @@ result plain_noise_online(
     uint32_t number = read_noise_record(source, source_len, &r);
     if (number != 0)
         return refused(number);
-    leaves = (size_t)1 << r.depth;
+    leaves = (size_t)1 << r.shape.depth;
     width = width_of(r.field);
     if (noise_len != leaves || v_len != width * leaves)
         return refused(3);
@@ -727,7 +787,7 @@ result plain_noise_online(
         uint64_t coefficient, u = 0;
         block sum = {0, 0};
         for (unsigned i = 0; i < r.terms; i++) {
-            size_t j = plain_term(&code, r.field, r.depth, first + k, i, &coefficient);
+            size_t j = plain_term(&code, r.field, r.shape.depth, first + k, i, &coefficient);
             if (r.field == 1) {
                 u ^= noise[j];
                 sum.lo ^= v[2 * j];
@@ -755,7 +815,7 @@ result plain_scalar_online(
     uint32_t number = read_scalar_record(source, source_len, &r);
     if (number != 0)
         return refused(number);
-    leaves = (size_t)1 << r.depth;
+    leaves = (size_t)1 << r.shape.depth;
     width = width_of(r.field);
     if (w_len != width * leaves)
         return refused(3);
@@ -771,7 +831,7 @@ result plain_scalar_online(
         uint64_t coefficient;
         block sum = {0, 0};
         for (unsigned i = 0; i < r.terms; i++) {
-            size_t j = plain_term(&code, r.field, r.depth, first + k, i, &coefficient);
+            size_t j = plain_term(&code, r.field, r.shape.depth, first + k, i, &coefficient);
             if (r.field == 1) {
                 sum.lo ^= w[2 * j];
                 sum.hi ^= w[2 * j + 1];

@@ -1,6 +1,6 @@
-/* A plain second implementation of document 01 with document 02's requests 4 (pads) and 8 (labels),
- * to hold the library to. Written from those documents and FIPS 197 alone. Parameters lie as in
- * expander.h.
+/* A plain second implementation of document 01 with document 02's requests 4 (pads), 8 (labels) and
+ * 10 (flatter trees), to hold the library to. Written from those documents and FIPS 197 alone.
+ * Parameters lie as in expander.h.
  */
 #ifndef PLAIN_H
 #define PLAIN_H
@@ -32,7 +32,6 @@ struct plain_block plain_load(const uint8_t bytes[16]);
 void plain_store(uint8_t bytes[16], struct plain_block b);
 void plain_expand_key(struct plain_key *key, const uint8_t bytes[16]);
 struct plain_block plain_encrypt(const struct plain_key *key, struct plain_block b);
-struct plain_block plain_child(unsigned side, struct plain_block b);
 size_t plain_write_number(uint8_t bytes[3], uint32_t x);
 uint64_t plain_reduce(uint64_t x);
 struct plain_block plain_add(unsigned field, struct plain_block a, struct plain_block b);
@@ -46,7 +45,7 @@ size_t plain_term(const struct plain_key *code, unsigned field, unsigned depth, 
 
 /* Document 01's seven calls. */
 struct plain_result plain_deal(
-    uint8_t field, size_t depth, size_t trees, size_t terms, size_t outputs,
+    uint8_t field, size_t depth, size_t branch_bits, size_t trees, size_t terms, size_t outputs,
     const uint8_t *roots, size_t roots_len, const uint32_t *positions, size_t positions_len,
     const uint64_t *values, size_t values_len, const uint8_t *delta, size_t delta_len,
     const uint8_t *code_key, size_t code_key_len, const uint8_t *label, size_t label_len,

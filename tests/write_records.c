@@ -2,8 +2,8 @@
  * scalar.key of one dealing, and as other.key the scalar record of a dealing that differs from it in
  * the label alone.
  *   write_records          field 1, a noise record of more than 4,096 bytes
- *   write_records binary   the records of demo/binary
- *   write_records prime    the records of demo/prime
+ *   write_records binary   the records of demo/binary: two children a node
+ *   write_records prime    the records of demo/prime: four children a node
  */
 #include "dealing.h"
 #include "expander.h"
@@ -16,9 +16,9 @@ static uint8_t noise[EXPANDER_NOISE_RECORD_MAX], scalar[EXPANDER_SCALAR_RECORD_M
 
 static struct expander_two_lengths deal(void)
 {
-    return expander_deal(x.field, x.depth, x.trees, x.terms, x.outputs, x.roots, 16 * x.trees,
-                         x.positions, x.trees, x.values, x.trees, x.delta, 16, x.code_key, 16,
-                         x.label, 16, noise, sizeof noise, scalar, sizeof scalar);
+    return expander_deal(x.field, x.depth, x.branch_bits, x.trees, x.terms, x.outputs, x.roots,
+                         16 * x.trees, x.positions, x.trees, x.values, x.trees, x.delta, 16,
+                         x.code_key, 16, x.label, 16, noise, sizeof noise, scalar, sizeof scalar);
 }
 
 static int write_file(const char *name, const uint8_t *bytes, size_t length)
@@ -35,11 +35,11 @@ int main(int argc, char **argv)
     const char *which = argc > 1 ? argv[1] : "";
     struct expander_two_lengths r;
     if (strcmp(which, "binary") == 0)
-        make_dealing(&x, EXPANDER_BINARY, 10, 16, 8, 512);
+        make_dealing(&x, EXPANDER_BINARY, 10, 1, 16, 8, 512);
     else if (strcmp(which, "prime") == 0)
-        make_dealing(&x, EXPANDER_PRIME, 10, 16, 8, 512);
+        make_dealing(&x, EXPANDER_PRIME, 10, 2, 16, 8, 512);
     else
-        make_dealing(&x, EXPANDER_BINARY, 10, 64, 32, 512);
+        make_dealing(&x, EXPANDER_BINARY, 10, 1, 64, 32, 512);
     r = deal();
     if (r.number != EXPANDER_ACCEPTED || (argc == 1 && r.first_written <= 4096)
         || !write_file("noise.key", noise, r.first_written)
@@ -47,5 +47,7 @@ int main(int argc, char **argv)
         return 1;
     x.label[15] ^= 1;
     r = deal();
-    return r.number == EXPANDER_ACCEPTED && write_file("other.key", scalar, r.second_written) ? 0 : 1;
+    return r.number == EXPANDER_ACCEPTED && write_file("other.key", scalar, r.second_written)
+               ? 0
+               : 1;
 }
