@@ -17,7 +17,8 @@
  *   g  branch bits, 1, 2 or 3: a node has 2^g children, so a tree has d / g levels; d is a multiple
  *      of g
  *   t  trees, each with one noise place, 1 to the smaller of 64 and N
- *   l  terms in a row of the code, 1 to 32
+ *   l  terms in a row of the code, 1 to the smaller of 32 and N; a row reads exactly l places, one
+ *      in each of l strips of N / l (rounded down)
  *   n  outputs, 1 to N / 2
  *
  * Fields

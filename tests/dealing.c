@@ -47,6 +47,11 @@ size_t most_trees(size_t depth)
     return depth < 6 ? (size_t)1 << depth : MAX_TREES;
 }
 
+size_t most_terms(size_t depth)
+{
+    return depth < 5 ? (size_t)1 << depth : 32;
+}
+
 void make_dealing(struct dealing *x, unsigned field, size_t depth, size_t branch_bits,
                   size_t trees, size_t terms, size_t outputs)
 {
@@ -107,7 +112,7 @@ static size_t some_size(size_t most)
 
 void make_any_dealing(struct dealing *x, unsigned field, size_t depth, size_t branch_bits)
 {
-    size_t trees = some_size(most_trees(depth)), terms = some_size(32);
+    size_t trees = some_size(most_trees(depth)), terms = some_size(most_terms(depth));
     make_dealing(x, field, depth, branch_bits, trees, terms,
                  some_size((size_t)1 << (depth - 1)));
 }

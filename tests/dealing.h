@@ -26,8 +26,9 @@ void random_bytes(void *to, size_t bytes);
 /* Whether trees of this depth may branch by so many bits. */
 int may_branch(size_t depth, size_t branch_bits);
 
-/* The largest t for depth d. */
+/* The largest t and the largest l for depth d. */
 size_t most_trees(size_t depth);
+size_t most_terms(size_t depth);
 
 /* An admitted dealing of this field and these sizes, which are in their ranges. */
 void make_dealing(struct dealing *x, unsigned field, size_t depth, size_t branch_bits,

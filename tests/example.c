@@ -4,7 +4,7 @@
 #include <stdio.h>
 
 enum { DEPTH = 10, N = 1 << DEPTH, BRANCH_BITS = 2 /* four children a node */ };
-enum { TREES = 4, TERMS = 8, OUTPUTS = N / 2, INDEX = 123 };
+enum { TREES = 4, TERMS = 8, OUTPUTS = N / 2, INDEX = 124 };
 
 static uint8_t noise_record[EXPANDER_NOISE_RECORD_MAX];
 static uint8_t scalar_record[EXPANDER_SCALAR_RECORD_MAX];

@@ -321,6 +321,7 @@ static void vary_lengths(void)
 static void vary_words(int rounds)
 {
     static unsigned char used[MOST];
+    size_t strip = leaves / x.terms;
     struct plain_key code;
     plain_expand_key(&code, x.code_key);
     for (int round = 0; round < rounds; round++) {
@@ -334,10 +335,10 @@ static void vary_words(int rounds)
         memset(used, 0, leaves);
         for (size_t k = first; k < first + c; k++)
             for (size_t i = 0; i < x.terms; i++)
-                used[plain_term(&code, x.field, (unsigned)x.depth, k, i, &coefficient)] = 1;
+                used[plain_term(&code, x.field, strip, k, i, &coefficient)] = 1;
         if (c > 0 && random_below(2)) {
             size_t row = first + random_below(c), term = random_below(x.terms);
-            place = plain_term(&code, x.field, (unsigned)x.depth, row, term, &coefficient);
+            place = plain_term(&code, x.field, strip, row, term, &coefficient);
         }
         number = used[place] ? 8 : 0;
 
@@ -449,7 +450,8 @@ static void spoil_deal(struct deal_lengths *n, size_t trees)
                              far + x.trees, far}[random_below(6)];
         break;
     case 3:
-        x.terms = (size_t[]){0, 33, SIZE_MAX, far + x.terms, far}[random_below(5)];
+        x.terms = (size_t[]){0, (leaves < 32 ? leaves : 32) + 1, 33, SIZE_MAX, far + x.terms, far}[
+            random_below(6)];
         break;
     case 4:
         x.outputs = (size_t[]){0, leaves / 2 + 1, SIZE_MAX, far + x.outputs, far}[random_below(5)];
@@ -527,7 +529,7 @@ static void faulty_deals(int rounds)
 
 /* What can be wrong with a dealing: at least one fault for each size, input and buffer. The tests
  * come in the order of their numbers. */
-enum { DEAL_FAULTS = 28 };
+enum { DEAL_FAULTS = 29 };
 
 /* Put fault k into a dealing of x of depth 4 and three trees, with lengths n; its number. */
 static uint32_t deal_fault(int k, struct deal_lengths *n)
@@ -579,8 +581,11 @@ static uint32_t deal_fault(int k, struct deal_lengths *n)
     case 15:
         x.branch_bits = (size_t[]){0, 3, 4}[k - 13];
         return 2;
+    case 16:
+        x.terms = 17;
+        return 2;
     default: /* an input empty, then one long */
-        k -= 16;
+        k -= 17;
         *inputs[k % 6] = k < 6 ? 0 : *inputs[k % 6] + 1;
         return 3;
     }
@@ -615,7 +620,7 @@ static void sizes_at_bounds(void)
 {
     for (unsigned field = 1; field <= 2; field++)
         for (size_t d = 1; d <= 16; d++) {
-            const size_t most[3] = {most_trees(d), 32, (size_t)1 << (d - 1)};
+            const size_t most[3] = {most_trees(d), most_terms(d), (size_t)1 << (d - 1)};
             for (size_t g = 0; g <= 5; g++) {
                 make_dealing(&x, field, d, g, 1, 1, 1);
                 EXPECT(deal().number == (may_branch(d, g) ? 0 : 2));
@@ -788,14 +793,15 @@ static void raw_delta(unsigned field)
 
 static void raw_record(int end, unsigned field, size_t d, size_t g, size_t t, size_t n)
 {
-    size_t next = 0, all;
+    size_t next = 0, all, l;
     raw_len = 0;
     raw[raw_len++] = (uint8_t)(odd() ? (unsigned)random_below(4) : (unsigned)end);
     raw[raw_len++] = (uint8_t)(odd() ? (unsigned)random_below(4) : field);
     d = raw_size(d, 16) & 31;
     g = raw_size(g, 3) & 3;
     t = raw_size(t, d <= 16 ? most_trees(d) : 64);
-    raw_size(1 + random_below(32), 32);
+    l = most_terms(d <= 16 ? d : 16);
+    raw_size(1 + random_below(l), l);
     raw_size(n, d >= 1 && d <= 16 ? (size_t)1 << (d - 1) : 1);
     raw_any(16 + 16);
     if (d > 16)
@@ -1115,6 +1121,77 @@ static void label_alone(size_t depth, unsigned field)
     EXPECT(memcmp(other, w_all, 8 * width * c) == 0);
 }
 
+/* ---- Rows that read exactly l places (document 02, 7) ---- */
+
+/* Words that are no elements everywhere but at the places of row row, or there at one alone: a row
+ * reads exactly those, and its outputs depend on no others. */
+static void exact_row(size_t row)
+{
+    static uint64_t noise_kept[MOST], v_kept[2 * MOST], w_kept[2 * MOST];
+    static unsigned char used[MOST];
+    const uint64_t none = UINT64_MAX;
+    size_t strip = leaves / x.terms, places = 0, picked;
+    uint64_t u_at, v_at[2], w_at[2], u_again, v_again[2], w_again[2], coefficient;
+    struct plain_key code;
+    plain_expand_key(&code, x.code_key);
+    memset(used, 0, leaves);
+    for (size_t i = 0; i < x.terms; i++) {
+        size_t place = plain_term(&code, x.field, strip, row, i, &coefficient);
+        EXPECT(place >= i * strip && place < (i + 1) * strip);
+        places += !used[place];
+        used[place] = 1;
+    }
+    EXPECT(places == x.terms);
+    EXPECT(noise_window(row, 1, 1, width, &u_at, v_at) == 0);
+    EXPECT(scalar_window(row, 1, width, w_at) == 0);
+
+    memcpy(noise_kept, noise, 8 * leaves);
+    memcpy(v_kept, v, 8 * width * leaves);
+    memcpy(w_kept, w, 8 * width * leaves);
+    for (size_t j = 0; j < leaves; j++)
+        for (size_t k = 0; !used[j] && k < width; k++)
+            noise[j] = v[width * j + k] = w[width * j + k] = none;
+    EXPECT(noise_window(row, 1, 1, width, &u_again, v_again) == 0);
+    EXPECT(scalar_window(row, 1, width, w_again) == 0);
+    EXPECT(u_again == u_at && memcmp(v_again, v_at, 8 * width) == 0);
+    EXPECT(memcmp(w_again, w_at, 8 * width) == 0);
+    memcpy(noise, noise_kept, 8 * leaves);
+    memcpy(v, v_kept, 8 * width * leaves);
+    memcpy(w, w_kept, 8 * width * leaves);
+
+    for (size_t i = 0; i < x.terms; i++) {
+        picked = plain_term(&code, x.field, strip, row, i, &coefficient);
+        noise[picked] = none;
+        EXPECT(noise_window(row, 1, 1, width, NULL, NULL) == 8);
+        noise[picked] = noise_kept[picked];
+        v[width * picked] ^= none;
+        w[width * picked] ^= none;
+        EXPECT(noise_window(row, 1, 1, width, NULL, v_again) == (x.field == 2 ? 8 : 0));
+        EXPECT(scalar_window(row, 1, width, w_again) == (x.field == 2 ? 8 : 0));
+        if (x.field == 1) /* every block is an element: the outputs show that it was read */
+            EXPECT(v_again[0] == (v_at[0] ^ none) && w_again[0] == (w_at[0] ^ none));
+        v[width * picked] = v_kept[width * picked];
+        w[width * picked] = w_kept[width * picked];
+    }
+}
+
+/* Strips that leave places at the top and strips that leave none, strips of one place too. */
+static void exact_rows(unsigned field)
+{
+    static const size_t shapes[][2] = {{1, 1}, {1, 2}, {2, 3}, {2, 4}, {3, 3}, {3, 5}, {3, 8},
+                                       {4, 7}, {5, 31}, {5, 32}, {6, 31}, {6, 32}, {7, 10},
+                                       {10, 1}, {10, 24}, {10, 32}, {13, 29}};
+    for (size_t k = 0; k < sizeof shapes / sizeof *shapes; k++) {
+        size_t d = shapes[k][0], n = (size_t)1 << (d - 1), g = some_branch_bits(d);
+        make_dealing(&x, field, d, g, 1 + random_below(2), shapes[k][1], n);
+        EXPECT(deal().number == 0);
+        offline();
+        exact_row(0);
+        exact_row(n - 1);
+        exact_row(random_below(n));
+    }
+}
+
 /* ---- The edges of field 2 ---- */
 
 /* a to the power e, modulo p. */
@@ -1146,12 +1223,10 @@ static void edge_products(void)
             struct plain_key code;
             uint64_t first, second, out;
             size_t i, j;
-            do {
-                make_dealing(&x, 2, 4, 1, 1, 2, 1);
-                plain_expand_key(&code, x.code_key);
-                i = plain_term(&code, 2, 4, 0, 0, &first);
-                j = plain_term(&code, 2, 4, 0, 1, &second);
-            } while (i == j);
+            make_dealing(&x, 2, 4, 1, 1, 2, 1);
+            plain_expand_key(&code, x.code_key);
+            i = plain_term(&code, 2, 8, 0, 0, &first);
+            j = plain_term(&code, 2, 8, 0, 1, &second);
             EXPECT(deal().number == 0);
             memset(noise, 0, 8 * leaves);
             memset(v, 0, 8 * leaves);
@@ -1170,7 +1245,7 @@ static void edge_sums(void)
     const uint64_t elements[] = {0, 1, 7, P / 2, P - 8, P - 7, P - 2, P - 1};
     const uint64_t words[] = {0, 1, P - 1, P, P + 1, 2 * P - 1, 2 * P, 2 * P + 1, 7 * P - 1, 7 * P,
                               8 * P - 1, 8 * P, 8 * P + 1, UINT64_MAX};
-    static const uint8_t head[] = {1, 2, 1, 1, 2, 5, 1};
+    static const uint8_t head[] = {1, 2, 1, 1, 2, 2, 1};
     leaves = 2;
     width = 1;
     for (size_t a = 0; a < sizeof elements / sizeof *elements; a++)
@@ -1413,11 +1488,12 @@ int main(void)
     two_record_faults();
     odd_records(40000);
     for (unsigned field = 1; field <= 2; field++) {
+        exact_rows(field);
         for (size_t depth = 1; depth <= 9; depth++)
             label_alone(depth, field);
         for (size_t depth = 1; depth <= 4; depth++)
             for (int round = 0; round < 6; round++) {
-                size_t trees = 1 + random_below(2), terms = 1 + random_below(4);
+                size_t trees = 1 + random_below(2), terms = 1 + random_below(depth == 1 ? 2 : 4);
                 size_t g = some_branch_bits(depth);
                 make_dealing(&x, field, depth, g, trees, terms, (size_t)1 << (depth - 1));
                 damaged_records();

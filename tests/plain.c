@@ -1,5 +1,5 @@
-/* A plain second implementation of document 01 with document 02's requests 4, 8 and 10
- * (plain.h).
+/* A plain second implementation of document 01 with document 02's requests 4, 7, 8 and
+ * 10 (plain.h).
  */
 #include "plain.h"
 
@@ -9,6 +9,7 @@ __extension__ typedef unsigned __int128 wide;
 
 #define P PLAIN_P
 #define MAX_TREES 64
+#define MAX_TERMS 32
 #define MAX_CHILDREN 8
 #define MAX_SIBLINGS 35 /* d = 15, g = 3 */
 #define MAX_PAD_INDEX 32768
@@ -427,9 +428,10 @@ static int trees_admitted(size_t d, size_t t)
     return t >= 1 && t <= (leaves < MAX_TREES ? leaves : MAX_TREES);
 }
 
-static int terms_admitted(size_t l)
+static int terms_admitted(size_t d, size_t l)
 {
-    return l >= 1 && l <= 32;
+    size_t leaves = (size_t)1 << d;
+    return l >= 1 && l <= (leaves < MAX_TERMS ? leaves : MAX_TERMS);
 }
 
 static int outputs_admitted(size_t d, size_t n)
@@ -464,7 +466,7 @@ static uint32_t read_head(struct reader *in, unsigned end, struct record *r)
         return 2;
     if ((number = take_number(in, &r->terms)) != 0)
         return number;
-    if (!terms_admitted(r->terms))
+    if (!terms_admitted(r->shape.depth, r->terms))
         return 2;
     if ((number = take_number(in, &r->outputs)) != 0)
         return number;
@@ -586,7 +588,7 @@ result plain_deal(
     if (field != 1 && field != 2)
         return refused(1);
     if (!depth_admitted(depth) || !branch_bits_admitted(depth, branch_bits)
-        || !trees_admitted(depth, trees) || !terms_admitted(terms)
+        || !trees_admitted(depth, trees) || !terms_admitted(depth, terms)
         || !outputs_admitted(depth, outputs))
         return refused(2);
     if (roots_len != 16 * trees || positions_len != trees || values_len != trees
@@ -716,13 +718,13 @@ result plain_scalar_offline(
 
 /* ---- Online ---- */
 
-size_t plain_term(const round_keys *code, unsigned field, unsigned depth, uint64_t x, uint64_t i,
+size_t plain_term(const round_keys *code, unsigned field, size_t strip, uint64_t x, uint64_t i,
                   uint64_t *coefficient)
 {
     block in = {x, i};
     block out = plain_encrypt(code, in);
     *coefficient = field == 1 ? 1 : out.hi % P;
-    return (size_t)(out.lo & (((uint64_t)1 << depth) - 1));
+    return (size_t)(i * strip + out.lo % strip);
 }
 
 static int noise_word_admitted(unsigned field, uint64_t word)
@@ -734,7 +736,7 @@ static int noise_word_admitted(unsigned field, uint64_t word)
 static int words_admitted(const struct record *r, const round_keys *code, const uint64_t *noise,
                           const uint64_t *elements, size_t first, size_t count)
 {
-    size_t leaves = (size_t)1 << r->shape.depth, j;
+    size_t leaves = (size_t)1 << r->shape.depth, strip = leaves / r->terms, j;
     uint64_t coefficient;
 
     /* Where no word at all is wrong there is no need to look at the rows. */
@@ -747,7 +749,7 @@ static int words_admitted(const struct record *r, const round_keys *code, const 
 
     for (size_t x = first; x < first + count; x++)
         for (unsigned i = 0; i < r->terms; i++) {
-            j = plain_term(code, r->field, r->shape.depth, x, i, &coefficient);
+            j = plain_term(code, r->field, strip, x, i, &coefficient);
             if ((noise != NULL && !noise_word_admitted(r->field, noise[j]))
                 || (r->field == 2 && !is_element(2, elements[j])))
                 return 0;
@@ -767,11 +769,12 @@ result plain_noise_online(
 {
     struct record r;
     round_keys code;
-    size_t leaves, width;
+    size_t leaves, strip, width;
     uint32_t number = read_noise_record(source, source_len, &r);
     if (number != 0)
         return refused(number);
     leaves = (size_t)1 << r.shape.depth;
+    strip = leaves / r.terms;
     width = width_of(r.field);
     if (noise_len != leaves || v_len != width * leaves)
         return refused(3);
@@ -787,7 +790,7 @@ result plain_noise_online(
         uint64_t coefficient, u = 0;
         block sum = {0, 0};
         for (unsigned i = 0; i < r.terms; i++) {
-            size_t j = plain_term(&code, r.field, r.shape.depth, first + k, i, &coefficient);
+            size_t j = plain_term(&code, r.field, strip, first + k, i, &coefficient);
             if (r.field == 1) {
                 u ^= noise[j];
                 sum.lo ^= v[2 * j];
@@ -811,11 +814,12 @@ result plain_scalar_online(
 {
     struct record r;
     round_keys code;
-    size_t leaves, width;
+    size_t leaves, strip, width;
     uint32_t number = read_scalar_record(source, source_len, &r);
     if (number != 0)
         return refused(number);
     leaves = (size_t)1 << r.shape.depth;
+    strip = leaves / r.terms;
     width = width_of(r.field);
     if (w_len != width * leaves)
         return refused(3);
@@ -831,7 +835,7 @@ result plain_scalar_online(
         uint64_t coefficient;
         block sum = {0, 0};
         for (unsigned i = 0; i < r.terms; i++) {
-            size_t j = plain_term(&code, r.field, r.shape.depth, first + k, i, &coefficient);
+            size_t j = plain_term(&code, r.field, strip, first + k, i, &coefficient);
             if (r.field == 1) {
                 sum.lo ^= w[2 * j];
                 sum.hi ^= w[2 * j + 1];

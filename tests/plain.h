@@ -1,6 +1,6 @@
-/* A plain second implementation of document 01 with document 02's requests 4 (pads), 8 (labels) and
- * 10 (flatter trees), to hold the library to. Written from those documents and FIPS 197 alone.
- * Parameters lie as in expander.h.
+/* A plain second implementation of document 01 with document 02's requests 4 (pads), 7 (rows),
+ * 8 (labels) and 10 (flatter trees), to hold the library to. Written from those documents and
+ * FIPS 197 alone. Parameters lie as in expander.h.
  */
 #ifndef PLAIN_H
 #define PLAIN_H
@@ -39,9 +39,9 @@ struct plain_block plain_subtract(unsigned field, struct plain_block a, struct p
 struct plain_block plain_scale(unsigned field, struct plain_block a, uint64_t u);
 void plain_accumulate_noise(unsigned field, uint64_t *noise, size_t n);
 
-/* The place and the coefficient of term i of row x, for N = 2^depth. */
-size_t plain_term(const struct plain_key *code, unsigned field, unsigned depth, uint64_t x,
-                  uint64_t i, uint64_t *coefficient);
+/* The place and the coefficient of term i of row x; strip is N / l rounded down. */
+size_t plain_term(const struct plain_key *code, unsigned field, size_t strip, uint64_t x, uint64_t i,
+                  uint64_t *coefficient);
 
 /* Document 01's seven calls. */
 struct plain_result plain_deal(

@@ -1,6 +1,6 @@
 /* The plain implementation held to FIPS 197, to document 01's cases, to the pads and trees of
- * document 02, requests 4 and 10, and, on random dealings, to the documents' definitions written out
- * place by place.
+ * document 02, requests 4 and 10, and, on random dealings, to the documents' definitions (request 7's
+ * rows among them) written out place by place.
  */
 #include "dealing.h"
 #include "plain.h"
@@ -219,6 +219,11 @@ static void test_cases(void)
         x.outputs = 5;
         CHECK(is(deal(&x, noise, scalar), 2, 0, 0));
         x.outputs = 4;
+        x.terms = 8; /* N */
+        CHECK(deal(&x, noise, scalar).number == 0);
+        x.terms = 9;
+        CHECK(is(deal(&x, noise, scalar), 2, 0, 0));
+        x.terms = 2;
         x.positions[2] = 4;
         CHECK(is(deal(&x, noise, scalar), 4, 0, 0));
     }
@@ -462,13 +467,16 @@ static void test_definitions(unsigned field, size_t depth, size_t branch_bits)
         w_out[2 * N];
     static block v0[N], w0[N];
     static uint8_t v_bytes[16 * N], w_bytes[16 * N], choices[N], one[16 * N], both[32 * N];
-    size_t leaves = (size_t)1 << depth, width = field == 1 ? 2 : 1, n;
+    size_t leaves = (size_t)1 << depth, width = field == 1 ? 2 : 1, n, strip;
+    struct plain_key code;
     struct plain_result r;
     block scalar, sum_v = {0, 0}, sum_w = {0, 0};
     uint64_t sum_mu = 0;
 
     make_any_dealing(&x, field, depth, branch_bits);
     n = x.outputs;
+    strip = leaves / x.terms;
+    plain_expand_key(&code, x.code_key);
     scalar = plain_load(x.delta);
     r = deal(&x, noise_record, scalar_record);
     CHECK(r.number == 0);
@@ -506,18 +514,26 @@ static void test_definitions(unsigned field, size_t depth, size_t branch_bits)
 
     /* u, v and w as the code matrix times mu, v0 and w0, and the correlation. */
     for (size_t k = 0; k < n; k++) {
-        block u = {0, 0}, sum = {0, 0}, sum2 = {0, 0}, terms[32];
+        block u = {0, 0}, sum = {0, 0}, sum2 = {0, 0};
+        uint64_t coefficient[32];
+        size_t place[32];
         for (uint64_t i = 0; i < x.terms; i++) {
             uint8_t in[16], out[16];
+            uint64_t same_coefficient;
             plain_store(in, (block){k, i});
             encrypt_bytes(x.code_key, in, out);
-            terms[i] = plain_load(out);
+            place[i] = i * strip + plain_load(out).lo % strip;
+            coefficient[i] = field == 1 ? 1 : plain_load(out).hi % PLAIN_P;
+            CHECK(plain_term(&code, field, strip, k, i, &same_coefficient) == place[i]);
+            CHECK(same_coefficient == coefficient[i]);
+            /* In strip i, below the places left at the top, so no place comes twice. */
+            CHECK(place[i] / strip == i && place[i] < x.terms * strip && place[i] < leaves);
         }
         for (size_t j = 0; j < leaves; j++) {
             uint64_t entry = 0;
             for (uint64_t i = 0; i < x.terms; i++)
-                if (terms[i].lo % leaves >= j)
-                    entry = field == 1 ? entry ^ 1 : (entry + terms[i].hi % PLAIN_P) % PLAIN_P;
+                if (place[i] >= j)
+                    entry = field == 1 ? entry ^ 1 : (entry + coefficient[i]) % PLAIN_P;
             u = plain_add(field, u, plain_scale(field, element(mu[j]), entry));
             sum = plain_add(field, sum, plain_scale(field, v0[j], entry));
             sum2 = plain_add(field, sum2, plain_scale(field, w0[j], entry));
