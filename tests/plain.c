@@ -138,38 +138,43 @@ void plain_expand_key(round_keys *key, const uint8_t bytes[16])
     }
 }
 
-static uint32_t mixed(uint32_t a, uint32_t b, uint32_t c, uint32_t d)
+static uint32_t mixed(uint32_t a, uint32_t b, uint32_t c, uint32_t d, uint32_t key)
 {
-    return mix[0][byte_of(a, 0)] ^ mix[1][byte_of(b, 1)]
+    return key ^ mix[0][byte_of(a, 0)] ^ mix[1][byte_of(b, 1)]
          ^ mix[2][byte_of(c, 2)] ^ mix[3][byte_of(d, 3)];
 }
 
-static uint32_t shifted(uint32_t a, uint32_t b, uint32_t c, uint32_t d)
+static uint32_t shifted(uint32_t a, uint32_t b, uint32_t c, uint32_t d, uint32_t key)
 {
-    return (uint32_t)sbox[byte_of(a, 0)] | (uint32_t)sbox[byte_of(b, 1)] << 8
-         | (uint32_t)sbox[byte_of(c, 2)] << 16 | (uint32_t)sbox[byte_of(d, 3)] << 24;
+    return key ^ ((uint32_t)sbox[byte_of(a, 0)] | (uint32_t)sbox[byte_of(b, 1)] << 8
+                  | (uint32_t)sbox[byte_of(c, 2)] << 16 | (uint32_t)sbox[byte_of(d, 3)] << 24);
 }
+
+#define ROUND(t, s, key) \
+    t##0 = mixed(s##0, s##1, s##2, s##3, (key)[0]); \
+    t##1 = mixed(s##1, s##2, s##3, s##0, (key)[1]); \
+    t##2 = mixed(s##2, s##3, s##0, s##1, (key)[2]); \
+    t##3 = mixed(s##3, s##0, s##1, s##2, (key)[3])
 
 block plain_encrypt(const round_keys *key, block b)
 {
     const uint32_t *k = key->column;
-    uint32_t s0 = (uint32_t)b.lo ^ k[0];
-    uint32_t s1 = (uint32_t)(b.lo >> 32) ^ k[1];
-    uint32_t s2 = (uint32_t)b.hi ^ k[2];
-    uint32_t s3 = (uint32_t)(b.hi >> 32) ^ k[3];
+    uint32_t s0 = (uint32_t)b.lo ^ k[0], s1 = (uint32_t)(b.lo >> 32) ^ k[1];
+    uint32_t s2 = (uint32_t)b.hi ^ k[2], s3 = (uint32_t)(b.hi >> 32) ^ k[3];
+    uint32_t t0, t1, t2, t3;
     block r;
-    for (unsigned round = 1; round < 10; round++) {
-        uint32_t t0, t1, t2, t3;
-        k += 4;
-        t0 = mixed(s0, s1, s2, s3) ^ k[0];
-        t1 = mixed(s1, s2, s3, s0) ^ k[1];
-        t2 = mixed(s2, s3, s0, s1) ^ k[2];
-        t3 = mixed(s3, s0, s1, s2) ^ k[3];
-        s0 = t0, s1 = t1, s2 = t2, s3 = t3;
-    }
-    k += 4;
-    r.lo = (shifted(s0, s1, s2, s3) ^ k[0]) | (uint64_t)(shifted(s1, s2, s3, s0) ^ k[1]) << 32;
-    r.hi = (shifted(s2, s3, s0, s1) ^ k[2]) | (uint64_t)(shifted(s3, s0, s1, s2) ^ k[3]) << 32;
+    ROUND(t, s, k + 4);
+    ROUND(s, t, k + 8);
+    ROUND(t, s, k + 12);
+    ROUND(s, t, k + 16);
+    ROUND(t, s, k + 20);
+    ROUND(s, t, k + 24);
+    ROUND(t, s, k + 28);
+    ROUND(s, t, k + 32);
+    ROUND(t, s, k + 36);
+    k += 40;
+    r.lo = shifted(t0, t1, t2, t3, k[0]) | (uint64_t)shifted(t1, t2, t3, t0, k[1]) << 32;
+    r.hi = shifted(t2, t3, t0, t1, k[2]) | (uint64_t)shifted(t3, t0, t1, t2, k[3]) << 32;
     return r;
 }
 
@@ -192,21 +197,23 @@ static uint64_t add_mod(uint64_t a, uint64_t b)
     return r >= P ? r - P : r;
 }
 
-/* x modulo p, for x below 2^122: 2^61 is 1 modulo p. */
+/* x modulo p: 2^61 is 1 modulo p. */
+uint64_t plain_reduce(uint64_t x)
+{
+    uint64_t r = (x & P) + (x >> 61);
+    return r >= P ? r - P : r;
+}
+
+/* x modulo p, for x below 2^127. */
 static uint64_t reduce_wide(wide x)
 {
-    uint64_t r = ((uint64_t)x & P) + (uint64_t)(x >> 61);
-    return r >= P ? r - P : r;
+    wide folded = (x & P) + (x >> 61); /* below 2^67 */
+    return plain_reduce(((uint64_t)folded & P) + (uint64_t)(folded >> 61));
 }
 
 static uint64_t multiply_mod(uint64_t a, uint64_t b)
 {
     return reduce_wide((wide)a * b);
-}
-
-uint64_t plain_reduce(uint64_t x)
-{
-    return x % P;
 }
 
 block plain_add(unsigned field, block a, block b)
@@ -283,7 +290,7 @@ static size_t siblings_of(struct shape tree)
 static block leaf_element(unsigned field, block leaf)
 {
     if (field == 2) {
-        leaf.lo %= P;
+        leaf.lo = plain_reduce(leaf.lo);
         leaf.hi = 0;
     }
     return leaf;
@@ -310,8 +317,11 @@ static void add_tree(unsigned field, block s, struct shape tree, uint64_t *sum)
     }
     tree.depth -= tree.branch_bits;
     part = (size_t)width_of(field) << tree.depth;
-    for (unsigned c = 0; c < children; c++)
-        add_tree(field, child(c, s), tree, sum + c * part);
+    for (unsigned c = 0; c < children; c++, sum += part)
+        if (tree.depth == 0)
+            add_element(field, sum, leaf_element(field, child(c, s)));
+        else
+            add_tree(field, child(c, s), tree, sum);
 }
 
 /* Add the elements of all leaves of the tree but the one at position, from the siblings. */
@@ -649,19 +659,24 @@ result plain_deal(
 /* ---- Offline ---- */
 
 /* Place j becomes the sum of places 0 to j. */
-static void accumulate(unsigned field, uint64_t *a, size_t n)
-{
-    size_t width = width_of(field);
-    for (size_t j = 1; j < n; j++) {
-        block before = {a[width * (j - 1)], field == 1 ? a[width * (j - 1) + 1] : 0};
-        add_element(field, a + width * j, before);
-    }
-}
-
 void plain_accumulate_noise(unsigned field, uint64_t *noise, size_t n)
 {
-    for (size_t j = 1; j < n; j++)
-        noise[j] = field == 1 ? noise[j - 1] ^ noise[j] : add_mod(noise[j - 1], noise[j]);
+    uint64_t sum = 0;
+    for (size_t j = 0; j < n; j++)
+        noise[j] = sum = field == 1 ? sum ^ noise[j] : add_mod(sum, noise[j]);
+}
+
+static void accumulate(unsigned field, uint64_t *a, size_t n)
+{
+    block sum = {0, 0};
+    if (field == 2) {
+        plain_accumulate_noise(2, a, n);
+        return;
+    }
+    for (size_t j = 0; j < n; j++) {
+        a[2 * j] = sum.lo ^= a[2 * j];
+        a[2 * j + 1] = sum.hi ^= a[2 * j + 1];
+    }
 }
 
 result plain_noise_offline(
@@ -723,37 +738,107 @@ size_t plain_term(const round_keys *code, unsigned field, size_t strip, uint64_t
 {
     block in = {x, i};
     block out = plain_encrypt(code, in);
-    *coefficient = field == 1 ? 1 : out.hi % P;
+    *coefficient = field == 1 ? 1 : plain_reduce(out.hi);
     return (size_t)(i * strip + out.lo % strip);
 }
 
-static int noise_word_admitted(unsigned field, uint64_t word)
+/* What rows are worked out from; noise is NULL at the scalar end. */
+struct rows {
+    round_keys code;
+    unsigned field, terms;
+    size_t leaves, strip;
+    const uint64_t *noise, *elements;
+};
+
+/* Row x: u, where there is noise, and the element. Whether each word that it uses is admitted. */
+static int binary_row(const struct rows *r, uint64_t x, uint64_t *u_out, uint64_t *element_out)
 {
-    return field == 1 ? word <= 1 : word < P;
+    uint64_t coefficient, u = 0, used = 0, lo = 0, hi = 0;
+    for (unsigned i = 0; i < r->terms; i++) {
+        size_t j = plain_term(&r->code, 1, r->strip, x, i, &coefficient);
+        if (r->noise != NULL) {
+            u ^= r->noise[j];
+            used |= r->noise[j];
+        }
+        lo ^= r->elements[2 * j];
+        hi ^= r->elements[2 * j + 1];
+    }
+    if (r->noise != NULL)
+        *u_out = u;
+    element_out[0] = lo;
+    element_out[1] = hi;
+    return used <= 1;
 }
 
-/* Whether each word that the window's rows use is admitted. noise is NULL at the scalar end. */
-static int words_admitted(const struct record *r, const round_keys *code, const uint64_t *noise,
-                          const uint64_t *elements, size_t first, size_t count)
+static int prime_row(const struct rows *r, uint64_t x, uint64_t *u_out, uint64_t *element_out)
 {
-    size_t leaves = (size_t)1 << r->shape.depth, strip = leaves / r->terms, j;
+    wide u = 0, sum = 0; /* at most 32 products below 2^122 */
     uint64_t coefficient;
-
-    /* Where no word at all is wrong there is no need to look at the rows. */
-    for (j = 0; j < leaves; j++)
-        if ((noise != NULL && !noise_word_admitted(r->field, noise[j]))
-            || (r->field == 2 && !is_element(2, elements[j])))
-            break;
-    if (j == leaves)
-        return 1;
-
-    for (size_t x = first; x < first + count; x++)
-        for (unsigned i = 0; i < r->terms; i++) {
-            j = plain_term(code, r->field, strip, x, i, &coefficient);
-            if ((noise != NULL && !noise_word_admitted(r->field, noise[j]))
-                || (r->field == 2 && !is_element(2, elements[j])))
-                return 0;
+    int admitted = 1;
+    for (unsigned i = 0; i < r->terms; i++) {
+        size_t j = plain_term(&r->code, 2, r->strip, x, i, &coefficient);
+        if (r->noise != NULL) {
+            admitted &= r->noise[j] < P;
+            u += (wide)coefficient * r->noise[j];
         }
+        admitted &= r->elements[j] < P;
+        sum += (wide)coefficient * r->elements[j];
+    }
+    if (r->noise != NULL)
+        *u_out = reduce_wide(u);
+    *element_out = reduce_wide(sum);
+    return admitted;
+}
+
+static int row(const struct rows *r, uint64_t x, uint64_t *u_out, uint64_t *element_out)
+{
+    return (r->field == 1 ? binary_row : prime_row)(r, x, u_out, element_out);
+}
+
+/* Whether every word is admitted, so that no row uses another. */
+static int all_admitted(const struct rows *r)
+{
+    uint64_t limit = r->field == 1 ? 2 : P;
+    for (size_t j = 0; r->noise != NULL && j < r->leaves; j++)
+        if (r->noise[j] >= limit)
+            return 0;
+    for (size_t j = 0; r->field == 2 && j < r->leaves; j++)
+        if (r->elements[j] >= P)
+            return 0;
+    return 1;
+}
+
+/* The window's rows; 0, with nothing written, if one uses a word that is not admitted. A few rows
+ * are kept back until all of them have passed; for many, all words are tested first. */
+static int window(const struct record *record, const uint64_t *noise, const uint64_t *elements,
+                  size_t first, size_t count, uint64_t *u_out, uint64_t *element_out)
+{
+    enum { FEW = 64 };
+    uint64_t u[FEW], element[2 * FEW];
+    size_t width = width_of(record->field);
+    struct rows r;
+    plain_expand_key(&r.code, record->code_key);
+    r.field = record->field;
+    r.terms = record->terms;
+    r.leaves = (size_t)1 << record->shape.depth;
+    r.strip = r.leaves / r.terms;
+    r.noise = noise;
+    r.elements = elements;
+    if (count <= FEW) {
+        for (size_t k = 0; k < count; k++)
+            if (!row(&r, first + k, u + k, element + width * k))
+                return 0;
+        if (noise != NULL)
+            memcpy(u_out, u, 8 * count);
+        memcpy(element_out, element, 8 * width * count);
+        return 1;
+    }
+    if (!all_admitted(&r))
+        for (size_t k = 0; k < count; k++)
+            if (!row(&r, first + k, u, element))
+                return 0;
+    for (size_t k = 0; k < count; k++)
+        row(&r, first + k, noise != NULL ? u_out + k : NULL, element_out + width * k);
     return 1;
 }
 
@@ -768,13 +853,11 @@ result plain_noise_online(
     uint64_t *u_out, size_t u_out_len, uint64_t *v_out, size_t v_out_len)
 {
     struct record r;
-    round_keys code;
-    size_t leaves, strip, width;
+    size_t leaves, width;
     uint32_t number = read_noise_record(source, source_len, &r);
     if (number != 0)
         return refused(number);
     leaves = (size_t)1 << r.shape.depth;
-    strip = leaves / r.terms;
     width = width_of(r.field);
     if (noise_len != leaves || v_len != width * leaves)
         return refused(3);
@@ -782,29 +865,8 @@ result plain_noise_online(
         return refused(7);
     if (u_out_len < count || v_out_len < width * count)
         return refused(13);
-    plain_expand_key(&code, r.code_key);
-    if (!words_admitted(&r, &code, noise, v, first, count))
+    if (!window(&r, noise, v, first, count, u_out, v_out))
         return refused(8);
-
-    for (size_t k = 0; k < count; k++) {
-        uint64_t coefficient, u = 0;
-        block sum = {0, 0};
-        for (unsigned i = 0; i < r.terms; i++) {
-            size_t j = plain_term(&code, r.field, strip, first + k, i, &coefficient);
-            if (r.field == 1) {
-                u ^= noise[j];
-                sum.lo ^= v[2 * j];
-                sum.hi ^= v[2 * j + 1];
-            } else {
-                u = add_mod(u, multiply_mod(coefficient, noise[j]));
-                sum.lo = add_mod(sum.lo, multiply_mod(coefficient, v[j]));
-            }
-        }
-        u_out[k] = u;
-        v_out[width * k] = sum.lo;
-        if (r.field == 1)
-            v_out[2 * k + 1] = sum.hi;
-    }
     return accepted(count, width * count);
 }
 
@@ -813,13 +875,11 @@ result plain_scalar_online(
     size_t first, size_t count, uint64_t *w_out, size_t w_out_len)
 {
     struct record r;
-    round_keys code;
-    size_t leaves, strip, width;
+    size_t leaves, width;
     uint32_t number = read_scalar_record(source, source_len, &r);
     if (number != 0)
         return refused(number);
     leaves = (size_t)1 << r.shape.depth;
-    strip = leaves / r.terms;
     width = width_of(r.field);
     if (w_len != width * leaves)
         return refused(3);
@@ -827,26 +887,8 @@ result plain_scalar_online(
         return refused(7);
     if (w_out_len < width * count)
         return refused(13);
-    plain_expand_key(&code, r.code_key);
-    if (!words_admitted(&r, &code, NULL, w, first, count))
+    if (!window(&r, NULL, w, first, count, NULL, w_out))
         return refused(8);
-
-    for (size_t k = 0; k < count; k++) {
-        uint64_t coefficient;
-        block sum = {0, 0};
-        for (unsigned i = 0; i < r.terms; i++) {
-            size_t j = plain_term(&code, r.field, strip, first + k, i, &coefficient);
-            if (r.field == 1) {
-                sum.lo ^= w[2 * j];
-                sum.hi ^= w[2 * j + 1];
-            } else {
-                sum.lo = add_mod(sum.lo, multiply_mod(coefficient, w[j]));
-            }
-        }
-        w_out[width * k] = sum.lo;
-        if (r.field == 1)
-            w_out[2 * k + 1] = sum.hi;
-    }
     return accepted(width * count, 0);
 }
 
