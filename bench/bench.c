@@ -14,7 +14,7 @@
 #include <stdio.h>
 #include <string.h>
 
-enum { MOST_LEAVES = 1 << 16, MOST_OUTPUTS = MOST_LEAVES / 2 };
+enum { MOST_LEAVES = EXPANDER_LEAVES_MAX, MOST_OUTPUTS = EXPANDER_OUTPUTS_MAX };
 
 /* ---- The calls, on memory of the library's (0) and of the plain implementation's (1) ---- */
 
@@ -139,14 +139,14 @@ enum { JOBS = sizeof jobs / sizeof *jobs, OFFLINE_JOBS = 3, ONLINE_JOBS = 5 };
 
 /* ---- What the calls are made on ---- */
 
-/* Deal, at the largest t, l and n unless these are given. */
+/* Deal with the largest l. */
 static void make(unsigned field, size_t depth, size_t branch_bits, size_t trees, size_t outputs)
 {
     struct plain_result lengths;
     memset(memory, 0, sizeof memory);
     leaves = (size_t)1 << depth;
-    width = field == 1 ? 2 : 1;
-    make_dealing(&x, field, depth, branch_bits, trees, 32, outputs);
+    width = EXPANDER_ELEMENT_WORDS(field);
+    make_dealing(&x, field, depth, branch_bits, trees, EXPANDER_TERMS_MAX, outputs);
     for (int who = 0; who < 2; who++) {
         struct memory *m = &memory[who];
         lengths = plain_deal(x.field, x.depth, x.branch_bits, x.trees, x.terms, x.outputs, x.roots,
@@ -209,12 +209,13 @@ static void tables(void)
     static const size_t shapes[][2] = {{12, 1}, {12, 2}, {12, 3}, {15, 3}, {16, 2}, {16, 1}};
     static const size_t windows[] = {1, 16, 256};
     enum { SHAPES = sizeof shapes / sizeof *shapes, WINDOWS = sizeof windows / sizeof *windows };
-    printf("t = 64, l = 32, n = N / 2; medians of processor time over those pairs of runs whose "
-           "plain run is within 6 %% of its best\n");
+    printf("t = %d, l = %d, n = N / 2; medians of processor time over those pairs of runs whose "
+           "plain run is within 6 %% of its best\n", EXPANDER_TREES_MAX, EXPANDER_TERMS_MAX);
     heading();
     for (unsigned field = 1; field <= 2; field++)
         for (int s = 0; s < SHAPES; s++) {
-            make(field, shapes[s][0], shapes[s][1], 64, (size_t)1 << (shapes[s][0] - 1));
+            make(field, shapes[s][0], shapes[s][1], EXPANDER_TREES_MAX,
+                 (size_t)1 << (shapes[s][0] - 1));
             for (int k = 0; k < OFFLINE_JOBS; k++)
                 bench(&jobs[k]);
             for (int k = OFFLINE_JOBS; shapes[s][1] == 1 && k < ONLINE_JOBS; k++) {
@@ -227,7 +228,7 @@ static void tables(void)
             }
             same_results();
         }
-    make(EXPANDER_BINARY, 16, 1, 64, MOST_OUTPUTS);
+    make(EXPANDER_BINARY, EXPANDER_DEPTH_MAX, 1, EXPANDER_TREES_MAX, MOST_OUTPUTS);
     for (int k = OFFLINE_JOBS - 2; k < ONLINE_JOBS; k++)
         for (int who = 0; who < 2; who++)
             jobs[k].call(who);

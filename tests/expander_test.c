@@ -1,8 +1,9 @@
-/* Document 01's seven calls, as document 02 changes them, held to the plain implementation, through
- * expander.h (lend.h).
+/* Document 01's seven calls, as document 02 changes them, and what a record is, held to the plain
+ * implementation, through expander.h (lend.h).
  */
 #include "lend.h"
 
+#include <stdio.h>
 #include <string.h>
 
 #define P PLAIN_P
@@ -12,13 +13,14 @@ typedef struct plain_block block;
 
 /* ---- The calls and their numbers ---- */
 
-enum { DEAL, NOISE_OFFLINE, SCALAR_OFFLINE, NOISE_ONLINE, SCALAR_ONLINE, NOISE_PADS, SCALAR_PADS,
-       CALLS };
+enum { DEAL, DESCRIBE, NOISE_OFFLINE, SCALAR_OFFLINE, NOISE_ONLINE, SCALAR_ONLINE, NOISE_PADS,
+       SCALAR_PADS, CALLS };
 
-/* The numbers that document 01 lets each call give. */
+/* The numbers that the documents let each call give. */
 #define HEAD_NUMBERS (BIT(1) | BIT(2) | BIT(9) | BIT(10) | BIT(11) | BIT(12))
 static const struct call calls[CALLS] = {
     {"deal", BIT(0) | BIT(1) | BIT(2) | BIT(3) | BIT(4) | BIT(5) | BIT(6) | BIT(13)},
+    {"describe", BIT(0) | HEAD_NUMBERS | BIT(4) | BIT(5) | BIT(6) | BIT(8)},
     {"noise_offline", BIT(0) | HEAD_NUMBERS | BIT(4) | BIT(5) | BIT(8) | BIT(13)},
     {"scalar_offline", BIT(0) | HEAD_NUMBERS | BIT(6) | BIT(13)},
     {"noise_online",
@@ -65,6 +67,30 @@ static result try_deal(const struct dealing *x, const struct deal_lengths *n, ui
     keep(noise_out, 6, plain.first);
     keep(scalar_out, 7, plain.second);
     return mine;
+}
+
+static struct plain_described try_describe(const uint8_t *record, size_t len)
+{
+    struct expander_described mine;
+    struct plain_described plain;
+    int same;
+    describe("describe(record of %zu bytes)", len);
+    lend(0, record, len, 1);
+    mine = expander_describe(LIBRARY(0, uint8_t), len);
+    plain = plain_describe(PLAIN(0, uint8_t), len);
+    same = mine.number == plain.number && mine.end == plain.end && mine.field == plain.field
+        && mine.depth == plain.depth && mine.branch_bits == plain.branch_bits
+        && mine.trees == plain.trees && mine.terms == plain.terms && mine.outputs == plain.outputs
+        && mine.leaves == plain.leaves && mine.element_words == plain.element_words;
+    if (!same)
+        complain("returned %u, end %u, field %u, %zu %zu %zu %zu %zu, %zu, %zu; the plain "
+                 "implementation %u, end %u, field %u, %zu %zu %zu %zu %zu, %zu, %zu",
+                 mine.number, mine.end, mine.field, mine.depth, mine.branch_bits, mine.trees,
+                 mine.terms, mine.outputs, mine.leaves, mine.element_words, plain.number, plain.end,
+                 plain.field, plain.depth, plain.branch_bits, plain.trees, plain.terms,
+                 plain.outputs, plain.leaves, plain.element_words);
+    settle_lent(DESCRIBE, same, plain.number, 1, 0, 0, 0);
+    return plain;
 }
 
 static result try_offline(int end, const uint8_t *record, size_t len, size_t first_len,
@@ -174,7 +200,7 @@ static uint32_t try_scalar_pads(size_t first, size_t count, const uint8_t *w, si
 
 /* ---- One dealing and what its ends hold ---- */
 
-enum { MOST = 1 << 16, SIZES = 5 };
+enum { MOST = EXPANDER_LEAVES_MAX, SIZES = 5 };
 
 static struct dealing x;
 static uint8_t noise_record[EXPANDER_NOISE_RECORD_MAX + 8];
@@ -200,8 +226,18 @@ static result deal(void)
     noise_record_len = r.first;
     scalar_record_len = r.second;
     leaves = (size_t)1 << x.depth;
-    width = x.field == 1 ? 2 : 1;
+    width = EXPANDER_ELEMENT_WORDS(x.field);
     return r;
+}
+
+/* The record of this end of x is described as what x is. */
+static void described(int end)
+{
+    struct plain_described d = end == 1 ? try_describe(noise_record, noise_record_len)
+                                        : try_describe(scalar_record, scalar_record_len);
+    EXPECT(d.number == 0 && d.end == (unsigned)end && d.field == x.field && d.depth == x.depth);
+    EXPECT(d.branch_bits == x.branch_bits && d.trees == x.trees && d.terms == x.terms);
+    EXPECT(d.outputs == x.outputs && d.leaves == leaves && d.element_words == width);
 }
 
 static void offline(void)
@@ -409,6 +445,8 @@ static void whole_dealing(int light)
     size_t n;
     EXPECT(deal().number == 0);
     n = x.outputs;
+    described(1);
+    described(2);
     vary_deal();
     offline();
     for (int end = 1; end <= 2; end++)
@@ -619,7 +657,7 @@ static void two_deal_faults(void)
 static void sizes_at_bounds(void)
 {
     for (unsigned field = 1; field <= 2; field++)
-        for (size_t d = 1; d <= 16; d++) {
+        for (size_t d = 1; d <= EXPANDER_DEPTH_MAX; d++) {
             const size_t most[3] = {most_trees(d), most_terms(d), (size_t)1 << (d - 1)};
             for (size_t g = 0; g <= 5; g++) {
                 make_dealing(&x, field, d, g, 1, 1, 1);
@@ -641,6 +679,58 @@ static void sizes_at_bounds(void)
                     EXPECT(try_deal(&x, &n, NULL, NULL).number == (how % 3 == 0 ? 2 : 0));
                 }
         }
+}
+
+/* What the header gives as the greatest sizes is admitted, and one more is refused with 2; windows of
+ * the pads end where it says. */
+static void limits(void)
+{
+    static const struct {
+        size_t sizes[SIZES]; /* d, g, t, l, n */
+        uint32_t number;
+    } tries[] = {
+        {{EXPANDER_DEPTH_MAX, 1, 1, 1, 1}, 0},
+        {{EXPANDER_DEPTH_MAX + 1, 1, 1, 1, 1}, 2},
+        {{EXPANDER_DEPTH_MAX - 1, EXPANDER_BRANCH_BITS_MAX, 1, 1, 1}, 0},
+        {{EXPANDER_DEPTH_MAX, EXPANDER_BRANCH_BITS_MAX + 1, 1, 1, 1}, 2},
+        {{EXPANDER_DEPTH_MAX, 1, EXPANDER_TREES_MAX, 1, 1}, 0},
+        {{EXPANDER_DEPTH_MAX, 1, EXPANDER_TREES_MAX + 1, 1, 1}, 2},
+        {{EXPANDER_DEPTH_MAX, 1, 1, EXPANDER_TERMS_MAX, 1}, 0},
+        {{EXPANDER_DEPTH_MAX, 1, 1, EXPANDER_TERMS_MAX + 1, 1}, 2},
+        {{EXPANDER_DEPTH_MAX, 1, 1, 1, EXPANDER_OUTPUTS_MAX}, 0},
+        {{EXPANDER_DEPTH_MAX, 1, 1, 1, EXPANDER_OUTPUTS_MAX + 1}, 2},
+    };
+    const size_t end = EXPANDER_PAD_WINDOW_END;
+    static const uint8_t zeros[32];
+    int major, minor, patch;
+    for (unsigned field = 1; field <= 2; field++)
+        for (size_t k = 0; k < sizeof tries / sizeof *tries; k++) {
+            const size_t *size = tries[k].sizes;
+            make_dealing(&x, field, EXPANDER_DEPTH_MAX, 1, EXPANDER_TREES_MAX, 1, 1);
+            x.depth = size[0];
+            x.branch_bits = size[1];
+            x.trees = size[2];
+            x.terms = size[3];
+            x.outputs = size[4];
+            for (size_t i = 0; i < EXPANDER_TREES_MAX; i++)
+                x.positions[i] = (uint32_t)i;
+            EXPECT(deal().number == tries[k].number);
+            if (tries[k].number == 0) {
+                described(1);
+                described(2);
+            }
+        }
+    EXPECT(EXPANDER_LEAVES_MAX == 1 << EXPANDER_DEPTH_MAX);
+    EXPECT(EXPANDER_OUTPUTS_MAX == EXPANDER_LEAVES_MAX / 2);
+    x.delta[0] = 1;
+    EXPECT(try_noise_pads(end - 1, 1, zeros, 16, zeros, 1, 16, NULL) == 0);
+    EXPECT(try_noise_pads(end, 1, zeros, 16, zeros, 1, 16, NULL) == 7);
+    EXPECT(try_noise_pads(end - 1, 2, zeros, 32, zeros, 2, 32, NULL) == 7);
+    EXPECT(try_noise_pads(end, 0, zeros, 0, zeros, 0, 0, NULL) == 0);
+    EXPECT(try_scalar_pads(end - 1, 1, zeros, 16, x.delta, 16, 32, NULL) == 0);
+    EXPECT(try_scalar_pads(end, 1, zeros, 16, x.delta, 16, 32, NULL) == 7);
+    EXPECT(sscanf(EXPANDER_VERSION, "%d.%d.%d", &major, &minor, &patch) == 3);
+    EXPECT(EXPANDER_VERSION_NUMBER == 10000 * major + 100 * minor + patch);
 }
 
 /* The lengths that the header gives for the longest records are met. */
@@ -666,10 +756,12 @@ static void longest_records(void)
 
 /* ---- Damaged records ---- */
 
-/* Lend a record to its end's offline and online call, with buffers that suit the dealing. */
+/* Lend a record to the call that says what it is, and to its end's offline or online call, with
+ * buffers that suit the dealing. */
 static result try_record(int end, const uint8_t *record, size_t len)
 {
     size_t n = x.outputs, c = random_below((n < 4 ? n : 4) + 1);
+    try_describe(record, len);
     if (random_below(2))
         return end == 1
             ? try_offline(1, record, len, leaves, width * leaves, NULL, NULL)
@@ -689,13 +781,22 @@ static void damaged_records(void)
         const uint8_t *record = end == 1 ? noise_record : scalar_record;
         size_t len = end == 1 ? noise_record_len : scalar_record_len;
         memcpy(copy, record, len);
-        for (size_t cut = 0; cut < len; cut++)
+        for (size_t cut = 0; cut < len; cut++) {
             EXPECT(try_record(end, copy, cut).number == 10);
+            EXPECT(try_describe(copy, cut).number == 10);
+        }
         for (size_t more = 1; more <= 3; more++) {
             copy[len + more - 1] = (uint8_t)random_word();
             EXPECT(try_record(end, copy, len + more).number == 12);
         }
         EXPECT(try_record(3 - end, copy, len).number == 9);
+        described(end);
+        for (unsigned byte = 0; byte < 256; byte++)
+            if (byte != 1 && byte != 2) {
+                copy[0] = (uint8_t)byte;
+                EXPECT(try_describe(copy, len).number == 9);
+            }
+        copy[0] = record[0];
         for (size_t at = 0; at < len; at++) {
             const uint8_t values[] = {0x00, 0x01, 0x7f, 0x80, 0xff,
                                       (uint8_t)(copy[at] ^ 1 << random_below(8)),
@@ -1026,6 +1127,7 @@ static void two_faults_of(int end)
 {
     const uint8_t *record = end == 1 ? noise_record : scalar_record;
     int most = end == 2 && x.field == 1 ? WORDS : NOTHING; /* there no word is refused */
+    uint32_t described_as;
     find_fields(end);
     for (const struct field *a = fields; a < fields + field_count; a++)
         for (int way = 0; way < WAYS; way++) {
@@ -1038,6 +1140,8 @@ static void two_faults_of(int end)
                         put_record(record, a, way, b, other);
                         EXPECT(try_short(end, NOTHING) == number);
                         EXPECT(try_online(end, NOTHING, NOTHING) == number);
+                        described_as = try_describe(raw, raw_len).number;
+                        EXPECT(described_as == number || raw[0] == 3 - end);
                     }
             put_record(record, a, way, NULL, 0);
             EXPECT(try_short(end, ROOM) == number);
@@ -1283,11 +1387,13 @@ static void edge_sums(void)
 
 static void faulty_pads(int rounds)
 {
-    static const size_t spots[] = {0, 1, 255, 256, 32767, 32768, 32769, 65536,
+    static const size_t spots[] = {0, 1, 255, 256, EXPANDER_PAD_WINDOW_END - 1,
+                                   EXPANDER_PAD_WINDOW_END, EXPANDER_PAD_WINDOW_END + 1, 65536,
                                    (size_t)1 << 32, (size_t)1 << 63, SIZE_MAX - 1, SIZE_MAX};
     for (int round = 0; round < rounds; round++) {
-        size_t c = random_below(20), first = random_below(32769 - c), room, a, b, k;
+        size_t c = random_below(20), first, room, a, b, k;
         uint8_t scalar[17];
+        first = random_below(EXPANDER_PAD_WINDOW_END + 1 - c);
         random_bytes(v_bytes, 16 * 20 + 16);
         random_bytes(w_bytes, 16 * 20 + 16);
         random_bytes(scalar, 17);
@@ -1302,7 +1408,7 @@ static void faulty_pads(int rounds)
                 first = spots[random_below(sizeof spots / sizeof *spots)];
                 break;
             case 1:
-                first = 32768 - c + random_below(3);
+                first = EXPANDER_PAD_WINDOW_END - c + random_below(3);
                 break;
             case 2: /* lengths one short, one long, empty */
                 a = (size_t[]){a + 1, a - (a > 0), 0, a}[random_below(4)];
@@ -1415,13 +1521,14 @@ static void blocks_apart(int rounds)
     for (size_t k = 0; k < sizeof pairs / sizeof *pairs; k++)
         two_apart(pairs[k][0], pairs[k][1]);
     for (int round = 0; round < rounds; round++) {
-        size_t first = random_below(32768), second = random_below(32768);
+        size_t first = random_below(EXPANDER_PAD_WINDOW_END);
+        size_t second = random_below(EXPANDER_PAD_WINDOW_END);
         if (first != second)
             two_apart(first, second);
     }
     window_apart(0, 64);
     window_apart(224, 64);
-    window_apart(32768 - 64, 64);
+    window_apart(EXPANDER_PAD_WINDOW_END - 64, 64);
 }
 
 /* ---- Document 01's cases ---- */
@@ -1477,6 +1584,7 @@ int main(void)
 {
     begin(calls, CALLS);
     cases();
+    limits();
     sizes_at_bounds();
     longest_records();
     faulty_deals(8000);

@@ -540,6 +540,32 @@ static uint32_t read_scalar_record(const uint8_t *source, size_t source_len, str
     return in.left > 0 ? 12 : 0;
 }
 
+struct plain_described plain_describe(const uint8_t *source, size_t source_len)
+{
+    struct plain_described d = {0, 0, 0, 0, 0, 0, 0, 0, 0, 0};
+    struct record r;
+    if (source_len == 0)
+        d.number = 10;
+    else if (source[0] == 1)
+        d.number = read_noise_record(source, source_len, &r);
+    else if (source[0] == 2)
+        d.number = read_scalar_record(source, source_len, &r);
+    else
+        d.number = 9;
+    if (d.number != 0)
+        return d;
+    d.end = source[0];
+    d.field = r.field;
+    d.depth = r.shape.depth;
+    d.branch_bits = r.shape.branch_bits;
+    d.trees = r.trees;
+    d.terms = r.terms;
+    d.outputs = r.outputs;
+    d.leaves = (size_t)1 << r.shape.depth;
+    d.element_words = width_of(r.field);
+    return d;
+}
+
 /* ---- Dealing ---- */
 
 static result refused(uint32_t number)

@@ -21,6 +21,13 @@ struct plain_block {
     uint64_t lo, hi;
 };
 
+/* What the head of an accepted record says; else a number and zeros. */
+struct plain_described {
+    uint32_t number;
+    unsigned end, field;
+    size_t depth, branch_bits, trees, terms, outputs, leaves, element_words;
+};
+
 /* AES-128 round keys: eleven times four columns, the least byte of each in row 0. */
 struct plain_key {
     uint32_t column[44];
@@ -43,7 +50,8 @@ void plain_accumulate_noise(unsigned field, uint64_t *noise, size_t n);
 size_t plain_term(const struct plain_key *code, unsigned field, size_t strip, uint64_t x, uint64_t i,
                   uint64_t *coefficient);
 
-/* Document 01's seven calls. */
+/* Document 01's seven calls, and what a record of either end is. */
+struct plain_described plain_describe(const uint8_t *source, size_t source_len);
 struct plain_result plain_deal(
     uint8_t field, size_t depth, size_t branch_bits, size_t trees, size_t terms, size_t outputs,
     const uint8_t *roots, size_t roots_len, const uint32_t *positions, size_t positions_len,

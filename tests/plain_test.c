@@ -159,6 +159,21 @@ static block element(uint64_t x)
     return b;
 }
 
+/* The record is one of this end and field, with d, g, t, l, n being 3, 1, 3, 2, 4; cut or longer it
+ * is refused, and so is one of no end. */
+static int describes(const uint8_t *record, size_t len, unsigned end, unsigned field)
+{
+    static const uint8_t no_end[] = {0, 1, 1};
+    struct plain_described d = plain_describe(record, len);
+    return d.number == 0 && d.end == end && d.field == field && d.depth == 3 && d.branch_bits == 1
+        && d.trees == 3 && d.terms == 2 && d.outputs == 4 && d.leaves == 8
+        && d.element_words == (field == 1 ? 2 : 1)
+        && plain_describe(record, 0).number == 10 && plain_describe(record, len - 1).number == 10
+        && plain_describe(record, len - 1).leaves == 0
+        && plain_describe(record, len + 1).number == 12
+        && plain_describe(no_end, sizeof no_end).number == 9;
+}
+
 static void test_cases(void)
 {
     static uint8_t noise[NOISE_MAX], scalar[SCALAR_MAX];
@@ -209,6 +224,7 @@ static void test_cases(void)
         x.positions[2] = 5;
         r = deal(&x, noise, scalar);
         CHECK(r.number == 0);
+        CHECK(describes(noise, r.first, 1, field) && describes(scalar, r.second, 2, field));
         /* A tree takes 16 bytes of value and correction and three siblings after its position. */
         CHECK(noise[39] == 1 && noise[39 + 65] == 2 && noise[39 + 2 * 65] == 0);
         CHECK(plain_noise_offline(noise, r.first, words, 8, v, 16).number == 0);
