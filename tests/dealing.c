@@ -20,6 +20,11 @@ size_t random_below(size_t bound)
     return (size_t)(random_word() % bound);
 }
 
+size_t random_extra(size_t bound)
+{
+    return random_below(2) ? random_below(bound) : 0;
+}
+
 void random_bytes(void *to, size_t bytes)
 {
     unsigned char *at = to;

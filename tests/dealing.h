@@ -1,4 +1,6 @@
-/* Random numbers from a fixed seed, and random dealings made of them. */
+/* Random numbers from a fixed seed, and random dealings made of them. An expression or a list of
+ * arguments draws at most once, or in an order that C fixes, so that every compiler draws the same.
+ */
 #ifndef DEALING_H
 #define DEALING_H
 
@@ -22,6 +24,9 @@ struct dealing {
 uint64_t random_word(void);
 size_t random_below(size_t bound);
 void random_bytes(void *to, size_t bytes);
+
+/* 0 one time in two, else below bound. */
+size_t random_extra(size_t bound);
 
 /* Whether trees of this depth may branch by so many bits. */
 int may_branch(size_t depth, size_t branch_bits);
