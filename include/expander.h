@@ -1,5 +1,6 @@
 /* Correlation expander: dealing, the noise end and the scalar end, pads, signed amounts,
  * messages of the caller's choosing, AND triples, a stock of outputs for several callers, circuits.
+ * For x86-64 Linux.
  *
  * A dealing makes two key records. The noise end expands its record to u and v, the scalar end
  * expands its own to w, and w = Delta * u + v at every index below n. In field 1 the pad calls turn
@@ -13,9 +14,12 @@
  * dealing.
  *
  * Sizes
- *   d  depth of a tree, 1 to 16; N is 2^d
+ *   d  depth of a tree, 1 to 16; N, the number of its leaves, is 2^d
+ *   g  branch bits, 1, 2 or 3: a node has 2^g children, so a tree has d / g levels; d is a multiple
+ *      of g
  *   t  trees, each with one noise place, 1 to the smaller of 64 and N
- *   l  terms in a row of the code, 1 to 32
+ *   l  terms in a row of the code, 1 to the smaller of 32 and N; a row reads exactly l places, one
+ *      in each of l strips of N / l (rounded down)
  *   n  outputs, 1 to N / 2
  *
  * Fields
@@ -39,6 +43,43 @@
  *   In both cases every input buffer is as it was before the call. No call allocates, or keeps
  *   anything between calls, so calls on different output buffers may run at the same time. Sums and
  *   products of what the caller passes do not wrap: first and count may have any value.
+ *
+ * From words to bytes
+ *   The pad calls take v, w and Delta as bytes, each word least byte first. On x86-64 memory holds
+ *   words that way, so the words of the online and offline calls can be lent as they are: v_out as
+ *   (const uint8_t *)v_out, with 16 count as its length. The choice at an index is u there as a
+ *   byte: choices[k] = (uint8_t)u_out[k], which is 0 or 1 in field 1.
+ *
+ * Safe use
+ *   Facts about what the calls take and leave. None of them says that a use is secure.
+ *   Secret     roots, positions, values and delta. The noise record holds positions, values and
+ *              siblings, and is for the noise end alone; the scalar record holds Delta and the
+ *              roots, and is for the scalar end alone: whoever has both has u, v and w. What an end
+ *              makes of its record is its own secret too: vectors, outputs, pads, shares, triples
+ *              and states. Field, sizes, code key and label stand in both records.
+ *   Random     No call draws anything: roots, positions, values, delta and code_key are as random as
+ *              the caller draws them. No call sends anything, or knows who sent it: what was altered
+ *              on the way and still reads well is accepted.
+ *   Not twice  A root: the leaf that one noise record leaves out follows from another noise record
+ *              of that root with another position, and with the correction it gives Delta times the
+ *              noise value.
+ *              Delta in two pairings: who learns it in one has it in the other. The two dealings of
+ *              AND triples have a Delta each.
+ *              A pad: the exclusive or of two messages masked by one pad is that of the messages.
+ *              An index of a dealing: it stands for one output, one choice, one pad and one triple.
+ *              A stock hands each index out once, if every call gets the stock that the call before
+ *              returned and no two dealings have the same label.
+ *              A triple: the bits sent for two ANDs under one triple give the exclusive or of the
+ *              shares of both ANDs' wires.
+ *   Time       The cipher looks bytes up in tables, so how long a call takes, and what it leaves in
+ *              caches, depends on keys and data.
+ *   Sizes      None is recommended here; the limits below say what the calls admit. The papers
+ *              discuss sizes, for their own codes and noise: Boyle, Couteau, Gilboa, Ishai, Kohl,
+ *              Resch and Scholl, Correlated Pseudorandomness from Expand-Accumulate Codes, section
+ *              3.6; Boyle, Couteau, Gilboa, Ishai, Kohl and Scholl, Efficient Pseudorandom
+ *              Correlation Generators: Silent OT Extension and More, section 3.2; Couteau,
+ *              Correlated Pseudorandomness in Secure Computation, sections 3.6.2 and 3.8.5.
+ *   Wiping     Nothing is wiped: no call clears a buffer, or the stack that it used.
  */
 #ifndef EXPANDER_H
 #define EXPANDER_H
@@ -50,9 +91,18 @@
 extern "C" {
 #endif
 
+/* The version of this header and of the library that goes with it: as a text, and as a number that
+ * rises, 10000 major + 100 minor + patch. */
+#define EXPANDER_VERSION "1.0.0"
+#define EXPANDER_VERSION_NUMBER 10000
+
 /* Fields. */
 #define EXPANDER_BINARY 1
 #define EXPANDER_PRIME 2
+
+/* Ends, as records name them. */
+#define EXPANDER_NOISE_END 1
+#define EXPANDER_SCALAR_END 2
 
 /* The modulus p of field 2, 2^61 - 1. */
 #define EXPANDER_MODULUS ((((uint64_t)1) << 61) - 1)
@@ -63,14 +113,14 @@ extern "C" {
 /* Numbers that the calls return. */
 #define EXPANDER_ACCEPTED 0u         /* the result is written */
 #define EXPANDER_BAD_FIELD 1u        /* field byte not 1 or 2 */
-#define EXPANDER_BAD_SIZE 2u         /* d, t, l, n or the number of callers outside its range */
+#define EXPANDER_BAD_SIZE 2u         /* d, g, t, l, n or the number of callers not admitted */
 #define EXPANDER_BAD_LENGTH 3u       /* input buffer not of the length called for; batch too large */
 #define EXPANDER_BAD_POSITION 4u     /* position not rising, or N or more */
 #define EXPANDER_BAD_NOISE 5u        /* noise value not admitted */
 #define EXPANDER_BAD_DELTA 6u        /* Delta zero, or not as its field wants it */
 #define EXPANDER_WINDOW_PAST_END 7u  /* first + count too large */
 #define EXPANDER_NOT_ELEMENT 8u      /* word that must be an element is none; bit byte above 1 */
-#define EXPANDER_WRONG_END 9u        /* end byte not this end's; role not 1 or 2 */
+#define EXPANDER_WRONG_END 9u        /* end byte not this end's, or no end's; role not 1 or 2 */
 #define EXPANDER_RECORD_ENDS 10u     /* record or circuit ends inside a field */
 #define EXPANDER_BAD_NUMBER 11u      /* number read not in its shortest form, or too long */
 #define EXPANDER_BYTES_AFTER 12u     /* bytes after the record or circuit */
@@ -84,16 +134,31 @@ extern "C" {
 #define EXPANDER_LABEL_NOT_ABOVE 20u /* label not above the one in use */
 #define EXPANDER_LABEL_NOT_IN_USE 21u /* label not the one in use */
 
-/* Bytes of the longest records. */
-#define EXPANDER_NOISE_RECORD_MAX 17563
-#define EXPANDER_SCALAR_RECORD_MAX 1064
+/* The greatest sizes. With a smaller d the greatest t and l are N, where that is below these, and
+ * the greatest n is N / 2. */
+#define EXPANDER_DEPTH_MAX 16        /* d */
+#define EXPANDER_BRANCH_BITS_MAX 3   /* g */
+#define EXPANDER_TREES_MAX 64        /* t */
+#define EXPANDER_TERMS_MAX 32        /* l */
+#define EXPANDER_LEAVES_MAX 65536    /* N */
+#define EXPANDER_OUTPUTS_MAX 32768   /* n; of a stock too */
+
+/* W, the words that an element of a field takes. */
+#define EXPANDER_ELEMENT_WORDS(field) ((field) == EXPANDER_BINARY ? 2 : 1)
+
+/* Bytes of the longest records: the noise record at d = 15, g = 3, the scalar record at d = 15 and
+ * d = 16. */
+#define EXPANDER_NOISE_RECORD_MAX 37034
+#define EXPANDER_SCALAR_RECORD_MAX 1081
+
+/* Where a window of the pad calls ends at the latest: first + count. */
+#define EXPANDER_PAD_WINDOW_END 32768
 
 /* The most outputs in a batch of chosen messages. */
 #define EXPANDER_BATCH_MAX 4096
 
-/* The most callers of a stock, and the most outputs that it is opened for. */
+/* The most callers of a stock. */
 #define EXPANDER_CALLERS_MAX 8
-#define EXPANDER_OUTPUTS_MAX 32768
 
 /* The most wires of a circuit, inputs and gates together, and the most outputs. */
 #define EXPANDER_WIRES_MAX 4096
@@ -127,6 +192,20 @@ struct expander_one_length {
     size_t written;
 };
 
+/* A number, and what the head of a record says; leaves is N, element_words is W. */
+struct expander_described {
+    uint32_t number;
+    uint8_t end;
+    uint8_t field;
+    size_t depth;
+    size_t branch_bits;
+    size_t trees;
+    size_t terms;
+    size_t outputs;
+    size_t leaves;
+    size_t element_words;
+};
+
 /* A number, and the signed amount that an element stands for. */
 struct expander_amount {
     uint32_t number;
@@ -139,8 +218,8 @@ struct expander_written_amount {
     uint64_t element;
 };
 
-/* A dealing's label, which its owners choose: records do not hold it yet. Labels compare as numbers
- * of 16 bytes, least byte first, and rise from dealing to dealing. */
+/* A dealing's label, which its owners choose; both records hold it. Labels compare as numbers of 16
+ * bytes, least byte first, and rise from dealing to dealing. */
 struct expander_label {
     uint8_t bytes[16];
 };
@@ -202,14 +281,16 @@ struct expander_stepped {
 
 /** Make a noise record and a scalar record of one dealing.
  *
- *  The caller draws roots, positions, values, delta and code_key at random, and sends each end its
- *  record alone.
+ *  The caller draws roots, positions, values, delta and code_key at random, chooses a label that no
+ *  other dealing has, and sends each end its record alone. Two records are of one dealing if field,
+ *  sizes, code key and label are all equal in them.
  *
  *  Returns:  a number, and the bytes written to noise_record and to scalar_record.
  *             0: accepted
  *             1: field is not 1 or 2
- *             2: depth, trees, terms or outputs (in this order) is outside its range
- *             3: roots, positions, values, delta or code_key does not have its exact length
+ *             2: depth, branch_bits, trees, terms or outputs (in this order) is outside its range,
+ *                or depth is no multiple of branch_bits
+ *             3: roots, positions, values, delta, code_key or label does not have its exact length
  *             4: a position is not above the one before, or is N or more (all positions are tested
  *                before any value)
  *             5: a value is not 1 (field 1), or is 0, or p or more (field 2)
@@ -218,6 +299,7 @@ struct expander_stepped {
  *            13: noise_record or scalar_record is too short for its record
  *  In:       field:         1 binary, 2 prime
  *            depth:         d
+ *            branch_bits:   g
  *            trees:         t
  *            terms:         l
  *            outputs:       n
@@ -228,33 +310,67 @@ struct expander_stepped {
  *            delta:         the scalar Delta, not zero: a block in field 1; in field 2 a word below
  *                           p, least byte first, then eight bytes 00; delta_len = 16
  *            code_key:      the key of the code that both ends use; code_key_len = 16
+ *            label:         the dealing's label, any; label_len = 16
  *  Out:      noise_record:  the noise record; EXPANDER_NOISE_RECORD_MAX bytes are always enough
  *            scalar_record: the scalar record; EXPANDER_SCALAR_RECORD_MAX bytes are always enough
  *  Refused:  both output buffers are as they were.
  *  Overlap:  noise_record and scalar_record overlap neither each other nor any input buffer.
  */
 struct expander_two_lengths expander_deal(
-    uint8_t field, size_t depth, size_t trees, size_t terms, size_t outputs,
+    uint8_t field, size_t depth, size_t branch_bits, size_t trees, size_t terms, size_t outputs,
     const uint8_t *roots, size_t roots_len,
     const uint32_t *positions, size_t positions_len,
     const uint64_t *values, size_t values_len,
     const uint8_t *delta, size_t delta_len,
     const uint8_t *code_key, size_t code_key_len,
+    const uint8_t *label, size_t label_len,
     uint8_t *noise_record, size_t noise_record_len,
     uint8_t *scalar_record, size_t scalar_record_len);
+
+/** Say what a record is: its end, field and sizes, and with them how long the vectors and outputs of
+ *  its end are. The whole record is read and tested, as its end's calls do it.
+ *
+ *  Returns:  a number, and the head: end (EXPANDER_NOISE_END or EXPANDER_SCALAR_END), field, depth,
+ *            branch_bits, trees, terms, outputs, and from these leaves (N) and element_words (W).
+ *             0: accepted: expander_noise_offline or expander_scalar_offline, by the end, accepts
+ *                this record in buffers of leaves and element_words * leaves, or
+ *                element_words * leaves and 2
+ *            Reading source from front to back, each field first read whole and then tested:
+ *            10: source ends before a field or inside it; an empty source too
+ *             9: the end byte is not 1 or 2
+ *             1: the field byte is not 1 or 2
+ *            11: d, g, t, l or n (each 11 and then 2, before the next) is not in its shortest form,
+ *                or its third byte has the top bit set
+ *             2: d, g, t, l or n is outside its range, or d is no multiple of g
+ *            then in a noise record, for each tree:
+ *            11: the position's number is not in its shortest form, or its third byte has the top
+ *                bit set
+ *             4: the position is N or more
+ *             5: the noise value is 0, or p or more (field 2; field 1 has none)
+ *             8: the correction is p or more (field 2)
+ *            and in a scalar record:
+ *             6: Delta is zero, or is p or more (field 2)
+ *            and at the end:
+ *            12: bytes follow the record
+ *  In:       source: a record of either end, of exactly source_len bytes
+ *  Out:      none.
+ *  Refused:  all but the number is 0.
+ *  Overlap:  none.
+ */
+struct expander_described expander_describe(const uint8_t *source, size_t source_len);
 
 /** Expand a noise record to the noise end's accumulated vectors.
  *
  *  Returns:  a number, and the words written to noise (N) and to v (W N).
  *             0: accepted
  *            Reading source from front to back, each field first read whole and then tested:
- *            10: source ends before a field or inside it; tested at every field (code key and
- *                siblings too), before that field's own tests
+ *            10: source ends before a field or inside it; tested at every field (code key, label
+ *                and siblings too), before that field's own tests
  *             9: the end byte is not 1
  *             1: the field byte is not 1 or 2
- *            11: d, t, l or n (each 11 and then 2, before the next) is not in its shortest form, or
- *                its third byte has the top bit set
- *             2: d, t, l or n is outside its range
+ *            11: d, g, t, l or n (each 11 and then 2, before the next) is not in its shortest form,
+ *                or its third byte has the top bit set
+ *             2: d, g, t, l or n is outside its range, or d is no multiple of g
  *            then for each tree:
  *            11: the position's number is not in its shortest form, or its third byte has the top
  *                bit set
@@ -280,13 +396,13 @@ struct expander_two_lengths expander_noise_offline(
  *  Returns:  a number, and the words written to w (W N) and to delta (2).
  *             0: accepted
  *            Reading source from front to back, each field first read whole and then tested:
- *            10: source ends before a field or inside it; tested at every field (code key and
- *                roots too), before that field's own tests
+ *            10: source ends before a field or inside it; tested at every field (code key, label
+ *                and roots too), before that field's own tests
  *             9: the end byte is not 2
  *             1: the field byte is not 1 or 2
- *            11: d, t, l or n (each 11 and then 2, before the next) is not in its shortest form, or
- *                its third byte has the top bit set
- *             2: d, t, l or n is outside its range
+ *            11: d, g, t, l or n (each 11 and then 2, before the next) is not in its shortest form,
+ *                or its third byte has the top bit set
+ *             2: d, g, t, l or n is outside its range, or d is no multiple of g
  *             6: Delta is zero, or is p or more (field 2)
  *            and at the end:
  *            12: bytes follow the record
@@ -307,13 +423,13 @@ struct expander_two_lengths expander_scalar_offline(
  *  Returns:  a number, and the words written to u_out (count) and to v_out (W count).
  *             0: accepted
  *            Reading source from front to back, each field first read whole and then tested:
- *            10: source ends before a field or inside it; tested at every field (code key and
- *                siblings too), before that field's own tests
+ *            10: source ends before a field or inside it; tested at every field (code key, label
+ *                and siblings too), before that field's own tests
  *             9: the end byte is not 1
  *             1: the field byte is not 1 or 2
- *            11: d, t, l or n (each 11 and then 2, before the next) is not in its shortest form, or
- *                its third byte has the top bit set
- *             2: d, t, l or n is outside its range
+ *            11: d, g, t, l or n (each 11 and then 2, before the next) is not in its shortest form,
+ *                or its third byte has the top bit set
+ *             2: d, g, t, l or n is outside its range, or d is no multiple of g
  *            then for each tree:
  *            11: the position's number is not in its shortest form, or its third byte has the top
  *                bit set
@@ -351,13 +467,13 @@ struct expander_two_lengths expander_noise_online(
  *  Returns:  a number, and the words written to w_out (W count).
  *             0: accepted
  *            Reading source from front to back, each field first read whole and then tested:
- *            10: source ends before a field or inside it; tested at every field (code key and
- *                roots too), before that field's own tests
+ *            10: source ends before a field or inside it; tested at every field (code key, label
+ *                and roots too), before that field's own tests
  *             9: the end byte is not 2
  *             1: the field byte is not 1 or 2
- *            11: d, t, l or n (each 11 and then 2, before the next) is not in its shortest form, or
- *                its third byte has the top bit set
- *             2: d, t, l or n is outside its range
+ *            11: d, g, t, l or n (each 11 and then 2, before the next) is not in its shortest form,
+ *                or its third byte has the top bit set
+ *             2: d, g, t, l or n is outside its range, or d is no multiple of g
  *             6: Delta is zero, or is p or more (field 2)
  *            and at the end:
  *            12: bytes follow the record
@@ -387,14 +503,15 @@ struct expander_one_length expander_scalar_online(
  *  Returns:  a number alone; an accepted call has written 16 count bytes to pads.
  *             0: accepted
  *             3: v or choices does not have its exact length
- *             7: first + count is above 32768
+ *             7: first + count is above EXPANDER_PAD_WINDOW_END
  *            13: pads_len is below 16 count
  *             8: a choice is above 1
  *  In:       first:   the window's first index
  *            count:   the window's number of indices; with 0 the same tests are made, and nothing
  *                     is written
  *            v:       v at each index of the window, 16 bytes each: the two words of
- *                     expander_noise_online, each least byte first; v_len = 16 count
+ *                     expander_noise_online, each least byte first, which here is what memory
+ *                     holds; v_len = 16 count
  *            choices: u at each index of the window, as one byte 0 or 1; choices_len = count
  *  Out:      pads:    the pad of v, 16 bytes an index
  *  Refused:  the output buffer is as it was.
@@ -412,16 +529,16 @@ uint32_t expander_noise_pads(
  *  Returns:  a number alone; an accepted call has written 32 count bytes to pads.
  *             0: accepted
  *             3: w or delta does not have its exact length
- *             7: first + count is above 32768
+ *             7: first + count is above EXPANDER_PAD_WINDOW_END
  *             6: delta is zero
  *            13: pads_len is below 32 count
  *  In:       first: the window's first index
  *            count: the window's number of indices; with 0 the same tests are made, and nothing is
  *                   written
  *            w:     w at each index of the window, 16 bytes each: the two words of
- *                   expander_scalar_online, each least byte first; w_len = 16 count
- *            delta: Delta, the two words of expander_scalar_offline, each least byte first;
- *                   delta_len = 16
+ *                   expander_scalar_online, each least byte first, which here is what memory holds;
+ *                   w_len = 16 count
+ *            delta: Delta, the two words of expander_scalar_offline, likewise; delta_len = 16
  *  Out:      pads:  32 bytes an index: message 0, then message 1
  *  Refused:  the output buffer is as it was.
  *  Overlap:  pads overlaps neither w nor delta.
@@ -438,7 +555,7 @@ uint32_t expander_scalar_pads(
  *
  *  Returns:  a number, and the bytes written to bits_out (count).
  *             0: accepted
- *             3: count is above 4096, or choices or wanted does not have its exact length
+ *             3: count is above EXPANDER_BATCH_MAX, or choices or wanted does not have its exact length
  *             8: a choice or a wanted bit is above 1
  *            13: bits_out_len is below count
  *  In:       count:    the batch's number of outputs, at most EXPANDER_BATCH_MAX; with 0 the same
@@ -461,7 +578,7 @@ struct expander_one_length expander_correction_bits(
  *
  *  Returns:  a number, and the bytes written to answers_out (32 count).
  *             0: accepted
- *             3: count is above 4096, or bits, pads or messages does not have its exact length
+ *             3: count is above EXPANDER_BATCH_MAX, or bits, pads or messages does not have its exact length
  *             8: a correction bit is above 1
  *            13: answers_out_len is below 32 count
  *  In:       count:       the batch's number of outputs, at most EXPANDER_BATCH_MAX; with 0 the
@@ -486,7 +603,7 @@ struct expander_one_length expander_mask_messages(
  *
  *  Returns:  a number, and the bytes written to messages_out (16 count).
  *             0: accepted
- *             3: count is above 4096, or wanted, pads or answers does not have its exact length
+ *             3: count is above EXPANDER_BATCH_MAX, or wanted, pads or answers does not have its exact length
  *             8: a wanted bit is above 1
  *            13: messages_out_len is below 16 count
  *  In:       count:        the batch's number of outputs, at most EXPANDER_BATCH_MAX; with 0 the

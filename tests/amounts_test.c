@@ -125,7 +125,9 @@ int main(void)
         read_word(word % P);
         write_word((int64_t)(word >> (1 + random_below(63))));
         write_word(-(int64_t)(word >> (1 + random_below(63))));
-        sum(random_below(2) ? a : -a, random_below(2) ? b : -b);
+        a = random_below(2) ? a : -a;
+        b = random_below(2) ? b : -b;
+        sum(a, b);
     }
     return finish();
 }

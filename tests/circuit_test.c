@@ -223,9 +223,11 @@ static void run_both(int refused)
         states[end] = fresh;
         spare = PAIRING_MOST - first - made.ands; /* lengths may differ at the ends */
         spare = random_below(spare < 5 ? spare + 1 : 5);
-        a[end] = (struct asked){(uint8_t)(end + 1), (uint8_t)random_word(), (uint8_t)random_word(),
-                                made.bytes, shares[end], triples[end] + 3 * first, made.len,
-                                made.c.inputs, 3 * (made.ands + spare)};
+        a[end] = (struct asked){(uint8_t)(end + 1), 0, 0, made.bytes, shares[end],
+                                triples[end] + 3 * first, made.len, made.c.inputs,
+                                3 * (made.ands + spare)};
+        a[end].far_first = (uint8_t)random_word();
+        a[end].far_second = (uint8_t)random_word();
     }
     for (size_t k = 0; k < made.c.inputs; k++)
         inputs[k] = shares[0][k] ^ shares[1][k];
@@ -234,8 +236,7 @@ static void run_both(int refused)
         for (int end = 0; end < 2; end++) {
             if (refused && random_below(3) == 0)
                 refused_step(&a[end], &states[end]);
-            now[end] = try_step(&a[end], n + random_below(2) * random_below(9), &states[end],
-                                outputs[end]);
+            now[end] = try_step(&a[end], n + random_extra(9), &states[end], outputs[end]);
             EXPECT(now[end].number == 0);
             EXPECT(step == 0 || now[end].state.gate > states[end].gate);
             EXPECT(now[end].state.phase == (step < made.ands ? WAITS : FINISHED));
@@ -274,8 +275,9 @@ static void runs(void)
     }
     for (int round = 0; round < 400; round++) {
         uint32_t inputs = 1 + (uint32_t)random_below(random_below(4) ? 6 : 40);
-        make_circuit(inputs, (uint32_t)random_below(random_below(4) ? 12 : 60),
-                     1 + (uint32_t)random_below(9), (size_t[]){0, 20, 50, 100}[random_below(4)]);
+        uint32_t gates = (uint32_t)random_below(random_below(4) ? 12 : 60);
+        uint32_t count = 1 + (uint32_t)random_below(9);
+        make_circuit(inputs, gates, count, (size_t[]){0, 20, 50, 100}[random_below(4)]);
         run_both(1);
     }
     make_circuit(1, 4095, 5, 25);
@@ -421,10 +423,12 @@ static void damaged_circuits(void)
         }
     for (int round = 0; round < 60; round++) { /* any bytes changed */
         memcpy(raw, made.bytes, made.len);
-        raw_len = made.len - random_below(2) * random_below(2) + random_below(2) * random_below(2);
-        for (size_t k = 1 + random_below(3); k > 0; k--)
-            raw[random_below(made.len)] = (uint8_t)(random_below(2) ? random_below(8)
-                                                                    : random_word());
+        raw_len = made.len - random_extra(2);
+        raw_len += random_extra(2);
+        for (size_t k = 1 + random_below(3); k > 0; k--) {
+            size_t at = random_below(made.len);
+            raw[at] = (uint8_t)(random_below(2) ? random_below(8) : random_word());
+        }
         try_raw();
     }
 }
@@ -529,9 +533,10 @@ static void refusals(void)
 static void any_state(void)
 {
     static run state;
-    struct asked a = {(uint8_t)(1 + random_below(2)), random_word() & 1, random_word() & 1,
-                      made.bytes, bits, bits + WIRES, made.len, made.c.inputs,
-                      3 * (size_t)made.ands};
+    struct asked a = {(uint8_t)(1 + random_below(2)), 0, 0, made.bytes, bits, bits + WIRES, made.len,
+                      made.c.inputs, 3 * (size_t)made.ands};
+    a.far_first = random_word() & 1;
+    a.far_second = random_word() & 1;
     random_bits(bits, a.shares_len);
     random_bits(bits + WIRES, a.triples_len);
     random_bytes(&state, sizeof state);
@@ -545,8 +550,9 @@ static void any_state(void)
 static void any_states(void)
 {
     for (int round = 0; round < 1000; round++) {
-        make_circuit(1 + (uint32_t)random_below(8), (uint32_t)random_below(30),
-                     1 + (uint32_t)random_below(9), (size_t[]){20, 50, 100}[random_below(3)]);
+        uint32_t inputs = 1 + (uint32_t)random_below(8), gates = (uint32_t)random_below(30);
+        uint32_t count = 1 + (uint32_t)random_below(9);
+        make_circuit(inputs, gates, count, (size_t[]){20, 50, 100}[random_below(3)]);
         for (int k = 0; k < 8; k++)
             any_state();
     }
@@ -563,8 +569,9 @@ int main(void)
     runs();
     random_bits(bits, sizeof bits);
     for (int round = 0; round < 40; round++) {
-        make_circuit(1 + (uint32_t)random_below(round < 30 ? 5 : 300), (uint32_t)random_below(9),
-                     1 + (uint32_t)random_below(4), 40);
+        uint32_t inputs = 1 + (uint32_t)random_below(round < 30 ? 5 : 300);
+        uint32_t gates = (uint32_t)random_below(9);
+        make_circuit(inputs, gates, 1 + (uint32_t)random_below(4), 40);
         damaged_circuits();
     }
     sizes();

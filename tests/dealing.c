@@ -20,6 +20,11 @@ size_t random_below(size_t bound)
     return (size_t)(random_word() % bound);
 }
 
+size_t random_extra(size_t bound)
+{
+    return random_below(2) ? random_below(bound) : 0;
+}
+
 void random_bytes(void *to, size_t bytes)
 {
     unsigned char *at = to;
@@ -31,17 +36,34 @@ void random_bytes(void *to, size_t bytes)
         *at++ = (unsigned char)random_word();
 }
 
+int may_branch(size_t depth, size_t branch_bits)
+{
+    return branch_bits >= 1 && branch_bits <= 3 && depth % branch_bits == 0;
+}
+
+size_t some_branch_bits(size_t depth)
+{
+    size_t g = 1 + random_below(3);
+    return may_branch(depth, g) ? g : 1;
+}
+
 size_t most_trees(size_t depth)
 {
     return depth < 6 ? (size_t)1 << depth : MAX_TREES;
 }
 
-void make_dealing(struct dealing *x, unsigned field, size_t depth, size_t trees, size_t terms,
-                  size_t outputs)
+size_t most_terms(size_t depth)
+{
+    return depth < 5 ? (size_t)1 << depth : 32;
+}
+
+void make_dealing(struct dealing *x, unsigned field, size_t depth, size_t branch_bits,
+                  size_t trees, size_t terms, size_t outputs)
 {
     size_t leaves = (size_t)1 << depth, taken = 0;
     x->field = (uint8_t)field;
     x->depth = depth;
+    x->branch_bits = branch_bits;
     x->trees = trees;
     x->terms = terms;
     x->outputs = outputs;
@@ -76,7 +98,8 @@ void make_dealing(struct dealing *x, unsigned field, size_t depth, size_t trees,
     }
     x->delta[0] |= 1;
     random_bytes(x->code_key, 16);
-    x->delta[16] = x->code_key[16] = 0;
+    random_bytes(x->label, 16);
+    x->delta[16] = x->code_key[16] = x->label[16] = 0;
 }
 
 /* 1 to most: a bound one time in four each, else anything. */
@@ -92,8 +115,9 @@ static size_t some_size(size_t most)
     }
 }
 
-void make_any_dealing(struct dealing *x, unsigned field, size_t depth)
+void make_any_dealing(struct dealing *x, unsigned field, size_t depth, size_t branch_bits)
 {
-    size_t trees = some_size(most_trees(depth)), terms = some_size(32);
-    make_dealing(x, field, depth, trees, terms, some_size((size_t)1 << (depth - 1)));
+    size_t trees = some_size(most_trees(depth)), terms = some_size(most_terms(depth));
+    make_dealing(x, field, depth, branch_bits, trees, terms,
+                 some_size((size_t)1 << (depth - 1)));
 }

@@ -4,49 +4,40 @@
 #include <stdio.h>
 #include <string.h>
 
-enum { DEPTH = 10, N = 1 << DEPTH, TREES = 4, TERMS = 8, OUTPUTS = N / 2, FIRST = 100, COUNT = 3 };
+enum { DEPTH = 10, N = 1 << DEPTH, BRANCH_BITS = 2, TREES = 4, TERMS = 8, OUTPUTS = N / 2 };
+enum { FIRST = 100, COUNT = 3 }; /* at most EXPANDER_BATCH_MAX */
 
 static uint8_t noise_record[EXPANDER_NOISE_RECORD_MAX];
 static uint8_t scalar_record[EXPANDER_SCALAR_RECORD_MAX];
 static uint64_t noise[N], v[2 * N]; /* the noise end's vectors */
 static uint64_t w[2 * N], delta[2]; /* the scalar end's vector and Delta */
 
-/* Blocks of two words as bytes, each word least byte first. */
-static void to_bytes(uint8_t *bytes, const uint64_t *words, size_t blocks)
-{
-    for (size_t k = 0; k < 16 * blocks; k++)
-        bytes[k] = (uint8_t)(words[k / 8] >> (8 * (k % 8)));
-}
-
-/* The noise end's choices and pads at the indices FIRST to FIRST + COUNT - 1. */
+/* The noise end's choices and pads at the indices FIRST to FIRST + COUNT - 1. The words of v are lent
+ * to the pad call as the bytes that they are in memory. */
 static int noise_end(size_t len, uint8_t *choices, uint8_t *pads)
 {
     uint64_t u_out[COUNT], v_out[2 * COUNT];
-    uint8_t v_bytes[16 * COUNT];
     if (expander_noise_offline(noise_record, len, noise, N, v, 2 * N).number != EXPANDER_ACCEPTED
         || expander_noise_online(noise_record, len, noise, N, v, 2 * N, FIRST, COUNT, u_out, COUNT,
                                  v_out, 2 * COUNT).number != EXPANDER_ACCEPTED)
         return 0;
     for (int k = 0; k < COUNT; k++)
         choices[k] = (uint8_t)u_out[k];
-    to_bytes(v_bytes, v_out, COUNT);
-    return expander_noise_pads(FIRST, COUNT, v_bytes, sizeof v_bytes, choices, COUNT, pads,
-                               16 * COUNT) == EXPANDER_ACCEPTED;
+    return expander_noise_pads(FIRST, COUNT, (const uint8_t *)v_out, sizeof v_out, choices, COUNT,
+                               pads, 16 * COUNT) == EXPANDER_ACCEPTED;
 }
 
 /* The scalar end's pads at the same indices. */
 static int scalar_end(size_t len, uint8_t *pads)
 {
     uint64_t w_out[2 * COUNT];
-    uint8_t w_bytes[16 * COUNT], delta_bytes[16];
     if (expander_scalar_offline(scalar_record, len, w, 2 * N, delta, 2).number != EXPANDER_ACCEPTED
         || expander_scalar_online(scalar_record, len, w, 2 * N, FIRST, COUNT, w_out,
                                   2 * COUNT).number != EXPANDER_ACCEPTED)
         return 0;
-    to_bytes(w_bytes, w_out, COUNT);
-    to_bytes(delta_bytes, delta, 1);
-    return expander_scalar_pads(FIRST, COUNT, w_bytes, sizeof w_bytes, delta_bytes, 16, pads,
-                                32 * COUNT) == EXPANDER_ACCEPTED;
+    return expander_scalar_pads(FIRST, COUNT, (const uint8_t *)w_out, sizeof w_out,
+                                (const uint8_t *)delta, sizeof delta, pads, 32 * COUNT)
+        == EXPANDER_ACCEPTED;
 }
 
 int main(void)
@@ -56,6 +47,8 @@ int main(void)
     static const uint32_t positions[TREES] = {17, 170, 400, 999};
     static const uint64_t values[TREES] = {1, 1, 1, 1};
     static const uint8_t scalar[16] = {2, 7, 1, 8}, code_key[16] = {1, 6, 1, 8};
+    /* The label is chosen, another for each dealing. */
+    static const uint8_t label[16] = {1};
 
     static const char *const texts[COUNT][2] = {{"hold", "offer"}, {"buy", "sell"}, {"no", "yes"}};
     static const uint8_t wanted[COUNT] = {1, 0, 1}; /* known to the noise end alone */
@@ -63,10 +56,10 @@ int main(void)
     uint8_t messages[32 * COUNT], bits[COUNT], answers[32 * COUNT], opened[16 * COUNT];
     struct expander_two_lengths records;
 
-    records = expander_deal(EXPANDER_BINARY, DEPTH, TREES, TERMS, OUTPUTS,
+    records = expander_deal(EXPANDER_BINARY, DEPTH, BRANCH_BITS, TREES, TERMS, OUTPUTS,
                             roots, sizeof roots, positions, TREES, values, TREES,
                             scalar, sizeof scalar, code_key, sizeof code_key,
-                            noise_record, sizeof noise_record,
+                            label, sizeof label, noise_record, sizeof noise_record,
                             scalar_record, sizeof scalar_record);
     if (records.number != EXPANDER_ACCEPTED
         || !noise_end(records.first_written, choices, noise_pads)

@@ -5,7 +5,7 @@
 
 #include <stdio.h>
 
-enum { DEPTH = 10, N = 1 << DEPTH, TREES = 4, TERMS = 8, TASKS = 2 };
+enum { DEPTH = 10, N = 1 << DEPTH, BRANCH_BITS = 1, TREES = 4, TERMS = 8, TASKS = 2 };
 
 /* One dealing's part at the noise end. */
 struct dealt {
@@ -22,15 +22,16 @@ static struct dealt autumn = {{{2}}, 400, 0, {0}, {0}, {0}}; /* a label above sp
 static int deal(struct dealt *d)
 {
     static uint8_t scalar_record[EXPANDER_SCALAR_RECORD_MAX];
-    /* In use, all of these are drawn at random. */
+    /* In use, all of these are drawn at random, but not the label. */
     const uint8_t roots[16 * TREES] = {3, 1, 4, 1, 5, 9, 2, d->label.bytes[0]};
     const uint32_t positions[TREES] = {17, 170, 400, 999};
     const uint64_t values[TREES] = {1, 1, 1, 1};
     const uint8_t scalar[16] = {2, 7, 1, 8}, code_key[16] = {1, 6, 1, 8};
     struct expander_two_lengths lengths = expander_deal(
-        EXPANDER_BINARY, DEPTH, TREES, TERMS, d->outputs, roots, sizeof roots, positions, TREES,
-        values, TREES, scalar, sizeof scalar, code_key, sizeof code_key, d->record,
-        sizeof d->record, scalar_record, sizeof scalar_record);
+        EXPANDER_BINARY, DEPTH, BRANCH_BITS, TREES, TERMS, d->outputs, roots, sizeof roots,
+        positions, TREES, values, TREES, scalar, sizeof scalar, code_key, sizeof code_key,
+        d->label.bytes, sizeof d->label.bytes, d->record, sizeof d->record,
+        scalar_record, sizeof scalar_record);
     d->record_len = lengths.first_written;
     if (lengths.number != EXPANDER_ACCEPTED)
         return 0;

@@ -1,6 +1,9 @@
-/* Document 01's seven calls held to the plain implementation, through expander.h (lend.h). */
+/* Document 01's seven calls, as document 02 changes them, and what a record is, held to the plain
+ * implementation, through expander.h (lend.h).
+ */
 #include "lend.h"
 
+#include <stdio.h>
 #include <string.h>
 
 #define P PLAIN_P
@@ -10,13 +13,14 @@ typedef struct plain_block block;
 
 /* ---- The calls and their numbers ---- */
 
-enum { DEAL, NOISE_OFFLINE, SCALAR_OFFLINE, NOISE_ONLINE, SCALAR_ONLINE, NOISE_PADS, SCALAR_PADS,
-       CALLS };
+enum { DEAL, DESCRIBE, NOISE_OFFLINE, SCALAR_OFFLINE, NOISE_ONLINE, SCALAR_ONLINE, NOISE_PADS,
+       SCALAR_PADS, CALLS };
 
-/* The numbers that document 01 lets each call give. */
+/* The numbers that the documents let each call give. */
 #define HEAD_NUMBERS (BIT(1) | BIT(2) | BIT(9) | BIT(10) | BIT(11) | BIT(12))
 static const struct call calls[CALLS] = {
     {"deal", BIT(0) | BIT(1) | BIT(2) | BIT(3) | BIT(4) | BIT(5) | BIT(6) | BIT(13)},
+    {"describe", BIT(0) | HEAD_NUMBERS | BIT(4) | BIT(5) | BIT(6) | BIT(8)},
     {"noise_offline", BIT(0) | HEAD_NUMBERS | BIT(4) | BIT(5) | BIT(8) | BIT(13)},
     {"scalar_offline", BIT(0) | HEAD_NUMBERS | BIT(6) | BIT(13)},
     {"noise_online",
@@ -30,37 +34,63 @@ static const struct call calls[CALLS] = {
 
 /* How much a dealing lends of each input, and of its two buffers. */
 struct deal_lengths {
-    size_t roots, positions, values, delta, code_key, noise, scalar;
+    size_t roots, positions, values, delta, code_key, label, noise, scalar;
 };
 
 static result try_deal(const struct dealing *x, const struct deal_lengths *n, uint8_t *noise_out,
                        uint8_t *scalar_out)
 {
     result mine, plain;
-    describe("deal(field %u, d %zu, t %zu, l %zu, n %zu, lengths %zu %zu %zu %zu %zu, %zu %zu)",
-             x->field, x->depth, x->trees, x->terms, x->outputs, n->roots, n->positions, n->values,
-             n->delta, n->code_key, n->noise, n->scalar);
+    describe("deal(field %u, d %zu, g %zu, t %zu, l %zu, n %zu, lengths %zu %zu %zu %zu %zu %zu, "
+             "%zu %zu)",
+             x->field, x->depth, x->branch_bits, x->trees, x->terms, x->outputs, n->roots,
+             n->positions, n->values, n->delta, n->code_key, n->label, n->noise, n->scalar);
     lend(0, x->roots, n->roots, 1);
     lend(1, x->positions, n->positions, 4);
     lend(2, x->values, n->values, 8);
     lend(3, x->delta, n->delta, 1);
     lend(4, x->code_key, n->code_key, 1);
-    lend(5, NULL, n->noise, 1);
-    lend(6, NULL, n->scalar, 1);
-    mine = two(expander_deal(x->field, x->depth, x->trees, x->terms, x->outputs,
+    lend(5, x->label, n->label, 1);
+    lend(6, NULL, n->noise, 1);
+    lend(7, NULL, n->scalar, 1);
+    mine = two(expander_deal(x->field, x->depth, x->branch_bits, x->trees, x->terms, x->outputs,
                              LIBRARY(0, uint8_t), n->roots, LIBRARY(1, uint32_t), n->positions,
                              LIBRARY(2, uint64_t), n->values, LIBRARY(3, uint8_t), n->delta,
-                             LIBRARY(4, uint8_t), n->code_key, LIBRARY(5, uint8_t), n->noise,
-                             LIBRARY(6, uint8_t), n->scalar));
-    plain = plain_deal(x->field, x->depth, x->trees, x->terms, x->outputs,
+                             LIBRARY(4, uint8_t), n->code_key, LIBRARY(5, uint8_t), n->label,
+                             LIBRARY(6, uint8_t), n->noise, LIBRARY(7, uint8_t), n->scalar));
+    plain = plain_deal(x->field, x->depth, x->branch_bits, x->trees, x->terms, x->outputs,
                        PLAIN(0, uint8_t), n->roots, PLAIN(1, uint32_t), n->positions,
                        PLAIN(2, uint64_t), n->values, PLAIN(3, uint8_t), n->delta,
-                       PLAIN(4, uint8_t), n->code_key, PLAIN(5, uint8_t), n->noise,
-                       PLAIN(6, uint8_t), n->scalar);
-    settle(DEAL, mine, plain, 5, 2, plain.first, plain.second);
-    keep(noise_out, 5, plain.first);
-    keep(scalar_out, 6, plain.second);
+                       PLAIN(4, uint8_t), n->code_key, PLAIN(5, uint8_t), n->label,
+                       PLAIN(6, uint8_t), n->noise, PLAIN(7, uint8_t), n->scalar);
+    settle(DEAL, mine, plain, 6, 2, plain.first, plain.second);
+    keep(noise_out, 6, plain.first);
+    keep(scalar_out, 7, plain.second);
     return mine;
+}
+
+static struct plain_described try_describe(const uint8_t *record, size_t len)
+{
+    struct expander_described mine;
+    struct plain_described plain;
+    int same;
+    describe("describe(record of %zu bytes)", len);
+    lend(0, record, len, 1);
+    mine = expander_describe(LIBRARY(0, uint8_t), len);
+    plain = plain_describe(PLAIN(0, uint8_t), len);
+    same = mine.number == plain.number && mine.end == plain.end && mine.field == plain.field
+        && mine.depth == plain.depth && mine.branch_bits == plain.branch_bits
+        && mine.trees == plain.trees && mine.terms == plain.terms && mine.outputs == plain.outputs
+        && mine.leaves == plain.leaves && mine.element_words == plain.element_words;
+    if (!same)
+        complain("returned %u, end %u, field %u, %zu %zu %zu %zu %zu, %zu, %zu; the plain "
+                 "implementation %u, end %u, field %u, %zu %zu %zu %zu %zu, %zu, %zu",
+                 mine.number, mine.end, mine.field, mine.depth, mine.branch_bits, mine.trees,
+                 mine.terms, mine.outputs, mine.leaves, mine.element_words, plain.number, plain.end,
+                 plain.field, plain.depth, plain.branch_bits, plain.trees, plain.terms,
+                 plain.outputs, plain.leaves, plain.element_words);
+    settle_lent(DESCRIBE, same, plain.number, 1, 0, 0, 0);
+    return plain;
 }
 
 static result try_offline(int end, const uint8_t *record, size_t len, size_t first_len,
@@ -170,7 +200,7 @@ static uint32_t try_scalar_pads(size_t first, size_t count, const uint8_t *w, si
 
 /* ---- One dealing and what its ends hold ---- */
 
-enum { MOST = 1 << 16 };
+enum { MOST = EXPANDER_LEAVES_MAX, SIZES = 5 };
 
 static struct dealing x;
 static uint8_t noise_record[EXPANDER_NOISE_RECORD_MAX + 8];
@@ -182,7 +212,7 @@ static uint64_t u_all[MOST / 2], v_all[MOST], w_all[MOST]; /* outputs 0 to n - 1
 
 static struct deal_lengths exact_lengths(void)
 {
-    struct deal_lengths n = {16 * x.trees, x.trees, x.trees, 16, 16, noise_record_len,
+    struct deal_lengths n = {16 * x.trees, x.trees, x.trees, 16, 16, 16, noise_record_len,
                              scalar_record_len};
     return n;
 }
@@ -190,14 +220,24 @@ static struct deal_lengths exact_lengths(void)
 /* Deal x. Both records are kept. */
 static result deal(void)
 {
-    struct deal_lengths n = {16 * x.trees, x.trees, x.trees, 16, 16,
+    struct deal_lengths n = {16 * x.trees, x.trees, x.trees, 16, 16, 16,
                              EXPANDER_NOISE_RECORD_MAX, EXPANDER_SCALAR_RECORD_MAX};
     result r = try_deal(&x, &n, noise_record, scalar_record);
     noise_record_len = r.first;
     scalar_record_len = r.second;
     leaves = (size_t)1 << x.depth;
-    width = x.field == 1 ? 2 : 1;
+    width = EXPANDER_ELEMENT_WORDS(x.field);
     return r;
+}
+
+/* The record of this end of x is described as what x is. */
+static void described(int end)
+{
+    struct plain_described d = end == 1 ? try_describe(noise_record, noise_record_len)
+                                        : try_describe(scalar_record, scalar_record_len);
+    EXPECT(d.number == 0 && d.end == (unsigned)end && d.field == x.field && d.depth == x.depth);
+    EXPECT(d.branch_bits == x.branch_bits && d.trees == x.trees && d.terms == x.terms);
+    EXPECT(d.outputs == x.outputs && d.leaves == leaves && d.element_words == width);
 }
 
 static void offline(void)
@@ -317,6 +357,7 @@ static void vary_lengths(void)
 static void vary_words(int rounds)
 {
     static unsigned char used[MOST];
+    size_t strip = leaves / x.terms;
     struct plain_key code;
     plain_expand_key(&code, x.code_key);
     for (int round = 0; round < rounds; round++) {
@@ -330,10 +371,11 @@ static void vary_words(int rounds)
         memset(used, 0, leaves);
         for (size_t k = first; k < first + c; k++)
             for (size_t i = 0; i < x.terms; i++)
-                used[plain_term(&code, x.field, (unsigned)x.depth, k, i, &coefficient)] = 1;
-        if (c > 0 && random_below(2))
-            place = plain_term(&code, x.field, (unsigned)x.depth, first + random_below(c),
-                               random_below(x.terms), &coefficient);
+                used[plain_term(&code, x.field, strip, k, i, &coefficient)] = 1;
+        if (c > 0 && random_below(2)) {
+            size_t row = first + random_below(c), term = random_below(x.terms);
+            place = plain_term(&code, x.field, strip, row, term, &coefficient);
+        }
         number = used[place] ? 8 : 0;
 
         kept = noise[place];
@@ -403,6 +445,8 @@ static void whole_dealing(int light)
     size_t n;
     EXPECT(deal().number == 0);
     n = x.outputs;
+    described(1);
+    described(2);
     vary_deal();
     offline();
     for (int end = 1; end <= 2; end++)
@@ -429,10 +473,10 @@ static void spoil_deal(struct deal_lengths *n, size_t trees)
 {
     size_t far = (size_t)1 << 32, i = random_below(x.trees - 1 < MAX_TREES ? x.trees : 1);
     size_t *const lengths[] = {&n->roots, &n->positions, &n->values, &n->delta, &n->code_key,
-                               &n->noise, &n->scalar};
-    const size_t whole[] = {16 * trees, trees, trees, 16, 16};
+                               &n->label, &n->noise, &n->scalar};
+    const size_t whole[] = {16 * trees, trees, trees, 16, 16, 16};
     size_t *len;
-    switch (random_below(14)) {
+    switch (random_below(15)) {
     case 0:
         x.field = (uint8_t)(random_below(2) ? 0 : 3 + random_below(253));
         break;
@@ -444,14 +488,15 @@ static void spoil_deal(struct deal_lengths *n, size_t trees)
                              far + x.trees, far}[random_below(6)];
         break;
     case 3:
-        x.terms = (size_t[]){0, 33, SIZE_MAX, far + x.terms, far}[random_below(5)];
+        x.terms = (size_t[]){0, (leaves < 32 ? leaves : 32) + 1, 33, SIZE_MAX, far + x.terms, far}[
+            random_below(6)];
         break;
     case 4:
         x.outputs = (size_t[]){0, leaves / 2 + 1, SIZE_MAX, far + x.outputs, far}[random_below(5)];
         break;
     case 5:
     case 6: /* an input length one short, one long, empty */
-        i = random_below(5);
+        i = random_below(6);
         *lengths[i] = (size_t[]){0, whole[i] - 1, whole[i] + 1}[random_below(3)];
         break;
     case 7:
@@ -472,17 +517,25 @@ static void spoil_deal(struct deal_lengths *n, size_t trees)
             x.delta[7] = 0x1f;
             x.delta[0] = (uint8_t)(0xfe + random_below(2)); /* p - 1 or p */
         }
-        if (random_below(4) == 0)
-            x.delta[8 + random_below(8)] = (uint8_t)(1 + random_below(255));
+        if (random_below(4) == 0) {
+            i = 8 + random_below(8);
+            x.delta[i] = (uint8_t)(1 + random_below(255));
+        }
         break;
     case 12:
         x.delta[7] = (uint8_t)(random_below(2) ? 0x1f : 0x20);
-        if (random_below(2))
-            x.delta[8 + random_below(8)] = (uint8_t)(1 + random_below(255));
+        if (random_below(2)) {
+            i = 8 + random_below(8);
+            x.delta[i] = (uint8_t)(1 + random_below(255));
+        }
         break;
     case 13:
-        len = lengths[5 + random_below(2)];
+        len = lengths[6 + random_below(2)];
         *len = random_below(2) ? 0 : *len - (*len > 0);
+        break;
+    case 14:
+        x.branch_bits = (size_t[]){0, 1, 2, 3, 4, SIZE_MAX, far + x.branch_bits, far}[
+            random_below(8)];
         break;
     }
 }
@@ -491,10 +544,12 @@ static void faulty_deals(int rounds)
 {
     for (int round = 0; round < rounds; round++) {
         struct deal_lengths n;
-        size_t trees;
-        make_any_dealing(&x, 1 + (unsigned)random_below(2), 1 + random_below(8));
+        unsigned field = 1 + (unsigned)random_below(2);
+        size_t trees, depth = 1 + random_below(8);
+        make_any_dealing(&x, field, depth, some_branch_bits(depth));
         if (random_below(16) == 0) /* every leaf taken where N is at most 64 */
-            make_dealing(&x, x.field, x.depth, most_trees(x.depth), x.terms, x.outputs);
+            make_dealing(&x, x.field, x.depth, x.branch_bits, most_trees(x.depth), x.terms,
+                         x.outputs);
         leaves = (size_t)1 << x.depth;
         noise_record_len = EXPANDER_NOISE_RECORD_MAX;
         scalar_record_len = EXPANDER_SCALAR_RECORD_MAX;
@@ -508,23 +563,117 @@ static void faulty_deals(int rounds)
     }
 }
 
+/* ---- Two faults of a dealing ---- */
+
+/* What can be wrong with a dealing: at least one fault for each size, input and buffer. The tests
+ * come in the order of their numbers. */
+enum { DEAL_FAULTS = 29 };
+
+/* Put fault k into a dealing of x of depth 4 and three trees, with lengths n; its number. */
+static uint32_t deal_fault(int k, struct deal_lengths *n)
+{
+    size_t *const inputs[] = {&n->roots, &n->positions, &n->values, &n->delta, &n->code_key,
+                              &n->label};
+    switch (k) {
+    case 0:
+        x.field = 3;
+        return 1;
+    case 1:
+        x.depth = 17;
+        return 2;
+    case 2:
+        x.trees = 17;
+        return 2;
+    case 3:
+        x.terms = 0;
+        return 2;
+    case 4:
+        x.outputs = 9;
+        return 2;
+    case 5:
+        x.positions[2] = 16;
+        return 4;
+    case 6:
+        x.positions[1] = x.positions[0];
+        return 4;
+    case 7:
+        x.values[0] = 0;
+        return 5;
+    case 8:
+        x.values[2] = P;
+        return 5;
+    case 9:
+        memset(x.delta, 0, 16);
+        return 6;
+    case 10:
+        n->noise--;
+        return 13;
+    case 11:
+        n->scalar--;
+        return 13;
+    case 12:
+        x.depth = 0;
+        return 2;
+    case 13:
+    case 14:
+    case 15:
+        x.branch_bits = (size_t[]){0, 3, 4}[k - 13];
+        return 2;
+    case 16:
+        x.terms = 17;
+        return 2;
+    default: /* an input empty, then one long */
+        k -= 17;
+        *inputs[k % 6] = k < 6 ? 0 : *inputs[k % 6] + 1;
+        return 3;
+    }
+}
+
+/* Every two faults of a dealing, in both orders: the one that is tested first gives the number. */
+static void two_deal_faults(void)
+{
+    static struct dealing whole;
+    for (unsigned field = 1; field <= 2; field++) {
+        struct deal_lengths lengths;
+        make_dealing(&whole, field, 4, 2, 3, 2, 8);
+        x = whole;
+        EXPECT(deal().number == 0);
+        lengths = exact_lengths();
+        for (int a = 0; a < DEAL_FAULTS; a++)
+            for (int b = 0; b < DEAL_FAULTS; b++) {
+                struct deal_lengths n = lengths;
+                uint32_t first, second;
+                x = whole;
+                first = deal_fault(a, &n);
+                second = a == b ? first : deal_fault(b, &n);
+                EXPECT(try_deal(&x, &n, NULL, NULL).number == (first < second ? first : second));
+            }
+    }
+}
+
+/* ---- Sizes ---- */
+
 /* Every size at its bounds and one past them. */
 static void sizes_at_bounds(void)
 {
     for (unsigned field = 1; field <= 2; field++)
-        for (size_t d = 1; d <= 16; d++) {
-            const size_t most[4] = {16, most_trees(d), 32, (size_t)1 << (d - 1)};
-            for (int which = 1; which < 4; which++)
+        for (size_t d = 1; d <= EXPANDER_DEPTH_MAX; d++) {
+            const size_t most[3] = {most_trees(d), most_terms(d), (size_t)1 << (d - 1)};
+            for (size_t g = 0; g <= 5; g++) {
+                make_dealing(&x, field, d, g, 1, 1, 1);
+                EXPECT(deal().number == (may_branch(d, g) ? 0 : 2));
+            }
+            for (int which = 0; which < 3; which++)
                 for (int how = 0; how < 4; how++) {
-                    size_t size[4] = {d, 1, 1, 1};
+                    size_t size[3] = {1, 1, 1};
                     const size_t value[4] = {0, 1, most[which], most[which] + 1};
-                    struct deal_lengths n = {0, 0, 0, 16, 16, EXPANDER_NOISE_RECORD_MAX,
+                    struct deal_lengths n = {0, 0, 0, 16, 16, 16, EXPANDER_NOISE_RECORD_MAX,
                                              EXPANDER_SCALAR_RECORD_MAX};
                     size[which] = value[how];
-                    make_dealing(&x, field, d, most_trees(d), 1, 1);
-                    x.trees = size[1];
-                    x.terms = size[2];
-                    x.outputs = size[3];
+                    make_dealing(&x, field, d, some_branch_bits(d), most_trees(d), 1, 1);
+                    x.trees = size[0];
+                    x.terms = size[1];
+                    x.outputs = size[2];
                     n.positions = n.values = x.trees;
                     n.roots = 16 * x.trees;
                     EXPECT(try_deal(&x, &n, NULL, NULL).number == (how % 3 == 0 ? 2 : 0));
@@ -532,25 +681,87 @@ static void sizes_at_bounds(void)
         }
 }
 
+/* What the header gives as the greatest sizes is admitted, and one more is refused with 2; windows of
+ * the pads end where it says. */
+static void limits(void)
+{
+    static const struct {
+        size_t sizes[SIZES]; /* d, g, t, l, n */
+        uint32_t number;
+    } tries[] = {
+        {{EXPANDER_DEPTH_MAX, 1, 1, 1, 1}, 0},
+        {{EXPANDER_DEPTH_MAX + 1, 1, 1, 1, 1}, 2},
+        {{EXPANDER_DEPTH_MAX - 1, EXPANDER_BRANCH_BITS_MAX, 1, 1, 1}, 0},
+        {{EXPANDER_DEPTH_MAX, EXPANDER_BRANCH_BITS_MAX + 1, 1, 1, 1}, 2},
+        {{EXPANDER_DEPTH_MAX, 1, EXPANDER_TREES_MAX, 1, 1}, 0},
+        {{EXPANDER_DEPTH_MAX, 1, EXPANDER_TREES_MAX + 1, 1, 1}, 2},
+        {{EXPANDER_DEPTH_MAX, 1, 1, EXPANDER_TERMS_MAX, 1}, 0},
+        {{EXPANDER_DEPTH_MAX, 1, 1, EXPANDER_TERMS_MAX + 1, 1}, 2},
+        {{EXPANDER_DEPTH_MAX, 1, 1, 1, EXPANDER_OUTPUTS_MAX}, 0},
+        {{EXPANDER_DEPTH_MAX, 1, 1, 1, EXPANDER_OUTPUTS_MAX + 1}, 2},
+    };
+    const size_t end = EXPANDER_PAD_WINDOW_END;
+    static const uint8_t zeros[32];
+    int major, minor, patch;
+    for (unsigned field = 1; field <= 2; field++)
+        for (size_t k = 0; k < sizeof tries / sizeof *tries; k++) {
+            const size_t *size = tries[k].sizes;
+            make_dealing(&x, field, EXPANDER_DEPTH_MAX, 1, EXPANDER_TREES_MAX, 1, 1);
+            x.depth = size[0];
+            x.branch_bits = size[1];
+            x.trees = size[2];
+            x.terms = size[3];
+            x.outputs = size[4];
+            for (size_t i = 0; i < EXPANDER_TREES_MAX; i++)
+                x.positions[i] = (uint32_t)i;
+            EXPECT(deal().number == tries[k].number);
+            if (tries[k].number == 0) {
+                described(1);
+                described(2);
+            }
+        }
+    EXPECT(EXPANDER_LEAVES_MAX == 1 << EXPANDER_DEPTH_MAX);
+    EXPECT(EXPANDER_OUTPUTS_MAX == EXPANDER_LEAVES_MAX / 2);
+    x.delta[0] = 1;
+    EXPECT(try_noise_pads(end - 1, 1, zeros, 16, zeros, 1, 16, NULL) == 0);
+    EXPECT(try_noise_pads(end, 1, zeros, 16, zeros, 1, 16, NULL) == 7);
+    EXPECT(try_noise_pads(end - 1, 2, zeros, 32, zeros, 2, 32, NULL) == 7);
+    EXPECT(try_noise_pads(end, 0, zeros, 0, zeros, 0, 0, NULL) == 0);
+    EXPECT(try_scalar_pads(end - 1, 1, zeros, 16, x.delta, 16, 32, NULL) == 0);
+    EXPECT(try_scalar_pads(end, 1, zeros, 16, x.delta, 16, 32, NULL) == 7);
+    EXPECT(sscanf(EXPANDER_VERSION, "%d.%d.%d", &major, &minor, &patch) == 3);
+    EXPECT(EXPANDER_VERSION_NUMBER == 10000 * major + 100 * minor + patch);
+}
+
 /* The lengths that the header gives for the longest records are met. */
 static void longest_records(void)
 {
     for (unsigned field = 1; field <= 2; field++) {
-        make_dealing(&x, field, 16, MAX_TREES, 32, MOST / 2);
-        for (uint32_t i = 0; i < MAX_TREES; i++) /* three numbers of three bytes, then of two */
-            x.positions[i] = i < 3 ? 16384 + 16385 * i : 49154 + 129 * (i - 2);
+        make_dealing(&x, field, 15, 3, MAX_TREES, 32, MOST / 4);
+        for (uint32_t i = 0; i < MAX_TREES; i++) /* a number of three bytes, then of two */
+            x.positions[i] = 16384 + 129 * i;
         EXPECT(deal().number == 0);
         EXPECT(noise_record_len == EXPANDER_NOISE_RECORD_MAX);
         EXPECT(field == 2 || scalar_record_len == EXPANDER_SCALAR_RECORD_MAX);
+        for (size_t g = 1; g <= 2; g++) {
+            make_dealing(&x, field, 16, g, MAX_TREES, 32, MOST / 2);
+            for (uint32_t i = 0; i < MAX_TREES; i++) /* three numbers of three bytes, then of two */
+                x.positions[i] = i < 3 ? 16384 + 16385 * i : 49154 + 129 * (i - 2);
+            EXPECT(deal().number == 0);
+            EXPECT(noise_record_len == (g == 1 ? 17580 : 25772));
+            EXPECT(field == 2 || scalar_record_len == EXPANDER_SCALAR_RECORD_MAX);
+        }
     }
 }
 
 /* ---- Damaged records ---- */
 
-/* Lend a record to its end's offline and online call, with buffers that suit the dealing. */
+/* Lend a record to the call that says what it is, and to its end's offline or online call, with
+ * buffers that suit the dealing. */
 static result try_record(int end, const uint8_t *record, size_t len)
 {
     size_t n = x.outputs, c = random_below((n < 4 ? n : 4) + 1);
+    try_describe(record, len);
     if (random_below(2))
         return end == 1
             ? try_offline(1, record, len, leaves, width * leaves, NULL, NULL)
@@ -570,18 +781,27 @@ static void damaged_records(void)
         const uint8_t *record = end == 1 ? noise_record : scalar_record;
         size_t len = end == 1 ? noise_record_len : scalar_record_len;
         memcpy(copy, record, len);
-        for (size_t cut = 0; cut < len; cut++)
+        for (size_t cut = 0; cut < len; cut++) {
             EXPECT(try_record(end, copy, cut).number == 10);
+            EXPECT(try_describe(copy, cut).number == 10);
+        }
         for (size_t more = 1; more <= 3; more++) {
             copy[len + more - 1] = (uint8_t)random_word();
             EXPECT(try_record(end, copy, len + more).number == 12);
         }
         EXPECT(try_record(3 - end, copy, len).number == 9);
+        described(end);
+        for (unsigned byte = 0; byte < 256; byte++)
+            if (byte != 1 && byte != 2) {
+                copy[0] = (uint8_t)byte;
+                EXPECT(try_describe(copy, len).number == 9);
+            }
+        copy[0] = record[0];
         for (size_t at = 0; at < len; at++) {
             const uint8_t values[] = {0x00, 0x01, 0x7f, 0x80, 0xff,
                                       (uint8_t)(copy[at] ^ 1 << random_below(8)),
                                       (uint8_t)(copy[at] + 1)};
-            size_t tries = at < 24 ? sizeof values : 2, from = random_below(sizeof values);
+            size_t tries = at < 41 ? sizeof values : 2, from = random_below(sizeof values);
             for (size_t k = 0; k < tries; k++) {
                 copy[at] = values[(from + k) % sizeof values];
                 try_record(end, copy, len);
@@ -589,9 +809,11 @@ static void damaged_records(void)
             copy[at] = record[at];
         }
         for (int round = 0; round < 20; round++) { /* several bytes at once, and another length */
-            size_t n = len - random_below(3) + random_below(3);
-            for (size_t k = random_below(4); k > 0; k--)
-                copy[random_below(len)] = (uint8_t)random_word();
+            size_t n = len - 2 + random_below(5);
+            for (size_t k = random_below(4); k > 0; k--) {
+                size_t at = random_below(len);
+                copy[at] = (uint8_t)random_word();
+            }
             try_record(end, copy, n);
             memcpy(copy, record, len);
         }
@@ -670,19 +892,23 @@ static void raw_delta(unsigned field)
     }
 }
 
-static void raw_record(int end, unsigned field, size_t d, size_t t, size_t n)
+static void raw_record(int end, unsigned field, size_t d, size_t g, size_t t, size_t n)
 {
-    size_t next = 0, all;
+    size_t next = 0, all, l;
     raw_len = 0;
     raw[raw_len++] = (uint8_t)(odd() ? (unsigned)random_below(4) : (unsigned)end);
     raw[raw_len++] = (uint8_t)(odd() ? (unsigned)random_below(4) : field);
     d = raw_size(d, 16) & 31;
+    g = raw_size(g, 3) & 3;
     t = raw_size(t, d <= 16 ? most_trees(d) : 64);
-    raw_size(1 + random_below(32), 32);
+    l = most_terms(d <= 16 ? d : 16);
+    raw_size(1 + random_below(l), l);
     raw_size(n, d >= 1 && d <= 16 ? (size_t)1 << (d - 1) : 1);
-    raw_any(16);
+    raw_any(16 + 16);
     if (d > 16)
         d = 16;
+    if (g == 0)
+        g = 1;
     if (t > MAX_TREES)
         t = MAX_TREES;
     all = (size_t)1 << d;
@@ -704,8 +930,8 @@ static void raw_record(int end, unsigned field, size_t d, size_t t, size_t n)
                 raw_element_word();
             else
                 raw_any(16);
-            raw_any(16 * d);
-            if (odd()) { /* a leaf's word at the edges of the reduction modulo p */
+            raw_any(16 * (d / g) * (((size_t)1 << g) - 1));
+            if (d >= g && odd()) { /* a leaf's word at the edges of the reduction modulo p */
                 const uint64_t others[] = {0, P - 1, P, P + 1, 2 * P - 1, 2 * P, 7 * P, 8 * P,
                                            8 * P + 1, UINT64_MAX};
                 raw_len -= 16;
@@ -737,7 +963,7 @@ static void odd_records(int rounds)
         width = field == 1 ? 2 : 1;
         x.outputs = n = 1 + random_below(leaves / 2);
         oddness = (int[]){0, 8, 16, 16, 40, 40}[random_below(6)];
-        raw_record(end, field, d, t, n);
+        raw_record(end, field, d, some_branch_bits(d), t, n);
         for (size_t j = 0; j < leaves; j++) {
             noise[j] = field == 1 ? random_word() & 1 : random_word() % P;
             v[j] = random_word() % P;
@@ -747,6 +973,330 @@ static void odd_records(int rounds)
         try_record(end, raw, raw_len);
     }
 }
+
+/* ---- Two faults of a record, or of a record and its call ---- */
+
+/* What a record's fields are, in the order in which they are read; AFTER is what follows it. */
+enum part { END, FIELD, SIZE, POSITION, VALUE, CORRECTION, DELTA, ANY, AFTER };
+
+/* The ways in which a field can be wrong, each with its number; 0 where there is no such way. In
+ * the first the record ends inside the field. */
+enum { WAYS = 6 };
+static const uint32_t wrong_ways[][WAYS] = {
+    [END] = {10, 9, 9},
+    [FIELD] = {10, 1, 1},
+    [SIZE] = {10, 2, 2, 11, 11, 10},
+    [POSITION] = {10, 4, 0, 11, 11, 10},
+    [VALUE] = {10, 5, 5},
+    [CORRECTION] = {10, 0, 8},
+    [DELTA] = {10, 6, 6},
+    [ANY] = {10},
+    [AFTER] = {0, 12},
+};
+
+/* The fields of a record of x, whose numbers all have one byte. */
+static struct field {
+    enum part part;
+    size_t from, bytes;
+} fields[32];
+static size_t field_count;
+
+static void next_field(enum part part, size_t bytes)
+{
+    struct field *f = &fields[field_count];
+    f->part = part;
+    f->from = field_count == 0 ? 0 : f[-1].from + f[-1].bytes;
+    f->bytes = bytes;
+    field_count++;
+}
+
+static void find_fields(int end)
+{
+    field_count = 0;
+    next_field(END, 1);
+    next_field(FIELD, 1);
+    for (int k = 0; k < SIZES; k++)
+        next_field(SIZE, 1);
+    next_field(ANY, 16); /* code key */
+    next_field(ANY, 16); /* label */
+    if (end == 2) {
+        next_field(DELTA, 8 * width);
+        next_field(ANY, 16 * x.trees);
+    }
+    for (size_t i = 0; end == 1 && i < x.trees; i++) {
+        next_field(POSITION, 1);
+        if (x.field == 2)
+            next_field(VALUE, 8);
+        next_field(CORRECTION, 8 * width);
+        next_field(ANY, 16 * (x.depth / x.branch_bits) * (((size_t)1 << x.branch_bits) - 1));
+    }
+    next_field(AFTER, 0);
+}
+
+/* The number for field f wrong in this way. In field 1 every block is an element. */
+static uint32_t way_number(const struct field *f, int way)
+{
+    int blocks = x.field == 1 && (f->part == CORRECTION || f->part == DELTA);
+    return blocks && way == 2 ? 0 : wrong_ways[f->part][way];
+}
+
+/* Write field f of a record to raw, wrong in this way; whether the record goes on. */
+static int put_wrong(const uint8_t *record, const struct field *f, int way)
+{
+    if (way == 0) {
+        memcpy(raw + raw_len, record + f->from, f->bytes - 1);
+        raw_len += f->bytes - 1;
+        return 0;
+    }
+    switch (f->part) {
+    case END: /* the other end's, none */
+        raw[raw_len++] = way == 1 ? (uint8_t)(3 - record[0]) : 0;
+        break;
+    case FIELD:
+        raw[raw_len++] = way == 1 ? 0 : 3;
+        break;
+    case SIZE:
+    case POSITION: /* too large, zero; with a byte 00 too many, without an end, cut inside */
+        if (way == 1)
+            raw_len += plain_write_number(raw + raw_len, 2097151);
+        else
+            raw[raw_len++] = way == 2 ? 0 : record[f->from] | 0x80;
+        if (way == 3)
+            raw[raw_len++] = 0x00;
+        for (int k = 0; way == 4 && k < 2; k++)
+            raw[raw_len++] = 0x80;
+        return way != 5;
+    case AFTER:
+        raw[raw_len++] = 0;
+        break;
+    default: /* zero, p */
+        memset(raw + raw_len, 0, f->bytes);
+        for (size_t k = 0; way == 2 && k < 8; k++)
+            raw[raw_len + k] = (uint8_t)(P >> (8 * k));
+        raw_len += f->bytes;
+    }
+    return 1;
+}
+
+/* Write a record to raw with field a wrong in one way and field b in another. */
+static void put_record(const uint8_t *record, const struct field *a, int way_a,
+                       const struct field *b, int way_b)
+{
+    raw_len = 0;
+    for (const struct field *f = fields; f < fields + field_count; f++) {
+        if (f == a || f == b) {
+            if (!put_wrong(record, f, f == a ? way_a : way_b))
+                return;
+        } else {
+            memcpy(raw + raw_len, record + f->from, f->bytes);
+            raw_len += f->bytes;
+        }
+    }
+}
+
+/* What can be wrong with an online call beside its record, in the order of the tests: a vector's
+ * length, the window, the room, words. */
+enum { VECTOR, WINDOW, ROOM, WORDS, NOTHING };
+static const uint32_t call_numbers[] = {3, 7, 13, 8, 0};
+
+/* The record in raw, lent to its end's online call with these two faults. */
+static uint32_t try_online(int end, int a, int b)
+{
+    static uint64_t bad[64];
+    size_t n = x.outputs;
+    size_t vectors = width * (a == VECTOR || b == VECTOR ? leaves + 1 : leaves);
+    size_t first = a == WINDOW || b == WINDOW, room = a == ROOM || b == ROOM ? n - 1 : n;
+    int words = a == WORDS || b == WORDS;
+    memset(bad, 0xff, sizeof bad);
+    return end == 1 ? try_noise_online(raw, raw_len, words ? bad : noise, leaves, words ? bad : v,
+                                       vectors, first, n, room, width * n, NULL, NULL).number
+                    : try_scalar_online(raw, raw_len, words ? bad : w, vectors, first, n,
+                                        width * room, NULL).number;
+}
+
+/* The record in raw, lent to its end's offline call with one buffer too short or none. */
+static uint32_t try_short(int end, int a)
+{
+    size_t room = width * leaves - (a == ROOM);
+    return end == 1 ? try_offline(1, raw, raw_len, leaves, room, NULL, NULL).number
+                    : try_offline(2, raw, raw_len, room, 2, NULL, NULL).number;
+}
+
+/* Every two faults of one end's record and calls: the one that is tested first gives the number. */
+static void two_faults_of(int end)
+{
+    const uint8_t *record = end == 1 ? noise_record : scalar_record;
+    int most = end == 2 && x.field == 1 ? WORDS : NOTHING; /* there no word is refused */
+    uint32_t described_as;
+    find_fields(end);
+    for (const struct field *a = fields; a < fields + field_count; a++)
+        for (int way = 0; way < WAYS; way++) {
+            uint32_t number = way_number(a, way);
+            if (number == 0)
+                continue;
+            for (const struct field *b = a + 1; b < fields + field_count; b++)
+                for (int other = 0; other < WAYS; other++)
+                    if (way_number(b, other) != 0) {
+                        put_record(record, a, way, b, other);
+                        EXPECT(try_short(end, NOTHING) == number);
+                        EXPECT(try_online(end, NOTHING, NOTHING) == number);
+                        described_as = try_describe(raw, raw_len).number;
+                        EXPECT(described_as == number || raw[0] == 3 - end);
+                    }
+            put_record(record, a, way, NULL, 0);
+            EXPECT(try_short(end, ROOM) == number);
+            for (int b = 0; b < most; b++)
+                EXPECT(try_online(end, b, NOTHING) == number);
+        }
+    put_record(record, NULL, 0, NULL, 0);
+    EXPECT(try_short(end, NOTHING) == 0);
+    EXPECT(try_short(end, ROOM) == 13);
+    EXPECT(try_online(end, NOTHING, NOTHING) == 0);
+    for (int a = 0; a < most; a++)
+        for (int b = 0; b < most; b++)
+            EXPECT(try_online(end, a, b) == call_numbers[a < b ? a : b]);
+}
+
+static void two_record_faults(void)
+{
+    for (unsigned field = 1; field <= 2; field++)
+        for (size_t g = 1; g <= 3; g += 2) {
+            make_dealing(&x, field, 3, g, 2, 3, 4);
+            EXPECT(deal().number == 0);
+            offline();
+            two_faults_of(1);
+            two_faults_of(2);
+        }
+}
+
+/* ---- Labels (document 02, 8) ---- */
+
+/* Where the label stands in both records of x: after end, field, sizes and code key. */
+static size_t label_at(void)
+{
+    const size_t sizes[SIZES] = {x.depth, x.branch_bits, x.trees, x.terms, x.outputs};
+    size_t at = 2 + 16;
+    uint8_t bytes[3];
+    for (int k = 0; k < SIZES; k++)
+        at += plain_write_number(bytes, (uint32_t)sizes[k]);
+    return at;
+}
+
+/* A dealing with another label differs in its records' label alone, and expands to the same. */
+static void label_alone(size_t depth, unsigned field)
+{
+    static uint8_t other_noise[EXPANDER_NOISE_RECORD_MAX];
+    static uint8_t other_scalar[EXPANDER_SCALAR_RECORD_MAX];
+    static uint64_t other[2 * MOST];
+    struct deal_lengths n;
+    size_t at, bit = random_below(128), c;
+    make_any_dealing(&x, field, depth, some_branch_bits(depth));
+    EXPECT(deal().number == 0);
+    offline();
+    c = x.outputs;
+    EXPECT(noise_window(0, c, c, width * c, u_all, v_all) == 0);
+    EXPECT(scalar_window(0, c, width * c, w_all) == 0);
+    at = label_at();
+    EXPECT(memcmp(noise_record + at, x.label, 16) == 0);
+    EXPECT(memcmp(scalar_record + at, x.label, 16) == 0);
+
+    n = exact_lengths();
+    x.label[bit / 8] ^= (uint8_t)(1 << bit % 8);
+    EXPECT(try_deal(&x, &n, other_noise, other_scalar).number == 0);
+    EXPECT(memcmp(other_noise + at, x.label, 16) == 0);
+    EXPECT(memcmp(other_scalar + at, x.label, 16) == 0);
+    EXPECT(memcmp(other_noise, noise_record, at) == 0);
+    EXPECT(memcmp(other_scalar, scalar_record, at) == 0);
+    at += 16;
+    EXPECT(memcmp(other_noise + at, noise_record + at, noise_record_len - at) == 0);
+    EXPECT(memcmp(other_scalar + at, scalar_record + at, scalar_record_len - at) == 0);
+
+    EXPECT(try_offline(1, other_noise, noise_record_len, leaves, width * leaves, NULL, other).number
+           == 0);
+    EXPECT(memcmp(other, v, 8 * width * leaves) == 0);
+    EXPECT(try_offline(2, other_scalar, scalar_record_len, width * leaves, 2, other, NULL).number
+           == 0);
+    EXPECT(memcmp(other, w, 8 * width * leaves) == 0);
+    EXPECT(try_noise_online(other_noise, noise_record_len, noise, leaves, v, width * leaves, 0, c,
+                            c, width * c, NULL, other).number == 0);
+    EXPECT(memcmp(other, v_all, 8 * width * c) == 0);
+    EXPECT(try_scalar_online(other_scalar, scalar_record_len, w, width * leaves, 0, c, width * c,
+                             other).number == 0);
+    EXPECT(memcmp(other, w_all, 8 * width * c) == 0);
+}
+
+/* ---- Rows that read exactly l places (document 02, 7) ---- */
+
+/* Words that are no elements everywhere but at the places of row row, or there at one alone: a row
+ * reads exactly those, and its outputs depend on no others. */
+static void exact_row(size_t row)
+{
+    static uint64_t noise_kept[MOST], v_kept[2 * MOST], w_kept[2 * MOST];
+    static unsigned char used[MOST];
+    const uint64_t none = UINT64_MAX;
+    size_t strip = leaves / x.terms, places = 0, picked;
+    uint64_t u_at, v_at[2], w_at[2], u_again, v_again[2], w_again[2], coefficient;
+    struct plain_key code;
+    plain_expand_key(&code, x.code_key);
+    memset(used, 0, leaves);
+    for (size_t i = 0; i < x.terms; i++) {
+        size_t place = plain_term(&code, x.field, strip, row, i, &coefficient);
+        EXPECT(place >= i * strip && place < (i + 1) * strip);
+        places += !used[place];
+        used[place] = 1;
+    }
+    EXPECT(places == x.terms);
+    EXPECT(noise_window(row, 1, 1, width, &u_at, v_at) == 0);
+    EXPECT(scalar_window(row, 1, width, w_at) == 0);
+
+    memcpy(noise_kept, noise, 8 * leaves);
+    memcpy(v_kept, v, 8 * width * leaves);
+    memcpy(w_kept, w, 8 * width * leaves);
+    for (size_t j = 0; j < leaves; j++)
+        for (size_t k = 0; !used[j] && k < width; k++)
+            noise[j] = v[width * j + k] = w[width * j + k] = none;
+    EXPECT(noise_window(row, 1, 1, width, &u_again, v_again) == 0);
+    EXPECT(scalar_window(row, 1, width, w_again) == 0);
+    EXPECT(u_again == u_at && memcmp(v_again, v_at, 8 * width) == 0);
+    EXPECT(memcmp(w_again, w_at, 8 * width) == 0);
+    memcpy(noise, noise_kept, 8 * leaves);
+    memcpy(v, v_kept, 8 * width * leaves);
+    memcpy(w, w_kept, 8 * width * leaves);
+
+    for (size_t i = 0; i < x.terms; i++) {
+        picked = plain_term(&code, x.field, strip, row, i, &coefficient);
+        noise[picked] = none;
+        EXPECT(noise_window(row, 1, 1, width, NULL, NULL) == 8);
+        noise[picked] = noise_kept[picked];
+        v[width * picked] ^= none;
+        w[width * picked] ^= none;
+        EXPECT(noise_window(row, 1, 1, width, NULL, v_again) == (x.field == 2 ? 8 : 0));
+        EXPECT(scalar_window(row, 1, width, w_again) == (x.field == 2 ? 8 : 0));
+        if (x.field == 1) /* every block is an element: the outputs show that it was read */
+            EXPECT(v_again[0] == (v_at[0] ^ none) && w_again[0] == (w_at[0] ^ none));
+        v[width * picked] = v_kept[width * picked];
+        w[width * picked] = w_kept[width * picked];
+    }
+}
+
+/* Strips that leave places at the top and strips that leave none, strips of one place too. */
+static void exact_rows(unsigned field)
+{
+    static const size_t shapes[][2] = {{1, 1}, {1, 2}, {2, 3}, {2, 4}, {3, 3}, {3, 5}, {3, 8},
+                                       {4, 7}, {5, 31}, {5, 32}, {6, 31}, {6, 32}, {7, 10},
+                                       {10, 1}, {10, 24}, {10, 32}, {13, 29}};
+    for (size_t k = 0; k < sizeof shapes / sizeof *shapes; k++) {
+        size_t d = shapes[k][0], n = (size_t)1 << (d - 1), g = some_branch_bits(d);
+        make_dealing(&x, field, d, g, 1 + random_below(2), shapes[k][1], n);
+        EXPECT(deal().number == 0);
+        offline();
+        exact_row(0);
+        exact_row(n - 1);
+        exact_row(random_below(n));
+    }
+}
+
+/* ---- The edges of field 2 ---- */
 
 /* a to the power e, modulo p. */
 static uint64_t power(uint64_t a, uint64_t e)
@@ -766,7 +1316,7 @@ static void edge_products(void)
     const uint64_t elements[] = {1, 2, 3, (uint64_t)1 << 60, P / 2, P - 2, P - 1};
     for (size_t a = 0; a < 7; a++)
         for (size_t b = 0; b < 7; b++) { /* Delta times a noise value */
-            make_dealing(&x, 2, 1, 1, 1, 1);
+            make_dealing(&x, 2, 1, 1, 1, 1, 1);
             for (int k = 0; k < 8; k++)
                 x.delta[k] = (uint8_t)(elements[a] >> (8 * k));
             x.values[0] = elements[b];
@@ -777,12 +1327,10 @@ static void edge_products(void)
             struct plain_key code;
             uint64_t first, second, out;
             size_t i, j;
-            do {
-                make_dealing(&x, 2, 4, 1, 2, 1);
-                plain_expand_key(&code, x.code_key);
-                i = plain_term(&code, 2, 4, 0, 0, &first);
-                j = plain_term(&code, 2, 4, 0, 1, &second);
-            } while (i == j);
+            make_dealing(&x, 2, 4, 1, 1, 2, 1);
+            plain_expand_key(&code, x.code_key);
+            i = plain_term(&code, 2, 8, 0, 0, &first);
+            j = plain_term(&code, 2, 8, 0, 1, &second);
             EXPECT(deal().number == 0);
             memset(noise, 0, 8 * leaves);
             memset(v, 0, 8 * leaves);
@@ -801,7 +1349,7 @@ static void edge_sums(void)
     const uint64_t elements[] = {0, 1, 7, P / 2, P - 8, P - 7, P - 2, P - 1};
     const uint64_t words[] = {0, 1, P - 1, P, P + 1, 2 * P - 1, 2 * P, 2 * P + 1, 7 * P - 1, 7 * P,
                               8 * P - 1, 8 * P, 8 * P + 1, UINT64_MAX};
-    static const uint8_t head[] = {1, 2, 1, 2, 5, 1};
+    static const uint8_t head[] = {1, 2, 1, 1, 2, 2, 1};
     leaves = 2;
     width = 1;
     for (size_t a = 0; a < sizeof elements / sizeof *elements; a++)
@@ -812,7 +1360,7 @@ static void edge_sums(void)
             oddness = 0;
             memcpy(raw, head, sizeof head);
             raw_len = sizeof head;
-            raw_any(16);
+            raw_any(16 + 16);
             raw_number(0); /* the tree with noise at 0 gives leaf 1 */
             raw_word(value);
             raw_word(correction);
@@ -839,15 +1387,17 @@ static void edge_sums(void)
 
 static void faulty_pads(int rounds)
 {
-    static const size_t spots[] = {0, 1, 255, 256, 32767, 32768, 32769, 65536,
+    static const size_t spots[] = {0, 1, 255, 256, EXPANDER_PAD_WINDOW_END - 1,
+                                   EXPANDER_PAD_WINDOW_END, EXPANDER_PAD_WINDOW_END + 1, 65536,
                                    (size_t)1 << 32, (size_t)1 << 63, SIZE_MAX - 1, SIZE_MAX};
     for (int round = 0; round < rounds; round++) {
-        size_t c = random_below(20), first = random_below(32769 - c), room, a, b;
+        size_t c = random_below(20), first, room, a, b, k;
         uint8_t scalar[17];
+        first = random_below(EXPANDER_PAD_WINDOW_END + 1 - c);
         random_bytes(v_bytes, 16 * 20 + 16);
         random_bytes(w_bytes, 16 * 20 + 16);
         random_bytes(scalar, 17);
-        for (size_t k = 0; k <= c; k++)
+        for (k = 0; k <= c; k++)
             choices[k] = random_word() & 1;
         a = 16 * c;
         b = c;
@@ -858,7 +1408,7 @@ static void faulty_pads(int rounds)
                 first = spots[random_below(sizeof spots / sizeof *spots)];
                 break;
             case 1:
-                first = 32768 - c + random_below(3);
+                first = EXPANDER_PAD_WINDOW_END - c + random_below(3);
                 break;
             case 2: /* lengths one short, one long, empty */
                 a = (size_t[]){a + 1, a - (a > 0), 0, a}[random_below(4)];
@@ -868,7 +1418,8 @@ static void faulty_pads(int rounds)
                 room = random_below(4);
                 break;
             case 4:
-                choices[random_below(c + 1)] = (uint8_t)(2 + random_below(254));
+                k = random_below(c + 1);
+                choices[k] = (uint8_t)(2 + random_below(254));
                 break;
             case 5:
                 memset(scalar, 0, 16);
@@ -970,13 +1521,14 @@ static void blocks_apart(int rounds)
     for (size_t k = 0; k < sizeof pairs / sizeof *pairs; k++)
         two_apart(pairs[k][0], pairs[k][1]);
     for (int round = 0; round < rounds; round++) {
-        size_t first = random_below(32768), second = random_below(32768);
+        size_t first = random_below(EXPANDER_PAD_WINDOW_END);
+        size_t second = random_below(EXPANDER_PAD_WINDOW_END);
         if (first != second)
             two_apart(first, second);
     }
     window_apart(0, 64);
     window_apart(224, 64);
-    window_apart(32768 - 64, 64);
+    window_apart(EXPANDER_PAD_WINDOW_END - 64, 64);
 }
 
 /* ---- Document 01's cases ---- */
@@ -985,23 +1537,23 @@ static void cases(void)
 {
     for (unsigned field = 1; field <= 2; field++) {
         result r;
-        make_dealing(&x, field, 1, 1, 1, 1);
+        make_dealing(&x, field, 1, 1, 1, 1, 1);
         r = deal();
-        EXPECT(r.number == 0 && r.first == 55 && r.second == (field == 1 ? 54 : 46));
-        EXPECT(try_offline(1, noise_record, 54, 8, 8, NULL, NULL).number == 10);
-        noise_record[55] = 0;
-        EXPECT(try_offline(1, noise_record, 56, 8, 8, NULL, NULL).number == 12);
+        EXPECT(r.number == 0 && r.first == 72 && r.second == (field == 1 ? 71 : 63));
+        EXPECT(try_offline(1, noise_record, 71, 8, 8, NULL, NULL).number == 10);
+        noise_record[72] = 0;
+        EXPECT(try_offline(1, noise_record, 73, 8, 8, NULL, NULL).number == 12);
         noise_record[2] = 0x80; /* d as 80 00 */
         noise_record[3] = 0x00;
-        EXPECT(try_offline(1, noise_record, 55, 8, 8, NULL, NULL).number == 11);
+        EXPECT(try_offline(1, noise_record, 72, 8, 8, NULL, NULL).number == 11);
 
-        make_dealing(&x, field, 3, 3, 2, 4);
+        make_dealing(&x, field, 3, 1, 3, 2, 4);
         x.positions[0] = 1;
         x.positions[1] = 4;
         x.positions[2] = 5;
         EXPECT(deal().number == 0);
-        EXPECT(noise_record[22] == 1 && noise_record[22 + 65] == 2
-               && noise_record[22 + 2 * 65] == 0);
+        EXPECT(noise_record[39] == 1 && noise_record[39 + 65] == 2
+               && noise_record[39 + 2 * 65] == 0);
         offline();
         EXPECT(noise_window(3, 1, 1, width, NULL, NULL) == 0);
         EXPECT(noise_window(3, 2, 2, 2 * width, NULL, NULL) == 7);
@@ -1016,7 +1568,7 @@ static void cases(void)
         EXPECT(deal().number == 4);
 
         /* Noise at 1 and 4, accumulated. */
-        make_dealing(&x, field, 3, 2, 1, 4);
+        make_dealing(&x, field, 3, 1, 2, 1, 4);
         x.positions[0] = 1;
         x.positions[1] = 4;
         x.values[0] = field == 1 ? 1 : 5;
@@ -1032,6 +1584,7 @@ int main(void)
 {
     begin(calls, CALLS);
     cases();
+    limits();
     sizes_at_bounds();
     longest_records();
     faulty_deals(8000);
@@ -1039,25 +1592,38 @@ int main(void)
     blocks_apart(500);
     edge_products();
     edge_sums();
+    two_deal_faults();
+    two_record_faults();
     odd_records(40000);
     for (unsigned field = 1; field <= 2; field++) {
+        exact_rows(field);
+        for (size_t depth = 1; depth <= 9; depth++)
+            label_alone(depth, field);
         for (size_t depth = 1; depth <= 4; depth++)
             for (int round = 0; round < 6; round++) {
-                make_dealing(&x, field, depth, 1 + random_below(2), 1 + random_below(4),
-                             (size_t)1 << (depth - 1));
+                size_t trees = 1 + random_below(2), terms = 1 + random_below(depth == 1 ? 2 : 4);
+                size_t g = some_branch_bits(depth);
+                make_dealing(&x, field, depth, g, trees, terms, (size_t)1 << (depth - 1));
                 damaged_records();
             }
-        for (size_t depth = 1; depth <= 10; depth++)
-            for (int round = 0; round < (depth <= 7 ? 12 : 3); round++) {
-                make_any_dealing(&x, field, depth);
-                whole_dealing(0);
-            }
-        for (size_t depth = 11; depth <= 16; depth++) {
-            make_dealing(&x, field, depth, 1 + random_below(8), 1 + random_below(32),
-                         1 + random_below((size_t)1 << (depth - 1)));
-            whole_dealing(1);
+        for (size_t g = 1; g <= 3; g++) {
+            for (size_t depth = g; depth <= 10; depth += g)
+                for (int round = 0; round < (depth <= 7 ? 10 : 2); round++) {
+                    make_any_dealing(&x, field, depth, g);
+                    whole_dealing(0);
+                }
+            for (size_t depth = 12; depth <= 16; depth++)
+                if (may_branch(depth, g)) {
+                    size_t trees = 1 + random_below(8), terms = 1 + random_below(32);
+                    make_dealing(&x, field, depth, g, trees, terms,
+                                 1 + random_below((size_t)1 << (depth - 1)));
+                    whole_dealing(1);
+                }
         }
-        make_dealing(&x, field, 16, 64, 32, 32768);
+    }
+    for (size_t g = 1; g <= 3; g++) { /* the largest sizes */
+        size_t depth = g == 3 ? 15 : 16;
+        make_dealing(&x, g == 2 ? 2 : 1, depth, g, 64, 32, (size_t)1 << (depth - 1));
         whole_dealing(1);
     }
     return finish();

@@ -2,6 +2,7 @@
 #define _GNU_SOURCE
 #include "lend.h"
 
+#include <inttypes.h>
 #include <stdarg.h>
 #include <stdio.h>
 #include <stdlib.h>
@@ -241,6 +242,7 @@ int finish(void)
         printf("%lu disagreements\n", wrong);
         return 1;
     }
-    printf("%lu calls agree with the plain implementation; %lu further facts hold\n", all, facts);
+    printf("%lu calls agree with the plain implementation; %lu further facts hold; the cases end at "
+           "%016" PRIx64 "\n", all, facts, random_word());
     return 0;
 }

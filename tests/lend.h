@@ -24,7 +24,8 @@ struct call {
 /* Make the memory to lend, for a program that makes these calls. */
 void begin(const struct call *list, int count);
 
-/* Print the table of numbers met and the count of facts; the program's exit status. */
+/* Print the table of numbers met, the count of facts and the next random word, which shows whether two
+ * compilers drew the same cases; the program's exit status. */
 int finish(void);
 
 /* ---- Facts ---- */

@@ -80,7 +80,7 @@ static uint32_t whole(int call, size_t c, const uint8_t *a, const uint8_t *b, co
     const struct shape *s = &shapes[call];
     const uint8_t *const in[INPUTS] = {a, b, d};
     const size_t len[INPUTS] = {s->in[0] * c, s->in[1] * c, s->in[2] * c};
-    return try_call(call, c, in, len, s->out * c + random_below(2) * random_below(40), out);
+    return try_call(call, c, in, len, s->out * c + random_extra(40), out);
 }
 
 /* Take outputs from the pairing, a window or any c of them, and move chosen messages. */

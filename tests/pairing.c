@@ -24,17 +24,19 @@ void make_pairing(struct pairing *p, size_t outputs)
     static struct dealing x;
     struct expander_two_lengths records;
     uint64_t delta[2];
-    size_t depth = 1, leaves, c;
+    size_t depth = 1, leaves, branch_bits, trees, c;
     while (((size_t)1 << depth) / 2 < outputs)
         depth++;
     leaves = (size_t)1 << depth;
     describe("pairing of %zu outputs", outputs);
-    make_dealing(&x, 1, depth, 1 + random_below(leaves < 8 ? leaves : 8),
+    branch_bits = some_branch_bits(depth);
+    trees = 1 + random_below(leaves < 8 ? leaves : 8);
+    make_dealing(&x, 1, depth, branch_bits, trees,
                  1 + random_below(leaves < 12 ? leaves : 12), outputs);
-    records = expander_deal(x.field, x.depth, x.trees, x.terms, x.outputs, x.roots, 16 * x.trees,
-                            x.positions, x.trees, x.values, x.trees, x.delta, 16, x.code_key, 16,
-                            noise_record, sizeof noise_record, scalar_record,
-                            sizeof scalar_record);
+    records = expander_deal(x.field, x.depth, x.branch_bits, x.trees, x.terms, x.outputs, x.roots,
+                            16 * x.trees, x.positions, x.trees, x.values, x.trees, x.delta, 16,
+                            x.code_key, 16, x.label, 16, noise_record, sizeof noise_record,
+                            scalar_record, sizeof scalar_record);
     EXPECT(records.number == 0);
     EXPECT(expander_noise_offline(noise_record, records.first_written, noise, LEAVES, v,
                                   2 * LEAVES).number == 0);

@@ -1,4 +1,6 @@
-/* A plain second implementation of document 01, its pads by document 02, request 4 (plain.h). */
+/* A plain second implementation of document 01 with document 02's requests 4, 7, 8 and
+ * 10 (plain.h).
+ */
 #include "plain.h"
 
 #include <string.h>
@@ -7,6 +9,9 @@ __extension__ typedef unsigned __int128 wide;
 
 #define P PLAIN_P
 #define MAX_TREES 64
+#define MAX_TERMS 32
+#define MAX_CHILDREN 8
+#define MAX_SIBLINGS 35 /* d = 15, g = 3 */
 #define MAX_PAD_INDEX 32768
 
 typedef struct plain_block block;
@@ -17,7 +22,7 @@ typedef struct plain_result result;
 
 static uint8_t sbox[256];
 static uint32_t mix[4][256]; /* SubBytes and MixColumns of a byte in row 0, 1, 2, 3 */
-static round_keys child_keys[2], pad_key;
+static round_keys child_keys[MAX_CHILDREN], pad_key;
 static int ready;
 
 static uint8_t xtime(uint8_t a)
@@ -68,10 +73,10 @@ static void start(void)
             mix[row][x] = rotate_left(mix[0][x], 8 * row);
     }
     ready = 1;
-    memset(key, 0x00, 16);
-    plain_expand_key(&child_keys[0], key);
-    memset(key, 0x01, 16);
-    plain_expand_key(&child_keys[1], key);
+    for (unsigned c = 0; c < MAX_CHILDREN; c++) {
+        memset(key, (int)c, 16);
+        plain_expand_key(&child_keys[c], key);
+    }
     memset(key, 0xff, 16);
     plain_expand_key(&pad_key, key);
 }
@@ -133,38 +138,43 @@ void plain_expand_key(round_keys *key, const uint8_t bytes[16])
     }
 }
 
-static uint32_t mixed(uint32_t a, uint32_t b, uint32_t c, uint32_t d)
+static uint32_t mixed(uint32_t a, uint32_t b, uint32_t c, uint32_t d, uint32_t key)
 {
-    return mix[0][byte_of(a, 0)] ^ mix[1][byte_of(b, 1)]
+    return key ^ mix[0][byte_of(a, 0)] ^ mix[1][byte_of(b, 1)]
          ^ mix[2][byte_of(c, 2)] ^ mix[3][byte_of(d, 3)];
 }
 
-static uint32_t shifted(uint32_t a, uint32_t b, uint32_t c, uint32_t d)
+static uint32_t shifted(uint32_t a, uint32_t b, uint32_t c, uint32_t d, uint32_t key)
 {
-    return (uint32_t)sbox[byte_of(a, 0)] | (uint32_t)sbox[byte_of(b, 1)] << 8
-         | (uint32_t)sbox[byte_of(c, 2)] << 16 | (uint32_t)sbox[byte_of(d, 3)] << 24;
+    return key ^ ((uint32_t)sbox[byte_of(a, 0)] | (uint32_t)sbox[byte_of(b, 1)] << 8
+                  | (uint32_t)sbox[byte_of(c, 2)] << 16 | (uint32_t)sbox[byte_of(d, 3)] << 24);
 }
+
+#define ROUND(t, s, key) \
+    t##0 = mixed(s##0, s##1, s##2, s##3, (key)[0]); \
+    t##1 = mixed(s##1, s##2, s##3, s##0, (key)[1]); \
+    t##2 = mixed(s##2, s##3, s##0, s##1, (key)[2]); \
+    t##3 = mixed(s##3, s##0, s##1, s##2, (key)[3])
 
 block plain_encrypt(const round_keys *key, block b)
 {
     const uint32_t *k = key->column;
-    uint32_t s0 = (uint32_t)b.lo ^ k[0];
-    uint32_t s1 = (uint32_t)(b.lo >> 32) ^ k[1];
-    uint32_t s2 = (uint32_t)b.hi ^ k[2];
-    uint32_t s3 = (uint32_t)(b.hi >> 32) ^ k[3];
+    uint32_t s0 = (uint32_t)b.lo ^ k[0], s1 = (uint32_t)(b.lo >> 32) ^ k[1];
+    uint32_t s2 = (uint32_t)b.hi ^ k[2], s3 = (uint32_t)(b.hi >> 32) ^ k[3];
+    uint32_t t0, t1, t2, t3;
     block r;
-    for (unsigned round = 1; round < 10; round++) {
-        uint32_t t0, t1, t2, t3;
-        k += 4;
-        t0 = mixed(s0, s1, s2, s3) ^ k[0];
-        t1 = mixed(s1, s2, s3, s0) ^ k[1];
-        t2 = mixed(s2, s3, s0, s1) ^ k[2];
-        t3 = mixed(s3, s0, s1, s2) ^ k[3];
-        s0 = t0, s1 = t1, s2 = t2, s3 = t3;
-    }
-    k += 4;
-    r.lo = (shifted(s0, s1, s2, s3) ^ k[0]) | (uint64_t)(shifted(s1, s2, s3, s0) ^ k[1]) << 32;
-    r.hi = (shifted(s2, s3, s0, s1) ^ k[2]) | (uint64_t)(shifted(s3, s0, s1, s2) ^ k[3]) << 32;
+    ROUND(t, s, k + 4);
+    ROUND(s, t, k + 8);
+    ROUND(t, s, k + 12);
+    ROUND(s, t, k + 16);
+    ROUND(t, s, k + 20);
+    ROUND(s, t, k + 24);
+    ROUND(t, s, k + 28);
+    ROUND(s, t, k + 32);
+    ROUND(t, s, k + 36);
+    k += 40;
+    r.lo = shifted(t0, t1, t2, t3, k[0]) | (uint64_t)shifted(t1, t2, t3, t0, k[1]) << 32;
+    r.hi = shifted(t2, t3, t0, t1, k[2]) | (uint64_t)shifted(t3, t0, t1, t2, k[3]) << 32;
     return r;
 }
 
@@ -187,21 +197,23 @@ static uint64_t add_mod(uint64_t a, uint64_t b)
     return r >= P ? r - P : r;
 }
 
-/* x modulo p, for x below 2^122: 2^61 is 1 modulo p. */
+/* x modulo p: 2^61 is 1 modulo p. */
+uint64_t plain_reduce(uint64_t x)
+{
+    uint64_t r = (x & P) + (x >> 61);
+    return r >= P ? r - P : r;
+}
+
+/* x modulo p, for x below 2^127. */
 static uint64_t reduce_wide(wide x)
 {
-    uint64_t r = ((uint64_t)x & P) + (uint64_t)(x >> 61);
-    return r >= P ? r - P : r;
+    wide folded = (x & P) + (x >> 61); /* below 2^67 */
+    return plain_reduce(((uint64_t)folded & P) + (uint64_t)(folded >> 61));
 }
 
 static uint64_t multiply_mod(uint64_t a, uint64_t b)
 {
     return reduce_wide((wide)a * b);
-}
-
-uint64_t plain_reduce(uint64_t x)
-{
-    return x % P;
 }
 
 block plain_add(unsigned field, block a, block b)
@@ -255,21 +267,30 @@ static block load_element(unsigned field, const uint8_t *bytes)
 
 /* ---- Trees ---- */
 
-static block child(unsigned side, block s)
+static block child(unsigned c, block s)
 {
-    return exclusive_or(plain_encrypt(&child_keys[side], s), s);
+    return exclusive_or(plain_encrypt(&child_keys[c], s), s);
 }
 
-block plain_child(unsigned side, block s)
+/* A tree's levels take g bits of a path each, the highest first. */
+struct shape {
+    unsigned depth, branch_bits;
+};
+
+static unsigned children_of(struct shape tree)
 {
-    start();
-    return child(side, s);
+    return 1u << tree.branch_bits;
+}
+
+static size_t siblings_of(struct shape tree)
+{
+    return (size_t)(tree.depth / tree.branch_bits) * (children_of(tree) - 1);
 }
 
 static block leaf_element(unsigned field, block leaf)
 {
     if (field == 2) {
-        leaf.lo %= P;
+        leaf.lo = plain_reduce(leaf.lo);
         leaf.hi = 0;
     }
     return leaf;
@@ -285,16 +306,57 @@ static void add_element(unsigned field, uint64_t *sum, block a)
     }
 }
 
-/* Add the elements of all leaves below s, which is `levels` above them, to sum. */
-static void add_subtree(unsigned field, block s, unsigned levels, uint64_t *sum)
+/* Add the elements of all leaves of the tree below s to sum. */
+static void add_tree(unsigned field, block s, struct shape tree, uint64_t *sum)
 {
-    if (levels == 0) {
+    unsigned children = children_of(tree);
+    size_t part;
+    if (tree.depth == 0) {
         add_element(field, sum, leaf_element(field, s));
         return;
     }
-    add_subtree(field, child(0, s), levels - 1, sum);
-    add_subtree(field, child(1, s), levels - 1,
-                sum + ((size_t)width_of(field) << (levels - 1)));
+    tree.depth -= tree.branch_bits;
+    part = (size_t)width_of(field) << tree.depth;
+    for (unsigned c = 0; c < children; c++, sum += part)
+        if (tree.depth == 0)
+            add_element(field, sum, leaf_element(field, child(c, s)));
+        else
+            add_tree(field, child(c, s), tree, sum);
+}
+
+/* Add the elements of all leaves of the tree but the one at position, from the siblings. */
+static void add_punctured(unsigned field, const uint8_t *siblings, uint32_t position,
+                          struct shape tree, uint64_t *sum)
+{
+    unsigned children = children_of(tree);
+    while (tree.depth > 0) {
+        uint32_t digit, front;
+        tree.depth -= tree.branch_bits;
+        digit = position >> tree.depth & (children - 1);
+        front = (position >> tree.depth) - digit;
+        for (uint32_t c = 0; c < children; c++)
+            if (c != digit) {
+                size_t from = (size_t)(front + c) << tree.depth;
+                add_tree(field, plain_load(siblings), tree, sum + width_of(field) * from);
+                siblings += 16;
+            }
+    }
+}
+
+/* The leaf of the tree below s at position, and the siblings beside the path to it. */
+static block puncture(block s, uint32_t position, struct shape tree, block *siblings)
+{
+    unsigned children = children_of(tree);
+    while (tree.depth > 0) {
+        uint32_t digit;
+        tree.depth -= tree.branch_bits;
+        digit = position >> tree.depth & (children - 1);
+        for (uint32_t c = 0; c < children; c++)
+            if (c != digit)
+                *siblings++ = child(c, s);
+        s = child(digit, s);
+    }
+    return s;
 }
 
 /* ---- Records ---- */
@@ -303,12 +365,13 @@ struct tree {
     uint32_t position;
     uint64_t value;
     block correction;
-    const uint8_t *siblings; /* d blocks */
+    const uint8_t *siblings; /* siblings_of(shape) blocks */
 };
 
 struct record {
-    unsigned field, depth, trees, terms, outputs;
-    const uint8_t *code_key;
+    unsigned field, trees, terms, outputs;
+    struct shape shape;
+    const uint8_t *code_key, *label;
     struct tree tree[MAX_TREES]; /* noise record */
     block delta;                 /* scalar record */
     const uint8_t *roots;        /* scalar record: t blocks */
@@ -364,15 +427,21 @@ static int depth_admitted(size_t d)
     return d >= 1 && d <= 16;
 }
 
+static int branch_bits_admitted(size_t d, size_t g)
+{
+    return g >= 1 && g <= 3 && d % g == 0;
+}
+
 static int trees_admitted(size_t d, size_t t)
 {
     size_t leaves = (size_t)1 << d;
     return t >= 1 && t <= (leaves < MAX_TREES ? leaves : MAX_TREES);
 }
 
-static int terms_admitted(size_t l)
+static int terms_admitted(size_t d, size_t l)
 {
-    return l >= 1 && l <= 32;
+    size_t leaves = (size_t)1 << d;
+    return l >= 1 && l <= (leaves < MAX_TERMS ? leaves : MAX_TERMS);
 }
 
 static int outputs_admitted(size_t d, size_t n)
@@ -393,23 +462,29 @@ static uint32_t read_head(struct reader *in, unsigned end, struct record *r)
     if (*byte != 1 && *byte != 2)
         return 1;
     r->field = *byte;
-    if ((number = take_number(in, &r->depth)) != 0)
+    if ((number = take_number(in, &r->shape.depth)) != 0)
         return number;
-    if (!depth_admitted(r->depth))
+    if (!depth_admitted(r->shape.depth))
+        return 2;
+    if ((number = take_number(in, &r->shape.branch_bits)) != 0)
+        return number;
+    if (!branch_bits_admitted(r->shape.depth, r->shape.branch_bits))
         return 2;
     if ((number = take_number(in, &r->trees)) != 0)
         return number;
-    if (!trees_admitted(r->depth, r->trees))
+    if (!trees_admitted(r->shape.depth, r->trees))
         return 2;
     if ((number = take_number(in, &r->terms)) != 0)
         return number;
-    if (!terms_admitted(r->terms))
+    if (!terms_admitted(r->shape.depth, r->terms))
         return 2;
     if ((number = take_number(in, &r->outputs)) != 0)
         return number;
-    if (!outputs_admitted(r->depth, r->outputs))
+    if (!outputs_admitted(r->shape.depth, r->outputs))
         return 2;
     if ((r->code_key = take(in, 16)) == NULL)
+        return 10;
+    if ((r->label = take(in, 16)) == NULL)
         return 10;
     return 0;
 }
@@ -426,7 +501,7 @@ static uint32_t read_noise_record(const uint8_t *source, size_t source_len, stru
         if ((number = take_number(&in, &x)) != 0)
             return number;
         tree->position = next + x;
-        if (tree->position >= (uint32_t)1 << r->depth)
+        if (tree->position >= (uint32_t)1 << r->shape.depth)
             return 4;
         next = tree->position + 1;
         tree->value = 1;
@@ -442,7 +517,7 @@ static uint32_t read_noise_record(const uint8_t *source, size_t source_len, stru
         tree->correction = load_element(r->field, bytes);
         if (!is_element(r->field, tree->correction.lo))
             return 8;
-        if ((tree->siblings = take(&in, 16 * (size_t)r->depth)) == NULL)
+        if ((tree->siblings = take(&in, 16 * siblings_of(r->shape))) == NULL)
             return 10;
     }
     return in.left > 0 ? 12 : 0;
@@ -463,6 +538,32 @@ static uint32_t read_scalar_record(const uint8_t *source, size_t source_len, str
     if ((r->roots = take(&in, 16 * (size_t)r->trees)) == NULL)
         return 10;
     return in.left > 0 ? 12 : 0;
+}
+
+struct plain_described plain_describe(const uint8_t *source, size_t source_len)
+{
+    struct plain_described d = {0, 0, 0, 0, 0, 0, 0, 0, 0, 0};
+    struct record r;
+    if (source_len == 0)
+        d.number = 10;
+    else if (source[0] == 1)
+        d.number = read_noise_record(source, source_len, &r);
+    else if (source[0] == 2)
+        d.number = read_scalar_record(source, source_len, &r);
+    else
+        d.number = 9;
+    if (d.number != 0)
+        return d;
+    d.end = source[0];
+    d.field = r.field;
+    d.depth = r.shape.depth;
+    d.branch_bits = r.shape.branch_bits;
+    d.trees = r.trees;
+    d.terms = r.terms;
+    d.outputs = r.outputs;
+    d.leaves = (size_t)1 << r.shape.depth;
+    d.element_words = width_of(r.field);
+    return d;
 }
 
 /* ---- Dealing ---- */
@@ -492,36 +593,42 @@ static uint8_t *put_element(uint8_t *to, unsigned field, block a)
     return put(to, bytes, element_bytes(field));
 }
 
-static uint8_t *put_head(uint8_t *to, uint8_t end, uint8_t field, const uint32_t sizes[4],
-                         const uint8_t *code_key)
+enum { SIZES = 5 }; /* d, g, t, l, n */
+
+static uint8_t *put_head(uint8_t *to, uint8_t end, uint8_t field, const uint32_t sizes[SIZES],
+                         const uint8_t *code_key, const uint8_t *label)
 {
     *to++ = end;
     *to++ = field;
-    for (unsigned k = 0; k < 4; k++)
+    for (unsigned k = 0; k < SIZES; k++)
         to += plain_write_number(to, sizes[k]);
-    return put(to, code_key, 16);
+    to = put(to, code_key, 16);
+    return put(to, label, 16);
 }
 
 result plain_deal(
-    uint8_t field, size_t depth, size_t trees, size_t terms, size_t outputs,
+    uint8_t field, size_t depth, size_t branch_bits, size_t trees, size_t terms, size_t outputs,
     const uint8_t *roots, size_t roots_len, const uint32_t *positions, size_t positions_len,
     const uint64_t *values, size_t values_len, const uint8_t *delta, size_t delta_len,
-    const uint8_t *code_key, size_t code_key_len, uint8_t *noise_record, size_t noise_record_len,
-    uint8_t *scalar_record, size_t scalar_record_len)
+    const uint8_t *code_key, size_t code_key_len, const uint8_t *label, size_t label_len,
+    uint8_t *noise_record, size_t noise_record_len, uint8_t *scalar_record,
+    size_t scalar_record_len)
 {
     size_t head_len, noise_len, scalar_len;
-    uint32_t sizes[4];
+    uint32_t sizes[SIZES];
+    struct shape shape;
     block scalar;
     uint8_t *to;
 
     start();
     if (field != 1 && field != 2)
         return refused(1);
-    if (!depth_admitted(depth) || !trees_admitted(depth, trees) || !terms_admitted(terms)
+    if (!depth_admitted(depth) || !branch_bits_admitted(depth, branch_bits)
+        || !trees_admitted(depth, trees) || !terms_admitted(depth, terms)
         || !outputs_admitted(depth, outputs))
         return refused(2);
     if (roots_len != 16 * trees || positions_len != trees || values_len != trees
-        || delta_len != 16 || code_key_len != 16)
+        || delta_len != 16 || code_key_len != 16 || label_len != 16)
         return refused(3);
     for (size_t i = 0; i < trees; i++)
         if (positions[i] >= (uint32_t)1 << depth || (i > 0 && positions[i] <= positions[i - 1]))
@@ -534,43 +641,42 @@ result plain_deal(
         return refused(6);
 
     sizes[0] = (uint32_t)depth;
-    sizes[1] = (uint32_t)trees;
-    sizes[2] = (uint32_t)terms;
-    sizes[3] = (uint32_t)outputs;
-    head_len = 2 + 16;
-    for (unsigned k = 0; k < 4; k++)
+    sizes[1] = (uint32_t)branch_bits;
+    sizes[2] = (uint32_t)trees;
+    sizes[3] = (uint32_t)terms;
+    sizes[4] = (uint32_t)outputs;
+    shape.depth = sizes[0];
+    shape.branch_bits = sizes[1];
+    head_len = 2 + 16 + 16;
+    for (unsigned k = 0; k < SIZES; k++)
         head_len += number_length(sizes[k]);
     scalar_len = head_len + element_bytes(field) + 16 * trees;
-    noise_len = head_len + trees * ((field == 2 ? 8 : 0) + element_bytes(field) + 16 * depth);
+    noise_len = head_len
+              + trees * ((field == 2 ? 8 : 0) + element_bytes(field) + 16 * siblings_of(shape));
     for (size_t i = 0; i < trees; i++)
         noise_len += number_length(i == 0 ? positions[0] : positions[i] - positions[i - 1] - 1);
     if (noise_record_len < noise_len || scalar_record_len < scalar_len)
         return refused(13);
 
-    to = put_head(noise_record, 1, field, sizes, code_key);
+    to = put_head(noise_record, 1, field, sizes, code_key, label);
     for (size_t i = 0; i < trees; i++) {
         uint32_t s = positions[i];
-        block node = plain_load(roots + 16 * i);
-        block siblings[16];
-        for (size_t k = 0; k < depth; k++) {
-            unsigned side = s >> (depth - 1 - k) & 1;
-            siblings[k] = child(1 - side, node);
-            node = child(side, node);
-        }
+        block siblings[MAX_SIBLINGS];
+        block leaf = puncture(plain_load(roots + 16 * i), s, shape, siblings);
         to += plain_write_number(to, i == 0 ? s : s - positions[i - 1] - 1);
         if (field == 2) {
             store_word(to, values[i]);
             to += 8;
         }
         to = put_element(to, field,
-                         plain_subtract(field, leaf_element(field, node),
+                         plain_subtract(field, leaf_element(field, leaf),
                                         plain_scale(field, scalar, values[i])));
-        for (size_t k = 0; k < depth; k++) {
+        for (size_t k = 0; k < siblings_of(shape); k++) {
             plain_store(to, siblings[k]);
             to += 16;
         }
     }
-    to = put_head(scalar_record, 2, field, sizes, code_key);
+    to = put_head(scalar_record, 2, field, sizes, code_key, label);
     to = put_element(to, field, scalar);
     put(to, roots, 16 * trees);
     return accepted(noise_len, scalar_len);
@@ -579,19 +685,24 @@ result plain_deal(
 /* ---- Offline ---- */
 
 /* Place j becomes the sum of places 0 to j. */
-static void accumulate(unsigned field, uint64_t *a, size_t n)
-{
-    size_t width = width_of(field);
-    for (size_t j = 1; j < n; j++) {
-        block before = {a[width * (j - 1)], field == 1 ? a[width * (j - 1) + 1] : 0};
-        add_element(field, a + width * j, before);
-    }
-}
-
 void plain_accumulate_noise(unsigned field, uint64_t *noise, size_t n)
 {
-    for (size_t j = 1; j < n; j++)
-        noise[j] = field == 1 ? noise[j - 1] ^ noise[j] : add_mod(noise[j - 1], noise[j]);
+    uint64_t sum = 0;
+    for (size_t j = 0; j < n; j++)
+        noise[j] = sum = field == 1 ? sum ^ noise[j] : add_mod(sum, noise[j]);
+}
+
+static void accumulate(unsigned field, uint64_t *a, size_t n)
+{
+    block sum = {0, 0};
+    if (field == 2) {
+        plain_accumulate_noise(2, a, n);
+        return;
+    }
+    for (size_t j = 0; j < n; j++) {
+        a[2 * j] = sum.lo ^= a[2 * j];
+        a[2 * j + 1] = sum.hi ^= a[2 * j + 1];
+    }
 }
 
 result plain_noise_offline(
@@ -604,7 +715,7 @@ result plain_noise_offline(
     start();
     if (number != 0)
         return refused(number);
-    leaves = (size_t)1 << r.depth;
+    leaves = (size_t)1 << r.shape.depth;
     width = width_of(r.field);
     if (noise_len < leaves || v_len < width * leaves)
         return refused(13);
@@ -614,11 +725,7 @@ result plain_noise_offline(
     for (unsigned i = 0; i < r.trees; i++) {
         const struct tree *tree = &r.tree[i];
         noise[tree->position] = tree->value;
-        for (unsigned k = 0; k < r.depth; k++) {
-            unsigned levels = r.depth - 1 - k;
-            size_t from = (size_t)(tree->position >> levels ^ 1) << levels;
-            add_subtree(r.field, plain_load(tree->siblings + 16 * k), levels, v + width * from);
-        }
+        add_punctured(r.field, tree->siblings, tree->position, r.shape, v);
         add_element(r.field, v + width * tree->position, tree->correction);
     }
     plain_accumulate_noise(r.field, noise, leaves);
@@ -636,14 +743,14 @@ result plain_scalar_offline(
     start();
     if (number != 0)
         return refused(number);
-    leaves = (size_t)1 << r.depth;
+    leaves = (size_t)1 << r.shape.depth;
     width = width_of(r.field);
     if (w_len < width * leaves || delta_len < 2)
         return refused(13);
 
     memset(w, 0, 8 * width * leaves);
     for (unsigned i = 0; i < r.trees; i++)
-        add_subtree(r.field, plain_load(r.roots + 16 * i), r.depth, w);
+        add_tree(r.field, plain_load(r.roots + 16 * i), r.shape, w);
     accumulate(r.field, w, leaves);
     delta[0] = r.delta.lo;
     delta[1] = r.delta.hi;
@@ -652,42 +759,112 @@ result plain_scalar_offline(
 
 /* ---- Online ---- */
 
-size_t plain_term(const round_keys *code, unsigned field, unsigned depth, uint64_t x, uint64_t i,
+size_t plain_term(const round_keys *code, unsigned field, size_t strip, uint64_t x, uint64_t i,
                   uint64_t *coefficient)
 {
     block in = {x, i};
     block out = plain_encrypt(code, in);
-    *coefficient = field == 1 ? 1 : out.hi % P;
-    return (size_t)(out.lo & (((uint64_t)1 << depth) - 1));
+    *coefficient = field == 1 ? 1 : plain_reduce(out.hi);
+    return (size_t)(i * strip + out.lo % strip);
 }
 
-static int noise_word_admitted(unsigned field, uint64_t word)
+/* What rows are worked out from; noise is NULL at the scalar end. */
+struct rows {
+    round_keys code;
+    unsigned field, terms;
+    size_t leaves, strip;
+    const uint64_t *noise, *elements;
+};
+
+/* Row x: u, where there is noise, and the element. Whether each word that it uses is admitted. */
+static int binary_row(const struct rows *r, uint64_t x, uint64_t *u_out, uint64_t *element_out)
 {
-    return field == 1 ? word <= 1 : word < P;
-}
-
-/* Whether each word that the window's rows use is admitted. noise is NULL at the scalar end. */
-static int words_admitted(const struct record *r, const round_keys *code, const uint64_t *noise,
-                          const uint64_t *elements, size_t first, size_t count)
-{
-    size_t leaves = (size_t)1 << r->depth, j;
-    uint64_t coefficient;
-
-    /* Where no word at all is wrong there is no need to look at the rows. */
-    for (j = 0; j < leaves; j++)
-        if ((noise != NULL && !noise_word_admitted(r->field, noise[j]))
-            || (r->field == 2 && !is_element(2, elements[j])))
-            break;
-    if (j == leaves)
-        return 1;
-
-    for (size_t x = first; x < first + count; x++)
-        for (unsigned i = 0; i < r->terms; i++) {
-            j = plain_term(code, r->field, r->depth, x, i, &coefficient);
-            if ((noise != NULL && !noise_word_admitted(r->field, noise[j]))
-                || (r->field == 2 && !is_element(2, elements[j])))
-                return 0;
+    uint64_t coefficient, u = 0, used = 0, lo = 0, hi = 0;
+    for (unsigned i = 0; i < r->terms; i++) {
+        size_t j = plain_term(&r->code, 1, r->strip, x, i, &coefficient);
+        if (r->noise != NULL) {
+            u ^= r->noise[j];
+            used |= r->noise[j];
         }
+        lo ^= r->elements[2 * j];
+        hi ^= r->elements[2 * j + 1];
+    }
+    if (r->noise != NULL)
+        *u_out = u;
+    element_out[0] = lo;
+    element_out[1] = hi;
+    return used <= 1;
+}
+
+static int prime_row(const struct rows *r, uint64_t x, uint64_t *u_out, uint64_t *element_out)
+{
+    wide u = 0, sum = 0; /* at most 32 products below 2^122 */
+    uint64_t coefficient;
+    int admitted = 1;
+    for (unsigned i = 0; i < r->terms; i++) {
+        size_t j = plain_term(&r->code, 2, r->strip, x, i, &coefficient);
+        if (r->noise != NULL) {
+            admitted &= r->noise[j] < P;
+            u += (wide)coefficient * r->noise[j];
+        }
+        admitted &= r->elements[j] < P;
+        sum += (wide)coefficient * r->elements[j];
+    }
+    if (r->noise != NULL)
+        *u_out = reduce_wide(u);
+    *element_out = reduce_wide(sum);
+    return admitted;
+}
+
+static int row(const struct rows *r, uint64_t x, uint64_t *u_out, uint64_t *element_out)
+{
+    return (r->field == 1 ? binary_row : prime_row)(r, x, u_out, element_out);
+}
+
+/* Whether every word is admitted, so that no row uses another. */
+static int all_admitted(const struct rows *r)
+{
+    uint64_t limit = r->field == 1 ? 2 : P;
+    for (size_t j = 0; r->noise != NULL && j < r->leaves; j++)
+        if (r->noise[j] >= limit)
+            return 0;
+    for (size_t j = 0; r->field == 2 && j < r->leaves; j++)
+        if (r->elements[j] >= P)
+            return 0;
+    return 1;
+}
+
+/* The window's rows; 0, with nothing written, if one uses a word that is not admitted. A few rows
+ * are kept back until all of them have passed; for many, all words are tested first. */
+static int window(const struct record *record, const uint64_t *noise, const uint64_t *elements,
+                  size_t first, size_t count, uint64_t *u_out, uint64_t *element_out)
+{
+    enum { FEW = 64 };
+    uint64_t u[FEW], element[2 * FEW];
+    size_t width = width_of(record->field);
+    struct rows r;
+    plain_expand_key(&r.code, record->code_key);
+    r.field = record->field;
+    r.terms = record->terms;
+    r.leaves = (size_t)1 << record->shape.depth;
+    r.strip = r.leaves / r.terms;
+    r.noise = noise;
+    r.elements = elements;
+    if (count <= FEW) {
+        for (size_t k = 0; k < count; k++)
+            if (!row(&r, first + k, u + k, element + width * k))
+                return 0;
+        if (noise != NULL)
+            memcpy(u_out, u, 8 * count);
+        memcpy(element_out, element, 8 * width * count);
+        return 1;
+    }
+    if (!all_admitted(&r))
+        for (size_t k = 0; k < count; k++)
+            if (!row(&r, first + k, u, element))
+                return 0;
+    for (size_t k = 0; k < count; k++)
+        row(&r, first + k, noise != NULL ? u_out + k : NULL, element_out + width * k);
     return 1;
 }
 
@@ -702,12 +879,11 @@ result plain_noise_online(
     uint64_t *u_out, size_t u_out_len, uint64_t *v_out, size_t v_out_len)
 {
     struct record r;
-    round_keys code;
     size_t leaves, width;
     uint32_t number = read_noise_record(source, source_len, &r);
     if (number != 0)
         return refused(number);
-    leaves = (size_t)1 << r.depth;
+    leaves = (size_t)1 << r.shape.depth;
     width = width_of(r.field);
     if (noise_len != leaves || v_len != width * leaves)
         return refused(3);
@@ -715,29 +891,8 @@ result plain_noise_online(
         return refused(7);
     if (u_out_len < count || v_out_len < width * count)
         return refused(13);
-    plain_expand_key(&code, r.code_key);
-    if (!words_admitted(&r, &code, noise, v, first, count))
+    if (!window(&r, noise, v, first, count, u_out, v_out))
         return refused(8);
-
-    for (size_t k = 0; k < count; k++) {
-        uint64_t coefficient, u = 0;
-        block sum = {0, 0};
-        for (unsigned i = 0; i < r.terms; i++) {
-            size_t j = plain_term(&code, r.field, r.depth, first + k, i, &coefficient);
-            if (r.field == 1) {
-                u ^= noise[j];
-                sum.lo ^= v[2 * j];
-                sum.hi ^= v[2 * j + 1];
-            } else {
-                u = add_mod(u, multiply_mod(coefficient, noise[j]));
-                sum.lo = add_mod(sum.lo, multiply_mod(coefficient, v[j]));
-            }
-        }
-        u_out[k] = u;
-        v_out[width * k] = sum.lo;
-        if (r.field == 1)
-            v_out[2 * k + 1] = sum.hi;
-    }
     return accepted(count, width * count);
 }
 
@@ -746,12 +901,11 @@ result plain_scalar_online(
     size_t first, size_t count, uint64_t *w_out, size_t w_out_len)
 {
     struct record r;
-    round_keys code;
     size_t leaves, width;
     uint32_t number = read_scalar_record(source, source_len, &r);
     if (number != 0)
         return refused(number);
-    leaves = (size_t)1 << r.depth;
+    leaves = (size_t)1 << r.shape.depth;
     width = width_of(r.field);
     if (w_len != width * leaves)
         return refused(3);
@@ -759,26 +913,8 @@ result plain_scalar_online(
         return refused(7);
     if (w_out_len < width * count)
         return refused(13);
-    plain_expand_key(&code, r.code_key);
-    if (!words_admitted(&r, &code, NULL, w, first, count))
+    if (!window(&r, NULL, w, first, count, NULL, w_out))
         return refused(8);
-
-    for (size_t k = 0; k < count; k++) {
-        uint64_t coefficient;
-        block sum = {0, 0};
-        for (unsigned i = 0; i < r.terms; i++) {
-            size_t j = plain_term(&code, r.field, r.depth, first + k, i, &coefficient);
-            if (r.field == 1) {
-                sum.lo ^= w[2 * j];
-                sum.hi ^= w[2 * j + 1];
-            } else {
-                sum.lo = add_mod(sum.lo, multiply_mod(coefficient, w[j]));
-            }
-        }
-        w_out[width * k] = sum.lo;
-        if (r.field == 1)
-            w_out[2 * k + 1] = sum.hi;
-    }
     return accepted(width * count, 0);
 }
 

@@ -1,5 +1,6 @@
-/* A plain second implementation of document 01, its pads by document 02, request 4, to hold the
- * library to. Written from those documents and FIPS 197 alone. Parameters lie as in expander.h.
+/* A plain second implementation of document 01 with document 02's requests 4 (pads), 7 (rows),
+ * 8 (labels) and 10 (flatter trees), to hold the library to. Written from those documents and
+ * FIPS 197 alone. Parameters lie as in expander.h.
  */
 #ifndef PLAIN_H
 #define PLAIN_H
@@ -20,6 +21,13 @@ struct plain_block {
     uint64_t lo, hi;
 };
 
+/* What the head of an accepted record says; else a number and zeros. */
+struct plain_described {
+    uint32_t number;
+    unsigned end, field;
+    size_t depth, branch_bits, trees, terms, outputs, leaves, element_words;
+};
+
 /* AES-128 round keys: eleven times four columns, the least byte of each in row 0. */
 struct plain_key {
     uint32_t column[44];
@@ -31,7 +39,6 @@ struct plain_block plain_load(const uint8_t bytes[16]);
 void plain_store(uint8_t bytes[16], struct plain_block b);
 void plain_expand_key(struct plain_key *key, const uint8_t bytes[16]);
 struct plain_block plain_encrypt(const struct plain_key *key, struct plain_block b);
-struct plain_block plain_child(unsigned side, struct plain_block b);
 size_t plain_write_number(uint8_t bytes[3], uint32_t x);
 uint64_t plain_reduce(uint64_t x);
 struct plain_block plain_add(unsigned field, struct plain_block a, struct plain_block b);
@@ -39,17 +46,19 @@ struct plain_block plain_subtract(unsigned field, struct plain_block a, struct p
 struct plain_block plain_scale(unsigned field, struct plain_block a, uint64_t u);
 void plain_accumulate_noise(unsigned field, uint64_t *noise, size_t n);
 
-/* The place and the coefficient of term i of row x, for N = 2^depth. */
-size_t plain_term(const struct plain_key *code, unsigned field, unsigned depth, uint64_t x,
-                  uint64_t i, uint64_t *coefficient);
+/* The place and the coefficient of term i of row x; strip is N / l rounded down. */
+size_t plain_term(const struct plain_key *code, unsigned field, size_t strip, uint64_t x, uint64_t i,
+                  uint64_t *coefficient);
 
-/* Document 01's seven calls. */
+/* Document 01's seven calls, and what a record of either end is. */
+struct plain_described plain_describe(const uint8_t *source, size_t source_len);
 struct plain_result plain_deal(
-    uint8_t field, size_t depth, size_t trees, size_t terms, size_t outputs,
+    uint8_t field, size_t depth, size_t branch_bits, size_t trees, size_t terms, size_t outputs,
     const uint8_t *roots, size_t roots_len, const uint32_t *positions, size_t positions_len,
     const uint64_t *values, size_t values_len, const uint8_t *delta, size_t delta_len,
-    const uint8_t *code_key, size_t code_key_len, uint8_t *noise_record, size_t noise_record_len,
-    uint8_t *scalar_record, size_t scalar_record_len);
+    const uint8_t *code_key, size_t code_key_len, const uint8_t *label, size_t label_len,
+    uint8_t *noise_record, size_t noise_record_len, uint8_t *scalar_record,
+    size_t scalar_record_len);
 struct plain_result plain_noise_offline(
     const uint8_t *source, size_t source_len, uint64_t *noise, size_t noise_len,
     uint64_t *v, size_t v_len);

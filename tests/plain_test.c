@@ -1,5 +1,6 @@
-/* The plain implementation held to FIPS 197, to document 01's cases, to the pads of document 02,
- * request 4, and, on random dealings, to the documents' definitions written out place by place.
+/* The plain implementation held to FIPS 197, to document 01's cases, to the pads and trees of
+ * document 02, requests 4 and 10, and, on random dealings, to the documents' definitions (request 7's
+ * rows among them) written out place by place.
  */
 #include "dealing.h"
 #include "plain.h"
@@ -137,11 +138,14 @@ static int writes_number(uint32_t x, size_t n, uint8_t a, uint8_t b, uint8_t c)
     return plain_write_number(bytes, x) == n && bytes[0] == a && bytes[1] == b && bytes[2] == c;
 }
 
+/* Bytes of the longest records. */
+enum { NOISE_MAX = 37034, SCALAR_MAX = 1081 };
+
 static struct plain_result deal(const struct dealing *x, uint8_t *noise, uint8_t *scalar)
 {
-    return plain_deal(x->field, x->depth, x->trees, x->terms, x->outputs, x->roots, 16 * x->trees,
-                      x->positions, x->trees, x->values, x->trees, x->delta, 16, x->code_key, 16,
-                      noise, 17563, scalar, 1064);
+    return plain_deal(x->field, x->depth, x->branch_bits, x->trees, x->terms, x->outputs, x->roots,
+                      16 * x->trees, x->positions, x->trees, x->values, x->trees, x->delta, 16,
+                      x->code_key, 16, x->label, 16, noise, NOISE_MAX, scalar, SCALAR_MAX);
 }
 
 static int is(struct plain_result r, uint32_t number, size_t first, size_t second)
@@ -155,9 +159,24 @@ static block element(uint64_t x)
     return b;
 }
 
+/* The record is one of this end and field, with d, g, t, l, n being 3, 1, 3, 2, 4; cut or longer it
+ * is refused, and so is one of no end. */
+static int describes(const uint8_t *record, size_t len, unsigned end, unsigned field)
+{
+    static const uint8_t no_end[] = {0, 1, 1};
+    struct plain_described d = plain_describe(record, len);
+    return d.number == 0 && d.end == end && d.field == field && d.depth == 3 && d.branch_bits == 1
+        && d.trees == 3 && d.terms == 2 && d.outputs == 4 && d.leaves == 8
+        && d.element_words == (field == 1 ? 2 : 1)
+        && plain_describe(record, 0).number == 10 && plain_describe(record, len - 1).number == 10
+        && plain_describe(record, len - 1).leaves == 0
+        && plain_describe(record, len + 1).number == 12
+        && plain_describe(no_end, sizeof no_end).number == 9;
+}
+
 static void test_cases(void)
 {
-    static uint8_t noise[17563], scalar[1064];
+    static uint8_t noise[NOISE_MAX], scalar[SCALAR_MAX];
     static struct dealing x;
     static const struct {
         size_t first, count;
@@ -189,24 +208,25 @@ static void test_cases(void)
     CHECK(memcmp(words, ((uint64_t[]){0, 5, 5, 5, 3, 3, 3, 3}), sizeof words) == 0);
 
     for (unsigned field = 1; field <= 2; field++) {
-        make_dealing(&x, field, 1, 1, 1, 1);
-        CHECK(is(deal(&x, noise, scalar), 0, 55, field == 1 ? 54 : 46));
-        CHECK(is(plain_noise_offline(noise, 55, words, 8, v, 16), 0, 2, field == 1 ? 4 : 2));
-        CHECK(is(plain_noise_offline(noise, 54, words, 8, v, 16), 10, 0, 0));
-        noise[55] = 0;
-        CHECK(is(plain_noise_offline(noise, 56, words, 8, v, 16), 12, 0, 0));
+        make_dealing(&x, field, 1, 1, 1, 1, 1);
+        CHECK(is(deal(&x, noise, scalar), 0, 72, field == 1 ? 71 : 63));
+        CHECK(is(plain_noise_offline(noise, 72, words, 8, v, 16), 0, 2, field == 1 ? 4 : 2));
+        CHECK(is(plain_noise_offline(noise, 71, words, 8, v, 16), 10, 0, 0));
+        noise[72] = 0;
+        CHECK(is(plain_noise_offline(noise, 73, words, 8, v, 16), 12, 0, 0));
         noise[2] = 0x80; /* d as 80 00 */
         noise[3] = 0x00;
-        CHECK(is(plain_noise_offline(noise, 55, words, 8, v, 16), 11, 0, 0));
+        CHECK(is(plain_noise_offline(noise, 72, words, 8, v, 16), 11, 0, 0));
 
-        make_dealing(&x, field, 3, 3, 2, 4);
+        make_dealing(&x, field, 3, 1, 3, 2, 4);
         x.positions[0] = 1;
         x.positions[1] = 4;
         x.positions[2] = 5;
         r = deal(&x, noise, scalar);
         CHECK(r.number == 0);
+        CHECK(describes(noise, r.first, 1, field) && describes(scalar, r.second, 2, field));
         /* A tree takes 16 bytes of value and correction and three siblings after its position. */
-        CHECK(noise[22] == 1 && noise[22 + 65] == 2 && noise[22 + 2 * 65] == 0);
+        CHECK(noise[39] == 1 && noise[39 + 65] == 2 && noise[39 + 2 * 65] == 0);
         CHECK(plain_noise_offline(noise, r.first, words, 8, v, 16).number == 0);
         for (size_t k = 0; k < sizeof windows / sizeof *windows; k++)
             CHECK(plain_noise_online(noise, r.first, words, 8, v, field == 1 ? 16 : 8,
@@ -215,38 +235,170 @@ static void test_cases(void)
         x.outputs = 5;
         CHECK(is(deal(&x, noise, scalar), 2, 0, 0));
         x.outputs = 4;
+        x.terms = 8; /* N */
+        CHECK(deal(&x, noise, scalar).number == 0);
+        x.terms = 9;
+        CHECK(is(deal(&x, noise, scalar), 2, 0, 0));
+        x.terms = 2;
         x.positions[2] = 4;
         CHECK(is(deal(&x, noise, scalar), 4, 0, 0));
     }
 }
 
+/* Branch bits of each depth in a dealing and in a record: 2 unless they are 1, 2 or 3 and divide the
+ * depth. In a record they are a number like the others, and the depth is tested before it. */
+static void test_branch_bits(void)
+{
+    static uint8_t noise[NOISE_MAX], scalar[SCALAR_MAX], record[NOISE_MAX + 2];
+    static uint64_t words[65536], v[131072];
+    static struct dealing x;
+    for (size_t d = 1; d <= 16; d++)
+        for (size_t g = 0; g <= 5; g++) {
+            int admitted = g >= 1 && g <= 3 && d / g * g == d;
+            uint32_t number = admitted ? 0 : 2;
+            make_dealing(&x, 1 + (unsigned)random_below(2), d, g, 1, 1, 1);
+            CHECK(deal(&x, noise, scalar).number == number);
+            x.branch_bits = 1;
+            CHECK(deal(&x, noise, scalar).number == 0);
+            noise[3] = scalar[3] = (uint8_t)g;
+            CHECK(plain_noise_offline(noise, 4, words, 65536, v, 131072).number
+                  == (admitted ? 10u : 2u));
+            CHECK(plain_scalar_offline(scalar, 4, v, 131072, words, 2).number
+                  == (admitted ? 10u : 2u));
+            memcpy(record, noise, 3);
+            record[3] = 0x80 | (uint8_t)g; /* too long by a byte, then without an end */
+            record[4] = 0x00;
+            CHECK(plain_noise_offline(record, 5, words, 65536, v, 131072).number == 11);
+            record[4] = record[5] = 0x80;
+            CHECK(plain_noise_offline(record, 6, words, 65536, v, 131072).number == 11);
+            record[2] = 17;
+            CHECK(plain_noise_offline(record, 6, words, 65536, v, 131072).number == 2);
+        }
+    make_dealing(&x, 1, 4, 2, 1, 1, 1);
+    x.branch_bits = SIZE_MAX;
+    CHECK(deal(&x, noise, scalar).number == 2);
+    x.branch_bits = ((size_t)1 << 32) + 2;
+    CHECK(deal(&x, noise, scalar).number == 2);
+}
+
+/* The example of docs/RECORD-FORMAT.md with four children a node: correction and siblings, worked out
+ * by a program of their own. */
+static void test_known_record(void)
+{
+    static const uint8_t known[7 * 16] = {
+        0xde, 0xcc, 0x1d, 0x52, 0xe5, 0xad, 0x6e, 0x06,
+        0xd2, 0xec, 0xcc, 0xbd, 0xa0, 0x6a, 0xd7, 0x77,
+        0x25, 0x9c, 0x49, 0x4a, 0xb9, 0xa3, 0x4b, 0x13,
+        0x08, 0x6f, 0x6c, 0x43, 0x73, 0x5a, 0x2a, 0x59,
+        0x26, 0x56, 0xc4, 0xf7, 0x34, 0x3b, 0x39, 0x3d,
+        0x90, 0x84, 0xb7, 0x45, 0xaf, 0x64, 0xd4, 0x11,
+        0x38, 0xfa, 0x1f, 0x1d, 0x00, 0x47, 0xcd, 0x7b,
+        0xa0, 0x53, 0x81, 0xd7, 0x5f, 0xbb, 0x93, 0x41,
+        0x28, 0x97, 0x37, 0xd8, 0x28, 0x82, 0x69, 0xb5,
+        0xe3, 0x58, 0xe1, 0xcf, 0x5e, 0xd8, 0x26, 0x11,
+        0xa1, 0xec, 0x73, 0x2b, 0xb1, 0x6c, 0x2e, 0x3a,
+        0x52, 0xac, 0x6c, 0x7a, 0x4f, 0x9b, 0x15, 0xba,
+        0x26, 0x91, 0x34, 0x8b, 0x99, 0xee, 0x4d, 0x1c,
+        0x2e, 0xc9, 0x58, 0xc6, 0x5a, 0x91, 0xbb, 0x52};
+    static const uint8_t head[] = {1, 1, 4, 2, 1, 2, 8};
+    static uint8_t noise[NOISE_MAX], scalar[SCALAR_MAX];
+    static struct dealing x;
+    make_dealing(&x, 1, 4, 2, 1, 2, 8);
+    x.positions[0] = 11;
+    for (uint8_t k = 0; k < 16; k++) {
+        x.roots[k] = 0x10 + k;
+        x.delta[k] = 0xa0 + k;
+        x.code_key[k] = k;
+        x.label[k] = 0x40 + k;
+    }
+    CHECK(is(deal(&x, noise, scalar), 0, 152, 71));
+    CHECK(memcmp(noise, head, 7) == 0 && memcmp(noise + 7, x.code_key, 16) == 0);
+    CHECK(memcmp(noise + 23, x.label, 16) == 0 && noise[39] == 11);
+    CHECK(memcmp(noise + 40, known, sizeof known) == 0);
+}
+
 /* ---- Definitions ---- */
 
-/* Leaf j by the bits of j, highest of the d first. */
+/* A node's child under a key of sixteen bytes c: E(c.., node) exclusive-or node. */
+static void descend(uint8_t node[16], size_t c)
+{
+    uint8_t key[16], next[16];
+    memset(key, (int)c, 16);
+    encrypt_bytes(key, node, next);
+    for (int b = 0; b < 16; b++)
+        node[b] ^= next[b];
+}
+
+/* The node of a tree that a path of so many bits leads to, g bits at a time, highest first. */
+static block node_at(const struct dealing *x, size_t tree, size_t path, size_t bits)
+{
+    uint8_t node[16];
+    memcpy(node, x->roots + 16 * tree, 16);
+    while (bits > 0) {
+        bits -= x->branch_bits;
+        descend(node, (path >> bits) % ((size_t)1 << x->branch_bits));
+    }
+    return plain_load(node);
+}
+
+/* Document 01's leaf j: by the bits of j, highest of the d first, 0 left. */
+static block leaf_by_bits(const struct dealing *x, size_t tree, size_t j)
+{
+    uint8_t node[16];
+    memcpy(node, x->roots + 16 * tree, 16);
+    for (size_t k = x->depth; k-- > 0;)
+        descend(node, j >> k & 1 ? 0x01 : 0x00);
+    return plain_load(node);
+}
+
+static int same(block a, block b)
+{
+    return a.lo == b.lo && a.hi == b.hi;
+}
+
+/* The siblings that a noise record has for each tree: at each level from the top the other children
+ * of the path's node, in rising order. */
+static void test_siblings(const struct dealing *x, const uint8_t *record, size_t len)
+{
+    const size_t sizes[] = {x->depth, x->branch_bits, x->trees, x->terms, x->outputs};
+    size_t at = 2 + 16 + 16, g = x->branch_bits, children = (size_t)1 << g;
+    uint8_t bytes[3];
+    for (size_t k = 0; k < sizeof sizes / sizeof *sizes; k++)
+        at += plain_write_number(bytes, (uint32_t)sizes[k]);
+    for (size_t i = 0; i < x->trees; i++) {
+        uint32_t s = x->positions[i];
+        at += plain_write_number(bytes, i == 0 ? s : s - x->positions[i - 1] - 1);
+        at += 16; /* in both fields: the correction, or value and correction */
+        for (size_t bits = g; bits <= x->depth; bits += g) {
+            size_t path = s >> (x->depth - bits), parent = path / children;
+            for (size_t c = 0; c < children; c++)
+                if (c != path % children) {
+                    CHECK(same(plain_load(record + at),
+                               node_at(x, i, parent * children + c, bits)));
+                    if (g == 1) /* the bit before the last flipped, as document 01 has it */
+                        CHECK((parent * children + c) == (path ^ 1));
+                    at += 16;
+                }
+        }
+    }
+    CHECK(at == len);
+}
+
+/* The element of leaf j. */
 static block leaf(const struct dealing *x, size_t tree, size_t j)
 {
-    uint8_t key[16], node[16], next[16];
-    memcpy(node, x->roots + 16 * tree, 16);
-    for (size_t k = x->depth; k-- > 0;) {
-        memset(key, j >> k & 1 ? 0x01 : 0x00, 16);
-        encrypt_bytes(key, node, next);
-        for (int b = 0; b < 16; b++)
-            node[b] ^= next[b];
-    }
+    block node = node_at(x, tree, j, x->depth);
+    if (x->branch_bits == 1)
+        CHECK(same(node, leaf_by_bits(x, tree, j)));
     if (x->field == 2)
-        return element(plain_load(node).lo % PLAIN_P);
-    return plain_load(node);
+        return element(node.lo % PLAIN_P);
+    return node;
 }
 
 static block element_at(unsigned field, const uint64_t *words, size_t j)
 {
     block two = {words[2 * j], words[2 * j + 1]};
     return field == 1 ? two : element(words[j]);
-}
-
-static int same(block a, block b)
-{
-    return a.lo == b.lo && a.hi == b.hi;
 }
 
 /* Two steps: a is the block encrypted, and the pad E(FF.., a exclusive-or the index) combined with
@@ -322,25 +474,29 @@ static void test_pads(void)
     }
 }
 
-static void test_definitions(unsigned field, size_t depth)
+static void test_definitions(unsigned field, size_t depth, size_t branch_bits)
 {
     enum { N = 256 };
     static struct dealing x;
-    static uint8_t noise_record[17563], scalar_record[1064];
+    static uint8_t noise_record[NOISE_MAX], scalar_record[SCALAR_MAX];
     static uint64_t mu[N], noise[N], v[2 * N], w[2 * N], delta[2], u_out[N], v_out[2 * N],
         w_out[2 * N];
     static block v0[N], w0[N];
     static uint8_t v_bytes[16 * N], w_bytes[16 * N], choices[N], one[16 * N], both[32 * N];
-    size_t leaves = (size_t)1 << depth, width = field == 1 ? 2 : 1, n;
+    size_t leaves = (size_t)1 << depth, width = field == 1 ? 2 : 1, n, strip;
+    struct plain_key code;
     struct plain_result r;
     block scalar, sum_v = {0, 0}, sum_w = {0, 0};
     uint64_t sum_mu = 0;
 
-    make_any_dealing(&x, field, depth);
+    make_any_dealing(&x, field, depth, branch_bits);
     n = x.outputs;
+    strip = leaves / x.terms;
+    plain_expand_key(&code, x.code_key);
     scalar = plain_load(x.delta);
     r = deal(&x, noise_record, scalar_record);
     CHECK(r.number == 0);
+    test_siblings(&x, noise_record, r.first);
     CHECK(is(plain_noise_offline(noise_record, r.first, noise, N, v, 2 * N), 0, leaves,
              width * leaves));
     CHECK(is(plain_scalar_offline(scalar_record, r.second, w, 2 * N, delta, 2), 0, width * leaves,
@@ -375,16 +531,25 @@ static void test_definitions(unsigned field, size_t depth)
     /* u, v and w as the code matrix times mu, v0 and w0, and the correlation. */
     for (size_t k = 0; k < n; k++) {
         block u = {0, 0}, sum = {0, 0}, sum2 = {0, 0};
+        uint64_t coefficient[32];
+        size_t place[32];
+        for (uint64_t i = 0; i < x.terms; i++) {
+            uint8_t in[16], out[16];
+            uint64_t same_coefficient;
+            plain_store(in, (block){k, i});
+            encrypt_bytes(x.code_key, in, out);
+            place[i] = i * strip + plain_load(out).lo % strip;
+            coefficient[i] = field == 1 ? 1 : plain_load(out).hi % PLAIN_P;
+            CHECK(plain_term(&code, field, strip, k, i, &same_coefficient) == place[i]);
+            CHECK(same_coefficient == coefficient[i]);
+            /* In strip i, below the places left at the top, so no place comes twice. */
+            CHECK(place[i] / strip == i && place[i] < x.terms * strip && place[i] < leaves);
+        }
         for (size_t j = 0; j < leaves; j++) {
             uint64_t entry = 0;
-            for (uint64_t i = 0; i < x.terms; i++) {
-                uint8_t in[16], out[16];
-                plain_store(in, (block){k, i});
-                encrypt_bytes(x.code_key, in, out);
-                if (plain_load(out).lo % leaves >= j)
-                    entry = field == 1 ? entry ^ 1
-                                       : (entry + plain_load(out).hi % PLAIN_P) % PLAIN_P;
-            }
+            for (uint64_t i = 0; i < x.terms; i++)
+                if (place[i] >= j)
+                    entry = field == 1 ? entry ^ 1 : (entry + coefficient[i]) % PLAIN_P;
             u = plain_add(field, u, plain_scale(field, element(mu[j]), entry));
             sum = plain_add(field, sum, plain_scale(field, v0[j], entry));
             sum2 = plain_add(field, sum2, plain_scale(field, w0[j], entry));
@@ -418,13 +583,16 @@ int main(void)
     test_cipher();
     cipher = checks;
     test_cases();
+    test_branch_bits();
+    test_known_record();
     cases = checks;
     test_pads();
     pads = checks;
     for (int round = 0; round < 6; round++)
-        for (size_t depth = 1; depth <= 5; depth++)
-            for (unsigned field = 1; field <= 2; field++)
-                test_definitions(field, depth);
+        for (size_t depth = 1; depth <= 6; depth++)
+            for (size_t g = 1; g <= 3; g++)
+                for (unsigned field = 1; field <= 2 && may_branch(depth, g); field++)
+                    test_definitions(field, depth, g);
     printf("plain implementation: %lu facts of the cipher, %lu of cases, %lu of pads, "
            "%lu of dealings hold\n",
            cipher, cases - cipher, pads - cases, checks - pads);

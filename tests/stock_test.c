@@ -124,6 +124,7 @@ static const size_t far = (size_t)1 << 32;
 static label any_label(void)
 {
     label l;
+    size_t at;
     random_bytes(l.bytes, 16);
     switch (random_below(6)) {
     case 0:
@@ -134,7 +135,8 @@ static label any_label(void)
         break;
     case 2: /* few bytes that are not 00 */
         memset(l.bytes, 0, 16);
-        l.bytes[random_below(16)] = (uint8_t)random_word();
+        at = random_below(16);
+        l.bytes[at] = (uint8_t)random_word();
         break;
     }
     return l;
@@ -143,7 +145,7 @@ static label any_label(void)
 /* This label with one byte one higher or lower, the first or the last as often as any. */
 static label near_label(label l)
 {
-    size_t at = (size_t[]){0, 15, random_below(16)}[random_below(3)];
+    size_t any = random_below(16), at = (size_t[]){0, 15, any}[random_below(3)];
     l.bytes[at] = (uint8_t)(l.bytes[at] + (random_below(3) ? 1 : 255));
     return l;
 }
@@ -596,14 +598,17 @@ static void any_stocks(int rounds)
         stock s = any_stock();
         size_t callers = s.callers < CALLERS ? s.callers : CALLERS, caller = some_caller(callers);
         size_t left = plain_left(&s, caller), all = 0;
-        struct expander_drawn r = try_draw(s, some_label(s.label), caller, some_count(left));
+        label l = some_label(s.label);
+        struct expander_drawn r = try_draw(s, l, caller, some_count(left));
         EXPECT(r.number != 0 || r.count <= left);
-        try_preview(s, some_label(s.label), caller, some_count(left));
+        l = some_label(s.label);
+        try_preview(s, l, caller, some_count(left));
         if (caller < CALLERS) /* between what is left and the numbers that wrap */
             try_draw(s, s.label, caller, (size_t)(uint32_t)(s.end[caller] - s.next[caller]));
         for (size_t k = 0; k < callers; k++)
             all += plain_left(&s, k);
-        try_pass(s, next_label(s.label), some_outputs(all < OUTPUTS ? all : OUTPUTS));
+        l = next_label(s.label);
+        try_pass(s, l, some_outputs(all < OUTPUTS ? all : OUTPUTS));
     }
 }
 

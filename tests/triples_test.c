@@ -42,7 +42,7 @@ static void combine(size_t c, const size_t first[2])
         const struct pairing *noise = &pairings[end], *scalar = &pairings[1 - end];
         EXPECT(try_triples(noise->choices + first[end], c, noise->noise_pads + 16 * first[end],
                            16 * c, scalar->scalar_pads + 32 * first[1 - end], 32 * c,
-                           3 * c + random_below(2) * random_below(9), triples[end]) == 0);
+                           3 * c + random_extra(9), triples[end]) == 0);
     }
     for (size_t k = 0; k < c; k++) {
         const uint8_t *one_end = triples[0] + 3 * k, *other = triples[1] + 3 * k;
