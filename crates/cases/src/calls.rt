@@ -29,6 +29,7 @@ pub fn deal(
     dealing::deal(
         field,
         depth,
+        1,
         2,
         3,
         outputs,
@@ -37,6 +38,7 @@ pub fn deal(
         &values,
         &delta,
         &code_key,
+        &[8u8; 16],
         noise,
         scalar,
     )
@@ -130,11 +132,12 @@ fn offline_number(source: &[u8]) -> usize {
     r.number as usize
 }
 
-// A noise record of 55 bytes, with d = t = ℓ = n = 1, whole, cut to 54 and with one byte added.
+// A noise record of 72 bytes, with d = g = t = ℓ = n = 1, whole, cut to 71 and with one byte added.
 pub fn records() {
-    let mut noise = [0u8; 64];
-    let mut scalar = [0u8; 64];
+    let mut noise = [0u8; 96];
+    let mut scalar = [0u8; 96];
     let r = dealing::deal(
+        1,
         1,
         1,
         1,
@@ -145,17 +148,18 @@ pub fn records() {
         &[1u64],
         &[5u8; 16],
         &[7u8; 16],
+        &[8u8; 16],
         &mut noise,
         &mut scalar,
     );
     say(
-        b"bytes of a noise record with d = t = l = n = 1: ",
+        b"bytes of a noise record with d = g = t = l = n = 1: ",
         r.first_written,
     );
-    let whole = front(&noise, 55);
+    let whole = front(&noise, 72);
     say(b"whole: ", offline_number(&noise[..whole]));
-    let cut = front(&noise, 54);
-    say(b"cut to 54: ", offline_number(&noise[..cut]));
-    let longer = front(&noise, 56);
+    let cut = front(&noise, 71);
+    say(b"cut to 71: ", offline_number(&noise[..cut]));
+    let longer = front(&noise, 73);
     say(b"with one byte added: ", offline_number(&noise[..longer]));
 }

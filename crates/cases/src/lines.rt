@@ -103,12 +103,28 @@ fn show_mixed(label: &[u8], field: u8, depth: usize, outputs: usize, seed: u8, k
     show(label, &noise[..noise_length], &scalar[..scalar_length]);
 }
 
-// Another field, other sizes, another code key.
+// Both records of one dealing, but for a byte of the scalar record's label.
+fn show_labels() {
+    let mut noise = [0u8; 512];
+    let mut scalar = [0u8; 512];
+    let r = deal(2, 3, 4, &[1u32, 6], 1, 2, &mut noise, &mut scalar);
+    scalar[23] = 9;
+    let noise_length = front(&noise, r.first_written);
+    let scalar_length = front(&scalar, r.second_written);
+    show(
+        b"another label: ",
+        &noise[..noise_length],
+        &scalar[..scalar_length],
+    );
+}
+
+// Another field, other sizes, another code key, another label.
 pub fn different() {
     show_mixed(b"another field: ", 1, 3, 4, 1, 2);
     show_mixed(b"another depth: ", 2, 4, 4, 1, 2);
     show_mixed(b"another count of outputs: ", 2, 3, 3, 1, 2);
     show_mixed(b"another code key: ", 2, 3, 4, 1, 3);
+    show_labels();
 }
 
 // Both records of one dealing.

@@ -30,7 +30,7 @@ use Rattle.noise_end.proofs.Laws as noiseLaws
 use Rattle.noise_end.specs.Vectors.{value, mu, v0}
 use Rattle.record.proofs.Laws.{noise-exact}
 use Rattle.record.specs.Admitted.{isField, isNoise, Each, AdmittedTree, AdmittedNoise}
-use Rattle.record.specs.Content.{Head, NoiseTree, treeIn}
+use Rattle.record.specs.Content.{Head, NoiseTree, treeIn, siblingCount}
 use Rattle.rows.specs.Head.{fieldOf, places}
 use Rattle.scalar_end.proofs.Laws as scalarLaws
 use Rattle.scalar_end.specs.Vectors as scalarEnd
@@ -101,8 +101,8 @@ module _ (h : Head) where
     in-trees : (i : ℕ) → i < h .trees → i < length (E .trees)
     in-trees i l = rw (admitted .count) l
 
-    tree : (i : ℕ) → i < h .trees → AdmittedTree (h .field) (h .depth) (treeIn (E .trees) i)
-    tree i l = tree-at (AdmittedTree (h .field) (h .depth)) (E .trees) (admitted .trees) i (in-trees i l)
+    tree : (i : ℕ) → i < h .trees → AdmittedTree (h .field) (h .depth) (siblingCount (h .depth) (h .branchBits)) (treeIn (E .trees) i)
+    tree i l = tree-at (AdmittedTree (h .field) (h .depth) (siblingCount (h .depth) (h .branchBits))) (E .trees) (admitted .trees) i (in-trees i l)
 
     valued : (i : ℕ) → i < h .trees → isNoise (h .field) (treeIn (E .trees) i .value) ≡ true
     valued i l = tree i l .value

@@ -1,9 +1,10 @@
 -- The vectors that each end's part of a dealing gives are the dealing's own.
-use mathlib.Core.Path.{_≡_, refl, sym, ap, ap₂, _∙_}
+use mathlib.Core.Path.{_≡_, refl, sym, ap, ap₂, _∙_, subst}
 use mathlib.Core.List.{List, [], _∷_, map, append-nil}
-use Prim.Native.Nat.{ℕ, zero, suc, _^_, _<_}
+use Prim.Native.Nat.{ℕ, zero, suc, _/_, _^_, _<_}
 use native.Mathlib.Omega.{arith}
 use lib.ListN.{length}
+use lib.Pow.{pow-pos}
 use Rattle.algebra.proofs.Same.{noise-same, punctured-same, whole-same}
 use Rattle.algebra.specs.Coding.{Coding, CodingLaws}
 use Rattle.field.proofs.BothKinds.{kindLaws}
@@ -13,7 +14,8 @@ use Rattle.aes128.specs.Cipher.{aes}
 use Rattle.rows.specs.Head.{kind}
 use Rattle.tree.proofs.Blocks.{Square, columns-of, xor-square}
 use Rattle.tree.proofs.Listed.{listed-at}
-use Rattle.tree.proofs.Laws.{Each, two, from-siblings, siblings-have}
+use Rattle.tree.proofs.Laws.{Each, from-siblings, siblings-have}
+use Rattle.tree.proofs.Levels.{level-leaves}
 use Rattle.tree.specs.Child.{child, childKey}
 use Rattle.tree.specs.Columns.{columnsAt, columnsBytes}
 use Rattle.tree.specs.Tree.{siblings, leafAt, fromSiblings}
@@ -36,7 +38,7 @@ blocks-back (x ∷ xs) q = ap₂ (λ a l. a ∷ l) (block-back x (q .0)) (blocks
 words-back : {A : Type 0} (C : Coding A) → CodingLaws C → (a : A) → C .read (C .words a) 0 ≡ a
 words-back C L a = ap (λ l. C .read l 0) (sym (append-nil (C .words a))) ∙ L .read-words [] a []
 
-child-square : (c : ℕ) → c < 2 → (s : List (List ℕ)) → Square s → Square (child c s)
+child-square : {k : ℕ} (c : ℕ) → c < k → (s : List (List ℕ)) → Square s → Square (child c s)
 unfolding child
 child-square c h s q = xor-square (aes (childKey c) s) s
 
@@ -54,6 +56,10 @@ root-square I i = record { size = refl; columns = four }
 module _ (I : Input) (A : Admitted I) where
   laws : KindLaws (kind (head I))
   laws = kindLaws (I .field)
+
+  -- a place of the tree, by its depth and by its levels
+  in-tree : {j : ℕ} → j < 2 ^ I .depth → j < (2 ^ I .branchBits) ^ (I .depth / I .branchBits)
+  in-tree {j} h = subst (λ n. j < n) (sym (level-leaves (I .branchBits) (I .depth) (A .branch .2))) h
 
   -- tree i of the noise end's part
   tree-at : (i : ℕ) → i < I .trees → noiseEnd.tree (noisePart I) i ≡ noiseTree I i
@@ -78,12 +84,12 @@ module _ (I : Input) (A : Admitted I) where
   unfolding noiseTree
   leaf-at i j h b n =
       ap
-      (λ t. kind (head I) .leaf (fromSiblings 2 child [] (map (λ s. columnsAt s 0) (t .siblings)) (I .depth) (t .position) j))
+      (λ t. kind (head I) .leaf (fromSiblings (2 ^ I .branchBits) child [] (map (λ s. columnsAt s 0) (t .siblings)) (I .depth / I .branchBits) (t .position) j))
       (tree-at i h)
-      ∙ ap (λ l. kind (head I) .leaf (fromSiblings 2 child [] l (I .depth) (position I i) j))
-      (blocks-back (siblings 2 child (I .depth) (root I i) (position I i))
-      (siblings-have 2 child two Square child-square (I .depth) (root I i) (position I i) (root-square I i)))
-      ∙ ap (kind (head I) .leaf) (from-siblings child [] 2 (I .depth) (root I i) (position I i) j (A .below i h) b n)
+      ∙ ap (λ l. kind (head I) .leaf (fromSiblings (2 ^ I .branchBits) child [] l (I .depth / I .branchBits) (position I i) j))
+      (blocks-back (siblings (2 ^ I .branchBits) child (I .depth / I .branchBits) (root I i) (position I i))
+      (siblings-have (2 ^ I .branchBits) child (pow-pos (I .branchBits)) Square child-square (I .depth / I .branchBits) (root I i) (position I i) (root-square I i)))
+      ∙ ap (kind (head I) .leaf) (from-siblings child [] (2 ^ I .branchBits) (I .depth / I .branchBits) (root I i) (position I i) j (in-tree (A .below i h)) (in-tree b) n)
 
   -- μ of the noise end's part is the dealing's
   pub mu-dealt : (j : ℕ) → noiseEnd.mu (noisePart I) j ≡ mu I j
@@ -103,5 +109,5 @@ module _ (I : Input) (A : Admitted I) where
   w0-dealt j =
       whole-same (field I .ring) (field I .scaled) (I .trees) _ (leaf I) j
       (λ i h.
-      ap (λ b. kind (head I) .leaf (leafAt 2 child (I .depth) (columnsAt b 0) j)) (listed-at (I .trees) (λ i. columnsBytes (root I i)) [] i h)
-      ∙ ap (λ r. kind (head I) .leaf (leafAt 2 child (I .depth) r j)) (block-back (root I i) (root-square I i)))
+      ap (λ b. kind (head I) .leaf (leafAt (2 ^ I .branchBits) child (I .depth / I .branchBits) (columnsAt b 0) j)) (listed-at (I .trees) (λ i. columnsBytes (root I i)) [] i h)
+      ∙ ap (λ r. kind (head I) .leaf (leafAt (2 ^ I .branchBits) child (I .depth / I .branchBits) r j)) (block-back (root I i) (root-square I i)))

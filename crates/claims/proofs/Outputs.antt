@@ -2,7 +2,7 @@
 use mathlib.Core.Path.{_≡_, refl}
 use mathlib.Core.List.{List}
 use mathlib.Core.Logic.{_⊎_, ⊎-elim}
-use Prim.Native.Nat.{ℕ, zero, suc, _<_}
+use Prim.Native.Nat.{ℕ, zero, suc, _/_, _^_, _<_}
 use native.Mathlib.Omega.{arith}
 use borrow.Author.Tests.{lt-ltb}
 use lib.ListN.{getD}
@@ -46,6 +46,6 @@ admitted-correlated I A x =
     (delta-element (I .field) (wordAt (I .delta) 0) (wordAt (I .delta) 8) (A .field) (λ e. A .scalar .prime e .1))
     (I .trees) (position I) (A .rising)
     (value I) (λ i h. noise-element (I .field) (I .values) i (A .field) (A .noise i h))
-    (leaf I) (λ i j. laws .leaf-element (leafAt 2 child (I .depth) (root I i) j))
+    (leaf I) (λ i j. laws .leaf-element (leafAt (2 ^ I .branchBits) child (I .depth / I .branchBits) (root I i) j))
     (treeCorrection I) (λ i h. refl)
     (places (head I)) (row (head I) x) (row-within (head I) (A .terms .2) x)

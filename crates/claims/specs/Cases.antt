@@ -47,13 +47,14 @@ accumulatedPrime =
     flat (primes .noiseValues) 8
     (accumulate (primes .ring .group) (noise (primes .ring) 2 (two 1 4) (two (prime 5) (prime (modulus - 2)))))
 
--- a dealing with d = t = ℓ = n = 1, position 0, noise value 1 and Δ = 1, all else zero, into buffers of 64 bytes
+-- a dealing with d = g = t = ℓ = n = 1, position 0, noise value 1 and Δ = 1, all else zero, into buffers of 96 bytes
 abbrev smallDealing : ℕ → Dealt
 smallDealing field =
     deal
     (record {
       field = field;
       depth = 1;
+      branchBits = 1;
       trees = 1;
       terms = 1;
       outputs = 1;
@@ -62,15 +63,17 @@ smallDealing field =
       values = 1 ∷ [];
       delta = 1 ∷ replicate 15 0;
       codeKey = replicate 16 0;
+      label = replicate 16 0;
     })
-    (replicate 64 0)
-    (replicate 64 0)
+    (replicate 96 0)
+    (replicate 96 0)
 
 -- the number, and the lengths of both records
 abbrev dealtLengths : Dealt → List ℕ
 dealtLengths d = d .number ∷ d .firstWritten ∷ d .secondWritten ∷ []
 
--- the starred cases, in document 01's order
+-- the starred cases, in document 01's order; records have the 16 bytes of the label (document 02, 8) and the byte of g (document
+-- 02, 10) besides
 unfoldable pub starred : List Case
 starred =
     case (sBox 0x00 ∷ sBox 0x53 ∷ []) (0x63 ∷ 0xed ∷ [])
@@ -86,8 +89,8 @@ starred =
     ∷ case accumulatedBinary (0 ∷ 1 ∷ 1 ∷ 1 ∷ 0 ∷ 0 ∷ 0 ∷ 0 ∷ [])
     ∷ case accumulatedPrime (0 ∷ 5 ∷ 5 ∷ 5 ∷ 3 ∷ 3 ∷ 3 ∷ 3 ∷ [])
     ∷ case (correction (primes .scaled) (prime 3) (prime 7) (prime 5) .word ∷ []) ((modulus - 8) ∷ [])
-    ∷ case (dealtLengths (smallDealing 1)) (accepted ∷ 55 ∷ 54 ∷ [])
-    ∷ case (dealtLengths (smallDealing 2)) (accepted ∷ 55 ∷ 46 ∷ [])
+    ∷ case (dealtLengths (smallDealing 1)) (accepted ∷ 72 ∷ 71 ∷ [])
+    ∷ case (dealtLengths (smallDealing 2)) (accepted ∷ 72 ∷ 63 ∷ [])
     ∷ []
 
 -- the definitions give what document 01 says, in every starred case

@@ -76,15 +76,9 @@ deal-number I a b = decide (eqb (fault I) 0) refl
     decide false p e = absurd (eqb-false _ _ p (rw p at e))
 
 module _ (I : Input) (a b : List ℕ) (z : deal I a b .number ≡ 0) where
-  -- lengths and records of an accepted dealing
+  -- the records of an accepted dealing
   dealt-whole : deal I a b ≡ acceptedDeal I a b
   dealt-whole = deal-accepted I a b (deal-number I a b z)
-
-  pub noise-length : deal I a b .firstWritten ≡ length (noiseWriting I)
-  noise-length = ap (λ d. d .firstWritten) dealt-whole
-
-  pub scalar-length : deal I a b .secondWritten ≡ length (scalarWriting I)
-  scalar-length = ap (λ d. d .secondWritten) dealt-whole
 
   pub noise-record : take (deal I a b .firstWritten) (deal I a b .noiseRecord) ≡ noiseWriting I
   noise-record = ap (λ d. take (d .firstWritten) (d .noiseRecord)) dealt-whole ∙ take-append-seam (noiseWriting I) _

@@ -8,16 +8,18 @@ use lib.ListN.{length, getD, take, length-append}
 use lib.Seq.{drop-cons}
 use Rattle.field.specs.Bytes.{wordAt, fourAt}
 use Rattle.number.specs.Reading.{part}
-use Rattle.record.proofs.Writes.{length-head, length-element}
+use Rattle.record.proofs.Lengths.{length-head, length-element}
 use Rattle.record.specs.Content.{NoiseTree}
 use Rattle.record.specs.Reading.{items, blockAt}
 use Rattle.record.specs.Writing.{writeEach, writeBlocks, writeHead, writeWords, writeTree, writeTrees, writeNoise, writeScalar}
-use Rattle.record.specs.Inner.Lengths.{frontLength, treesLength, noiseLength, scalarLength}
+use Rattle.record.specs.Inner.Lengths.{headLength, treeLength, treesLength, noiseLength, scalarLength}
+use Rattle.record.specs.declared.Front.{Front}
 use Rattle.tree.proofs.Blocks.{length-block}
 use Rattle.tree.proofs.Listed.{listed-none, listed-front, listed-cong, listed-getD}
 use Rattle.tree.specs.Columns.{columnsAt, columnsBytes}
 use Rattle.tree.specs.Tree.{listed}
 use Rattle.dealing.specs.Admitted.{Admitted}
+use Rattle.dealing.specs.Inner.Steps.{frontFor}
 use Rattle.dealing.specs.Input.{Input, deltaWords, position}
 use Rattle.dealing.specs.Parts.{noiseTree, noisePart, scalarPart}
 use Rattle.dealing.specs.Vectors.{head, root}
@@ -25,29 +27,30 @@ use Rattle.dealing.proofs.Written.{tree-length}
 
 -- ---- the noise record
 
-trees-length : (k d n base : ℕ) (f : ℕ → NoiseTree)
-    → ((i : ℕ) → i < n → (b : ℕ) → length (writeTree k b (f i)) ≡ frontLength k b (f i .position) + 16 * d)
-    → length (writeTrees k base (listed n f)) ≡ treesLength k d base (listed n (λ i. f i .position))
+trees-length : (k : ℕ) (d : Front) (n base : ℕ) (f : ℕ → NoiseTree)
+    → ((i : ℕ) → i < n → (b : ℕ) → length (writeTree k b (f i)) ≡ treeLength d b (f i .position))
+    → length (writeTrees k base (listed n f)) ≡ treesLength d base (listed n (λ i. f i .position))
 unfolding writeTrees treesLength
 trees-length k d zero base f each = rw (listed-none f, listed-none (λ i. f i .position))
 trees-length k d (suc n) base f each =
     ap (λ l. length (writeTrees k base l)) (listed-front n f)
     ∙ length-append (writeTree k base (f 0)) (writeTrees k (f 0 .position + 1) (listed n (λ i. f (suc i))))
     ∙ ap₂ (λ a b. a + b) (each 0 (omega arith) base) (trees-length k d n (f 0 .position + 1) (λ i. f (suc i)) (λ i h. each (suc i) (omega arith)))
-    ∙ sym (ap (treesLength k d base) (listed-front n (λ i. f i .position)))
+    ∙ sym (ap (treesLength d base) (listed-front n (λ i. f i .position)))
 
 module _ (I : Input) (A : Admitted I) where
   positions-listed : listed (I .trees) (λ i. noiseTree I i .position) ≡ I .positions
   unfolding noiseTree
   positions-listed = ap (λ n. listed n (position I)) (sym (A .positions)) ∙ listed-getD (I .positions) 0
 
-  pub noise-bytes : noiseLength (I .field) (I .depth) (I .trees) (I .terms) (I .outputs) (I .positions) ≡ length (writeNoise (noisePart I))
+  pub noise-bytes : {body : ℕ} → body ≡ headLength (I .depth) (I .branchBits) (I .trees) (I .terms) (I .outputs)
+      → noiseLength (frontFor I body) (I .positions) ≡ length (writeNoise (noisePart I))
   unfolding noiseLength writeNoise noiseTree
-  noise-bytes =
+  noise-bytes {body} e =
       sym
       (length-append (writeHead 1 (head I)) (writeTrees (I .field) 0 (listed (I .trees) (noiseTree I)))
-      ∙ ap₂ (λ a b. a + b) (length-head 1 (head I) (A .codeKey))
-      (trees-length (I .field) (I .depth) (I .trees) 0 (noiseTree I) (λ i h b. tree-length I i b) ∙ ap (treesLength (I .field) (I .depth) 0) positions-listed))
+      ∙ ap₂ (λ a b. a + b) (length-head 1 (head I) (A .codeKey) (A .label) ∙ sym e)
+      (trees-length (I .field) (frontFor I body) (I .trees) 0 (noiseTree I) (λ i h b. tree-length I i b body) ∙ ap (treesLength (frontFor I body) 0) positions-listed))
 
 -- ---- the scalar record
 
@@ -60,13 +63,14 @@ blocks-length (suc n) f each =
     ∙ ap₂ (λ a b. a + b) (each 0 (omega arith)) (blocks-length n (λ i. f (suc i)) (λ i h. each (suc i) (omega arith)))
     ∙ omega arith
 
-pub scalar-bytes : (I : Input) → Admitted I → scalarLength (I .field) (I .depth) (I .trees) (I .terms) (I .outputs) ≡ length (writeScalar (scalarPart I))
+pub scalar-bytes : (I : Input) → Admitted I → {body : ℕ} → body ≡ headLength (I .depth) (I .branchBits) (I .trees) (I .terms) (I .outputs)
+    → scalarLength (frontFor I body) ≡ length (writeScalar (scalarPart I))
 unfolding scalarLength writeScalar
-scalar-bytes I A =
+scalar-bytes I A e =
     let blocks = writeBlocks (listed (I .trees) (λ i. columnsBytes (root I i))) in
     sym
     (length-append (writeHead 2 (head I)) (writeWords (deltaWords I) ++ blocks)
-    ∙ ap₂ (λ a b. a + b) (length-head 2 (head I) (A .codeKey))
+    ∙ ap₂ (λ a b. a + b) (length-head 2 (head I) (A .codeKey) (A .label) ∙ sym e)
     (length-append (writeWords (deltaWords I)) blocks
     ∙ ap₂ (λ a b. a + b) (length-element (I .field) (wordAt (I .delta) 0) (wordAt (I .delta) 8))
     (blocks-length (I .trees) (λ i. columnsBytes (root I i)) (λ i h. length-block (root I i)))))

@@ -7,4 +7,5 @@ mod Tests
 mod Written
 mod Turns
 mod Lengths
+mod Calls
 mod Deals

@@ -3,13 +3,14 @@ use mathlib.Core.Path.{_≡_, refl, ap, _∙_}
 use mathlib.Core.Bool.{Bool, true, false}
 use mathlib.Core.List.{List, [], _∷_, map}
 use mathlib.Core.Logic.{_⊎_, ⊎-elim}
-use Prim.Native.Nat.{ℕ, zero, suc, _+_, _-_, _*_, _%_, _≤_, _<_}
+use Prim.Native.Nat.{ℕ, zero, suc, _+_, _-_, _*_, _/_, _%_, _^_, _≤_, _<_}
 use native.Mathlib.Nat.{mod-lt, lt-trans}
 use native.Mathlib.Omega.{arith}
 use borrow.Author.Tests.{lt-ltb, ltb-true, ltb-false}
 use lib.Bits.{xor-lt}
 use lib.Dec.{ltb, lit<}
 use lib.ListN.{length, getD, List·getD-eq-default}
+use lib.Pow.{pow-pos, pow-mono}
 use Rattle.algebra.proofs.Rising.{Rises, rises, rising-is}
 use Rattle.algebra.proofs.Tests.{and-left}
 use Rattle.algebra.specs.Expansion.{correction}
@@ -25,7 +26,7 @@ use Rattle.aes128.specs.State.{column}
 use Rattle.aes128.specs.Inner.Sizes.{IsWord, IsState}
 use Rattle.number.specs.Reading.{Bytes}
 use Rattle.record.specs.Admitted.{isElement, Each, SixteenBytes, SixtyFourBits, AdmittedHead, AdmittedTree, AdmittedNoise, AdmittedScalar}
-use Rattle.record.specs.Content.{NoiseTree, elementOf, treeIn}
+use Rattle.record.specs.Content.{NoiseTree, elementOf, siblingCount, treeIn}
 use Rattle.tree.proofs.ChildLaws.{leaf-state, siblings-states}
 use Rattle.tree.proofs.Laws as tree
 use Rattle.tree.proofs.Listed.{length-listed, listed-none, listed-front, listed-at}
@@ -36,7 +37,7 @@ use Rattle.dealing.specs.Admitted.{InMemory, Admitted}
 use Rattle.dealing.specs.Input.{Input, deltaAdmitted, position}
 use Rattle.dealing.specs.Parts.{noiseTree, noisePart, scalarPart}
 use Rattle.dealing.specs.Vectors.{head, field, root, leaf, delta, value}
-use Rattle.dealing.proofs.Faults.{size-is, field-is, noise-is, delta-is}
+use Rattle.dealing.proofs.Faults.{size-is, branch-is, field-is, noise-is, delta-is}
 
 -- ---- blocks
 
@@ -155,31 +156,42 @@ module _ (I : Input) (A : Admitted I) (M : InMemory I) where
       record {
         field = field-is (I .field) (A .field);
         depth = size-is 16 (I .depth) (A .depth .0) (A .depth .1);
+        branch = branch-is (I .depth) (I .branchBits) (A .branch);
         trees = size-is _ (I .trees) (A .trees .0) (omega (arith, A .trees .1, A .trees .2));
         terms = size-is _ (I .terms) (A .terms .0) (omega (arith, A .terms .1, A .terms .2));
         outputs = size-is _ (I .outputs) (A .outputs .0) (A .outputs .1);
         codeKey = (A .codeKey, M .codeKey);
+        label = (A .label, M .label);
       }
 
   root-state : (i : ℕ) → IsState (root I i)
   root-state i = columns-state (I .roots) (16 * i) (M .roots)
 
-  tree-admitted : (i : ℕ) → i < I .trees → AdmittedTree (I .field) (I .depth) (noiseTree I i)
-  unfolding noiseTree
+  -- the children of a node
+  some-children : 0 < 2 ^ I .branchBits
+  some-children = pow-pos (I .branchBits)
+
+  few-children : 2 ^ I .branchBits ≤ 256
+  few-children = let h : 2 ^ I .branchBits ≤ 2 ^ 3 = pow-mono (A .branch .1) in omega (arith, h)
+
+  tree-admitted : (i : ℕ) → i < I .trees → AdmittedTree (I .field) (I .depth) (siblingCount (I .depth) (I .branchBits)) (noiseTree I i)
+  unfolding noiseTree siblingCount
   tree-admitted i h =
+      let k = 2 ^ I .branchBits in
+      let levels = I .depth / I .branchBits in
       let c =
       correction-admitted (I .field) (A .field) _ _ (word-below (I .delta) 0 (M .delta)) (word-below (I .delta) 8 (M .delta))
-      (leafAt 2 child (I .depth) (root I i) (position I i)) (leaf-state (I .depth) (root I i) (position I i) (root-state i)) (value I i)
+      (leafAt k child levels (root I i) (position I i)) (leaf-state k some-children few-children levels (root I i) (position I i) (root-state i)) (value I i)
       in
-      let beside = siblings 2 child (I .depth) (root I i) (position I i) in
+      let beside = siblings k child levels (root I i) (position I i) in
       record {
         below = lt-ltb _ _ (A .below i h);
         value = noise-is (I .field) _ (A .field) (A .noise i h);
         words = c .words;
         correction = c .element;
         siblings = (
-          length-map columnsBytes beside ∙ tree.length-siblings-two child (I .depth) (root I i) (position I i),
-          states-blocks beside (siblings-states (I .depth) (root I i) (position I i) (root-state i)),
+          length-map columnsBytes beside ∙ tree.length-siblings k child some-children levels (root I i) (position I i),
+          states-blocks beside (siblings-states k some-children few-children levels (root I i) (position I i) (root-state i)),
         );
       }
 
@@ -199,7 +211,7 @@ module _ (I : Input) (A : Admitted I) (M : InMemory I) where
         head = head-admitted;
         count = length-listed (I .trees) (noiseTree I);
         rising = rising-is (I .trees) _ listed-rises;
-        trees = each-listed (AdmittedTree (I .field) (I .depth)) (I .trees) (noiseTree I) tree-admitted;
+        trees = each-listed (AdmittedTree (I .field) (I .depth) (siblingCount (I .depth) (I .branchBits))) (I .trees) (noiseTree I) tree-admitted;
       }
 
   -- the scalar end's part

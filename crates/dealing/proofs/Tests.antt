@@ -2,7 +2,7 @@
 use mathlib.Core.Path.{_≡_, refl, sym, ap, _∙_}
 use mathlib.Core.Bool.{Bool, true, false, _&&_, not}
 use mathlib.Core.List.{List}
-use Prim.Native.Nat.{ℕ, _+_, _*_, _/_, _^_, _≤_, _<_, min}
+use Prim.Native.Nat.{ℕ, _+_, _*_, _/_, _%_, _^_, _≤_, _<_, min}
 use native.Mathlib.Nat.{min-le-left}
 use native.Mathlib.Numerals.{add-one}
 use native.Mathlib.Omega.{arith}
@@ -12,12 +12,12 @@ use lib.ListN.{length, getD, drop, drop-of-length-le}
 use lib.Seq.{drop-cons}
 use Rattle.record.specs.Content.{elementOf}
 use Rattle.record.proofs.Elements.{is-element-2}
-use Rattle.dealing.specs.Inner.Positions.{risingFrom}
+use Rattle.dealing.specs.Inner.Positions.{countsAdmitted, risingFrom, contentFault}
 use Rattle.dealing.proofs.Positions.{positions-agree}
 use Rattle.algebra.proofs.Tests.{and-left, and-right}
 use Rattle.field.specs.Bytes.{wordAt}
 use Rattle.field.specs.Prime.{modulus}
-use Rattle.record.specs.Admitted.{isField, isSize, mostTrees, mostTerms, mostOutputs, isNoise}
+use Rattle.record.specs.Admitted.{isField, isSize, isBranch, mostTrees, mostTerms, mostOutputs, isNoise}
 use Rattle.dealing.specs.Input.{Input, sizesAdmitted, lengthsAdmitted, positionsAdmitted, everyNoise, deltaAdmitted, fault}
 
 -- ---- numbers
@@ -36,54 +36,78 @@ size-lower top n h = rw (lt-leb 1 n h)
 
 -- ---- sizes: each test fails, or all are left to the last
 
-module _ (d t l n : ℕ) {a : Bool} (first : a ≡ isSize 16 d) where
-  pub sizes-depth : a ≡ false → false ≡ sizesAdmitted d t l n
+module _ (d g : ℕ) {a : Bool} (first : a ≡ isSize 3 g) where
+  pub branch-out : a ≡ false → false ≡ isBranch d g
+  branch-out e = rw (← first, e)
+
+  module _ (p : a ≡ true) where
+    pub branch-some : 1 ≤ g
+    branch-some = leb-true 1 g (and-left (leb 1 g) (leb g 3) (sym first ∙ p))
+
+    pub branch-last : eqb (d % g) 0 ≡ isBranch d g
+    branch-last = rw (← first, p)
+
+module _ (d t l n : ℕ) {all most : ℕ} {b : Bool} (power : all ≡ 2 ^ d) (least : most ≡ min 64 all) (first : b ≡ isSize most t) where
+  pub counts-trees : b ≡ false → false ≡ countsAdmitted d t l n
+  unfolding countsAdmitted
+  counts-trees e = rw (← power, ← least, ← first, e)
+
+  module _ {few : ℕ} {x : Bool} (p : b ≡ true) (fewest : few ≡ min 32 all) (second : x ≡ isSize few l) where
+    pub counts-terms : x ≡ false → false ≡ countsAdmitted d t l n
+    unfolding countsAdmitted
+    counts-terms e = rw (← power, ← least, ← first, p, ← fewest, ← second, e)
+
+    pub counts-last : {y : Bool} → x ≡ true → y ≡ isSize (all / 2) n → y ≡ countsAdmitted d t l n
+    unfolding countsAdmitted
+    counts-last r e = e ∙ rw (← power, ← least, ← first, p, ← fewest, ← second, r)
+
+module _ (d g t l n : ℕ) {a : Bool} (first : a ≡ isSize 16 d) where
+  pub sizes-depth : a ≡ false → false ≡ sizesAdmitted d g t l n
   unfolding sizesAdmitted
   sizes-depth e = rw (← first, e)
 
-  pub depth-most : a ≡ true → d ≤ 16
-  depth-most e = leb-true d 16 (and-right (leb 1 d) (leb d 16) (sym first ∙ e))
-
-  module _ {all most : ℕ} {b : Bool} (p : a ≡ true) (power : all ≡ 2 ^ d) (least : most ≡ min 64 all) (second : b ≡ isSize most t) where
-    pub sizes-trees : b ≡ false → false ≡ sizesAdmitted d t l n
+  module _ {b : Bool} (p : a ≡ true) (second : b ≡ isBranch d g) where
+    pub sizes-branch : b ≡ false → false ≡ sizesAdmitted d g t l n
     unfolding sizesAdmitted
-    sizes-trees e = rw (← first, p, ← power, ← least, ← second, e)
+    sizes-branch e = rw (← first, p, ← second, e)
 
-    module _ {few : ℕ} {x : Bool} (q : b ≡ true) (fewest : few ≡ min 32 all) (third : x ≡ isSize few l) where
-      pub sizes-terms : x ≡ false → false ≡ sizesAdmitted d t l n
-      unfolding sizesAdmitted
-      sizes-terms e = rw (← first, p, ← power, ← least, ← second, q, ← fewest, ← third, e)
+    pub sizes-last : {y : Bool} → b ≡ true → y ≡ countsAdmitted d t l n → y ≡ sizesAdmitted d g t l n
+    unfolding sizesAdmitted countsAdmitted
+    sizes-last q e = e ∙ rw (← first, p, ← second, q)
 
-      pub sizes-last : {y : Bool} → x ≡ true → y ≡ isSize (all / 2) n
-          → y ≡ sizesAdmitted d t l n
-      unfolding sizesAdmitted
-      sizes-last r e = e ∙ rw (← first, p, ← power, ← least, ← second, q, ← fewest, ← third, r)
+pub depth-most : (d : ℕ) {a : Bool} → a ≡ isSize 16 d → a ≡ true → d ≤ 16
+depth-most d first e = leb-true d 16 (and-right (leb 1 d) (leb d 16) (sym first ∙ e))
 
 -- ---- lengths
 
-module _ (t : ℕ) (a b x y z : List ℕ) where
-  pub lengths-1 : (length a ≡ 16 * t → ⊥) → false ≡ lengthsAdmitted t a b x y z
+module _ (t : ℕ) (a b x y z w : List ℕ) where
+  pub lengths-1 : (length a ≡ 16 * t → ⊥) → false ≡ lengthsAdmitted t a b x y z w
   unfolding lengthsAdmitted
   lengths-1 e = rw (ne-eqb _ _ e)
 
   module _ (p : length a ≡ 16 * t) where
-    pub lengths-2 : (length b ≡ t → ⊥) → false ≡ lengthsAdmitted t a b x y z
+    pub lengths-2 : (length b ≡ t → ⊥) → false ≡ lengthsAdmitted t a b x y z w
     unfolding lengthsAdmitted
     lengths-2 e = rw (eq-eqb _ _ p, ne-eqb _ _ e)
 
     module _ (q : length b ≡ t) where
-      pub lengths-3 : (length x ≡ t → ⊥) → false ≡ lengthsAdmitted t a b x y z
+      pub lengths-3 : (length x ≡ t → ⊥) → false ≡ lengthsAdmitted t a b x y z w
       unfolding lengthsAdmitted
       lengths-3 e = rw (eq-eqb _ _ p, eq-eqb _ _ q, ne-eqb _ _ e)
 
       module _ (r : length x ≡ t) where
-        pub lengths-4 : (length y ≡ 16 → ⊥) → false ≡ lengthsAdmitted t a b x y z
+        pub lengths-4 : (length y ≡ 16 → ⊥) → false ≡ lengthsAdmitted t a b x y z w
         unfolding lengthsAdmitted
         lengths-4 e = rw (eq-eqb _ _ p, eq-eqb _ _ q, eq-eqb _ _ r, ne-eqb _ _ e)
 
-        pub lengths-5 : length y ≡ 16 → eqb (length z) 16 ≡ lengthsAdmitted t a b x y z
-        unfolding lengthsAdmitted
-        lengths-5 e = rw (eq-eqb _ _ p, eq-eqb _ _ q, eq-eqb _ _ r, eq-eqb _ _ e)
+        module _ (s : length y ≡ 16) where
+          pub lengths-5 : (length z ≡ 16 → ⊥) → false ≡ lengthsAdmitted t a b x y z w
+          unfolding lengthsAdmitted
+          lengths-5 e = rw (eq-eqb _ _ p, eq-eqb _ _ q, eq-eqb _ _ r, eq-eqb _ _ s, ne-eqb _ _ e)
+
+          pub lengths-6 : length z ≡ 16 → eqb (length w) 16 ≡ lengthsAdmitted t a b x y z w
+          unfolding lengthsAdmitted
+          lengths-6 e = rw (eq-eqb _ _ p, eq-eqb _ _ q, eq-eqb _ _ r, eq-eqb _ _ s, eq-eqb _ _ e)
 
 -- ---- positions
 
@@ -173,31 +197,53 @@ module _ (f : ℕ) (d : List ℕ) {low high : ℕ} (l : low ≡ wordAt d 0) (h :
 -- ---- the first fault
 
 -- what the sizes and the lengths that passed say to the tests after them
-module _ (d t l n : ℕ) {b : Bool} (is : b ≡ sizesAdmitted d t l n) (p : b ≡ true) where
-  first-two : (isSize 16 d && isSize (mostTrees d) t) ≡ true
+module _ (d g t l n : ℕ) {b : Bool} (is : b ≡ sizesAdmitted d g t l n) (p : b ≡ true) where
+  first-three : (isSize 16 d && isBranch d g && isSize (mostTrees d) t) ≡ true
   unfolding sizesAdmitted
-  first-two = and-left _ (isSize (mostTerms d) l) (and-left _ (isSize (mostOutputs d) n) (sym is ∙ p))
+  first-three = and-left _ (isSize (mostTerms d) l) (and-left _ (isSize (mostOutputs d) n) (sym is ∙ p))
 
   pub passed-depth : d ≤ 16
-  passed-depth = leb-true d 16 (and-right (leb 1 d) (leb d 16) (and-left (isSize 16 d) (isSize (mostTrees d) t) first-two))
+  passed-depth =
+      leb-true d 16 (and-right (leb 1 d) (leb d 16) (and-left (isSize 16 d) (isBranch d g) (and-left _ (isSize (mostTrees d) t) first-three)))
 
   pub passed-trees : t ≤ 64
   passed-trees =
-      let h = leb-true t (min 64 (2 ^ d)) (and-right (leb 1 t) (leb t (mostTrees d)) (and-right (isSize 16 d) (isSize (mostTrees d) t) first-two)) in
+      let h = leb-true t (min 64 (2 ^ d)) (and-right (leb 1 t) (leb t (mostTrees d)) (and-right (isSize 16 d && isBranch d g) (isSize (mostTrees d) t) first-three)) in
       omega (arith, min-le-left 64 (2 ^ d))
 
-pub passed-delta : (t : ℕ) (a b x y z : List ℕ) {r : Bool}
-    → r ≡ lengthsAdmitted t a b x y z → r ≡ true → length y ≡ 16
-unfolding lengthsAdmitted
-passed-delta t a b x y z is p = eqb-true _ _ (and-right (eqb (length a) (16 * t) && eqb (length b) t && eqb (length x) t) (eqb (length y) 16) (and-left _ (eqb (length z) 16) (sym is ∙ p)))
+module _ (t : ℕ) (a b x y z w : List ℕ) {r : Bool} (is : r ≡ lengthsAdmitted t a b x y z w) (p : r ≡ true) where
+  first-four : (eqb (length a) (16 * t) && eqb (length b) t && eqb (length x) t && eqb (length y) 16) ≡ true
+  unfolding lengthsAdmitted
+  first-four = and-left _ (eqb (length z) 16) (and-left _ (eqb (length w) 16) (sym is ∙ p))
 
-passed-positions : (t : ℕ) (a b x y z : List ℕ) {r : Bool}
-    → r ≡ lengthsAdmitted t a b x y z → r ≡ true → length b ≡ t
-unfolding lengthsAdmitted
-passed-positions t a b x y z is p =
-    eqb-true _ _
-    (and-right (eqb (length a) (16 * t)) (eqb (length b) t)
-    (and-left _ (eqb (length x) t) (and-left _ (eqb (length y) 16) (and-left _ (eqb (length z) 16) (sym is ∙ p)))))
+  pub passed-delta : length y ≡ 16
+  passed-delta = eqb-true _ _ (and-right (eqb (length a) (16 * t) && eqb (length b) t && eqb (length x) t) (eqb (length y) 16) first-four)
+
+  passed-positions : length b ≡ t
+  passed-positions =
+      eqb-true _ _ (and-right (eqb (length a) (16 * t)) (eqb (length b) t) (and-left _ (eqb (length x) t) (and-left _ (eqb (length y) 16) first-four)))
+
+module _ (f d : ℕ) (positions values delta : List ℕ) {y : Bool} {all : ℕ} (power : all ≡ 2 ^ d) (first : y ≡ risingFrom all 0 positions) where
+  own : y ≡ risingFrom (2 ^ d) 0 positions
+  own = rw power at first
+
+  pub content-positions : y ≡ false → 4 ≡ contentFault f (2 ^ d) positions values delta
+  unfolding contentFault
+  content-positions e = rw (← own, e)
+
+  module _ {z : Bool} (s : y ≡ true) (second : z ≡ everyNoise f values) where
+    pub content-values : z ≡ false → 5 ≡ contentFault f (2 ^ d) positions values delta
+    unfolding contentFault
+    content-values e = rw (← own, s, ← second, e)
+
+    module _ {w : Bool} (t : z ≡ true) (third : w ≡ deltaAdmitted f delta) where
+      pub content-delta : w ≡ false → 6 ≡ contentFault f (2 ^ d) positions values delta
+      unfolding contentFault
+      content-delta e = rw (← own, s, ← second, t, ← third, e)
+
+      pub content-nothing : w ≡ true → 0 ≡ contentFault f (2 ^ d) positions values delta
+      unfolding contentFault
+      content-nothing e = rw (← own, s, ← second, t, ← third, e)
 
 module _ (I : Input) where
   pub fault-field : {a : Bool} → a ≡ isField (I .field) → a ≡ false → 1 ≡ fault I
@@ -205,38 +251,22 @@ module _ (I : Input) where
   fault-field first e = rw (← first, e)
 
   module _ {a b : Bool} (first : a ≡ isField (I .field)) (p : a ≡ true)
-      (second : b ≡ sizesAdmitted (I .depth) (I .trees) (I .terms) (I .outputs)) where
+      (second : b ≡ sizesAdmitted (I .depth) (I .branchBits) (I .trees) (I .terms) (I .outputs)) where
     pub fault-sizes : b ≡ false → 2 ≡ fault I
     unfolding fault
     fault-sizes e = rw (← first, p, ← second, e)
 
     module _ {x : Bool} (q : b ≡ true)
-        (third : x ≡ lengthsAdmitted (I .trees) (I .roots) (I .positions) (I .values) (I .delta) (I .codeKey)) where
+        (third : x ≡ lengthsAdmitted (I .trees) (I .roots) (I .positions) (I .values) (I .delta) (I .codeKey) (I .label)) where
       pub fault-lengths : x ≡ false → 3 ≡ fault I
       unfolding fault
       fault-lengths e = rw (← first, p, ← second, q, ← third, e)
 
-      module _ {y : Bool} {all : ℕ} (r : x ≡ true) (power : all ≡ 2 ^ I .depth) (fourth : y ≡ risingFrom all 0 (I .positions)) where
-        agreed : y ≡ positionsAdmitted (2 ^ I .depth) (I .trees) (I .positions)
-        agreed =
-            fourth ∙ ap (λ (n : ℕ). risingFrom n 0 (I .positions)) power ∙ positions-agree (2 ^ I .depth) (I .positions)
-            ∙ ap (λ (n : ℕ). positionsAdmitted (2 ^ I .depth) n (I .positions))
-            (passed-positions (I .trees) (I .roots) (I .positions) (I .values) (I .delta) (I .codeKey) third r)
-
-        pub fault-positions : y ≡ false → 4 ≡ fault I
-        unfolding fault
-        fault-positions e = rw (← first, p, ← second, q, ← third, r, ← agreed, e)
-
-        module _ {z : Bool} (s : y ≡ true) (fifth : z ≡ everyNoise (I .field) (I .values)) where
-          pub fault-values : z ≡ false → 5 ≡ fault I
-          unfolding fault
-          fault-values e = rw (← first, p, ← second, q, ← third, r, ← agreed, s, ← fifth, e)
-
-          module _ {w : Bool} (t : z ≡ true) (sixth : w ≡ deltaAdmitted (I .field) (I .delta)) where
-            pub fault-delta : w ≡ false → 6 ≡ fault I
-            unfolding fault
-            fault-delta e = rw (← first, p, ← second, q, ← third, r, ← agreed, s, ← fifth, t, ← sixth, e)
-
-            pub fault-nothing : w ≡ true → 0 ≡ fault I
-            unfolding fault
-            fault-nothing e = rw (← first, p, ← second, q, ← third, r, ← agreed, s, ← fifth, t, ← sixth, e)
+      pub fault-content : {r : ℕ} → x ≡ true → r ≡ contentFault (I .field) (2 ^ I .depth) (I .positions) (I .values) (I .delta) → r ≡ fault I
+      unfolding fault contentFault
+      fault-content e w =
+          let agreed : risingFrom (2 ^ I .depth) 0 (I .positions) ≡ positionsAdmitted (2 ^ I .depth) (I .trees) (I .positions) =
+          positions-agree (2 ^ I .depth) (I .positions)
+          ∙ ap (λ (n : ℕ). positionsAdmitted (2 ^ I .depth) n (I .positions))
+          (passed-positions (I .trees) (I .roots) (I .positions) (I .values) (I .delta) (I .codeKey) (I .label) third e) in
+          w ∙ rw (← first, p, ← second, q, ← third, e, agreed)

@@ -1,175 +1,200 @@
--- The loop that writes the trees of a noise record: what is written so far is the head and the first i trees. Assumes nothing.
-use mathlib.Core.Path.{_≡_, refl, sym, ap, ap₂, _∙_}
-use mathlib.Core.List.{List, _++_, append-assoc, append-nil}
-use mathlib.Core.Logic.{⊎-elim}
+-- The loop that writes the trees of a noise record: the first i trees stand after the head. Assumes nothing.
+use mathlib.Core.Path.{_≡_, refl, sym, ap, _∙_, subst}
+use mathlib.Core.List.{List, [], _++_}
 use Prim.Native.Nat.{ℕ, zero, suc, _+_, _-_, _*_, _^_, _≤_, _<_}
-use native.Mathlib.Nat.{zero-add, lt-of-lt-of-le}
+use native.Mathlib.Nat.{add-zero, zero-add}
 use native.Mathlib.Omega.{arith}
 use mir.Syntax.{w64}
 use mir.Val.{Fits}
 use lib.ListN.{length, getD, length-append}
 use lib.Pow.{pow-mono}
-use lib.Seq.{sets, length-sets}
+use lib.Seq.{length-sets}
 use Rattle.algebra.proofs.Rising.{rises}
-use Rattle.number.proofs.Places.{sets-append}
-use Rattle.record.proofs.Writes.{length-head}
-use Rattle.record.specs.Inner.Heads.{headWith}
+use Rattle.number.proofs.Places.{wrote-then, room-front, room-back}
+use Rattle.number.specs.Inner.Written.{Room, Wrote}
+use Rattle.record.specs.Content.{NoiseTree}
 use Rattle.record.specs.Writing.{writeHead, writeTree, writeNoise}
-use Rattle.record.specs.Inner.Lengths.{Writable, headLength}
-use Rattle.dealing.specs.Admitted.{Admitted}
-use Rattle.dealing.specs.Deal.{front}
+use Rattle.record.proofs.Lengths.{length-head}
+use Rattle.record.specs.Inner.Heads.{headFrom}
+use Rattle.record.specs.declared.Front.{Front}
+use Rattle.tree.specs.Columns.{columnsAt}
 use Rattle.dealing.specs.Input.{Input, position}
 use Rattle.dealing.specs.Parts.{noiseTree, noisePart}
-use Rattle.dealing.specs.Inner.Steps.{treeInput, treeLength, Placed, AdmittedWithRoom}
-use Rattle.dealing.specs.Vectors.{head}
-use Rattle.dealing.proofs.Written.{sets-front, first, baseAt, first-none, first-more, base-none, base-next, first-length, tree-length}
-
--- the head and the first i trees
-abbrev pub soFar : Input → ℕ → List ℕ
-soFar I i = writeHead 1 (head I) ++ first (I .field) (noiseTree I) i
-
--- after the head stands in b, i trees have been written
-pub record Turn (I : Input) (b out : List ℕ) (at base i : ℕ) : Type 0 where
-  pub turns : i ≤ I .trees
-  pub place : at ≡ length (soFar I i)
-  pub next : base ≡ baseAt (I .field) (noiseTree I) i
-  pub stored : out ≡ sets b (length (writeHead 1 (head I))) (first (I .field) (noiseTree I) i)
-
-same-tree : (I : Input) (i : ℕ) → noiseTree (treeInput (I .field) (I .depth) (I .roots) (I .positions) (I .values) (I .delta)) i ≡ noiseTree I i
-unfolding noiseTree
-same-tree I i = refl
+use Rattle.dealing.specs.Inner.Steps.{TablesAndKeys, inputFrom, planned, treeOf, treesBytes, Placed, TreesPlaced, NoisePlaced}
+use Rattle.dealing.specs.declared.noise.Planned.{Planned}
+use Rattle.dealing.proofs.Written.{first, baseAt, first-none, first-more, base-none, base-next, first-length, own-tree}
 
 tree-position : (I : Input) (i : ℕ) → noiseTree I i .position ≡ position I i
 unfolding noiseTree
 tree-position I i = refl
 
-module _ {I : Input} {out₀ : List ℕ} (R : AdmittedWithRoom I out₀) where
-  A : Admitted I
-  A = R .admitted
+pub plan-is : (f : Front) (positions values : List ℕ) (i base at : ℕ) {p : ℕ} → p ≡ getD positions i 0
+    → record { field = f .field; depth = f .depth; «branch_bits» = f .«branch_bits»; position = p; value = getD values i 0; base = base; at = at }
+    ≡ planned f positions values i base at
+plan-is f positions values i base at read = rw read
 
-  all-written : writeNoise (noisePart I) ≡ soFar I (I .trees)
-  unfolding writeNoise
-  all-written = refl
+module _ (f : Front) (roots positions values delta b : List ℕ) where
+  -- tree i
+  abbrev tree : ℕ → NoiseTree
+  tree i = noiseTree (inputFrom f roots positions values delta [] []) i
 
-  long-head : length (writeHead 1 (head I)) ≡ headLength (I .depth) (I .trees) (I .terms) (I .outputs)
-  long-head = length-head 1 (head I) (A .codeKey)
+  -- i trees have been written after the head
+  pub record Turn (sb mx : List ℕ) (keys : List (List (List (List ℕ)))) (out : List ℕ) (at base i : ℕ) : Type 0 where
+    pub ready : TreesPlaced f roots positions values delta b
+    pub tables : TablesAndKeys (f .«branch_bits») sb mx keys
+    pub turns : i ≤ f .trees
+    pub next : base ≡ baseAt (f .field) tree i
+    pub wrote : Wrote b (f .body) (first (f .field) tree i) at out
 
-  -- one more tree
-  more : (i : ℕ) → soFar I (i + 1) ≡ soFar I i ++ writeTree (I .field) (baseAt (I .field) (noiseTree I) i) (noiseTree I i)
-  more i =
-      ap (λ l. writeHead 1 (head I) ++ l) (first-more (I .field) (noiseTree I) i)
-      ∙ sym (append-assoc (writeHead 1 (head I)) (first (I .field) (noiseTree I) i) _)
-
-  longer : (i : ℕ) → length (soFar I (i + 1)) ≡ length (soFar I i) + treeLength I i (baseAt (I .field) (noiseTree I) i)
-  longer i =
-      ap length (more i) ∙ length-append (soFar I i) _
-      ∙ ap (λ n. length (soFar I i) + n) (tree-length I i (baseAt (I .field) (noiseTree I) i))
-
-  fits : (i : ℕ) → i ≤ I .trees → length (soFar I i) ≤ length out₀
-  fits i h =
-      let k = I .trees - i in
-      let fewer : length (soFar I i) ≤ length (soFar I (i + k)) =
-      omega (arith, first-length (I .field) (noiseTree I) k i, length-append (writeHead 1 (head I)) (first (I .field) (noiseTree I) i), length-append (writeHead 1 (head I)) (first (I .field) (noiseTree I) (i + k)))
-      in
-      let all : length (soFar I (i + k)) ≡ length (writeNoise (noisePart I)) =
-      ap (λ n. length (soFar I n)) {x = i + k} {y = I .trees} (omega arith) ∙ sym (ap length all-written)
-      in
-      omega (arith, fewer, all, R .room)
-
-  small-leaves : 2 ^ I .depth ≤ 65536
-  small-leaves = pow-mono (A .depth .1)
-
-  pub head-writable : Writable (headWith (I .field) (I .depth) (I .trees) (I .terms) (I .outputs) (I .codeKey))
-  head-writable =
+  pub turn-start : {sb mx : List ℕ} {keys : List (List (List (List ℕ)))} → TreesPlaced f roots positions values delta b → TablesAndKeys (f .«branch_bits») sb mx keys
+      → Turn sb mx keys b (f .body) 0 0
+  turn-start R L =
       record {
-        field = ⊎-elim (λ e. omega arith) (λ e. omega arith) (A .field);
-        depth = omega (arith, A .depth .1);
-        trees = omega (arith, A .trees .1);
-        terms = omega (arith, A .terms .1);
-        outputs = omega (arith, A .outputs .1, small-leaves);
-        codeKey = A .codeKey;
-      }
-
-  pub head-room : headLength (I .depth) (I .trees) (I .terms) (I .outputs) ≤ length out₀
-  head-room =
-      omega (arith, long-head, fits 0 (omega arith), length-append (writeHead 1 (head I)) (first (I .field) (noiseTree I) 0))
-
-  pub turn-start : {at : ℕ} {b : List ℕ} → at ≡ headLength (I .depth) (I .trees) (I .terms) (I .outputs) → Turn I b b at 0 0
-  turn-start {at} {b} w =
-      let none = first-none (I .field) (noiseTree I) in
-      record {
+        ready = R;
+        tables = L;
         turns = omega arith;
-        place = w ∙ sym long-head ∙ sym (ap length (ap (λ l. writeHead 1 (head I) ++ l) none ∙ append-nil (writeHead 1 (head I))));
-        next = sym (base-none (I .field) (noiseTree I));
-        stored = sym (ap (sets b (length (writeHead 1 (head I)))) none);
+        next = sym (base-none (f .field) tree);
+        wrote = rw (first-none (f .field) tree) (record { place = sym (add-zero (f .body)); stored = refl });
       }
 
-  base-below : (i : ℕ) → i < I .trees → baseAt (I .field) (noiseTree I) i ≤ position I i
-  base-below zero h = omega (arith, base-none (I .field) (noiseTree I))
-  base-below (suc i) h =
-      let b : baseAt (I .field) (noiseTree I) (suc i) ≡ position I i + 1 =
-      ap (baseAt (I .field) (noiseTree I)) {x = suc i} {y = i + 1} (omega arith) ∙ base-next (I .field) (noiseTree I) i ∙ ap (λ n. n + 1) (tree-position I i)
-      in
-      omega (arith, b, rises (I .trees) (position I) (A .rising) i h)
+  module _ (R : TreesPlaced f roots positions values delta b) where
+    small-leaves : 2 ^ f .depth ≤ 65536
+    small-leaves = pow-mono (R .depth)
 
-  module _ {b : List ℕ} (headed : b ≡ sets out₀ 0 (writeHead 1 (headWith (I .field) (I .depth) (I .trees) (I .terms) (I .outputs) (I .codeKey)))) where
-    pub turn-long : {out : List ℕ} {at base i : ℕ} → Turn I b out at base i → length out ≡ length out₀
-    turn-long T = ap length (T .stored) ∙ simp length-sets (ap length headed ∙ simp length-sets)
+    -- the first i trees have room
+    enough : (i : ℕ) → i ≤ f .trees → f .body + length (first (f .field) tree i) ≤ length b
+    enough i h =
+        let all : length (first (f .field) tree (i + (f .trees - i))) ≡ length (first (f .field) tree (f .trees)) =
+        ap (λ n. length (first (f .field) tree n)) (omega arith) in
+        omega (arith, first-length (f .field) tree (f .trees - i) i, all, R .room .fits)
 
-    module _ {out : List ℕ} {at base i : ℕ} (T : Turn I b out at base i) (h : i < I .trees) where
-      enough : at + treeLength I i base ≤ length out
-      enough =
-          let n = fits (i + 1) (omega arith) in
-          omega (arith, n, longer i, turn-long T, T .place, ap (treeLength I i) (T .next))
+    base-below : (i : ℕ) → i < f .trees → baseAt (f .field) tree i ≤ getD positions i 0
+    base-below zero h = omega (arith, base-none (f .field) tree)
+    base-below (suc i) h =
+        let e : baseAt (f .field) tree (suc i) ≡ getD positions i 0 + 1 =
+        ap (baseAt (f .field) tree) {x = suc i} {y = i + 1} (omega arith) ∙ base-next (f .field) tree i
+        ∙ ap (λ n. n + 1) (tree-position (inputFrom f roots positions values delta [] []) i) in
+        omega (arith, e, rises (f .trees) (λ i. getD positions i 0) (R .rising) i h)
 
-      pub turn-asks : Placed (treeInput (I .field) (I .depth) (I .roots) (I .positions) (I .values) (I .delta)) i base at out
-      turn-asks =
-          record {
-            depth = A .depth .1;
-            root = omega (arith, A .roots);
-            positions = omega (arith, A .positions);
-            values = omega (arith, A .values);
-            delta = A .delta;
-            rising = omega (arith, T .next, base-below i h);
-            below = lt-of-lt-of-le (A .below i h) small-leaves;
-            room = enough;
-          }
+  module _ {sb mx : List ℕ} {keys : List (List (List (List ℕ)))} {out : List ℕ} {at base i : ℕ} (T : Turn sb mx keys out at base i) where
+    pub turn-long : length out ≡ length b
+    turn-long = ap length (T .wrote .stored) ∙ length-sets b (f .body) (first (f .field) tree i)
 
-      pub turn-position : i < length (I .positions)
-      turn-position = omega (arith, A .positions)
+    pub turn-done : f .trees ≤ i → Wrote b (f .body) (treesBytes f roots positions values delta) at out
+    turn-done h = rw (same (T .turns)) at (T .wrote)
+      where
+        same : i ≤ f .trees → first (f .field) tree i ≡ first (f .field) tree (f .trees)
+        same g = ap (first (f .field) tree) (omega arith)
 
-      pub turn-fits : Fits w64 (i * 4)
-      turn-fits = record { fits = omega (arith, A .trees .1) }
+    module _ (h : i < f .trees) where
+      pub turn-position : i < length positions
+      turn-position = omega (arith, T .ready .position-count)
+
+      pub turn-value : i < length values
+      turn-value = omega (arith, T .ready .value-count)
+
+      pub turn-root : 16 * i + 16 ≤ length roots
+      turn-root = omega (arith, T .ready .root-bytes)
+
+      pub turn-fits : Fits w64 (16 * i)
+      turn-fits = record { fits = omega (arith, T .ready .trees) }
 
       pub turn-count : Fits w64 (i + 1)
-      turn-count = record { fits = omega (arith, A .trees .1) }
+      turn-count = record { fits = omega (arith, T .ready .trees) }
 
-      pub turn-base : {p : ℕ} → p ≡ getD (I .positions) i 0 → Fits w64 (p + 1)
-      turn-base read = record { fits = omega (arith, A .below i h, small-leaves) }
+      module _ {t : Planned} (made : t ≡ planned f positions values i base at) where
+        pub turn-base : Fits w64 (t .position + 1)
+        turn-base = record { fits = omega (arith, ap (λ x. x .position) made, T .ready .below i h, small-leaves (T .ready)) }
 
-      pub turn-next : {next p : ℕ} {out₁ : List ℕ}
-          → (next ≡ at + treeLength (treeInput (I .field) (I .depth) (I .roots) (I .positions) (I .values) (I .delta)) i base)
-          × (out₁ ≡ sets out at (writeTree (I .field) base (noiseTree (treeInput (I .field) (I .depth) (I .roots) (I .positions) (I .values) (I .delta)) i)))
-          → p ≡ getD (I .positions) i 0 → Turn I b out₁ next (p + 1) (i + 1)
-      turn-next {next} {p} {out₁} w read =
-          let t = writeTree (I .field) (baseAt (I .field) (noiseTree I) i) (noiseTree I i) in
-          record {
-            turns = omega arith;
-            place = w .0 ∙ omega (arith, longer i, T .place, ap (treeLength I i) (T .next));
-            next = ap (λ n. n + 1) (read ∙ sym (tree-position I i)) ∙ sym (base-next (I .field) (noiseTree I) i);
-            stored =
-                w .1 ∙ ap₂ (λ a u. sets out at (writeTree (I .field) a u)) (T .next) (same-tree I i)
-                ∙ ap₂ (λ o n. sets o n t) (T .stored) (T .place ∙ length-append (writeHead 1 (head I)) (first (I .field) (noiseTree I) i))
-                ∙ sets-append b (length (writeHead 1 (head I))) (first (I .field) (noiseTree I) i) t
-                ∙ sym (ap (sets b (length (writeHead 1 (head I)))) (first-more (I .field) (noiseTree I) i));
-          }
+        pub turn-tables : TablesAndKeys (t .«branch_bits») sb mx keys
+        turn-tables = rw made (T .tables)
 
-    pub turn-done : {out : List ℕ} {at base i : ℕ} → Turn I b out at base i → I .trees ≤ i → out ≡ front (writeNoise (noisePart I)) out₀
-    turn-done {out} {at} {base} {i} T h =
-        T .stored
-        ∙ ap (λ n. sets b (length (writeHead 1 (head I))) (first (I .field) (noiseTree I) n)) {x = i} {y = I .trees} (omega (arith, T .turns))
-        ∙ ap (λ l. sets l (length (writeHead 1 (head I))) (first (I .field) (noiseTree I) (I .trees))) headed
-        ∙ ap (λ n. sets (sets out₀ 0 (writeHead 1 (head I))) n (first (I .field) (noiseTree I) (I .trees))) (sym (zero-add (length (writeHead 1 (head I)))))
-        ∙ sets-append out₀ 0 (writeHead 1 (head I)) (first (I .field) (noiseTree I) (I .trees))
-        ∙ sym (ap (sets out₀ 0) all-written)
-        ∙ sets-front (writeNoise (noisePart I)) out₀ (R .room)
+        module _ {root : List (List ℕ)} (node : root ≡ columnsAt roots (16 * i)) where
+          own : treeOf t root delta ≡ tree i
+          own = rw (made, node) (own-tree (inputFrom f roots positions values delta [] []) i base at)
+
+          more : first (f .field) tree (i + 1) ≡ first (f .field) tree i ++ writeTree (t .field) (t .base) (treeOf t root delta)
+          more = first-more (f .field) tree i ∙ rw (own, made, T .next)
+
+          pub turn-asks : Placed t root delta out
+          turn-asks =
+              record {
+                depth = rw made (T .ready .depth);
+                branch-least = rw made (T .ready .branch-least);
+                branch-most = rw made (T .ready .branch-most);
+                scalar = T .ready .scalar;
+                rising = rw made (omega (arith, T .next, base-below (T .ready) i h));
+                below = rw made (omega (arith, T .ready .below i h, small-leaves (T .ready)));
+                room =
+                    record {
+                      fits =
+                          omega (
+                            arith,
+                            enough (T .ready) (i + 1) (omega arith),
+                            ap length more,
+                            ap (λ x. x .at) made,
+                            length-append (first (f .field) tree i) (writeTree (t .field) (t .base) (treeOf t root delta)),
+                            T .wrote .place,
+                            turn-long,
+                          );
+                    };
+              }
+
+          pub turn-next : {after : ℕ} {out₁ : List ℕ} → Wrote out (t .at) (writeTree (t .field) (t .base) (treeOf t root delta)) after out₁
+              → Turn sb mx keys out₁ after (t .position + 1) (i + 1)
+          turn-next {after} {out₁} w =
+              record {
+                ready = T .ready;
+                tables = T .tables;
+                turns = omega arith;
+                next =
+                    ap (λ x. x .position + 1) made ∙ ap (λ n. n + 1) (sym (tree-position (inputFrom f roots positions values delta [] []) i))
+                    ∙ sym (base-next (f .field) tree i);
+                wrote =
+                    rw more (wrote-then (T .wrote)
+                    (subst (λ n. Wrote out n (writeTree (t .field) (t .base) (treeOf t root delta)) after out₁) (ap (λ x. x .at) made) w));
+              }
+
+-- ---- the head and the trees
+
+module _ (f : Front) (roots positions values delta key label : List ℕ) (out : List ℕ) (P : NoisePlaced f (inputFrom f roots positions values delta key label) (length out)) where
+  -- the trees do not look at the code key and the label
+  noise-bytes : writeNoise (noisePart (inputFrom f roots positions values delta key label)) ≡ writeHead 1 (headFrom f key label) ++ treesBytes f roots positions values delta
+  unfolding writeNoise noiseTree
+  noise-bytes = refl
+
+  noise-room : Room out 0 (writeHead 1 (headFrom f key label) ++ treesBytes f roots positions values delta)
+  noise-room = record { fits = omega (arith, P .room, ap length noise-bytes) }
+
+  pub noise-head : Room out 0 (writeHead 1 (headFrom f key label))
+  noise-head = room-front (writeHead 1 (headFrom f key label)) _ noise-room
+
+  pub noise-key : length key ≡ 16
+  noise-key = P .admitted .codeKey
+
+  pub noise-label : length label ≡ 16
+  noise-label = P .admitted .label
+
+  module _ {at : ℕ} {out₁ : List ℕ} (w : Wrote out 0 (writeHead 1 (headFrom f key label)) at out₁) where
+    begins : at ≡ f .body
+    begins = w .place ∙ rw (zero-add, length-head 1 (headFrom f key label) noise-key noise-label) (sym (P .writable .body))
+
+    pub noise-trees : TreesPlaced f roots positions values delta out₁
+    noise-trees =
+        record {
+          depth = P .admitted .depth .1;
+          branch-least = P .admitted .branch .0;
+          branch-most = P .admitted .branch .1;
+          trees = P .admitted .trees .1;
+          root-bytes = P .admitted .roots;
+          position-count = P .admitted .positions;
+          value-count = P .admitted .values;
+          scalar = P .admitted .delta;
+          rising = P .admitted .rising;
+          below = P .admitted .below;
+          room = rw begins at (room-back (writeHead 1 (headFrom f key label)) (treesBytes f roots positions values delta) w noise-room);
+        }
+
+    pub noise-wrote : {next : ℕ} {out₂ : List ℕ} → Wrote out₁ (f .body) (treesBytes f roots positions values delta) next out₂
+        → Wrote out 0 (writeNoise (noisePart (inputFrom f roots positions values delta key label))) next out₂
+    noise-wrote v = rw noise-bytes (wrote-then w (rw (← begins) at v))

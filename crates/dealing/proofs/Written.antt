@@ -2,44 +2,46 @@
 use mathlib.Core.Path.{_≡_, refl, sym, ap, ap₂, _∙_}
 use mathlib.Core.Bool.{Bool, true, false, true≢false}
 use mathlib.Core.List.{List, [], _∷_, _++_, map, append-assoc, append-nil}
-use Prim.Native.Nat.{ℕ, zero, suc, _+_, _-_, _*_, _^_, _≤_, _<_}
-use native.Mathlib.Nat.{add-zero, zero-add, le-of-eq, mul-comm}
+use Prim.Native.Nat.{ℕ, zero, suc, _+_, _-_, _*_, _/_, _^_, _≤_, _<_}
+use native.Mathlib.Nat.{add-zero, zero-add, le-of-eq, mul-comm, mul-div-le}
 use native.Mathlib.Omega.{arith}
 use borrow.Author.Tests.{ne-eqb}
 use lib.Dec.{eqb}
 use mir.Syntax.{w64}
 use mir.Val.{Fits}
 use lib.ListN.{length, getD, drop, set, length-append}
+use lib.Pow.{pow-pos}
 use lib.Seq.{sets, sets-eq, set-comm, length-sets}
 use Rattle.algebra.specs.Expansion.{correction}
 use Rattle.algebra.specs.Group.{itself}
-use Rattle.algebra.specs.Field.{Value}
 use Rattle.field.proofs.BothKinds.{kindLaws}
-use Rattle.field.proofs.ByteWords.{length-leBytes}
 use Rattle.field.specs.Binary.{block, blocks, blockSub, blockScale, blockLeaf}
-use Rattle.field.specs.Bytes.{wordAt, leBytes}
-use Rattle.field.specs.Kind.{binaryKind, primeKind, kindOf, elementWords}
+use Rattle.field.specs.Bytes.{wordAt}
+use Rattle.field.specs.Kind.{binaryKind, primeKind, kindOf}
 use Rattle.field.specs.Prime.{prime, primeSub, primeMul, primeRing, primeLeaf}
 use Rattle.field.specs.declared.block.Block.{Block}
 use Rattle.field.specs.declared.prime.Prime.{Prime}
-use Rattle.number.proofs.Laws.{length-number}
-use Rattle.number.specs.Number.{writeNumber}
+use Rattle.number.specs.Inner.Written.{Room, Wrote}
 use Rattle.number.specs.Reading.{choose}
-use Rattle.record.specs.Content.{NoiseTree, elementOf}
-use Rattle.record.specs.Writing.{writeEach, writeWords, writeBlocks, writeValue, writeFront, writeTree, writeTrees}
-use Rattle.record.specs.Inner.Lengths.{frontLength}
+use Rattle.record.specs.Content.{NoiseTree, elementOf, siblingCount}
+use Rattle.record.specs.Writing.{writeEach, writeBlocks, writeFront, writeTree, writeTrees}
+use Rattle.record.specs.Inner.Lengths.{frontBytes, frontLength, treeLength}
+use Rattle.record.proofs.Lengths.{length-front}
 use Rattle.tree.proofs.Blocks.{length-blocks}
 use Rattle.tree.proofs.ChildLaws.{key-schedules}
-use Rattle.tree.proofs.Laws.{two, length-siblings-two}
+use Rattle.tree.proofs.Laws.{length-siblings}
 use Rattle.tree.proofs.Listed.{listed-none, listed-last}
 use Rattle.tree.specs.Child.{child, keysFor, childBy}
 use Rattle.tree.specs.Columns.{columnsBytes, blocksBytes}
 use Rattle.tree.specs.Expanded.{walk, walked}
+use Rattle.tree.specs.Inner.Ranges.{IsPunctured}
+use Rattle.tree.specs.declared.punctured.Punctured.{Punctured}
 use Rattle.tree.specs.Tree.{listed, siblings, leafAt}
 use Rattle.dealing.specs.Input.{Input, position}
 use Rattle.dealing.specs.Parts.{noiseTree}
-use Rattle.dealing.specs.Inner.Steps.{TablesAndKeys, treeInput, treeLength, Placed}
-use Rattle.dealing.specs.Vectors.{field, root, treeCorrection}
+use Rattle.dealing.specs.Vectors.{field, delta, root, leaf}
+use Rattle.dealing.specs.Inner.Steps.{TablesAndKeys, correctionWords, frontFor, planned, plannedBytes, treeOf, Placed}
+use Rattle.dealing.specs.declared.noise.Planned.{Planned}
 
 -- ---- stores
 
@@ -111,153 +113,153 @@ module _ (field : ℕ) (f : ℕ → NoiseTree) where
 
 -- ---- corrections
 
-pub correction-1 : (k low high : ℕ) (s : List (List ℕ)) (values : List ℕ) (i : ℕ) → k ≡ 1
-    → (let c = correction blocks (block low high) (blockLeaf s) (getD values i 0) in elementOf k (c .low) (c .high))
-    ≡ kindOf k .field .elements .words
-    (correction (kindOf k .field .scaled) (kindOf k .field .elements .read (elementOf k low high) 0) (kindOf k .leaf s) (kindOf k .field .noiseValues .read values i))
-correction-1 zero low high s values i e = absurd (omega arith)
-correction-1 (suc zero) low high s values i e = refl
-correction-1 (suc (suc k)) low high s values i e = absurd (omega arith)
+pub words-binary : (field : ℕ) (s : List (List ℕ)) (y : ℕ) (delta : List ℕ) {c : Block} → field ≡ 1
+    → c ≡ correction blocks (block (wordAt delta 0) (wordAt delta 8)) (blockLeaf s) y
+    → elementOf field (c .low) (c .high) ≡ correctionWords field s y delta
+unfolding correctionWords
+words-binary field s y delta f e = rw (e, f)
 
-pub correction-2 : (k low high : ℕ) (s : List (List ℕ)) (values : List ℕ) (i : ℕ) → (k ≡ 1 → ⊥)
-    → elementOf k (correction (itself primeRing) (prime low) (primeLeaf s) (prime (getD values i 0)) .word) 0
-    ≡ kindOf k .field .elements .words
-    (correction (kindOf k .field .scaled) (kindOf k .field .elements .read (elementOf k low high) 0) (kindOf k .leaf s) (kindOf k .field .noiseValues .read values i))
-correction-2 k low high s values i e = of (eqb k 1) (ne-eqb k 1 e)
+pub words-prime : (field : ℕ) (s : List (List ℕ)) (y : ℕ) (delta : List ℕ) {c : Prime} → (field ≡ 1 → ⊥)
+    → c ≡ correction (itself primeRing) (prime (wordAt delta 0)) (primeLeaf s) (prime y)
+    → elementOf field (c .word) 0 ≡ correctionWords field s y delta
+unfolding correctionWords
+words-prime field s y delta {c} f e = of (eqb field 1) (ne-eqb field 1 f)
   where
     of : (b : Bool) → b ≡ false
-        → choose b (correction (itself primeRing) (prime low) (primeLeaf s) (prime (getD values i 0)) .word ∷ 0 ∷ []) (correction (itself primeRing) (prime low) (primeLeaf s) (prime (getD values i 0)) .word ∷ [])
+        → choose b (c .word ∷ 0 ∷ []) (c .word ∷ [])
         ≡ choose b binaryKind primeKind .field .elements .words
         (correction (choose b binaryKind primeKind .field .scaled)
-        (choose b binaryKind primeKind .field .elements .read (choose b (low ∷ high ∷ []) (low ∷ [])) 0)
-        (choose b binaryKind primeKind .leaf s) (choose b binaryKind primeKind .field .noiseValues .read values i))
+        (choose b binaryKind primeKind .field .elements .read (choose b (wordAt delta 0 ∷ wordAt delta 8 ∷ []) (wordAt delta 0 ∷ [])) 0)
+        (choose b binaryKind primeKind .leaf s) (choose b binaryKind primeKind .field .noiseValues .read (y ∷ []) 0))
     of true f = absurd (true≢false f)
-    of false f = refl
+    of false f = rw e
 
--- ---- blocks
+-- ---- a tree
 
 pub blocks-bytes : (xs : List (List (List ℕ))) → blocksBytes xs ≡ writeBlocks (map columnsBytes xs)
 unfolding blocksBytes writeEach
 blocks-bytes [] = refl
 blocks-bytes (x ∷ xs) = ap (λ l. columnsBytes x ++ l) (blocks-bytes xs)
 
--- ---- lengths
+module _ (t : Planned) (root : List (List ℕ)) (delta : List ℕ) where
+  -- the bytes before the siblings, and the siblings
+  abbrev before : List ℕ
+  before = plannedBytes t (leafAt (2 ^ t .«branch_bits») child (t .depth / t .«branch_bits») root (t .position)) delta
 
-length-words : (k : ℕ) (c : Value (kindOf k .field)) → length (kindOf k .field .elements .words c) ≡ elementWords k
-length-words k c = kindLaws k .field .elements .length-words c
+  abbrev beside : List ℕ
+  beside = blocksBytes (siblings (2 ^ t .«branch_bits») child (t .depth / t .«branch_bits») root (t .position))
 
-length-bytes : (ws : List ℕ) → length (writeWords ws) ≡ 8 * length ws
-unfolding writeEach
-length-bytes [] = refl
-length-bytes (w ∷ ws) = length-append (leBytes 8 w) (writeWords ws) ∙ ap₂ (λ a b. a + b) (length-leBytes 8 w) (length-bytes ws) ∙ omega arith
+  tree-bytes : writeTree (t .field) (t .base) (treeOf t root delta) ≡ before ++ beside
+  unfolding writeTree writeFront plannedBytes
+  tree-bytes = ap (λ l. before ++ l) (sym (blocks-bytes (siblings (2 ^ t .«branch_bits») child (t .depth / t .«branch_bits») root (t .position))))
 
-length-value : (t : Bool) (v : ℕ) → length (choose t [] (leBytes 8 v)) ≡ choose t 0 8
-length-value true v = refl
-length-value false v = length-leBytes 8 v
+  before-long : length before ≡ frontLength (t .base) (t .position)
+  unfolding writeFront correctionWords plannedBytes
+  before-long =
+      length-front (t .field) (t .base) (t .position) (t .value) (treeOf t root delta .correction)
+      (kindLaws (t .field) .field .elements .length-words _)
 
-length-front : (k base p v : ℕ) (words : List ℕ) → length words ≡ elementWords k → length (writeFront k base p v words) ≡ frontLength k base p
-unfolding writeFront frontLength
-length-front k base p v words e =
-    length-append (writeNumber (p - base)) (writeValue k v ++ writeWords words)
-    ∙ ap₂ (λ a b. a + b) (length-number (p - base))
-    (length-append (writeValue k v) (writeWords words)
-    ∙ ap₂ (λ a b. a + b) (length-value (eqb k 1) v) (length-bytes words ∙ ap (λ n. 8 * n) e))
+  beside-long : length beside ≡ 16 * siblingCount (t .depth) (t .«branch_bits»)
+  unfolding siblingCount
+  beside-long =
+      length-blocks (siblings (2 ^ t .«branch_bits») child (t .depth / t .«branch_bits») root (t .position))
+      ∙ ap (λ n. n * 16) (length-siblings (2 ^ t .«branch_bits») child (pow-pos (t .«branch_bits»)) (t .depth / t .«branch_bits») root (t .position))
+      ∙ mul-comm (siblingCount (t .depth) (t .«branch_bits»)) 16
 
-module _ (I : Input) (i base : ℕ) where
-  abbrev frontBytes : List ℕ
-  frontBytes = writeFront (I .field) base (position I i) (getD (I .values) i 0) (field I .elements .words (treeCorrection I i))
+  pub tree-long : length (writeTree (t .field) (t .base) (treeOf t root delta)) ≡ frontLength (t .base) (t .position) + 16 * siblingCount (t .depth) (t .«branch_bits»)
+  tree-long = ap length tree-bytes ∙ length-append before beside ∙ ap₂ (λ a b. a + b) before-long beside-long
 
-  abbrev siblingBytes : List ℕ
-  siblingBytes = blocksBytes (siblings 2 child (I .depth) (root I i) (position I i))
+-- a noise value alone is read as among the others
+read-value : (k : ℕ) (values : List ℕ) (i : ℕ) → kindOf k .field .noiseValues .read (getD values i 0 ∷ []) 0 ≡ kindOf k .field .noiseValues .read values i
+read-value k values i = of (eqb k 1)
+  where
+    of : (b : Bool) → choose b binaryKind primeKind .field .noiseValues .read (getD values i 0 ∷ []) 0 ≡ choose b binaryKind primeKind .field .noiseValues .read values i
+    of true = refl
+    of false = refl
 
-  front-long : length frontBytes ≡ frontLength (I .field) base (position I i)
-  front-long = length-front (I .field) base (position I i) (getD (I .values) i 0) _ (length-words (I .field) (treeCorrection I i))
+pub own-tree : (I : Input) (i base at : ℕ) → treeOf (planned (frontFor I 0) (I .positions) (I .values) i base at) (root I i) (I .delta) ≡ noiseTree I i
+unfolding noiseTree correctionWords
+own-tree I i base at =
+    ap (λ y. record {
+      position = position I i;
+      value = getD (I .values) i 0;
+      correction = field I .elements .words (correction (field I .scaled) (delta I) (leaf I i (position I i)) y);
+      siblings = map columnsBytes (siblings (2 ^ I .branchBits) child (I .depth / I .branchBits) (root I i) (position I i));
+    })
+    (read-value (I .field) (I .values) i)
 
-  -- the front, then the siblings
-  tree-bytes : frontBytes ++ siblingBytes ≡ writeTree (I .field) base (noiseTree I i)
-  unfolding writeTree noiseTree
-  tree-bytes = ap (λ l. frontBytes ++ l) (blocks-bytes (siblings 2 child (I .depth) (root I i) (position I i)))
-
-  pub tree-length : length (writeTree (I .field) base (noiseTree I i)) ≡ treeLength I i base
-  tree-length =
-      sym (ap length tree-bytes) ∙ length-append frontBytes siblingBytes
-      ∙ ap₂ (λ a b. a + b) front-long
-      (length-blocks (siblings 2 child (I .depth) (root I i) (position I i)) ∙ ap (λ n. n * 16) (length-siblings-two child (I .depth) (root I i) (position I i)) ∙ mul-comm (I .depth) 16)
+pub tree-length : (I : Input) (i base body : ℕ) → length (writeTree (I .field) base (noiseTree I i)) ≡ treeLength (frontFor I body) base (position I i)
+unfolding treeLength
+tree-length I i base body =
+    ap (λ t. length (writeTree (I .field) base t)) (sym (own-tree I i base 0)) ∙ tree-long (planned (frontFor I 0) (I .positions) (I .values) i base 0) (root I i) (I .delta)
 
 -- ---- a tree at its place
 
-module _ (k d : ℕ) (roots positions values delta : List ℕ) (i base at : ℕ) {out sbox mix : List ℕ} {left right : List (List (List ℕ))}
-    (L : TablesAndKeys sbox mix left right) (P : Placed (treeInput k d roots positions values delta) i base at out)
-    {p f : ℕ} (read : p ≡ getD positions i 0) (front : f ≡ frontLength k base p) where
-  abbrev I : Input
-  I = treeInput k d roots positions values delta
+module _ (t : Planned) (leaf : List (List ℕ)) (delta words : List ℕ) (corrected : words ≡ correctionWords (t .field) leaf (t .value) delta) where
+  pub planned-room : {out : List ℕ} → Room out (t .at) (plannedBytes t leaf delta) → Room out (t .at) (frontBytes (t .field) (t .position - t .base) (t .value) words)
+  unfolding plannedBytes
+  planned-room r = rw corrected r
 
-  front-of : f ≡ frontLength k base (position I i)
-  front-of = front ∙ ap (frontLength k base) read
+  pub planned-wrote : {out out₁ : List ℕ} {next : ℕ} → Wrote out (t .at) (frontBytes (t .field) (t .position - t .base) (t .value) words) next out₁
+      → Wrote out (t .at) (plannedBytes t leaf delta) next out₁
+  unfolding plannedBytes
+  planned-wrote w = rw (← corrected) w
 
-  pub siblings-fit : length out < 2 ^ 64 → Fits w64 (at + f)
-  siblings-fit h = record { fits = omega (arith, front-of, P .room) }
+module _ (t : Planned) (root : List (List ℕ)) (delta : List ℕ) {out : List ℕ} (P : Placed t root delta out)
+    {f : ℕ} (front : f ≡ frontLength (t .base) (t .position)) where
+  -- the tree as its siblings are written
+  abbrev place : Punctured
+  place = record { «branch_bits» = t .«branch_bits»; levels = t .depth / t .«branch_bits»; position = t .position; at = t .at + f }
 
-  pub next-fits : length out < 2 ^ 64 → Fits w64 (at + f + 16 * d)
-  next-fits h = record { fits = omega (arith, front-of, P .room) }
+  tree-end : t .at + f + 16 * siblingCount (t .depth) (t .«branch_bits») ≤ length out
+  tree-end = omega (arith, P .room .fits, front, tree-long t root delta)
 
-  pub walk-room : at + f + 16 * d ≤ length out
-  walk-room = omega (arith, front-of, P .room)
+  pub siblings-fit : length out < 2 ^ 64 → Fits w64 (t .at + f)
+  siblings-fit h = record { fits = omega (arith, tree-end) }
 
-  pub tree-place : at + f + 16 * d ≡ at + treeLength I i base
-  tree-place = omega (arith, front-of)
+  pub next-fits : {n : ℕ} → (n ≡ siblingCount (t .depth) (t .«branch_bits»)) × (n ≤ 112) → length out < 2 ^ 64 → Fits w64 (t .at + f + 16 * n)
+  next-fits c h = record { fits = omega (arith, tree-end, c .0) }
 
-  module _ {r s : List (List ℕ)} {out₁ : List ℕ} (node : r ≡ root I i)
-      (went : walk s out₁ ≡ walked 2 (childBy (keysFor left right)) r (record { levels = d; position = p; at = at + f }) out) where
+  pub walk-room : IsPunctured place (length out)
+  unfolding siblingCount
+  walk-room =
+      let h = mul-div-le (t .depth) (t .«branch_bits») in
+      record {
+        branch = record { two = P .branch-least; eight = P .branch-most };
+        short = omega (arith, h, P .depth);
+        room = tree-end;
+      }
+
+  module _ {sbox mix : List ℕ} {keys : List (List (List (List ℕ)))} (L : TablesAndKeys (t .«branch_bits») sbox mix keys) {s : List (List ℕ)} {out₁ : List ℕ}
+      (went : walk s out₁ ≡ walked (2 ^ t .«branch_bits») (childBy (keysFor keys)) root place out) where
     -- the round keys that are lent give the tree's own walk
-    own : walk s out₁ ≡ walked 2 child r (record { levels = d; position = p; at = at + f }) out
-    own = went ∙ key-schedules .walks 2 (keysFor left right) two (key-schedules .lent left right (L .left-keys) (L .right-keys)) r _ out
+    own : walk s out₁ ≡ walked (2 ^ t .«branch_bits») child root place out
+    own = went ∙ key-schedules .walks (2 ^ t .«branch_bits») (keysFor keys) (pow-pos (t .«branch_bits»)) (L .child-keys) root place out
 
-    bytes : out₁ ≡ sets out (at + f) (blocksBytes (siblings 2 child d r p))
+    stored : out₁ ≡ sets out (t .at + f) (beside t root delta)
     unfolding walked
-    bytes = ap (λ x. x .bytes) own
+    stored = ap (λ x. x .bytes) own
 
-    pub front-room : at + frontLength k base p ≤ length out₁
+    same : plannedBytes t s delta ≡ before t root delta
+    unfolding walked
+    same = ap (λ x. plannedBytes t (x .leaf) delta) own
+
+    pub front-room : Room out₁ (t .at) (plannedBytes t s delta)
     front-room =
-        omega (arith, front, front-of, P .room, ap length bytes, length-sets out (at + f) (blocksBytes (siblings 2 child d r p)))
+        record { fits = omega (arith, tree-end, front, ap length same, before-long t root delta, ap length stored, length-sets out (t .at + f) (beside t root delta)) }
 
-    -- the leaf and the siblings are the tree's own
-    leaf-own : s ≡ leafAt 2 child d (root I i) (position I i)
-    unfolding walked
-    leaf-own = ap (λ x. x .leaf) own ∙ ap₂ (λ n j. leafAt 2 child d n j) node read
-
-    stored : out₁ ≡ sets out (at + f) (siblingBytes I i base)
-    stored =
-        bytes ∙ ap₂ (λ n j. sets out (at + f) (blocksBytes (siblings 2 child d n j))) node read
-
-    whole : {n y : ℕ} {words out₂ : List ℕ} → y ≡ getD values i 0 → words ≡ field I .elements .words (treeCorrection I i)
-        → (n ≡ at + frontLength k base p) × (out₂ ≡ sets out₁ at (writeFront k base p y words))
-        → out₂ ≡ sets out at (writeTree k base (noiseTree I i))
-    whole {n} {y} {words} value same w =
-        w .1
-        ∙ ap₂ (λ b e. sets b at e) stored (ap₂ (λ j v. writeFront k base j v words) read value ∙ ap (writeFront k base (position I i) (getD values i 0)) same)
-        ∙ sets-before (frontBytes I i base) (siblingBytes I i base) out at (at + f) (ap (λ n. at + n) (front-of ∙ sym (front-long I i base)))
-        ∙ ap (sets out at) (tree-bytes I i base)
-
-    pub wrote-binary : {n y : ℕ} {c : Block} {out₂ : List ℕ} → y ≡ getD values i 0 → k ≡ 1
-        → c ≡ correction blocks (block (wordAt delta 0) (wordAt delta 8)) (blockLeaf s) y
-        → (n ≡ at + frontLength k base p) × (out₂ ≡ sets out₁ at (writeFront k base p y (elementOf k (c .low) (c .high))))
-        → out₂ ≡ sets out at (writeTree k base (noiseTree I i))
-    wrote-binary value one e w =
-        whole value
-        (ap (λ x. elementOf k (x .low) (x .high)) (e ∙ ap₂ (λ l v. correction blocks (block (wordAt delta 0) (wordAt delta 8)) (blockLeaf l) v) leaf-own value)
-        ∙ correction-1 k (wordAt delta 0) (wordAt delta 8) (leafAt 2 child d (root I i) (position I i)) values i one)
-        w
-
-    pub wrote-prime : {n y : ℕ} {c : Prime} {out₂ : List ℕ} → y ≡ getD values i 0 → (k ≡ 1 → ⊥)
-        → c ≡ correction (itself primeRing) (prime (wordAt delta 0)) (primeLeaf s) (prime y)
-        → (n ≡ at + frontLength k base p) × (out₂ ≡ sets out₁ at (writeFront k base p y (elementOf k (c .word) 0)))
-        → out₂ ≡ sets out at (writeTree k base (noiseTree I i))
-    wrote-prime value other e w =
-        whole value
-        (ap (λ x. elementOf k (x .word) 0) (e ∙ ap₂ (λ l v. correction (itself primeRing) (prime (wordAt delta 0)) (primeLeaf l) (prime v)) leaf-own value)
-        ∙ correction-2 k (wordAt delta 0) (wordAt delta 8) (leafAt 2 child d (root I i) (position I i)) values i other)
-        w
+    pub tree-wrote : {n next : ℕ} {out₂ : List ℕ} → (n ≡ siblingCount (t .depth) (t .«branch_bits»)) × (n ≤ 112)
+        → Wrote out₁ (t .at) (plannedBytes t s delta) next out₂
+        → Wrote out (t .at) (writeTree (t .field) (t .base) (treeOf t root delta)) (t .at + f + 16 * n) out₂
+    tree-wrote c w =
+        record {
+          place = omega (arith, front, tree-long t root delta, c .0);
+          stored =
+              w .stored ∙ ap₂ (λ b e. sets b (t .at) e) stored same
+              ∙ sets-before (before t root delta) (beside t root delta) out (t .at) (t .at + f)
+              (ap (λ n. t .at + n) (front ∙ sym (before-long t root delta)))
+              ∙ ap (sets out (t .at)) (sym (tree-bytes t root delta));
+        }
 
 -- ---- a correction's steps
 

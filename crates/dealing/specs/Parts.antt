@@ -1,6 +1,6 @@
 -- Each end's part of a dealing: the content of its record (document 01, 'Dealing', 'Key records').
 use mathlib.Core.List.{map}
-use Prim.Native.Nat.{ℕ}
+use Prim.Native.Nat.{ℕ, _/_, _^_}
 use lib.ListN.{getD}
 use Rattle.record.specs.Content.{NoiseTree, NoisePart, ScalarPart}
 use Rattle.tree.specs.Child.{child}
@@ -16,7 +16,7 @@ noiseTree I i =
       position = position I i;
       value = getD (I .values) i 0;
       correction = field I .elements .words (treeCorrection I i);
-      siblings = map columnsBytes (siblings 2 child (I .depth) (root I i) (position I i));
+      siblings = map columnsBytes (siblings (2 ^ I .branchBits) child (I .depth / I .branchBits) (root I i) (position I i));
     }
 
 -- the noise end's part

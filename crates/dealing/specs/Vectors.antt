@@ -1,7 +1,7 @@
 -- μ, v0, w0 and the outputs u, v, w of a dealing, all from its input (document 01, 'Dealing', 'Offline and online', 'Lists of
--- calls at both ends'). Trees and outputs are numbered from 0.
+-- calls at both ends'), with 2^g children a node (document 02, 10). Trees and outputs are numbered from 0.
 use mathlib.Core.List.{List}
-use Prim.Native.Nat.{ℕ, _*_}
+use Prim.Native.Nat.{ℕ, _*_, _/_, _^_}
 use Rattle.algebra.specs.Expansion.{noise, correction, punctured, whole}
 use Rattle.algebra.specs.Field.{Field, NoiseValue, Value}
 use Rattle.algebra.specs.Group.{itself}
@@ -20,10 +20,12 @@ head I =
     record {
       field = I .field;
       depth = I .depth;
+      branchBits = I .branchBits;
       trees = I .trees;
       terms = I .terms;
       outputs = I .outputs;
       codeKey = I .codeKey;
+      label = I .label;
     }
 
 -- the field of the dealing
@@ -38,7 +40,7 @@ abbrev pub root : Input → ℕ → List (List ℕ)
 root I i = columnsAt (I .roots) (16 * i)
 
 abbrev pub leaf : (I : Input) → ℕ → ℕ → Value (field I)
-leaf I i j = kind (head I) .leaf (leafAt 2 child (I .depth) (root I i) j)
+leaf I i j = kind (head I) .leaf (leafAt (2 ^ I .branchBits) child (I .depth / I .branchBits) (root I i) j)
 
 -- Δ, the scalar
 abbrev pub delta : (I : Input) → Value (field I)

@@ -1,31 +1,32 @@
 // The noise record: the head, then tree by tree.
 ghost use mathlib.Core.Path.{_≡_};
-ghost use Prim.Native.Nat.{_+_};
+ghost use Prim.Native.Nat.{_+_, _≤_, _<_};
 ghost use lib.ListN.{length};
-ghost use lib.Seq.{sets};
 ghost use Rattle.algebra.specs.Expansion.{correction};
 ghost use Rattle.algebra.specs.Group.{itself};
 ghost use Rattle.field.specs.Binary.{block, blocks, blockLeaf};
 ghost use Rattle.field.specs.Bytes.{wordAt};
 ghost use Rattle.field.specs.Prime.{prime, primeRing, primeLeaf};
+ghost use Rattle.number.specs.Inner.Written.{Room, Wrote};
+ghost use Rattle.record.specs.Content.{elementOf};
 ghost use Rattle.record.specs.Writing.{writeTree, writeNoise};
-ghost use Rattle.dealing.specs.Deal.{front};
-ghost use Rattle.dealing.specs.Input.{inputWith};
-ghost use Rattle.dealing.specs.Parts.{noiseTree, noisePart};
-ghost use Rattle.dealing.specs.Inner.Steps.{TablesAndKeys, treeInput, treeLength, Placed, AdmittedWithRoom};
+ghost use Rattle.dealing.specs.Parts.{noisePart};
+ghost use Rattle.dealing.specs.Inner.Steps.{TablesAndKeys, inputFrom, correctionWords, planned, plannedBytes, treeOf, treesBytes, Placed, TreesPlaced, NoisePlaced, NoiseReady, writtenIf};
+use crate::Call;
 use crate::input::wide;
 use field::Block;
 use field::Prime;
 use field::word_at;
+use record::Front;
 use record::front_length;
+use record::sibling_count;
 use record::write_front;
 use record::write_head;
 use sbox::mix_table;
 use sbox::table;
 use tree::Punctured;
+use tree::child_keys;
 use tree::columns_at;
-use tree::left_keys;
-use tree::right_keys;
 use tree::walk;
 
 // The correction in field 1: the leaf's element minus Δ × value.
@@ -56,92 +57,163 @@ fn correction_prime(leaf: [[u8; 4]; 4], value: u64, delta: &[u8]) -> Prime
     element.sub(multiple)
 }
 
-// Writes tree i from a place on, after positions below `base`; the place after it. The walk to the leaf writes the
-// siblings, and the correction follows from the leaf.
+// The correction's first and second word, 0 where it has one.
+fn correction_words(field: usize, leaf: [[u8; 4]; 4], value: u64, delta: &[u8]) -> Block
+    requires { ⌜ length (now delta) ≡ 16 ⌝ }
+    ensures { λ r. ⌜ elementOf field (r .low) (r .high) ≡ correctionWords field leaf value (now (delta .entry)) ⌝ }
+{
+    if field == 1 {
+        return correction_binary(leaf, value, delta);
+    }
+    let c = correction_prime(leaf, value, delta);
+    Block {
+        low: c.word,
+        high: 0,
+    }
+}
+
+// A tree to be written: field, d, g, position, noise value, one more than the position before, and the place for it.
+pub struct Planned {
+    pub field: usize,
+    pub depth: usize,
+    pub branch_bits: usize,
+    pub position: usize,
+    pub value: u64,
+    pub base: usize,
+    pub at: usize,
+}
+
+// Tree i, after positions below `base`, at a place.
+fn plan(
+    front: Front,
+    positions: &[u32],
+    values: &[u64],
+    i: usize,
+    base: usize,
+    at: usize,
+) -> Planned
+    requires { ⌜ (i < length (now positions)) × (i < length (now values)) ⌝ }
+    ensures { λ r. ⌜ r ≡ planned front (now (positions .entry)) (now (values .entry)) i base at ⌝ }
+{
+    Planned {
+        field: front.field,
+        depth: front.depth,
+        branch_bits: front.branch_bits,
+        position: wide(positions[i]),
+        value: values[i],
+        base: base,
+        at: at,
+    }
+}
+
+// Writes a tree up to its siblings at its place, the correction from the leaf at its position.
+fn write_planned(leaf: [[u8; 4]; 4], tree: Planned, delta: &[u8], out: &mut [u8]) -> usize
+    requires { ⌜ (tree .base ≤ tree .position) × (tree .position < 65536) × (length (now delta) ≡ 16) × (Room (now out) (tree .at) (plannedBytes tree leaf (now delta))) ⌝ }
+    ensures { λ r. ⌜ Wrote (now (out .entry)) (tree .at) (plannedBytes tree leaf (now (delta .entry))) r (now (out .exit)) ⌝ }
+{
+    let c = correction_words(tree.field, leaf, tree.value, delta);
+    let back = tree.position - tree.base;
+    write_front(out, tree.at, tree.field, back, tree.value, c.low, c.high)
+}
+
+// Writes a tree at its place; the place after it. The walk to the leaf writes the siblings.
 fn write_tree(
     sbox: &[u8; 256],
     mix: &[u32; 256],
-    left: &[[[u8; 4]; 4]; 11],
-    right: &[[[u8; 4]; 4]; 11],
-    field: usize,
-    depth: usize,
-    roots: &[u8],
-    positions: &[u32],
-    values: &[u64],
+    keys: &[[[[u8; 4]; 4]; 11]; 8],
+    root: [[u8; 4]; 4],
+    tree: Planned,
     delta: &[u8],
-    i: usize,
-    base: usize,
     out: &mut [u8],
-    at: usize,
 ) -> usize
-    requires { ⌜ TablesAndKeys (now sbox) (now mix) (now left) (now right) ⌝ }
-    requires { ⌜ Placed (treeInput field depth (now roots) (now positions) (now values) (now delta)) i base at (now out) ⌝ }
-    ensures place { λ r. ⌜ r ≡ at + treeLength (treeInput field depth (now (roots .entry)) (now (positions .entry)) (now (values .entry)) (now (delta .entry))) i base ⌝ }
-    ensures written { λ _. ⌜ now (out .exit) ≡ sets (now (out .entry)) at (writeTree field base (noiseTree (treeInput field depth (now (roots .entry)) (now (positions .entry)) (now (values .entry)) (now (delta .entry))) i)) ⌝ }
+    requires { ⌜ TablesAndKeys (tree .«branch_bits») (now sbox) (now mix) (now keys) ⌝ }
+    requires { ⌜ Placed tree root (now delta) (now out) ⌝ }
+    ensures { λ r. ⌜ Wrote (now (out .entry)) (tree .at) (writeTree (tree .field) (tree .base) (treeOf tree root (now (delta .entry)))) r (now (out .exit)) ⌝ }
 {
-    let root = columns_at(roots, 16 * i);
-    let position = wide(positions[i]);
-    let value = values[i];
-    let siblings = at + front_length(field, base, position);
-    let next = siblings + 16 * depth;
-    let tree = Punctured {
-        levels: depth,
-        position,
+    let siblings = tree.at + front_length(tree.base, tree.position);
+    let next = siblings + 16 * sibling_count(tree.depth, tree.branch_bits);
+    let place = Punctured {
+        branch_bits: tree.branch_bits,
+        levels: tree.depth / tree.branch_bits,
+        position: tree.position,
         at: siblings,
     };
-    let leaf = walk(sbox, mix, left, right, root, tree, out);
-    if field == 1 {
-        let c = correction_binary(leaf, value, delta);
-        write_front(out, at, field, base, position, value, c.low, c.high);
-        return next;
-    }
-    let c = correction_prime(leaf, value, delta);
-    write_front(out, at, field, base, position, value, c.word, 0);
+    let leaf = walk(sbox, mix, keys, root, place, out);
+    write_planned(leaf, tree, delta, out);
     next
 }
 
-// Writes the noise record at the buffer's front.
-pub fn write_noise(
-    field: usize,
-    depth: usize,
-    trees: usize,
-    terms: usize,
-    outputs: usize,
+// Writes the trees after the head; the place after them.
+fn write_trees(
+    out: &mut [u8],
+    front: Front,
     roots: &[u8],
     positions: &[u32],
     values: &[u64],
     delta: &[u8],
-    code_key: &[u8],
-    out: &mut [u8],
-)
-    requires { ⌜ AdmittedWithRoom (inputWith field depth trees terms outputs (now roots) (now positions) (now values) (now delta) (now «code_key»)) (now out) ⌝ }
-    ensures { λ _. ⌜ now (out .exit) ≡ front (writeNoise (noisePart (inputWith field depth trees terms outputs (now (roots .entry)) (now (positions .entry)) (now (values .entry)) (now (delta .entry)) (now («code_key» .entry))))) (now (out .entry)) ⌝ }
+) -> usize
+    requires { ⌜ TreesPlaced front (now roots) (now positions) (now values) (now delta) (now out) ⌝ }
+    ensures { λ r. ⌜ Wrote (now (out .entry)) (front .body) (treesBytes front (now (roots .entry)) (now (positions .entry)) (now (values .entry)) (now (delta .entry))) r (now (out .exit)) ⌝ }
 {
     let sb = table();
     let mx = mix_table();
-    let left = left_keys(&sb);
-    let right = right_keys(&sb);
-    let mut at = write_head(out, 1, field, depth, trees, terms, outputs, code_key);
+    let keys = child_keys(&sb, front.branch_bits);
+    let mut at = front.body;
     let mut base: usize = 0;
     let mut i: usize = 0;
-    while i < trees {
-        at = write_tree(
-            &sb,
-            &mx,
-            &left,
-            &right,
-            field,
-            depth,
-            roots,
-            positions,
-            values,
-            delta,
-            i,
-            base,
-            out,
-            at,
-        );
-        base = wide(positions[i]) + 1;
+    while i < front.trees {
+        let tree = plan(front, positions, values, i, base, at);
+        let root = columns_at(roots, 16 * i);
+        at = write_tree(&sb, &mx, &keys, root, tree, delta, out);
+        base = tree.position + 1;
         i += 1;
     }
+    at
+}
+
+// Writes the noise record at the buffer's front; its length.
+fn write_noise(
+    out: &mut [u8],
+    front: Front,
+    code_key: &[u8],
+    label: &[u8],
+    roots: &[u8],
+    positions: &[u32],
+    values: &[u64],
+    delta: &[u8],
+) -> usize
+    requires { ⌜ NoisePlaced front (inputFrom front (now roots) (now positions) (now values) (now delta) (now «code_key») (now label)) (length (now out)) ⌝ }
+    ensures { λ r. ⌜ Wrote (now (out .entry)) 0 (writeNoise (noisePart (inputFrom front (now (roots .entry)) (now (positions .entry)) (now (values .entry)) (now (delta .entry)) (now («code_key» .entry)) (now (label .entry))))) r (now (out .exit)) ⌝ }
+{
+    write_head(out, 1, front, code_key, label);
+    write_trees(out, front, roots, positions, values, delta)
+}
+
+// Writes the noise record at the buffer's front, if the answer's number is 0.
+pub fn write_noise_part(
+    out: &mut [u8],
+    call: Call,
+    code_key: &[u8],
+    label: &[u8],
+    roots: &[u8],
+    positions: &[u32],
+    values: &[u64],
+    delta: &[u8],
+)
+    requires { ⌜ NoiseReady (call .answer) (call .front) (inputFrom (call .front) (now roots) (now positions) (now values) (now delta) (now «code_key») (now label)) (length (now out)) ⌝ }
+    ensures { λ _. ⌜ now (out .exit) ≡ writtenIf (call .answer .number) (writeNoise (noisePart (inputFrom (call .front) (now (roots .entry)) (now (positions .entry)) (now (values .entry)) (now (delta .entry)) (now («code_key» .entry)) (now (label .entry))))) (now (out .entry)) ⌝ }
+{
+    if call.answer.number != 0 {
+        return;
+    }
+    write_noise(
+        out,
+        call.front,
+        code_key,
+        label,
+        roots,
+        positions,
+        values,
+        delta,
+    );
 }

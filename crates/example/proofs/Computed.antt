@@ -29,7 +29,8 @@ use Rattle.number.specs.Number.{writeNumber, lastGroup, readNumber}
 use Rattle.number.specs.Reading.{tested, readByte, readBytes}
 use Rattle.record.specs.Writing as writing
 use Rattle.record.specs.Writing.{writeHead, writeFront, writeTree, writeTrees, writeNoise, writeScalar}
-use Rattle.record.specs.Reading.{items, readItems, readSize, readPosition, readValue, readCorrection, readDelta, readField, readSizes, readHead, readTree, readTrees, readNoise, readScalar}
+use Rattle.record.specs.Content.{siblingCount}
+use Rattle.record.specs.Reading.{items, readItems, readSize, readBranch, readPosition, readValue, readCorrection, readDelta, readField, readAfterDepth, readSizes, readHead, readTree, readTrees, readNoise, readScalar}
 use Rattle.rows.specs.Usable.{windowUsable}
 use Rattle.dealing.specs.Deal.{deal}
 use Rattle.dealing.specs.Parts.{noiseTree}
@@ -62,6 +63,7 @@ binary-memory =
       values = bounded 18446744073709551616 (binaryInput .values) (lit< tt) refl;
       delta = bounded 256 (binaryInput .delta) (lit< tt) refl;
       codeKey = bounded 256 (binaryInput .codeKey) (lit< tt) refl;
+      label = bounded 256 (binaryInput .label) (lit< tt) refl;
     }
 
 prime-memory : InMemory primeInput
@@ -73,16 +75,17 @@ prime-memory =
       values = bounded 18446744073709551616 (primeInput .values) (lit< tt) refl;
       delta = bounded 256 (primeInput .delta) (lit< tt) refl;
       codeKey = bounded 256 (primeInput .codeKey) (lit< tt) refl;
+      label = bounded 256 (primeInput .label) (lit< tt) refl;
     }
 
 binary-setting : Setting
-unfolding coding.flat coding.over noise correction punctured whole output sum accumulate blockScale leNumber leBytes wordAt columnsOf lowOf highOf primeAdd primeSub primeMul primeReduce xtime multiples mulBytes squares inverse fromBits affine sBox xorWord xorState subBytes shiftRows mixColumn mixColumns rounds cipher power temp scheduleWords keysOf keyExpansion aes child columnsAt columnsBytes path reach leafAt listed others beside siblings follow fromSiblings termBlock placeOf termPlace rowOf every writeNumber lastGroup readNumber tested readByte readBytes writing.writeEach writeHead writeFront writeTree writeTrees writeNoise writeScalar items readItems readSize readPosition readValue readCorrection readDelta readField readSizes readHead readTree readTrees readNoise readScalar windowUsable deal sizesAdmitted lengthsAdmitted positionsAdmitted rising everyNoise deltaAdmitted fault noiseTree noiseOffline.offline noiseOffline.expand noiseOnline.usable noiseOnline.filled noiseOnline.rowsOutcome noiseOnline.window noiseOnline.online noiseVectors.mu noiseVectors.v0 scalarOffline.offline scalarOffline.expand scalarOnline.usable scalarOnline.filled scalarOnline.rowsOutcome scalarOnline.window scalarOnline.online scalarVectors.w0 noiseRun scalarRun
+unfolding coding.flat coding.over noise correction punctured whole output sum accumulate blockScale leNumber leBytes wordAt columnsOf lowOf highOf primeAdd primeSub primeMul primeReduce xtime multiples mulBytes squares inverse fromBits affine sBox xorWord xorState subBytes shiftRows mixColumn mixColumns rounds cipher power temp scheduleWords keysOf keyExpansion aes child columnsAt columnsBytes path reach leafAt listed others beside siblings follow fromSiblings termBlock placeOf termPlace rowOf every siblingCount writeNumber lastGroup readNumber tested readByte readBytes writing.writeEach writeHead writeFront writeTree writeTrees writeNoise writeScalar items readItems readSize readBranch readPosition readValue readCorrection readDelta readField readAfterDepth readSizes readHead readTree readTrees readNoise readScalar windowUsable deal sizesAdmitted lengthsAdmitted positionsAdmitted rising everyNoise deltaAdmitted fault noiseTree noiseOffline.offline noiseOffline.expand noiseOnline.usable noiseOnline.filled noiseOnline.rowsOutcome noiseOnline.window noiseOnline.online noiseVectors.mu noiseVectors.v0 scalarOffline.offline scalarOffline.expand scalarOnline.usable scalarOnline.filled scalarOnline.rowsOutcome scalarOnline.window scalarOnline.online scalarVectors.w0 noiseRun scalarRun
 binary-setting =
     record {
       input = binaryInput;
       inMemory = binary-memory;
-      noiseRecord = replicate 64 0;
-      scalarRecord = replicate 64 0;
+      noiseRecord = replicate 96 0;
+      scalarRecord = replicate 96 0;
       dealt = refl;
       noiseBuffer = replicate 2 0;
       vBuffer = replicate 4 0;
@@ -93,13 +96,13 @@ binary-setting =
     }
 
 prime-setting : Setting
-unfolding coding.flat coding.over noise correction punctured whole output sum accumulate blockScale leNumber leBytes wordAt columnsOf lowOf highOf primeAdd primeSub primeMul primeReduce xtime multiples mulBytes squares inverse fromBits affine sBox xorWord xorState subBytes shiftRows mixColumn mixColumns rounds cipher power temp scheduleWords keysOf keyExpansion aes child columnsAt columnsBytes path reach leafAt listed others beside siblings follow fromSiblings termBlock placeOf termPlace rowOf every writeNumber lastGroup readNumber tested readByte readBytes writing.writeEach writeHead writeFront writeTree writeTrees writeNoise writeScalar items readItems readSize readPosition readValue readCorrection readDelta readField readSizes readHead readTree readTrees readNoise readScalar windowUsable deal sizesAdmitted lengthsAdmitted positionsAdmitted rising everyNoise deltaAdmitted fault noiseTree noiseOffline.offline noiseOffline.expand noiseOnline.usable noiseOnline.filled noiseOnline.rowsOutcome noiseOnline.window noiseOnline.online noiseVectors.mu noiseVectors.v0 scalarOffline.offline scalarOffline.expand scalarOnline.usable scalarOnline.filled scalarOnline.rowsOutcome scalarOnline.window scalarOnline.online scalarVectors.w0 noiseRun scalarRun
+unfolding coding.flat coding.over noise correction punctured whole output sum accumulate blockScale leNumber leBytes wordAt columnsOf lowOf highOf primeAdd primeSub primeMul primeReduce xtime multiples mulBytes squares inverse fromBits affine sBox xorWord xorState subBytes shiftRows mixColumn mixColumns rounds cipher power temp scheduleWords keysOf keyExpansion aes child columnsAt columnsBytes path reach leafAt listed others beside siblings follow fromSiblings termBlock placeOf termPlace rowOf every siblingCount writeNumber lastGroup readNumber tested readByte readBytes writing.writeEach writeHead writeFront writeTree writeTrees writeNoise writeScalar items readItems readSize readBranch readPosition readValue readCorrection readDelta readField readAfterDepth readSizes readHead readTree readTrees readNoise readScalar windowUsable deal sizesAdmitted lengthsAdmitted positionsAdmitted rising everyNoise deltaAdmitted fault noiseTree noiseOffline.offline noiseOffline.expand noiseOnline.usable noiseOnline.filled noiseOnline.rowsOutcome noiseOnline.window noiseOnline.online noiseVectors.mu noiseVectors.v0 scalarOffline.offline scalarOffline.expand scalarOnline.usable scalarOnline.filled scalarOnline.rowsOutcome scalarOnline.window scalarOnline.online scalarVectors.w0 noiseRun scalarRun
 prime-setting =
     record {
       input = primeInput;
       inMemory = prime-memory;
-      noiseRecord = replicate 64 0;
-      scalarRecord = replicate 64 0;
+      noiseRecord = replicate 96 0;
+      scalarRecord = replicate 96 0;
       dealt = refl;
       noiseBuffer = replicate 2 0;
       vBuffer = replicate 2 0;
@@ -110,19 +113,19 @@ prime-setting =
     }
 
 binary-noise : map noiseShown (noiseRun (noiseStart binary-setting) (noiseCalls 2)) ≡ (windowPastEnd ∷ 0 ∷ 0 ∷ 0 ∷ []) ∷ (accepted ∷ 1 ∷ 205336936553831 ∷ 9285005468926516466 ∷ []) ∷ []
-unfolding binary-setting coding.flat coding.over noise correction punctured whole output sum accumulate blockScale leNumber leBytes wordAt columnsOf lowOf highOf primeAdd primeSub primeMul primeReduce xtime multiples mulBytes squares inverse fromBits affine sBox xorWord xorState subBytes shiftRows mixColumn mixColumns rounds cipher power temp scheduleWords keysOf keyExpansion aes child columnsAt columnsBytes path reach leafAt listed others beside siblings follow fromSiblings termBlock placeOf termPlace rowOf every writeNumber lastGroup readNumber tested readByte readBytes writing.writeEach writeHead writeFront writeTree writeTrees writeNoise writeScalar items readItems readSize readPosition readValue readCorrection readDelta readField readSizes readHead readTree readTrees readNoise readScalar windowUsable deal sizesAdmitted lengthsAdmitted positionsAdmitted rising everyNoise deltaAdmitted fault noiseTree noiseOffline.offline noiseOffline.expand noiseOnline.usable noiseOnline.filled noiseOnline.rowsOutcome noiseOnline.window noiseOnline.online noiseVectors.mu noiseVectors.v0 scalarOffline.offline scalarOffline.expand scalarOnline.usable scalarOnline.filled scalarOnline.rowsOutcome scalarOnline.window scalarOnline.online scalarVectors.w0 noiseRun scalarRun
+unfolding binary-setting coding.flat coding.over noise correction punctured whole output sum accumulate blockScale leNumber leBytes wordAt columnsOf lowOf highOf primeAdd primeSub primeMul primeReduce xtime multiples mulBytes squares inverse fromBits affine sBox xorWord xorState subBytes shiftRows mixColumn mixColumns rounds cipher power temp scheduleWords keysOf keyExpansion aes child columnsAt columnsBytes path reach leafAt listed others beside siblings follow fromSiblings termBlock placeOf termPlace rowOf every siblingCount writeNumber lastGroup readNumber tested readByte readBytes writing.writeEach writeHead writeFront writeTree writeTrees writeNoise writeScalar items readItems readSize readBranch readPosition readValue readCorrection readDelta readField readAfterDepth readSizes readHead readTree readTrees readNoise readScalar windowUsable deal sizesAdmitted lengthsAdmitted positionsAdmitted rising everyNoise deltaAdmitted fault noiseTree noiseOffline.offline noiseOffline.expand noiseOnline.usable noiseOnline.filled noiseOnline.rowsOutcome noiseOnline.window noiseOnline.online noiseVectors.mu noiseVectors.v0 scalarOffline.offline scalarOffline.expand scalarOnline.usable scalarOnline.filled scalarOnline.rowsOutcome scalarOnline.window scalarOnline.online scalarVectors.w0 noiseRun scalarRun
 binary-noise = refl
 
 binary-scalar : map scalarShown (scalarRun (scalarStart binary-setting) (scalarCalls 2)) ≡ (windowPastEnd ∷ 0 ∷ 0 ∷ []) ∷ (accepted ∷ 205336936553828 ∷ 9645293439116156146 ∷ []) ∷ []
-unfolding binary-setting coding.flat coding.over noise correction punctured whole output sum accumulate blockScale leNumber leBytes wordAt columnsOf lowOf highOf primeAdd primeSub primeMul primeReduce xtime multiples mulBytes squares inverse fromBits affine sBox xorWord xorState subBytes shiftRows mixColumn mixColumns rounds cipher power temp scheduleWords keysOf keyExpansion aes child columnsAt columnsBytes path reach leafAt listed others beside siblings follow fromSiblings termBlock placeOf termPlace rowOf every writeNumber lastGroup readNumber tested readByte readBytes writing.writeEach writeHead writeFront writeTree writeTrees writeNoise writeScalar items readItems readSize readPosition readValue readCorrection readDelta readField readSizes readHead readTree readTrees readNoise readScalar windowUsable deal sizesAdmitted lengthsAdmitted positionsAdmitted rising everyNoise deltaAdmitted fault noiseTree noiseOffline.offline noiseOffline.expand noiseOnline.usable noiseOnline.filled noiseOnline.rowsOutcome noiseOnline.window noiseOnline.online noiseVectors.mu noiseVectors.v0 scalarOffline.offline scalarOffline.expand scalarOnline.usable scalarOnline.filled scalarOnline.rowsOutcome scalarOnline.window scalarOnline.online scalarVectors.w0 noiseRun scalarRun
+unfolding binary-setting coding.flat coding.over noise correction punctured whole output sum accumulate blockScale leNumber leBytes wordAt columnsOf lowOf highOf primeAdd primeSub primeMul primeReduce xtime multiples mulBytes squares inverse fromBits affine sBox xorWord xorState subBytes shiftRows mixColumn mixColumns rounds cipher power temp scheduleWords keysOf keyExpansion aes child columnsAt columnsBytes path reach leafAt listed others beside siblings follow fromSiblings termBlock placeOf termPlace rowOf every siblingCount writeNumber lastGroup readNumber tested readByte readBytes writing.writeEach writeHead writeFront writeTree writeTrees writeNoise writeScalar items readItems readSize readBranch readPosition readValue readCorrection readDelta readField readAfterDepth readSizes readHead readTree readTrees readNoise readScalar windowUsable deal sizesAdmitted lengthsAdmitted positionsAdmitted rising everyNoise deltaAdmitted fault noiseTree noiseOffline.offline noiseOffline.expand noiseOnline.usable noiseOnline.filled noiseOnline.rowsOutcome noiseOnline.window noiseOnline.online noiseVectors.mu noiseVectors.v0 scalarOffline.offline scalarOffline.expand scalarOnline.usable scalarOnline.filled scalarOnline.rowsOutcome scalarOnline.window scalarOnline.online scalarVectors.w0 noiseRun scalarRun
 binary-scalar = refl
 
 prime-noise : map noiseShown (noiseRun (noiseStart prime-setting) (noiseCalls 1)) ≡ (windowPastEnd ∷ 0 ∷ 0 ∷ []) ∷ (accepted ∷ 493152902708428463 ∷ 1094412974102167835 ∷ []) ∷ []
-unfolding prime-setting coding.flat coding.over noise correction punctured whole output sum accumulate blockScale leNumber leBytes wordAt columnsOf lowOf highOf primeAdd primeSub primeMul primeReduce xtime multiples mulBytes squares inverse fromBits affine sBox xorWord xorState subBytes shiftRows mixColumn mixColumns rounds cipher power temp scheduleWords keysOf keyExpansion aes child columnsAt columnsBytes path reach leafAt listed others beside siblings follow fromSiblings termBlock placeOf termPlace rowOf every writeNumber lastGroup readNumber tested readByte readBytes writing.writeEach writeHead writeFront writeTree writeTrees writeNoise writeScalar items readItems readSize readPosition readValue readCorrection readDelta readField readSizes readHead readTree readTrees readNoise readScalar windowUsable deal sizesAdmitted lengthsAdmitted positionsAdmitted rising everyNoise deltaAdmitted fault noiseTree noiseOffline.offline noiseOffline.expand noiseOnline.usable noiseOnline.filled noiseOnline.rowsOutcome noiseOnline.window noiseOnline.online noiseVectors.mu noiseVectors.v0 scalarOffline.offline scalarOffline.expand scalarOnline.usable scalarOnline.filled scalarOnline.rowsOutcome scalarOnline.window scalarOnline.online scalarVectors.w0 noiseRun scalarRun
+unfolding prime-setting coding.flat coding.over noise correction punctured whole output sum accumulate blockScale leNumber leBytes wordAt columnsOf lowOf highOf primeAdd primeSub primeMul primeReduce xtime multiples mulBytes squares inverse fromBits affine sBox xorWord xorState subBytes shiftRows mixColumn mixColumns rounds cipher power temp scheduleWords keysOf keyExpansion aes child columnsAt columnsBytes path reach leafAt listed others beside siblings follow fromSiblings termBlock placeOf termPlace rowOf every siblingCount writeNumber lastGroup readNumber tested readByte readBytes writing.writeEach writeHead writeFront writeTree writeTrees writeNoise writeScalar items readItems readSize readBranch readPosition readValue readCorrection readDelta readField readAfterDepth readSizes readHead readTree readTrees readNoise readScalar windowUsable deal sizesAdmitted lengthsAdmitted positionsAdmitted rising everyNoise deltaAdmitted fault noiseTree noiseOffline.offline noiseOffline.expand noiseOnline.usable noiseOnline.filled noiseOnline.rowsOutcome noiseOnline.window noiseOnline.online noiseVectors.mu noiseVectors.v0 scalarOffline.offline scalarOffline.expand scalarOnline.usable scalarOnline.filled scalarOnline.rowsOutcome scalarOnline.window scalarOnline.online scalarVectors.w0 noiseRun scalarRun
 prime-noise = refl
 
 prime-scalar : map scalarShown (scalarRun (scalarStart prime-setting) (scalarCalls 1)) ≡ (windowPastEnd ∷ 0 ∷ []) ∷ (accepted ∷ 268028673013759273 ∷ []) ∷ []
-unfolding prime-setting coding.flat coding.over noise correction punctured whole output sum accumulate blockScale leNumber leBytes wordAt columnsOf lowOf highOf primeAdd primeSub primeMul primeReduce xtime multiples mulBytes squares inverse fromBits affine sBox xorWord xorState subBytes shiftRows mixColumn mixColumns rounds cipher power temp scheduleWords keysOf keyExpansion aes child columnsAt columnsBytes path reach leafAt listed others beside siblings follow fromSiblings termBlock placeOf termPlace rowOf every writeNumber lastGroup readNumber tested readByte readBytes writing.writeEach writeHead writeFront writeTree writeTrees writeNoise writeScalar items readItems readSize readPosition readValue readCorrection readDelta readField readSizes readHead readTree readTrees readNoise readScalar windowUsable deal sizesAdmitted lengthsAdmitted positionsAdmitted rising everyNoise deltaAdmitted fault noiseTree noiseOffline.offline noiseOffline.expand noiseOnline.usable noiseOnline.filled noiseOnline.rowsOutcome noiseOnline.window noiseOnline.online noiseVectors.mu noiseVectors.v0 scalarOffline.offline scalarOffline.expand scalarOnline.usable scalarOnline.filled scalarOnline.rowsOutcome scalarOnline.window scalarOnline.online scalarVectors.w0 noiseRun scalarRun
+unfolding prime-setting coding.flat coding.over noise correction punctured whole output sum accumulate blockScale leNumber leBytes wordAt columnsOf lowOf highOf primeAdd primeSub primeMul primeReduce xtime multiples mulBytes squares inverse fromBits affine sBox xorWord xorState subBytes shiftRows mixColumn mixColumns rounds cipher power temp scheduleWords keysOf keyExpansion aes child columnsAt columnsBytes path reach leafAt listed others beside siblings follow fromSiblings termBlock placeOf termPlace rowOf every siblingCount writeNumber lastGroup readNumber tested readByte readBytes writing.writeEach writeHead writeFront writeTree writeTrees writeNoise writeScalar items readItems readSize readBranch readPosition readValue readCorrection readDelta readField readAfterDepth readSizes readHead readTree readTrees readNoise readScalar windowUsable deal sizesAdmitted lengthsAdmitted positionsAdmitted rising everyNoise deltaAdmitted fault noiseTree noiseOffline.offline noiseOffline.expand noiseOnline.usable noiseOnline.filled noiseOnline.rowsOutcome noiseOnline.window noiseOnline.online noiseVectors.mu noiseVectors.v0 scalarOffline.offline scalarOffline.expand scalarOnline.usable scalarOnline.filled scalarOnline.rowsOutcome scalarOnline.window scalarOnline.online scalarVectors.w0 noiseRun scalarRun
 prime-scalar = refl
 
 pub example : Example

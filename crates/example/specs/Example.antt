@@ -11,12 +11,13 @@ use Rattle.claims.specs.Correlation.{Setting, NoiseCall, noiseStart, noiseRun, 
 use Rattle.noise_end.specs.Online as noiseOnline
 use Rattle.scalar_end.specs.Online as scalarOnline
 
--- the input: root 01 02 .. 10, position 0, a noise value, Δ, and the code key 00 .. 00
+-- the input: root 01 02 .. 10, position 0, a noise value, Δ, the code key and the label 00 .. 00
 abbrev pub small : ℕ → ℕ → List ℕ → Input
 small field value delta =
     record {
       field = field;
       depth = 1;
+      branchBits = 1;
       trees = 1;
       terms = 1;
       outputs = 1;
@@ -25,6 +26,7 @@ small field value delta =
       values = value ∷ [];
       delta = delta;
       codeKey = replicate 16 0;
+      label = replicate 16 0;
     }
 
 abbrev pub binaryInput : Input

@@ -17,11 +17,12 @@ mod stocks;
 use answer::OneLength;
 use answer::TwoLengths;
 
-// Deals both records from field, sizes, roots, positions, noise values, Δ and code key.
+// Deals both records from field, sizes, roots, positions, noise values, Δ, code key and label.
 #[no_mangle]
 pub extern "C" fn expander_deal(
     field: u8,
     depth: usize,
+    branch_bits: usize,
     trees: usize,
     terms: usize,
     outputs: usize,
@@ -30,19 +31,21 @@ pub extern "C" fn expander_deal(
     values: &[u64],
     delta: &[u8],
     code_key: &[u8],
+    label: &[u8],
     noise_record: &mut [u8],
     scalar_record: &mut [u8],
 ) -> TwoLengths
     ensures { λ r. ⌜ dealt r
-        (inputWith field depth trees terms outputs (now (roots .exit)) (now (positions .exit)) (now (values .exit)) (now (delta .exit)) (now («code_key» .exit)))
+        (inputWith field depth «branch_bits» trees terms outputs (now (roots .exit)) (now (positions .exit)) (now (values .exit)) (now (delta .exit)) (now («code_key» .exit)) (now (label .exit)))
         (now («noise_record» .exit)) (now («scalar_record» .exit))
         ≡ deal
-        (inputWith field depth trees terms outputs (now (roots .entry)) (now (positions .entry)) (now (values .entry)) (now (delta .entry)) (now («code_key» .entry)))
+        (inputWith field depth «branch_bits» trees terms outputs (now (roots .entry)) (now (positions .entry)) (now (values .entry)) (now (delta .entry)) (now («code_key» .entry)) (now (label .entry)))
         (now («noise_record» .entry)) (now («scalar_record» .entry)) ⌝ }
 {
     dealing::deal(
         field,
         depth,
+        branch_bits,
         trees,
         terms,
         outputs,
@@ -51,6 +54,7 @@ pub extern "C" fn expander_deal(
         values,
         delta,
         code_key,
+        label,
         noise_record,
         scalar_record,
     )

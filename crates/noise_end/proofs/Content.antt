@@ -13,11 +13,11 @@ use Rattle.record.specs.declared.Opened.the-variants.{Accepted, Fault}
 use Rattle.record.proofs.Callers.{noise-refused, noise-opened}
 use Rattle.rows.specs.Inner.Words.{recordFault}
 use Rattle.rows.proofs.Sizes.{head-sizes}
-use Rattle.noise_end.specs.Inner.Ready.{treesAt, contentOf, Ready}
+use Rattle.noise_end.specs.Inner.Ready.{beside, treesAt, contentOf, Ready}
 
 -- the trees that were read
 pub trees-at : (s : List ℕ) (f : Front) {ts : List NoiseTree} {end : ℕ}
-    → readTrees (f .field) (f .depth) (f .trees) 0 s (f .body) ≡ Whole (ts, end) → treesAt s f ≡ ts
+    → readTrees (f .field) (f .depth) (beside f) (f .trees) 0 s (f .body) ≡ Whole (ts, end) → treesAt s f ≡ ts
 unfolding treesAt
 trees-at s f e = rw e
 

@@ -3,14 +3,13 @@
 use mathlib.Core.Path.{_≡_, refl, sym, ap, ap₂, _∙_}
 use mathlib.Core.Bool.{Bool, true, false, false≢true}
 use mathlib.Core.List.{List, [], _∷_, map}
-use Prim.Native.Nat.{ℕ, zero, suc, _+_, _-_, _*_, _^_, _≤_, _<_}
+use Prim.Native.Nat.{ℕ, zero, suc, _+_, _-_, _*_, _/_, _%_, _^_, _≤_, _<_}
 use native.Mathlib.Nat.{le-antisymm, mul-one}
 use native.Mathlib.Numerals.{add-one}
 use native.Mathlib.Omega.{arith}
 use lib.Dec.{eqb}
 use lib.ListN.{length, drop, replicate, set}
-use lib.Pow.{pow-mono}
-use borrow.Author.Tests.{ne-eqb}
+use lib.Pow.{pow-mono, pow-pos}
 use Rattle.algebra.specs.Choice.{choose}
 use Rattle.algebra.specs.Coding.{flat}
 use Rattle.algebra.specs.Inner.Put.{put}
@@ -18,66 +17,80 @@ use Rattle.algebra.specs.Expansion.{noise, punctured}
 use Rattle.algebra.specs.Field.{FieldLaws, Value}
 use Rattle.algebra.proofs.Coding.{flat-cong, length-flat}
 use Rattle.algebra.proofs.Sum.{sum-none, itself-laws}
-use Rattle.aes128.specs.Cipher.{keyExpansion}
-use Rattle.field.specs.Binary.{block}
 use Rattle.field.specs.Kind.{kindOf, binaryKind, primeKind, elementWords}
 use Rattle.field.specs.Prime.{prime}
 use Rattle.field.proofs.BothKinds.{kindLaws}
-use Rattle.field.proofs.KindOf.{words-1, words-2}
 use Rattle.field.proofs.Words.{put-one}
 use Rattle.number.specs.Reading.{Whole, Refused, Step}
 use Rattle.number.specs.Inner.Known.{isWhole}
-use Rattle.record.specs.Content.{NoiseTree, elementOf, treeIn}
+use Rattle.record.specs.Content.{NoiseTree, elementOf, treeIn, siblingCount}
 use Rattle.record.specs.Reading.{items, blockAt, readTree, readTrees}
 use Rattle.record.specs.Inner.Answers.{treeOf}
 use Rattle.record.specs.declared.Front.{Front}
 use Rattle.record.specs.declared.Tree.{Tree}
 use Rattle.record.proofs.Callers.{again-asks, again-at, tree-ranges}
-use Rattle.tree.specs.Added.{puncturedElement}
-use Rattle.tree.specs.Child.{child, childBy, childKey, keysFor}
+use Rattle.tree.specs.Added.{added, puncturedElement}
+use Rattle.tree.specs.Child.{child, childBy, keysFor}
 use Rattle.tree.specs.Columns.{columnsAt, siblingsAt}
 use Rattle.tree.specs.Expanded.{puncturedAdded}
+use Rattle.tree.specs.Inner.Ranges.{IsBranch, IsPunctured}
+use Rattle.tree.specs.KeySchedules.{OfChildKeys}
 use Rattle.tree.specs.Tree.{fromSiblings}
-use Rattle.tree.proofs.ChildLaws.{lent-keys, punctured-by}
-use Rattle.tree.proofs.Laws.{two}
+use Rattle.tree.proofs.ChildLaws.{punctured-by}
+use Rattle.tree.proofs.Levels.{whole-levels, level-leaves}
 use Rattle.rows.specs.Inner.Outputs.{ofNoise}
 use Rattle.rows.proofs.Blocks.{columns-part}
 use Rattle.rows.proofs.Flats.{put-flat}
+use Rattle.rows.proofs.Sizes.{leaf-words}
 use Rattle.rows.proofs.Sums.{treesSum, zero-elements, zero-noise, length-trees, trees-none, trees-more}
 use Rattle.noise_end.specs.Vectors.{value, correction, leaf, mu, v0}
-use Rattle.noise_end.specs.Inner.Ready.{TreeRead, TreeFits, TreesFit, treesAt, contentOf}
-use Rattle.noise_end.specs.Inner.Steps.{treeAdded}
+use Rattle.noise_end.specs.Inner.Ready.{TreeRead, TreeFits, TreesFit, beside, treesAt, contentOf}
+use Rattle.noise_end.specs.Inner.Steps.{puncturedOf, treeAdded}
 use Rattle.noise_end.proofs.Content.{trees-at}
 
 -- ---- one tree
 
-pub tree-read : (s : List ℕ) (f : Front) (place base : ℕ) (t : Tree) → f .depth ≤ 16 → length s < 2 ^ 64
-    → Whole (treeOf s (f .field) (f .depth) t, t .siblings + 16 * f .depth) ≡ readTree (f .field) (f .depth) base s place → TreeRead s f place base t
-tree-read s f place base t levels size e =
-    let r = tree-ranges (f .field) (f .depth) base s place (sym e) in
-    record { read = e; below = r .below; small = omega (arith, r .below, pow-mono levels); room = r .room; fits = omega (arith, r .room) }
+pub tree-read : (s : List ℕ) (f : Front) (n place base : ℕ) (t : Tree) → f .depth ≤ 16 → n ≡ beside f → length s < 2 ^ 64
+    → Whole (treeOf s (f .field) n t, t .siblings + 16 * n) ≡ readTree (f .field) (f .depth) n base s place → TreeRead s f n place base t
+tree-read s f n place base t levels count size e =
+    let r = tree-ranges (f .field) (f .depth) n base s place (sym e) in
+    record { read = e; below = r .below; small = omega (arith, r .below, pow-mono levels); room = rw count at (r .room); fits = omega (arith, r .room) }
 
 module _ (f : Front) (t : Tree) (source n : ℕ) (fits : TreeFits f t source n) where
-  pub size-binary : f .field ≡ 1 → n ≡ 2 ^ f .depth * 2
-  size-binary e = rw (words-1 (f .field) e) at (fits .whole)
+  pub tree-some : 1 ≤ f .«branch_bits»
+  tree-some = fits .branch .two
 
-  pub size-prime : (f .field ≡ 1 → ⊥) → n ≡ 2 ^ f .depth * 1
-  size-prime h = rw (words-2 (f .field) h) at (fits .whole)
+  pub tree-punctured : IsPunctured (puncturedOf f t) source
+  unfolding siblingCount
+  tree-punctured =
+      record {
+        branch = fits .branch;
+        short = omega (arith, whole-levels (f .«branch_bits») (f .depth) (fits .divides), fits .depth);
+        room = fits .room;
+      }
 
-module _ (f : Front) (left right : List (List (List ℕ))) (s : List ℕ) (t : Tree) (v : List ℕ) {next : List ℕ} where
-  pub added-binary : f .field ≡ 1
-      → next ≡ puncturedAdded binaryKind 2 (childBy (keysFor left right)) (record { levels = f .depth; position = t .position; at = t .siblings }) s
-      (block (t .low) (t .high)) v
-      → next ≡ treeAdded f left right s t v
-  unfolding treeAdded
-  added-binary e q = rw e q
+  pub tree-position : t .position < (2 ^ f .«branch_bits») ^ (f .depth / f .«branch_bits»)
+  tree-position = rw (level-leaves (f .«branch_bits») (f .depth) (fits .divides)) (fits .below)
 
-  pub added-prime : (f .field ≡ 1 → ⊥)
-      → next ≡ puncturedAdded primeKind 2 (childBy (keysFor left right)) (record { levels = f .depth; position = t .position; at = t .siblings }) s
-      (prime (t .low)) v
-      → next ≡ treeAdded f left right s t v
-  unfolding treeAdded
-  added-prime h q = rw (ne-eqb (f .field) 1 h) q
+  pub tree-words : n ≡ (2 ^ f .«branch_bits») ^ (f .depth / f .«branch_bits») * elementWords (f .field)
+  tree-words = leaf-words (f .«branch_bits») (f .depth) (elementWords (f .field)) (fits .divides) (fits .whole)
+
+pub tree-is : (f : Front) (keys : List (List (List (List ℕ)))) (s : List ℕ) (t : Tree) (v : List ℕ) {next : List ℕ}
+    → next ≡ puncturedAdded (kindOf (f .field)) (2 ^ f .«branch_bits») (childBy (keysFor keys)) (puncturedOf f t) s
+    (kindOf (f .field) .field .elements .read (t .low ∷ t .high ∷ []) 0) v
+    → next ≡ treeAdded f keys s t v
+unfolding treeAdded
+tree-is f keys s t v e = e
+
+-- the correction of a first and a second word
+correction-words : (field low high : ℕ)
+    → kindOf field .field .elements .read (low ∷ high ∷ []) 0 ≡ kindOf field .field .elements .read (elementOf field low high) 0
+correction-words field low high = of (eqb field 1)
+  where
+    of : (b : Bool) → choose b binaryKind primeKind .field .elements .read (low ∷ high ∷ []) 0
+        ≡ choose b binaryKind primeKind .field .elements .read (choose b (low ∷ high ∷ []) (low ∷ [])) 0
+    of true = refl
+    of false = refl
 
 -- a noise value is stored as its word
 stores : (field : ℕ) (l : List ℕ) (p x : ℕ) → p < length l
@@ -110,15 +123,18 @@ Noise s f i = flat (kindOf (f .field) .field .noiseValues) (2 ^ f .depth) (noise
 abbrev leavesOf : (s : List ℕ) (f : Front) → ℕ → ℕ → Value (kindOf (f .field) .field)
 leavesOf s f i j = choose (eqb (treeIn (treesAt s f) i .position) j) (correction (contentOf s f) i) (leaf (contentOf s f) i j)
 
--- after i trees under the child keys' round keys: what is left of the record from a place on, after positions below `base`, the
--- noise values stored, the trees added
-pub record Grown (s : List ℕ) (f : Front) (left right : List (List (List ℕ))) (place base i : ℕ) (w v : List ℕ) : Type 0 where
-  pub lefts : left ≡ keyExpansion (childKey 0)
-  pub rights : right ≡ keyExpansion (childKey 1)
+-- after i trees of so many siblings under the child keys' round keys: what is left of the record from a place on, after
+-- positions below `base`, the noise values stored, the trees added
+pub record Grown (s : List ℕ) (f : Front) (keys : List (List (List (List ℕ)))) (n place base i : ℕ) (w v : List ℕ) : Type 0 where
+  pub own : OfChildKeys (2 ^ f .«branch_bits») (keysFor keys)
+  pub siblings : n ≡ beside f
+  pub few : n ≤ 112
   pub levels : f .depth ≤ 16
+  pub branch : IsBranch (f .«branch_bits»)
+  pub divides : f .depth % f .«branch_bits» ≡ 0
   pub within : i ≤ f .trees
   pub end : ℕ
-  pub rest : readTrees (f .field) (f .depth) (f .trees - i) base s place ≡ Whole (drop i (treesAt s f), end)
+  pub rest : readTrees (f .field) (f .depth) n (f .trees - i) base s place ≡ Whole (drop i (treesAt s f), end)
   pub noise : w ≡ Noise s f i
   pub noise-size : length w ≡ 2 ^ f .depth
   pub added : v ≡ treesSum (kindOf (f .field) .field) (2 ^ f .depth) (leavesOf s f) i
@@ -139,10 +155,10 @@ module _ (s : List ℕ) (f : Front) where
       (h ∙ sym (ap (λ (n : ℕ). 2 ^ f .depth * n) (kindLaws (f .field) .noise-width) ∙ mul-one (2 ^ f .depth)))
       ∙ flat-cong (K .field .noiseValues) (kindLaws (f .field) .field .noiseValues) (2 ^ f .depth) _ _ (λ j b. sum-none (K .field .ring .group) (λ k. K .field .ring .group .zero))
 
-  noise-stored : (i : ℕ) {w : List ℕ} → w ≡ Noise s f i → (t : Tree) → treeIn (treesAt s f) i ≡ treeOf s (f .field) (f .depth) t
+  noise-stored : (i : ℕ) {w : List ℕ} → w ≡ Noise s f i → (t : Tree) (n : ℕ) → treeIn (treesAt s f) i ≡ treeOf s (f .field) n t
       → t .position < 2 ^ f .depth → t .position < length w → set w (t .position) (t .value) ≡ Noise s f (i + 1)
   unfolding Noise noise
-  noise-stored i {w} e t same below inside =
+  noise-stored i {w} e t n same below inside =
       let C = kindOf (f .field) .field .noiseValues in
       let R = kindOf (f .field) .field .ring in
       let g = noise R i (λ k. treeIn (treesAt s f) k .position) (value (contentOf s f)) in
@@ -154,77 +170,87 @@ module _ (s : List ℕ) (f : Front) where
       ∙ put-flat C (kindLaws (f .field) .field .noiseValues) (2 ^ f .depth) g (treeIn (treesAt s f) i .position) (value (contentOf s f) i) (rw (← p) below)
       ∙ ap (λ (n : ℕ). flat C (2 ^ f .depth) (noise R n (λ k. treeIn (treesAt s f) k .position) (value (contentOf s f)))) (sym (add-one i))
 
-  tree-added : {left right : List (List (List ℕ))} → left ≡ keyExpansion (childKey 0) → right ≡ keyExpansion (childKey 1)
-      → (i : ℕ) (t : Tree) → treeIn (treesAt s f) i ≡ treeOf s (f .field) (f .depth) t
-      → {v next : List ℕ} → v ≡ treesSum (kindOf (f .field) .field) (2 ^ f .depth) (leavesOf s f) i → next ≡ treeAdded f left right s t v
+  tree-added : (keys : List (List (List (List ℕ)))) → OfChildKeys (2 ^ f .«branch_bits») (keysFor keys) → f .depth % f .«branch_bits» ≡ 0
+      → (i : ℕ) (t : Tree) {n : ℕ} → n ≡ beside f → treeIn (treesAt s f) i ≡ treeOf s (f .field) n t
+      → {v next : List ℕ} → v ≡ treesSum (kindOf (f .field) .field) (2 ^ f .depth) (leavesOf s f) i → next ≡ treeAdded f keys s t v
       → next ≡ treesSum (kindOf (f .field) .field) (2 ^ f .depth) (leavesOf s f) (i + 1)
-  unfolding puncturedElement treeAdded
-  tree-added {left} {right} l r i t same {v} {next} e q =
+  unfolding puncturedElement treeAdded siblingCount
+  tree-added keys own divides i t {n} count same {v} {next} e q =
       let K = kindOf (f .field) in
-      let c = K .field .elements .read (elementOf (f .field) (t .low) (t .high)) 0 in
-      trees-more (K .field) (kindLaws (f .field) .field) (2 ^ f .depth) (leavesOf s f) i
-      (puncturedElement (K .leaf) 2 child [] (siblingsAt s (t .siblings) (f .depth * 1)) (f .depth) (t .position) c) e
-      (q ∙ punctured-by 2 (keysFor left right) two (lent-keys left right l r) K (kindLaws (f .field) .field) _ s c v)
+      let k = 2 ^ f .«branch_bits» in
+      let d = f .depth / f .«branch_bits» in
+      let c = K .field .elements .read (t .low ∷ t .high ∷ []) 0 in
+      let F = puncturedElement (K .leaf) k child [] (siblingsAt s (t .siblings) (beside f)) d (t .position) c in
+      trees-more (K .field) (kindLaws (f .field) .field) (2 ^ f .depth) (leavesOf s f) i F e
+      (q ∙ punctured-by k (keysFor keys) (pow-pos (f .«branch_bits»)) own K (kindLaws (f .field) .field) (puncturedOf f t) s c v
+      ∙ ap (λ (N : ℕ). added (K .field) N F v) (level-leaves (f .«branch_bits») (f .depth) divides))
       (λ j b.
-      ap (λ (xs : List (List (List ℕ))). choose (eqb (t .position) j) c (K .leaf (fromSiblings 2 child [] xs (f .depth) (t .position) j)))
-      (ap (siblingsAt s (t .siblings)) (mul-one (f .depth)) ∙ sym (siblings-columns s (t .siblings) (f .depth)))
+      ap₂ (λ (x : Value (K .field)) (xs : List (List (List ℕ))). choose (eqb (t .position) j) x (K .leaf (fromSiblings k child [] xs d (t .position) j)))
+      (correction-words (f .field) (t .low) (t .high))
+      (ap (siblingsAt s (t .siblings)) (sym count) ∙ sym (siblings-columns s (t .siblings) n))
       ∙ ap (λ (x : NoiseTree). choose (eqb (x .position) j) (K .field .elements .read (x .correction) 0)
-      (K .leaf (fromSiblings 2 child [] (map (λ b. columnsAt b 0) (x .siblings)) (f .depth) (x .position) j))) (sym same))
+      (K .leaf (fromSiblings k child [] (map (λ b. columnsAt b 0) (x .siblings)) d (x .position) j))) (sym same))
 
   length-added : {v : List ℕ} (i : ℕ) → v ≡ treesSum (kindOf (f .field) .field) (2 ^ f .depth) (leavesOf s f) i → length v ≡ 2 ^ f .depth * elementWords (f .field)
   length-added i e = ap length e ∙ length-trees (kindOf (f .field) .field) (kindLaws (f .field) .field) (2 ^ f .depth) (leavesOf s f) i
 
-  all-left : isWhole (readTrees (f .field) (f .depth) (f .trees) 0 s (f .body)) ≡ true
-      → (end : ℕ) × (readTrees (f .field) (f .depth) (f .trees - 0) 0 s (f .body) ≡ Whole (treesAt s f, end))
-  all-left known = cases (readTrees (f .field) (f .depth) (f .trees) 0 s (f .body)) refl known
+  all-left : isWhole (readTrees (f .field) (f .depth) (beside f) (f .trees) 0 s (f .body)) ≡ true
+      → (end : ℕ) × (readTrees (f .field) (f .depth) (beside f) (f .trees - 0) 0 s (f .body) ≡ Whole (treesAt s f, end))
+  all-left known = cases (readTrees (f .field) (f .depth) (beside f) (f .trees) 0 s (f .body)) refl known
     where
-      cases : (r : Step (List NoiseTree)) → readTrees (f .field) (f .depth) (f .trees) 0 s (f .body) ≡ r → isWhole r ≡ true
-          → (end : ℕ) × (readTrees (f .field) (f .depth) (f .trees - 0) 0 s (f .body) ≡ Whole (treesAt s f, end))
+      cases : (r : Step (List NoiseTree)) → readTrees (f .field) (f .depth) (beside f) (f .trees) 0 s (f .body) ≡ r → isWhole r ≡ true
+          → (end : ℕ) × (readTrees (f .field) (f .depth) (beside f) (f .trees - 0) 0 s (f .body) ≡ Whole (treesAt s f, end))
       cases (Whole z) e k = (
         z .1,
-        ap (λ (n : ℕ). readTrees (f .field) (f .depth) n 0 s (f .body)) {x = f .trees - 0} {y = f .trees} (omega arith)
+        ap (λ (n : ℕ). readTrees (f .field) (f .depth) (beside f) n 0 s (f .body)) {x = f .trees - 0} {y = f .trees} (omega arith)
             ∙ e ∙ ap (λ (l : List NoiseTree). Whole (l, z .1)) (sym (trees-at s f e)),
       )
       cases (Refused m) e k = absurd (false≢true k)
 
-  pub grown-none : {left right : List (List (List ℕ))} {n m : ℕ} → TreesFit s f left right n m → {w v : List ℕ} → w ≡ replicate n 0 → v ≡ replicate m 0
-      → Grown s f left right (f .body) 0 0 w v
-  grown-none fits wz vz =
+  pub grown-none : {keys : List (List (List (List ℕ)))} {n m : ℕ} → TreesFit s f keys n m → {k : ℕ} → (k ≡ beside f) × (k ≤ 112)
+      → {w v : List ℕ} → w ≡ replicate n 0 → v ≡ replicate m 0 → Grown s f keys k (f .body) 0 0 w v
+  grown-none fits {k} count wz vz =
       let a = all-left (fits .ready .known) in
       let n = noise-none (fits .noiseValues) wz in
       let t = trees-none (kindOf (f .field) .field) (kindLaws (f .field) .field) (2 ^ f .depth) (leavesOf s f) (zero-elements (f .field)) vz (fits .whole) in
       record {
-        lefts = fits .lefts;
-        rights = fits .rights;
+        own = fits .own;
+        siblings = count .0;
+        few = count .1;
         levels = fits .ready .sizes .depth;
+        branch = fits .ready .sizes .branch;
+        divides = fits .ready .sizes .divides;
         within = omega arith;
         end = a .0;
-        rest = a .1;
+        rest = ap (λ (x : ℕ). readTrees (f .field) (f .depth) x (f .trees - 0) 0 s (f .body)) (count .0) ∙ a .1;
         noise = n;
         noise-size = ap length n ∙ length-noise 0;
         added = t;
         size = length-added 0 t;
       }
 
-  module _ {left right : List (List (List ℕ))} {place base i : ℕ} {w v : List ℕ} (g : Grown s f left right place base i w v) where
-    pub grown-asks : i < f .trees → isWhole (readTree (f .field) (f .depth) base s place) ≡ true
-    grown-asks more = again-asks (f .field) (f .depth) (f .trees) base s place i more (g .rest)
+  module _ {keys : List (List (List (List ℕ)))} {n place base i : ℕ} {w v : List ℕ} (g : Grown s f keys n place base i w v) where
+    pub grown-asks : i < f .trees → isWhole (readTree (f .field) (f .depth) n base s place) ≡ true
+    grown-asks more = again-asks (f .field) (f .depth) n (f .trees) base s place i more (g .rest)
 
-    pub grown-more : i < f .trees → {t : Tree} → TreeRead s f place base t → {next : List ℕ} → next ≡ treeAdded f left right s t v
-        → Grown s f left right (t .siblings + 16 * f .depth) (t .position + 1) (i + 1) (set w (t .position) (t .value)) next
+    pub grown-more : i < f .trees → {t : Tree} → TreeRead s f n place base t → {next : List ℕ} → next ≡ treeAdded f keys s t v
+        → Grown s f keys n (t .siblings + 16 * n) (t .position + 1) (i + 1) (set w (t .position) (t .value)) next
     grown-more more {t} known q =
-        let a = again-at (f .field) (f .depth) (f .trees) base s place i more (treesAt s f) (treeIn [] 0) (g .rest) (known .read) in
-        let n = noise-stored i (g .noise) t (a .0) (known .below) (omega (arith, g .noise-size, known .below)) in
-        let v = tree-added (g .lefts) (g .rights) i t (a .0) (g .added) q in
+        let a = again-at (f .field) (f .depth) n (f .trees) base s place i more (treesAt s f) (treeIn [] 0) (g .rest) (known .read) in
+        let z = noise-stored i (g .noise) t n (a .0) (known .below) (omega (arith, g .noise-size, known .below)) in
+        let v = tree-added keys (g .own) (g .divides) i t (g .siblings) (a .0) (g .added) q in
         record {
-          lefts = g .lefts;
-          rights = g .rights;
+          own = g .own;
+          siblings = g .siblings;
+          few = g .few;
           levels = g .levels;
+          branch = g .branch;
+          divides = g .divides;
           within = omega arith;
           end = g .end;
           rest = a .1;
-          noise = n;
-          noise-size = ap length n ∙ length-noise (i + 1);
+          noise = z;
+          noise-size = ap length z ∙ length-noise (i + 1);
           added = v;
           size = length-added (i + 1) v;
         }

@@ -8,6 +8,7 @@ ghost use Rattle.algebra.specs.Sum.{accumulate};
 ghost use Rattle.sbox.specs.Inner.Tables.{Tables};
 ghost use Rattle.field.specs.Kind.{kindOf, elementWords};
 ghost use Rattle.number.specs.Inner.Known.{isWhole};
+ghost use Rattle.record.specs.Content.{siblingCount};
 ghost use Rattle.record.specs.Reading.{readTree};
 ghost use Rattle.noise_end.specs.Vectors.{mu, v0};
 ghost use Rattle.noise_end.specs.Offline.{expanded, expand};
@@ -15,37 +16,33 @@ ghost use Rattle.noise_end.specs.Inner.Ready.{Ready, TreesFit, TreeRead,
 ghost use Rattle.noise_end.specs.Inner.Steps.{treeAdded};
 use answer::BUFFER_SHORT;
 use answer::TwoLengths;
-use field::Block;
-use field::Prime;
 use record::Front;
 use record::Tree;
 use record::known_tree;
 use record::leaves;
+use record::sibling_count;
 use rows::accumulate_elements;
 use rows::accumulate_noise;
 use rows::element_width;
 use rows::zero_words;
 use tree::Punctured;
-use tree::add_punctured_binary;
-use tree::add_punctured_prime;
-use tree::left_keys;
-use tree::right_keys;
+use tree::add_punctured;
+use tree::child_keys;
 
-// The tree at a place of an accepted record, after positions below `base`: its position is a leaf's, and its siblings lie in
-// the record.
-fn tree_at(source: &[u8], front: Front, at: usize, base: usize) -> Tree
-    requires { ⌜ (isWhole (readTree (front .field) (front .depth) base (now source) at) ≡ true) × (front .depth ≤ 16) ⌝ }
-    ensures { λ r. ⌜ TreeRead (now (source .entry)) front at base r ⌝ }
+// The tree at a place of an accepted record, whose trees have `beside` siblings, after positions below `base`: its position is
+// a leaf's, and its siblings lie in the record.
+fn tree_at(source: &[u8], front: Front, beside: usize, at: usize, base: usize) -> Tree
+    requires { ⌜ (isWhole (readTree (front .field) (front .depth) beside base (now source) at) ≡ true) × (front .depth ≤ 16) × (beside ≡ siblingCount (front .depth) (front .«branch_bits»)) ⌝ }
+    ensures { λ r. ⌜ TreeRead (now (source .entry)) front beside at base r ⌝ }
 {
-    known_tree(source, at, base, front.field, front.depth)
+    known_tree(source, at, base, front.field, front.depth, beside)
 }
 
-// Adds the leaves of a punctured tree, its correction at its position.
+// Adds the leaves of a punctured tree of 2^g children a node (document 02, 10), its correction at its position.
 fn add_tree(
     sbox: &[u8; 256],
     mix: &[u32; 256],
-    left: &[[[u8; 4]; 4]; 11],
-    right: &[[[u8; 4]; 4]; 11],
+    keys: &[[[[u8; 4]; 4]; 11]; 8],
     source: &[u8],
     front: Front,
     tree: Tree,
@@ -53,53 +50,55 @@ fn add_tree(
 )
     requires { ⌜ Tables (now sbox) (now mix) ⌝ }
     requires { ⌜ TreeFits front tree (length (now source)) (length (now v)) ⌝ }
-    ensures { λ _. ⌜ now (v .exit) ≡ treeAdded front (now (left .entry)) (now (right .entry)) (now (source .entry)) tree (now (v .entry)) ⌝ }
+    ensures { λ _. ⌜ now (v .exit) ≡ treeAdded front (now (keys .entry)) (now (source .entry)) tree (now (v .entry)) ⌝ }
 {
     let punctured = Punctured {
-        levels: front.depth,
+        branch_bits: front.branch_bits,
+        levels: front.depth / front.branch_bits,
         position: tree.position,
         at: tree.siblings,
     };
-    if front.field == 1 {
-        let correction = Block {
-            low: tree.low,
-            high: tree.high,
-        };
-        add_punctured_binary(sbox, mix, left, right, punctured, source, correction, v);
-    } else {
-        let correction = Prime { word: tree.low };
-        add_punctured_prime(sbox, mix, left, right, punctured, source, correction, v);
-    }
+    let correction = [tree.low, tree.high];
+    add_punctured(
+        sbox,
+        mix,
+        keys,
+        front.field,
+        punctured,
+        source,
+        correction,
+        v,
+    );
 }
 
 // Writes μ and v0, under the round keys lent.
 fn add_trees(
     sbox: &[u8; 256],
     mix: &[u32; 256],
-    left: &[[[u8; 4]; 4]; 11],
-    right: &[[[u8; 4]; 4]; 11],
+    keys: &[[[[u8; 4]; 4]; 11]; 8],
     source: &[u8],
     front: Front,
     noise: &mut [u64],
     v: &mut [u64],
 )
     requires { ⌜ Tables (now sbox) (now mix) ⌝ }
-    requires { ⌜ TreesFit (now source) front (now left) (now right) (length (now noise)) (length (now v)) ⌝ }
+    requires { ⌜ TreesFit (now source) front (now keys) (length (now noise)) (length (now v)) ⌝ }
     ensures { λ _. ⌜ (now (noise .exit) ≡ flat (kindOf (front .field) .field .noiseValues) (2 ^ front .depth) (mu (contentOf (now (source .entry)) front)))
         × (now (v .exit) ≡ flat (kindOf (front .field) .field .elements) (2 ^ front .depth) (v0 (contentOf (now (source .entry)) front))) ⌝ }
 {
     zero_words(noise);
     zero_words(v);
+    let beside = sibling_count(front.depth, front.branch_bits);
     let mut at = front.body;
     let mut base: usize = 0;
     let mut i: usize = 0;
     while i < front.trees {
-        let tree = tree_at(source, front, at, base);
-        at = tree.siblings + 16 * front.depth;
+        let tree = tree_at(source, front, beside, at, base);
+        at = tree.siblings + 16 * beside;
         let position = tree.position;
         base = position + 1;
         noise[position] = tree.value;
-        add_tree(sbox, mix, left, right, source, front, tree, v);
+        add_tree(sbox, mix, keys, source, front, tree, v);
         i += 1;
     }
 }
@@ -112,9 +111,8 @@ fn write_trees(source: &[u8], front: Front, noise: &mut [u64], v: &mut [u64])
 {
     let sb = sbox::table();
     let mx = sbox::mix_table();
-    let left = left_keys(&sb);
-    let right = right_keys(&sb);
-    add_trees(&sb, &mx, &left, &right, source, front, noise, v);
+    let keys = child_keys(&sb, front.branch_bits);
+    add_trees(&sb, &mx, &keys, source, front, noise, v);
 }
 
 // Writes the accumulated μ and v0.

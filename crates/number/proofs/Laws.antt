@@ -1,18 +1,18 @@
 -- The number code has one writing for each number: reading a writing gives the number back, and what reads as a number is
 -- exactly its writing. Assumes nothing.
 use Prim.Native.Nat.{ℕ, _+_, _-_, _*_, _/_, _%_, _≤_, _<_}
-use mathlib.Core.Bool.{true}
 use mathlib.Core.List.{List, [], _∷_}
 use mathlib.Core.Path.{_≡_, refl, sym, ap, ap₂, _∙_, subst}
 use native.Mathlib.Omega.{arith}
 use borrow.Author.Tests.{lt-ltb, le-ltb}
 use lib.ListN.{length, getD}
-use Rattle.number.proofs.Places.{split, whole-is, refused-whole, refused-known, has-front, has-back, has-join, has-is, has-byte, byte-has}
+use Rattle.number.proofs.Places.{split, whole-is, refused-whole, has-front, has-back, has-join, has-is, has-byte, byte-has}
 use Rattle.number.proofs.Steps.{ends-0, value-0, ends-1, zero-1, value-1, ends-2, zero-2, value-2, top-bit, one, two, three}
+pub use Rattle.number.proofs.Steps.{length-number}
 use Rattle.number.specs.Number.{writeNumber, readNumber}
 use Rattle.number.specs.Inner.Answers.{numbers, numberLength}
 use Rattle.number.specs.Reading.{Whole, Refused, Step, Bytes}
-use Rattle.number.specs.Inner.Known.{isWhole, Has}
+use Rattle.number.specs.Inner.Known.{Has}
 
 positive : (b : ℕ) → (b ≡ 0 → ⊥) → 0 < b
 positive b z = split 0 b (λ h. h) (λ h. absurd (z (omega arith)))
@@ -20,12 +20,6 @@ positive b z = split 0 b (λ h. h) (λ h. absurd (z (omega arith)))
 -- the middle group of three
 middle : (b c q : ℕ) → q ≡ b - 128 + c * 128 → 128 ≤ b → b < 256 → b ≡ 128 + q % 128
 middle b c q e h g = omega arith
-
-pub length-number : (n : ℕ) → length (writeNumber n) ≡ numberLength n
-unfolding writeNumber numberLength
-length-number n =
-    split n 128 (λ h. simp (lt-ltb _ _ h))
-    (λ h. split n 16384 (λ g. simp (le-ltb _ _ h, lt-ltb _ _ g)) (λ g. simp (le-ltb _ _ h, le-ltb _ _ g)))
 
 -- one to three bytes
 pub length-bounds : (n : ℕ) → (1 ≤ numberLength n) × (numberLength n ≤ 3)
@@ -149,34 +143,3 @@ module _ (s : List ℕ) (at : ℕ) where
       (λ h₂. absurd (refuse 10 (ends-2 s at h₀ refl k₀ h₁ refl k₁ h₂)))))
       (λ h₁. absurd (refuse 10 (ends-1 s at h₀ refl k₀ h₁)))))
       (λ h₀. absurd (refuse 10 (ends-0 s at h₀)))
-
-  -- where a number is known to stand no test of its reading fails
-  module _ (known : isWhole (readNumber s at) ≡ true) where
-    pub known-0 : at < length s
-    known-0 = split at (length s) (λ h. h) (λ h. absurd (refused-known (ends-0 s at h) known))
-
-    module _ {a : ℕ} (r₀ : a ≡ getD s at 0) where
-      pub known-value-0 : a < 128 → Whole (a, at + 1) ≡ readNumber s at
-      known-value-0 k = value-0 s at known-0 r₀ k
-
-      module _ (k₀ : 128 ≤ a) where
-        pub known-1 : at + 1 < length s
-        known-1 = split (at + 1) (length s) (λ h. h) (λ h. absurd (refused-known (ends-1 s at known-0 r₀ k₀ h) known))
-
-        module _ {b : ℕ} (r₁ : b ≡ getD s (at + 1) 0) where
-          pub known-value-1 : b < 128 → Whole (a - 128 + b * 128, at + 1 + 1) ≡ readNumber s at
-          known-value-1 k =
-              value-1 s at known-0 r₀ k₀ known-1 r₁ k (λ z. refused-known (zero-1 s at known-0 r₀ k₀ known-1 r₁ k z) known)
-
-          module _ (k₁ : 128 ≤ b) where
-            pub known-2 : at + 1 + 1 < length s
-            known-2 =
-                split (at + 1 + 1) (length s) (λ h. h) (λ h. absurd (refused-known (ends-2 s at known-0 r₀ k₀ known-1 r₁ k₁ h) known))
-
-            pub known-value-2 : {c : ℕ} → c ≡ getD s (at + 1 + 1) 0
-                → Whole (a - 128 + (b - 128) * 128 + c * 16384, at + 1 + 1 + 1) ≡ readNumber s at
-            known-value-2 {c} r₂ =
-                split c 128
-                (λ k. value-2 s at known-0 r₀ k₀ known-1 r₁ k₁ known-2 r₂ k
-                (λ z. refused-known (zero-2 s at known-0 r₀ k₀ known-1 r₁ k₁ known-2 r₂ k z) known))
-                (λ k. absurd (refused-known (top-bit s at known-0 r₀ k₀ known-1 r₁ k₁ known-2 r₂ k) known))

@@ -10,9 +10,10 @@ use native.Mathlib.Omega.{arith}
 use borrow.Author.Tests.{lt-ltb, le-leb, ltb-true, leb-true}
 use lib.Dec.{ltb, leb}
 use lib.ListN.{length, getD, take, drop, set, length-append, length-drop}
-use lib.Seq.{take-add, take-take, take-at, drop-at, drop-drop, drop-cons, take-length, length-take-le, sets}
+use lib.Seq.{take-add, take-take, take-at, drop-at, drop-drop, drop-cons, take-length, length-take-le, sets, length-sets}
 use Rattle.number.specs.Reading.{Reading, Whole, Refused, Step, then, choose, tested, part, readBytes, readByte}
 use Rattle.number.specs.Inner.Known.{isWhole, Has}
+use Rattle.number.specs.Inner.Written.{Room, Wrote}
 
 -- one order or the other
 pub split {ℓ} : {X : Type ℓ} (a b : ℕ) → (a < b → X) → (b ≤ a → X) → X
@@ -161,3 +162,17 @@ module _ (s : List ℕ) where
 pub sets-append : (b : List ℕ) (at : ℕ) (u v : List ℕ) → sets (sets b at u) (at + length u) v ≡ sets b at (u ++ v)
 sets-append b at [] v = rw add-zero
 sets-append b at (x ∷ u) v = ap (λ (n : ℕ). sets (sets (set b at x) (suc at) u) n v) (omega arith) ∙ sets-append (set b at x) (suc at) u v
+
+pub wrote-then : {b b₁ b₂ : List ℕ} {at next end : ℕ} {u v : List ℕ} → Wrote b at u next b₁ → Wrote b₁ next v end b₂ → Wrote b at (u ++ v) end b₂
+wrote-then {b} {b₁} {b₂} {at} {next} {end} {u} {v} w x =
+    record {
+      place = omega (arith, w .place, x .place, length-append u v);
+      stored = x .stored ∙ rw (w .place, w .stored) (sets-append b at u v);
+    }
+
+pub room-front : {b : List ℕ} {at : ℕ} (u v : List ℕ) → Room b at (u ++ v) → Room b at u
+room-front u v r = record { fits = omega (arith, r .fits, length-append u v) }
+
+pub room-back : {b b₁ : List ℕ} {at next : ℕ} (u v : List ℕ) → Wrote b at u next b₁ → Room b at (u ++ v) → Room b₁ next v
+room-back {b} {b₁} {at} u v w r =
+    record { fits = omega (arith, w .place, r .fits, length-append u v, ap length (w .stored), length-sets b at u) }

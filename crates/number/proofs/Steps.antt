@@ -1,16 +1,20 @@
--- Each return of `read_number`, `number_length` and `write_number` gives what the definitions say there: one law a way,
+-- Each return of `read_number`, `known_number`, `number_length` and `write_number` gives what the definitions say there: one law a way,
 -- from the tests that lead to it. Assumes nothing.
 use Prim.Native.Nat.{ℕ, _+_, _-_, _*_, _/_, _%_, _≤_, _<_}
+use mathlib.Core.Bool.{true}
 use mathlib.Core.List.{List}
 use mathlib.Core.Path.{_≡_}
 use borrow.Author.Tests.{lt-ltb, le-ltb, eq-eqb, ne-eqb}
-use Rattle.number.proofs.Places.{split}
+use Rattle.number.proofs.Places.{split, refused-known}
 use native.Mathlib.Numerals.{add-one}
 use native.Mathlib.Omega.{arith}
 use lib.ListN.{length, getD, set}
-use lib.Seq.{sets}
 use Rattle.number.specs.Number.{writeNumber, lastGroup, readNumber}
-use Rattle.number.specs.Inner.Answers.{numberLength}
+use Rattle.number.specs.Inner.Answers.{numberLength, numberRead}
+use Rattle.number.specs.Inner.Known.{isWhole}
+use Rattle.number.specs.Inner.Written.{Room, Wrote}
+use Rattle.number.specs.declared.Number.{Number}
+use Rattle.number.specs.declared.Number.the-variants.{Value, Fault}
 use Rattle.number.specs.Reading.{Whole, Refused, readByte}
 
 module _ (s : List ℕ) (at : ℕ) where
@@ -58,6 +62,14 @@ module _ (s : List ℕ) (at : ℕ) where
             top-bit l =
                 simp (lt-ltb _ _ h, ← read, le-ltb _ _ g, lt-ltb _ _ h₁, ← read₁, le-ltb _ _ k, lt-ltb _ _ h₂, ← read₂, le-ltb _ _ l)
 
+-- where a number is known to stand the answer is no fault
+module _ (s : List ℕ) (at : ℕ) {r : Number} (read : numberRead r ≡ readNumber s at) where
+  pub known-value : {n next : ℕ} → r ≡ Value n next → Whole (n, next) ≡ readNumber s at
+  known-value e = rw e at read
+
+  pub known-fault : {k : ℕ} → r ≡ Fault k → isWhole (readNumber s at) ≡ true → ⊥
+  known-fault e known = refused-known (rw e at read) known
+
 module _ (n : ℕ) where
   pub one : n < 128 → 1 ≡ numberLength n
   unfolding numberLength
@@ -71,28 +83,32 @@ module _ (n : ℕ) where
   unfolding numberLength
   three h g = simp (le-ltb _ _ h, le-ltb _ _ g)
 
-  module _ (b : List ℕ) (at : ℕ) where
-    pub wrote-1 : n < 128 → (at + 1 ≡ at + numberLength n) × (set b at n ≡ sets b at (writeNumber n))
-    unfolding writeNumber
-    wrote-1 h = (rw (← one h), simp (lt-ltb _ _ h))
+  pub length-number : length (writeNumber n) ≡ numberLength n
+  unfolding writeNumber numberLength
+  length-number =
+      split n 128 (λ h. simp (lt-ltb _ _ h))
+      (λ h. split n 16384 (λ g. simp (le-ltb _ _ h, lt-ltb _ _ g)) (λ g. simp (le-ltb _ _ h, le-ltb _ _ g)))
 
-    pub wrote-2 : 128 ≤ n → n < 16384
-        → (at + 1 + 1 ≡ at + numberLength n) × (set (set b at (128 + n % 128)) (at + 1) (n / 128) ≡ sets b at (writeNumber n))
+  module _ (b : List ℕ) (at : ℕ) where
+    pub wrote-1 : n < 128 → Wrote b at (writeNumber n) (at + 1) (set b at n)
     unfolding writeNumber
-    wrote-2 h g = (rw (← two h g) (omega arith), simp (le-ltb _ _ h, lt-ltb _ _ g, add-one))
+    wrote-1 h = record { place = simp (lt-ltb _ _ h); stored = simp (lt-ltb _ _ h) }
+
+    pub wrote-2 : 128 ≤ n → n < 16384 → Wrote b at (writeNumber n) (at + 1 + 1) (set (set b at (128 + n % 128)) (at + 1) (n / 128))
+    unfolding writeNumber
+    wrote-2 h g = record { place = simp (le-ltb _ _ h, lt-ltb _ _ g) (omega arith); stored = simp (le-ltb _ _ h, lt-ltb _ _ g, add-one) }
 
     pub wrote-3 : 128 ≤ n → 16384 ≤ n
-        → (at + 1 + 1 + 1 ≡ at + numberLength n)
-        × (set (set (set b at (128 + n % 128)) (at + 1) (128 + n / 128 % 128)) (at + 1 + 1) (n / 16384) ≡ sets b at (writeNumber n))
+        → Wrote b at (writeNumber n) (at + 1 + 1 + 1) (set (set (set b at (128 + n % 128)) (at + 1) (128 + n / 128 % 128)) (at + 1 + 1) (n / 16384))
     unfolding writeNumber
-    wrote-3 h g = (rw (← three h g) (omega arith), simp (le-ltb _ _ h, le-ltb _ _ g, add-one))
+    wrote-3 h g = record { place = simp (le-ltb _ _ h, le-ltb _ _ g) (omega arith); stored = simp (le-ltb _ _ h, le-ltb _ _ g, add-one) }
 
-    module _ (room : at + numberLength n ≤ length b) where
+    module _ (room : Room b at (writeNumber n)) where
       pub room-1 : at < length b
-      room-1 = split n 128 (λ h. omega (arith, one h)) (λ h. split n 16384 (λ g. omega (arith, two h g)) (λ g. omega (arith, three h g)))
+      room-1 = split n 128 (λ h. omega (arith, length-number, one h)) (λ h. split n 16384 (λ g. omega (arith, length-number, two h g)) (λ g. omega (arith, length-number, three h g)))
 
       pub room-2 : 128 ≤ n → at + 1 < length b
-      room-2 h = split n 16384 (λ g. omega (arith, two h g)) (λ g. omega (arith, three h g))
+      room-2 h = split n 16384 (λ g. omega (arith, length-number, two h g)) (λ g. omega (arith, length-number, three h g))
 
       pub room-3 : 128 ≤ n → 16384 ≤ n → at + 1 + 1 < length b
-      room-3 h g = omega (arith, three h g)
+      room-3 h g = omega (arith, length-number, three h g)

@@ -1,12 +1,11 @@
 // The number code of records: reading and writing a number of at most three bytes.
 ghost use mathlib.Core.Bool.{true};
 ghost use mathlib.Core.Path.{_≡_};
-ghost use Prim.Native.Nat.{_+_, _≤_, _<_};
-ghost use lib.ListN.{length};
-ghost use lib.Seq.{sets};
+ghost use Prim.Native.Nat.{_<_};
 ghost use Rattle.number.specs.Reading.{Whole};
 ghost use Rattle.number.specs.Inner.Known.{isWhole};
 ghost use Rattle.number.specs.Number.{writeNumber, readNumber};
+ghost use Rattle.number.specs.Inner.Written.{Room, Wrote};
 ghost use Rattle.number.specs.Inner.Answers.{numbers, numberLength, numberRead, numberFault};
 use answer::BAD_NUMBER;
 use answer::RECORD_ENDS;
@@ -85,26 +84,12 @@ pub fn known_number(source: &[u8], at: usize) -> Known
     requires { ⌜ isWhole (readNumber (now source) at) ≡ true ⌝ }
     ensures { λ r. ⌜ Whole (r .number, r .next) ≡ readNumber (now (source .entry)) at ⌝ }
 {
-    let a = wide(source[at]);
-    let at1 = at + 1;
-    if a < 128 {
-        return Known {
-            number: a,
-            next: at1,
-        };
-    }
-    let b = wide(source[at1]);
-    let at2 = at1 + 1;
-    if b < 128 {
-        return Known {
-            number: a - 128 + b * 128,
-            next: at2,
-        };
-    }
-    let c = wide(source[at2]);
-    Known {
-        number: a - 128 + (b - 128) * 128 + c * 16384,
-        next: at2 + 1,
+    match read_number(source, at) {
+        Number::Value(number, next) => Known { number, next },
+        Number::Fault(_) => Known {
+            number: 0,
+            next: at,
+        },
     }
 }
 
@@ -123,8 +108,8 @@ pub fn number_length(n: usize) -> usize
 
 // Writes the number from a place on; the place after it.
 pub fn write_number(buffer: &mut [u8], at: usize, n: usize) -> usize
-    requires { ⌜ (n < numbers) × (at + numberLength n ≤ length (now buffer)) ⌝ }
-    ensures { λ r. ⌜ (r ≡ at + numberLength n) × (now (buffer .exit) ≡ sets (now (buffer .entry)) at (writeNumber n)) ⌝ }
+    requires { ⌜ (n < numbers) × (Room (now buffer) at (writeNumber n)) ⌝ }
+    ensures { λ r. ⌜ Wrote (now (buffer .entry)) at (writeNumber n) r (now (buffer .exit)) ⌝ }
 {
     if n < 128 {
         buffer[at] = n as u8;

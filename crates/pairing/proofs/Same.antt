@@ -1,4 +1,4 @@
--- Two lists are found equal exactly if they are, and two heads exactly if field, sizes and code key are. Assumes nothing.
+-- Two lists are found equal exactly if they are, and two heads exactly if field, sizes, code key and label are. Assumes nothing.
 use mathlib.Core.Path.{_≡_, refl, sym, ap, ap₂, _∙_}
 use mathlib.Core.Bool.{Bool, true, false, _&&_, not, false≢true}
 use mathlib.Core.List.{List, [], _∷_}
@@ -39,7 +39,7 @@ never false n = refl
 pub same-not : (l m : List ℕ) → (l ≡ m → ⊥) → sameList l m ≡ false
 same-not l m n = never (sameList l m) (λ e. n (same-equal l m e))
 
--- ---- the code key
+-- ---- the code key and the label
 
 -- the bytes from a place on, one by one
 part-at : (s : List ℕ) (at n i : ℕ) → i < n → getD (part s at n) i 0 ≡ getD s (at + i) 0
@@ -76,43 +76,39 @@ module _ (a : List ℕ) (x : ℕ) (b : List ℕ) (y : ℕ) where
 
 -- ---- the head
 
--- six tests that all hold
-six : (a b c d e f : Bool) → (a && b && c && d && e && f) ≡ true
-    → (a ≡ true) × (b ≡ true) × (c ≡ true) × (d ≡ true) × (e ≡ true) × (f ≡ true)
-six a b c d e f q =
-    let q5 = and-left (a && b && c && d && e) f q in
-    let q4 = and-left (a && b && c && d) e q5 in
-    let q3 = and-left (a && b && c) d q4 in
-    let q2 = and-left (a && b) c q3 in (
-      and-left a b q2,
-      and-right a b q2,
-      and-right (a && b) c q3,
-      and-right (a && b && c) d q4,
-      and-right (a && b && c && d) e q5,
-      and-right (a && b && c && d && e) f q,
-    )
+-- four tests that all hold, and one more before them
+four : (t a b c d : Bool) → (t && a && b && c && d) ≡ true → (t ≡ true) × (a ≡ true) × (b ≡ true) × (c ≡ true) × (d ≡ true)
+four t a b c d q =
+    let q3 = and-left (t && a && b && c) d q in
+    let q2 = and-left (t && a && b) c q3 in
+    let q1 = and-left (t && a) b q2 in
+    (and-left t a q1, and-right t a q1, and-right (t && a) b q2, and-right (t && a && b) c q3, and-right (t && a && b && c) d q)
 
 -- heads that are found equal are equal
 pub dealing-equal : (h k : Head) → sameDealing h k ≡ true → h ≡ k
 unfolding sameDealing
 dealing-equal h k e =
-    let q = six (eqb (h .field) (k .field)) (eqb (h .depth) (k .depth)) (eqb (h .trees) (k .trees)) (eqb (h .terms) (k .terms)) (eqb (h .outputs) (k .outputs)) (sameList (h .codeKey) (k .codeKey)) e in
-    let f = eqb-true (h .field) (k .field) (q .0) in
-    let d = eqb-true (h .depth) (k .depth) (q .1) in
-    let t = eqb-true (h .trees) (k .trees) (q .2) in
-    let l = eqb-true (h .terms) (k .terms) (q .3) in
-    let n = eqb-true (h .outputs) (k .outputs) (q .4) in
-    let c = same-equal (h .codeKey) (k .codeKey) (q .5) in
-    let all : headWith (h .field) (h .depth) (h .trees) (h .terms) (h .outputs) (h .codeKey)
-    ≡ headWith (k .field) (k .depth) (k .trees) (k .terms) (k .outputs) (k .codeKey) = cc in
+    let y = four (eqb (h .field) (k .field) && eqb (h .depth) (k .depth) && eqb (h .branchBits) (k .branchBits) && eqb (h .trees) (k .trees))
+    (eqb (h .terms) (k .terms)) (eqb (h .outputs) (k .outputs)) (sameList (h .codeKey) (k .codeKey)) (sameList (h .label) (k .label)) e in
+    let x = four true (eqb (h .field) (k .field)) (eqb (h .depth) (k .depth)) (eqb (h .branchBits) (k .branchBits)) (eqb (h .trees) (k .trees)) (y .0) in
+    let f = eqb-true (h .field) (k .field) (x .1) in
+    let d = eqb-true (h .depth) (k .depth) (x .2) in
+    let g = eqb-true (h .branchBits) (k .branchBits) (x .3) in
+    let t = eqb-true (h .trees) (k .trees) (x .4) in
+    let l = eqb-true (h .terms) (k .terms) (y .1) in
+    let n = eqb-true (h .outputs) (k .outputs) (y .2) in
+    let c = same-equal (h .codeKey) (k .codeKey) (y .3) in
+    let a = same-equal (h .label) (k .label) (y .4) in
+    let all : headWith (h .field) (h .depth) (h .branchBits) (h .trees) (h .terms) (h .outputs) (h .codeKey) (h .label)
+    ≡ headWith (k .field) (k .depth) (k .branchBits) (k .trees) (k .terms) (k .outputs) (k .codeKey) (k .label) = cc in
     all
 
 -- a head is its own dealing's
 pub same-dealing : (h : Head) → sameDealing h h ≡ true
 unfolding sameDealing
 same-dealing h =
-    rw (eq-eqb (h .field) (h .field) refl, eq-eqb (h .depth) (h .depth) refl, eq-eqb (h .trees) (h .trees) refl, eq-eqb (h .terms) (h .terms) refl, eq-eqb (h .outputs) (h .outputs) refl)
-    (same-refl (h .codeKey))
+    rw (eq-eqb (h .field) (h .field) refl, eq-eqb (h .depth) (h .depth) refl, eq-eqb (h .branchBits) (h .branchBits) refl, eq-eqb (h .trees) (h .trees) refl, eq-eqb (h .terms) (h .terms) refl, eq-eqb (h .outputs) (h .outputs) refl, same-refl (h .codeKey))
+    (same-refl (h .label))
 
 -- the sizes, one after the other
 module _ (p q : Front) where
@@ -124,29 +120,42 @@ module _ (p q : Front) where
     depth-differs n = sym (rw (eq-eqb (p .field) (q .field) field, ne-eqb (p .depth) (q .depth) n))
 
     module _ (depth : p .depth ≡ q .depth) where
-      pub trees-differ : (p .trees ≡ q .trees → ⊥) → false ≡ sameSizes p q
-      trees-differ n = sym (rw (eq-eqb (p .field) (q .field) field, eq-eqb (p .depth) (q .depth) depth, ne-eqb (p .trees) (q .trees) n))
+      pub branches-differ : (p .«branch_bits» ≡ q .«branch_bits» → ⊥) → false ≡ sameSizes p q
+      branches-differ n = sym (rw (eq-eqb (p .field) (q .field) field, eq-eqb (p .depth) (q .depth) depth, ne-eqb (p .«branch_bits») (q .«branch_bits») n))
 
-      module _ (trees : p .trees ≡ q .trees) where
-        three : sameSizes p q ≡ (eqb (p .terms) (q .terms) && eqb (p .outputs) (q .outputs))
-        three = rw (eq-eqb (p .field) (q .field) field, eq-eqb (p .depth) (q .depth) depth, eq-eqb (p .trees) (q .trees) trees)
+      module _ (branch : p .«branch_bits» ≡ q .«branch_bits») where
+        three : sameSizes p q ≡ (eqb (p .trees) (q .trees) && eqb (p .terms) (q .terms) && eqb (p .outputs) (q .outputs))
+        three = rw (eq-eqb (p .field) (q .field) field, eq-eqb (p .depth) (q .depth) depth, eq-eqb (p .«branch_bits») (q .«branch_bits») branch)
 
-        pub terms-differ : (p .terms ≡ q .terms → ⊥) → false ≡ sameSizes p q
-        terms-differ n = sym (three ∙ rw (ne-eqb (p .terms) (q .terms) n))
+        pub trees-differ : (p .trees ≡ q .trees → ⊥) → false ≡ sameSizes p q
+        trees-differ n = sym (three ∙ rw (ne-eqb (p .trees) (q .trees) n))
 
-        pub outputs-differ : p .terms ≡ q .terms → (p .outputs ≡ q .outputs → ⊥) → false ≡ sameSizes p q
-        outputs-differ e n = sym (three ∙ rw (eq-eqb (p .terms) (q .terms) e, ne-eqb (p .outputs) (q .outputs) n))
+        module _ (trees : p .trees ≡ q .trees) where
+          pub terms-differ : (p .terms ≡ q .terms → ⊥) → false ≡ sameSizes p q
+          terms-differ n = sym (three ∙ rw (eq-eqb (p .trees) (q .trees) trees, ne-eqb (p .terms) (q .terms) n))
 
-        pub sizes-same : p .terms ≡ q .terms → p .outputs ≡ q .outputs → true ≡ sameSizes p q
-        sizes-same e n = sym (three ∙ rw (eq-eqb (p .terms) (q .terms) e, eq-eqb (p .outputs) (q .outputs) n))
+          pub outputs-differ : p .terms ≡ q .terms → (p .outputs ≡ q .outputs → ⊥) → false ≡ sameSizes p q
+          outputs-differ e n = sym (three ∙ rw (eq-eqb (p .trees) (q .trees) trees, eq-eqb (p .terms) (q .terms) e, ne-eqb (p .outputs) (q .outputs) n))
 
--- the sizes, then the code key
+          pub sizes-same : p .terms ≡ q .terms → p .outputs ≡ q .outputs → true ≡ sameSizes p q
+          sizes-same e n = sym (three ∙ rw (eq-eqb (p .trees) (q .trees) trees, eq-eqb (p .terms) (q .terms) e, eq-eqb (p .outputs) (q .outputs) n))
+
+-- the sizes, then the code key, then the label
 module _ (s : List ℕ) (p : Front) (t : List ℕ) (q : Front) {sizes : Bool} (se : sizes ≡ sameSizes p q) where
   pub sizes-differ : not sizes ≡ true → false ≡ sameDealing (headOf s p) (headOf t q)
   unfolding sameDealing
   sizes-differ e = sym (rw (← se, not-true sizes e))
 
-  pub key-left : not sizes ≡ false → {x : ℕ} → x ≡ p .body - 16 → {y : ℕ} → y ≡ q .body - 16 → {r : Bool} → r ≡ sameList (part s x 16) (part t y 16)
-      → r ≡ sameDealing (headOf s p) (headOf t q)
-  unfolding sameDealing
-  key-left e xe ye re = re ∙ rw (xe, ye) (sym (rw (← se, not-false sizes e)))
+  module _ (right : not sizes ≡ false) {x : ℕ} (xe : x ≡ p .body - 32) {y : ℕ} (ye : y ≡ q .body - 32)
+      {key : Bool} (ke : key ≡ sameList (part s x 16) (part t y 16)) where
+    keys : sameList (part s (p .body - 32) 16) (part t (q .body - 32) 16) ≡ key
+    keys = sym (ke ∙ rw (xe, ye))
+
+    pub key-differs : not key ≡ true → false ≡ sameDealing (headOf s p) (headOf t q)
+    unfolding sameDealing
+    key-differs e = sym (rw (← se, not-false sizes right, keys, not-true key e))
+
+    pub label-left : not key ≡ false → {r : Bool} → r ≡ sameList (part s (p .body - 16) 16) (part t (q .body - 16) 16)
+        → r ≡ sameDealing (headOf s p) (headOf t q)
+    unfolding sameDealing
+    label-left e re = re ∙ sym (rw (← se, not-false sizes right, keys, not-false key e))

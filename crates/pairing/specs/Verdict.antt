@@ -1,4 +1,5 @@
--- What the pair program finds of two records (document 01, 'Cases', the pair program), in the order of its answers.
+-- What the pair program finds of two records (document 01, 'Cases', the pair program; document 02, 8), in the order of its
+-- answers.
 use mathlib.Core.Bool.{Bool, true, false, _&&_, _||_, not}
 use mathlib.Core.List.{List, [], _∷_}
 use Prim.Native.Nat.{ℕ, zero, suc, _+_}
@@ -20,7 +21,7 @@ pub data Verdict : Type 0 where
   Refusal : ℕ → Verdict
   -- a record has more than 1,024 leaves
   TooLarge : Verdict
-  -- field, sizes and code key are not all equal
+  -- field, sizes, code key and label are not all equal
   Different : Verdict
   -- the outputs tried, and those where w = Δu + v
   Checked : ℕ → ℕ → Verdict
@@ -32,15 +33,17 @@ sameList [] (b ∷ m) = false
 sameList (a ∷ l) [] = false
 sameList (a ∷ l) (b ∷ m) = eqb a b && sameList l m
 
--- the same dealing: field, sizes and code key all equal
+-- the same dealing: field, sizes (g among them, document 02, 10), code key and label all equal (document 02, 8)
 unfoldable pub sameDealing : Head → Head → Bool
 sameDealing h k =
     eqb (h .field) (k .field)
     && eqb (h .depth) (k .depth)
+    && eqb (h .branchBits) (k .branchBits)
     && eqb (h .trees) (k .trees)
     && eqb (h .terms) (k .terms)
     && eqb (h .outputs) (k .outputs)
     && sameList (h .codeKey) (k .codeKey)
+    && sameList (h .label) (k .label)
 
 -- u and v at output x, from the noise record alone, and w, from the scalar record alone
 abbrev pub uAt : (P : NoisePart) → ℕ → NoiseValue (fieldOf (P .head))

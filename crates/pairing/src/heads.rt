@@ -34,6 +34,9 @@ fn same_sizes(p: Front, q: Front) -> bool
     if p.depth != q.depth {
         return false;
     }
+    if p.branch_bits != q.branch_bits {
+        return false;
+    }
     if p.trees != q.trees {
         return false;
     }
@@ -46,7 +49,7 @@ fn same_sizes(p: Front, q: Front) -> bool
     true
 }
 
-// Whether field, sizes and code key are all equal.
+// Whether field, sizes, code key and label are all equal (document 02, 8).
 pub fn same_dealing(noise_record: &[u8], p: Front, scalar_record: &[u8], q: Front) -> bool
     requires { ⌜ KeyIn (now «noise_record») p × KeyIn (now «scalar_record») q ⌝ }
     ensures { λ r. ⌜ r ≡ sameDealing (headOf (now («noise_record» .entry)) p) (headOf (now («scalar_record» .entry)) q) ⌝ }
@@ -54,5 +57,8 @@ pub fn same_dealing(noise_record: &[u8], p: Front, scalar_record: &[u8], q: Fron
     if !same_sizes(p, q) {
         return false;
     }
-    same_block(noise_record, code_key_at(p), scalar_record, code_key_at(q))
+    if !same_block(noise_record, code_key_at(p), scalar_record, code_key_at(q)) {
+        return false;
+    }
+    same_block(noise_record, p.body - 16, scalar_record, q.body - 16)
 }

@@ -17,7 +17,7 @@ pub enum Finding {
     Refused(u32),
     // A record has more than 1,024 leaves.
     TooLarge,
-    // Field, sizes and code key are not all equal.
+    // Field, sizes, code key and label are not all equal (document 02, 8).
     Different,
     // The outputs tried, and those where w = Δu + v.
     Checked(usize, usize),

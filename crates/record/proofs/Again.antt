@@ -31,12 +31,6 @@ whole-of : {A : Type 0} (x : Reading A) → isWhole x ≡ true → (z : A) × (x
 whole-of (Whole z) e = (z, refl)
 whole-of {A} (Refused k) e = absurd (let z : _≡_ {A = ℕ} 0 1 = cc in omega arith)
 
-tree-is : {t u : NoiseTree} → t .position ≡ u .position → t .value ≡ u .value → t .correction ≡ u .correction → t .siblings ≡ u .siblings → t ≡ u
-tree-is p v c s = λ i. record { position = p i; value = v i; correction = c i; siblings = s i }
-
-abbrev pub treeWith : ℕ → ℕ → ℕ → ℕ → ℕ → Tree
-treeWith position value low high siblings = record { position = position; value = value; low = low; high = high; siblings = siblings }
-
 -- the parts of a position, a noise value and a correction that were read
 pub position-parts : (base all : ℕ) (s : List ℕ) (at : ℕ) {p next : ℕ} → readPosition base all s at ≡ Whole (p, next)
     → (x : ℕ) × (readNumber s at ≡ Whole (x, next)) × (p ≡ base + x) × (p < all)
@@ -76,13 +70,13 @@ correction-parts field s at e =
 
 -- ---- the second pass
 
-module _ (field depth base : ℕ) (s : List ℕ) (at : ℕ) (known : isWhole (readTree field depth base s at) ≡ true) where
+module _ (field depth beside base : ℕ) (s : List ℕ) (at : ℕ) (known : isWhole (readTree field depth beside base s at) ≡ true) where
   -- the tree and the reading of its fields
-  tree : (z : NoiseTree × ℕ) × (readTree field depth base s at ≡ Whole z)
-  tree = whole-of (readTree field depth base s at) known
+  tree : (z : NoiseTree × ℕ) × (readTree field depth beside base s at ≡ Whole z)
+  tree = whole-of (readTree field depth beside base s at) known
 
-  parts : TreeParts field depth base s at (tree .0 .0) (tree .0 .1)
-  parts = tree-parts field depth base s at (tree .1)
+  parts : TreeParts field depth beside base s at (tree .0 .0) (tree .0 .1)
+  parts = tree-parts field depth beside base s at (tree .1)
 
   pub known-position : isWhole (readNumber s at) ≡ true
   known-position = ap isWhole (position-parts base (2 ^ depth) s at (parts .position) .1)
@@ -128,53 +122,39 @@ module _ (field depth base : ℕ) (s : List ℕ) (at : ℕ) (known : isWhole (re
     pub known-fits-2 : length s < 2 ^ 64 → Fits w64 (next + 16)
     known-fits-2 h = record { fits = omega (arith, middle .1) }
 
-    siblings : (tree .0 .0 .siblings ≡ items blockAt 16 s (next + 16) depth) × (tree .0 .1 ≡ next + 16 + 16 * depth)
+    siblings : (tree .0 .0 .siblings ≡ items blockAt 16 s (next + 16) beside) × (tree .0 .1 ≡ next + 16 + 16 * beside)
     siblings =
-        let i = items-whole blockAt 16 depth s (parts .at3) (parts .siblings) in
-        (i .1 ∙ ap (λ (n : ℕ). items blockAt 16 s n depth) (middle .0), i .2 ∙ ap (λ (n : ℕ). n + 16 * depth) (middle .0))
+        let i = items-whole blockAt 16 beside s (parts .at3) (parts .siblings) in
+        (i .1 ∙ ap (λ (n : ℕ). items blockAt 16 s n beside) (middle .0), i .2 ∙ ap (λ (n : ℕ). n + 16 * beside) (middle .0))
 
-    -- the tree whose noise value and correction are these
-    given : (k : Tree) → k .position ≡ base + x → k .siblings ≡ next + 16 → k .value ≡ tree .0 .0 .value
-        → elementOf field (k .low) (k .high) ≡ tree .0 .0 .correction
-        → Whole (treeOf s field depth k, k .siblings + 16 * depth) ≡ readTree field depth base s at
-    given k p b v c =
-        sym (tree .1 ∙ both
-        (sym (tree-is {t = treeOf s field depth k} {u = tree .0 .0} (p ∙ sym position) v c
-        (ap (λ (n : ℕ). items blockAt 16 s n depth) b ∙ sym (siblings .0))))
-        (siblings .1 ∙ ap (λ (n : ℕ). n + 16 * depth) (sym b)))
+    -- the tree of this noise value and correction
+    given : {value : ℕ} {words : List ℕ} → value ≡ tree .0 .0 .value → words ≡ tree .0 .0 .correction
+        → Whole (record { position = base + x; value = value; correction = words; siblings = items blockAt 16 s (next + 16) beside }, next + 16 + 16 * beside)
+        ≡ readTree field depth beside base s at
+    given v c = sym (tree .1 ∙ both position (sym v) (sym c) (siblings .0) (siblings .1))
       where
-        both : {t u : NoiseTree} {a b : ℕ} → t ≡ u → a ≡ b → _≡_ {A = Step NoiseTree} (Whole (t, a)) (Whole (u, b))
-        both e f = cc
+        both : {t : NoiseTree} {p value : ℕ} {words : List ℕ} {blocks : List (List ℕ)} {a b : ℕ}
+            → t .position ≡ p → t .value ≡ value → t .correction ≡ words → t .siblings ≡ blocks → a ≡ b
+            → _≡_ {A = Step NoiseTree} (Whole (t, a)) (Whole (record { position = p; value = value; correction = words; siblings = blocks }, b))
+        both p v c s e = λ i. Whole (record { position = p i; value = v i; correction = c i; siblings = s i }, e i)
 
-    pub known-1 : {low high : ℕ} → field ≡ 1 → low ≡ wordAt s next → high ≡ wordAt s (next + 8)
-        → (Whole (treeOf s field depth (treeWith (base + x) 1 low high (next + 16)), next + 16 + 16 * depth) ≡ readTree field depth base s at)
-        × (high ≡ getD (elementOf field low high) 1 0)
-    unfolding items
-    known-1 {low} {high} f l h =
-        let v = value-parts-1 field s (parts .at1) f (parts .value) in
-        let c = correction-parts field s (parts .at2) (parts .correction) in
-        let w : elementWords field ≡ 2 = words-1 field f in
-        let e : elementOf field low high ≡ low ∷ high ∷ [] = choose-yes (low ∷ high ∷ []) (low ∷ []) (eq-eqb field 1 f) in
-        let at2 : parts .at2 ≡ next = v .1 ∙ place in (
-          given (treeWith (base + x) 1 low high (next + 16)) refl refl (sym (v .0))
-              (e ∙ two l h ∙ sym (c .1 ∙ ap (items wordAt 8 s (parts .at2)) w ∙ ap (λ (n : ℕ). wordAt s n ∷ wordAt s (n + 8) ∷ []) at2)),
-          ap (λ (ws : List ℕ). getD ws 1 0) (sym e),
-        )
-      where
-        two : {a b c d : ℕ} → a ≡ b → c ≡ d → a ∷ c ∷ [] ≡ b ∷ d ∷ []
-        two e f = cc
+    module _ {first second : ℕ} (r₁ : first ≡ wordAt s next) (r₂ : second ≡ wordAt s (next + 8)) where
+      pub known-1 : {words : List ℕ} → field ≡ 1 → words ≡ first ∷ second ∷ []
+          → (Whole (record { position = base + x; value = 1; correction = words; siblings = items blockAt 16 s (next + 16) beside }, next + 16 + 16 * beside) ≡ readTree field depth beside base s at)
+          × (second ≡ getD words 1 0)
+      unfolding items
+      known-1 f e =
+          let v = value-parts-1 field s (parts .at1) f (parts .value) in
+          let c = correction-parts field s (parts .at2) (parts .correction) in
+          let at2 : parts .at2 ≡ next = v .1 ∙ place in
+          (given (sym (v .0)) (e ∙ sym (c .1 ∙ rw (words-1 field f, at2, ← r₁, ← r₂))), rw e)
 
-    pub known-2 : {value low : ℕ} → (field ≡ 1 → ⊥) → value ≡ wordAt s next → low ≡ wordAt s (next + 8)
-        → (Whole (treeOf s field depth (treeWith (base + x) value low 0 (next + 16)), next + 16 + 16 * depth) ≡ readTree field depth base s at)
-        × (0 ≡ getD (elementOf field low 0) 1 0)
-    unfolding items
-    known-2 {value} {low} f y l =
-        let v = value-parts-2 field s (parts .at1) f (parts .value) in
-        let c = correction-parts field s (parts .at2) (parts .correction) in
-        let w : elementWords field ≡ 1 = words-2 field f in
-        let e : elementOf field low 0 ≡ low ∷ [] = choose-no (low ∷ 0 ∷ []) (low ∷ []) (ne-eqb field 1 f) in
-        let at2 : parts .at2 ≡ next + 8 = v .2 ∙ ap (λ (n : ℕ). n + 8) place in (
-          given (treeWith (base + x) value low 0 (next + 16)) refl refl (y ∙ ap (wordAt s) (sym place) ∙ sym (v .1))
-              (e ∙ ap (λ (a : ℕ). a ∷ []) l ∙ sym (c .1 ∙ ap (items wordAt 8 s (parts .at2)) w ∙ ap (λ (n : ℕ). wordAt s n ∷ []) at2)),
-          ap (λ (ws : List ℕ). getD ws 1 0) (sym e),
-        )
+      pub known-2 : {words : List ℕ} → (field ≡ 1 → ⊥) → words ≡ second ∷ []
+          → (Whole (record { position = base + x; value = first; correction = words; siblings = items blockAt 16 s (next + 16) beside }, next + 16 + 16 * beside) ≡ readTree field depth beside base s at)
+          × (0 ≡ getD words 1 0)
+      unfolding items
+      known-2 f e =
+          let v = value-parts-2 field s (parts .at1) f (parts .value) in
+          let c = correction-parts field s (parts .at2) (parts .correction) in
+          let at2 : parts .at2 ≡ next + 8 = v .2 ∙ ap (λ (n : ℕ). n + 8) place in
+          (given (r₁ ∙ ap (wordAt s) (sym place) ∙ sym (v .1)) (e ∙ sym (c .1 ∙ rw (words-2 field f, at2, ← r₂))), rw e)

@@ -1,6 +1,6 @@
 -- What callers use of an accepted record: its content, the ranges of its sizes, where the parts of its body stand, and the second
 -- pass over its trees. Assumes nothing.
-use Prim.Native.Nat.{ℕ, suc, _+_, _-_, _*_, _/_, _^_, _≤_, _<_}
+use Prim.Native.Nat.{ℕ, suc, _+_, _-_, _*_, _/_, _%_, _^_, _≤_, _<_}
 use mathlib.Core.Bool.{Bool, true, false, _||_}
 use mathlib.Core.List.{List, [], _∷_}
 use mathlib.Core.Path.{_≡_, refl, sym, ap, _∙_}
@@ -18,12 +18,12 @@ use Rattle.number.specs.Reading.{Reading, Whole, Refused, Step}
 use Rattle.number.specs.Inner.Known.{isWhole}
 use Rattle.record.proofs.Again.{position-parts, value-parts-1, value-parts-2, correction-parts}
 use Rattle.record.proofs.Exact.{field-exact}
-use Rattle.record.proofs.Heads.{size-range}
+use Rattle.record.proofs.Heads.{size-range, branch-range, branch-multiple}
 use Rattle.record.proofs.Items.{items-whole}
 use Rattle.record.proofs.Parts.{head-parts, tree-parts, trees-parts, noise-parts, scalar-parts}
 use Rattle.record.specs.Admitted.{isField, isSize, mostTrees, mostTerms, mostOutputs, isNoise, isElement, isScalar}
 use Rattle.field.specs.Kind.{elementWords}
-use Rattle.record.specs.Content.{Head, NoiseTree, NoisePart, ScalarPart}
+use Rattle.record.specs.Content.{Head, NoiseTree, NoisePart, ScalarPart, siblingCount}
 use Rattle.record.specs.Reading.{items, blockAt, readWords, readBlocks, readValue, readDelta, readHead, readTree, readTrees, readNoise, readScalar}
 use Rattle.record.specs.Inner.Answers.{frontOf}
 
@@ -33,6 +33,9 @@ pub record Ranges (h : Head) : Type 0 where
   pub field : (h .field ≡ 1 → ⊥) → h .field ≡ 2
   pub depth-least : 1 ≤ h .depth
   pub depth-most : h .depth ≤ 16
+  pub branch-least : 1 ≤ h .branchBits
+  pub branch-most : h .branchBits ≤ 3
+  pub branch-divides : h .depth % h .branchBits ≡ 0
   pub trees-least : 1 ≤ h .trees
   pub trees-most : h .trees ≤ 64
   pub trees-leaves : h .trees ≤ 2 ^ h .depth
@@ -53,13 +56,17 @@ pub head-ranges : (end : ℕ) (s : List ℕ) {h : Head} {body : ℕ} → readHea
 head-ranges end s {h} e =
     let p = head-parts end s e in
     let d = size-range 16 s (p .at1) (p .depth) in
-    let t = size-range (mostTrees (h .depth)) s (p .at2) (p .trees) in
-    let l = size-range (mostTerms (h .depth)) s (p .at3) (p .terms) in
-    let n = size-range (mostOutputs (h .depth)) s (p .at4) (p .outputs) in
+    let g = branch-range (h .depth) s (p .at2) (p .branch) in
+    let t = size-range (mostTrees (h .depth)) s (p .at3) (p .trees) in
+    let l = size-range (mostTerms (h .depth)) s (p .at4) (p .terms) in
+    let n = size-range (mostOutputs (h .depth)) s (p .at5) (p .outputs) in
     record {
       field = either-field (h .field) (field-exact s end (p .field) .0);
       depth-least = d .0;
       depth-most = d .1;
+      branch-least = g .0;
+      branch-most = g .1;
+      branch-divides = branch-multiple (h .depth) s (p .at2) (p .branch);
       trees-least = t .0;
       trees-most = le-trans (t .1) (min-le-left 64 (2 ^ h .depth));
       trees-leaves = le-trans (t .1) (min-le-right 64 (2 ^ h .depth));
@@ -91,7 +98,7 @@ pub record NoiseOpened (s : List ℕ) (h : Head) (body : ℕ) (p : NoisePart) (e
   pub whole : readNoise s ≡ Whole p
   pub same : p .head ≡ h
   pub head : readHead 1 s ≡ Whole (h, body)
-  pub trees : readTrees (h .field) (h .depth) (h .trees) 0 s body ≡ Whole (p .trees, end)
+  pub trees : readTrees (h .field) (h .depth) (siblingCount (h .depth) (h .branchBits)) (h .trees) 0 s body ≡ Whole (p .trees, end)
 
 pub noise-opened : (s : List ℕ) {h : Head} {body : ℕ} → frontOf (readNoise s) (readHead 1 s) ≡ Whole (h, body)
     → (p : NoisePart) × (end : ℕ) × NoiseOpened s h body p end
@@ -105,26 +112,26 @@ noise-opened s {h} {body} e =
         whole = o .1;
         same = ap (λ (x : Head × ℕ). x .0) z;
         head = o .2;
-        trees = ap (λ (x : Head × ℕ). readTrees (x .0 .field) (x .0 .depth) (x .0 .trees) 0 s (x .1)) (sym z) ∙ a .3;
+        trees = ap (λ (x : Head × ℕ). readTrees (x .0 .field) (x .0 .depth) (siblingCount (x .0 .depth) (x .0 .branchBits)) (x .0 .trees) 0 s (x .1)) (sym z) ∙ a .3;
       },
     )
 
 -- ---- a tree that was read
 
-pub record TreeRanges (field depth base : ℕ) (s : List ℕ) (t : NoiseTree) (next : ℕ) : Type 0 where
+pub record TreeRanges (field depth beside base : ℕ) (s : List ℕ) (t : NoiseTree) (next : ℕ) : Type 0 where
   pub rising : base ≤ t .position
   pub below : t .position < 2 ^ depth
   pub value : isNoise field (t .value) ≡ true
   pub correction : isElement field (t .correction) ≡ true
   pub room : next ≤ length s
 
-pub tree-ranges : (field depth base : ℕ) (s : List ℕ) (at : ℕ) {t : NoiseTree} {next : ℕ} → readTree field depth base s at ≡ Whole (t, next)
-    → TreeRanges field depth base s t next
-tree-ranges field depth base s at {t} {next} e =
-    let p = tree-parts field depth base s at e in
+pub tree-ranges : (field depth beside base : ℕ) (s : List ℕ) (at : ℕ) {t : NoiseTree} {next : ℕ} → readTree field depth beside base s at ≡ Whole (t, next)
+    → TreeRanges field depth beside base s t next
+tree-ranges field depth beside base s at {t} {next} e =
+    let p = tree-parts field depth beside base s at e in
     let a = position-parts base (2 ^ depth) s at (p .position) in
     let c = correction-parts field s (p .at2) (p .correction) in
-    let b = items-whole blockAt 16 depth s (p .at3) (p .siblings) in
+    let b = items-whole blockAt 16 beside s (p .at3) (p .siblings) in
     record {
       rising = omega (arith, a .2);
       below = a .3;
@@ -141,30 +148,30 @@ tree-ranges field depth base s at {t} {next} e =
 
 -- ---- the second pass: tree i of an accepted record, where trees 0 to i − 1 have been passed
 
-module _ (field depth n base : ℕ) (s : List ℕ) (at i : ℕ) (more : i < n) {ts : List NoiseTree} {end : ℕ}
-    (left : readTrees field depth (n - i) base s at ≡ Whole (ts, end)) where
-  next : readTrees field depth (suc (n - (i + 1))) base s at ≡ Whole (ts, end)
-  next = ap (λ (m : ℕ). readTrees field depth m base s at) {x = suc (n - (i + 1))} {y = n - i} (omega arith) ∙ left
+module _ (field depth beside n base : ℕ) (s : List ℕ) (at i : ℕ) (more : i < n) {ts : List NoiseTree} {end : ℕ}
+    (left : readTrees field depth beside (n - i) base s at ≡ Whole (ts, end)) where
+  next : readTrees field depth beside (suc (n - (i + 1))) base s at ≡ Whole (ts, end)
+  next = ap (λ (m : ℕ). readTrees field depth beside m base s at) {x = suc (n - (i + 1))} {y = n - i} (omega arith) ∙ left
 
-  pub again-asks : isWhole (readTree field depth base s at) ≡ true
-  again-asks = ap isWhole (trees-parts field depth (n - (i + 1)) base s at next .4)
+  pub again-asks : isWhole (readTree field depth beside base s at) ≡ true
+  again-asks = ap isWhole (trees-parts field depth beside (n - (i + 1)) base s at next .4)
 
-  pub again-next : {t : NoiseTree} {after : ℕ} → Whole (t, after) ≡ readTree field depth base s at
-      → (rest : List NoiseTree) × (ts ≡ t ∷ rest) × (readTrees field depth (n - (i + 1)) (t .position + 1) s after ≡ Whole (rest, end))
+  pub again-next : {t : NoiseTree} {after : ℕ} → Whole (t, after) ≡ readTree field depth beside base s at
+      → (rest : List NoiseTree) × (ts ≡ t ∷ rest) × (readTrees field depth beside (n - (i + 1)) (t .position + 1) s after ≡ Whole (rest, end))
   again-next {t} {after} e =
-      let p = trees-parts field depth (n - (i + 1)) base s at next in
+      let p = trees-parts field depth beside (n - (i + 1)) base s at next in
       let z = whole-is (e ∙ p .4) in (
         p .1,
         p .3 ∙ ap (λ (x : NoiseTree × ℕ). x .0 ∷ p .1) (sym z),
-        ap (λ (x : NoiseTree × ℕ). readTrees field depth (n - (i + 1)) (x .0 .position + 1) s (x .1)) z ∙ p .5,
+        ap (λ (x : NoiseTree × ℕ). readTrees field depth beside (n - (i + 1)) (x .0 .position + 1) s (x .1)) z ∙ p .5,
       )
 
 -- the same by the list of all trees
-pub again-at : (field depth n base : ℕ) (s : List ℕ) (at i : ℕ) → i < n → (all : List NoiseTree) (d : NoiseTree) {end : ℕ}
-    → readTrees field depth (n - i) base s at ≡ Whole (drop i all, end) → {t : NoiseTree} {after : ℕ} → Whole (t, after) ≡ readTree field depth base s at
-    → (getD all i d ≡ t) × (readTrees field depth (n - (i + 1)) (t .position + 1) s after ≡ Whole (drop (i + 1) all, end))
-again-at field depth n base s at i more all d {end} left {t} {after} e =
-    let p = again-next field depth n base s at i more left e in (
+pub again-at : (field depth beside n base : ℕ) (s : List ℕ) (at i : ℕ) → i < n → (all : List NoiseTree) (d : NoiseTree) {end : ℕ}
+    → readTrees field depth beside (n - i) base s at ≡ Whole (drop i all, end) → {t : NoiseTree} {after : ℕ} → Whole (t, after) ≡ readTree field depth beside base s at
+    → (getD all i d ≡ t) × (readTrees field depth beside (n - (i + 1)) (t .position + 1) s after ≡ Whole (drop (i + 1) all, end))
+again-at field depth beside n base s at i more all d {end} left {t} {after} e =
+    let p = again-next field depth beside n base s at i more left e in (
       ap (λ (k : ℕ). getD all k d) {x = i} {y = i + 0} (omega arith) ∙ sym (getD-drop i all 0 d) ∙ ap (λ (l : List NoiseTree). getD l 0 d) (p .1),
       p .2 ∙ ap (λ (l : List NoiseTree). Whole (l, end)) (ap (drop 1) (sym (p .1)) ∙ drop-drop 1 i all),
     )

@@ -1,7 +1,7 @@
 -- Each field, a head, a tree and trees: reading what was written gives it back, and what reads as one is exactly its writing
 -- and is admitted. Assumes nothing.
-use Prim.Native.Nat.{ℕ, zero, suc, _+_, _-_, _^_, _≤_, _<_}
-use mathlib.Core.Bool.{true}
+use Prim.Native.Nat.{ℕ, zero, suc, _+_, _-_, _%_, _^_, _≤_, _<_}
+use mathlib.Core.Bool.{Bool, true, _&&_}
 use mathlib.Core.List.{List, [], _∷_, _++_}
 use mathlib.Core.Path.{_≡_, refl, sym, ap, _∙_, subst}
 use borrow.Author.Tests.{eq-eqb, ne-eqb, le-leb, leb-true, ltb-true, eqb-true}
@@ -24,11 +24,11 @@ use Rattle.record.proofs.Again.{value-parts-1, value-parts-2}
 use Rattle.record.proofs.Fields.{and-both}
 use Rattle.record.proofs.Items.{items-reads, items-exact}
 use Rattle.record.proofs.Parts.{head-parts, tree-parts, trees-parts, trees-none}
-use Rattle.record.specs.Admitted.{isField, isSize, mostTrees, mostTerms, mostOutputs, isNoise, isElement, isScalar, Each, SixteenBytes, SixtyFourBits, AdmittedHead}
+use Rattle.record.specs.Admitted.{isField, isSize, isBranch, mostTrees, mostTerms, mostOutputs, isNoise, isElement, isScalar, Each, SixteenBytes, SixtyFourBits, AdmittedHead}
 use Rattle.record.specs.Inner.Rising.{TreeFrom, TreesFrom}
 use Rattle.field.specs.Kind.{elementWords}
 use Rattle.record.specs.Content.{Head, NoiseTree}
-use Rattle.record.specs.Reading.{readWords, blockAt, readBlocks, readSize, readPosition, readValue, readCorrection, readDelta, readField, readSizes, readHead, readTree, readTrees}
+use Rattle.record.specs.Reading.{readWords, blockAt, readBlocks, readSize, readBranch, readPosition, readValue, readCorrection, readDelta, readField, readAfterDepth, readSizes, readHead, readTree, readTrees}
 use Rattle.record.specs.Writing.{writeWords, writeBlocks, writeHead, writeValue, writeFront, writeTree, writeTrees}
 
 -- ---- words and blocks
@@ -102,6 +102,23 @@ module _ (s : List ℕ) where
       let t = tested-whole (readNumber s at) (λ m. isSize top m) 2 e in
       let w = number-whole s at bytes (t .0) in
       (t .1, w .1, w .2 ∙ ap (λ (k : ℕ). at + k) (sym (length-number n)))
+
+  pub branch-reads : (depth at g : ℕ) → isBranch depth g ≡ true → Has s at (writeNumber g) → readBranch depth s at ≡ Whole (g, at + length (writeNumber g))
+  unfolding readBranch
+  branch-reads depth at g ok h =
+      let b = and-both (isSize 3 g) (eqb (depth % g) 0) ok in
+      tested-reads (λ x. eqb (depth % x) 0) 2 (size-reads 3 at g (omega arith) (b .0) h) (b .1)
+
+  pub branch-exact : Bytes s → (depth at : ℕ) {g next : ℕ} → readBranch depth s at ≡ Whole (g, next)
+      → (isBranch depth g ≡ true) × Has s at (writeNumber g) × (next ≡ at + length (writeNumber g))
+  unfolding readBranch
+  branch-exact bytes depth at {g} e =
+      let t = tested-whole (readSize 3 s at) (λ x. eqb (depth % x) 0) 2 e in
+      let z = size-exact bytes 3 at (t .0) in
+      (and-true (z .0) (t .1), z .1, z .2)
+    where
+      and-true : {a b : Bool} → a ≡ true → b ≡ true → a && b ≡ true
+      and-true p q = rw (p, q)
 
   pub position-reads : (base all at p : ℕ) → all < numbers → base ≤ p → ltb p all ≡ true → Has s at (writeNumber (p - base))
       → readPosition base all s at ≡ Whole (p, at + length (writeNumber (p - base)))
@@ -222,32 +239,49 @@ module _ (s : List ℕ) where
       )
 
   pub head-reads : (end : ℕ) (h : Head) → AdmittedHead h → Has s 0 (writeHead end h) → readHead end s ≡ Whole (h, length (writeHead end h))
-  unfolding writeHead readHead readSizes
+  unfolding writeHead readHead readSizes readAfterDepth
   head-reads end h ok g₀ =
       let D : List ℕ = writeNumber (h .depth) in
+      let G : List ℕ = writeNumber (h .branchBits) in
       let T : List ℕ = writeNumber (h .trees) in
       let L : List ℕ = writeNumber (h .terms) in
       let N : List ℕ = writeNumber (h .outputs) in
       let K : List ℕ = h .codeKey in
+      let A : List ℕ = h .label in
       let shallow = leb-true (h .depth) 16 (and-both (leb 1 (h .depth)) (leb (h .depth) 16) (ok .depth) .1) in
-      let g₁ : Has s 2 (D ++ (T ++ (L ++ (N ++ K)))) = has-back s 0 (end ∷ h .field ∷ []) (D ++ (T ++ (L ++ (N ++ K)))) g₀ in
+      let g₁ : Has s 2 (D ++ (G ++ (T ++ (L ++ (N ++ (K ++ A)))))) = has-back s 0 (end ∷ h .field ∷ []) (D ++ (G ++ (T ++ (L ++ (N ++ (K ++ A)))))) g₀ in
       let at3 : ℕ = 2 + length D in
-      let g₂ = has-back s 2 D (T ++ (L ++ (N ++ K))) g₁ in
-      let at4 : ℕ = at3 + length T in
-      let g₃ = has-back s at3 T (L ++ (N ++ K)) g₂ in
-      let at5 : ℕ = at4 + length L in
-      let g₄ = has-back s at4 L (N ++ K) g₃ in
-      let at6 : ℕ = at5 + length N in
-      let g₅ = has-back s at5 N K g₄ in
-      let e₀ = field-reads end (h .field) (ok .field) (has-front s 0 (end ∷ h .field ∷ []) (D ++ (T ++ (L ++ (N ++ K)))) g₀) in
-      let e₁ = size-reads 16 2 (h .depth) (omega arith) (ok .depth) (has-front s 2 D (T ++ (L ++ (N ++ K))) g₁) in
-      let e₂ = size-reads (mostTrees (h .depth)) at3 (h .trees) (omega (arith, min-le-left 64 (2 ^ h .depth))) (ok .trees) (has-front s at3 T (L ++ (N ++ K)) g₂) in
-      let e₃ = size-reads (mostTerms (h .depth)) at4 (h .terms) (omega (arith, min-le-left 32 (2 ^ h .depth))) (ok .terms) (has-front s at4 L (N ++ K) g₃) in
-      let e₄ = size-reads (mostOutputs (h .depth)) at5 (h .outputs) (omega (arith, pow-mono shallow)) (ok .outputs) (has-front s at5 N K g₄) in
-      let e₅ = bytes-reads s at6 K (ok .codeKey .0) g₅ in
-      let l : at6 + 16 ≡ length (end ∷ h .field ∷ (D ++ (T ++ (L ++ (N ++ K))))) =
-      omega (arith, length-append D (T ++ (L ++ (N ++ K))), length-append T (L ++ (N ++ K)), length-append L (N ++ K), length-append N K, ok .codeKey .0) in
-      simp (e₀, e₁, e₂, e₃, e₄, e₅, l)
+      let g₂ = has-back s 2 D (G ++ (T ++ (L ++ (N ++ (K ++ A))))) g₁ in
+      let at4 : ℕ = at3 + length G in
+      let g₃ = has-back s at3 G (T ++ (L ++ (N ++ (K ++ A)))) g₂ in
+      let at5 : ℕ = at4 + length T in
+      let g₄ = has-back s at4 T (L ++ (N ++ (K ++ A))) g₃ in
+      let at6 : ℕ = at5 + length L in
+      let g₅ = has-back s at5 L (N ++ (K ++ A)) g₄ in
+      let at7 : ℕ = at6 + length N in
+      let g₆ = has-back s at6 N (K ++ A) g₅ in
+      let g₇ = has-back s at7 K A g₆ in
+      let e₀ = field-reads end (h .field) (ok .field) (has-front s 0 (end ∷ h .field ∷ []) (D ++ (G ++ (T ++ (L ++ (N ++ (K ++ A)))))) g₀) in
+      let e₁ = size-reads 16 2 (h .depth) (omega arith) (ok .depth) (has-front s 2 D (G ++ (T ++ (L ++ (N ++ (K ++ A))))) g₁) in
+      let e₂ = branch-reads (h .depth) at3 (h .branchBits) (ok .branch) (has-front s at3 G (T ++ (L ++ (N ++ (K ++ A)))) g₂) in
+      let e₃ = size-reads (mostTrees (h .depth)) at4 (h .trees) (omega (arith, min-le-left 64 (2 ^ h .depth))) (ok .trees) (has-front s at4 T (L ++ (N ++ (K ++ A))) g₃) in
+      let e₄ = size-reads (mostTerms (h .depth)) at5 (h .terms) (omega (arith, min-le-left 32 (2 ^ h .depth))) (ok .terms) (has-front s at5 L (N ++ (K ++ A)) g₄) in
+      let e₅ = size-reads (mostOutputs (h .depth)) at6 (h .outputs) (omega (arith, pow-mono shallow)) (ok .outputs) (has-front s at6 N (K ++ A) g₅) in
+      let e₆ = bytes-reads s at7 K (ok .codeKey .0) (has-front s at7 K A g₆) in
+      let e₇ = bytes-reads s (at7 + 16) A (ok .label .0) (subst (λ (i : ℕ). Has s i A) (ap (λ (n : ℕ). at7 + n) (ok .codeKey .0)) g₇) in
+      let l : at7 + 16 + 16 ≡ length (end ∷ h .field ∷ (D ++ (G ++ (T ++ (L ++ (N ++ (K ++ A))))))) =
+      omega (
+        arith,
+        length-append D (G ++ (T ++ (L ++ (N ++ (K ++ A))))),
+        length-append G (T ++ (L ++ (N ++ (K ++ A)))),
+        length-append T (L ++ (N ++ (K ++ A))),
+        length-append L (N ++ (K ++ A)),
+        length-append N (K ++ A),
+        length-append K A,
+        ok .codeKey .0,
+        ok .label .0,
+      ) in
+      simp (e₀, e₁, e₂, e₃, e₄, e₅, e₆, e₇, l)
 
   pub head-exact : Bytes s → (end : ℕ) {h : Head} {body : ℕ} → readHead end s ≡ Whole (h, body)
       → AdmittedHead h × Has s 0 (writeHead end h) × (body ≡ length (writeHead end h))
@@ -255,23 +289,47 @@ module _ (s : List ℕ) where
   head-exact bytes end {h} {body} e =
       let p = head-parts end s e in
       let D : List ℕ = writeNumber (h .depth) in
+      let G : List ℕ = writeNumber (h .branchBits) in
       let T : List ℕ = writeNumber (h .trees) in
       let L : List ℕ = writeNumber (h .terms) in
       let N : List ℕ = writeNumber (h .outputs) in
       let K : List ℕ = h .codeKey in
+      let A : List ℕ = h .label in
       let f = field-exact end (p .field) in
       let d = size-exact bytes 16 (p .at1) (p .depth) in
-      let t = size-exact bytes (mostTrees (h .depth)) (p .at2) (p .trees) in
-      let l = size-exact bytes (mostTerms (h .depth)) (p .at3) (p .terms) in
-      let n = size-exact bytes (mostOutputs (h .depth)) (p .at4) (p .outputs) in
-      let k = bytes-whole s (p .at5) 16 (p .codeKey) in
-      let key : Bytes K = subst Bytes (sym (k .3)) (part-bytes s (p .at5) 16 bytes) in (
-        record { field = f .0; depth = d .0; trees = t .0; terms = l .0; outputs = n .0; codeKey = (k .0, key) },
-        has-next s 0 (end ∷ h .field ∷ []) (D ++ (T ++ (L ++ (N ++ K)))) (f .1) (f .2)
-            (has-next s (p .at1) D (T ++ (L ++ (N ++ K))) (d .1) (d .2)
-            (has-next s (p .at2) T (L ++ (N ++ K)) (t .1) (t .2)
-            (has-next s (p .at3) L (N ++ K) (l .1) (l .2) (has-next s (p .at4) N K (n .1) (n .2) (k .1))))),
-        omega (arith, f .2, d .2, t .2, l .2, n .2, k .2, k .0, length-append D (T ++ (L ++ (N ++ K))), length-append T (L ++ (N ++ K)), length-append L (N ++ K), length-append N K),
+      let g = branch-exact bytes (h .depth) (p .at2) (p .branch) in
+      let t = size-exact bytes (mostTrees (h .depth)) (p .at3) (p .trees) in
+      let l = size-exact bytes (mostTerms (h .depth)) (p .at4) (p .terms) in
+      let n = size-exact bytes (mostOutputs (h .depth)) (p .at5) (p .outputs) in
+      let k = bytes-whole s (p .at6) 16 (p .codeKey) in
+      let a = bytes-whole s (p .at7) 16 (p .label) in
+      let key : Bytes K = subst Bytes (sym (k .3)) (part-bytes s (p .at6) 16 bytes) in
+      let label : Bytes A = subst Bytes (sym (a .3)) (part-bytes s (p .at7) 16 bytes) in (
+        record { field = f .0; depth = d .0; branch = g .0; trees = t .0; terms = l .0; outputs = n .0; codeKey = (k .0, key); label = (a .0, label) },
+        has-next s 0 (end ∷ h .field ∷ []) (D ++ (G ++ (T ++ (L ++ (N ++ (K ++ A)))))) (f .1) (f .2)
+            (has-next s (p .at1) D (G ++ (T ++ (L ++ (N ++ (K ++ A))))) (d .1) (d .2)
+            (has-next s (p .at2) G (T ++ (L ++ (N ++ (K ++ A)))) (g .1) (g .2)
+            (has-next s (p .at3) T (L ++ (N ++ (K ++ A))) (t .1) (t .2)
+            (has-next s (p .at4) L (N ++ (K ++ A)) (l .1) (l .2) (has-next s (p .at5) N (K ++ A) (n .1) (n .2) (has-next s (p .at6) K A (k .1) (k .2 ∙ ap (λ (m : ℕ). p .at6 + m) (sym (k .0))) (a .1))))))),
+        omega (
+          arith,
+          f .2,
+          d .2,
+          g .2,
+          t .2,
+          l .2,
+          n .2,
+          k .2,
+          k .0,
+          a .2,
+          a .0,
+          length-append D (G ++ (T ++ (L ++ (N ++ (K ++ A))))),
+          length-append G (T ++ (L ++ (N ++ (K ++ A)))),
+          length-append T (L ++ (N ++ (K ++ A))),
+          length-append L (N ++ (K ++ A)),
+          length-append N (K ++ A),
+          length-append K A,
+        ),
       )
 
   -- ---- trees
@@ -281,10 +339,10 @@ module _ (s : List ℕ) where
   unfolding Has
   within at w h e = omega (arith, h .0)
 
-  pub tree-reads : (field depth base at : ℕ) (t : NoiseTree) → depth ≤ 16 → TreeFrom field depth base t → Has s at (writeTree field base t)
-      → readTree field depth base s at ≡ Whole (t, at + length (writeTree field base t))
+  pub tree-reads : (field depth beside base at : ℕ) (t : NoiseTree) → depth ≤ 16 → TreeFrom field depth beside base t → Has s at (writeTree field base t)
+      → readTree field depth beside base s at ≡ Whole (t, at + length (writeTree field base t))
   unfolding writeTree writeFront readTree
-  tree-reads field depth base at t shallow ok g =
+  tree-reads field depth beside base at t shallow ok g =
       let P : List ℕ = writeNumber (t .position - base) in
       let Y : List ℕ = writeValue field (t .value) in
       let C : List ℕ = writeWords (t .correction) in
@@ -300,15 +358,15 @@ module _ (s : List ℕ) where
       let e₀ = position-reads base (2 ^ depth) at (t .position) (omega (arith, pow-mono shallow)) (ok .rising) (ok .tree .below) (has-front s at P (Y ++ C) g₀) in
       let e₁ = value-reads field at1 (t .value) (ok .tree .value) (has-front s at1 Y C g₁) in
       let e₂ = correction-reads field at2 (t .correction) (ok .tree .words) (ok .tree .correction) g₂ in
-      let e₃ = blocks-reads at3 depth (t .siblings) (ok .tree .siblings .0) (ok .tree .siblings .1) g₃ in
+      let e₃ = blocks-reads at3 beside (t .siblings) (ok .tree .siblings .0) (ok .tree .siblings .1) g₃ in
       let l : at3 + length B ≡ at + length ((P ++ (Y ++ C)) ++ B) = omega (arith, place, length-append (P ++ (Y ++ C)) B) in
       simp (e₀, e₁, e₂, e₃, l)
 
-  pub tree-exact : Bytes s → (field depth base at : ℕ) {t : NoiseTree} {next : ℕ} → readTree field depth base s at ≡ Whole (t, next)
-      → TreeFrom field depth base t × Has s at (writeTree field base t) × (next ≡ at + length (writeTree field base t))
+  pub tree-exact : Bytes s → (field depth beside base at : ℕ) {t : NoiseTree} {next : ℕ} → readTree field depth beside base s at ≡ Whole (t, next)
+      → TreeFrom field depth beside base t × Has s at (writeTree field base t) × (next ≡ at + length (writeTree field base t))
   unfolding writeTree writeFront
-  tree-exact bytes field depth base at {t} {next} e =
-      let p = tree-parts field depth base s at e in
+  tree-exact bytes field depth beside base at {t} {next} e =
+      let p = tree-parts field depth beside base s at e in
       let P : List ℕ = writeNumber (t .position - base) in
       let Y : List ℕ = writeValue field (t .value) in
       let C : List ℕ = writeWords (t .correction) in
@@ -316,7 +374,7 @@ module _ (s : List ℕ) where
       let a = position-exact bytes base (2 ^ depth) at (p .position) in
       let v = value-exact bytes field (p .at1) (within at P (a .2) (a .3)) (p .value) in
       let c = correction-exact bytes field (p .at2) (p .correction) in
-      let b = blocks-exact bytes (p .at3) depth (p .siblings) in (
+      let b = blocks-exact bytes (p .at3) beside (p .siblings) in (
         record {
           rising = a .0;
           tree = record { below = a .1; value = v .0; words = c .0; correction = c .1; siblings = (b .0, b .1) };
@@ -327,38 +385,38 @@ module _ (s : List ℕ) where
         omega (arith, a .3, v .2, c .3, b .3, length-append (P ++ (Y ++ C)) B, length-append P (Y ++ C), length-append Y C),
       )
 
-  pub trees-reads : (field depth base at : ℕ) (ts : List NoiseTree) → depth ≤ 16 → TreesFrom field depth base ts → Has s at (writeTrees field base ts)
-      → readTrees field depth (length ts) base s at ≡ Whole (ts, at + length (writeTrees field base ts))
+  pub trees-reads : (field depth beside base at : ℕ) (ts : List NoiseTree) → depth ≤ 16 → TreesFrom field depth beside base ts → Has s at (writeTrees field base ts)
+      → readTrees field depth beside (length ts) base s at ≡ Whole (ts, at + length (writeTrees field base ts))
   unfolding writeTrees readTrees TreesFrom
-  trees-reads field depth base at [] shallow ok g = simp add-zero
-  trees-reads field depth base at (t ∷ ts) shallow ok g =
+  trees-reads field depth beside base at [] shallow ok g = simp add-zero
+  trees-reads field depth beside base at (t ∷ ts) shallow ok g =
       let W : List ℕ = writeTree field base t in
       let R : List ℕ = writeTrees field (t .position + 1) ts in
-      let e₀ = tree-reads field depth base at t shallow (ok .0) (has-front s at W R g) in
-      let e₁ = trees-reads field depth (t .position + 1) (at + length W) ts shallow (ok .1) (has-back s at W R g) in
+      let e₀ = tree-reads field depth beside base at t shallow (ok .0) (has-front s at W R g) in
+      let e₁ = trees-reads field depth beside (t .position + 1) (at + length W) ts shallow (ok .1) (has-back s at W R g) in
       let l : at + length W + length R ≡ at + length (W ++ R) = omega (arith, length-append W R) in
       simp (e₀, e₁, l)
 
-  pub trees-exact : Bytes s → (field depth n base at : ℕ) {ts : List NoiseTree} {end : ℕ} → at ≤ length s → readTrees field depth n base s at ≡ Whole (ts, end)
-      → (length ts ≡ n) × TreesFrom field depth base ts × Has s at (writeTrees field base ts) × (end ≡ at + length (writeTrees field base ts))
+  pub trees-exact : Bytes s → (field depth beside n base at : ℕ) {ts : List NoiseTree} {end : ℕ} → at ≤ length s → readTrees field depth beside n base s at ≡ Whole (ts, end)
+      → (length ts ≡ n) × TreesFrom field depth beside base ts × Has s at (writeTrees field base ts) × (end ≡ at + length (writeTrees field base ts))
   unfolding writeTrees TreesFrom Has
-  trees-exact bytes field depth zero base at {ts} {end} room e =
-      let z = trees-none field depth base s at e in (
+  trees-exact bytes field depth beside zero base at {ts} {end} room e =
+      let z = trees-none field depth beside base s at e in (
         ap length (z .0),
-        subst (TreesFrom field depth base) (sym (z .0)) tt,
+        subst (TreesFrom field depth beside base) (sym (z .0)) tt,
         subst (λ (l : List NoiseTree). Has s at (writeTrees field base l)) (sym (z .0)) (omega arith, refl),
         z .1 ∙ sym (add-zero at) ∙ ap (λ (l : List NoiseTree). at + length (writeTrees field base l)) (sym (z .0)),
       )
-  trees-exact bytes field depth (suc n) base at {ts} {end} room e =
-      let p = trees-parts field depth n base s at e in
+  trees-exact bytes field depth beside (suc n) base at {ts} {end} room e =
+      let p = trees-parts field depth beside n base s at e in
       let t : NoiseTree = p .0 in
       let rest : List NoiseTree = p .1 in
       let W : List ℕ = writeTree field base t in
       let R : List ℕ = writeTrees field (t .position + 1) rest in
-      let a = tree-exact bytes field depth base at (p .4) in
-      let b = trees-exact bytes field depth n (t .position + 1) (p .2) (omega (arith, a .1 .0, a .2)) (p .5) in (
+      let a = tree-exact bytes field depth beside base at (p .4) in
+      let b = trees-exact bytes field depth beside n (t .position + 1) (p .2) (omega (arith, a .1 .0, a .2)) (p .5) in (
         ap length (p .3) ∙ ap suc (b .0),
-        subst (TreesFrom field depth base) (sym (p .3)) (a .0, b .1),
+        subst (TreesFrom field depth beside base) (sym (p .3)) (a .0, b .1),
         subst (λ (l : List NoiseTree). Has s at (writeTrees field base l)) (sym (p .3)) (has-next s at W R (a .1) (a .2) (b .2)),
         b .3 ∙ omega (arith, a .2, length-append W R) ∙ ap (λ (l : List NoiseTree). at + length (writeTrees field base l)) (sym (p .3)),
       )

@@ -20,15 +20,14 @@ use Rattle.record.proofs.Exact.{head-reads, head-exact, trees-reads, tr
 use Rattle.record.proofs.Fields.{and-both}
 use Rattle.record.proofs.Items.{length-flat}
 use Rattle.record.proofs.Parts.{head-parts, noise-parts, scalar-parts}
-use Rattle.record.proofs.Writes.{length-head}
+use Rattle.record.proofs.Lengths.{length-head}
 use Rattle.record.specs.Admitted.{Each, SixtyFourBits, SixteenBytes, AdmittedHead, AdmittedNoise, AdmittedScalar}
 use Rattle.record.specs.Inner.Rising.{TreesFrom}
 use Rattle.record.proofs.Rising.{trees-each, trees-rising, trees-from}
 use Rattle.field.specs.Kind.{elementWords}
-use Rattle.record.specs.Content.{Head, NoiseTree, NoisePart, ScalarPart}
+use Rattle.record.specs.Content.{Head, NoiseTree, NoisePart, ScalarPart, siblingCount}
 use Rattle.record.specs.Reading.{blockAt, readHead, readTrees, readNoise, readScalar}
 use Rattle.record.specs.Writing.{writeWords, writeBlocks, writeHead, writeValue, writeFront, writeTree, writeTrees, writeNoise, writeScalar}
-use Rattle.record.specs.Inner.Lengths.{valueLength, frontLength, treesLength, noiseLength, scalarLength}
 
 -- the depth of an admitted head
 shallow : {h : Head} → AdmittedHead h → h .depth ≤ 16
@@ -46,9 +45,9 @@ noise-reads p ok =
     let g : Has s 0 (H ++ R) = whole-has s in
     let e₀ = head-reads s 1 h (ok .head) (has-front s 0 H R g) in
     let rest : Has s (length H) R = subst (λ (i : ℕ). Has s i R) (zero-add (length H)) (has-back s 0 H R g) in
-    let e₁ : readTrees (h .field) (h .depth) (h .trees) 0 s (length H) ≡ Whole (p .trees, length H + length R) =
-    ap (λ (n : ℕ). readTrees (h .field) (h .depth) n 0 s (length H)) (sym (ok .count))
-    ∙ trees-reads s (h .field) (h .depth) 0 (length H) (p .trees) (shallow (ok .head)) (trees-from p ok) rest in
+    let e₁ : readTrees (h .field) (h .depth) (siblingCount (h .depth) (h .branchBits)) (h .trees) 0 s (length H) ≡ Whole (p .trees, length H + length R) =
+    ap (λ (n : ℕ). readTrees (h .field) (h .depth) (siblingCount (h .depth) (h .branchBits)) n 0 s (length H)) (sym (ok .count))
+    ∙ trees-reads s (h .field) (h .depth) (siblingCount (h .depth) (h .branchBits)) 0 (length H) (p .trees) (shallow (ok .head)) (trees-from p ok) rest in
     let end : ltb (length H + length R) (length s) ≡ false = le-ltb (length H + length R) (length s) (omega (arith, length-append H R)) in
     simp (e₀, e₁, end)
 
@@ -80,8 +79,8 @@ noise-exact s bytes {p} e =
     let R : List ℕ = writeTrees (h .field) 0 (p .trees) in
     let b = head-exact s bytes 1 (a .2) in
     let place : a .0 ≡ 0 + length H = b .2 ∙ sym (zero-add (length H)) in
-    let c = trees-exact s bytes (h .field) (h .depth) (h .trees) 0 (a .0) (within s 0 H (b .1) place) (a .3) in (
-      record { head = b .0; count = c .0; rising = trees-rising (h .field) (h .depth) 0 (p .trees) (c .0) (c .1); trees = trees-each (h .field) (h .depth) 0 (p .trees) (c .1) },
+    let c = trees-exact s bytes (h .field) (h .depth) (siblingCount (h .depth) (h .branchBits)) (h .trees) 0 (a .0) (within s 0 H (b .1) place) (a .3) in (
+      record { head = b .0; count = c .0; rising = trees-rising (h .field) (h .depth) (siblingCount (h .depth) (h .branchBits)) 0 (p .trees) (c .0) (c .1); trees = trees-each (h .field) (h .depth) (siblingCount (h .depth) (h .branchBits)) 0 (p .trees) (c .1) },
       has-whole s (H ++ R) (has-next s 0 H R (b .1) place (c .2))
           (omega (arith, a .4, b .2, c .3, length-append H R, within s (a .0) R (c .2) (c .3))),
     )
@@ -121,71 +120,3 @@ one-end s e f =
     let a = first-byte 1 s (noise-parts s e .2) in
     let b = first-byte 2 s (scalar-parts s f .3) in
     omega arith
-
--- ---- lengths
-
-pub length-words : (ws : List ℕ) → Each SixtyFourBits ws → length (writeWords ws) ≡ 8 * length ws
-length-words ws ok = length-flat wordAt 8 (leBytes 8) SixtyFourBits (λ x w. length-leBytes 8 x) ws ok
-
-pub length-blocks : (bs : List (List ℕ)) → Each SixteenBytes bs → length (writeBlocks bs) ≡ 16 * length bs
-length-blocks bs ok = length-flat blockAt 16 (λ b. b) SixteenBytes (λ b w. w .0) bs ok
-
-pub length-value : (field value : ℕ) → length (writeValue field value) ≡ valueLength field
-length-value field value = either field 1 (λ f. simp (eq-eqb _ _ f)) (λ f. simp (ne-eqb _ _ f, length-leBytes))
-
-pub length-front : (field base position value : ℕ) (c : List ℕ) → length c ≡ elementWords field → Each SixtyFourBits c
-    → length (writeFront field base position value c) ≡ frontLength field base position
-unfolding writeFront frontLength
-length-front field base position value c e ok =
-    let P : List ℕ = writeNumber (position - base) in
-    let Y : List ℕ = writeValue field value in
-    let C : List ℕ = writeWords c in
-    omega (arith, length-append P (Y ++ C), length-append Y C, length-number (position - base), length-value field value, length-words c ok, ap (λ (n : ℕ). 8 * n) e)
-
-pub length-trees : (field depth base : ℕ) (ts : List NoiseTree) → TreesFrom field depth base ts
-    → length (writeTrees field base ts) ≡ treesLength field depth base (map (λ (t : NoiseTree). t .position) ts)
-unfolding writeTrees writeTree treesLength TreesFrom
-length-trees field depth base [] ok = refl
-length-trees field depth base (t ∷ ts) ok =
-    let F : List ℕ = writeFront field base (t .position) (t .value) (t .correction) in
-    let B : List ℕ = writeBlocks (t .siblings) in
-    let R : List ℕ = writeTrees field (t .position + 1) ts in
-    omega (
-      arith,
-      length-append (F ++ B) R,
-      length-append F B,
-      length-front field base (t .position) (t .value) (t .correction) (ok .0 .tree .words .0) (ok .0 .tree .words .1),
-      length-blocks (t .siblings) (ok .0 .tree .siblings .1),
-      ap (λ (n : ℕ). 16 * n) (ok .0 .tree .siblings .0),
-      length-trees field depth (t .position + 1) ts (ok .1),
-    )
-
--- the length of a record, from its sizes and positions
-pub length-noise : (p : NoisePart) → AdmittedNoise p
-    → length (writeNoise p) ≡ noiseLength (p .head .field) (p .head .depth) (p .head .trees) (p .head .terms) (p .head .outputs) (map (λ (t : NoiseTree). t .position) (p .trees))
-unfolding writeNoise noiseLength
-length-noise p ok =
-    omega (
-      arith,
-      length-append (writeHead 1 (p .head)) (writeTrees (p .head .field) 0 (p .trees)),
-      length-head 1 (p .head) (ok .head .codeKey .0),
-      length-trees (p .head .field) (p .head .depth) 0 (p .trees) (trees-from p ok),
-    )
-
-pub length-scalar : (p : ScalarPart) → AdmittedScalar p
-    → length (writeScalar p) ≡ scalarLength (p .head .field) (p .head .depth) (p .head .trees) (p .head .terms) (p .head .outputs)
-unfolding writeScalar scalarLength
-length-scalar p ok =
-    let H : List ℕ = writeHead 2 (p .head) in
-    let D : List ℕ = writeWords (p .delta) in
-    let R : List ℕ = writeBlocks (p .roots) in
-    omega (
-      arith,
-      length-append H (D ++ R),
-      length-append D R,
-      length-head 2 (p .head) (ok .head .codeKey .0),
-      length-words (p .delta) (ok .words .1),
-      ap (λ (n : ℕ). 8 * n) (ok .words .0),
-      length-blocks (p .roots) (ok .roots .1),
-      ap (λ (n : ℕ). 16 * n) (ok .roots .0),
-    )

@@ -7,6 +7,7 @@ mod Fields
 mod Heads
 pub mod Items
 pub mod Laws
+pub mod Lengths
 pub mod Parts
 mod Records
 mod Rising

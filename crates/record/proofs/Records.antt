@@ -17,10 +17,10 @@ use Rattle.number.specs.Reading.{Whole, Refused, Step, then, choose}
 use Rattle.number.specs.declared.Number.{Number}
 use Rattle.number.specs.declared.Number.the-variants.{Value, Fault}
 use Rattle.record.proofs.Fields.{skip-fault, skip-value}
-use Rattle.record.proofs.Heads.{head-depth, head-trees}
+use Rattle.record.proofs.Heads.{head-depth, head-branch, head-trees}
 use Rattle.record.proofs.Parts.{tree-parts}
 use Rattle.record.proofs.Trees.{first-refused, first-whole}
-use Rattle.record.specs.Content.{Head, NoiseTree, NoisePart, ScalarPart}
+use Rattle.record.specs.Content.{Head, NoiseTree, NoisePart, ScalarPart, siblingCount}
 use Rattle.record.specs.Reading.{readItems, readPosition, readDelta, readHead, readTree, readTrees, ended, readNoise, readScalar}
 use Rattle.record.specs.Inner.Answers.{skipped, headOf, opened, frontOf, treeFront, firstWord}
 use Rattle.record.specs.declared.Front.{Front}
@@ -73,9 +73,22 @@ noise-left s h body (Refused k) = refl
 abbrev pub noiseAnswer : List ℕ → Step Head
 noiseAnswer s = frontOf (readNoise s) (readHead 1 s)
 
+-- what an accepted head has for the number of siblings
+module _ (s : List ℕ) {r : Opened} {f : Front} (read : opened s r ≡ readHead 1 s) (e : r ≡ Accepted f) where
+  pub deep : f .depth ≤ 16
+  deep = head-depth 1 s (accepted-head 1 s read e)
+
+  pub branch-some : 1 ≤ f .«branch_bits»
+  branch-some = head-branch 1 s (accepted-head 1 s read e) .0
+
+  pub branch-few : f .«branch_bits» ≤ 3
+  branch-few = head-branch 1 s (accepted-head 1 s read e) .1
+
 -- the loop's invariant: what is left of the trees is the answer
-pub record Turn (s : List ℕ) (f : Front) (at base i : ℕ) : Type 0 where
-  pub answer : noiseAnswer s ≡ left s (headOf s f, f .body) (readTrees (f .field) (f .depth) (f .trees - i) base s at)
+pub record Turn (s : List ℕ) (f : Front) (beside at base i : ℕ) : Type 0 where
+  pub siblings : beside ≡ siblingCount (f .depth) (f .«branch_bits»)
+  pub few : beside ≤ 112
+  pub answer : noiseAnswer s ≡ left s (headOf s f, f .body) (readTrees (f .field) (f .depth) (siblingCount (f .depth) (f .«branch_bits»)) (f .trees - i) base s at)
   pub below : base ≤ 2 ^ f .depth
   pub turns : i ≤ f .trees
   pub depth : f .depth ≤ 16
@@ -85,59 +98,69 @@ pub noise-refused : (s : List ℕ) {r : Opened} {k : ℕ} → opened s r ≡ rea
 unfolding readNoise
 noise-refused s read e = let h = refused-head 1 s read e in simp (e, h)
 
-pub turn-start : (s : List ℕ) {r : Opened} {f : Front} → opened s r ≡ readHead 1 s → r ≡ Accepted f → Turn s f (f .body) 0 0
+pub turn-start : (s : List ℕ) {r : Opened} {f : Front} → opened s r ≡ readHead 1 s → r ≡ Accepted f
+    → {beside : ℕ} → (beside ≡ siblingCount (f .depth) (f .«branch_bits»)) × (beside ≤ 112) → Turn s f beside (f .body) 0 0
 unfolding readNoise
-turn-start s {r} {f} read e =
+turn-start s {r} {f} read e {beside} b =
     let h = accepted-head 1 s read e in
     record {
+      siblings = b .0;
+      few = b .1;
       answer =
-          ap (λ (x : Step Head). frontOf {A = NoisePart} (then x λ h body. then (readTrees (h .field) (h .depth) (h .trees) 0 s body) λ trees end. ended s end (record { head = h; trees = trees })) x) h
-          ∙ noise-left s (headOf s f) (f .body) (readTrees (f .field) (f .depth) (f .trees) 0 s (f .body))
-          ∙ ap (λ (n : ℕ). left s (headOf s f, f .body) (readTrees (f .field) (f .depth) n 0 s (f .body))) {x = f .trees} {y = f .trees - 0} (omega arith);
+          ap (λ (x : Step Head). frontOf {A = NoisePart} (then x λ h body. then (readTrees (h .field) (h .depth) (siblingCount (h .depth) (h .branchBits)) (h .trees) 0 s body) λ trees end. ended s end (record { head = h; trees = trees })) x) h
+          ∙ noise-left s (headOf s f) (f .body) (readTrees (f .field) (f .depth) (siblingCount (f .depth) (f .«branch_bits»)) (f .trees) 0 s (f .body))
+          ∙ ap (λ (n : ℕ). left s (headOf s f, f .body) (readTrees (f .field) (f .depth) (siblingCount (f .depth) (f .«branch_bits»)) n 0 s (f .body))) {x = f .trees} {y = f .trees - 0} (omega arith);
       below = omega arith;
       turns = omega arith;
       depth = head-depth 1 s h;
       trees = head-trees 1 s h;
     }
 
-module _ {s : List ℕ} {f : Front} {at base i : ℕ} (turn : Turn s f at base i) where
+module _ {s : List ℕ} {f : Front} {beside at base i : ℕ} (turn : Turn s f beside at base i) where
   module _ (more : i < f .trees) where
     -- one turn of the definition
-    step : (x : Step NoiseTree) → readTree (f .field) (f .depth) base s at ≡ x
-        → noiseAnswer s ≡ left s (headOf s f, f .body) (then x λ tree next. then (readTrees (f .field) (f .depth) (f .trees - (i + 1)) (tree .position + 1) s next) λ ts end. Whole (tree ∷ ts, end))
+    step : (x : Step NoiseTree) → readTree (f .field) (f .depth) (siblingCount (f .depth) (f .«branch_bits»)) base s at ≡ x
+        → noiseAnswer s ≡ left s (headOf s f, f .body) (then x λ tree next. then (readTrees (f .field) (f .depth) (siblingCount (f .depth) (f .«branch_bits»)) (f .trees - (i + 1)) (tree .position + 1) s next) λ ts end. Whole (tree ∷ ts, end))
     unfolding readTrees
     step x e =
         turn .answer
-        ∙ ap (λ (n : ℕ). left s (headOf s f, f .body) (readTrees (f .field) (f .depth) n base s at)) {x = f .trees - i} {y = suc (f .trees - (i + 1))} (omega arith)
-        ∙ ap (λ (y : Step NoiseTree). left s (headOf s f, f .body) (then y λ tree next. then (readTrees (f .field) (f .depth) (f .trees - (i + 1)) (tree .position + 1) s next) λ ts end. Whole (tree ∷ ts, end))) e
+        ∙ ap (λ (n : ℕ). left s (headOf s f, f .body) (readTrees (f .field) (f .depth) (siblingCount (f .depth) (f .«branch_bits»)) n base s at)) {x = f .trees - i} {y = suc (f .trees - (i + 1))} (omega arith)
+        ∙ ap (λ (y : Step NoiseTree). left s (headOf s f, f .body) (then y λ tree next. then (readTrees (f .field) (f .depth) (siblingCount (f .depth) (f .«branch_bits»)) (f .trees - (i + 1)) (tree .position + 1) s next) λ ts end. Whole (tree ∷ ts, end))) e
 
-  module _ (more : i < f .trees) {t : Number} (read : numberRead t ≡ treeFront (readTree (f .field) (f .depth) base s at)) where
+  -- the tree by its head's number of siblings
+  seen : (t : Number) → numberRead t ≡ treeFront (readTree (f .field) (f .depth) beside base s at)
+      → numberRead t ≡ treeFront (readTree (f .field) (f .depth) (siblingCount (f .depth) (f .«branch_bits»)) base s at)
+  seen t given = given ∙ ap (λ (n : ℕ). treeFront (readTree (f .field) (f .depth) n base s at)) (turn .siblings)
+
+  module _ (more : i < f .trees) {t : Number} (given : numberRead t ≡ treeFront (readTree (f .field) (f .depth) beside base s at)) where
     pub turn-fault : {j k : ℕ} → t ≡ Fault j → k ≡ numberFault t → Refused k ≡ noiseAnswer s
     unfolding left
     turn-fault {j} {k} e w =
-        let x = tree-refused (readTree (f .field) (f .depth) base s at) (sym read ∙ ap numberRead e) in
+        let x = tree-refused (readTree (f .field) (f .depth) (siblingCount (f .depth) (f .«branch_bits»)) base s at) (sym (seen t given) ∙ ap numberRead e) in
         sym (step more (Refused j) x ∙ ap (λ (n : ℕ). Refused n) (sym (w ∙ ap numberFault e)))
 
     module _ {p next : ℕ} (v : t ≡ Value p next) where
       pub turn-position : p < 2 ^ f .depth
       unfolding readPosition
       turn-position =
-          let x = tree-read (readTree (f .field) (f .depth) base s at) (sym read ∙ ap numberRead v) in
-          let q = tree-parts (f .field) (f .depth) base s at (x .1) .position in
+          let x = tree-read (readTree (f .field) (f .depth) (siblingCount (f .depth) (f .«branch_bits»)) base s at) (sym (seen t given) ∙ ap numberRead v) in
+          let q = tree-parts (f .field) (f .depth) (siblingCount (f .depth) (f .«branch_bits»)) base s at (x .1) .position in
           let b = tested-whole (then (readNumber s at) λ x next. Whole (base + x, next)) (λ p. ltb p (2 ^ f .depth)) 4 q .1 in
           subst (λ (n : ℕ). n < 2 ^ f .depth) (x .2) (ltb-true _ _ b)
 
       pub turn-fits : (k : ℕ) → k ≤ 16 → Fits w64 (p + k)
       turn-fits k h = record { fits = omega (arith, turn-position, pow-mono (turn .depth)) }
 
-      pub turn-next : Turn s f next (p + 1) (i + 1)
+      pub turn-next : Turn s f beside next (p + 1) (i + 1)
       turn-next =
-          let x = tree-read (readTree (f .field) (f .depth) base s at) (sym read ∙ ap numberRead v) in
+          let x = tree-read (readTree (f .field) (f .depth) (siblingCount (f .depth) (f .«branch_bits»)) base s at) (sym (seen t given) ∙ ap numberRead v) in
           record {
+            siblings = turn .siblings;
+            few = turn .few;
             answer =
                 step more (Whole (x .0, next)) (x .1)
-                ∙ left-more s (headOf s f, f .body) (x .0) (readTrees (f .field) (f .depth) (f .trees - (i + 1)) (x .0 .position + 1) s next)
-                ∙ ap (λ (n : ℕ). left s (headOf s f, f .body) (readTrees (f .field) (f .depth) (f .trees - (i + 1)) (n + 1) s next)) (x .2);
+                ∙ left-more s (headOf s f, f .body) (x .0) (readTrees (f .field) (f .depth) (siblingCount (f .depth) (f .«branch_bits»)) (f .trees - (i + 1)) (x .0 .position + 1) s next)
+                ∙ ap (λ (n : ℕ). left s (headOf s f, f .body) (readTrees (f .field) (f .depth) (siblingCount (f .depth) (f .«branch_bits»)) (f .trees - (i + 1)) (n + 1) s next)) (x .2);
             below = omega (arith, turn-position);
             turns = omega arith;
             depth = turn .depth;
@@ -149,7 +172,7 @@ module _ {s : List ℕ} {f : Front} {at base i : ℕ} (turn : Turn s f at base i
     unfolding readTrees left
     done =
         turn .answer
-        ∙ ap (λ (n : ℕ). left s (headOf s f, f .body) (readTrees (f .field) (f .depth) n base s at)) {x = f .trees - i} {y = 0} (omega arith)
+        ∙ ap (λ (n : ℕ). left s (headOf s f, f .body) (readTrees (f .field) (f .depth) (siblingCount (f .depth) (f .«branch_bits»)) n base s at)) {x = f .trees - i} {y = 0} (omega arith)
 
     pub turn-after : at < length s → Refused 12 ≡ noiseAnswer s
     turn-after h = sym (done ∙ simp (lt-ltb _ _ h))

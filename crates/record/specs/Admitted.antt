@@ -1,6 +1,6 @@
 -- What a record may hold (document 01, 'Two fields', 'Sizes', 'Trees', 'Dealing'): the tests of its fields, and the content that
 -- passes them.
-use Prim.Native.Nat.{ℕ, _-_, _/_, _^_, _<_, min}
+use Prim.Native.Nat.{ℕ, _-_, _/_, _%_, _^_, _<_, min}
 use mathlib.Core.Bool.{Bool, true, not, _&&_, _||_}
 use mathlib.Core.List.{List, [], _∷_}
 use mathlib.Core.Path.{_≡_}
@@ -10,7 +10,7 @@ use Rattle.algebra.specs.Expansion.{Rising}
 use Rattle.field.specs.Prime.{modulus}
 use Rattle.number.specs.Reading.{choose, Bytes}
 use Rattle.field.specs.Kind.{kindOf, elementWords}
-use Rattle.record.specs.Content.{Head, NoiseTree, NoisePart, ScalarPart, treeIn}
+use Rattle.record.specs.Content.{Head, NoiseTree, NoisePart, ScalarPart, siblingCount, treeIn}
 
 -- Two fields: 1 is binary, 2 is prime
 abbrev pub isField : ℕ → Bool
@@ -19,6 +19,10 @@ isField field = eqb field 1 || eqb field 2
 -- Sizes: 1 to the largest
 abbrev pub isSize : ℕ → ℕ → Bool
 isSize top n = leb 1 n && leb n top
+
+-- Sizes: g is 1, 2 or 3, and d is a multiple of it (document 02, 10)
+abbrev pub isBranch : ℕ → ℕ → Bool
+isBranch depth branchBits = isSize 3 branchBits && eqb (depth % branchBits) 0
 
 -- Sizes: t is 1 to the smaller of 64 and N = 2^d
 abbrev pub mostTrees : ℕ → ℕ
@@ -61,29 +65,31 @@ SixteenBytes b = (length b ≡ 16) × Bytes b
 abbrev pub SixtyFourBits : ℕ → Type 0
 SixtyFourBits w = w < 18446744073709551616
 
--- Sizes: field, d, t, ℓ, n and the code key of an admitted head
+-- Sizes: field, d, g, t, ℓ, n, code key and label of an admitted head
 pub record AdmittedHead (h : Head) : Type 0 where
   pub field : isField (h .field) ≡ true
   pub depth : isSize 16 (h .depth) ≡ true
+  pub branch : isBranch (h .depth) (h .branchBits) ≡ true
   pub trees : isSize (mostTrees (h .depth)) (h .trees) ≡ true
   pub terms : isSize (mostTerms (h .depth)) (h .terms) ≡ true
   pub outputs : isSize (mostOutputs (h .depth)) (h .outputs) ≡ true
   pub codeKey : SixteenBytes (h .codeKey)
+  pub label : SixteenBytes (h .label)
 
--- a tree of a record of this field and depth
-pub record AdmittedTree (field depth : ℕ) (t : NoiseTree) : Type 0 where
+-- a tree of a record of this field and depth, with so many blocks beside its path
+pub record AdmittedTree (field depth beside : ℕ) (t : NoiseTree) : Type 0 where
   pub below : ltb (t .position) (2 ^ depth) ≡ true
   pub value : isNoise field (t .value) ≡ true
   pub words : (length (t .correction) ≡ elementWords field) × Each SixtyFourBits (t .correction)
   pub correction : isElement field (t .correction) ≡ true
-  pub siblings : (length (t .siblings) ≡ depth) × Each SixteenBytes (t .siblings)
+  pub siblings : (length (t .siblings) ≡ beside) × Each SixteenBytes (t .siblings)
 
 -- the noise record: t trees, whose positions rise strictly
 pub record AdmittedNoise (p : NoisePart) : Type 0 where
   pub head : AdmittedHead (p .head)
   pub count : length (p .trees) ≡ p .head .trees
   pub rising : Rising (p .head .trees) (λ i. treeIn (p .trees) i .position)
-  pub trees : Each (AdmittedTree (p .head .field) (p .head .depth)) (p .trees)
+  pub trees : Each (AdmittedTree (p .head .field) (p .head .depth) (siblingCount (p .head .depth) (p .head .branchBits))) (p .trees)
 
 -- the scalar record: Δ and t roots
 pub record AdmittedScalar (p : ScalarPart) : Type 0 where

@@ -1,20 +1,28 @@
 -- The content of key records (document 01, 'Sizes', 'Key records').
-use Prim.Native.Nat.{ℕ}
+use Prim.Native.Nat.{ℕ, _-_, _*_, _/_, _^_}
 use mathlib.Core.List.{List, [], _∷_}
 use lib.Dec.{eqb}
 use lib.ListN.{getD}
 use Rattle.number.specs.Reading.{choose}
 
--- the head: field, d, t, ℓ, n and the 16 bytes of the code key
+-- the head: field, d, g (document 02, 10), t, ℓ, n, the 16 bytes of the code key and those of the
+-- label (document 02, 8)
 pub record Head : Type 0 where
   pub field : ℕ
   pub depth : ℕ
+  pub branchBits : ℕ
   pub trees : ℕ
   pub terms : ℕ
   pub outputs : ℕ
   pub codeKey : List ℕ
+  pub label : List ℕ
 
--- a punctured tree: position, noise value, the correction as its words, d sibling blocks of 16 bytes, top first
+-- the siblings of a tree of depth d with 2^g children a node: the other children at each of d / g levels (document 02, 10)
+unfoldable pub siblingCount : ℕ → ℕ → ℕ
+siblingCount depth branchBits = depth / branchBits * (2 ^ branchBits - 1)
+
+-- a punctured tree: position, noise value, the correction as its words, the sibling blocks of 16 bytes, top first and each
+-- level's in rising order
 pub record NoiseTree : Type 0 where
   pub position : ℕ
   pub value : ℕ

@@ -1,6 +1,6 @@
 -- The reading of key records (document 01, 'Numbers of the calls'): front to back, each field whole (10, 11) and then tested,
 -- 12 last.
-use Prim.Native.Nat.{ℕ, zero, suc, _+_, _*_, _^_}
+use Prim.Native.Nat.{ℕ, zero, suc, _+_, _*_, _%_, _^_}
 use mathlib.Core.List.{List, [], _∷_}
 use lib.Dec.{leb, ltb, eqb}
 use lib.ListN.{length}
@@ -10,7 +10,7 @@ use Rattle.number.specs.Number.{readNumber}
 use Rattle.number.specs.Reading.{Reading, Whole, Refused, Step, then, choose, tested, part, readByte, readBytes}
 use Rattle.record.specs.Admitted.{isField, isSize, mostTrees, mostTerms, mostOutputs, isNoise, isElement, isScalar}
 use Rattle.field.specs.Kind.{elementWords}
-use Rattle.record.specs.Content.{Head, NoiseTree, NoisePart, ScalarPart}
+use Rattle.record.specs.Content.{Head, NoiseTree, NoisePart, ScalarPart, siblingCount}
 
 -- ---- fields
 
@@ -38,6 +38,10 @@ readBlocks n s at = readItems blockAt 16 n s at
 unfoldable pub readSize : ℕ → List ℕ → ℕ → Step ℕ
 readSize top s at = tested (readNumber s at) (λ n. isSize top n) badSize
 
+-- g; 2: not 1, 2 or 3, or d is no multiple of it (document 02, 10)
+unfoldable pub readBranch : ℕ → List ℕ → ℕ → Step ℕ
+readBranch depth s at = tested (readSize 3 s at) (λ g. eqb (depth % g) 0) badSize
+
 -- a position, written less `base`; 4: N or more
 unfoldable pub readPosition : ℕ → ℕ → List ℕ → ℕ → Step ℕ
 readPosition base all s at = tested (then (readNumber s at) λ x next. Whole (base + x, next)) (λ p. ltb p all) badPosition
@@ -62,35 +66,40 @@ readDelta field s at = tested (readWords (elementWords field) s at) (λ c. isSca
 unfoldable pub readField : ℕ → List ℕ → Step ℕ
 readField end s = then (tested (readByte s 0) (λ e. eqb e end) wrongEnd) λ e at. tested (readByte s at) isField badField
 
--- d, t, ℓ, n and the code key, after the field byte
+-- g, t, ℓ, n, the code key and the label (document 02, 8), after d
+unfoldable pub readAfterDepth : ℕ → ℕ → List ℕ → ℕ → Step Head
+readAfterDepth field d s at2 =
+    then (readBranch d s at2) λ g at3.
+    then (readSize (mostTrees d) s at3) λ t at4.
+    then (readSize (mostTerms d) s at4) λ l at5.
+    then (readSize (mostOutputs d) s at5) λ n at6.
+    then (readBytes 16 s at6) λ key at7.
+    then (readBytes 16 s at7) λ label at8.
+    Whole (record { field = field; depth = d; branchBits = g; trees = t; terms = l; outputs = n; codeKey = key; label = label }, at8)
+
+-- d, then the rest of the head, after the field byte
 unfoldable pub readSizes : ℕ → List ℕ → ℕ → Step Head
-readSizes field s at1 =
-    then (readSize 16 s at1) λ d at2.
-    then (readSize (mostTrees d) s at2) λ t at3.
-    then (readSize (mostTerms d) s at3) λ l at4.
-    then (readSize (mostOutputs d) s at4) λ n at5.
-    then (readBytes 16 s at5) λ key at6.
-    Whole (record { field = field; depth = d; trees = t; terms = l; outputs = n; codeKey = key }, at6)
+readSizes field s at1 = then (readSize 16 s at1) λ d at2. readAfterDepth field d s at2
 
 -- the head
 unfoldable pub readHead : ℕ → List ℕ → Step Head
 readHead end s = then (readField end s) λ field at. readSizes field s at
 
--- a tree, after positions below `base`
-unfoldable pub readTree : ℕ → ℕ → ℕ → List ℕ → ℕ → Step NoiseTree
-readTree field depth base s at =
+-- a tree with so many blocks beside its path, after positions below `base`
+unfoldable pub readTree : ℕ → ℕ → ℕ → ℕ → List ℕ → ℕ → Step NoiseTree
+readTree field depth beside base s at =
     then (readPosition base (2 ^ depth) s at) λ position at1.
     then (readValue field s at1) λ value at2.
     then (readCorrection field s at2) λ correction at3.
-    then (readBlocks depth s at3) λ siblings at4.
+    then (readBlocks beside s at3) λ siblings at4.
     Whole (record { position = position; value = value; correction = correction; siblings = siblings }, at4)
 
 -- n trees, one after the other
-unfoldable pub readTrees : ℕ → ℕ → ℕ → ℕ → List ℕ → ℕ → Step (List NoiseTree)
-readTrees field depth zero base s at = Whole ([], at)
-readTrees field depth (suc n) base s at =
-    then (readTree field depth base s at) λ t next.
-    then (readTrees field depth n (t .position + 1) s next) λ ts end.
+unfoldable pub readTrees : ℕ → ℕ → ℕ → ℕ → ℕ → List ℕ → ℕ → Step (List NoiseTree)
+readTrees field depth beside zero base s at = Whole ([], at)
+readTrees field depth beside (suc n) base s at =
+    then (readTree field depth beside base s at) λ t next.
+    then (readTrees field depth beside n (t .position + 1) s next) λ ts end.
     Whole (t ∷ ts, end)
 
 -- the end of a record; 12: bytes after it
@@ -101,7 +110,7 @@ ended s at x = choose (ltb at (length s)) (Refused bytesAfter) (Whole x)
 unfoldable pub readNoise : List ℕ → Reading NoisePart
 readNoise s =
     then (readHead 1 s) λ h body.
-    then (readTrees (h .field) (h .depth) (h .trees) 0 s body) λ trees end.
+    then (readTrees (h .field) (h .depth) (siblingCount (h .depth) (h .branchBits)) (h .trees) 0 s body) λ trees end.
     ended s end (record { head = h; trees = trees })
 
 -- the scalar record

@@ -20,10 +20,12 @@ writeWords words = writeEach (leBytes 8) words
 abbrev pub writeBlocks : List (List ℕ) → List ℕ
 writeBlocks blocks = writeEach (λ b. b) blocks
 
--- head: end byte (1 noise, 2 scalar), field byte, d, t, ℓ, n as numbers, code key
+-- head: end byte (1 noise, 2 scalar), field byte, d, g (document 02, 10), t, ℓ, n as numbers, code key, label
+-- (document 02, 8)
 unfoldable pub writeHead : ℕ → Head → List ℕ
 writeHead end h =
-    end ∷ h .field ∷ (writeNumber (h .depth) ++ (writeNumber (h .trees) ++ (writeNumber (h .terms) ++ (writeNumber (h .outputs) ++ h .codeKey))))
+    end ∷ h .field
+    ∷ (writeNumber (h .depth) ++ (writeNumber (h .branchBits) ++ (writeNumber (h .trees) ++ (writeNumber (h .terms) ++ (writeNumber (h .outputs) ++ (h .codeKey ++ h .label))))))
 
 -- the noise value: field 2 only, 8 LE bytes
 abbrev pub writeValue : ℕ → ℕ → List ℕ
@@ -34,7 +36,7 @@ writeValue field value = choose (eqb field 1) [] (leBytes 8 value)
 unfoldable pub writeFront : ℕ → ℕ → ℕ → ℕ → List ℕ → List ℕ
 writeFront field base position value correction = writeNumber (position - base) ++ (writeValue field value ++ writeWords correction)
 
--- a tree: position, noise value, correction, d siblings
+-- a tree: position, noise value, correction, siblings
 unfoldable pub writeTree : ℕ → ℕ → NoiseTree → List ℕ
 writeTree field base t = writeFront field base (t .position) (t .value) (t .correction) ++ writeBlocks (t .siblings)
 

@@ -4,7 +4,8 @@ ghost use Prim.Native.Nat.{_+_, _^_, _≤_, _<_, min};
 ghost use lib.Dec.{leb};
 ghost use lib.ListN.{length};
 ghost use Rattle.number.specs.Inner.Answers.{numberRead};
-ghost use Rattle.record.specs.Reading.{readSize, readField, readSizes, readHead};
+ghost use Rattle.record.specs.Content.{siblingCount};
+ghost use Rattle.record.specs.Reading.{readSize, readBranch, readField, readAfterDepth, readSizes, readHead};
 ghost use Rattle.record.specs.Inner.Answers.{skipped, opened};
 use crate::Front;
 use crate::Opened;
@@ -22,6 +23,14 @@ pub fn leaves(depth: usize) -> usize
     ensures { λ r. ⌜ r ≡ 2 ^ depth ⌝ }
 {
     1usize << depth
+}
+
+// The siblings of a tree of a depth with 2^g children a node.
+pub fn sibling_count(depth: usize, branch_bits: usize) -> usize
+    requires { ⌜ (depth ≤ 16) × (1 ≤ «branch_bits») × («branch_bits» ≤ 3) ⌝ }
+    ensures { λ r. ⌜ (r ≡ siblingCount depth «branch_bits») × (r ≤ 112) ⌝ }
+{
+    depth / branch_bits * (leaves(branch_bits) - 1)
 }
 
 // The smaller of two numbers.
@@ -68,6 +77,20 @@ pub fn read_size(source: &[u8], at: usize, top: usize) -> Number
     Number::Value(n, next)
 }
 
+// g: 1, 2 or 3, and a divisor of d.
+pub fn read_branch(source: &[u8], at: usize, depth: usize) -> Number
+    ensures { λ r. ⌜ numberRead r ≡ readBranch depth (now (source .entry)) at ⌝ }
+{
+    let r = read_size(source, at, 3);
+    let Number::Value(g, next) = r else {
+        return r;
+    };
+    if depth % g != 0 {
+        return Number::Fault(BAD_SIZE);
+    }
+    Number::Value(g, next)
+}
+
 // The end byte and the field byte; the value is the field.
 pub fn read_field(source: &[u8], end: u8) -> Number
     ensures { λ r. ⌜ numberRead r ≡ readField end (now (source .entry)) ⌝ }
@@ -90,39 +113,52 @@ pub fn read_field(source: &[u8], end: u8) -> Number
     Number::Fault(BAD_FIELD)
 }
 
-// d, t, ℓ, n and the code key.
-fn read_sizes(source: &[u8], at1: usize, field: usize) -> Opened
-    ensures { λ r. ⌜ opened (now (source .entry)) r ≡ readSizes field (now (source .entry)) at1 ⌝ }
+// g, t, ℓ, n, the code key and the label, after d.
+fn read_after_depth(source: &[u8], at2: usize, field: usize, depth: usize) -> Opened
+    requires { ⌜ depth ≤ 16 ⌝ }
+    ensures { λ r. ⌜ opened (now (source .entry)) r ≡ readAfterDepth field depth (now (source .entry)) at2 ⌝ }
 {
-    let r1 = read_size(source, at1, 16);
-    let Number::Value(depth, at2) = r1 else {
-        return Opened::Fault(fault_of(r1));
-    };
-    let all = leaves(depth);
-    let r2 = read_size(source, at2, smaller(64, all));
-    let Number::Value(trees, at3) = r2 else {
+    let r2 = read_branch(source, at2, depth);
+    let Number::Value(branch_bits, at3) = r2 else {
         return Opened::Fault(fault_of(r2));
     };
-    let r3 = read_size(source, at3, smaller(32, all));
-    let Number::Value(terms, at4) = r3 else {
+    let all = leaves(depth);
+    let r3 = read_size(source, at3, smaller(64, all));
+    let Number::Value(trees, at4) = r3 else {
         return Opened::Fault(fault_of(r3));
     };
-    let r4 = read_size(source, at4, all / 2);
-    let Number::Value(outputs, at5) = r4 else {
+    let r4 = read_size(source, at4, smaller(32, all));
+    let Number::Value(terms, at5) = r4 else {
         return Opened::Fault(fault_of(r4));
     };
-    let r5 = skip(source, at5, 16);
-    let Number::Value(_, body) = r5 else {
+    let r5 = read_size(source, at5, all / 2);
+    let Number::Value(outputs, at6) = r5 else {
         return Opened::Fault(fault_of(r5));
+    };
+    let r6 = skip(source, at6, 32);
+    let Number::Value(_, body) = r6 else {
+        return Opened::Fault(fault_of(r6));
     };
     Opened::Accepted(Front {
         field: field,
         depth: depth,
+        branch_bits: branch_bits,
         trees: trees,
         terms: terms,
         outputs: outputs,
         body: body,
     })
+}
+
+// d, then the rest of the head.
+fn read_sizes(source: &[u8], at1: usize, field: usize) -> Opened
+    ensures { λ r. ⌜ opened (now (source .entry)) r ≡ readSizes field (now (source .entry)) at1 ⌝ }
+{
+    let r = read_size(source, at1, 16);
+    let Number::Value(depth, at2) = r else {
+        return Opened::Fault(fault_of(r));
+    };
+    read_after_depth(source, at2, field, depth)
 }
 
 // The head of a record of this end.

@@ -7,10 +7,12 @@ mod scalar;
 mod writing;
 
 pub use head::leaves;
+pub use head::sibling_count;
 pub use noise::known_tree;
 pub use noise::read_noise;
 pub use scalar::read_scalar;
 pub use writing::front_length;
+pub use writing::head_length;
 pub use writing::noise_length;
 pub use writing::scalar_length;
 pub use writing::write_bytes;
@@ -18,10 +20,11 @@ pub use writing::write_front;
 pub use writing::write_head;
 pub use writing::write_scalar;
 
-// The head of a record in numbers: field, d, t, ℓ, n, and the place after the code key, where the body begins.
+// The head of a record in numbers: field, d, g, t, ℓ, n, and the place after it, where the body begins.
 pub struct Front {
     pub field: usize,
     pub depth: usize,
+    pub branch_bits: usize,
     pub trees: usize,
     pub terms: usize,
     pub outputs: usize,
@@ -36,7 +39,7 @@ pub enum Opened {
     Fault(u32),
 }
 
-// A tree of an accepted noise record: the correction's first and second word (0 where it has one), the siblings' place.
+// A tree of a noise record: the correction's first and second word (0 where it has one), the siblings' place.
 pub struct Tree {
     pub position: usize,
     pub value: u64,

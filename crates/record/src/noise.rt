@@ -15,6 +15,7 @@ use crate::element::read_correction;
 use crate::element::read_value;
 use crate::head::leaves;
 use crate::head::read_head;
+use crate::head::sibling_count;
 use crate::head::skip;
 use answer::BAD_POSITION;
 use answer::BYTES_AFTER;
@@ -39,10 +40,17 @@ fn read_position(source: &[u8], at: usize, base: usize, all: usize) -> Number
     Number::Value(base + x, next)
 }
 
-// A tree after positions below `base`; the value is its position.
-fn read_tree(source: &[u8], at: usize, base: usize, field: usize, depth: usize) -> Number
-    requires { ⌜ (base ≤ 2 ^ depth) × (depth ≤ 16) ⌝ }
-    ensures { λ r. ⌜ numberRead r ≡ treeFront (readTree field depth base (now (source .entry)) at) ⌝ }
+// A tree with so many siblings, after positions below `base`; the value is its position.
+fn read_tree(
+    source: &[u8],
+    at: usize,
+    base: usize,
+    field: usize,
+    depth: usize,
+    beside: usize,
+) -> Number
+    requires { ⌜ (base ≤ 2 ^ depth) × (depth ≤ 16) × (beside ≤ 112) ⌝ }
+    ensures { λ r. ⌜ numberRead r ≡ treeFront (readTree field depth beside base (now (source .entry)) at) ⌝ }
 {
     let r0 = read_position(source, at, base, leaves(depth));
     let Number::Value(position, at1) = r0 else {
@@ -56,7 +64,7 @@ fn read_tree(source: &[u8], at: usize, base: usize, field: usize, depth: usize) 
     let Number::Value(_, at3) = r2 else {
         return r2;
     };
-    let r3 = skip(source, at3, 16 * depth);
+    let r3 = skip(source, at3, 16 * beside);
     let Number::Value(_, at4) = r3 else {
         return r3;
     };
@@ -73,12 +81,13 @@ pub fn read_noise(source: &[u8]) -> Opened
     };
     let field = front.field;
     let depth = front.depth;
+    let beside = sibling_count(depth, front.branch_bits);
     let trees = front.trees;
     let mut at = front.body;
     let mut base: usize = 0;
     let mut i: usize = 0;
     while i < trees {
-        let t = read_tree(source, at, base, field, depth);
+        let t = read_tree(source, at, base, field, depth, beside);
         let Number::Value(position, next) = t else {
             return Opened::Fault(fault_of(t));
         };
@@ -93,26 +102,35 @@ pub fn read_noise(source: &[u8]) -> Opened
 }
 
 // The tree at a place of an accepted noise record, after positions below `base`. The next tree follows its siblings.
-pub fn known_tree(source: &[u8], at: usize, base: usize, field: usize, depth: usize) -> Tree
-    requires { ⌜ (isWhole (readTree field depth base (now source) at) ≡ true) × (depth ≤ 16) ⌝ }
-    ensures { λ r. ⌜ (Whole (treeOf (now (source .entry)) field depth r, r .siblings + 16 * depth) ≡ readTree field depth base (now (source .entry)) at) × (r .high ≡ getD (elementOf field (r .low) (r .high)) 1 0) ⌝ }
+pub fn known_tree(
+    source: &[u8],
+    at: usize,
+    base: usize,
+    field: usize,
+    depth: usize,
+    beside: usize,
+) -> Tree
+    requires { ⌜ (isWhole (readTree field depth beside base (now source) at) ≡ true) × (depth ≤ 16) ⌝ }
+    ensures { λ r. ⌜ (Whole (treeOf (now (source .entry)) field beside r, r .siblings + 16 * beside) ≡ readTree field depth beside base (now (source .entry)) at) × (r .high ≡ getD (elementOf field (r .low) (r .high)) 1 0) ⌝ }
 {
     let number = known_number(source, at);
     let next = number.next;
     let position = base + number.number;
+    let first = word_at(source, next);
+    let second = word_at(source, next + 8);
     if field == 1 {
         return Tree {
             position: position,
             value: 1,
-            low: word_at(source, next),
-            high: word_at(source, next + 8),
+            low: first,
+            high: second,
             siblings: next + 16,
         };
     }
     Tree {
         position: position,
-        value: word_at(source, next),
-        low: word_at(source, next + 8),
+        value: first,
+        low: second,
         high: 0,
         siblings: next + 16,
     }

@@ -1,7 +1,8 @@
--- The sizes of a head that was read are in their ranges, and its code key is the 16 bytes before the body.
-use mathlib.Core.Path.{_≡_, ap}
+-- The words of a tree's leaves; the sizes of a head that was read are in their ranges, and its code key and its label are the 32 bytes before the
+-- body.
+use mathlib.Core.Path.{_≡_, sym, ap, _∙_}
 use mathlib.Core.List.{List}
-use Prim.Native.Nat.{ℕ, _+_, _^_, _≤_}
+use Prim.Native.Nat.{ℕ, _+_, _*_, _/_, _%_, _^_, _≤_}
 use native.Mathlib.Omega.{arith}
 use lib.Dec.{leb}
 use lib.ListN.{length}
@@ -13,18 +14,27 @@ use Rattle.record.specs.Content.{Head}
 use Rattle.record.specs.Reading.{readHead}
 use Rattle.record.proofs.Callers.{head-ranges}
 use Rattle.record.proofs.Parts.{head-parts}
+use Rattle.tree.proofs.Levels.{level-leaves}
 use Rattle.rows.specs.Inner.Sizes.{Sizes}
+
+-- the words of N elements, by a tree's levels (document 02, 10)
+pub leaf-words : (g d width : ℕ) {n : ℕ} → d % g ≡ 0 → n ≡ 2 ^ d * width → n ≡ (2 ^ g) ^ (d / g) * width
+leaf-words g d width divides e = e ∙ ap (λ (m : ℕ). m * width) (sym (level-leaves g d divides))
 
 pub head-sizes : (end : ℕ) (s : List ℕ) {h : Head} {body : ℕ} → readHead end s ≡ Whole (h, body) → Sizes s h body
 unfolding readBytes
 head-sizes end s {h} {body} e =
     let p = head-parts end s e in
     let r = head-ranges end s e in
-    let c = choose-whole (leb (p .at5 + 16) (length s)) (part s (p .at5) 16, p .at5 + 16) 10 (p .codeKey) in
-    let b : p .at5 + 16 ≡ body = ap (λ (z : List ℕ × ℕ). z .1) (c .1) in
-    let k : p .at5 + 16 ≤ length s = leb-true _ _ (c .0) in
+    let c = choose-whole (leb (p .at6 + 16) (length s)) (part s (p .at6) 16, p .at6 + 16) 10 (p .codeKey) in
+    let a = choose-whole (leb (p .at7 + 16) (length s)) (part s (p .at7) 16, p .at7 + 16) 10 (p .label) in
+    let k : p .at6 + 16 ≡ p .at7 = ap (λ (z : List ℕ × ℕ). z .1) (c .1) in
+    let b : p .at7 + 16 ≡ body = ap (λ (z : List ℕ × ℕ). z .1) (a .1) in
+    let l : p .at7 + 16 ≤ length s = leb-true _ _ (a .0) in
     record {
       depth = r .depth-most;
+      branch = record { two = r .branch-least; eight = r .branch-most };
+      divides = r .branch-divides;
       some = r .terms-least;
       terms = r .terms-most;
       full = r .terms-leaves;

@@ -41,9 +41,9 @@ past-by-first first count end h =
 pub past-by-count : (first count end : ℕ) → end < count → true ≡ ltb end (first + count)
 past-by-count first count end h = sym (lt-ltb end (first + count) (omega arith))
 
-pub keys-at : (s : List ℕ) (f : Front) {at : ℕ} {c : List (List ℕ)} {r : List (List (List ℕ))} → at ≡ f .body - 16 → c ≡ columnsAt s at
+pub keys-at : (s : List ℕ) (f : Front) {at : ℕ} {c : List (List ℕ)} {r : List (List (List ℕ))} → at ≡ f .body - 32 → c ≡ columnsAt s at
     → r ≡ keyExpansion c → r ≡ codeKeys (headOf s f)
-keys-at s f a e q = q ∙ ap keyExpansion (e ∙ ap (columnsAt s) a ∙ sym (columns-part s (f .body - 16)))
+keys-at s f a e q = q ∙ ap keyExpansion (e ∙ ap (columnsAt s) a ∙ sym (columns-part s (f .body - 32)))
 
 -- the first i words of b are zeroed
 pub record Zeroed (b w : List ℕ) (i : ℕ) : Type 0 where

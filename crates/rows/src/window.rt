@@ -71,17 +71,17 @@ pub fn lengths_number(front: Front, vector: usize, window: Window, room: usize) 
     0
 }
 
-// The place of the code key's 16 bytes.
+// The place of the code key's 16 bytes, which the label's 16 follow (document 02, 8).
 pub fn code_key_at(front: Front) -> usize
-    requires { ⌜ 16 ≤ front .body ⌝ }
-    ensures { λ r. ⌜ r ≡ front .body - 16 ⌝ }
+    requires { ⌜ 32 ≤ front .body ⌝ }
+    ensures { λ r. ⌜ r ≡ front .body - 32 ⌝ }
 {
-    front.body - 16
+    front.body - 32
 }
 
 // The round keys of the code key.
 pub fn code_keys(sbox: &[u8; 256], source: &[u8], front: Front) -> [[[u8; 4]; 4]; 11]
-    requires { ⌜ SBoxTable (now sbox) × (16 ≤ front .body) × (front .body ≤ length (now source)) ⌝ }
+    requires { ⌜ SBoxTable (now sbox) × (32 ≤ front .body) × (front .body ≤ length (now source)) ⌝ }
     ensures { λ r. ⌜ r ≡ codeKeys (headOf (now (source .entry)) front) ⌝ }
 {
     expand_key(sbox, columns_at(source, code_key_at(front)))

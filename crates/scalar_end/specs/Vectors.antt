@@ -1,6 +1,6 @@
--- w0 and Δ, from the content of a scalar record alone (document 01, 'Trees', 'Offline and online').
+-- w0 and Δ, from the content of a scalar record alone (document 01, 'Trees', 'Offline and online'; document 02, 10).
 use mathlib.Core.List.{List, [], _∷_}
-use Prim.Native.Nat.{ℕ}
+use Prim.Native.Nat.{ℕ, _/_, _^_}
 use lib.Dec.{eqb}
 use lib.ListN.{getD}
 use Rattle.algebra.specs.Choice.{choose}
@@ -16,9 +16,9 @@ use Rattle.tree.specs.Tree.{leafAt}
 abbrev pub delta : (P : ScalarPart) → Value (fieldOf (P .head))
 delta P = fieldOf (P .head) .elements .read (P .delta) 0
 
--- the element of leaf j of tree i
+-- the element of leaf j of tree i: a node has 2^g children, and the tree d / g levels (document 02, 10)
 abbrev pub leaf : (P : ScalarPart) → ℕ → ℕ → Value (fieldOf (P .head))
-leaf P i j = kind (P .head) .leaf (leafAt 2 child (P .head .depth) (columnsAt (getD (P .roots) i []) 0) j)
+leaf P i j = kind (P .head) .leaf (leafAt (2 ^ P .head .branchBits) child (P .head .depth / P .head .branchBits) (columnsAt (getD (P .roots) i []) 0) j)
 
 -- w0
 unfoldable pub w0 : (P : ScalarPart) → ℕ → Value (fieldOf (P .head))

@@ -1,13 +1,14 @@
 // The expansion of an offline call: the trees added in place and accumulated, and Δ written.
 ghost use mathlib.Core.Path.{_≡_};
 ghost use mathlib.Core.List.{[], _++_};
-ghost use Prim.Native.Nat.{_+_, _*_, _^_, _≤_, _<_};
+ghost use Prim.Native.Nat.{_+_, _*_, _%_, _^_, _≤_, _<_};
 ghost use lib.ListN.{length, getD, drop};
 ghost use Rattle.algebra.specs.Coding.{flat};
 ghost use Rattle.algebra.specs.Sum.{accumulate};
 ghost use Rattle.sbox.specs.Inner.Tables.{Tables};
 ghost use Rattle.field.specs.Kind.{kindOf, elementWords};
 ghost use Rattle.tree.specs.Columns.{columnsAt};
+ghost use Rattle.tree.specs.Inner.Ranges.{IsBranch};
 ghost use Rattle.scalar_end.specs.Vectors.{w0};
 ghost use Rattle.scalar_end.specs.Inner.Steps.{treeAdded, deltaAt};
 ghost use Rattle.scalar_end.specs.Offline.{expanded, expand};
@@ -20,11 +21,9 @@ use record::leaves;
 use rows::accumulate_elements;
 use rows::element_width;
 use rows::zero_words;
-use tree::add_leaves_binary;
-use tree::add_leaves_prime;
+use tree::add_leaves;
+use tree::child_keys;
 use tree::columns_at;
-use tree::left_keys;
-use tree::right_keys;
 
 // Root i of an accepted record.
 fn root_at(source: &[u8], front: Front, i: usize) -> [[u8; 4]; 4]
@@ -34,45 +33,49 @@ fn root_at(source: &[u8], front: Front, i: usize) -> [[u8; 4]; 4]
     columns_at(source, front.body + 8 * element_width(front.field) + 16 * i)
 }
 
-// Adds the leaves of the tree below a root.
+// Adds the leaves of the tree of 2^g children a node (document 02, 10) below a root.
 fn add_tree(
     sbox: &[u8; 256],
     mix: &[u32; 256],
-    left: &[[[u8; 4]; 4]; 11],
-    right: &[[[u8; 4]; 4]; 11],
+    keys: &[[[[u8; 4]; 4]; 11]; 8],
     front: Front,
     root: [[u8; 4]; 4],
     w: &mut [u64],
 )
     requires { ⌜ Tables (now sbox) (now mix) ⌝ }
-    requires { ⌜ length (now w) ≡ 2 ^ front .depth * elementWords (front .field) ⌝ }
-    ensures { λ _. ⌜ now (w .exit) ≡ treeAdded front (now (left .entry)) (now (right .entry)) root (now (w .entry)) ⌝ }
+    requires { ⌜ IsBranch (front .«branch_bits») × (front .depth % front .«branch_bits» ≡ 0) × (length (now w) ≡ 2 ^ front .depth * elementWords (front .field)) ⌝ }
+    ensures { λ _. ⌜ now (w .exit) ≡ treeAdded front (now (keys .entry)) root (now (w .entry)) ⌝ }
 {
-    if front.field == 1 {
-        add_leaves_binary(sbox, mix, left, right, front.depth, root, w);
-    } else {
-        add_leaves_prime(sbox, mix, left, right, front.depth, root, w);
-    }
+    let levels = front.depth / front.branch_bits;
+    add_leaves(
+        sbox,
+        mix,
+        keys,
+        front.field,
+        front.branch_bits,
+        levels,
+        root,
+        w,
+    );
 }
 
 // Writes w0, under the round keys lent.
 fn add_trees(
     sbox: &[u8; 256],
     mix: &[u32; 256],
-    left: &[[[u8; 4]; 4]; 11],
-    right: &[[[u8; 4]; 4]; 11],
+    keys: &[[[[u8; 4]; 4]; 11]; 8],
     source: &[u8],
     front: Front,
     w: &mut [u64],
 )
     requires { ⌜ Tables (now sbox) (now mix) ⌝ }
-    requires { ⌜ TreesFit (now source) front (now left) (now right) (length (now w)) ⌝ }
+    requires { ⌜ TreesFit (now source) front (now keys) (length (now w)) ⌝ }
     ensures { λ _. ⌜ now (w .exit) ≡ flat (kindOf (front .field) .field .elements) (2 ^ front .depth) (w0 (contentOf (now (source .entry)) front)) ⌝ }
 {
     zero_words(w);
     let mut i: usize = 0;
     while i < front.trees {
-        add_tree(sbox, mix, left, right, front, root_at(source, front, i), w);
+        add_tree(sbox, mix, keys, front, root_at(source, front, i), w);
         i += 1;
     }
 }
@@ -84,9 +87,8 @@ fn write_trees(source: &[u8], front: Front, w: &mut [u64])
 {
     let sb = sbox::table();
     let mx = sbox::mix_table();
-    let left = left_keys(&sb);
-    let right = right_keys(&sb);
-    add_trees(&sb, &mx, &left, &right, source, front, w);
+    let keys = child_keys(&sb, front.branch_bits);
+    add_trees(&sb, &mx, &keys, source, front, w);
 }
 
 // Writes the accumulated w0.

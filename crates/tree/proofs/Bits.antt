@@ -1,6 +1,6 @@
 -- Trees with two children are document 01's trees by bits.
 use mathlib.Core.Path.{_≡_, refl, ap, sym, _∙_}
-use mathlib.Core.List.{List, _∷_}
+use mathlib.Core.List.{_∷_}
 use Prim.Native.Nat.{ℕ, zero, suc, _-_}
 use Rattle.tree.specs.Tree.{path, reach, leafAt, listed, siblings}
 use Rattle.tree.specs.Bits.{bits, leafByBits, siblingByBits, siblingsByBits, TwoChildren}

@@ -1,5 +1,5 @@
 -- Laws of trees for callers, for any number k of children: a tree by its children, siblings by levels, and that from the
--- siblings at s every leaf but s comes out as the tree's own. The halves of a tree with two children follow.
+-- siblings at s every leaf but s comes out as the tree's own. A level with two children has one sibling.
 use mathlib.Core.Path.{_≡_, refl, ap, ap₂, sym, _∙_}
 use mathlib.Core.Logic.{_≢_}
 use mathlib.Core.Bool.{Bool, true, false}
@@ -46,11 +46,22 @@ module _ {A : Type 0} (P : A → Type 0) where
 
 -- ---- the other children of a node
 
-rank-low : (c b : ℕ) → b < c → rank c b ≡ b
+pub rank-low : (c b : ℕ) → b < c → rank c b ≡ b
 rank-low c b h = rw (lt-ltb b c h)
 
-rank-high : (c b : ℕ) → c < b → rank c b ≡ b - 1
+pub rank-high : (c b : ℕ) → c < b → rank c b ≡ b - 1
 rank-high c b h = rw (le-ltb b c (omega arith))
+
+pub rank-below : (k c b : ℕ) → c < k → b < k → c ≢ b → rank c b < k - 1
+rank-below k c b hc hb h = decide (ltb b c) refl
+  where
+    decide : (t : Bool) → ltb b c ≡ t → rank c b < k - 1
+    decide true e =
+        let l : b < c = ltb-true b c e in
+        rw (rank-low c b l) (omega arith)
+    decide false e =
+        let l : c < b = omega (arith, ltb-false b c e, h) in
+        rw (rank-high c b l) (omega arith)
 
 module _ {A : Type 0} (k : ℕ) (child : ℕ → A → A) (s : A) where
   children : List A
@@ -304,7 +315,7 @@ module _ {A E : Type 0} (element : A → E) (k : ℕ) where
     punctured-element-same none xs d s correction j =
         ap (λ a. choose (eqb s j) correction (element a)) (from-same k some f g same none xs d s j)
 
--- ---- two children: the halves
+-- ---- two children
 
 -- bit d of j
 abbrev pub bit : ℕ → ℕ → ℕ
@@ -316,20 +327,7 @@ two = omega arith
 pub bit-below : (d j : ℕ) → bit d j < 2
 bit-below d j = digit-below 2 two d j
 
-low-number : (p j : ℕ) → j ≡ 0 * p + j
-low-number p j = omega arith
-
-high-number : (p j : ℕ) → p + j ≡ 1 * p + j
-high-number p j = omega arith
-
 module _ {A : Type 0} (child : ℕ → A → A) where
-  -- the lower half of the leaves is the left child's, the upper half the right child's
-  pub leaf-low : (d : ℕ) (s : A) (j : ℕ) → j < 2 ^ d → leafAt 2 child (suc d) s j ≡ leafAt 2 child d (child 0 s) j
-  leaf-low d s j h = ap (leafAt 2 child (suc d) s) (low-number (2 ^ d) j) ∙ leaf-child 2 child two d s 0 j (omega arith) h
-
-  pub leaf-high : (d : ℕ) (s : A) (j : ℕ) → j < 2 ^ d → leafAt 2 child (suc d) s (2 ^ d + j) ≡ leafAt 2 child d (child 1 s) j
-  leaf-high d s j h = ap (leafAt 2 child (suc d) s) (high-number (2 ^ d) j) ∙ leaf-child 2 child two d s 1 j (omega arith) h
-
   others-two : (s : A) (c : ℕ) → c < 2 → others 2 child s c ≡ child (1 - c) s ∷ []
   unfolding others listed
   others-two s zero h = refl
@@ -345,25 +343,3 @@ module _ {A : Type 0} (child : ℕ → A → A) where
 
   pub length-siblings-two : (d : ℕ) (s : A) (j : ℕ) → length (siblings 2 child d s j) ≡ d
   length-siblings-two d s j = length-siblings 2 child two d s j ∙ mul-one d
-
-  -- both in one half: the rest of the siblings; in two halves: the other half's leaf from the first sibling
-  module _ (none x : A) (xs : List A) (d s j : ℕ) (hs : s < 2 ^ d) (hj : j < 2 ^ d) where
-    pub from-low : fromSiblings 2 child none (x ∷ xs) (suc d) s j ≡ fromSiblings 2 child none xs d s j
-    from-low =
-        ap₂ (fromSiblings 2 child none (x ∷ xs) (suc d)) (low-number (2 ^ d) s) (low-number (2 ^ d) j)
-        ∙ from-within 2 child two none (x ∷ xs) d s j hs hj 0 (omega arith)
-
-    pub from-high : fromSiblings 2 child none (x ∷ xs) (suc d) (2 ^ d + s) (2 ^ d + j) ≡ fromSiblings 2 child none xs d s j
-    from-high =
-        ap₂ (fromSiblings 2 child none (x ∷ xs) (suc d)) (high-number (2 ^ d) s) (high-number (2 ^ d) j)
-        ∙ from-within 2 child two none (x ∷ xs) d s j hs hj 1 (omega arith)
-
-    pub from-low-high : fromSiblings 2 child none (x ∷ xs) (suc d) s (2 ^ d + j) ≡ leafAt 2 child d x j
-    from-low-high =
-        ap₂ (fromSiblings 2 child none (x ∷ xs) (suc d)) (low-number (2 ^ d) s) (high-number (2 ^ d) j)
-        ∙ from-beside 2 child two none (x ∷ xs) d s j hs hj 0 1 (omega arith) (omega arith) (λ e. omega arith)
-
-    pub from-high-low : fromSiblings 2 child none (x ∷ xs) (suc d) (2 ^ d + s) j ≡ leafAt 2 child d x j
-    from-high-low =
-        ap₂ (fromSiblings 2 child none (x ∷ xs) (suc d)) (high-number (2 ^ d) s) (low-number (2 ^ d) j)
-        ∙ from-beside 2 child two none (x ∷ xs) d s j hs hj 1 0 (omega arith) (omega arith) (λ e. omega arith)

@@ -1,4 +1,4 @@
--- The laws of `tree`. Callers use Laws (any tree), Added, Blocks and ChildLaws; Bits has the inhabitant of a statement.
+-- The laws of `tree`. Callers use Laws (any tree), Added, Blocks, ChildLaws and Levels; Bits has the inhabitant of a statement.
 mod Paths
 pub mod Laws
 pub mod Bits
@@ -6,5 +6,9 @@ pub mod Added
 pub mod Blocks
 pub mod ChildLaws
 pub mod Listed
-mod Fill
+pub mod Levels
+mod Ranges
+mod Halves
+mod Elements
+mod Filled
 mod Walked

@@ -1,6 +1,7 @@
 -- The child function (document 01, 'Trees'), under AES-128, and under any family of round keys that is lent (document 02, 3).
-use mathlib.Core.List.{List}
-use Prim.Native.Nat.{ℕ, zero, suc}
+use mathlib.Core.List.{List, []}
+use Prim.Native.Nat.{ℕ}
+use lib.ListN.{getD}
 use Rattle.aes128.specs.State.{four, xorState}
 use Rattle.aes128.specs.Cipher.{cipher, aes}
 
@@ -12,10 +13,9 @@ childKey c = four (λ column. four (λ row. c))
 unfoldable pub child : ℕ → List (List ℕ) → List (List ℕ)
 child c s = xorState (aes (childKey c) s) s
 
--- the family of round keys by the child's number, of those lent for the left and for the right child
-abbrev pub keysFor : List (List (List ℕ)) → List (List (List ℕ)) → ℕ → List (List (List ℕ))
-keysFor left right zero = left
-keysFor left right (suc c) = right
+-- the family of round keys by the child's number, of those lent one after another
+abbrev pub keysFor : List (List (List (List ℕ))) → ℕ → List (List (List ℕ))
+keysFor keys c = getD keys c []
 
 -- child c of block s under a family of round keys: the cipher under the round keys of child c, exclusive-or s
 unfoldable pub childBy : (ℕ → List (List (List ℕ))) → ℕ → List (List ℕ) → List (List ℕ)

@@ -1,13 +1,14 @@
 -- Key schedules out of the node loop (document 02, 3). 'The walk is proved for any round keys it is lent': the contracts of
--- `walk`, `add_leaves_binary`, `add_leaves_prime`, `add_punctured_binary` and `add_punctured_prime` say `walked`, `leavesAdded` and
--- `puncturedAdded` (Expanded) with `childBy` the round keys lent, and ask nothing of those. 'Those of the child keys give the
--- trees as before': the record KeySchedules, for any number k of children.
+-- `walk`, `add_leaves` and `add_punctured` say `walked`, `leavesAdded` and `puncturedAdded` (Expanded) with `childBy` the round
+-- keys lent, and ask nothing of those. 'Those of the child keys give the trees as before': the record KeySchedules, for any
+-- number k of children.
 use mathlib.Core.Path.{_≡_}
-use mathlib.Core.List.{List}
+use mathlib.Core.List.{List, _++_}
 use Prim.Native.Nat.{ℕ, _<_}
 use Rattle.algebra.specs.Field.{Value}
 use Rattle.field.specs.Kind.{kindOf}
 use Rattle.aes128.specs.Cipher.{keyExpansion}
+use Rattle.tree.specs.Tree.{listed}
 use Rattle.tree.specs.Child.{childKey, child, keysFor, childBy}
 use Rattle.tree.specs.Expanded.{walked, leavesAdded, puncturedAdded}
 use Rattle.tree.specs.declared.punctured.Punctured.{Punctured}
@@ -17,9 +18,8 @@ abbrev pub OfChildKeys : ℕ → (ℕ → List (List (List ℕ))) → Type 0
 OfChildKeys k keys = (c : ℕ) → c < k → keys c ≡ keyExpansion (childKey c)
 
 pub record KeySchedules : Type 0 where
-  -- what the code makes and lends: the round keys of the left and of the right child's key
-  pub lent : (left right : List (List (List ℕ))) → left ≡ keyExpansion (childKey 0) → right ≡ keyExpansion (childKey 1)
-      → OfChildKeys 2 (keysFor left right)
+  -- the round keys of the child keys, lent one after another, are such a family; `child_keys` makes one of 2^g children
+  pub lent : (k : ℕ) (rest : List (List (List (List ℕ)))) → OfChildKeys k (keysFor (listed k (λ c. keyExpansion (childKey c)) ++ rest))
   -- child c under them is document 01's child c
   pub children : (k : ℕ) (keys : ℕ → List (List (List ℕ))) → OfChildKeys k keys
       → (c : ℕ) → c < k → (s : List (List ℕ)) → childBy keys c s ≡ child c s

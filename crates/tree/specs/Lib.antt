@@ -7,3 +7,4 @@ pub mod Columns
 pub mod Added
 pub mod Expanded
 pub mod KeySchedules
+pub mod Inner

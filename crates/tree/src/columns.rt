@@ -5,7 +5,7 @@ ghost use Prim.Native.Nat.{_+_, _≤_};
 ghost use lib.ListN.{length};
 ghost use lib.Seq.{sets};
 ghost use Rattle.field.specs.Bytes.{fourAt};
-ghost use Rattle.tree.specs.Columns.{columnsAt, columnsBytes};
+ghost use Rattle.tree.specs.Columns.{columnsAt, columnsBytes, blocksBytes};
 
 // The four bytes that begin at a place.
 fn four_at(bytes: &[u8], at: usize) -> [u8; 4]
@@ -54,4 +54,13 @@ pub fn put_columns(bytes: &mut [u8], at: usize, s: [[u8; 4]; 4])
 {
     put_pair(bytes, at, s[0], s[1]);
     put_pair(bytes, at + 8, s[2], s[3]);
+}
+
+// Writes the 32 bytes of two blocks from a place on.
+pub fn put_two(bytes: &mut [u8], at: usize, both: [[[u8; 4]; 4]; 2])
+    requires { ⌜ at + 32 ≤ length (now bytes) ⌝ }
+    ensures { λ _. ⌜ now (bytes .exit) ≡ sets (now (bytes .entry)) at (blocksBytes both) ⌝ }
+{
+    put_columns(bytes, at, both[0]);
+    put_columns(bytes, at + 16, both[1]);
 }

@@ -1,43 +1,164 @@
--- Inner: no promise cites this file. The input of one tree, and when it can be written at a place.
+-- Inner: no promise cites this file. What is written of a dealing's trees, and when it can be written at a place.
 use mathlib.Core.Path.{_≡_}
-use mathlib.Core.List.{List, []}
-use Prim.Native.Nat.{ℕ, _+_, _*_, _≤_, _<_}
-use lib.ListN.{length}
-use Rattle.aes128.specs.Cipher.{keyExpansion}
-use Rattle.record.specs.Writing.{writeNoise}
-use Rattle.record.specs.Inner.Lengths.{frontLength}
+use mathlib.Core.List.{List, [], _∷_, map}
+use mathlib.Core.Bool.{_||_}
+use Prim.Native.Nat.{ℕ, _-_, _*_, _/_, _^_, _≤_, _<_}
+use lib.Dec.{ltb, eqb}
+use lib.ListN.{length, getD}
+use Rattle.algebra.specs.Choice.{choose}
+use Rattle.algebra.specs.Expansion.{Rising, correction}
+use Rattle.answer.specs.declared.TwoLengths.{TwoLengths}
+use Rattle.field.specs.Kind.{kindOf}
+use Rattle.number.specs.Inner.Written.{Room}
+use Rattle.record.specs.Content.{NoiseTree}
+use Rattle.record.specs.Writing.{writeTree, writeTrees, writeNoise, writeScalar}
+use Rattle.record.specs.Inner.Heads.{scalarWith}
+use Rattle.record.specs.Inner.Rising.{RisesFrom}
+use Rattle.record.specs.Inner.Lengths.{Writable, frontBytes, headLength, noiseLength, scalarLength}
+use Rattle.record.specs.declared.Front.{Front}
 use Rattle.sbox.specs.Inner.Tables.{Tables}
-use Rattle.tree.specs.Child.{childKey}
+use Rattle.tree.specs.Child.{child, keysFor}
+use Rattle.tree.specs.Columns.{columnsBytes}
+use Rattle.tree.specs.KeySchedules.{OfChildKeys}
+use Rattle.tree.specs.Tree.{siblings, listed, leafAt}
 use Rattle.dealing.specs.Admitted.{Admitted}
-use Rattle.dealing.specs.Input.{Input, inputWith, position}
-use Rattle.dealing.specs.Parts.{noisePart}
+use Rattle.dealing.specs.Deal.{front}
+use Rattle.dealing.specs.Input.{Input, inputWith, wordsOf, fault}
+use Rattle.dealing.specs.Parts.{noiseTree, noisePart}
+use Rattle.dealing.specs.declared.noise.Planned.{Planned}
 
--- the tables and the round keys of both child keys
-pub record TablesAndKeys (sbox mix : List ℕ) (left right : List (List (List ℕ))) : Type 0 where
+-- the tables and the round keys of the child keys of 2^g children
+pub record TablesAndKeys (g : ℕ) (sbox mix : List ℕ) (keys : List (List (List (List ℕ)))) : Type 0 where
   pub tables : Tables sbox mix
-  pub left-keys : left ≡ keyExpansion (childKey 0)
-  pub right-keys : right ≡ keyExpansion (childKey 1)
+  pub child-keys : OfChildKeys (2 ^ g) (keysFor keys)
 
--- what a tree takes of a dealing's input
-abbrev pub treeInput : ℕ → ℕ → List ℕ → List ℕ → List ℕ → List ℕ → Input
-treeInput field depth roots positions values delta = inputWith field depth 0 0 0 roots positions values delta []
+-- the input of a head's numbers and the other parts
+abbrev pub inputFrom : Front → List ℕ → List ℕ → List ℕ → List ℕ → List ℕ → List ℕ → Input
+inputFrom f roots positions values delta codeKey label =
+    inputWith (f .field) (f .depth) (f .«branch_bits») (f .trees) (f .terms) (f .outputs) roots positions values delta codeKey label
 
--- how many bytes tree i takes
-abbrev pub treeLength : Input → ℕ → ℕ → ℕ
-treeLength I i base = frontLength (I .field) base (position I i) + 16 * I .depth
+-- the numbers of an input's head, which is written up to `body`
+abbrev pub frontFor : Input → ℕ → Front
+frontFor I body =
+    record {
+      field = I .field;
+      depth = I .depth;
+      «branch_bits» = I .branchBits;
+      trees = I .trees;
+      terms = I .terms;
+      outputs = I .outputs;
+      body = body;
+    }
 
--- tree i can be written at a place, after positions below `base`
-pub record Placed (I : Input) (i base at : ℕ) (out : List ℕ) : Type 0 where
-  pub depth : I .depth ≤ 16
-  pub root : 16 * i + 16 ≤ length (I .roots)
-  pub positions : i < length (I .positions)
-  pub values : i < length (I .values)
-  pub delta : length (I .delta) ≡ 16
-  pub rising : base ≤ position I i
-  pub below : position I i < 65536
-  pub room : at + treeLength I i base ≤ length out
+-- the answer of a refused call
+abbrev pub refusal : ℕ → TwoLengths
+refusal k = record { number = k; «first_written» = 0; «second_written» = 0 }
 
--- the input is admitted, and its noise record has room in a buffer
-pub record AdmittedWithRoom (I : Input) (out : List ℕ) : Type 0 where
+-- the answer of a call whose input has this first fault, whose records take so many bytes, and whose buffers have these lengths
+unfoldable pub answerFor : ℕ → ℕ → ℕ → ℕ → ℕ → TwoLengths
+answerFor number noise scalar noiseRoom scalarRoom =
+    choose (eqb number 0)
+    (choose (ltb noiseRoom noise || ltb scalarRoom scalar) (refusal 13) (record { number = 0; «first_written» = noise; «second_written» = scalar }))
+    (refusal number)
+
+-- the noise record of an admitted input can be written at the front of a buffer of this length
+pub record NoisePlaced (f : Front) (I : Input) (n : ℕ) : Type 0 where
+  pub writable : Writable f
   pub admitted : Admitted I
-  pub room : length (writeNoise (noisePart I)) ≤ length out
+  pub room : length (writeNoise (noisePart I)) ≤ n
+
+-- the scalar record of these can be written at the front of a buffer of this length
+pub record ScalarPlaced (f : Front) (codeKey label delta roots : List ℕ) (n : ℕ) : Type 0 where
+  pub writable : Writable f
+  pub key-bytes : length codeKey ≡ 16
+  pub label-bytes : length label ≡ 16
+  pub delta-bytes : length delta ≡ 16
+  pub root-bytes : length roots ≡ 16 * f .trees
+  pub room : length (writeScalar (scalarWith f codeKey label (wordsOf (f .field) delta) roots)) ≤ n
+
+-- the same after an answer with number 0
+pub record NoiseReady (r : TwoLengths) (f : Front) (I : Input) (n : ℕ) : Type 0 where
+  pub placed : r .number ≡ 0 → NoisePlaced f I n
+
+pub record ScalarReady (r : TwoLengths) (f : Front) (codeKey label delta roots : List ℕ) (n : ℕ) : Type 0 where
+  pub placed : r .number ≡ 0 → ScalarPlaced f codeKey label delta roots n
+
+-- a buffer after a call's answer: bytes over its front where the number is 0
+unfoldable pub writtenIf : ℕ → List ℕ → List ℕ → List ℕ
+writtenIf number bytes buffer = choose (eqb number 0) (front bytes buffer) buffer
+
+-- the answer to an input, for buffers of these lengths; the head's numbers say where its body begins
+pub record Answered (f : Front) (I : Input) (noiseRoom scalarRoom : ℕ) (r : TwoLengths) : Type 0 where
+  pub begins : f .body ≡ headLength (I .depth) (I .branchBits) (I .trees) (I .terms) (I .outputs)
+  pub answer : r ≡ answerFor (fault I) (noiseLength f (I .positions)) (scalarLength f) noiseRoom scalarRoom
+  pub noise : NoiseReady r f I noiseRoom
+  pub scalar : ScalarReady r f (I .codeKey) (I .label) (I .delta) (I .roots) scalarRoom
+
+-- the numbers of a head that can be written, and positions of so many trees at most that rise
+pub record Measured (f : Front) (positions : List ℕ) : Type 0 where
+  pub writable : Writable f
+  pub few : length positions ≤ 64
+  pub rising : RisesFrom (2 ^ f .depth) 0 positions
+
+-- the words of a tree's correction, from its leaf, its noise value and Δ
+unfoldable pub correctionWords : ℕ → List (List ℕ) → ℕ → List ℕ → List ℕ
+correctionWords field leaf value delta =
+    kindOf field .field .elements .words
+    (correction (kindOf field .field .scaled) (kindOf field .field .elements .read (wordsOf field delta) 0) (kindOf field .leaf leaf)
+    (kindOf field .field .noiseValues .read (value ∷ []) 0))
+
+-- tree i of these positions and noise values, after positions below `base`, at a place
+abbrev pub planned : Front → List ℕ → List ℕ → ℕ → ℕ → ℕ → Planned
+planned f positions values i base at =
+    record {
+      field = f .field;
+      depth = f .depth;
+      «branch_bits» = f .«branch_bits»;
+      position = getD positions i 0;
+      value = getD values i 0;
+      base = base;
+      at = at;
+    }
+
+-- a tree up to its siblings, from the leaf at its position
+unfoldable pub plannedBytes : Planned → List (List ℕ) → List ℕ → List ℕ
+plannedBytes t leaf delta = frontBytes (t .field) (t .position - t .base) (t .value) (correctionWords (t .field) leaf (t .value) delta)
+
+-- the tree of these numbers, this root and Δ
+abbrev pub treeOf : Planned → List (List ℕ) → List ℕ → NoiseTree
+treeOf t root delta =
+    record {
+      position = t .position;
+      value = t .value;
+      correction = correctionWords (t .field) (leafAt (2 ^ t .«branch_bits») child (t .depth / t .«branch_bits») root (t .position)) (t .value) delta;
+      siblings = map columnsBytes (siblings (2 ^ t .«branch_bits») child (t .depth / t .«branch_bits») root (t .position));
+    }
+
+-- a tree can be written at its place
+pub record Placed (t : Planned) (root : List (List ℕ)) (delta out : List ℕ) : Type 0 where
+  pub depth : t .depth ≤ 16
+  pub branch-least : 1 ≤ t .«branch_bits»
+  pub branch-most : t .«branch_bits» ≤ 3
+  pub scalar : length delta ≡ 16
+  pub rising : t .base ≤ t .position
+  pub below : t .position < 65536
+  pub room : Room out (t .at) (writeTree (t .field) (t .base) (treeOf t root delta))
+
+-- the trees of a noise record, one after the other
+abbrev pub treesBytes : Front → List ℕ → List ℕ → List ℕ → List ℕ → List ℕ
+treesBytes f roots positions values delta =
+    writeTrees (f .field) 0 (listed (f .trees) (noiseTree (inputFrom f roots positions values delta [] [])))
+
+-- the trees can be written after the head
+pub record TreesPlaced (f : Front) (roots positions values delta out : List ℕ) : Type 0 where
+  pub depth : f .depth ≤ 16
+  pub branch-least : 1 ≤ f .«branch_bits»
+  pub branch-most : f .«branch_bits» ≤ 3
+  pub trees : f .trees ≤ 64
+  pub root-bytes : length roots ≡ 16 * f .trees
+  pub position-count : length positions ≡ f .trees
+  pub value-count : length values ≡ f .trees
+  pub scalar : length delta ≡ 16
+  pub rising : Rising (f .trees) (λ i. getD positions i 0)
+  pub below : (i : ℕ) → i < f .trees → getD positions i 0 < 2 ^ f .depth
+  pub room : Room out (f .body) (treesBytes f roots positions values delta)

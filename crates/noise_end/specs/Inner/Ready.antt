@@ -3,23 +3,28 @@
 use mathlib.Core.Bool.{true}
 use mathlib.Core.Path.{_≡_}
 use mathlib.Core.List.{List, []}
-use Prim.Native.Nat.{ℕ, _+_, _*_, _^_, _≤_, _<_}
+use Prim.Native.Nat.{ℕ, _+_, _*_, _%_, _^_, _≤_, _<_}
 use lib.ListN.{length}
-use Rattle.aes128.specs.Cipher.{keyExpansion}
 use Rattle.field.specs.Kind.{elementWords}
 use Rattle.number.specs.Reading.{Whole, Refused, Step}
 use Rattle.number.specs.Inner.Known.{isWhole}
-use Rattle.record.specs.Content.{NoiseTree, NoisePart}
+use Rattle.record.specs.Content.{NoiseTree, NoisePart, siblingCount}
 use Rattle.record.specs.Reading.{readTree, readTrees, readNoise}
 use Rattle.record.specs.Inner.Answers.{headOf, treeOf}
 use Rattle.record.specs.declared.Front.{Front}
 use Rattle.record.specs.declared.Tree.{Tree}
-use Rattle.tree.specs.Child.{childKey}
+use Rattle.tree.specs.Child.{keysFor}
+use Rattle.tree.specs.Inner.Ranges.{IsBranch}
+use Rattle.tree.specs.KeySchedules.{OfChildKeys}
 use Rattle.rows.specs.Inner.Sizes.{Sizes}
+
+-- the siblings of a tree
+abbrev pub beside : Front → ℕ
+beside f = siblingCount (f .depth) (f .«branch_bits»)
 
 -- the trees of a record, which begin at the body
 unfoldable pub treesAt : List ℕ → Front → List NoiseTree
-treesAt s f = from (readTrees (f .field) (f .depth) (f .trees) 0 s (f .body))
+treesAt s f = from (readTrees (f .field) (f .depth) (beside f) (f .trees) 0 s (f .body))
   where
     from : Step (List NoiseTree) → List NoiseTree
     from (Whole z) = z .0
@@ -33,26 +38,28 @@ contentOf s f = record { head = headOf s f; trees = treesAt s f }
 pub record Ready (s : List ℕ) (f : Front) : Type 0 where
   pub read : readNoise s ≡ Whole (contentOf s f)
   pub sizes : Sizes s (headOf s f) (f .body)
-  pub known : isWhole (readTrees (f .field) (f .depth) (f .trees) 0 s (f .body)) ≡ true
+  pub known : isWhole (readTrees (f .field) (f .depth) (beside f) (f .trees) 0 s (f .body)) ≡ true
 
--- a tree that stands at a place, after positions below `base`
-pub record TreeRead (s : List ℕ) (f : Front) (place base : ℕ) (t : Tree) : Type 0 where
-  pub read : Whole (treeOf s (f .field) (f .depth) t, t .siblings + 16 * f .depth) ≡ readTree (f .field) (f .depth) base s place
+-- a tree with so many siblings that stands at a place, after positions below `base`
+pub record TreeRead (s : List ℕ) (f : Front) (n place base : ℕ) (t : Tree) : Type 0 where
+  pub read : Whole (treeOf s (f .field) n t, t .siblings + 16 * n) ≡ readTree (f .field) (f .depth) n base s place
   pub below : t .position < 2 ^ f .depth
   pub small : t .position < 65536
-  pub room : t .siblings + 16 * f .depth ≤ length s
-  pub fits : t .siblings + 16 * f .depth < 2 ^ 64
+  pub room : t .siblings + 16 * beside f ≤ length s
+  pub fits : t .siblings + 16 * n < 2 ^ 64
 
 -- a tree whose position is a leaf's and whose siblings lie in its record, and as many words as N elements take
 pub record TreeFits (f : Front) (t : Tree) (source v : ℕ) : Type 0 where
+  pub branch : IsBranch (f .«branch_bits»)
+  pub divides : f .depth % f .«branch_bits» ≡ 0
+  pub depth : f .depth ≤ 16
   pub whole : v ≡ 2 ^ f .depth * elementWords (f .field)
   pub below : t .position < 2 ^ f .depth
-  pub room : t .siblings + 16 * f .depth ≤ source
+  pub room : t .siblings + 16 * beside f ≤ source
 
 -- an accepted record, the round keys of the child keys, and as many words as N noise values and N elements take
-pub record TreesFit (s : List ℕ) (f : Front) (left right : List (List (List ℕ))) (noise v : ℕ) : Type 0 where
+pub record TreesFit (s : List ℕ) (f : Front) (keys : List (List (List (List ℕ)))) (noise v : ℕ) : Type 0 where
   pub ready : Ready s f
-  pub lefts : left ≡ keyExpansion (childKey 0)
-  pub rights : right ≡ keyExpansion (childKey 1)
+  pub own : OfChildKeys (2 ^ f .«branch_bits») (keysFor keys)
   pub noiseValues : noise ≡ 2 ^ f .depth
   pub whole : v ≡ 2 ^ f .depth * elementWords (f .field)

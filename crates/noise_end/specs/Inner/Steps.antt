@@ -1,28 +1,32 @@
 -- Inner: no promise cites this file. A punctured tree added, a window's outcome under round keys, and the number of its tests.
 use mathlib.Core.Bool.{_&&_, _||_, not}
-use mathlib.Core.List.{List}
-use Prim.Native.Nat.{ℕ, _*_, _^_}
+use mathlib.Core.List.{List, [], _∷_}
+use Prim.Native.Nat.{ℕ, _*_, _/_, _^_}
 use lib.Dec.{ltb, eqb}
 use Rattle.answer.specs.Numbers.{accepted, notElement}
 use Rattle.answer.specs.declared.TwoLengths.{TwoLengths}
 use Rattle.algebra.specs.Choice.{choose}
 use Rattle.code.specs.declared.Window.{Window}
 use Rattle.field.specs.Kind.{kindOf, elementWords}
-use Rattle.record.specs.Content.{elementOf}
 use Rattle.record.specs.declared.Front.{Front}
 use Rattle.record.specs.declared.Tree.{Tree}
 use Rattle.tree.specs.Child.{childBy, keysFor}
 use Rattle.tree.specs.Expanded.{puncturedAdded}
+use Rattle.tree.specs.declared.punctured.Punctured.{Punctured}
 use Rattle.rows.specs.declared.WindowRows.{WindowRows}
 use Rattle.rows.specs.Inner.Numbers.{testsNumber, wrongVector, pastOutputs, shortBuffer}
 use Rattle.rows.specs.Inner.Outputs.{ofNoise, windowOver}
 use Rattle.rows.specs.Inner.Testing.{elementsUsed}
 
+-- a tree by its levels
+abbrev pub puncturedOf : Front → Tree → Punctured
+puncturedOf f t = record { «branch_bits» = f .«branch_bits»; levels = f .depth / f .«branch_bits»; position = t .position; at = t .siblings }
+
 -- the words after the leaves of a punctured tree are added, under round keys
-unfoldable pub treeAdded : Front → List (List (List ℕ)) → List (List (List ℕ)) → List ℕ → Tree → List ℕ → List ℕ
-treeAdded f left right s t v =
-    puncturedAdded (kindOf (f .field)) 2 (childBy (keysFor left right)) (record { levels = f .depth; position = t .position; at = t .siblings }) s
-    (kindOf (f .field) .field .elements .read (elementOf (f .field) (t .low) (t .high)) 0) v
+unfoldable pub treeAdded : Front → List (List (List (List ℕ))) → List ℕ → Tree → List ℕ → List ℕ
+treeAdded f keys s t v =
+    puncturedAdded (kindOf (f .field)) (2 ^ f .«branch_bits») (childBy (keysFor keys)) (puncturedOf f t) s
+    (kindOf (f .field) .field .elements .read (t .low ∷ t .high ∷ []) 0) v
 
 -- the test 8, and the windows over the fronts of both buffers
 unfoldable pub outputsUnder : List (List (List ℕ)) → WindowRows → List ℕ → List ℕ → List ℕ → List ℕ → TwoLengths × List ℕ × List ℕ

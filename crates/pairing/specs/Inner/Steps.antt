@@ -27,11 +27,12 @@ verdictOf (finding.Checked n held) = Checked n held
 -- field and sizes all equal
 abbrev pub sameSizes : Front → Front → Bool
 sameSizes p q =
-    eqb (p .field) (q .field) && eqb (p .depth) (q .depth) && eqb (p .trees) (q .trees) && eqb (p .terms) (q .terms) && eqb (p .outputs) (q .outputs)
+    eqb (p .field) (q .field) && eqb (p .depth) (q .depth) && eqb (p .«branch_bits») (q .«branch_bits») && eqb (p .trees) (q .trees) && eqb (p .terms) (q .terms)
+    && eqb (p .outputs) (q .outputs)
 
--- a record whose code key lies before the body
+-- a record whose code key and label lie before the body
 pub record KeyIn (s : List ℕ) (f : Front) : Type 0 where
-  pub key : 16 ≤ f .body
+  pub key : 32 ≤ f .body
   pub room : f .body ≤ length s
 
 -- two records of one dealing of at most 1,024 leaves

@@ -5,6 +5,7 @@ use lib.Dec.{leb}
 use lib.ListN.{length, getD}
 use Rattle.number.specs.Reading.{Reading, Whole, Refused, Step, choose, part}
 use Rattle.record.specs.Content.{Head, NoiseTree, elementOf}
+use Rattle.record.specs.Inner.Heads.{headFrom}
 use Rattle.record.specs.declared.Front.{Front}
 use Rattle.record.specs.declared.Opened.{Opened}
 use Rattle.record.specs.declared.Opened.the-variants.{Accepted, Fault}
@@ -15,17 +16,9 @@ use Rattle.record.specs.Reading.{items, blockAt}
 unfoldable pub skipped : ℕ → List ℕ → ℕ → Step ℕ
 skipped count s at = choose (leb (at + count) (length s)) (Whole (at, at + count)) (Refused 10)
 
--- the head that its numbers give: the code key is the 16 bytes before the body
+-- the head that its numbers give: before the body stand the 16 bytes of the label, and before those the 16 of the code key
 abbrev pub headOf : List ℕ → Front → Head
-headOf s f =
-    record {
-      field = f .field;
-      depth = f .depth;
-      trees = f .trees;
-      terms = f .terms;
-      outputs = f .outputs;
-      codeKey = part s (f .body - 16) 16;
-    }
+headOf s f = headFrom f (part s (f .body - 32) 16) (part s (f .body - 16) 16)
 
 -- the head and the place of the body, or the number
 abbrev pub opened : List ℕ → Opened → Step Head
@@ -49,10 +42,10 @@ firstWord (Refused k) = Refused k
 
 -- the tree that its numbers give
 abbrev pub treeOf : List ℕ → ℕ → ℕ → Tree → NoiseTree
-treeOf s field depth k =
+treeOf s field beside k =
     record {
       position = k .position;
       value = k .value;
       correction = elementOf field (k .low) (k .high);
-      siblings = items blockAt 16 s (k .siblings) depth;
+      siblings = items blockAt 16 s (k .siblings) beside;
     }

@@ -1,9 +1,19 @@
--- Inner: no promise cites this file. The head of its parts.
+-- Inner: no promise cites this file. Heads and their numbers.
 use Prim.Native.Nat.{ℕ}
 use mathlib.Core.List.{List}
-use Rattle.record.specs.Content.{Head}
+use Rattle.record.specs.Content.{Head, ScalarPart}
+use Rattle.record.specs.Reading.{items, blockAt}
+use Rattle.record.specs.declared.Front.{Front}
 
--- the head of field, d, t, ℓ, n and code key
-abbrev pub headWith : ℕ → ℕ → ℕ → ℕ → ℕ → List ℕ → Head
-headWith field depth trees terms outputs codeKey =
-    record { field = field; depth = depth; trees = trees; terms = terms; outputs = outputs; codeKey = codeKey }
+-- the head of field, d, g, t, ℓ, n, code key and label
+abbrev pub headWith : ℕ → ℕ → ℕ → ℕ → ℕ → ℕ → List ℕ → List ℕ → Head
+headWith field depth branchBits trees terms outputs codeKey label =
+    record { field = field; depth = depth; branchBits = branchBits; trees = trees; terms = terms; outputs = outputs; codeKey = codeKey; label = label }
+
+-- the head of these numbers, a code key and a label
+abbrev pub headFrom : Front → List ℕ → List ℕ → Head
+headFrom f codeKey label = headWith (f .field) (f .depth) (f .«branch_bits») (f .trees) (f .terms) (f .outputs) codeKey label
+
+-- the scalar record of these, its roots one after the other
+abbrev pub scalarWith : Front → List ℕ → List ℕ → List ℕ → List ℕ → ScalarPart
+scalarWith f codeKey label delta roots = record { head = headFrom f codeKey label; delta = delta; roots = items blockAt 16 roots 0 (f .trees) }

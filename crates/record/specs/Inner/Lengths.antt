@@ -1,48 +1,63 @@
--- Inner: no promise cites this file. Heads that can be written, and the lengths of records from the sizes and positions alone.
-use Prim.Native.Nat.{ℕ, _+_, _-_, _*_, _<_}
-use mathlib.Core.List.{List, [], _∷_}
+-- Inner: no promise cites this file. Heads that can be written, and the lengths of records from their numbers and positions.
+use Prim.Native.Nat.{ℕ, _+_, _-_, _*_, _≤_, _<_}
+use mathlib.Core.List.{List, [], _∷_, _++_}
 use mathlib.Core.Path.{_≡_}
-use lib.Dec.{eqb}
-use lib.ListN.{length}
-use Rattle.number.specs.Inner.Answers.{numbers, numberLength}
-use Rattle.number.specs.Reading.{choose}
+use Rattle.number.specs.Inner.Answers.{numberLength}
+use Rattle.number.specs.Number.{writeNumber}
 use Rattle.field.specs.Kind.{elementWords}
-use Rattle.record.specs.Content.{Head}
-
--- a head that can be written: a byte, numbers of at most 3 bytes, a code key of 16 bytes
-pub record Writable (h : Head) : Type 0 where
-  pub field : h .field < 256
-  pub depth : h .depth < numbers
-  pub trees : h .trees < numbers
-  pub terms : h .terms < numbers
-  pub outputs : h .outputs < numbers
-  pub codeKey : length (h .codeKey) ≡ 16
+use Rattle.record.specs.Content.{siblingCount}
+use Rattle.record.specs.Writing.{writeValue, writeWords}
+use Rattle.record.specs.declared.Front.{Front}
 
 -- an element takes 16 bytes (field 1) or 8 (field 2)
 abbrev pub elementLength : ℕ → ℕ
 elementLength field = 8 * elementWords field
 
--- a noise value takes none or 8 bytes
-abbrev pub valueLength : ℕ → ℕ
-valueLength field = choose (eqb field 1) 0 8
+-- g, t, ℓ and n
+abbrev pub afterDepthBytes : Front → List ℕ
+afterDepthBytes f = writeNumber (f .«branch_bits») ++ (writeNumber (f .trees) ++ (writeNumber (f .terms) ++ writeNumber (f .outputs)))
 
--- the head
-unfoldable pub headLength : ℕ → ℕ → ℕ → ℕ → ℕ
-headLength depth trees terms outputs = 2 + (numberLength depth + (numberLength trees + (numberLength terms + (numberLength outputs + 16))))
+-- d, g, t, ℓ and n
+abbrev pub sizesBytes : Front → List ℕ
+sizesBytes f = writeNumber (f .depth) ++ afterDepthBytes f
 
--- a tree up to its siblings
-unfoldable pub frontLength : ℕ → ℕ → ℕ → ℕ
-frontLength field base position = numberLength (position - base) + (valueLength field + elementLength field)
+-- a tree up to its siblings: how far its position lies behind the one before, the noise value, the correction
+abbrev pub frontBytes : ℕ → ℕ → ℕ → List ℕ → List ℕ
+frontBytes field back value words = writeNumber back ++ (writeValue field value ++ writeWords words)
+
+-- the head: two bytes, d, g, t, ℓ, n, the code key and the label
+unfoldable pub headLength : ℕ → ℕ → ℕ → ℕ → ℕ → ℕ
+headLength depth branchBits trees terms outputs =
+    2 + (numberLength depth + numberLength branchBits + numberLength trees + (numberLength terms + numberLength outputs)) + 32
+
+-- the numbers of a head that can be written, and whose body begins after it
+pub record Writable (f : Front) : Type 0 where
+  pub field : f .field < 256
+  pub depth : f .depth ≤ 16
+  pub branch-least : 1 ≤ f .«branch_bits»
+  pub branch-most : f .«branch_bits» ≤ 3
+  pub trees : f .trees ≤ 64
+  pub terms : f .terms ≤ 32
+  pub outputs : f .outputs ≤ 32768
+  pub body : f .body ≡ headLength (f .depth) (f .«branch_bits») (f .trees) (f .terms) (f .outputs)
+
+-- a tree up to its siblings: the position, and in both fields 16 bytes for the noise value and the correction
+unfoldable pub frontLength : ℕ → ℕ → ℕ
+frontLength base position = numberLength (position - base) + 16
+
+-- a tree with its siblings
+unfoldable pub treeLength : Front → ℕ → ℕ → ℕ
+treeLength f base position = frontLength base position + 16 * siblingCount (f .depth) (f .«branch_bits»)
 
 -- trees at these positions
-unfoldable pub treesLength : ℕ → ℕ → ℕ → List ℕ → ℕ
-treesLength field depth base [] = 0
-treesLength field depth base (p ∷ ps) = frontLength field base p + 16 * depth + treesLength field depth (p + 1) ps
+unfoldable pub treesLength : Front → ℕ → List ℕ → ℕ
+treesLength f base [] = 0
+treesLength f base (p ∷ ps) = treeLength f base p + treesLength f (p + 1) ps
 
 -- the noise record
-unfoldable pub noiseLength : ℕ → ℕ → ℕ → ℕ → ℕ → List ℕ → ℕ
-noiseLength field depth trees terms outputs positions = headLength depth trees terms outputs + treesLength field depth 0 positions
+unfoldable pub noiseLength : Front → List ℕ → ℕ
+noiseLength f positions = f .body + treesLength f 0 positions
 
 -- the scalar record
-unfoldable pub scalarLength : ℕ → ℕ → ℕ → ℕ → ℕ → ℕ
-scalarLength field depth trees terms outputs = headLength depth trees terms outputs + (elementLength field + 16 * trees)
+unfoldable pub scalarLength : Front → ℕ
+scalarLength f = f .body + (elementLength (f .field) + 16 * f .trees)

@@ -10,11 +10,11 @@ RisesFrom all base [] = Unit {0}
 RisesFrom all base (p ∷ ps) = (base ≤ p) × (p < all) × RisesFrom all (p + 1) ps
 
 -- a tree after positions below `base`
-pub record TreeFrom (field depth base : ℕ) (t : NoiseTree) : Type 0 where
+pub record TreeFrom (field depth beside base : ℕ) (t : NoiseTree) : Type 0 where
   pub rising : base ≤ t .position
-  pub tree : AdmittedTree field depth t
+  pub tree : AdmittedTree field depth beside t
 
 -- trees one after the other, the first after positions below `base`
-unfoldable pub TreesFrom : ℕ → ℕ → ℕ → List NoiseTree → Type 0
-TreesFrom field depth base [] = Unit {0}
-TreesFrom field depth base (t ∷ ts) = TreeFrom field depth base t × TreesFrom field depth (t .position + 1) ts
+unfoldable pub TreesFrom : ℕ → ℕ → ℕ → ℕ → List NoiseTree → Type 0
+TreesFrom field depth beside base [] = Unit {0}
+TreesFrom field depth beside base (t ∷ ts) = TreeFrom field depth beside base t × TreesFrom field depth beside (t .position + 1) ts

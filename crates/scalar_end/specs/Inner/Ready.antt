@@ -9,8 +9,8 @@ use Rattle.record.specs.Content.{ScalarPart}
 use Rattle.record.specs.Reading.{items, blockAt, readScalar}
 use Rattle.record.specs.Inner.Answers.{headOf}
 use Rattle.record.specs.declared.Front.{Front}
-use Rattle.aes128.specs.Cipher.{keyExpansion}
-use Rattle.tree.specs.Child.{childKey}
+use Rattle.tree.specs.Child.{keysFor}
+use Rattle.tree.specs.KeySchedules.{OfChildKeys}
 use Rattle.rows.specs.Inner.Sizes.{Sizes}
 use Rattle.field.specs.Kind.{elementWords}
 
@@ -33,8 +33,7 @@ pub record Ready (s : List ℕ) (f : Front) : Type 0 where
   pub room : rootsAt f + 16 * f .trees ≤ length s
 
 -- such a record, the round keys of the child keys, and as many words as N elements take
-pub record TreesFit (s : List ℕ) (f : Front) (left right : List (List (List ℕ))) (words : ℕ) : Type 0 where
+pub record TreesFit (s : List ℕ) (f : Front) (keys : List (List (List (List ℕ)))) (words : ℕ) : Type 0 where
   pub ready : Ready s f
-  pub lefts : left ≡ keyExpansion (childKey 0)
-  pub rights : right ≡ keyExpansion (childKey 1)
+  pub own : OfChildKeys (2 ^ f .«branch_bits») (keysFor keys)
   pub whole : words ≡ 2 ^ f .depth * elementWords (f .field)

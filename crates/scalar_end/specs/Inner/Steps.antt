@@ -1,7 +1,7 @@
 -- Inner: no promise cites this file. A tree added, Δ from its place, and a window's outcome under round keys.
 use mathlib.Core.Bool.{not}
 use mathlib.Core.List.{List, [], _∷_}
-use Prim.Native.Nat.{ℕ, _+_, _*_}
+use Prim.Native.Nat.{ℕ, _+_, _*_, _/_, _^_}
 use lib.Dec.{eqb}
 use Rattle.answer.specs.Numbers.{accepted, notElement}
 use Rattle.answer.specs.declared.OneLength.{OneLength}
@@ -16,8 +16,9 @@ use Rattle.rows.specs.Inner.Outputs.{windowOver}
 use Rattle.rows.specs.Inner.Testing.{elementsUsed}
 
 -- the words after the leaves of the tree below a root are added, under round keys
-unfoldable pub treeAdded : Front → List (List (List ℕ)) → List (List (List ℕ)) → List (List ℕ) → List ℕ → List ℕ
-treeAdded f left right root w = leavesAdded (kindOf (f .field)) 2 (childBy (keysFor left right)) (f .depth) root w
+unfoldable pub treeAdded : Front → List (List (List (List ℕ))) → List (List ℕ) → List ℕ → List ℕ
+treeAdded f keys root w =
+    leavesAdded (kindOf (f .field)) (2 ^ f .«branch_bits») (childBy (keysFor keys)) (f .depth / f .«branch_bits») root w
 
 -- the two words of Δ, which begins at a place; in field 2 the second is 0
 unfoldable pub deltaAt : ℕ → List ℕ → ℕ → List ℕ

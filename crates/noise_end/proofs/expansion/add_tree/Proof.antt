@@ -1,6 +1,6 @@
--- `noise_end::expansion::add_tree` meets its contract, field by field. Assumes nothing.
+-- `noise_end::expansion::add_tree` meets its contract. Assumes nothing.
 use borrow.Author.Needs.{needs}
-use Rattle.noise_end.proofs.Trees.{size-binary, size-prime, added-binary, added-prime}
+use Rattle.noise_end.proofs.Trees.{tree-some, tree-punctured, tree-position, tree-words, tree-is}
 use Rattle.noise_end.proofs.expansion.add_tree.Statement.{statement}
 use Rattle.noise_end.proofs.expansion.add_tree.Tie as tie
 
@@ -8,10 +8,8 @@ pub add-tree-spec : {M : Type 1} → statement M
 add-tree-spec =
     tie.close
     (tie.spec
-    (λ c κs. (search needs, search size-binary, search needs, search needs))  -- add-punctured-binary-requires
-    (λ c κs. (search needs, search size-prime, search needs, search needs))  -- add-punctured-prime-requires
+    (λ c. search tree-some)  -- div-punctured
+    (λ c κs. (search needs, search tree-punctured, search tree-position, search tree-words))  -- add-punctured-requires
     (λ c. search needs)  -- same-length
-    (λ c. search added-binary)  -- returns
-    (λ c. search needs)  -- same-length-2
-    (λ c. search added-prime)  -- returns-2
+    (λ c. search tree-is)  -- returns
     )

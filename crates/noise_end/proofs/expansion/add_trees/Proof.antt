@@ -6,10 +6,10 @@ use Rattle.noise_end.proofs.expansion.add_trees.Statement.{statement}
 use Rattle.noise_end.proofs.expansion.add_trees.Tie as tie
 
 abbrev Inv-loop : tie.InvT-loop
-Inv-loop sbox mix left right source front noise₀ v₀ at₀ base₀ i₀ noise v at base i = Grown source front left right at base i noise v
+Inv-loop sbox mix keys source front noise₀ v₀ beside at₀ base₀ i₀ noise v at base i = Grown source front keys beside at base i noise v
 
 abbrev μ-loop : tie.MeasureT-loop
-μ-loop sbox mix left right source front noise₀ v₀ at₀ base₀ i₀ noise v at base i = front .trees - i
+μ-loop sbox mix keys source front noise₀ v₀ beside at₀ base₀ i₀ noise v at base i = front .trees - i
 
 pub add-trees-spec : {M : Type 1} → statement M
 add-trees-spec =
@@ -19,14 +19,15 @@ add-trees-spec =
     μ-loop
     (λ c κs. search needs)  -- zero-words-requires
     (λ c κs. search needs)  -- zero-words-requires-2
+    (λ c κs. search needs)  -- sibling-count-requires
     (λ c. search grown-none)  -- loop-holds
-    (λ c κs. (grown-asks _ _ (c .before .before .loop .inv) (c .if1 .taken), search needs))  -- tree-at-requires
+    (λ c κs. (grown-asks _ _ (c .before .before .loop .inv) (c .if1 .taken), search needs, search needs))  -- tree-at-requires
     (λ c. search needs)  -- mul-at
     (λ c. search needs)  -- add-at
     (λ c. search needs)  -- add-base
     (λ c. search needs)  -- mul-noise
     (λ c. search needs)  -- slice-write-noise
-    (λ c κs. search needs)  -- add-tree-requires
+    (λ c κs. (search needs, search needs))  -- add-tree-requires
     (λ c. search needs)  -- add-i
     (λ c. search needs)  -- loop-less
     (λ c. search grown-more)  -- loop-again

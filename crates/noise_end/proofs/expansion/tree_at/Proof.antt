@@ -10,5 +10,5 @@ tree-at-spec =
     tie.close
     (tie.spec
     (λ c κs. search needs)  -- known-tree-requires
-    (λ c. tree-read _ _ _ _ _ (search needs) (omega arith) (search needs))  -- returns
+    (λ c. tree-read _ _ _ _ _ _ (search needs) (search needs) (omega arith) (search needs))  -- returns
     )

@@ -1,6 +1,6 @@
 -- `pairing::heads::same_dealing` meets its contract. Assumes nothing.
 use borrow.Author.Needs.{needs}
-use Rattle.pairing.proofs.Same.{sizes-differ, key-left}
+use Rattle.pairing.proofs.Same.{sizes-differ, key-differs, label-left}
 use Rattle.pairing.proofs.heads.same_dealing.Statement.{statement}
 use Rattle.pairing.proofs.heads.same_dealing.Tie as tie
 
@@ -13,5 +13,9 @@ same-dealing-spec =
     (λ c κs. search needs)  -- code-key-at-requires
     (λ c κs. search needs)  -- code-key-at-requires-2
     (λ c κs. (search needs, search needs))  -- same-block-requires
-    (λ c. search key-left)  -- returns-2
+    (λ c. search key-differs)  -- returns-2
+    (λ c. search needs)  -- sub-same-block
+    (λ c. search needs)  -- sub-same-block-2
+    (λ c κs. (search needs, search needs))  -- same-block-requires-2
+    (λ c. search label-left)  -- returns-3
     )

@@ -3,15 +3,15 @@
 use borrow.Author.Needs.{needs}
 use Prim.Native.Nat.{_-_}
 use native.Mathlib.Omega.{arith}
-use Rattle.record.proofs.Records.{Turn, noise-refused, turn-start, turn-fault, turn-fits, turn-next, turn-after, turn-whole}
+use Rattle.record.proofs.Records.{Turn, noise-refused, deep, branch-some, branch-few, turn-start, turn-fault, turn-fits, turn-next, turn-after, turn-whole}
 use Rattle.record.proofs.noise.read_noise.Statement.{statement}
 use Rattle.record.proofs.noise.read_noise.Tie as tie
 
 abbrev Inv-loop : tie.InvT-loop
-Inv-loop source front field depth trees at₀ base₀ i₀ at base i = Turn source front at base i
+Inv-loop source front field depth beside trees at₀ base₀ i₀ at base i = Turn source front beside at base i
 
 abbrev μ-loop : tie.MeasureT-loop
-μ-loop source front field depth trees at₀ base₀ i₀ at base i = trees - i
+μ-loop source front field depth beside trees at₀ base₀ i₀ at base i = trees - i
 
 pub read-noise-spec : {M : Type 1} → statement M
 read-noise-spec =
@@ -23,6 +23,7 @@ read-noise-spec =
     (λ c. search needs)  -- enum-known-r
     (λ c. search needs)  -- enum-told
     (λ c. search noise-refused)  -- returns
+    (λ c κs. (search deep, search branch-some, search branch-few))  -- sibling-count-requires
     (λ c. search turn-start)  -- loop-holds
     (λ c κs. search needs)  -- read-tree-requires
     (λ c. search needs)  -- enum-known-t

@@ -1,5 +1,5 @@
 -- `record::writing::front_length` meets its contract. Assumes nothing.
-use Rattle.record.proofs.Writes.{number-fits, front-sum}
+use Rattle.record.proofs.Lengths.{number-fits, front-sum}
 use borrow.Author.Needs.{needs}
 use Rattle.record.proofs.writing.front_length.Statement.{statement}
 use Rattle.record.proofs.writing.front_length.Tie as tie

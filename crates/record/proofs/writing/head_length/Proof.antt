@@ -1,6 +1,6 @@
 -- `record::writing::head_length` meets its contract. Assumes nothing.
-use Rattle.record.proofs.Writes.{number-fits, sum-fits-3, sum-fits-2, sum-fits-1, sum-fits-0, head-sum}
 use borrow.Author.Needs.{needs}
+use Rattle.record.proofs.Lengths.{two-fit, three-fit, sizes-fit, two-sizes-fit, body-fits, head-sum}
 use Rattle.record.proofs.writing.head_length.Statement.{statement}
 use Rattle.record.proofs.writing.head_length.Tie as tie
 
@@ -10,12 +10,14 @@ head-length-spec =
     (tie.spec
     (λ c κs. search needs)  -- number-length-requires
     (λ c κs. search needs)  -- number-length-requires-2
+    (λ c. search two-fit)  -- add-first
     (λ c κs. search needs)  -- number-length-requires-3
+    (λ c. search three-fit)  -- add-first-2
     (λ c κs. search needs)  -- number-length-requires-4
-    (λ c. search number-fits)  -- add-result
-    (λ c. search sum-fits-3)  -- add-result-2
-    (λ c. search sum-fits-2)  -- add-result-3
-    (λ c. search sum-fits-1)  -- add-result-4
-    (λ c. search sum-fits-0)  -- add-result-5
+    (λ c κs. search needs)  -- number-length-requires-5
+    (λ c. search two-fit)  -- add-second
+    (λ c. search sizes-fit)  -- add-result
+    (λ c. search two-sizes-fit)  -- add-result-2
+    (λ c. search body-fits)  -- add-result-3
     (λ c. search head-sum)  -- returns
     )

@@ -1,18 +1,18 @@
 -- `record::writing::noise_length` meets its contract. The loop's invariant: the sum and what is left of the positions make the
 -- length. The measure is the positions left. Assumes nothing.
-use Rattle.record.proofs.Writes.{Sum, sum-start, sum-asks, sum-position, sum-fits-front, sum-fits-total, sum-next, sum-done}
-use borrow.Author.Needs.{needs}
 use Prim.Native.Nat.{_-_}
 use native.Mathlib.Omega.{arith}
+use borrow.Author.Needs.{needs}
 use lib.ListN.{length}
+use Rattle.record.proofs.Lengths.{Sum, sum-start, sum-asks, sum-position, sum-fits-total, sum-next, sum-done}
 use Rattle.record.proofs.writing.noise_length.Statement.{statement}
 use Rattle.record.proofs.writing.noise_length.Tie as tie
 
 abbrev Inv-loop : tie.InvT-loop
-Inv-loop field depth trees terms outputs positions total₀ base₀ i₀ total base i = Sum field depth trees terms outputs positions total base i
+Inv-loop front positions total₀ base₀ i₀ total base i = Sum front positions total base i
 
 abbrev μ-loop : tie.MeasureT-loop
-μ-loop field depth trees terms outputs positions total₀ base₀ i₀ total base i = length positions - i
+μ-loop front positions total₀ base₀ i₀ total base i = length positions - i
 
 pub noise-length-spec : {M : Type 1} → statement M
 noise-length-spec =
@@ -20,15 +20,12 @@ noise-length-spec =
     (tie.spec
     Inv-loop
     μ-loop
-    (λ c κs. search needs)  -- head-length-requires
     (λ c. search sum-start)  -- loop-holds
     (λ c. search needs)  -- mul-position
     (λ c. omega arith)  -- shared-slice-read-position
     (λ c. omega (arith, c .shared-slice-known2 .given (c .before .before .loop .i)))  -- cast-position
-    (λ c κs. search sum-asks)  -- front-length-requires
-    (λ c. omega arith)  -- mul-total
-    (λ c. search sum-fits-front)  -- add-total
-    (λ c. search sum-fits-total)  -- add-total-2
+    (λ c κs. (search needs, search sum-asks))  -- tree-length-requires
+    (λ c. search sum-fits-total)  -- add-total
     (λ c. search sum-position)  -- add-base
     (λ c. omega arith)  -- add-i
     (λ c. omega arith)  -- loop-less

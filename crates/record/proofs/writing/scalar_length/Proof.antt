@@ -1,6 +1,6 @@
 -- `record::writing::scalar_length` meets its contract. Assumes nothing.
-use Rattle.record.proofs.Writes.{scalar-sum-fits-1, scalar-sum-fits-2, scalar-sum}
 use borrow.Author.Needs.{needs}
+use Rattle.record.proofs.Lengths.{scalar-sum-fits-1, scalar-sum-fits-2, scalar-sum}
 use Rattle.record.proofs.writing.scalar_length.Statement.{statement}
 use Rattle.record.proofs.writing.scalar_length.Tie as tie
 
@@ -8,7 +8,6 @@ pub scalar-length-spec : {M : Type 1} → statement M
 scalar-length-spec =
     tie.close
     (tie.spec
-    (λ c κs. search needs)  -- head-length-requires
     (λ c κs. search needs)  -- element-length-requires
     (λ c. search needs)  -- mul-result
     (λ c. search scalar-sum-fits-1)  -- add-result

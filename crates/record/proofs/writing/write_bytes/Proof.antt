@@ -1,6 +1,6 @@
 -- `record::writing::write_bytes` meets its contract. The loop's invariant: the bytes passed are stored. The measure is the bytes
 -- left. Assumes nothing.
-use Rattle.record.proofs.Writes.{run-room, run-next, as-long, run-done}
+use Rattle.record.proofs.Writes.{run-room, run-place, run-fits, run-next, as-long, run-done}
 use Prim.Native.Nat.{_≤_, _-_}
 use native.Mathlib.Omega.{arith}
 use mathlib.Core.Path.{_≡_, refl}
@@ -24,11 +24,12 @@ write-bytes-spec =
     (λ c. (refl, omega arith))  -- loop-holds
     (λ c. omega arith)  -- add-buffer
     (λ c. omega arith)  -- shared-slice-read-buffer
-    (λ c. omega arith)  -- add-buffer-2
+    (λ c. search run-place)  -- add-buffer-2
     (λ c. search run-room)  -- slice-write-buffer
     (λ c. omega arith)  -- add-i
     (λ c. omega arith)  -- loop-less
     (λ c. (search run-next, omega arith))  -- loop-again
+    (λ c. search run-fits)  -- add-result
     (λ c. search as-long)  -- same-length
     (λ c. search run-done)  -- returns
     )

@@ -1,6 +1,7 @@
--- `scalar_end::expansion::add_tree` meets its contract, field by field. Assumes nothing.
+-- `scalar_end::expansion::add_tree` meets its contract. Assumes nothing.
 use borrow.Author.Needs.{needs}
-use Rattle.scalar_end.proofs.Trees.{size-binary, size-prime, added-binary, added-prime}
+use Rattle.rows.proofs.Sizes.{leaf-words}
+use Rattle.scalar_end.proofs.Trees.{tree-is}
 use Rattle.scalar_end.proofs.expansion.add_tree.Statement.{statement}
 use Rattle.scalar_end.proofs.expansion.add_tree.Tie as tie
 
@@ -8,10 +9,8 @@ pub add-tree-spec : {M : Type 1} → statement M
 add-tree-spec =
     tie.close
     (tie.spec
-    (λ c κs. (search needs, search size-binary))  -- add-leaves-binary-requires
-    (λ c κs. (search needs, search size-prime))  -- add-leaves-prime-requires
+    (λ c. search needs)  -- div-levels
+    (λ c κs. (search needs, search needs, search leaf-words))  -- add-leaves-requires
     (λ c. search needs)  -- same-length
-    (λ c. search added-binary)  -- returns
-    (λ c. search needs)  -- same-length-2
-    (λ c. search added-prime)  -- returns-2
+    (λ c. search tree-is)  -- returns
     )

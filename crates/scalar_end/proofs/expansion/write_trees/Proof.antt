@@ -9,8 +9,7 @@ write-trees-spec =
     (tie.spec
     (λ c κs. search needs)  -- table-requires
     (λ c κs. search needs)  -- mix-table-requires
-    (λ c κs. search needs)  -- left-keys-requires
-    (λ c κs. search needs)  -- right-keys-requires
+    (λ c κs. search needs)  -- child-keys-requires
     (λ c κs. search needs)  -- add-trees-requires
     (λ c. search needs)  -- same-length
     (λ c. search needs)  -- returns

@@ -1,54 +1,51 @@
--- `tree::leaf::walk` meets its contract: one level on from a node to the child that the position's bit names, past the other. The
+-- `tree::leaf::walk` meets its contract: one level on from a node to the child that the position's digit names, past the others. The
 -- measure is the levels left. Assumes nothing.
 use Prim.Native.Nat.{ℕ, _<_}
 use native.Mathlib.Omega.{arith}
 use borrow.Author.Needs.{needs}
 use borrow.Fn.Kinds.{In}
 use borrow.Fn.PlainCycle.{Measures, is, falls, and}
-use Rattle.tree.proofs.leaf.walk.Reads as walk
-use Rattle.tree.proofs.leaf.walk.Kinds as walk-kinds
-use Rattle.tree.proofs.leaf.+walk.Lts-walk as walk-lts
-use Rattle.tree.proofs.columns.put_columns.Reads as put-columns-reads
-use Rattle.tree.proofs.node.children.Reads as children-reads
-use Rattle.tree.proofs.Walked.{walked-leaf, walked-left, walked-right}
+use Rattle.tree.proofs.leaf.walk.Reads as reads
+use Rattle.tree.proofs.leaf.walk.Kinds as kinds
+use Rattle.tree.proofs.leaf.+walk.Lts-walk as lts
+use Rattle.tree.proofs.leaf.pass_level.Reads as pass-level-reads
+use Rattle.tree.proofs.range.power.Reads as power-reads
+use Rattle.tree.proofs.Ranges.{power-positive}
+use Rattle.tree.proofs.Walked.{walks, walked-leaf, walked-on}
 use Rattle.tree.proofs.leaf.+walk.{statement}
 use Rattle.tree.proofs.leaf.+walk.Tie.{close}
 
-abbrev μ-walk : Measures 5 walk-kinds.ps ℕ
-μ-walk κs a = a .1 .1 .1 .1 .1 .0 .levels
+abbrev μ : Measures 4 kinds.ps ℕ
+μ κs a = a .1 .1 .1 .1 .0 .levels
 
-abbrev walk-at : ℕ → In 5 walk-kinds.ps
-walk-at t = and 5 walk-kinds.ps (is 5 walk-kinds.ps μ-walk t) walk.Pre
+abbrev at : ℕ → In 4 kinds.ps
+at t = and 4 kinds.ps (is 4 kinds.ps μ t) reads.Pre
 
-abbrev walk-below : ℕ → In 5 walk-kinds.ps
-walk-below t = and 5 walk-kinds.ps (falls 5 walk-kinds.ps _<_ μ-walk t) walk.Pre
+abbrev below : ℕ → In 4 kinds.ps
+below t = and 4 kinds.ps (falls 4 kinds.ps _<_ μ t) reads.Pre
 
 pub +walk-spec : {M : Type 1} → statement M
-+walk-spec = close μ-walk λ t. walk-lts.spec (
-  children-reads.Asked,
-  children-reads.Learnt,
-  put-columns-reads.Asked,
-  put-columns-reads.Learnt,
-  walk-below t,
-  walk.Post,
++walk-spec = close μ λ t. lts.spec (
+  power-reads.Asked,
+  power-reads.Learnt,
+  pass-level-reads.Asked,
+  pass-level-reads.Learnt,
+  below t,
+  reads.Post,
 )
-    (walk-at t)
-    walk.Post
+    (at t)
+    reads.Post
     (λ c. search (needs, walked-leaf))  -- returns
-    (λ c κs. search needs)  -- children-requires
-    (λ c. search needs)  -- sub-bit
-    (λ c. search needs)  -- add-bit
-    (λ c. search needs)  -- sub-bit-2
-    (λ c. search needs)  -- shr-bit
-    (λ c. search needs)  -- array-copy-out-put-columns
-    (λ c κs. search needs)  -- put-columns-requires
-    (λ c. search needs)  -- array-copy-out-walk
-    (λ c κs. (omega arith, (search needs, omega arith, omega arith)))  -- walk-requires
-    (λ c. search needs)  -- array-copy-out-put-columns-2
-    (λ c κs. search needs)  -- put-columns-requires-2
-    (λ c. search needs)  -- array-copy-out-walk-2
-    (λ c κs. (omega arith, (search needs, omega arith, omega arith)))  -- walk-requires-2
+    (λ c κs. search walks)  -- power-requires
+    (λ c. search needs)  -- sub-digit
+    (λ c. search walks)  -- mul-digit
+    (λ c. search walks)  -- shr-digit
+    (λ c. search power-positive)  -- rem-digit
+    (λ c κs. (search needs, search walks))  -- pass-level-requires
+    (λ c. search needs)  -- sub-t16
+    (λ c. search power-positive)  -- sub-t18
+    (λ c. search walks)  -- mul-t17
+    (λ c. search walks)  -- add-t21
+    (λ c κs. (omega arith, (search needs, search walks)))  -- walk-requires
     (λ c. search needs)  -- same-length
-    (λ c. search (needs, walked-left))  -- returns-2
-    (λ c. search needs)  -- same-length-2
-    (λ c. search (needs, walked-right))  -- returns-3
+    (λ c. search walked-on)  -- returns-2

@@ -10,7 +10,12 @@ unfolding childBy
 children-spec =
     tie.close
     (tie.spec
+    (λ c. search needs)  -- mul-encrypt-xor
+    (λ c. search needs)  -- index-1-encrypt-xor
     (λ c κs. search needs)  -- encrypt-xor-requires
+    (λ c. search needs)  -- add-encrypt-xor
+    (λ c. search needs)  -- mul-encrypt-xor-2
+    (λ c. search needs)  -- index-1-encrypt-xor-2
     (λ c κs. search needs)  -- encrypt-xor-requires-2
     (λ c. two-eq (search needs) (search needs))  -- returns
     )

@@ -1,0 +1,13 @@
+-- A tree of depth d with 2^g children a node has d / g levels, where g divides d (document 02, 10): its leaves are the 2^d of
+-- its depth.
+use mathlib.Core.Path.{_≡_, ap, _∙_}
+use Prim.Native.Nat.{ℕ, _/_, _%_, _*_, _^_}
+use native.Mathlib.Nat.{div-add-mod'}
+use native.Mathlib.Omega.{arith}
+use Rattle.tree.proofs.Ranges.{power-of-power}
+
+pub whole-levels : (g d : ℕ) → d % g ≡ 0 → d / g * g ≡ d
+whole-levels g d divides = omega (arith, div-add-mod' d g)
+
+pub level-leaves : (g d : ℕ) → d % g ≡ 0 → (2 ^ g) ^ (d / g) ≡ 2 ^ d
+level-leaves g d divides = power-of-power g (d / g) ∙ ap (λ n. 2 ^ n) (whole-levels g d divides)

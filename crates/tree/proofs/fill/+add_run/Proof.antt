@@ -1,0 +1,63 @@
+-- `tree::fill::add_run` meets its contract: the two halves of the buffer by half as many siblings each, one sibling as a tree. The
+-- measure is what is left of the depth. Assumes nothing.
+use Prim.Native.Nat.{ℕ, _<_}
+use borrow.Author.Needs.{needs}
+use borrow.Fn.Kinds.{In}
+use borrow.Fn.PlainCycle.{Measures, is, falls, and}
+use Rattle.tree.proofs.fill.add_run.Reads as reads
+use Rattle.tree.proofs.fill.add_run.Kinds as kinds
+use Rattle.tree.proofs.fill.+add_run.Lts-add_run as lts
+use Rattle.tree.proofs.columns.columns_at.Reads as columns-at-reads
+use Rattle.tree.proofs.fill.add_range.Reads as add-range-reads
+use Rattle.tree.proofs.range.power.Reads as power-reads
+use Rattle.tree.specs.Inner.Ranges.{leftOf}
+use Rattle.tree.proofs.Halves.{front-count}
+use Rattle.tree.proofs.Ranges.{sibling-room, sibling-range, run-few, run-fits, front-run, back-run}
+use Rattle.tree.proofs.Filled.{sibling-length, run-falls, run-half-front, run-half-back, filled-sibling, filled-runs}
+use Rattle.tree.proofs.fill.+add_run.{statement}
+use Rattle.tree.proofs.fill.+add_run.Tie.{close}
+
+abbrev μ : Measures 5 kinds.ps ℕ
+μ κs a = leftOf (a .1 .1 .1 .1 .0)
+
+abbrev at : ℕ → In 5 kinds.ps
+at t = and 5 kinds.ps (is 5 kinds.ps μ t) reads.Pre
+
+abbrev below : ℕ → In 5 kinds.ps
+below t = and 5 kinds.ps (falls 5 kinds.ps _<_ μ t) reads.Pre
+
+pub +add-run-spec : {M : Type 1} → statement M
++add-run-spec = close μ λ t. lts.spec (
+  columns-at-reads.Asked,
+  columns-at-reads.Learnt,
+  add-range-reads.Asked,
+  add-range-reads.Learnt,
+  power-reads.Asked,
+  power-reads.Learnt,
+  below t,
+  reads.Post,
+)
+    (at t)
+    reads.Post
+    (λ c. search needs)  -- mul-columns-at
+    (λ c. search needs)  -- add-columns-at
+    (λ c κs. search sibling-room)  -- columns-at-requires
+    (λ c. search needs)  -- sub-t19
+    (λ c κs. (search needs, search sibling-range, search sibling-length))  -- add-range-requires
+    (λ c. search needs)  -- sub-mid
+    (λ c. search needs)  -- sub-mid-2
+    (λ c. search needs)  -- sub-power
+    (λ c κs. search run-few)  -- power-requires
+    (λ c. search run-fits)  -- add-add-run
+    (λ c. search needs)  -- slice-relend-prefix-add-run
+    (λ c. search front-count)  -- slice-aggregate-add-run
+    (λ c κs. (search run-falls, (search needs, search front-run, search run-half-front)))  -- add-run-requires
+    (λ c. search needs)  -- mul-add-run
+    (λ c. search needs)  -- sub-add-run
+    (λ c. search needs)  -- part-add-run-start
+    (λ c. search needs)  -- part-add-run-end
+    (λ c κs. (search run-falls, (search needs, search back-run, search run-half-back)))  -- add-run-requires-2
+    (λ c. search needs)  -- same-length
+    (λ c. search filled-sibling)  -- returns
+    (λ c. search needs)  -- same-length-2
+    (λ c. search filled-runs)  -- returns-2
