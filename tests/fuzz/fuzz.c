@@ -425,6 +425,60 @@ static void deal(void)
            r.first, r.second);
 }
 
+/* ---- A record's sizes ---- */
+
+/* The number at a place of an accepted record; the place moves past it. */
+static size_t number_at(const uint8_t *source, size_t *place)
+{
+    size_t x = 0;
+    for (int shift = 0;; shift += 7) {
+        x |= (size_t)(source[*place] & 0x7f) << shift;
+        if (source[(*place)++] < 0x80)
+            return x;
+    }
+}
+
+/* What is to be said of a record: its end's number, where a refusal for want of room stands for an
+ * accepted record, and the numbers of an accepted one's head. */
+static struct expander_described described(const uint8_t *source, size_t len)
+{
+    struct expander_described r;
+    uint64_t none[1];
+    size_t place = 2;
+    memset(&r, 0, sizeof r);
+    r.number = len == 0 ? EXPANDER_RECORD_ENDS
+               : source[0] == 1 ? plain_noise_offline(source, len, none, 0, none, 0).number
+               : source[0] == 2 ? plain_scalar_offline(source, len, none, 0, none, 0).number
+                                : EXPANDER_WRONG_END;
+    if (r.number != EXPANDER_BUFFER_SHORT)
+        return r;
+    r.number = EXPANDER_ACCEPTED;
+    r.end = source[0];
+    r.field = source[1];
+    r.depth = number_at(source, &place);
+    r.branch_bits = number_at(source, &place);
+    r.trees = number_at(source, &place);
+    r.terms = number_at(source, &place);
+    r.outputs = number_at(source, &place);
+    r.leaves = (size_t)1 << r.depth;
+    r.element_words = r.field == EXPANDER_BINARY ? 2 : 1;
+    return r;
+}
+
+static void describe(void)
+{
+    int end = make_source(byte() % 2);
+    struct expander_described a, b;
+    lend(0, record[end], record_len[end], 1);
+    a = described(PLAIN(0, uint8_t), record_len[end]);
+    b = expander_describe(LIBRARY(0, uint8_t), record_len[end]);
+    settle(a.number == b.number && a.end == b.end && a.field == b.field && a.depth == b.depth
+               && a.branch_bits == b.branch_bits && a.trees == b.trees && a.terms == b.terms
+               && a.outputs == b.outputs && a.leaves == b.leaves
+               && a.element_words == b.element_words,
+           a.number, 1, 0, 0, 0);
+}
+
 /* ---- Offline and online ---- */
 
 static size_t leaves(void)
@@ -905,6 +959,7 @@ static const struct job {
     const char *name;
     void (*run)(void);
 } jobs[] = {{"deal", deal},
+            {"describe", describe},
             {"noise_offline", noise_offline},
             {"scalar_offline", scalar_offline},
             {"noise_online", noise_online},
