@@ -1,6 +1,9 @@
-/* Chained AES-128 blocks: the proved cipher, a T-table AES, and OpenSSL's CBC over zeros, which is the same chain. */
+/* Chained AES-128 blocks: the proved cipher, a T-table AES, and, with OPENSSL defined, OpenSSL's CBC over zeros, which is the
+ * same chain. */
 #define _POSIX_C_SOURCE 200112L
+#ifdef OPENSSL
 #include <openssl/evp.h>
+#endif
 #include <stdint.h>
 #include <stdio.h>
 #include <stdlib.h>
@@ -88,6 +91,7 @@ static uint32_t table_chain(uint8_t x, uint64_t n) {
 }
 
 /* ---- OpenSSL: CBC over zeros from the block as IV */
+#ifdef OPENSSL
 #define PART 65536
 static uint8_t zeros[PART], out[PART + 16];
 
@@ -107,6 +111,7 @@ static uint32_t openssl_chain(uint8_t x, uint64_t n) {
     EVP_CIPHER_CTX_free(ctx);
     return load(s);
 }
+#endif
 
 static double seconds(uint32_t (*chain)(uint8_t, uint64_t), uint8_t x, uint64_t n, uint32_t *result) {
     struct timespec a, b;
@@ -116,25 +121,38 @@ static double seconds(uint32_t (*chain)(uint8_t, uint64_t), uint8_t x, uint64_t 
     return (double)(b.tv_sec - a.tv_sec) + 1e-9 * (double)(b.tv_nsec - a.tv_nsec);
 }
 
+static const struct {
+    uint32_t (*chain)(uint8_t, uint64_t);
+    const char *name; /* NULL: the second argument */
+} ciphers[] = {
+    {table_chain, "T-table AES in C"},
+    {cipher_chain, "proved cipher"},
+#ifdef OPENSSL
+    {openssl_chain, NULL},
+#endif
+};
+
+enum { CIPHERS = sizeof ciphers / sizeof *ciphers };
+
 int main(int argc, char **argv) {
-    uint32_t (*const chains[3])(uint8_t, uint64_t) = {table_chain, cipher_chain, openssl_chain};
-    const char *names[3] = {"T-table AES in C", "proved cipher", argc > 2 ? argv[2] : "OpenSSL"};
     uint64_t n = argc > 1 ? strtoull(argv[1], NULL, 10) : 200000;
-    double best[3] = {1e9, 1e9, 1e9};
+    double best[CIPHERS];
     tables();
-    /* the three take turns, and the best of 25 turns counts, in processor time */
+    /* they take turns, and the best of 25 turns counts, in processor time */
     for (int turn = 0; turn < 25; turn++) {
-        uint32_t r[3];
-        for (int i = 0; i < 3; i++) {
-            double t = seconds(chains[i], (uint8_t)(turn * 29 + 3), n, &r[i]);
-            if (t < best[i]) best[i] = t;
-        }
-        if (r[0] != r[1] || r[0] != r[2]) {
-            printf("the chains differ\n");
-            return 1;
+        uint32_t r[CIPHERS];
+        for (int i = 0; i < CIPHERS; i++) {
+            double t = seconds(ciphers[i].chain, (uint8_t)(turn * 29 + 3), n, &r[i]);
+            if (turn == 0 || t < best[i]) best[i] = t;
+            if (r[i] != r[0]) {
+                printf("the chains differ\n");
+                return 1;
+            }
         }
     }
-    for (int i = 0; i < 3; i++)
-        printf("%-30s %7.1f ns a block, %5.2f of the T-table AES\n", names[i], best[i] / (double)n * 1e9, best[i] / best[0]);
+    for (int i = 0; i < CIPHERS; i++)
+        printf("%-30s %7.1f ns a block, %5.2f of the T-table AES\n",
+               ciphers[i].name != NULL ? ciphers[i].name : argc > 2 ? argv[2] : "OpenSSL", best[i] / (double)n * 1e9,
+               best[i] / best[0]);
     return 0;
 }
