@@ -12,9 +12,9 @@ struct bids {
     unsigned quantity[SIDES][LEVELS];
 };
 
-/* Reads a bid file: eight lines `level buy sell`, levels 1 to 8 in order, quantities 0 to 255, never
- * more bought and never less sold than at the level before. Empty lines and lines that begin with #
- * are passed over. Stops at anything else, and names the line. */
+/* Reads a bid file: eight lines `level buy sell`, levels 1 to 8 in order, quantities 0 to 255,
+ * never more bought and never less sold than at the level before. Empty lines and lines that begin
+ * with # are passed over. Stops at anything else, and names the line. */
 void read_bids(const char *path, struct bids *bids);
 
 #endif

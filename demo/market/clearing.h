@@ -20,7 +20,7 @@ enum {
     CLEARING_OUTPUTS = LEVEL_BITS + TOTAL_BITS
 };
 
-/* What an auction finds: a price level, or 0 where supply meets demand at none, and the quantity. */
+/* What an auction finds: a price level, 0 if supply meets demand at none, and the quantity. */
 struct clearing {
     unsigned level, quantity;
 };

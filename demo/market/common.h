@@ -45,10 +45,10 @@ struct channel {
 
 enum transfer { TRANSFER_DONE, TRANSFER_CLOSED, TRANSFER_SILENT };
 
-/* All `len` bytes, or that the far end is closed, or that it did nothing for the channel's seconds. */
+/* Receives all `len` bytes, unless the far end is closed or does nothing for so many seconds. */
 enum transfer try_receive(struct channel *channel, void *bytes, size_t len);
 
-/* As above, but stop where the bytes do not go through. */
+/* Receives or sends all `len` bytes; stops, and names the far end, where they do not go through. */
 void receive(struct channel *channel, void *bytes, size_t len);
 void transmit(struct channel *channel, const void *bytes, size_t len);
 

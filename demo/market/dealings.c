@@ -125,8 +125,8 @@ void pass_stocks(struct dealings *dealings, const struct dealings *before)
     pass_stock(&dealings->as_scalar, &before->as_scalar);
 }
 
-/* A task's next outputs of a dealing. Both houses hold the same stock and draw in the same order, so
- * they draw the same indices. */
+/* A task's next outputs of a dealing. Both houses hold the same stock and draw in the same order,
+ * so they draw the same indices. */
 static size_t draw(struct part *part, enum task task, size_t count)
 {
     struct expander_drawn drawn = expander_draw(part->stock, part->label, task, count);
@@ -200,8 +200,8 @@ void draw_triples(struct dealings *dealings, enum task task, size_t count, uint8
     scalar_pads(&dealings->as_scalar, draw(&dealings->as_scalar, task, count), count, messages,
                 report);
     start = milliseconds();
-    expect_accepted(expander_triples(choices, count, pads, 16 * count, messages, 32 * count, triples,
-                                     3 * count).number,
+    expect_accepted(expander_triples(choices, count, pads, 16 * count, messages, 32 * count,
+                                     triples, 3 * count).number,
                     "the triples are");
     report->ms[TRIPLES] += milliseconds() - start;
     free(choices);

@@ -8,8 +8,8 @@
 #include "expander.h"
 #include "report.h"
 
-/* The part in one dealing: the record and what it says, the stock of the dealing's outputs, and what
- * the offline call makes of the record. */
+/* The part in one dealing: the record and what it says, the stock of the dealing's outputs, and
+ * what the offline call makes of the record. */
 struct part {
     uint8_t *record;
     size_t record_len;

@@ -27,8 +27,8 @@ struct house {
 static void set_up(struct house *house, unsigned role, int far_fd, unsigned seconds,
                    unsigned seasons)
 {
-    house->role = (uint8_t)role; /* North is the noise end of the first dealing: EXPANDER_ROLE_NOISE */
-    house->own = role - 1;
+    house->role = (uint8_t)role;
+    house->own = role == EXPANDER_ROLE_NOISE ? 0 : 1; /* North is the first dealing's noise end */
     house->other = 1 - house->own;
     house->seasons = seasons;
     house->dealer = (struct channel){STDIN_FILENO, "the dealer", seconds, 0, 0};
@@ -70,8 +70,8 @@ static void draw_all_triples(const struct house *house, struct dealings *dealing
     }
 }
 
-/* Shares the inputs: of each of its own bits a house sends a random mask and keeps the masked bit, so
- * that neither share alone says anything of the bit. */
+/* Shares the inputs: of each of its own bits a house sends a random mask and keeps the masked bit,
+ * so that neither share alone says anything of the bit. */
 static void share_inputs(struct house *house, const struct bids *bids,
                          uint8_t shares[CLEARING_INPUTS])
 {
@@ -97,20 +97,19 @@ static void share_inputs(struct house *house, const struct bids *bids,
 static unsigned run_circuit(struct house *house, const uint8_t shares[CLEARING_INPUTS],
                             const uint8_t *triples, uint8_t output[CLEARING_OUTPUTS])
 {
-    static struct expander_stepped last;
-    struct expander_run fresh = {0, 0, {0}};
-    uint8_t far_bits[2] = {0, 0};
-    unsigned steps = 0;
-    last.state = fresh;
-    for (;;) {
-        last = expander_circuit_step(house->role, house->circuit_bytes, house->circuit_len, shares,
-                                     CLEARING_INPUTS, triples, 3 * house->circuit.ands, output,
-                                     CLEARING_OUTPUTS, far_bits[0], far_bits[1], last.state);
-        expect_accepted(last.number, "a step of the circuit is");
-        steps++;
-        if (last.state.phase == EXPANDER_RUN_FINISHED)
+    struct expander_run state = {EXPANDER_RUN_FRESH, 0, {0}};
+    uint8_t bits[2], far_bits[2] = {0, 0};
+    for (unsigned steps = 1;; steps++) {
+        struct expander_stepped stepped = expander_circuit_step(
+            house->role, house->circuit_bytes, house->circuit_len, shares, CLEARING_INPUTS, triples,
+            3 * house->circuit.ands, output, CLEARING_OUTPUTS, far_bits[0], far_bits[1], state);
+        expect_accepted(stepped.number, "a step of the circuit is");
+        state = stepped.state;
+        if (state.phase == EXPANDER_RUN_FINISHED)
             return steps;
-        transmit(&house->far, (uint8_t[]){last.first_bit, last.second_bit}, 2);
+        bits[0] = stepped.first_bit;
+        bits[1] = stepped.second_bit;
+        transmit(&house->far, bits, 2);
         receive(&house->far, far_bits, 2);
     }
 }

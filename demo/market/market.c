@@ -4,8 +4,8 @@
  *   market PROGRAMS BIDS SECONDS DEPTH BRANCH_BITS TREES TERMS OUTPUTS
  *
  * PROGRAMS is the folder of the programs dealer and house. BIDS has the files spring/north.bids,
- * spring/south.bids, autumn/north.bids and autumn/south.bids. SECONDS is how long the processes wait
- * for each other; the harness waits twice as long for them. The rest are the dealings' sizes.
+ * spring/south.bids, autumn/north.bids and autumn/south.bids. SECONDS is how long the processes
+ * wait for each other; the harness waits twice as long for them. The rest are the dealings' sizes.
  * Ends with status 0 if in both seasons both houses find what the plain computation gives.
  */
 #define _POSIX_C_SOURCE 200809L
@@ -159,7 +159,7 @@ static pid_t start_dealer(struct market *market, unsigned label)
     return id;
 }
 
-/* Waits for a process, and ends it if that takes too long. Returns whether it ended with status 0. */
+/* Waits for a process, and ends it if that takes too long. Returns whether it gave status 0. */
 static int ended_well(const struct market *market, pid_t id)
 {
     const struct timespec moment = {0, 2000000};
@@ -275,8 +275,8 @@ static void show_times_and_stock(const struct report reports[HOUSES])
     printf("\n");
 }
 
-/* What comes of an auction, the worse the later: both houses found what the plain computation gives,
- * one found something else, or one ended before it found anything. */
+/* What comes of an auction, the worst last: both houses found what the plain computation gives, one
+ * found something else, or one ended before it found anything. */
 enum outcome { AGREED, DIFFERED, NO_PRICE };
 
 static int same(const struct clearing *a, const struct clearing *b)
@@ -363,8 +363,9 @@ int main(int argc, char **argv)
     market.sizes = argv + 4;
 
     printf("\n  TWO HOUSES, ONE PRICE\n\n"
-           "  Neither house sees the other's bids. The curves are both houses' together, added up\n"
-           "  for this screen alone. Dealings: d = %s, g = %s, t = %s, l = %s, n = %s.\n\n",
+           "  Neither house sees the other's bids. The curves are both houses' together,\n"
+           "  added up for this screen alone.\n\n"
+           "  Dealings of field 1: d = %s, g = %s, t = %s, l = %s, n = %s\n\n",
            argv[4], argv[5], argv[6], argv[7], argv[8]);
     open_connections(&market);
     start_houses(&market);

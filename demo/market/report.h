@@ -6,8 +6,8 @@
 
 #include <stdio.h>
 
-/* The phases whose time is told. CIRCUIT has the sharing of inputs and the opening of outputs in it,
- * so it has all the waiting for the other house. */
+/* The phases whose time is told. CIRCUIT has the sharing of inputs and the opening of outputs in
+ * it, so it has the waiting for the other house. */
 enum phase { OFFLINE, ONLINE, PADS, TRIPLES, CIRCUIT, PHASES };
 
 struct report {
