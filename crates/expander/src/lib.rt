@@ -11,6 +11,7 @@ ghost use Rattle.scalar_end.specs.Online as scalarOnline;
 mod and_triples;
 mod chosen_messages;
 mod circuits;
+mod record_heads;
 mod signed_amounts;
 mod stocks;
 

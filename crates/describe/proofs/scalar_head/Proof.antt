@@ -1,0 +1,19 @@
+-- `describe::scalar_head` meets its contract: the number of the record's fault, or the head that was read. Assumes nothing.
+use borrow.Author.Needs.{needs}
+use Rattle.describe.proofs.Returns.{scalar-fault, scalar-depth, scalar-field, scalar-accepted}
+use Rattle.describe.proofs.scalar_head.Statement.{statement}
+use Rattle.describe.proofs.scalar_head.Tie as tie
+
+pub scalar-head-spec : {M : Type 1} → statement M
+scalar-head-spec =
+    tie.close
+    (tie.spec
+    (λ c κs. search needs)  -- read-scalar-requires
+    (λ c. search needs)  -- enum-known-r
+    (λ c. search needs)  -- enum-told
+    (λ c κs. search needs)  -- fault-of-requires
+    (λ c κs. search needs)  -- refusal-requires
+    (λ c. search scalar-fault)  -- returns
+    (λ c κs. (search scalar-depth, search scalar-field))  -- head-requires
+    (λ c. search scalar-accepted)  -- returns-2
+    )

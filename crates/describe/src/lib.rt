@@ -1,0 +1,106 @@
+// What a record's head says, so that an end that holds only bytes can size its buffers.
+ghost use mathlib.Core.Path.{_≡_};
+ghost use Prim.Native.Nat.{_≤_, _<_};
+ghost use Rattle.record.specs.Reading.{readNoise, readScalar};
+ghost use Rattle.describe.specs.Describe.{refused, said, description, describe};
+ghost use Rattle.describe.specs.Inner.Answers.{frontHead};
+use answer::RECORD_ENDS;
+use answer::WRONG_END;
+use record::Front;
+use record::Opened;
+use record::leaves;
+use record::read_noise;
+use record::read_scalar;
+use rows::element_width;
+use rows::fault_of;
+
+// The answer: the number; the end, the field and the sizes of the record; N, and the words of an element. A refused record
+// has zeros beside its number.
+#[repr(C)]
+pub struct Described {
+    pub number: u32,
+    pub end: u8,
+    pub field: u8,
+    pub depth: usize,
+    pub branch_bits: usize,
+    pub trees: usize,
+    pub terms: usize,
+    pub outputs: usize,
+    pub leaves: usize,
+    pub element_words: usize,
+}
+
+// The answer for a refused record.
+fn refusal(number: u32) -> Described
+    ensures { λ r. ⌜ r ≡ refused number ⌝ }
+{
+    Described {
+        number: number,
+        end: 0,
+        field: 0,
+        depth: 0,
+        branch_bits: 0,
+        trees: 0,
+        terms: 0,
+        outputs: 0,
+        leaves: 0,
+        element_words: 0,
+    }
+}
+
+// The answer for an accepted record of an end.
+fn head(end: u8, front: Front) -> Described
+    requires { ⌜ (front .depth ≤ 16) × (front .field < 256) ⌝ }
+    ensures { λ r. ⌜ r ≡ frontHead end front ⌝ }
+{
+    Described {
+        number: 0,
+        end: end,
+        field: front.field as u8,
+        depth: front.depth,
+        branch_bits: front.branch_bits,
+        trees: front.trees,
+        terms: front.terms,
+        outputs: front.outputs,
+        leaves: leaves(front.depth),
+        element_words: element_width(front.field),
+    }
+}
+
+// The answer for a noise record.
+fn noise_head(source: &[u8]) -> Described
+    ensures { λ r. ⌜ r ≡ said 1 (λ P. P .head) (readNoise (now (source .entry))) ⌝ }
+{
+    let r = read_noise(source);
+    let Opened::Accepted(front) = r else {
+        return refusal(fault_of(r));
+    };
+    head(1, front)
+}
+
+// The answer for a scalar record.
+fn scalar_head(source: &[u8]) -> Described
+    ensures { λ r. ⌜ r ≡ said 2 (λ P. P .head) (readScalar (now (source .entry))) ⌝ }
+{
+    let r = read_scalar(source);
+    let Opened::Accepted(front) = r else {
+        return refusal(fault_of(r));
+    };
+    head(2, front)
+}
+
+// The head of a record that its end would accept, or that record's number. The end byte says whose tests apply.
+pub fn describe(source: &[u8]) -> Described
+    ensures { λ r. ⌜ description r (now (source .exit)) ≡ describe (now (source .entry)) ⌝ }
+{
+    if source.len() <= 0 {
+        return refusal(RECORD_ENDS);
+    }
+    if source[0] == 1 {
+        return noise_head(source);
+    }
+    if source[0] == 2 {
+        return scalar_head(source);
+    }
+    refusal(WRONG_END)
+}
