@@ -5,7 +5,7 @@ use mathlib.Core.Logic.{_≢_}
 use mathlib.Core.Bool.{Bool, true, false}
 use mathlib.Core.List.{List, [], _∷_, _++_}
 use Prim.Native.Nat.{ℕ, zero, suc, _+_, _-_, _*_, _%_, _^_, _<_}
-use native.Mathlib.Nat.{mod-eq-of-lt, mod-one, pow-zero, mul-one, zero-mul}
+use native.Mathlib.Nat.{mod-eq-of-lt, mod-one, pow-zero, zero-mul}
 use native.Mathlib.Omega.{arith}
 use lib.Dec.{eqb, ltb}
 use lib.ListN.{length, getD, take, drop, length-append, length-drop, List·getD-append}
@@ -340,6 +340,3 @@ module _ {A : Type 0} (child : ℕ → A → A) where
   siblings-two d s j =
       siblings-suc 2 child d s j
       ∙ ap (λ l. l ++ siblings 2 child d (child (bit d j) s) j) (others-two s (bit d j) (bit-below d j))
-
-  pub length-siblings-two : (d : ℕ) (s : A) (j : ℕ) → length (siblings 2 child d s j) ≡ d
-  length-siblings-two d s j = length-siblings 2 child two d s j ∙ mul-one d
