@@ -1,8 +1,9 @@
 /* The calls by the library and by the plain implementation in turn: times, their ratio, and the
  * deepest stack.
- *   bench                          the tables
- *   bench count CALL WHO FIELD G   one small call by WHO (library or plain), made by counted_call for
- *                                  a program that counts instructions; prints its cipher calls
+ *   bench [short]                          the tables; short: at d = 12 alone
+ *   bench count CALL WHO FIELD G OUTPUTS   one small call by WHO (library or plain), made by
+ *                                          counted_call for a program that counts instructions;
+ *                                          prints its cipher calls
  */
 #define _GNU_SOURCE
 #include "dealing.h"
@@ -204,28 +205,35 @@ static void bench(const struct job *job)
     fflush(stdout);
 }
 
-static void tables(void)
+/* A job on windows of 1, 16, 256 and n outputs. */
+static void bench_windows(const struct job *job)
+{
+    static const size_t windows[] = {1, 16, 256};
+    for (size_t k = 0; k < sizeof windows / sizeof *windows; k++) {
+        count = windows[k];
+        bench(job);
+    }
+    count = x.outputs;
+    bench(job);
+}
+
+/* At d = 12 alone, or at every shape. */
+static void tables(int every)
 {
     static const size_t shapes[][2] = {{12, 1}, {12, 2}, {12, 3}, {15, 3}, {16, 2}, {16, 1}};
-    static const size_t windows[] = {1, 16, 256};
-    enum { SHAPES = sizeof shapes / sizeof *shapes, WINDOWS = sizeof windows / sizeof *windows };
+    enum { SHAPES = sizeof shapes / sizeof *shapes };
     printf("t = %d, l = %d, n = N / 2; medians of processor time over those pairs of runs whose "
            "plain run is within 6 %% of its best\n", EXPANDER_TREES_MAX, EXPANDER_TERMS_MAX);
     heading();
     for (unsigned field = 1; field <= 2; field++)
-        for (int s = 0; s < SHAPES; s++) {
+        for (int s = 0; s < (every ? SHAPES : 3); s++) {
             make(field, shapes[s][0], shapes[s][1], EXPANDER_TREES_MAX,
                  (size_t)1 << (shapes[s][0] - 1));
             for (int k = 0; k < OFFLINE_JOBS; k++)
                 bench(&jobs[k]);
-            for (int k = OFFLINE_JOBS; shapes[s][1] == 1 && k < ONLINE_JOBS; k++) {
-                for (int w = 0; w < WINDOWS; w++) {
-                    count = windows[w];
-                    bench(&jobs[k]);
-                }
-                count = x.outputs;
-                bench(&jobs[k]);
-            }
+            for (int k = OFFLINE_JOBS; k < ONLINE_JOBS; k++)
+                if (shapes[s][0] == 12 || shapes[s][1] == 1)
+                    bench_windows(&jobs[k]);
             same_results();
         }
     make(EXPANDER_BINARY, EXPANDER_DEPTH_MAX, 1, EXPANDER_TREES_MAX, MOST_OUTPUTS);
@@ -234,7 +242,7 @@ static void tables(void)
             jobs[k].call(who);
     pad_inputs();
     for (int k = ONLINE_JOBS; k < JOBS; k++) /* pads are of field 1 */
-        bench(&jobs[k]);
+        bench_windows(&jobs[k]);
     same_results();
 }
 
@@ -247,29 +255,32 @@ static __attribute__((noinline)) size_t counted_call(const struct job *job, int 
     return job->cipher_calls();
 }
 
-static int count_call(const char *name, const char *who, unsigned field, size_t branch_bits)
+static int count_call(const char *name, const char *who, unsigned field, size_t branch_bits,
+                      size_t outputs)
 {
     const struct job *job = jobs, *before = jobs;
     while (job < jobs + JOBS && strcmp(job->name, name) != 0)
         job++;
-    if (job == jobs + JOBS || field < 1 || field > 2 || !may_branch(12, branch_bits))
+    if (job == jobs + JOBS || field < 1 || field > 2 || !may_branch(12, branch_bits)
+        || outputs < 1 || outputs > 512)
         return 2;
     make(field, 12, branch_bits, 4, 512);
     for (; before < job; before++) /* what the call takes, by the plain implementation */
         before->call(1);
     memory[0] = memory[1];
     pad_inputs();
+    count = outputs;
     printf("%zu\n", counted_call(job, strcmp(who, "plain") == 0));
     return 0;
 }
 
 int main(int argc, char **argv)
 {
-    if (argc == 6 && strcmp(argv[1], "count") == 0)
+    if (argc == 7 && strcmp(argv[1], "count") == 0)
         return count_call(argv[2], argv[3], (unsigned)strtoul(argv[4], NULL, 10),
-                          (size_t)strtoul(argv[5], NULL, 10));
-    if (argc > 1)
+                          (size_t)strtoul(argv[5], NULL, 10), (size_t)strtoul(argv[6], NULL, 10));
+    if (argc > 2 || (argc == 2 && strcmp(argv[1], "short") != 0))
         return 2;
-    tables();
+    tables(argc == 1);
     return 0;
 }

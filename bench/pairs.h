@@ -54,7 +54,7 @@ static int within(const double *plain, int n, double *best)
     return taken;
 }
 
-/* Runs of at least 4 ms; for at least a second and until five pairs can be taken, within bounds. */
+/* Runs of at least 4 ms; for at least 0.6 s and until five pairs can be taken, within bounds. */
 static struct pairs run_pairs(void (*call)(int who))
 {
     enum { LEAST = 5, MOST = 41 };
@@ -67,8 +67,8 @@ static struct pairs run_pairs(void (*call)(int who))
         plain[r.all] = one_run(call, 1, calls);
         spent += calls * (library[r.all] + plain[r.all]);
         r.all++;
-    } while (r.all < MOST && spent < 15e3
-             && (spent < 1e3 || within(plain, r.all, &best) < LEAST));
+    } while (r.all < MOST && spent < 8e3
+             && (spent < 600 || within(plain, r.all, &best) < LEAST));
     (void)within(plain, r.all, &best);
     for (int k = 0; k < r.all; k++)
         if (plain[k] <= 1.06 * best) {

@@ -92,18 +92,17 @@ static uint32_t byte_of(uint32_t column, unsigned row)
     return column >> (8 * row) & 0xff;
 }
 
+/* Words least byte first, as x86-64 has them in memory. */
 static uint64_t load_word(const uint8_t *bytes)
 {
-    uint64_t x = 0;
-    for (int k = 7; k >= 0; k--)
-        x = x << 8 | bytes[k];
+    uint64_t x;
+    memcpy(&x, bytes, 8);
     return x;
 }
 
 static void store_word(uint8_t *bytes, uint64_t x)
 {
-    for (int k = 0; k < 8; k++)
-        bytes[k] = (uint8_t)(x >> (8 * k));
+    memcpy(bytes, &x, 8);
 }
 
 block plain_load(const uint8_t bytes[16])

@@ -1,0 +1,109 @@
+/* The deepest stack of each call that is not timed, by the library and by the plain implementation. */
+#include "dealing.h"
+#include "expander.h"
+#include "plain.h"
+#include "plain_amounts.h"
+#include "plain_messages.h"
+#include "plain_stock.h"
+#include "plain_triples.h"
+#include "stack.h"
+
+#include <stdio.h>
+#include <stdlib.h>
+
+enum { COUNT = EXPANDER_BATCH_MAX, CALLERS = EXPANDER_CALLERS_MAX };
+
+/* A noise record of the largest sizes, batches whose bits are all 0, and a stock of two labels. */
+static uint8_t record[EXPANDER_NOISE_RECORD_MAX], other_record[EXPANDER_SCALAR_RECORD_MAX];
+static size_t record_len;
+static uint8_t bits[2][COUNT], blocks[2][32 * COUNT], out[32 * COUNT];
+static const uint32_t shares[CALLERS] = {1, 2, 3, 4, 5, 6, 7, 8};
+static const struct expander_label first_label = {{1}}, second_label = {{2}};
+static struct expander_stock stock;
+
+static void accepted(uint32_t number)
+{
+    if (number != 0) {
+        fprintf(stderr, "stacks: a call was refused with %u\n", number);
+        exit(1);
+    }
+}
+
+static void make(void)
+{
+    static struct dealing x;
+    struct plain_result r;
+    make_dealing(&x, EXPANDER_PRIME, EXPANDER_DEPTH_MAX, 1, EXPANDER_TREES_MAX, EXPANDER_TERMS_MAX,
+                 EXPANDER_OUTPUTS_MAX);
+    r = plain_deal(x.field, x.depth, x.branch_bits, x.trees, x.terms, x.outputs, x.roots,
+                   16 * x.trees, x.positions, x.trees, x.values, x.trees, x.delta, 16, x.code_key,
+                   16, x.label, 16, record, sizeof record, other_record, sizeof other_record);
+    accepted(r.number);
+    record_len = r.first;
+    stock = plain_open_stock(first_label, EXPANDER_OUTPUTS_MAX, shares, CALLERS).stock;
+}
+
+#define DESCRIBE(prefix) prefix##_describe(record, record_len).number
+#define CORRECTION_BITS(prefix) \
+    prefix##_correction_bits(COUNT, bits[0], COUNT, bits[1], COUNT, out, COUNT).number
+#define MASK_MESSAGES(prefix) \
+    prefix##_mask_messages(COUNT, bits[0], COUNT, blocks[0], 32 * COUNT, blocks[1], 32 * COUNT, \
+                           out, 32 * COUNT).number
+#define UNMASK_MESSAGES(prefix) \
+    prefix##_unmask_messages(COUNT, bits[0], COUNT, blocks[0], 16 * COUNT, blocks[1], 32 * COUNT, \
+                             out, 16 * COUNT).number
+#define TRIPLES(prefix) \
+    prefix##_triples(bits[0], COUNT, blocks[0], 16 * COUNT, blocks[1], 32 * COUNT, out, \
+                     3 * COUNT).number
+#define OPEN_STOCK(prefix) \
+    prefix##_open_stock(first_label, EXPANDER_OUTPUTS_MAX, shares, CALLERS).number
+#define DRAW(prefix) prefix##_draw(stock, first_label, CALLERS - 1, 1).number
+#define PREVIEW(prefix) prefix##_preview(stock, first_label, CALLERS - 1, 1).number
+#define PASS_STOCK(prefix) \
+    prefix##_pass_stock(stock, second_label, EXPANDER_OUTPUTS_MAX).number
+#define READ_AMOUNT(prefix) prefix##_read_amount(EXPANDER_MODULUS - 1).number
+#define WRITE_AMOUNT(prefix) prefix##_write_amount(-EXPANDER_AMOUNT_MAX).number
+
+#define CALL(name, CALL_OF) \
+    static void name(int who) \
+    { \
+        accepted(who == 0 ? CALL_OF(expander) : CALL_OF(plain)); \
+    }
+
+CALL(describe, DESCRIBE)
+CALL(correction_bits, CORRECTION_BITS)
+CALL(mask_messages, MASK_MESSAGES)
+CALL(unmask_messages, UNMASK_MESSAGES)
+CALL(triples, TRIPLES)
+CALL(open_stock, OPEN_STOCK)
+CALL(draw, DRAW)
+CALL(preview, PREVIEW)
+CALL(pass_stock, PASS_STOCK)
+CALL(read_amount, READ_AMOUNT)
+CALL(write_amount, WRITE_AMOUNT)
+
+static const struct job {
+    const char *name;
+    void (*call)(int who);
+} jobs[] = {{"describe", describe},
+            {"correction_bits", correction_bits},
+            {"mask_messages", mask_messages},
+            {"unmask_messages", unmask_messages},
+            {"triples", triples},
+            {"open_stock", open_stock},
+            {"draw", draw},
+            {"preview", preview},
+            {"pass_stock", pass_stock},
+            {"read_amount", read_amount},
+            {"write_amount", write_amount}};
+
+int main(void)
+{
+    size_t empty = stack_touched(NULL, 0);
+    make();
+    printf("%-15s %8s %8s   deepest stack, bytes, of the other calls\n", "call", "library", "plain");
+    for (size_t k = 0; k < sizeof jobs / sizeof *jobs; k++)
+        printf("%-15s %8zu %8zu\n", jobs[k].name, stack_touched(jobs[k].call, 0) - empty,
+               stack_touched(jobs[k].call, 1) - empty);
+    return 0;
+}
