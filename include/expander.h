@@ -1,6 +1,6 @@
-/* Correlation expander: dealing, the noise end and the scalar end, pads, signed amounts,
- * messages of the caller's choosing, AND triples, a stock of outputs for several callers, circuits.
- * For x86-64 Linux.
+/* Correlation expander: dealing, the noise end and the scalar end, an expansion for the bench, pads,
+ * signed amounts, messages of the caller's choosing, AND triples, a stock of outputs for several
+ * callers, circuits. For x86-64 Linux.
  *
  * A dealing makes two key records. The noise end expands its record to u and v, the scalar end
  * expands its own to w, and w = Delta * u + v at every index below n. In field 1 the pad calls turn
@@ -493,6 +493,79 @@ struct expander_two_lengths expander_noise_online(
 struct expander_one_length expander_scalar_online(
     const uint8_t *source, size_t source_len,
     const uint64_t *w, size_t w_len,
+    size_t first, size_t count,
+    uint64_t *w_out, size_t w_out_len);
+
+/** Give the noise end's outputs u and v at the indices first to first + count - 1 from its record
+ *  alone, to verify a unit on a bench: those that expander_noise_online gives on the vectors that
+ *  expander_noise_offline writes. No vector is kept: each leaf is walked alone, once for 32 outputs
+ *  or fewer, so it is slow.
+ *
+ *  Returns:  a number, and the words written to u_out (count) and to v_out (W count).
+ *             0: accepted
+ *            Reading source from front to back, each field first read whole and then tested:
+ *            10: source ends before a field or inside it; tested at every field (code key, label
+ *                and siblings too), before that field's own tests
+ *             9: the end byte is not 1
+ *             1: the field byte is not 1 or 2
+ *            11: d, g, t, l or n (each 11 and then 2, before the next) is not in its shortest form,
+ *                or its third byte has the top bit set
+ *             2: d, g, t, l or n is outside its range, or d is no multiple of g
+ *            then for each tree:
+ *            11: the position's number is not in its shortest form, or its third byte has the top
+ *                bit set
+ *             4: the position is N or more
+ *             5: the noise value is 0, or p or more (field 2; field 1 has none)
+ *             8: the correction is p or more (field 2)
+ *            and at the end:
+ *            12: bytes follow the record
+ *             7: first + count is above n
+ *            13: u_out_len is below count, or v_out_len below W count
+ *  In:       source: the noise record, of exactly source_len bytes
+ *            first:  the window's first index
+ *            count:  the window's number of indices; with 0 the same tests are made, and nothing is
+ *                    written
+ *  Out:      u_out:  u at each index of the window, count words
+ *            v_out:  v at each index of the window, count elements of W words
+ *  Refused:  both output buffers are as they were.
+ *  Overlap:  u_out and v_out overlap neither each other nor source.
+ */
+struct expander_two_lengths expander_noise_direct(
+    const uint8_t *source, size_t source_len,
+    size_t first, size_t count,
+    uint64_t *u_out, size_t u_out_len,
+    uint64_t *v_out, size_t v_out_len);
+
+/** Give the scalar end's outputs w at the indices first to first + count - 1 from its record alone,
+ *  to verify a unit on a bench: those that expander_scalar_online gives on the vector that
+ *  expander_scalar_offline writes. No vector is kept: each leaf is walked alone, once for 32 outputs
+ *  or fewer, so it is slow.
+ *
+ *  Returns:  a number, and the words written to w_out (W count).
+ *             0: accepted
+ *            Reading source from front to back, each field first read whole and then tested:
+ *            10: source ends before a field or inside it; tested at every field (code key, label
+ *                and roots too), before that field's own tests
+ *             9: the end byte is not 2
+ *             1: the field byte is not 1 or 2
+ *            11: d, g, t, l or n (each 11 and then 2, before the next) is not in its shortest form,
+ *                or its third byte has the top bit set
+ *             2: d, g, t, l or n is outside its range, or d is no multiple of g
+ *             6: Delta is zero, or is p or more (field 2)
+ *            and at the end:
+ *            12: bytes follow the record
+ *             7: first + count is above n
+ *            13: w_out_len is below W count
+ *  In:       source: the scalar record, of exactly source_len bytes
+ *            first:  the window's first index
+ *            count:  the window's number of indices; with 0 the same tests are made, and nothing is
+ *                    written
+ *  Out:      w_out:  w at each index of the window, count elements of W words
+ *  Refused:  the output buffer is as it was.
+ *  Overlap:  w_out does not overlap source.
+ */
+struct expander_one_length expander_scalar_direct(
+    const uint8_t *source, size_t source_len,
     size_t first, size_t count,
     uint64_t *w_out, size_t w_out_len);
 

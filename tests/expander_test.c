@@ -1,6 +1,7 @@
 /* Document 01's seven calls, as document 02 changes them, and what a record is, held to the plain
  * implementation, through expander.h (lend.h).
  */
+#include "faults.h"
 #include "lend.h"
 
 #include <stdio.h>
@@ -976,124 +977,6 @@ static void odd_records(int rounds)
 
 /* ---- Two faults of a record, or of a record and its call ---- */
 
-/* What a record's fields are, in the order in which they are read; AFTER is what follows it. */
-enum part { END, FIELD, SIZE, POSITION, VALUE, CORRECTION, DELTA, ANY, AFTER };
-
-/* The ways in which a field can be wrong, each with its number; 0 where there is no such way. In
- * the first the record ends inside the field. */
-enum { WAYS = 6 };
-static const uint32_t wrong_ways[][WAYS] = {
-    [END] = {10, 9, 9},
-    [FIELD] = {10, 1, 1},
-    [SIZE] = {10, 2, 2, 11, 11, 10},
-    [POSITION] = {10, 4, 0, 11, 11, 10},
-    [VALUE] = {10, 5, 5},
-    [CORRECTION] = {10, 0, 8},
-    [DELTA] = {10, 6, 6},
-    [ANY] = {10},
-    [AFTER] = {0, 12},
-};
-
-/* The fields of a record of x, whose numbers all have one byte. */
-static struct field {
-    enum part part;
-    size_t from, bytes;
-} fields[32];
-static size_t field_count;
-
-static void next_field(enum part part, size_t bytes)
-{
-    struct field *f = &fields[field_count];
-    f->part = part;
-    f->from = field_count == 0 ? 0 : f[-1].from + f[-1].bytes;
-    f->bytes = bytes;
-    field_count++;
-}
-
-static void find_fields(int end)
-{
-    field_count = 0;
-    next_field(END, 1);
-    next_field(FIELD, 1);
-    for (int k = 0; k < SIZES; k++)
-        next_field(SIZE, 1);
-    next_field(ANY, 16); /* code key */
-    next_field(ANY, 16); /* label */
-    if (end == 2) {
-        next_field(DELTA, 8 * width);
-        next_field(ANY, 16 * x.trees);
-    }
-    for (size_t i = 0; end == 1 && i < x.trees; i++) {
-        next_field(POSITION, 1);
-        if (x.field == 2)
-            next_field(VALUE, 8);
-        next_field(CORRECTION, 8 * width);
-        next_field(ANY, 16 * (x.depth / x.branch_bits) * (((size_t)1 << x.branch_bits) - 1));
-    }
-    next_field(AFTER, 0);
-}
-
-/* The number for field f wrong in this way. In field 1 every block is an element. */
-static uint32_t way_number(const struct field *f, int way)
-{
-    int blocks = x.field == 1 && (f->part == CORRECTION || f->part == DELTA);
-    return blocks && way == 2 ? 0 : wrong_ways[f->part][way];
-}
-
-/* Write field f of a record to raw, wrong in this way; whether the record goes on. */
-static int put_wrong(const uint8_t *record, const struct field *f, int way)
-{
-    if (way == 0) {
-        memcpy(raw + raw_len, record + f->from, f->bytes - 1);
-        raw_len += f->bytes - 1;
-        return 0;
-    }
-    switch (f->part) {
-    case END: /* the other end's, none */
-        raw[raw_len++] = way == 1 ? (uint8_t)(3 - record[0]) : 0;
-        break;
-    case FIELD:
-        raw[raw_len++] = way == 1 ? 0 : 3;
-        break;
-    case SIZE:
-    case POSITION: /* too large, zero; with a byte 00 too many, without an end, cut inside */
-        if (way == 1)
-            raw_len += plain_write_number(raw + raw_len, 2097151);
-        else
-            raw[raw_len++] = way == 2 ? 0 : record[f->from] | 0x80;
-        if (way == 3)
-            raw[raw_len++] = 0x00;
-        for (int k = 0; way == 4 && k < 2; k++)
-            raw[raw_len++] = 0x80;
-        return way != 5;
-    case AFTER:
-        raw[raw_len++] = 0;
-        break;
-    default: /* zero, p */
-        memset(raw + raw_len, 0, f->bytes);
-        for (size_t k = 0; way == 2 && k < 8; k++)
-            raw[raw_len + k] = (uint8_t)(P >> (8 * k));
-        raw_len += f->bytes;
-    }
-    return 1;
-}
-
-/* Write a record to raw with field a wrong in one way and field b in another. */
-static void put_record(const uint8_t *record, const struct field *a, int way_a,
-                       const struct field *b, int way_b)
-{
-    raw_len = 0;
-    for (const struct field *f = fields; f < fields + field_count; f++) {
-        if (f == a || f == b) {
-            if (!put_wrong(record, f, f == a ? way_a : way_b))
-                return;
-        } else {
-            memcpy(raw + raw_len, record + f->from, f->bytes);
-            raw_len += f->bytes;
-        }
-    }
-}
-
 /* What can be wrong with an online call beside its record, in the order of the tests: a vector's
  * length, the window, the room, words. */
 enum { VECTOR, WINDOW, ROOM, WORDS, NOTHING };
@@ -1128,7 +1011,7 @@ static void two_faults_of(int end)
     const uint8_t *record = end == 1 ? noise_record : scalar_record;
     int most = end == 2 && x.field == 1 ? WORDS : NOTHING; /* there no word is refused */
     uint32_t described_as;
-    find_fields(end);
+    find_fields(&x, end);
     for (const struct field *a = fields; a < fields + field_count; a++)
         for (int way = 0; way < WAYS; way++) {
             uint32_t number = way_number(a, way);
@@ -1137,18 +1020,18 @@ static void two_faults_of(int end)
             for (const struct field *b = a + 1; b < fields + field_count; b++)
                 for (int other = 0; other < WAYS; other++)
                     if (way_number(b, other) != 0) {
-                        put_record(record, a, way, b, other);
+                        raw_len = put_record(raw, record, a, way, b, other);
                         EXPECT(try_short(end, NOTHING) == number);
                         EXPECT(try_online(end, NOTHING, NOTHING) == number);
                         described_as = try_describe(raw, raw_len).number;
                         EXPECT(described_as == number || raw[0] == 3 - end);
                     }
-            put_record(record, a, way, NULL, 0);
+            raw_len = put_record(raw, record, a, way, NULL, 0);
             EXPECT(try_short(end, ROOM) == number);
             for (int b = 0; b < most; b++)
                 EXPECT(try_online(end, b, NOTHING) == number);
         }
-    put_record(record, NULL, 0, NULL, 0);
+    raw_len = put_record(raw, record, NULL, 0, NULL, 0);
     EXPECT(try_short(end, NOTHING) == 0);
     EXPECT(try_short(end, ROOM) == 13);
     EXPECT(try_online(end, NOTHING, NOTHING) == 0);

@@ -5,15 +5,14 @@
 
 #include <string.h>
 
-__extension__ typedef unsigned __int128 wide;
-
 #define P PLAIN_P
-#define MAX_TREES 64
+#define MAX_TREES PLAIN_TREES
 #define MAX_TERMS 32
 #define MAX_CHILDREN 8
 #define MAX_SIBLINGS 35 /* d = 15, g = 3 */
 #define MAX_PAD_INDEX 32768
 
+typedef plain_wide wide;
 typedef struct plain_block block;
 typedef struct plain_key round_keys;
 typedef struct plain_result result;
@@ -204,7 +203,7 @@ uint64_t plain_reduce(uint64_t x)
 }
 
 /* x modulo p, for x below 2^127. */
-static uint64_t reduce_wide(wide x)
+uint64_t plain_reduce_wide(wide x)
 {
     wide folded = (x & P) + (x >> 61); /* below 2^67 */
     return plain_reduce(((uint64_t)folded & P) + (uint64_t)(folded >> 61));
@@ -212,7 +211,7 @@ static uint64_t reduce_wide(wide x)
 
 static uint64_t multiply_mod(uint64_t a, uint64_t b)
 {
-    return reduce_wide((wide)a * b);
+    return plain_reduce_wide((wide)a * b);
 }
 
 block plain_add(unsigned field, block a, block b)
@@ -243,14 +242,14 @@ block plain_scale(unsigned field, block a, uint64_t u)
     return r;
 }
 
-static unsigned width_of(unsigned field)
+unsigned plain_width(unsigned field)
 {
     return field == 1 ? 2 : 1;
 }
 
 static unsigned element_bytes(unsigned field)
 {
-    return 8 * width_of(field);
+    return 8 * plain_width(field);
 }
 
 static int is_element(unsigned field, uint64_t word)
@@ -271,22 +270,23 @@ static block child(unsigned c, block s)
     return exclusive_or(plain_encrypt(&child_keys[c], s), s);
 }
 
-/* A tree's levels take g bits of a path each, the highest first. */
-struct shape {
-    unsigned depth, branch_bits;
-};
+block plain_child(unsigned c, block s)
+{
+    start();
+    return child(c, s);
+}
 
-static unsigned children_of(struct shape tree)
+static unsigned children_of(struct plain_shape tree)
 {
     return 1u << tree.branch_bits;
 }
 
-static size_t siblings_of(struct shape tree)
+static size_t siblings_of(struct plain_shape tree)
 {
     return (size_t)(tree.depth / tree.branch_bits) * (children_of(tree) - 1);
 }
 
-static block leaf_element(unsigned field, block leaf)
+block plain_leaf_element(unsigned field, block leaf)
 {
     if (field == 2) {
         leaf.lo = plain_reduce(leaf.lo);
@@ -306,26 +306,26 @@ static void add_element(unsigned field, uint64_t *sum, block a)
 }
 
 /* Add the elements of all leaves of the tree below s to sum. */
-static void add_tree(unsigned field, block s, struct shape tree, uint64_t *sum)
+static void add_tree(unsigned field, block s, struct plain_shape tree, uint64_t *sum)
 {
     unsigned children = children_of(tree);
     size_t part;
     if (tree.depth == 0) {
-        add_element(field, sum, leaf_element(field, s));
+        add_element(field, sum, plain_leaf_element(field, s));
         return;
     }
     tree.depth -= tree.branch_bits;
-    part = (size_t)width_of(field) << tree.depth;
+    part = (size_t)plain_width(field) << tree.depth;
     for (unsigned c = 0; c < children; c++, sum += part)
         if (tree.depth == 0)
-            add_element(field, sum, leaf_element(field, child(c, s)));
+            add_element(field, sum, plain_leaf_element(field, child(c, s)));
         else
             add_tree(field, child(c, s), tree, sum);
 }
 
 /* Add the elements of all leaves of the tree but the one at position, from the siblings. */
 static void add_punctured(unsigned field, const uint8_t *siblings, uint32_t position,
-                          struct shape tree, uint64_t *sum)
+                          struct plain_shape tree, uint64_t *sum)
 {
     unsigned children = children_of(tree);
     while (tree.depth > 0) {
@@ -336,14 +336,14 @@ static void add_punctured(unsigned field, const uint8_t *siblings, uint32_t posi
         for (uint32_t c = 0; c < children; c++)
             if (c != digit) {
                 size_t from = (size_t)(front + c) << tree.depth;
-                add_tree(field, plain_load(siblings), tree, sum + width_of(field) * from);
+                add_tree(field, plain_load(siblings), tree, sum + plain_width(field) * from);
                 siblings += 16;
             }
     }
 }
 
 /* The leaf of the tree below s at position, and the siblings beside the path to it. */
-static block puncture(block s, uint32_t position, struct shape tree, block *siblings)
+static block puncture(block s, uint32_t position, struct plain_shape tree, block *siblings)
 {
     unsigned children = children_of(tree);
     while (tree.depth > 0) {
@@ -359,22 +359,6 @@ static block puncture(block s, uint32_t position, struct shape tree, block *sibl
 }
 
 /* ---- Records ---- */
-
-struct tree {
-    uint32_t position;
-    uint64_t value;
-    block correction;
-    const uint8_t *siblings; /* siblings_of(shape) blocks */
-};
-
-struct record {
-    unsigned field, trees, terms, outputs;
-    struct shape shape;
-    const uint8_t *code_key, *label;
-    struct tree tree[MAX_TREES]; /* noise record */
-    block delta;                 /* scalar record */
-    const uint8_t *roots;        /* scalar record: t blocks */
-};
 
 /* What is left to read. */
 struct reader {
@@ -448,7 +432,7 @@ static int outputs_admitted(size_t d, size_t n)
     return n >= 1 && n <= (size_t)1 << (d - 1);
 }
 
-static uint32_t read_head(struct reader *in, unsigned end, struct record *r)
+static uint32_t read_head(struct reader *in, unsigned end, struct plain_record *r)
 {
     const uint8_t *byte;
     uint32_t number;
@@ -488,7 +472,7 @@ static uint32_t read_head(struct reader *in, unsigned end, struct record *r)
     return 0;
 }
 
-static uint32_t read_noise_record(const uint8_t *source, size_t source_len, struct record *r)
+uint32_t plain_read_noise_record(const uint8_t *source, size_t source_len, struct plain_record *r)
 {
     struct reader in = {source, source_len};
     const uint8_t *bytes;
@@ -496,7 +480,7 @@ static uint32_t read_noise_record(const uint8_t *source, size_t source_len, stru
     if ((number = read_head(&in, 1, r)) != 0)
         return number;
     for (unsigned i = 0; i < r->trees; i++) {
-        struct tree *tree = &r->tree[i];
+        struct plain_tree *tree = &r->tree[i];
         if ((number = take_number(&in, &x)) != 0)
             return number;
         tree->position = next + x;
@@ -522,7 +506,7 @@ static uint32_t read_noise_record(const uint8_t *source, size_t source_len, stru
     return in.left > 0 ? 12 : 0;
 }
 
-static uint32_t read_scalar_record(const uint8_t *source, size_t source_len, struct record *r)
+uint32_t plain_read_scalar_record(const uint8_t *source, size_t source_len, struct plain_record *r)
 {
     struct reader in = {source, source_len};
     const uint8_t *bytes;
@@ -542,13 +526,13 @@ static uint32_t read_scalar_record(const uint8_t *source, size_t source_len, str
 struct plain_described plain_describe(const uint8_t *source, size_t source_len)
 {
     struct plain_described d = {0, 0, 0, 0, 0, 0, 0, 0, 0, 0};
-    struct record r;
+    struct plain_record r;
     if (source_len == 0)
         d.number = 10;
     else if (source[0] == 1)
-        d.number = read_noise_record(source, source_len, &r);
+        d.number = plain_read_noise_record(source, source_len, &r);
     else if (source[0] == 2)
-        d.number = read_scalar_record(source, source_len, &r);
+        d.number = plain_read_scalar_record(source, source_len, &r);
     else
         d.number = 9;
     if (d.number != 0)
@@ -561,7 +545,7 @@ struct plain_described plain_describe(const uint8_t *source, size_t source_len)
     d.terms = r.terms;
     d.outputs = r.outputs;
     d.leaves = (size_t)1 << r.shape.depth;
-    d.element_words = width_of(r.field);
+    d.element_words = plain_width(r.field);
     return d;
 }
 
@@ -615,7 +599,7 @@ result plain_deal(
 {
     size_t head_len, noise_len, scalar_len;
     uint32_t sizes[SIZES];
-    struct shape shape;
+    struct plain_shape shape;
     block scalar;
     uint8_t *to;
 
@@ -668,7 +652,7 @@ result plain_deal(
             to += 8;
         }
         to = put_element(to, field,
-                         plain_subtract(field, leaf_element(field, leaf),
+                         plain_subtract(field, plain_leaf_element(field, leaf),
                                         plain_scale(field, scalar, values[i])));
         for (size_t k = 0; k < siblings_of(shape); k++) {
             plain_store(to, siblings[k]);
@@ -708,21 +692,21 @@ result plain_noise_offline(
     const uint8_t *source, size_t source_len, uint64_t *noise, size_t noise_len,
     uint64_t *v, size_t v_len)
 {
-    struct record r;
+    struct plain_record r;
     size_t leaves, width;
-    uint32_t number = read_noise_record(source, source_len, &r);
+    uint32_t number = plain_read_noise_record(source, source_len, &r);
     start();
     if (number != 0)
         return refused(number);
     leaves = (size_t)1 << r.shape.depth;
-    width = width_of(r.field);
+    width = plain_width(r.field);
     if (noise_len < leaves || v_len < width * leaves)
         return refused(13);
 
     memset(noise, 0, 8 * leaves);
     memset(v, 0, 8 * width * leaves);
     for (unsigned i = 0; i < r.trees; i++) {
-        const struct tree *tree = &r.tree[i];
+        const struct plain_tree *tree = &r.tree[i];
         noise[tree->position] = tree->value;
         add_punctured(r.field, tree->siblings, tree->position, r.shape, v);
         add_element(r.field, v + width * tree->position, tree->correction);
@@ -736,14 +720,14 @@ result plain_scalar_offline(
     const uint8_t *source, size_t source_len, uint64_t *w, size_t w_len,
     uint64_t *delta, size_t delta_len)
 {
-    struct record r;
+    struct plain_record r;
     size_t leaves, width;
-    uint32_t number = read_scalar_record(source, source_len, &r);
+    uint32_t number = plain_read_scalar_record(source, source_len, &r);
     start();
     if (number != 0)
         return refused(number);
     leaves = (size_t)1 << r.shape.depth;
-    width = width_of(r.field);
+    width = plain_width(r.field);
     if (w_len < width * leaves || delta_len < 2)
         return refused(13);
 
@@ -810,8 +794,8 @@ static int prime_row(const struct rows *r, uint64_t x, uint64_t *u_out, uint64_t
         sum += (wide)coefficient * r->elements[j];
     }
     if (r->noise != NULL)
-        *u_out = reduce_wide(u);
-    *element_out = reduce_wide(sum);
+        *u_out = plain_reduce_wide(u);
+    *element_out = plain_reduce_wide(sum);
     return admitted;
 }
 
@@ -835,12 +819,13 @@ static int all_admitted(const struct rows *r)
 
 /* The window's rows; 0, with nothing written, if one uses a word that is not admitted. A few rows
  * are kept back until all of them have passed; for many, all words are tested first. */
-static int window(const struct record *record, const uint64_t *noise, const uint64_t *elements,
-                  size_t first, size_t count, uint64_t *u_out, uint64_t *element_out)
+static int window(const struct plain_record *record, const uint64_t *noise,
+                  const uint64_t *elements, size_t first, size_t count, uint64_t *u_out,
+                  uint64_t *element_out)
 {
     enum { FEW = 64 };
     uint64_t u[FEW], element[2 * FEW];
-    size_t width = width_of(record->field);
+    size_t width = plain_width(record->field);
     struct rows r;
     plain_expand_key(&r.code, record->code_key);
     r.field = record->field;
@@ -867,7 +852,7 @@ static int window(const struct record *record, const uint64_t *noise, const uint
     return 1;
 }
 
-static int window_past(size_t first, size_t count, size_t end)
+int plain_window_past(size_t first, size_t count, size_t end)
 {
     return first > end || count > end - first;
 }
@@ -877,16 +862,16 @@ result plain_noise_online(
     const uint64_t *v, size_t v_len, size_t first, size_t count,
     uint64_t *u_out, size_t u_out_len, uint64_t *v_out, size_t v_out_len)
 {
-    struct record r;
+    struct plain_record r;
     size_t leaves, width;
-    uint32_t number = read_noise_record(source, source_len, &r);
+    uint32_t number = plain_read_noise_record(source, source_len, &r);
     if (number != 0)
         return refused(number);
     leaves = (size_t)1 << r.shape.depth;
-    width = width_of(r.field);
+    width = plain_width(r.field);
     if (noise_len != leaves || v_len != width * leaves)
         return refused(3);
-    if (window_past(first, count, r.outputs))
+    if (plain_window_past(first, count, r.outputs))
         return refused(7);
     if (u_out_len < count || v_out_len < width * count)
         return refused(13);
@@ -899,16 +884,16 @@ result plain_scalar_online(
     const uint8_t *source, size_t source_len, const uint64_t *w, size_t w_len,
     size_t first, size_t count, uint64_t *w_out, size_t w_out_len)
 {
-    struct record r;
+    struct plain_record r;
     size_t leaves, width;
-    uint32_t number = read_scalar_record(source, source_len, &r);
+    uint32_t number = plain_read_scalar_record(source, source_len, &r);
     if (number != 0)
         return refused(number);
     leaves = (size_t)1 << r.shape.depth;
-    width = width_of(r.field);
+    width = plain_width(r.field);
     if (w_len != width * leaves)
         return refused(3);
-    if (window_past(first, count, r.outputs))
+    if (plain_window_past(first, count, r.outputs))
         return refused(7);
     if (w_out_len < width * count)
         return refused(13);
@@ -939,7 +924,7 @@ uint32_t plain_noise_pads(
     start();
     if (!is_multiple(v_len, 16, count) || choices_len != count)
         return 3;
-    if (window_past(first, count, MAX_PAD_INDEX))
+    if (plain_window_past(first, count, MAX_PAD_INDEX))
         return 7;
     if (pads_len < 16 * count)
         return 13;
@@ -959,7 +944,7 @@ uint32_t plain_scalar_pads(
     start();
     if (!is_multiple(w_len, 16, count) || delta_len != 16)
         return 3;
-    if (window_past(first, count, MAX_PAD_INDEX))
+    if (plain_window_past(first, count, MAX_PAD_INDEX))
         return 7;
     d = plain_load(delta);
     if (is_zero(d))

@@ -9,6 +9,9 @@
 #include <stdint.h>
 
 #define PLAIN_P ((((uint64_t)1) << 61) - 1)
+#define PLAIN_TREES 64
+
+__extension__ typedef unsigned __int128 plain_wide;
 
 /* A number, and what was written to the first and the second output buffer. */
 struct plain_result {
@@ -28,6 +31,29 @@ struct plain_described {
     size_t depth, branch_bits, trees, terms, outputs, leaves, element_words;
 };
 
+/* A tree's levels take g bits of a path each, the highest first. */
+struct plain_shape {
+    unsigned depth, branch_bits;
+};
+
+/* A tree of a noise record; its siblings are 16 bytes each, as they stand there. */
+struct plain_tree {
+    uint32_t position;
+    uint64_t value;
+    struct plain_block correction;
+    const uint8_t *siblings;
+};
+
+/* A record as it was read. */
+struct plain_record {
+    unsigned field, trees, terms, outputs;
+    struct plain_shape shape;
+    const uint8_t *code_key, *label;
+    struct plain_tree tree[PLAIN_TREES]; /* noise record */
+    struct plain_block delta;            /* scalar record */
+    const uint8_t *roots;                /* scalar record: t blocks */
+};
+
 /* AES-128 round keys: eleven times four columns, the least byte of each in row 0. */
 struct plain_key {
     uint32_t column[44];
@@ -45,6 +71,23 @@ struct plain_block plain_add(unsigned field, struct plain_block a, struct plain_
 struct plain_block plain_subtract(unsigned field, struct plain_block a, struct plain_block b);
 struct plain_block plain_scale(unsigned field, struct plain_block a, uint64_t u);
 void plain_accumulate_noise(unsigned field, uint64_t *noise, size_t n);
+
+/* x modulo p, for x below 2^127. */
+uint64_t plain_reduce_wide(plain_wide x);
+
+/* The words that an element takes, and the element of a leaf's block. */
+unsigned plain_width(unsigned field);
+struct plain_block plain_leaf_element(unsigned field, struct plain_block leaf);
+
+/* Child c of a node. */
+struct plain_block plain_child(unsigned c, struct plain_block s);
+
+/* Read a record of an end: the number, and, where that is 0, what it holds. */
+uint32_t plain_read_noise_record(const uint8_t *source, size_t source_len, struct plain_record *r);
+uint32_t plain_read_scalar_record(const uint8_t *source, size_t source_len, struct plain_record *r);
+
+/* Whether first + count, as a whole number, is above end. */
+int plain_window_past(size_t first, size_t count, size_t end);
 
 /* The place and the coefficient of term i of row x; strip is N / l rounded down. */
 size_t plain_term(const struct plain_key *code, unsigned field, size_t strip, uint64_t x, uint64_t i,

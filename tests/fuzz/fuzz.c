@@ -12,6 +12,7 @@
 #include "plain.h"
 #include "plain_amounts.h"
 #include "plain_circuit.h"
+#include "plain_direct.h"
 #include "plain_messages.h"
 #include "plain_stock.h"
 #include "plain_triples.h"
@@ -270,14 +271,16 @@ static struct dealing {
          slot(4, uint8_t), slot(5, uint8_t), slot(6, uint8_t), noise_len, slot(7, uint8_t), \
          scalar_len)
 
-/* An admitted dealing of up to LEAVES leaves. */
+/* An admitted dealing of up to 64 leaves, and one in so many of up to LEAVES. */
+static uint8_t larger = 16;
+
 static void make_dealing(void)
 {
     size_t most, leaves, at = 0;
     memset(&x, 0, sizeof x);
     x.field = (uint8_t)(1 + byte() % 2);
     x.branch_bits = 1 + below(3);
-    most = byte() % 16 == 1 ? 10 / x.branch_bits : 6 / x.branch_bits;
+    most = byte() % larger == 1 ? 10 / x.branch_bits : 6 / x.branch_bits;
     x.depth = x.branch_bits * (1 + below(most));
     leaves = (size_t)1 << x.depth;
     x.trees = 1 + below(leaves < TREES ? leaves : byte() % 8 == 1 ? TREES : 6);
@@ -589,6 +592,69 @@ static void scalar_online(void)
                                            LIBRARY(1, uint64_t), w_len, first, count,
                                            LIBRARY(2, uint64_t), w_out_len), r),
            r.number, 2, 1, 8 * r.first, 0);
+}
+
+/* ---- The expansion for the bench ---- */
+
+/* A record, as make_source makes it, every other one with outputs for several batches of 32. */
+static int make_large_source(int end)
+{
+    larger = 2;
+    end = make_source(end);
+    larger = 16;
+    return end;
+}
+
+/* Whether a record has, by damage to its head, so many leaves that the call would take seconds. */
+static int too_many_leaves(int end)
+{
+    return plain_describe(record[end], record_len[end]).leaves > LEAVES;
+}
+
+/* A window of x, of a few batches at most. */
+static size_t make_window(size_t *first)
+{
+    size_t most = x.outputs < 70 ? x.outputs : 70, count = below(most + 1);
+    *first = size(below(x.outputs - count + 1));
+    return count;
+}
+
+static void noise_direct(void)
+{
+    int end = make_large_source(0);
+    size_t first, count = make_window(&first), u_out_len = room(count);
+    size_t v_out_len = room(width() * count);
+    struct expander_two_lengths a, b;
+    if (too_many_leaves(end))
+        return;
+    count = size(count);
+    lend(0, record[end], record_len[end], 1);
+    lend(1, NULL, u_out_len, 8);
+    lend(2, NULL, v_out_len, 8);
+    a = plain_noise_direct(PLAIN(0, uint8_t), record_len[end], first, count, PLAIN(1, uint64_t),
+                           u_out_len, PLAIN(2, uint64_t), v_out_len);
+    b = expander_noise_direct(LIBRARY(0, uint8_t), record_len[end], first, count,
+                              LIBRARY(1, uint64_t), u_out_len, LIBRARY(2, uint64_t), v_out_len);
+    settle(a.number == b.number && a.first_written == b.first_written
+               && a.second_written == b.second_written,
+           a.number, 1, 2, 8 * a.first_written, 8 * a.second_written);
+}
+
+static void scalar_direct(void)
+{
+    int end = make_large_source(1);
+    size_t first, count = make_window(&first), w_out_len = room(width() * count);
+    struct expander_one_length r;
+    if (too_many_leaves(end))
+        return;
+    count = size(count);
+    lend(0, record[end], record_len[end], 1);
+    lend(1, NULL, w_out_len, 8);
+    r = plain_scalar_direct(PLAIN(0, uint8_t), record_len[end], first, count, PLAIN(1, uint64_t),
+                            w_out_len);
+    settle(same_length(expander_scalar_direct(LIBRARY(0, uint8_t), record_len[end], first, count,
+                                              LIBRARY(1, uint64_t), w_out_len), r),
+           r.number, 1, 1, 8 * r.written, 0);
 }
 
 /* ---- Pads, chosen messages, triples ---- */
@@ -964,6 +1030,8 @@ static const struct job {
             {"scalar_offline", scalar_offline},
             {"noise_online", noise_online},
             {"scalar_online", scalar_online},
+            {"noise_direct", noise_direct},
+            {"scalar_direct", scalar_direct},
             {"noise_pads", noise_pads},
             {"scalar_pads", scalar_pads},
             {"correction_bits", correction_bits},

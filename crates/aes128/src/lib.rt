@@ -188,3 +188,19 @@ pub fn encrypt_xor(
     let e = encrypt(sbox, mix, keys, s);
     xor_state(e, s)
 }
+
+// Cipher of two blocks under the same round keys, one after the other.
+pub fn encrypt_both(
+    sbox: &[u8; 256],
+    mix: &[u32; 256],
+    keys: &[[[u8; 4]; 4]; 11],
+    a: [[u8; 4]; 4],
+    b: [[u8; 4]; 4],
+) -> [[[u8; 4]; 4]; 2]
+    requires { ⌜ Tables (now sbox) (now mix) ⌝ }
+    ensures { λ r. ⌜ r ≡ cipher (now (keys .entry)) a ∷ cipher (now (keys .entry)) b ∷ [] ⌝ }
+{
+    let first = encrypt(sbox, mix, keys, a);
+    let second = encrypt(sbox, mix, keys, b);
+    [first, second]
+}

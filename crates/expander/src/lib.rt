@@ -9,6 +9,7 @@ ghost use Rattle.scalar_end.specs.Offline as scalarOffline;
 ghost use Rattle.scalar_end.specs.Online as scalarOnline;
 
 mod and_triples;
+mod bench_windows;
 mod chosen_messages;
 mod circuits;
 mod record_heads;

@@ -189,6 +189,14 @@ module _ (l : Lent) (P : NoisePart) (f : ℕ → NoiseValue (fieldOf (P .head)))
   unfolding window rowsOutcome accepted
   listed = online-whole l first count read ∙ rw (right-lengths, all-usable)
 
+  -- what the call gives: 7, 13, or the window
+  pub online-listed : online l first count
+      ≡ choose (pastEnd (P .head) first count) (on.refusal 7 l)
+      (choose (tooShort (P .head) count (l .uOut) (l .vOut)) (on.refusal 13 l)
+      (record { number = 0; firstWritten = count; secondWritten = count * fieldOf (P .head) .elements .width; lent = filled (P .head) l first count }))
+  unfolding accepted
+  online-listed = listed
+
   -- 7 if the window passes n, else 13 if a buffer is too short, else 0
   pub online-number : online l first count .number ≡ choose (pastEnd (P .head) first count) 7 (choose (tooShort (P .head) count (l .uOut) (l .vOut)) 13 0)
   unfolding accepted

@@ -83,7 +83,7 @@ unfolding treeAdded
 tree-is f keys s t v e = e
 
 -- the correction of a first and a second word
-correction-words : (field low high : ℕ)
+pub correction-words : (field low high : ℕ)
     → kindOf field .field .elements .read (low ∷ high ∷ []) 0 ≡ kindOf field .field .elements .read (elementOf field low high) 0
 correction-words field low high = of (eqb field 1)
   where
@@ -102,13 +102,13 @@ stores field l p x h = of (eqb field 1)
     of false = sym (put-one (λ a. a .word) prime l p (prime x) h)
 
 -- noise values as elements
-noise-laws : (field : ℕ) → FieldLaws (ofNoise (kindOf field .field))
+pub noise-laws : (field : ℕ) → FieldLaws (ofNoise (kindOf field .field))
 noise-laws field =
     let L = kindLaws field .field in
     record { ring = L .ring; scaled = itself-laws (kindOf field .field .ring) (L .ring); noiseValues = L .noiseValues; elements = L .noiseValues }
 
 -- the siblings' columns
-siblings-columns : (s : List ℕ) (place n : ℕ) → map (λ b. columnsAt b 0) (items blockAt 16 s place n) ≡ siblingsAt s place n
+pub siblings-columns : (s : List ℕ) (place n : ℕ) → map (λ b. columnsAt b 0) (items blockAt 16 s place n) ≡ siblingsAt s place n
 unfolding items siblingsAt
 siblings-columns s place zero = refl
 siblings-columns s place (suc n) = ap₂ (λ (b : List (List ℕ)) (bs : List (List (List ℕ))). b ∷ bs) (columns-part s place) (siblings-columns s (place + 16) n)
@@ -194,7 +194,7 @@ module _ (s : List ℕ) (f : Front) where
   length-added : {v : List ℕ} (i : ℕ) → v ≡ treesSum (kindOf (f .field) .field) (2 ^ f .depth) (leavesOf s f) i → length v ≡ 2 ^ f .depth * elementWords (f .field)
   length-added i e = ap length e ∙ length-trees (kindOf (f .field) .field) (kindLaws (f .field) .field) (2 ^ f .depth) (leavesOf s f) i
 
-  all-left : isWhole (readTrees (f .field) (f .depth) (beside f) (f .trees) 0 s (f .body)) ≡ true
+  pub all-left : isWhole (readTrees (f .field) (f .depth) (beside f) (f .trees) 0 s (f .body)) ≡ true
       → (end : ℕ) × (readTrees (f .field) (f .depth) (beside f) (f .trees - 0) 0 s (f .body) ≡ Whole (treesAt s f, end))
   all-left known = cases (readTrees (f .field) (f .depth) (beside f) (f .trees) 0 s (f .body)) refl known
     where

@@ -31,7 +31,7 @@ use tree::child_keys;
 
 // The tree at a place of an accepted record, whose trees have `beside` siblings, after positions below `base`: its position is
 // a leaf's, and its siblings lie in the record.
-fn tree_at(source: &[u8], front: Front, beside: usize, at: usize, base: usize) -> Tree
+pub fn tree_at(source: &[u8], front: Front, beside: usize, at: usize, base: usize) -> Tree
     requires { ⌜ (isWhole (readTree (front .field) (front .depth) beside base (now source) at) ≡ true) × (front .depth ≤ 16) × (beside ≡ siblingCount (front .depth) (front .«branch_bits»)) ⌝ }
     ensures { λ r. ⌜ TreeRead (now (source .entry)) front beside at base r ⌝ }
 {

@@ -8,6 +8,7 @@ mod window;
 
 use answer::TwoLengths;
 use code::Window;
+pub use expansion::tree_at;
 use expansion::write_vectors;
 use record::Opened;
 use record::read_noise;

@@ -150,17 +150,18 @@ module _ (l : Lent) (P : ScalarPart) (f : ℕ → Value (fieldOf (P .head))) (re
       window-usable (usable (fieldOf (P .head)) l) (P .head) full first count
       (λ j h. ap (fieldOf (P .head) .scaled .group .isElement) (vector-at j h) ∙ elements j h)
 
-  listed : online l first count
+  -- what the call gives: 7, 13, or the window
+  pub online-listed : online l first count
       ≡ choose (pastEnd (P .head) first count) (on.refusal 7 l)
       (choose (tooShort (P .head) count (l .wOut)) (on.refusal 13 l)
       (record { number = 0; written = count * fieldOf (P .head) .elements .width; lent = filled (P .head) l first count }))
   unfolding window rowsOutcome
-  listed = online-whole l first count read ∙ rw (right-length, all-usable)
+  online-listed = online-whole l first count read ∙ rw (right-length, all-usable)
 
   -- 7 if the window passes n, else 13 if the buffer is too short, else 0
   pub online-number : online l first count .number ≡ choose (pastEnd (P .head) first count) 7 (choose (tooShort (P .head) count (l .wOut)) 13 0)
   online-number =
-      ap (λ (o : Outcome). o .number) listed
+      ap (λ (o : Outcome). o .number) online-listed
       ∙ choose-map (λ (o : Outcome). o .number) (pastEnd (P .head) first count) _ _
       ∙ ap (choose (pastEnd (P .head) first count) 7) (choose-map (λ (o : Outcome). o .number) (tooShort (P .head) count (l .wOut)) _ _)
 
@@ -179,4 +180,4 @@ module _ (l : Lent) (P : ScalarPart) (f : ℕ → Value (fieldOf (P .head))) (re
           ≡ record { number = 0; written = count * fieldOf (P .head) .elements .width; lent = filled (P .head) l first count }
       passed true t a b = absurd (omega (arith, rw a at online-number))
       passed false true a b = absurd (omega (arith, rw (a, b) at online-number))
-      passed false false a b = listed ∙ rw (a, b)
+      passed false false a b = online-listed ∙ rw (a, b)

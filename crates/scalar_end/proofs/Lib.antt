@@ -3,4 +3,4 @@ pub mod Laws
 pub mod Content
 mod Steps
 mod Calls
-mod Trees
+pub mod Trees

@@ -106,14 +106,14 @@ module _ {E : Type 0} (element : List (List ℕ) → E) (child : ℕ → List (L
 -- ---- ranges that hold a path
 
 -- sibling i of those at a place
-sibling-at : (bytes : List ℕ) (n at i : ℕ) → i < n → getD (siblingsAt bytes at n) i [] ≡ columnsAt bytes (at + 16 * i)
+pub sibling-at : (bytes : List ℕ) (n at i : ℕ) → i < n → getD (siblingsAt bytes at n) i [] ≡ columnsAt bytes (at + 16 * i)
 unfolding siblingsAt
 sibling-at bytes zero at i l = absurd (omega arith)
 sibling-at bytes (suc n) at zero l = ap (columnsAt bytes) (omega arith)
 sibling-at bytes (suc n) at (suc i) l = sibling-at bytes n (at + 16) i (omega arith) ∙ ap (columnsAt bytes) (omega arith)
 
 -- the siblings after the first n
-siblings-past : (bytes : List ℕ) (n m at : ℕ) → drop n (siblingsAt bytes at (n + m)) ≡ siblingsAt bytes (at + 16 * n) m
+pub siblings-past : (bytes : List ℕ) (n m at : ℕ) → drop n (siblingsAt bytes at (n + m)) ≡ siblingsAt bytes (at + 16 * n) m
 unfolding siblingsAt
 siblings-past bytes zero m at = ap₂ (siblingsAt bytes) (none at) (zero-add m)
   where

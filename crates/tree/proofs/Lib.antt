@@ -1,5 +1,5 @@
--- The laws of `tree`. Callers use Laws (any tree), Added, Blocks, ChildLaws and Levels; Bits has the inhabitant of a statement.
-mod Paths
+-- The laws of `tree`. Callers use Laws (any tree), Paths, Added, Blocks, ChildLaws, Levels, Ranges (powers) and Elements (siblings in bytes); Bits has the inhabitant of a statement.
+pub mod Paths
 pub mod Laws
 pub mod Bits
 pub mod Added
@@ -7,8 +7,8 @@ pub mod Blocks
 pub mod ChildLaws
 pub mod Listed
 pub mod Levels
-mod Ranges
+pub mod Ranges
 mod Halves
-mod Elements
+pub mod Elements
 mod Filled
 mod Walked

@@ -1,0 +1,2 @@
+-- The inhabitant of the statement.
+pub mod Same

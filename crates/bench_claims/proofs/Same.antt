@@ -1,0 +1,214 @@
+-- The expansion for the bench is the online call on the record's offline vectors, at both ends.
+use mathlib.Core.Path.{_≡_, refl, sym, ap, ap₂, _∙_}
+use mathlib.Core.Bool.{Bool, true, false}
+use mathlib.Core.List.{List, _++_}
+use Prim.Native.Nat.{ℕ, suc, _+_, _*_, _≤_, _<_}
+use native.Mathlib.Omega.{arith}
+use lib.ListN.{take, drop}
+use Rattle.algebra.specs.Choice.{choose}
+use Rattle.algebra.specs.Coding.{CodingLaws, at, flat, over}
+use Rattle.algebra.specs.Field.{NoiseValue, Value}
+use Rattle.algebra.specs.Group.{Element, Scaled, ScaledLaws, itself}
+use Rattle.algebra.specs.Row.{output, entry, rowTimes}
+use Rattle.algebra.specs.Sum.{accumulate}
+use Rattle.algebra.proofs.Choice.{choose-map}
+use Rattle.algebra.proofs.Coding.{at-flat, flat-cong}
+use Rattle.algebra.proofs.Matrix.{output-is-matrix}
+use Rattle.algebra.proofs.Sum.{sum-element, itself-laws}
+use Rattle.field.proofs.BothKinds.{kindLaws}
+use Rattle.record.specs.Content.{Head, NoisePart, ScalarPart}
+use Rattle.record.proofs.Callers.{head-ranges}
+use Rattle.record.proofs.Parts.{noise-parts, scalar-parts}
+use Rattle.rows.specs.Head.{fieldOf, places, row}
+use Rattle.rows.specs.Window.{pastEnd}
+use Rattle.rows.proofs.Rows.{row-within, row-output}
+use Rattle.noise_end.specs.Vectors.{mu, v0}
+use Rattle.noise_end.specs.Online as noiseOnline
+use Rattle.noise_end.proofs.Laws as noiseLaws
+use Rattle.scalar_end.specs.Vectors.{w0}
+use Rattle.scalar_end.specs.Online as scalarOnline
+use Rattle.scalar_end.proofs.Laws as scalarLaws
+use Rattle.bench_claims.specs.Bench.{NoiseExpanded, ScalarExpanded, noiseAfter, scalarAfter, noiseOnlineCall, scalarOnlineCall, noiseSeen, scalarSeen, Bench}
+use Rattle.direct.specs.Noise as noise
+use Rattle.direct.specs.Scalar as scalar
+use Rattle.direct.proofs.Laws.{noise-whole, scalar-whole}
+
+-- row x's output on the words of an accumulated vector is row x of the code matrix times the vector
+row-same : (h : Head) → h .terms ≤ places h → (x : ℕ) (S : Scaled (fieldOf h .ring)) → ScaledLaws (fieldOf h .ring) S
+    → (f g : ℕ → S .group .Of) → ((j : ℕ) → j < places h → g j ≡ accumulate (S .group) f j)
+    → output S (row h x) g ≡ rowTimes S (places h) (entry (row h x)) f
+row-same h full x S L f g e =
+    row-output h full x S g (accumulate (S .group) f) e
+    ∙ output-is-matrix (fieldOf h .ring) S (kindLaws (h .field) .field .ring) L (places h) (row h x) (row-within h full x) f
+
+-- neither 3 nor 8
+neither : (past short : Bool) → (_≡_ {A = ℕ} (choose past 7 (choose short 13 0)) 3 → ⊥) × (_≡_ {A = ℕ} (choose past 7 (choose short 13 0)) 8 → ⊥)
+neither true short = (λ e. omega arith, λ e. omega arith)
+neither false true = (λ e. omega arith, λ e. omega arith)
+neither false false = (λ e. omega arith, λ e. omega arith)
+
+-- ---- the noise end
+
+accumulated-elements : (h : Head) (f : ℕ → Value (fieldOf h)) (j : ℕ) → j < places h → Element (fieldOf h .scaled .group) (accumulate (fieldOf h .scaled .group) f j)
+unfolding accumulate
+accumulated-elements h f j k = sum-element (fieldOf h .scaled .group) (kindLaws (h .field) .field .scaled .group) (suc j) f
+
+module _ (E : NoiseExpanded) (first count : ℕ) (uOut vOut : List ℕ) where
+  abbrev part : NoisePart
+  part = E .content
+
+  abbrev lent : noiseOnline.Lent
+  lent =
+      record {
+        source = E .source;
+        noise = take (noiseAfter E .firstWritten) (noiseAfter E .noise);
+        v = take (noiseAfter E .secondWritten) (noiseAfter E .v);
+        uOut = uOut;
+        vOut = vOut;
+      }
+
+  accepted : noiseLaws.Accepted part (E .source) (noiseAfter E)
+  accepted = noiseLaws.offline-accepted (E .source) (E .noiseBuffer) (E .vBuffer) (E .read) (E .number)
+
+  noise-elements : (j : ℕ) → j < places (part .head) → Element (fieldOf (part .head) .ring .group) (accumulate (fieldOf (part .head) .ring .group) (mu part) j)
+  unfolding accumulate
+  noise-elements j k = sum-element (fieldOf (part .head) .ring .group) (kindLaws (part .head .field) .field .ring .group) (suc j) (mu part)
+
+  full : part .head .terms ≤ places (part .head)
+  full = head-ranges 1 (E .source) (noise-parts (E .source) (E .read) .2) .terms-leaves
+
+  listed : noiseOnlineCall E first count uOut vOut
+      ≡ choose (pastEnd (part .head) first count) (noiseOnline.refusal 7 lent)
+      (choose (noiseOnline.tooShort (part .head) count uOut vOut) (noiseOnline.refusal 13 lent)
+      (record { number = 0; firstWritten = count; secondWritten = count * fieldOf (part .head) .elements .width; lent = noiseOnline.filled (part .head) lent first count }))
+  listed =
+      noiseLaws.online-listed lent part (accumulate (fieldOf (part .head) .ring .group) (mu part)) (accumulate (fieldOf (part .head) .scaled .group) (v0 part))
+      (E .read) (accepted .noise) (accepted .v) noise-elements (accumulated-elements (part .head) (v0 part)) first count
+
+  u-same : (k : ℕ) → noiseOnline.uAt (part .head) lent (first + k) ≡ noise.uAt part (first + k)
+  unfolding noise.uAt
+  u-same k =
+      row-same (part .head) full (first + k) (itself (fieldOf (part .head) .ring)) (itself-laws (fieldOf (part .head) .ring) (kindLaws (part .head .field) .field .ring)) (mu part)
+      (at (fieldOf (part .head) .noiseValues) (lent .noise))
+      (λ j l. ap (λ (x : List ℕ). at (fieldOf (part .head) .noiseValues) x j) (accepted .noise)
+      ∙ at-flat (fieldOf (part .head) .noiseValues) (kindLaws (part .head .field) .field .noiseValues) (places (part .head)) (accumulate (fieldOf (part .head) .ring .group) (mu part)) j l)
+
+  v-same : (k : ℕ) → noiseOnline.vAt (part .head) lent (first + k) ≡ noise.vAt part (first + k)
+  unfolding noise.vAt
+  v-same k =
+      row-same (part .head) full (first + k) (fieldOf (part .head) .scaled) (kindLaws (part .head .field) .field .scaled) (v0 part)
+      (at (fieldOf (part .head) .elements) (lent .v))
+      (λ j l. ap (λ (x : List ℕ). at (fieldOf (part .head) .elements) x j) (accepted .v)
+      ∙ at-flat (fieldOf (part .head) .elements) (kindLaws (part .head .field) .field .elements) (places (part .head)) (accumulate (fieldOf (part .head) .scaled .group) (v0 part)) j l)
+
+  abbrev here : noise.Lent
+  here = record { source = E .source; uOut = uOut; vOut = vOut }
+
+  abbrev seenLent : noiseOnline.Lent → noise.Lent
+  seenLent l = record { source = l .source; uOut = l .uOut; vOut = l .vOut }
+
+  filled-same : noise.filled part here first count ≡ seenLent (noiseOnline.filled (part .head) lent first count)
+  unfolding noise.filled noiseOnline.filled over
+  filled-same =
+      let u : over (fieldOf (part .head) .noiseValues) count (λ k. noise.uAt part (first + k)) uOut ≡ over (fieldOf (part .head) .noiseValues) count (λ k. noiseOnline.uAt (part .head) lent (first + k)) uOut =
+      ap (λ (x : List ℕ). x ++ drop (count * fieldOf (part .head) .noiseValues .width) uOut)
+      (flat-cong (fieldOf (part .head) .noiseValues) (kindLaws (part .head .field) .field .noiseValues) count _ _ (λ k l. sym (u-same k))) in
+      let v : over (fieldOf (part .head) .elements) count (λ k. noise.vAt part (first + k)) vOut ≡ over (fieldOf (part .head) .elements) count (λ k. noiseOnline.vAt (part .head) lent (first + k)) vOut =
+      ap (λ (x : List ℕ). x ++ drop (count * fieldOf (part .head) .elements .width) vOut)
+      (flat-cong (fieldOf (part .head) .elements) (kindLaws (part .head .field) .field .elements) count _ _ (λ k l. sym (v-same k))) in
+      λ i. record { source = E .source; uOut = u i; vOut = v i }
+
+  pub noise-same : noise.direct here first count ≡ noiseSeen (noiseOnlineCall E first count uOut vOut)
+  unfolding noise.window
+  noise-same =
+      let last : noise.Outcome = record { number = 0; firstWritten = count; secondWritten = count * fieldOf (part .head) .elements .width; lent = noise.filled part here first count } in
+      let there : noiseOnline.Outcome =
+      record { number = 0; firstWritten = count; secondWritten = count * fieldOf (part .head) .elements .width; lent = noiseOnline.filled (part .head) lent first count } in
+      let short = noiseOnline.tooShort (part .head) count uOut vOut in
+      noise-whole here first count (E .read)
+      ∙ ap (λ (l : noise.Lent). choose (pastEnd (part .head) first count) (noise.refusal 7 here) (choose short (noise.refusal 13 here)
+      (record { number = 0; firstWritten = count; secondWritten = count * fieldOf (part .head) .elements .width; lent = l }))) filled-same
+      ∙ sym (ap noiseSeen listed
+      ∙ choose-map noiseSeen (pastEnd (part .head) first count) (noiseOnline.refusal 7 lent) (choose short (noiseOnline.refusal 13 lent) there)
+      ∙ ap (choose (pastEnd (part .head) first count) (noise.refusal 7 here)) (choose-map noiseSeen short (noiseOnline.refusal 13 lent) there))
+
+  numbers : noiseOnlineCall E first count uOut vOut .number ≡ choose (pastEnd (part .head) first count) 7 (choose (noiseOnline.tooShort (part .head) count uOut vOut) 13 0)
+  numbers =
+      noiseLaws.online-number lent part (accumulate (fieldOf (part .head) .ring .group) (mu part)) (accumulate (fieldOf (part .head) .scaled .group) (v0 part))
+      (E .read) (accepted .noise) (accepted .v) noise-elements (accumulated-elements (part .head) (v0 part)) first count
+
+  pub noise-vectors : (noiseOnlineCall E first count uOut vOut .number ≡ 3 → ⊥) × (noiseOnlineCall E first count uOut vOut .number ≡ 8 → ⊥)
+  noise-vectors = (
+    λ e. neither (pastEnd (part .head) first count) (noiseOnline.tooShort (part .head) count uOut vOut) .0 (sym numbers ∙ e),
+    λ e. neither (pastEnd (part .head) first count) (noiseOnline.tooShort (part .head) count uOut vOut) .1 (sym numbers ∙ e),
+  )
+
+-- ---- the scalar end
+
+module _ (D : ScalarExpanded) (first count : ℕ) (wOut : List ℕ) where
+  abbrev whole : ScalarPart
+  whole = D .content
+
+  abbrev lent-w : scalarOnline.Lent
+  lent-w = record { source = D .source; w = take (scalarAfter D .firstWritten) (scalarAfter D .w); wOut = wOut }
+
+  accepted-w : scalarLaws.Accepted whole (D .source) (scalarAfter D)
+  accepted-w = scalarLaws.offline-accepted (D .source) (D .wBuffer) (D .deltaBuffer) (D .read) (D .number)
+
+  full-w : whole .head .terms ≤ places (whole .head)
+  full-w = head-ranges 2 (D .source) (scalar-parts (D .source) (D .read) .3) .terms-leaves
+
+  listed-w : scalarOnlineCall D first count wOut
+      ≡ choose (pastEnd (whole .head) first count) (scalarOnline.refusal 7 lent-w)
+      (choose (scalarOnline.tooShort (whole .head) count wOut) (scalarOnline.refusal 13 lent-w)
+      (record { number = 0; written = count * fieldOf (whole .head) .elements .width; lent = scalarOnline.filled (whole .head) lent-w first count }))
+  listed-w =
+      scalarLaws.online-listed lent-w whole (accumulate (fieldOf (whole .head) .scaled .group) (w0 whole)) (D .read) (accepted-w .w)
+      (accumulated-elements (whole .head) (w0 whole)) first count
+
+  w-same : (k : ℕ) → scalarOnline.wAt (whole .head) lent-w (first + k) ≡ scalar.wAt whole (first + k)
+  unfolding scalar.wAt
+  w-same k =
+      row-same (whole .head) full-w (first + k) (fieldOf (whole .head) .scaled) (kindLaws (whole .head .field) .field .scaled) (w0 whole)
+      (at (fieldOf (whole .head) .elements) (lent-w .w))
+      (λ j l. ap (λ (x : List ℕ). at (fieldOf (whole .head) .elements) x j) (accepted-w .w)
+      ∙ at-flat (fieldOf (whole .head) .elements) (kindLaws (whole .head .field) .field .elements) (places (whole .head)) (accumulate (fieldOf (whole .head) .scaled .group) (w0 whole)) j l)
+
+  abbrev here-w : scalar.Lent
+  here-w = record { source = D .source; wOut = wOut }
+
+  filled-w : scalar.filled whole here-w first count
+      ≡ record { source = D .source; wOut = scalarOnline.filled (whole .head) lent-w first count .wOut }
+  unfolding scalar.filled scalarOnline.filled over
+  filled-w =
+      let w : over (fieldOf (whole .head) .elements) count (λ k. scalar.wAt whole (first + k)) wOut ≡ over (fieldOf (whole .head) .elements) count (λ k. scalarOnline.wAt (whole .head) lent-w (first + k)) wOut =
+      ap (λ (x : List ℕ). x ++ drop (count * fieldOf (whole .head) .elements .width) wOut)
+      (flat-cong (fieldOf (whole .head) .elements) (kindLaws (whole .head .field) .field .elements) count _ _ (λ k l. sym (w-same k))) in
+      λ i. record { source = D .source; wOut = w i }
+
+  pub scalar-same : scalar.direct here-w first count ≡ scalarSeen (scalarOnlineCall D first count wOut)
+  unfolding scalar.window scalarOnline.filled
+  scalar-same =
+      let there : scalarOnline.Outcome = record { number = 0; written = count * fieldOf (whole .head) .elements .width; lent = scalarOnline.filled (whole .head) lent-w first count } in
+      let short = scalarOnline.tooShort (whole .head) count wOut in
+      scalar-whole here-w first count (D .read)
+      ∙ ap (λ (l : scalar.Lent). choose (pastEnd (whole .head) first count) (scalar.refusal 7 here-w) (choose short (scalar.refusal 13 here-w)
+      (record { number = 0; written = count * fieldOf (whole .head) .elements .width; lent = l }))) filled-w
+      ∙ sym (ap scalarSeen listed-w
+      ∙ choose-map scalarSeen (pastEnd (whole .head) first count) (scalarOnline.refusal 7 lent-w) (choose short (scalarOnline.refusal 13 lent-w) there)
+      ∙ ap (choose (pastEnd (whole .head) first count) (scalar.refusal 7 here-w)) (choose-map scalarSeen short (scalarOnline.refusal 13 lent-w) there))
+
+  numbers-w : scalarOnlineCall D first count wOut .number ≡ choose (pastEnd (whole .head) first count) 7 (choose (scalarOnline.tooShort (whole .head) count wOut) 13 0)
+  numbers-w =
+      scalarLaws.online-number lent-w whole (accumulate (fieldOf (whole .head) .scaled .group) (w0 whole)) (D .read) (accepted-w .w)
+      (accumulated-elements (whole .head) (w0 whole)) first count
+
+  pub scalar-vector : (scalarOnlineCall D first count wOut .number ≡ 3 → ⊥) × (scalarOnlineCall D first count wOut .number ≡ 8 → ⊥)
+  scalar-vector = (
+    λ e. neither (pastEnd (whole .head) first count) (scalarOnline.tooShort (whole .head) count wOut) .0 (sym numbers-w ∙ e),
+    λ e. neither (pastEnd (whole .head) first count) (scalarOnline.tooShort (whole .head) count wOut) .1 (sym numbers-w ∙ e),
+  )
+
+-- the statement
+pub bench : Bench
+bench = record { noise-same = noise-same; scalar-same = scalar-same; noise-vectors = noise-vectors; scalar-vector = scalar-vector }

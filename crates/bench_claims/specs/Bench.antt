@@ -1,0 +1,84 @@
+-- What the bench shows (document 02, 11): for every accepted record and window the expansion gives the same u, v, w and lengths
+-- as the online call on the record's offline vectors, whatever stood in the buffers.
+use mathlib.Core.List.{List}
+use mathlib.Core.Path.{_≡_}
+use Prim.Native.Nat.{ℕ}
+use lib.ListN.{take}
+use Rattle.answer.specs.Numbers.{accepted, badLength, notElement}
+use Rattle.number.specs.Reading.{Whole}
+use Rattle.record.specs.Content.{NoisePart, ScalarPart}
+use Rattle.record.specs.Reading.{readNoise, readScalar}
+use Rattle.noise_end.specs.Offline as noiseOffline
+use Rattle.noise_end.specs.Online as noiseOnline
+use Rattle.scalar_end.specs.Offline as scalarOffline
+use Rattle.scalar_end.specs.Online as scalarOnline
+use Rattle.direct.specs.Noise as noise
+use Rattle.direct.specs.Scalar as scalar
+
+-- an accepted noise record, and an accepted offline call on it
+pub record NoiseExpanded : Type 0 where
+  pub source : List ℕ
+  pub content : NoisePart
+  pub read : readNoise source ≡ Whole content
+  pub noiseBuffer : List ℕ
+  pub vBuffer : List ℕ
+  pub number : noiseOffline.offline source noiseBuffer vBuffer .number ≡ accepted
+
+-- an accepted scalar record, and an accepted offline call on it
+pub record ScalarExpanded : Type 0 where
+  pub source : List ℕ
+  pub content : ScalarPart
+  pub read : readScalar source ≡ Whole content
+  pub wBuffer : List ℕ
+  pub deltaBuffer : List ℕ
+  pub number : scalarOffline.offline source wBuffer deltaBuffer .number ≡ accepted
+
+-- what stands after each offline call
+abbrev pub noiseAfter : NoiseExpanded → noiseOffline.Expanded
+noiseAfter E = noiseOffline.offline (E .source) (E .noiseBuffer) (E .vBuffer)
+
+abbrev pub scalarAfter : ScalarExpanded → scalarOffline.Expanded
+scalarAfter D = scalarOffline.offline (D .source) (D .wBuffer) (D .deltaBuffer)
+
+-- the online call on the record and the words that its offline call wrote, with any output buffers
+abbrev pub noiseOnlineCall : NoiseExpanded → ℕ → ℕ → List ℕ → List ℕ → noiseOnline.Outcome
+noiseOnlineCall E first count uOut vOut =
+    noiseOnline.online
+    (record {
+      source = E .source;
+      noise = take (noiseAfter E .firstWritten) (noiseAfter E .noise);
+      v = take (noiseAfter E .secondWritten) (noiseAfter E .v);
+      uOut = uOut;
+      vOut = vOut;
+    })
+    first count
+
+abbrev pub scalarOnlineCall : ScalarExpanded → ℕ → ℕ → List ℕ → scalarOnline.Outcome
+scalarOnlineCall D first count wOut =
+    scalarOnline.online (record { source = D .source; w = take (scalarAfter D .firstWritten) (scalarAfter D .w); wOut = wOut }) first count
+
+-- what such a call returns, and leaves in the record and in the output buffers
+abbrev pub noiseSeen : noiseOnline.Outcome → noise.Outcome
+noiseSeen o =
+    record {
+      number = o .number;
+      firstWritten = o .firstWritten;
+      secondWritten = o .secondWritten;
+      lent = record { source = o .lent .source; uOut = o .lent .uOut; vOut = o .lent .vOut };
+    }
+
+abbrev pub scalarSeen : scalarOnline.Outcome → scalar.Outcome
+scalarSeen o =
+    record { number = o .number; written = o .written; lent = record { source = o .lent .source; wOut = o .lent .wOut } }
+
+pub record Bench : Type 0 where
+  -- for every accepted record, window and output buffers the expansion is the online call, refusals by 7 and 13 too
+  pub noise-same : (E : NoiseExpanded) (first count : ℕ) (uOut vOut : List ℕ)
+      → noise.direct (record { source = E .source; uOut = uOut; vOut = vOut }) first count ≡ noiseSeen (noiseOnlineCall E first count uOut vOut)
+  pub scalar-same : (D : ScalarExpanded) (first count : ℕ) (wOut : List ℕ)
+      → scalar.direct (record { source = D .source; wOut = wOut }) first count ≡ scalarSeen (scalarOnlineCall D first count wOut)
+  -- on those vectors the online call refuses neither by 3 nor by 8
+  pub noise-vectors : (E : NoiseExpanded) (first count : ℕ) (uOut vOut : List ℕ)
+      → (noiseOnlineCall E first count uOut vOut .number ≡ badLength → ⊥) × (noiseOnlineCall E first count uOut vOut .number ≡ notElement → ⊥)
+  pub scalar-vector : (D : ScalarExpanded) (first count : ℕ) (wOut : List ℕ)
+      → (scalarOnlineCall D first count wOut .number ≡ badLength → ⊥) × (scalarOnlineCall D first count wOut .number ≡ notElement → ⊥)

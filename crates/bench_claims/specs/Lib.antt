@@ -1,0 +1,2 @@
+-- What the bench shows (document 02, 11).
+pub mod Bench

@@ -1,0 +1,11 @@
+-- Laws of the calls for other crates, and laws of the functions by the module that they serve.
+pub mod Laws
+mod Words
+mod Walks
+mod Starts
+mod Tables
+mod Leaves
+mod Tops
+mod Rows
+mod Strips
+mod Calls

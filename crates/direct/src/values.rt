@@ -1,0 +1,197 @@
+// The value of a vector at a place: μ by the positions, v0 and w0 by a walk in each tree, two trees at a time.
+ghost use mathlib.Core.Path.{_≡_};
+ghost use Prim.Native.Nat.{_+_, _^_, _≤_, _<_};
+ghost use Rattle.sbox.specs.Inner.Tables.{Tables};
+ghost use lib.Dec.{eqb};
+ghost use Rattle.algebra.specs.Choice.{choose};
+ghost use Rattle.algebra.specs.Sum.{sum};
+ghost use Rattle.field.specs.Kind.{kindOf};
+ghost use Rattle.direct.specs.Inner.Vectors.{elementIn, valueIn, leafOf, valuesOf};
+ghost use Rattle.direct.specs.Inner.Trees.{Walking, TwoStarts, twoLeaves, treeAt, noiseWord};
+use crate::elements::Element;
+use crate::elements::element_sum;
+use crate::elements::leaf_element;
+use crate::table::tree_at;
+use crate::trees::Start;
+use crate::trees::either_punctured;
+use crate::trees::punctured_at;
+use crate::trees::start_at;
+use crate::walk::Levels;
+use crate::walk::walk_to;
+use crate::walk::walk_two;
+use record::Front;
+use tree::columns_at;
+
+// A vector of a record: 1 is μ, 2 is v0 and 3 is w0.
+pub struct Vector {
+    pub number: usize,
+    pub front: Front,
+}
+
+// The element of leaf j of tree i, walked alone; the correction stands in for a punctured leaf.
+fn leaf_of(
+    sbox: &[u8; 256],
+    mix: &[u32; 256],
+    keys: &[[[[u8; 4]; 4]; 11]; 8],
+    source: &[u8],
+    table: &[u64; 320],
+    vector: Vector,
+    i: usize,
+    j: usize,
+) -> Element
+    requires { ⌜ Tables (now sbox) (now mix) ⌝ }
+    requires { ⌜ Walking (vector .number) (now source) (vector .front) (now table) (now keys) × (i < vector .front .trees) × (j < 2 ^ vector .front .depth) ⌝ }
+    ensures { λ r. ⌜ elementIn (vector .front .field) r ≡ leafOf (vector .number) (now (source .entry)) (vector .front) i j ⌝ }
+{
+    let front = vector.front;
+    if punctured_at(vector.number, table, i, j) {
+        let tree = tree_at(table, i);
+        return Element {
+            low: tree.low,
+            high: tree.high,
+        };
+    }
+    let start = start_at(source, table, vector.number, front, i, j);
+    let node = columns_at(source, start.at);
+    let leaf = walk_to(sbox, mix, keys, front.branch_bits, start.left, 0, node, j);
+    leaf_element(front.field, leaf)
+}
+
+// The sum of the elements of leaf j below two blocks.
+fn two_walked(
+    sbox: &[u8; 256],
+    mix: &[u32; 256],
+    keys: &[[[[u8; 4]; 4]; 11]; 8],
+    source: &[u8],
+    front: Front,
+    a: Start,
+    b: Start,
+    j: usize,
+) -> Element
+    requires { ⌜ Tables (now sbox) (now mix) ⌝ }
+    requires { ⌜ TwoStarts (now source) front (now keys) a b ⌝ }
+    ensures { λ r. ⌜ elementIn (front .field) r ≡ twoLeaves (now (source .entry)) front a b j ⌝ }
+{
+    let levels = Levels {
+        branch_bits: front.branch_bits,
+        first: a.left,
+        second: b.left,
+    };
+    let first = columns_at(source, a.at);
+    let second = columns_at(source, b.at);
+    let leaves = walk_two(sbox, mix, keys, levels, first, second, j);
+    element_sum(
+        front.field,
+        leaf_element(front.field, leaves[0]),
+        leaf_element(front.field, leaves[1]),
+    )
+}
+
+// The sum of the elements of leaf j of trees i and i + 1.
+fn two_leaves(
+    sbox: &[u8; 256],
+    mix: &[u32; 256],
+    keys: &[[[[u8; 4]; 4]; 11]; 8],
+    source: &[u8],
+    table: &[u64; 320],
+    vector: Vector,
+    i: usize,
+    j: usize,
+) -> Element
+    requires { ⌜ Tables (now sbox) (now mix) ⌝ }
+    requires { ⌜ Walking (vector .number) (now source) (vector .front) (now table) (now keys) × (i + 1 < vector .front .trees) × (j < 2 ^ vector .front .depth) ⌝ }
+    ensures { λ r. ⌜ elementIn (vector .front .field) r
+        ≡ kindOf (vector .front .field) .field .scaled .group .add (leafOf (vector .number) (now (source .entry)) (vector .front) i j)
+        (leafOf (vector .number) (now (source .entry)) (vector .front) (i + 1) j) ⌝ }
+{
+    let front = vector.front;
+    if either_punctured(vector.number, table, i, j) {
+        let a = leaf_of(sbox, mix, keys, source, table, vector, i, j);
+        let b = leaf_of(sbox, mix, keys, source, table, vector, i + 1, j);
+        return element_sum(front.field, a, b);
+    }
+    let a = start_at(source, table, vector.number, front, i, j);
+    let b = start_at(source, table, vector.number, front, i + 1, j);
+    two_walked(sbox, mix, keys, source, front, a, b, j)
+}
+
+// The sum of the elements of leaf j of all trees.
+fn leaves_sum(
+    sbox: &[u8; 256],
+    mix: &[u32; 256],
+    keys: &[[[[u8; 4]; 4]; 11]; 8],
+    source: &[u8],
+    table: &[u64; 320],
+    vector: Vector,
+    j: usize,
+) -> Element
+    requires { ⌜ Tables (now sbox) (now mix) ⌝ }
+    requires { ⌜ Walking (vector .number) (now source) (vector .front) (now table) (now keys) × (j < 2 ^ vector .front .depth) ⌝ }
+    ensures { λ r. ⌜ elementIn (vector .front .field) r
+        ≡ sum (kindOf (vector .front .field) .field .scaled .group) (vector .front .trees) (λ i. leafOf (vector .number) (now (source .entry)) (vector .front) i j) ⌝ }
+{
+    let field = vector.front.field;
+    let trees = vector.front.trees;
+    let mut total = Element { low: 0, high: 0 };
+    let mut i: usize = 0;
+    while i + 1 < trees {
+        let both = two_leaves(sbox, mix, keys, source, table, vector, i, j);
+        let next = element_sum(field, total, both);
+        total = next;
+        i += 2;
+    }
+    if i < trees {
+        let last = leaf_of(sbox, mix, keys, source, table, vector, i, j);
+        return element_sum(field, total, last);
+    }
+    total
+}
+
+// The noise value of tree i if it is punctured at j, else the one given.
+fn noise_of(table: &[u64; 320], i: usize, j: usize, noise: u64) -> u64
+    requires { ⌜ i < 64 ⌝ }
+    ensures { λ r. ⌜ r ≡ choose (eqb (treeAt (now (table .entry)) i .position) j) (treeAt (now (table .entry)) i .value) noise ⌝ }
+{
+    let tree = tree_at(table, i);
+    if tree.position == j {
+        return tree.value;
+    }
+    noise
+}
+
+// μ at place j.
+fn noise_at(table: &[u64; 320], trees: usize, j: usize) -> u64
+    requires { ⌜ trees ≤ 64 ⌝ }
+    ensures { λ r. ⌜ r ≡ noiseWord (now (table .entry)) trees j ⌝ }
+{
+    let mut noise: u64 = 0;
+    let mut i: usize = 0;
+    while i < trees {
+        noise = noise_of(table, i, j, noise);
+        i += 1;
+    }
+    noise
+}
+
+// The vector's value at place j.
+pub fn value_at(
+    sbox: &[u8; 256],
+    mix: &[u32; 256],
+    keys: &[[[[u8; 4]; 4]; 11]; 8],
+    source: &[u8],
+    table: &[u64; 320],
+    vector: Vector,
+    j: usize,
+) -> Element
+    requires { ⌜ Tables (now sbox) (now mix) ⌝ }
+    requires { ⌜ Walking (vector .number) (now source) (vector .front) (now table) (now keys) × (j < 2 ^ vector .front .depth) ⌝ }
+    ensures { λ r. ⌜ valueIn (vector .number) (vector .front .field) r ≡ valuesOf (vector .number) (now (source .entry)) (vector .front) j ⌝ }
+{
+    if vector.number == 1 {
+        return Element {
+            low: noise_at(table, vector.front.trees, j),
+            high: 0,
+        };
+    }
+    leaves_sum(sbox, mix, keys, source, table, vector, j)
+}

@@ -1,0 +1,170 @@
+// A call on an accepted record: the tests 7 and 13, and the outputs written.
+ghost use mathlib.Core.Path.{_≡_};
+ghost use Prim.Native.Nat.{_+_, _≤_};
+ghost use Rattle.algebra.specs.Coding.{over};
+ghost use Rattle.sbox.specs.Inner.Tables.{Tables};
+ghost use Rattle.direct.specs.Inner.Vectors.{fieldFor, outputOf};
+ghost use Rattle.direct.specs.Inner.Both.{BothFit};
+ghost use lib.ListN.{length};
+ghost use Rattle.noise_end.specs.Inner.Ready as noiseReady;
+ghost use Rattle.scalar_end.specs.Inner.Ready as scalarReady;
+ghost use Rattle.direct.specs.Noise as noise;
+ghost use Rattle.direct.specs.Scalar as scalar;
+ghost use Rattle.direct.specs.Inner.Calls.{windowNumber, NoiseFits, ScalarFits};
+use crate::batch::write_outputs;
+use crate::entries::Batch;
+use crate::table::tree_table;
+use crate::values::Vector;
+use answer::BUFFER_SHORT;
+use answer::OneLength;
+use answer::TwoLengths;
+use code::Window;
+use record::Front;
+use record::leaves;
+use rows::code_keys;
+use rows::element_width;
+use rows::lengths_number;
+use tree::child_keys;
+
+// The number of the tests 7 and 13, from the room for a window's elements.
+fn window_number(front: Front, window: Window, room: usize) -> u32
+    requires { ⌜ (front .depth ≤ 16) × (front .outputs ≤ 32768) ⌝ }
+    ensures { λ r. ⌜ r ≡ windowNumber front window room ⌝ }
+{
+    let vector = leaves(front.depth) * element_width(front.field);
+    lengths_number(front, vector, window, room)
+}
+
+// So many rows of a record's code from an index on.
+pub struct Rows {
+    pub front: Front,
+    pub first: usize,
+    pub count: usize,
+}
+
+// Writes u and v of a noise record's rows, under the round keys lent.
+fn write_tabled(
+    sbox: &[u8; 256],
+    mix: &[u32; 256],
+    keys: &[[[[u8; 4]; 4]; 11]; 8],
+    code: &[[[u8; 4]; 4]; 11],
+    source: &[u8],
+    table: &[u64; 320],
+    rows: Rows,
+    u_out: &mut [u64],
+    v_out: &mut [u64],
+)
+    requires { ⌜ Tables (now sbox) (now mix) ⌝ }
+    requires { ⌜ BothFit (now source) rows (now table) (now keys) (length (now «u_out»)) (length (now «v_out»)) ⌝ }
+    ensures { λ _. ⌜ (now («u_out» .exit) ≡ over (fieldFor 1 (rows .front .field) .elements) (rows .count) (λ k. outputOf 1 (now (source .entry)) (now (code .entry)) (rows .front) (rows .first + k)) (now («u_out» .entry)))
+        × (now («v_out» .exit) ≡ over (fieldFor 2 (rows .front .field) .elements) (rows .count) (λ k. outputOf 2 (now (source .entry)) (now (code .entry)) (rows .front) (rows .first + k)) (now («v_out» .entry))) ⌝ }
+{
+    let front = rows.front;
+    let mu = Batch {
+        vector: Vector { number: 1, front },
+        first: rows.first,
+        count: rows.count,
+    };
+    write_outputs(sbox, mix, keys, code, source, table, mu, u_out);
+    let v0 = Batch {
+        vector: Vector { number: 2, front },
+        first: rows.first,
+        count: rows.count,
+    };
+    write_outputs(sbox, mix, keys, code, source, table, v0, v_out);
+}
+
+// Writes a noise record's window.
+fn write_both(source: &[u8], front: Front, window: Window, u_out: &mut [u64], v_out: &mut [u64])
+    requires { ⌜ noiseReady.Ready (now source) front ⌝ }
+    requires { ⌜ NoiseFits front window (length (now «u_out»)) (length (now «v_out»)) ⌝ }
+    ensures { λ _. ⌜ record { source = now (source .exit); uOut = now («u_out» .exit); vOut = now («v_out» .exit) }
+        ≡ noise.filled (noiseReady.contentOf (now (source .entry)) front) (record { source = now (source .entry); uOut = now («u_out» .entry); vOut = now («v_out» .entry) }) (window .first) (window .count) ⌝ }
+{
+    let sb = sbox::table();
+    let mx = sbox::mix_table();
+    let keys = child_keys(&sb, front.branch_bits);
+    let code = code_keys(&sb, source, front);
+    let table = tree_table(source, front);
+    let rows = Rows {
+        front,
+        first: window.first,
+        count: window.count,
+    };
+    write_tabled(&sb, &mx, &keys, &code, source, &table, rows, u_out, v_out);
+}
+
+// The noise end's call on a record that was accepted.
+pub fn write_noise(
+    source: &[u8],
+    front: Front,
+    window: Window,
+    u_out: &mut [u64],
+    v_out: &mut [u64],
+) -> TwoLengths
+    requires { ⌜ noiseReady.Ready (now source) front ⌝ }
+    ensures { λ r. ⌜ noise.outcome r (record { source = now (source .exit); uOut = now («u_out» .exit); vOut = now («v_out» .exit) })
+        ≡ noise.window (noiseReady.contentOf (now (source .entry)) front) (record { source = now (source .entry); uOut = now («u_out» .entry); vOut = now («v_out» .entry) }) (window .first) (window .count) ⌝ }
+{
+    let number = window_number(front, window, v_out.len());
+    if number != 0 {
+        return TwoLengths {
+            number: number,
+            first_written: 0,
+            second_written: 0,
+        };
+    }
+    if u_out.len() < window.count {
+        return TwoLengths {
+            number: BUFFER_SHORT,
+            first_written: 0,
+            second_written: 0,
+        };
+    }
+    write_both(source, front, window, u_out, v_out);
+    TwoLengths {
+        number: 0,
+        first_written: window.count,
+        second_written: window.count * element_width(front.field),
+    }
+}
+
+// Writes a scalar record's window.
+fn write_w(source: &[u8], front: Front, window: Window, w_out: &mut [u64])
+    requires { ⌜ scalarReady.Ready (now source) front ⌝ }
+    requires { ⌜ ScalarFits front window (length (now «w_out»)) ⌝ }
+    ensures { λ _. ⌜ record { source = now (source .exit); wOut = now («w_out» .exit) }
+        ≡ scalar.filled (scalarReady.contentOf (now (source .entry)) front) (record { source = now (source .entry); wOut = now («w_out» .entry) }) (window .first) (window .count) ⌝ }
+{
+    let sb = sbox::table();
+    let mx = sbox::mix_table();
+    let keys = child_keys(&sb, front.branch_bits);
+    let code = code_keys(&sb, source, front);
+    let table = [0u64; 320];
+    let w0 = Batch {
+        vector: Vector { number: 3, front },
+        first: window.first,
+        count: window.count,
+    };
+    write_outputs(&sb, &mx, &keys, &code, source, &table, w0, w_out);
+}
+
+// The scalar end's call on a record that was accepted.
+pub fn write_scalar(source: &[u8], front: Front, window: Window, w_out: &mut [u64]) -> OneLength
+    requires { ⌜ scalarReady.Ready (now source) front ⌝ }
+    ensures { λ r. ⌜ scalar.outcome r (record { source = now (source .exit); wOut = now («w_out» .exit) })
+        ≡ scalar.window (scalarReady.contentOf (now (source .entry)) front) (record { source = now (source .entry); wOut = now («w_out» .entry) }) (window .first) (window .count) ⌝ }
+{
+    let number = window_number(front, window, w_out.len());
+    if number != 0 {
+        return OneLength {
+            number: number,
+            written: 0,
+        };
+    }
+    write_w(source, front, window, w_out);
+    OneLength {
+        number: 0,
+        written: window.count * element_width(front.field),
+    }
+}

@@ -1,0 +1,35 @@
+// The expansion for the bench under its exported names. Each meets the contract of the call that it passes on to.
+ghost use mathlib.Core.Path.{_≡_};
+ghost use Rattle.direct.specs.Noise as noise;
+ghost use Rattle.direct.specs.Scalar as scalar;
+use answer::OneLength;
+use answer::TwoLengths;
+
+// Writes a window of u and v from a noise record alone.
+#[no_mangle]
+pub extern "C" fn expander_noise_direct(
+    source: &[u8],
+    first: usize,
+    count: usize,
+    u_out: &mut [u64],
+    v_out: &mut [u64],
+) -> TwoLengths
+    ensures { λ r. ⌜ noise.outcome r (record { source = now (source .exit); uOut = now («u_out» .exit); vOut = now («v_out» .exit) })
+        ≡ noise.direct (record { source = now (source .entry); uOut = now («u_out» .entry); vOut = now («v_out» .entry) }) first count ⌝ }
+{
+    direct::noise_direct(source, first, count, u_out, v_out)
+}
+
+// Writes a window of w from a scalar record alone.
+#[no_mangle]
+pub extern "C" fn expander_scalar_direct(
+    source: &[u8],
+    first: usize,
+    count: usize,
+    w_out: &mut [u64],
+) -> OneLength
+    ensures { λ r. ⌜ scalar.outcome r (record { source = now (source .exit); wOut = now («w_out» .exit) })
+        ≡ scalar.direct (record { source = now (source .entry); wOut = now («w_out» .entry) }) first count ⌝ }
+{
+    direct::scalar_direct(source, first, count, w_out)
+}
