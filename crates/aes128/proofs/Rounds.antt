@@ -1,20 +1,40 @@
 -- The rounds, one after the other, are the cipher. Assumes nothing.
-use mathlib.Core.Path.{_≡_, _∙_}
-use mathlib.Core.List.{List}
-use Prim.Native.Nat.{ℕ, suc}
-use Rattle.aes128.specs.State.{xorState}
-use Rattle.aes128.specs.Cipher.{subBytes, shiftRows, mixColumns, addRoundKey, roundKey, rounds, cipher}
+use mathlib.Core.Path.{_≡_, _∙_, sym, ap}
+use mathlib.Core.List.{List, [], _∷_}
+use Prim.Native.Nat.{ℕ, _+_}
+use native.Mathlib.Nat.{add-zero}
+use lib.ListN.{getD}
+use Rattle.field.specs.Binary.{blockOf}
+use Rattle.field.specs.Bytes.{columnsOf}
+use Rattle.field.specs.declared.block.Block.{Block}
+use Rattle.sbox.specs.Wide.{wideRows}
+use Rattle.aes128.specs.State.{xorWord, xorState}
+use Rattle.aes128.specs.Cipher.{subBytes, shiftRows, mixColumns, addRoundKey, rounds, cipher}
+use Rattle.aes128.specs.Words.{wideKey, blockKey, roundKeys}
+use Rattle.aes128.specs.Inner.Blocks.{cipherOf}
+use Rattle.aes128.proofs.Words.{four-eq}
 
-module _ (w : List (List (List ℕ))) (s : List (List ℕ)) where
-  pub rounds-none : {r : List (List ℕ)} → r ≡ xorState s (roundKey w 0) → r ≡ rounds w 0 s
-  unfolding rounds
-  rounds-none e = e
+-- four columns with those of a round key
+pub with-key : (keys : List ℕ) (at : ℕ) (m0 m1 m2 m3 : List ℕ) {r0 r1 r2 r3 : List ℕ} → r0 ≡ xorWord m0 (wideRows (getD keys at 0))
+    → r1 ≡ xorWord m1 (wideRows (getD keys (at + 1) 0)) → r2 ≡ xorWord m2 (wideRows (getD keys (at + 2) 0))
+    → r3 ≡ xorWord m3 (wideRows (getD keys (at + 3) 0)) → r0 ∷ r1 ∷ r2 ∷ r3 ∷ [] ≡ xorState (m0 ∷ m1 ∷ m2 ∷ m3 ∷ []) (wideKey keys at)
+unfolding xorState
+with-key keys at m0 m1 m2 m3 e0 e1 e2 e3 = four-eq (e0 ∙ ap (λ n. xorWord m0 (wideRows (getD keys n 0))) (sym (add-zero at))) e1 e2 e3
 
-  pub rounds-more : (i : ℕ) {t r : List (List ℕ)} → t ≡ rounds w i s
-      → r ≡ addRoundKey (mixColumns (shiftRows (subBytes t))) (roundKey w (suc i)) → r ≡ rounds w (suc i) s
-  unfolding rounds
-  rounds-more i e f = f ∙ rw e
+-- a round with all four steps
+abbrev pub roundOf : List (List ℕ) → List (List ℕ) → List (List ℕ)
+roundOf s k = addRoundKey (mixColumns (shiftRows (subBytes s))) k
 
-  pub rounds-all : {t r : List (List ℕ)} → t ≡ rounds w 9 s → r ≡ addRoundKey (shiftRows (subBytes t)) (roundKey w 10) → r ≡ cipher w s
-  unfolding cipher
-  rounds-all e f = f ∙ rw e
+-- the cipher of a block, round by round
+module _ (words : List ℕ) (b : Block) where
+  abbrev state : List (List ℕ)
+  state = columnsOf (b .low) (b .high)
+
+  pub ten-rounds : {a0 a1 a2 a3 a4 a5 a6 a7 a8 a9 : List (List ℕ)} {r : Block}
+      → a0 ≡ addRoundKey state (blockKey words 0) → a1 ≡ roundOf a0 (wideKey words 2) → a2 ≡ roundOf a1 (wideKey words 6)
+      → a3 ≡ roundOf a2 (wideKey words 10) → a4 ≡ roundOf a3 (wideKey words 14) → a5 ≡ roundOf a4 (wideKey words 18)
+      → a6 ≡ roundOf a5 (wideKey words 22) → a7 ≡ roundOf a6 (wideKey words 26) → a8 ≡ roundOf a7 (wideKey words 30)
+      → a9 ≡ roundOf a8 (wideKey words 34) → r ≡ blockOf (addRoundKey (shiftRows (subBytes a9)) (blockKey words 38))
+      → r ≡ cipherOf words b
+  unfolding roundKeys rounds cipher
+  ten-rounds e0 e1 e2 e3 e4 e5 e6 e7 e8 e9 e = e ∙ rw (e9, e8, e7, e6, e5, e4, e3, e2, e1, e0)

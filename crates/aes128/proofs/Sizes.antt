@@ -4,19 +4,24 @@ use mathlib.Core.Bool.{Bool, true, false}
 use mathlib.Core.List.{List, [], _∷_, _++_}
 use mathlib.Core.Logic.{⊎-elim}
 use Prim.Native.Nat.{ℕ, zero, suc, _+_, _-_, _%_, _<_, _≤_}
-use native.Mathlib.Nat.{eq-or-lt-of-le}
+use native.Mathlib.Nat.{eq-or-lt-of-le, mod-lt}
 use native.Mathlib.Omega.{arith}
 use lib.Bits.{bitXor, xor-lt}
 use lib.Dec.{eqb, lit<}
 use lib.ListN.{length, getD, length-append, List·getD-append}
 use lib.Seq.{getD-at}
+use Rattle.field.specs.Bytes.{leBytes, columnsOf}
+use Rattle.field.specs.declared.block.Block.{Block}
 use Rattle.sbox.specs.Byte.{sBox}
 use Rattle.sbox.proofs.Bounds.{xtime-lt, sbox-lt}
 use Rattle.aes128.specs.State.{column, xorWord, xorState}
+use Rattle.aes128.specs.Words.{roundKeys}
+use Rattle.aes128.specs.Inner.Blocks.{cipherOf}
 use Rattle.aes128.specs.Inner.Sizes.{IsWord, IsState}
 use Rattle.algebra.specs.Choice.{choose}
 use Rattle.aes128.specs.Cipher.{subBytes, shiftRows, roundKey, cipher, power, temp, scheduleWords, keysOf, keyExpansion, aes}
-use Rattle.aes128.proofs.Schedule.{words-size}
+use Rattle.aes128.proofs.Columns.{columns-of-block}
+use Rattle.aes128.proofs.Expansion.{words-size}
 
 pub four-bytes : {a b x y : ℕ} → a < 256 → b < 256 → x < 256 → y < 256 → IsWord (a ∷ b ∷ x ∷ y ∷ [])
 four-bytes {a} {b} {x} {y} ha hb hx hy = record { size = refl; bytes = at }
@@ -63,6 +68,24 @@ sub-shift-is s = four-words (sub-word-is _ _ _ _) (sub-word-is _ _ _ _) (sub-wor
 pub cipher-is : (w : List (List (List ℕ))) (s : List (List ℕ)) → IsState (roundKey w 10) → IsState (cipher w s)
 unfolding cipher
 cipher-is w s h = xor-state-is (sub-shift-is _) h
+
+le-word : (x : ℕ) → IsWord (leBytes 4 x)
+unfolding leBytes
+le-word x = four-bytes (mod-lt _ (lit< tt)) (mod-lt _ (lit< tt)) (mod-lt _ (lit< tt)) (mod-lt _ (lit< tt))
+
+columns-are : (low high : ℕ) → IsState (columnsOf low high)
+unfolding columnsOf
+columns-are low high = four-words (le-word _) (le-word _) (le-word _) (le-word _)
+
+-- the cipher under round keys that words hold gives a state
+pub cipher-of-is : (words : List ℕ) (s : List (List ℕ)) → IsState (cipher (roundKeys words) s)
+unfolding roundKeys
+cipher-of-is words s = cipher-is (roundKeys words) s (columns-are _ _)
+
+-- so the columns of the cipher's block are the cipher's result
+pub columns-of-cipher : (words : List ℕ) (b : Block)
+    → columnsOf (cipherOf words b .low) (cipherOf words b .high) ≡ cipher (roundKeys words) (columnsOf (b .low) (b .high))
+columns-of-cipher words b = columns-of-block _ (cipher-of-is words _)
 
 pick-is : (t : Bool) {a b : List ℕ} → IsWord a → IsWord b → IsWord (choose t a b)
 pick-is true h k = h

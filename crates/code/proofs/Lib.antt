@@ -3,4 +3,5 @@ pub mod Laws
 pub mod Strips
 mod Terms
 mod Tested
+mod Sums
 mod InPlace

@@ -1,12 +1,14 @@
 -- Words tested one a turn: over a row's terms, over a window's rows, and over the whole vector; and the choice between the
 -- last two.
-use mathlib.Core.Bool.{Bool, true, false}
+use mathlib.Core.Bool.{Bool, true, false, _&&_, and-true, and-false}
 use mathlib.Core.List.{List}
 use mathlib.Core.Path.{_≡_, sym, ap, _∙_}
 use Prim.Native.Nat.{ℕ, _+_, _*_, _≤_, _<_}
-use native.Mathlib.Nat.{mul-le-mul}
+use native.Mathlib.Nat.{le-antisymm, mul-le-mul}
+use native.Mathlib.Numerals.{add-one}
 use native.Mathlib.Omega.{arith}
 use borrow.Author.Tests.{lt-ltb, le-ltb}
+use lib.Dec.{ltb}
 use lib.ListN.{length, getD}
 use mir.Syntax.{w64}
 use mir.Val.{Fits}
@@ -14,19 +16,37 @@ use Rattle.code.specs.declared.Shape.{Shape}
 use Rattle.code.specs.declared.Window.{Window}
 use Rattle.code.specs.Inner.Rows.{placeIn}
 use Rattle.algebra.specs.Every.{every}
+use Rattle.code.specs.Inner.Sums.{termsBelow}
 use Rattle.code.specs.Inner.Used.{wordBelow, rowBelow, usedBelow, allBelow}
 use Rattle.algebra.proofs.Every.{every-none, every-more, every-done, every-stop}
 use Rattle.code.proofs.Laws.{used-all}
 
--- the words at the places of the first n terms are below the bound
-unfoldable pub termsBelow : ℕ → List ℕ → List (List (List ℕ)) → Shape → ℕ → ℕ → Bool
-termsBelow bound words keys s x n = every n (λ i. wordBelow bound words (placeIn keys s x i))
+-- one word more
+module _ (others : Bool) (word bound : ℕ) where
+  pub still : word < bound → others ≡ (others && ltb word bound)
+  still h = sym (rw (lt-ltb word bound h) (and-true others))
+
+  pub no-more : bound ≤ word → false ≡ (others && ltb word bound)
+  no-more h = sym (rw (le-ltb word bound h) (and-false others))
 
 module _ (bound : ℕ) (words : List ℕ) (keys : List (List (List ℕ))) (s : Shape) where
   module _ (x : ℕ) where
     pub terms-none : termsBelow bound words keys s x 0 ≡ true
     unfolding termsBelow
     terms-none = every-none (λ k. wordBelow bound words (placeIn keys s x k))
+
+    -- the same as a value
+    pub below-none : true ≡ termsBelow bound words keys s x 0
+    below-none = sym terms-none
+
+    pub below-more : (i : ℕ) {j : ℕ} → j ≡ placeIn keys s x i → {t next : Bool} → t ≡ termsBelow bound words keys s x i
+        → next ≡ (t && wordBelow bound words j) → next ≡ termsBelow bound words keys s x (i + 1)
+    unfolding termsBelow every
+    below-more i named e q = q ∙ rw (add-one, e, named)
+
+    pub below-done : (i : ℕ) {t : Bool} → t ≡ termsBelow bound words keys s x i → i ≤ s .terms → s .terms ≤ i → t ≡ rowBelow bound words keys s x
+    unfolding termsBelow rowBelow
+    below-done i e h k = e ∙ ap (λ (n : ℕ). every n (λ i. wordBelow bound words (placeIn keys s x i))) (le-antisymm {n = i} {m = s .terms} h k)
 
     pub terms-done : (i : ℕ) → termsBelow bound words keys s x i ≡ true → i ≤ s .terms → s .terms ≤ i → true ≡ rowBelow bound words keys s x
     unfolding termsBelow rowBelow

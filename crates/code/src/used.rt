@@ -1,32 +1,40 @@
 // Whether every word that a window's rows use is below a bound.
+ghost use mathlib.Core.Bool.{_&&_};
 ghost use mathlib.Core.Path.{_≡_};
 ghost use Prim.Native.Nat.{_+_, _<_, _≤_};
+ghost use lib.Dec.{ltb};
 ghost use lib.ListN.{length};
-ghost use Rattle.sbox.specs.Inner.Tables.{Tables};
+ghost use Rattle.sbox.specs.Inner.Tables.{RoundTables};
+ghost use Rattle.aes128.specs.Words.{roundKeys};
 ghost use Rattle.code.specs.Inner.Rows.{Shaped};
 ghost use Rattle.code.specs.Inner.Used.{rowBelow, usedBelow, allBelow};
 use crate::Shape;
 use crate::Window;
-use crate::row::row_term;
+use crate::row::row_place;
+
+// Whether every word is below the bound, where that is known of all but one.
+pub fn still_below(others: bool, word: u64, bound: u64) -> bool
+    ensures { λ r. ⌜ r ≡ (others && ltb word bound) ⌝ }
+{
+    if word < bound { others } else { false }
+}
 
 // Whether every word at the places of row x is below the bound.
 fn row_below(
-    sbox: &[u8; 256],
-    mix: &[u32; 256],
-    keys: &[[[u8; 4]; 4]; 11],
+    tables: &[u64; 1536],
+    keys: &[u64; 40],
     shape: Shape,
     x: usize,
     words: &[u64],
     bound: u64,
 ) -> bool
-    requires { ⌜ Tables (now sbox) (now mix) ⌝ }
+    requires { ⌜ RoundTables (now tables) ⌝ }
     requires { ⌜ Shaped shape × (length (now words) ≡ shape .places) ⌝ }
-    ensures { λ r. ⌜ r ≡ rowBelow bound (now (words .entry)) (now (keys .entry)) shape x ⌝ }
+    ensures { λ r. ⌜ r ≡ rowBelow bound (now (words .entry)) (roundKeys (now (keys .entry))) shape x ⌝ }
 {
     let mut i: usize = 0;
     while i < shape.terms {
-        let t = row_term(sbox, mix, keys, shape, x, i);
-        let j = t.place;
+        let j = row_place(tables, keys, shape, x, i);
         if bound <= words[j] {
             return false;
         }
@@ -37,21 +45,20 @@ fn row_below(
 
 // The test, row by row.
 pub fn rows_below(
-    sbox: &[u8; 256],
-    mix: &[u32; 256],
-    keys: &[[[u8; 4]; 4]; 11],
+    tables: &[u64; 1536],
+    keys: &[u64; 40],
     shape: Shape,
     window: Window,
     words: &[u64],
     bound: u64,
 ) -> bool
-    requires { ⌜ Tables (now sbox) (now mix) ⌝ }
+    requires { ⌜ RoundTables (now tables) ⌝ }
     requires { ⌜ Shaped shape × (length (now words) ≡ shape .places) × (window .first + window .count ≤ 32768) ⌝ }
-    ensures { λ r. ⌜ r ≡ usedBelow bound (now (words .entry)) (now (keys .entry)) shape window ⌝ }
+    ensures { λ r. ⌜ r ≡ usedBelow bound (now (words .entry)) (roundKeys (now (keys .entry))) shape window ⌝ }
 {
     let mut k: usize = 0;
     while k < window.count {
-        let below = row_below(sbox, mix, keys, shape, window.first + k, words, bound);
+        let below = row_below(tables, keys, shape, window.first + k, words, bound);
         if !below {
             return false;
         }
@@ -77,17 +84,16 @@ pub fn all_below(words: &[u64], bound: u64) -> bool
 // The test, by a pass over all words where that is less work than the rows' ciphers; the rows are walked only if that
 // pass finds a word at the bound or above, or is not made. A term takes about as long as 100 words of the pass.
 pub fn used_below(
-    sbox: &[u8; 256],
-    mix: &[u32; 256],
-    keys: &[[[u8; 4]; 4]; 11],
+    tables: &[u64; 1536],
+    keys: &[u64; 40],
     shape: Shape,
     window: Window,
     words: &[u64],
     bound: u64,
 ) -> bool
-    requires { ⌜ Tables (now sbox) (now mix) ⌝ }
-    requires { ⌜ Shaped shape × (length (now words) ≡ shape .places) × (window .first + window .count ≤ 32768) × (shape .terms ≤ 32) ⌝ }
-    ensures { λ r. ⌜ r ≡ usedBelow bound (now (words .entry)) (now (keys .entry)) shape window ⌝ }
+    requires { ⌜ RoundTables (now tables) ⌝ }
+    requires { ⌜ Shaped shape × (length (now words) ≡ shape .places) × (window .first + window .count ≤ 32768) ⌝ }
+    ensures { λ r. ⌜ r ≡ usedBelow bound (now (words .entry)) (roundKeys (now (keys .entry))) shape window ⌝ }
 {
     if shape.places / 100 <= window.count * shape.terms {
         let all = all_below(words, bound);
@@ -95,5 +101,5 @@ pub fn used_below(
             return true;
         }
     }
-    rows_below(sbox, mix, keys, shape, window, words, bound)
+    rows_below(tables, keys, shape, window, words, bound)
 }

@@ -39,15 +39,15 @@ module _ (f : Front) (roots positions values delta b : List ℕ) where
   tree i = noiseTree (inputFrom f roots positions values delta [] []) i
 
   -- i trees have been written after the head
-  pub record Turn (sb mx : List ℕ) (keys : List (List (List (List ℕ)))) (out : List ℕ) (at base i : ℕ) : Type 0 where
+  pub record Turn (tb : List ℕ) (keys : List (List ℕ)) (out : List ℕ) (at base i : ℕ) : Type 0 where
     pub ready : TreesPlaced f roots positions values delta b
-    pub tables : TablesAndKeys (f .«branch_bits») sb mx keys
+    pub tables : TablesAndKeys (f .«branch_bits») tb keys
     pub turns : i ≤ f .trees
     pub next : base ≡ baseAt (f .field) tree i
     pub wrote : Wrote b (f .body) (first (f .field) tree i) at out
 
-  pub turn-start : {sb mx : List ℕ} {keys : List (List (List (List ℕ)))} → TreesPlaced f roots positions values delta b → TablesAndKeys (f .«branch_bits») sb mx keys
-      → Turn sb mx keys b (f .body) 0 0
+  pub turn-start : {tb : List ℕ} {keys : List (List ℕ)} → TreesPlaced f roots positions values delta b → TablesAndKeys (f .«branch_bits») tb keys
+      → Turn tb keys b (f .body) 0 0
   turn-start R L =
       record {
         ready = R;
@@ -76,7 +76,7 @@ module _ (f : Front) (roots positions values delta b : List ℕ) where
         ∙ ap (λ n. n + 1) (tree-position (inputFrom f roots positions values delta [] []) i) in
         omega (arith, e, rises (f .trees) (λ i. getD positions i 0) (R .rising) i h)
 
-  module _ {sb mx : List ℕ} {keys : List (List (List (List ℕ)))} {out : List ℕ} {at base i : ℕ} (T : Turn sb mx keys out at base i) where
+  module _ {tb : List ℕ} {keys : List (List ℕ)} {out : List ℕ} {at base i : ℕ} (T : Turn tb keys out at base i) where
     pub turn-long : length out ≡ length b
     turn-long = ap length (T .wrote .stored) ∙ length-sets b (f .body) (first (f .field) tree i)
 
@@ -106,7 +106,7 @@ module _ (f : Front) (roots positions values delta b : List ℕ) where
         pub turn-base : Fits w64 (t .position + 1)
         turn-base = record { fits = omega (arith, ap (λ x. x .position) made, T .ready .below i h, small-leaves (T .ready)) }
 
-        pub turn-tables : TablesAndKeys (t .«branch_bits») sb mx keys
+        pub turn-tables : TablesAndKeys (t .«branch_bits») tb keys
         turn-tables = rw made (T .tables)
 
         module _ {root : List (List ℕ)} (node : root ≡ columnsAt roots (16 * i)) where
@@ -141,7 +141,7 @@ module _ (f : Front) (roots positions values delta b : List ℕ) where
               }
 
           pub turn-next : {after : ℕ} {out₁ : List ℕ} → Wrote out (t .at) (writeTree (t .field) (t .base) (treeOf t root delta)) after out₁
-              → Turn sb mx keys out₁ after (t .position + 1) (i + 1)
+              → Turn tb keys out₁ after (t .position + 1) (i + 1)
           turn-next {after} {out₁} w =
               record {
                 ready = T .ready;

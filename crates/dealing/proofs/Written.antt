@@ -230,7 +230,7 @@ module _ (t : Planned) (root : List (List ℕ)) (delta : List ℕ) {out : List �
         room = tree-end;
       }
 
-  module _ {sbox mix : List ℕ} {keys : List (List (List (List ℕ)))} (L : TablesAndKeys (t .«branch_bits») sbox mix keys) {s : List (List ℕ)} {out₁ : List ℕ}
+  module _ {tables : List ℕ} {keys : List (List ℕ)} (L : TablesAndKeys (t .«branch_bits») tables keys) {s : List (List ℕ)} {out₁ : List ℕ}
       (went : walk s out₁ ≡ walked (2 ^ t .«branch_bits») (childBy (keysFor keys)) root place out) where
     -- the round keys that are lent give the tree's own walk
     own : walk s out₁ ≡ walked (2 ^ t .«branch_bits») child root place out

@@ -22,7 +22,7 @@ use record::front_length;
 use record::sibling_count;
 use record::write_front;
 use record::write_head;
-use sbox::mix_table;
+use sbox::fill_tables;
 use sbox::table;
 use tree::Punctured;
 use tree::child_keys;
@@ -118,15 +118,14 @@ fn write_planned(leaf: [[u8; 4]; 4], tree: Planned, delta: &[u8], out: &mut [u8]
 
 // Writes a tree at its place; the place after it. The walk to the leaf writes the siblings.
 fn write_tree(
-    sbox: &[u8; 256],
-    mix: &[u32; 256],
-    keys: &[[[[u8; 4]; 4]; 11]; 8],
+    tables: &[u64; 1536],
+    keys: &[[u64; 40]; 8],
     root: [[u8; 4]; 4],
     tree: Planned,
     delta: &[u8],
     out: &mut [u8],
 ) -> usize
-    requires { ⌜ TablesAndKeys (tree .«branch_bits») (now sbox) (now mix) (now keys) ⌝ }
+    requires { ⌜ TablesAndKeys (tree .«branch_bits») (now tables) (now keys) ⌝ }
     requires { ⌜ Placed tree root (now delta) (now out) ⌝ }
     ensures { λ r. ⌜ Wrote (now (out .entry)) (tree .at) (writeTree (tree .field) (tree .base) (treeOf tree root (now (delta .entry)))) r (now (out .exit)) ⌝ }
 {
@@ -138,7 +137,7 @@ fn write_tree(
         position: tree.position,
         at: siblings,
     };
-    let leaf = walk(sbox, mix, keys, root, place, out);
+    let leaf = walk(tables, keys, root, place, out);
     write_planned(leaf, tree, delta, out);
     next
 }
@@ -156,7 +155,8 @@ fn write_trees(
     ensures { λ r. ⌜ Wrote (now (out .entry)) (front .body) (treesBytes front (now (roots .entry)) (now (positions .entry)) (now (values .entry)) (now (delta .entry))) r (now (out .exit)) ⌝ }
 {
     let sb = table();
-    let mx = mix_table();
+    let mut tables = [0u64; 1536];
+    fill_tables(&mut tables);
     let keys = child_keys(&sb, front.branch_bits);
     let mut at = front.body;
     let mut base: usize = 0;
@@ -164,7 +164,7 @@ fn write_trees(
     while i < front.trees {
         let tree = plan(front, positions, values, i, base, at);
         let root = columns_at(roots, 16 * i);
-        at = write_tree(&sb, &mx, &keys, root, tree, delta, out);
+        at = write_tree(&tables, &keys, root, tree, delta, out);
         base = tree.position + 1;
         i += 1;
     }

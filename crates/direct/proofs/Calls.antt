@@ -89,7 +89,7 @@ module _ (s : List ℕ) (f : Front) (ready : noiseReady.Ready s f) where
   pub few-trees : f .trees ≤ 64
   few-trees = head-ranges 1 s (noise-parts s (ready .read) .2) .trees-most
 
-  module _ {table : List ℕ} (trees : TreesIn s f table (f .trees)) {keys : List (List (List (List ℕ)))} (own : OfChildKeys (2 ^ f .«branch_bits») (keysFor keys)) where
+  module _ {table : List ℕ} (trees : TreesIn s f table (f .trees)) {keys : List (List ℕ)} (own : OfChildKeys (2 ^ f .«branch_bits») (keysFor keys)) where
     walking : (vector : ℕ) → (vector ≡ 3 → ⊥) → Walking vector s f table keys
     walking vector h =
         record { standing = record { sizes = ready .sizes; few = few-trees; trees = λ v. trees; roots = λ e. absurd (h e) }; own = own }
@@ -150,7 +150,7 @@ module _ (s uOut vOut : List ℕ) (first count : ℕ) {r : Opened} (opens : open
 -- ---- the scalar end
 
 module _ (s : List ℕ) (f : Front) (ready : scalarReady.Ready s f) where
-  pub w0-walking : (table : List ℕ) {keys : List (List (List (List ℕ)))} → OfChildKeys (2 ^ f .«branch_bits») (keysFor keys) → Walking 3 s f table keys
+  pub w0-walking : (table : List ℕ) {keys : List (List ℕ)} → OfChildKeys (2 ^ f .«branch_bits») (keysFor keys) → Walking 3 s f table keys
   w0-walking table own =
       record {
         standing = record {

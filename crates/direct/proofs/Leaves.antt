@@ -41,7 +41,7 @@ use Rattle.direct.proofs.Words.{element-zero, noise-zero}
 
 -- ---- one tree, and two
 
-module _ (vector : ℕ) (s : List ℕ) (f : Front) (table : List ℕ) (keys : List (List (List (List ℕ)))) (walking : Walking vector s f table keys) where
+module _ (vector : ℕ) (s : List ℕ) (f : Front) (table : List ℕ) (keys : List (List ℕ)) (walking : Walking vector s f table keys) where
   pub start-way : {i j : ℕ} {r : Start} → StartsAt vector s f i j r → IsWay (f .«branch_bits») (r .left)
   start-way {r = r} start =
       let sizes = walking .standing .sizes in
@@ -72,7 +72,7 @@ pub sums-are : (field : ℕ) {x y : Value (kindOf field .field)} (a b e : Elemen
     → elementIn field e ≡ kindOf field .field .scaled .group .add x y
 sums-are field a b e p q r = r ∙ ap₂ (kindOf field .field .scaled .group .add) p q
 
-module _ (s : List ℕ) (f : Front) (keys : List (List (List (List ℕ)))) (a b : Start) (j : ℕ) (both : TwoStarts s f keys a b) where
+module _ (s : List ℕ) (f : Front) (keys : List (List ℕ)) (a b : Start) (j : ℕ) (both : TwoStarts s f keys a b) where
   down : (r : Start) {node leaf : List (List ℕ)} → node ≡ columnsAt s (r .at) → leaf ≡ leafAt (2 ^ f .«branch_bits») (childBy (keysFor keys)) (r .left) node j
       → leaf ≡ leafAt (2 ^ f .«branch_bits») child (r .left) (columnsAt s (r .at)) j
   down r n q =

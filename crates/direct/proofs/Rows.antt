@@ -69,7 +69,7 @@ module _ (field : ℕ) (rows : List ℕ) (j k : ℕ) {r : ℕ} where
 
 module _ (f : Front) (w : Window) (ok : IsCode f) {all : WindowRows} (e : all ≡ rowsOf f w) where
   pub shaped : Shaped (all .shape)
-  shaped = rw e (record { some = ok .some; full = ok .full; most = pow-mono (ok .depth); strip = refl })
+  shaped = rw e (record { some = ok .some; full = ok .full; most = pow-mono (ok .depth); few = ok .few; strip = refl })
 
   pub term-below : {i : ℕ} → i < f .terms → i < all .shape .terms
   term-below h = rw e h

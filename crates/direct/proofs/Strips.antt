@@ -236,27 +236,27 @@ module _ (vector : ℕ) (s : List ℕ) (code : List (List (List ℕ))) (f : Fron
 pub strip-is : (f : Front) {n : ℕ} → n ≡ 2 ^ f .depth → n / f .terms ≡ stripOf f
 strip-is f e = ap (λ (n : ℕ). n / f .terms) e
 
-pub strip-top : (s table : List ℕ) (keys : List (List (List (List ℕ)))) (t : Strip) (n : ℕ) → IsStrip s table keys t n → {size : ℕ} → size ≡ stripOf (t .batch .vector .front)
+pub strip-top : (s table : List ℕ) (keys : List (List ℕ)) (t : Strip) (n : ℕ) → IsStrip s table keys t n → {size : ℕ} → size ≡ stripOf (t .batch .vector .front)
     → t .number * size + size ≤ 2 ^ t .batch .vector .front .depth
 strip-top s table keys t n ok e =
     let f = t .batch .vector .front in
     let sizes = ok .walking .standing .sizes in
     rw e (omega (arith, strip-end (2 ^ f .depth) (f .terms) (sizes .full) (t .number) (ok .below), strips-within (2 ^ f .depth) (f .terms) (sizes .full)))
 
-module _ (s table : List ℕ) (keys : List (List (List (List ℕ)))) (t : Strip) (n : ℕ) (ok : IsStrip s table keys t n) {size : ℕ} (e : size ≡ stripOf (t .batch .vector .front)) where
+module _ (s table : List ℕ) (keys : List (List ℕ)) (t : Strip) (n : ℕ) (ok : IsStrip s table keys t n) {size : ℕ} (e : size ≡ stripOf (t .batch .vector .front)) where
   pub strip-most : t .number * size + size ≤ 65536
   strip-most = omega (arith, strip-top s table keys t n ok e, pow-mono {i = t .batch .vector .front .depth} {j = 16} (ok .walking .standing .sizes .depth))
 
   pub strip-fits : Fits w64 (t .number * size)
   strip-fits = record { fits = omega (arith, strip-most) }
 
-module _ (s : List ℕ) (code : List (List (List ℕ))) (b : Batch) {table : List ℕ} {keys : List (List (List (List ℕ)))}
+module _ (s : List ℕ) (code : List (List (List ℕ))) (b : Batch) {table : List ℕ} {keys : List (List ℕ)}
     (w : Walking (b .vector .number) s (b .vector .front) table keys) (small : IsBatch b) where
   f : Front
   f = b .vector .front
 
   pub batch-code : IsCode (b .vector .front)
-  batch-code = let z = w .standing .sizes in record { depth = z .depth; some = z .some; full = z .full }
+  batch-code = let z = w .standing .sizes in record { depth = z .depth; some = z .some; full = z .full; few = z .terms }
 
   pub batch-none : {n : ℕ} → n ≡ b .count * fieldFor (b .vector .number) (b .vector .front .field) .elements .width → {rows out : List ℕ}
       → rows ≡ replicate 96 0 → out ≡ replicate n 0 → Down (b .vector .number) s code (b .vector .front) (b .first) (b .count) (b .vector .front .terms) rows out
@@ -283,7 +283,7 @@ pub batch-all : (vector : ℕ) (s : List ℕ) (code : List (List (List ℕ))) (f
     → Down vector s code f first count i rows out → i ≤ 0 → out ≡ flat (fieldFor vector (f .field) .elements) count (λ k. outputOf vector s code f (first + k))
 batch-all vector s code f first count {i} d h = down-all vector s code f (d .shape) first count i d h
 
-pub batch-strip : (s table : List ℕ) (keys : List (List (List (List ℕ)))) (b : Batch) → Walking (b .vector .number) s (b .vector .front) table keys → IsBatch b
+pub batch-strip : (s table : List ℕ) (keys : List (List ℕ)) (b : Batch) → Walking (b .vector .number) s (b .vector .front) table keys → IsBatch b
     → (i n : ℕ) → 0 < i → i ≤ b .vector .front .terms → n ≡ b .count * fieldFor (b .vector .number) (b .vector .front .field) .elements .width
     → IsStrip s table keys (record { batch = b; number = i - 1 }) n
 batch-strip s table keys b w small i n h k e = record { walking = w; few = small .few; below = omega arith; whole = e }

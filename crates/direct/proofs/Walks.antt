@@ -13,8 +13,11 @@ use mir.Syntax.{w64}
 use mir.Val.{Fits}
 use borrow.Author.Tests.{eq-eqb, ne-eqb}
 use Rattle.algebra.specs.Choice.{choose}
-use Rattle.aes128.specs.Cipher.{cipher}
-use Rattle.aes128.specs.State.{xorState}
+use Rattle.aes128.specs.Inner.Sizes.{IsState}
+use Rattle.field.specs.Binary.{blockOf}
+use Rattle.field.specs.declared.block.Block.{Block}
+use Rattle.tree.specs.Inner.Nodes.{nodeOf}
+use Rattle.tree.proofs.Nodes.{node-of-columns}
 use Rattle.tree.specs.Child.{child, childBy, keysFor}
 use Rattle.tree.specs.Columns.{columnsAt, siblingsAt}
 use Rattle.tree.specs.Tree.{rank, leafAt, fromSiblings}
@@ -50,17 +53,16 @@ module _ (g left j : ℕ) (w : IsWay g left) {count : ℕ} (e : count ≡ 2 ^ g)
   pub digit-eight : (n : ℕ) → n % count < 8
   digit-eight n = omega (arith, digit-named n, few)
 
-module _ (keys : List (List (List (List ℕ)))) (k j : ℕ) where
-  -- the child of each of two
-  module _ (c : ℕ) (a b : List (List ℕ)) {both : List (List (List ℕ))} (e : both ≡ cipher (getD keys c []) a ∷ cipher (getD keys c []) b ∷ []) where
-    pub first-step : {next : List (List ℕ)} → next ≡ xorState (getD both 0 []) a → next ≡ childBy (keysFor keys) c a
-    unfolding childBy
-    first-step q = q ∙ ap (λ (l : List (List (List ℕ))). xorState (getD l 0 []) a) e
+-- two blocks, each equal to its own
+pub two-eq : {a b x y : List (List ℕ)} → a ≡ x → b ≡ y → a ∷ b ∷ [] ≡ x ∷ y ∷ []
+two-eq p q = ap₂ (λ (u v : List (List ℕ)). u ∷ v ∷ []) p q
 
-    pub second-step : {next : List (List ℕ)} → next ≡ xorState (getD both 1 []) b → next ≡ childBy (keysFor keys) c b
-    unfolding childBy
-    second-step q = q ∙ ap (λ (l : List (List (List ℕ))). xorState (getD l 1 []) b) e
+-- a child of a node, by its block
+module _ (keys : List (List ℕ)) (c : ℕ) (s : List (List ℕ)) (b next : Block) (h : IsState s) (e : b ≡ blockOf s) (q : nodeOf next ≡ childBy (keysFor keys) c (nodeOf b)) where
+  pub child-node : {r : List (List ℕ)} → r ≡ nodeOf next → r ≡ childBy (keysFor keys) c s
+  child-node p = p ∙ q ∙ ap (childBy (keysFor keys) c) (node-of-columns s h e)
 
+module _ (keys : List (List ℕ)) (k j : ℕ) where
   -- a level down
   module _ (stop levels : ℕ) (h : stop < levels) (c : ℕ) (e : c ≡ (j / k ^ (levels - 1)) % k) (s : List (List ℕ)) {x : List (List ℕ)}
       (q : leafAt k (childBy (keysFor keys)) levels s j ≡ x) where
@@ -71,8 +73,7 @@ module _ (keys : List (List (List (List ℕ)))) (k j : ℕ) where
         ∙ ap (λ (n : ℕ). leafAt k (childBy (keysFor keys)) n s j) {x = suc (levels - 1)} {y = levels} (omega arith)
         ∙ q
 
-    pub one-down : {next : List (List ℕ)} → next ≡ xorState (cipher (getD keys c []) s) s → leafAt k (childBy (keysFor keys)) (levels - 1) next j ≡ x
-    unfolding childBy
+    pub one-down : {next : List (List ℕ)} → next ≡ childBy (keysFor keys) c s → leafAt k (childBy (keysFor keys)) (levels - 1) next j ≡ x
     one-down n = level-down n
 
     pub first-down : (y : List (List ℕ)) {next : List (List (List ℕ))} → next ≡ childBy (keysFor keys) c s ∷ childBy (keysFor keys) c y ∷ []
@@ -102,7 +103,7 @@ module _ (keys : List (List (List (List ℕ)))) (k j : ℕ) where
   one-stop stop levels h i x p = ap (λ (n : ℕ). leafAt k (childBy (keysFor keys)) n x j) {x = stop} {y = levels} (omega arith) ∙ p
 
 -- a walk under the round keys of the child keys gives the leaf
-pub walked-leaf : (g : ℕ) (keys : List (List (List (List ℕ)))) → OfChildKeys (2 ^ g) (keysFor keys) → (left : ℕ) (s : List (List ℕ)) (j : ℕ)
+pub walked-leaf : (g : ℕ) (keys : List (List ℕ)) → OfChildKeys (2 ^ g) (keysFor keys) → (left : ℕ) (s : List (List ℕ)) (j : ℕ)
     → leafAt (2 ^ g) (childBy (keysFor keys)) left s j ≡ leafAt (2 ^ g) child left s j
 walked-leaf g keys own left s j = leaf-same (2 ^ g) (pow-pos g) (childBy (keysFor keys)) child (child-by (2 ^ g) (keysFor keys) own) left s j
 

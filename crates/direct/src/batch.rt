@@ -2,7 +2,8 @@
 ghost use mathlib.Core.Path.{_≡_};
 ghost use Prim.Native.Nat.{_+_, _*_, _≤_, _<_};
 ghost use lib.ListN.{length};
-ghost use Rattle.sbox.specs.Inner.Tables.{Tables};
+ghost use Rattle.sbox.specs.Inner.Tables.{RoundTables};
+ghost use Rattle.aes128.specs.Words.{roundKeys};
 ghost use Rattle.algebra.specs.Coding.{flat, over};
 ghost use Rattle.direct.specs.Inner.Vectors.{fieldFor, valuesOf, outputOf};
 ghost use Rattle.direct.specs.Inner.Trees.{Walking};
@@ -33,16 +34,15 @@ fn strip_size(front: Front) -> usize
 
 // Adds the places of strip i to the outputs, from the highest down.
 fn add_strip(
-    sbox: &[u8; 256],
-    mix: &[u32; 256],
-    keys: &[[[[u8; 4]; 4]; 11]; 8],
+    tables: &[u64; 1536],
+    keys: &[[u64; 40]; 8],
     source: &[u8],
     table: &[u64; 320],
     strip: Strip,
     rows: &[u64; 96],
     out: &mut [u64],
 )
-    requires { ⌜ Tables (now sbox) (now mix) ⌝ }
+    requires { ⌜ RoundTables (now tables) ⌝ }
     requires { ⌜ IsStrip (now source) (now table) (now keys) strip (length (now out)) ⌝ }
     ensures { λ _. ⌜ now (out .exit) ≡ stripAdded (strip .batch .vector .number) (strip .batch .vector .front .field) (strip .batch .count) (now (rows .entry))
         (valuesOf (strip .batch .vector .number) (now (source .entry)) (strip .batch .vector .front)) ((strip .number + 1) * stripOf (strip .batch .vector .front)) (stripOf (strip .batch .vector .front)) (now (out .entry)) ⌝ }
@@ -54,36 +54,35 @@ fn add_strip(
     while 0 < left {
         left -= 1;
         let j = start + left;
-        let value = value_at(sbox, mix, keys, source, table, batch.vector, j);
+        let value = value_at(tables, keys, source, table, batch.vector, j);
         add_place(batch, rows, j, value, out);
     }
 }
 
 // Writes the outputs of a batch.
 fn write_batch(
-    sbox: &[u8; 256],
-    mix: &[u32; 256],
-    keys: &[[[[u8; 4]; 4]; 11]; 8],
-    code: &[[[u8; 4]; 4]; 11],
+    tables: &[u64; 1536],
+    keys: &[[u64; 40]; 8],
+    code: &[u64; 40],
     source: &[u8],
     table: &[u64; 320],
     batch: Batch,
     out: &mut [u64],
 )
-    requires { ⌜ Tables (now sbox) (now mix) ⌝ }
+    requires { ⌜ RoundTables (now tables) ⌝ }
     requires { ⌜ Walking (batch .vector .number) (now source) (batch .vector .front) (now table) (now keys) × IsBatch batch
         × (length (now out) ≡ batch .count * fieldFor (batch .vector .number) (batch .vector .front .field) .elements .width) ⌝ }
     ensures { λ _. ⌜ now (out .exit) ≡ flat (fieldFor (batch .vector .number) (batch .vector .front .field) .elements) (batch .count)
-        (λ k. outputOf (batch .vector .number) (now (source .entry)) (now (code .entry)) (batch .vector .front) (batch .first + k)) ⌝ }
+        (λ k. outputOf (batch .vector .number) (now (source .entry)) (roundKeys (now (code .entry))) (batch .vector .front) (batch .first + k)) ⌝ }
 {
     zero_words(out);
     let mut rows = [0u64; 96];
     let mut i = batch.vector.front.terms;
     while 0 < i {
         i -= 1;
-        make_terms(sbox, mix, code, batch, i, &mut rows);
+        make_terms(tables, code, batch, i, &mut rows);
         let strip = Strip { batch, number: i };
-        add_strip(sbox, mix, keys, source, table, strip, &rows, out);
+        add_strip(tables, keys, source, table, strip, &rows, out);
         pass_terms(batch.vector.front.field, batch.count, &mut rows);
     }
 }
@@ -109,20 +108,19 @@ fn batch_count(left: usize) -> usize
 
 // Writes the outputs of a window over the front of a buffer.
 pub fn write_outputs(
-    sbox: &[u8; 256],
-    mix: &[u32; 256],
-    keys: &[[[[u8; 4]; 4]; 11]; 8],
-    code: &[[[u8; 4]; 4]; 11],
+    tables: &[u64; 1536],
+    keys: &[[u64; 40]; 8],
+    code: &[u64; 40],
     source: &[u8],
     table: &[u64; 320],
     window: Batch,
     out: &mut [u64],
 )
-    requires { ⌜ Tables (now sbox) (now mix) ⌝ }
+    requires { ⌜ RoundTables (now tables) ⌝ }
     requires { ⌜ Walking (window .vector .number) (now source) (window .vector .front) (now table) (now keys) × (window .first + window .count ≤ 32768)
         × (window .count * fieldFor (window .vector .number) (window .vector .front .field) .elements .width ≤ length (now out)) ⌝ }
     ensures { λ _. ⌜ now (out .exit) ≡ over (fieldFor (window .vector .number) (window .vector .front .field) .elements) (window .count)
-        (λ k. outputOf (window .vector .number) (now (source .entry)) (now (code .entry)) (window .vector .front) (window .first + k)) (now (out .entry)) ⌝ }
+        (λ k. outputOf (window .vector .number) (now (source .entry)) (roundKeys (now (code .entry))) (window .vector .front) (window .first + k)) (now (out .entry)) ⌝ }
 {
     let vector = window.vector;
     let width = value_width(vector.number, vector.front.field);
@@ -137,16 +135,7 @@ pub fn write_outputs(
         };
         let from = done * width;
         let to = from + count * width;
-        write_batch(
-            sbox,
-            mix,
-            keys,
-            code,
-            source,
-            table,
-            batch,
-            &mut out[from..to],
-        );
+        write_batch(tables, keys, code, source, table, batch, &mut out[from..to]);
         done += count;
     }
 }

@@ -3,7 +3,8 @@
 ghost use mathlib.Core.Path.{_≡_};
 ghost use Prim.Native.Nat.{_*_, _≤_, _<_};
 ghost use lib.ListN.{length};
-ghost use Rattle.sbox.specs.Inner.Tables.{Tables};
+ghost use Rattle.sbox.specs.Inner.Tables.{RoundTables};
+ghost use Rattle.aes128.specs.Words.{roundKeys};
 ghost use Rattle.direct.specs.Inner.Vectors.{fieldFor, noiseIn, valueIn, rowIn};
 ghost use Rattle.direct.specs.Inner.Rows.{IsBatch, IsCode, HasTerms, entryIn, sumsMore, placeAdded};
 use crate::elements::Element;
@@ -30,21 +31,14 @@ pub struct Pending {
 }
 
 // Term i of row x.
-fn pending_term(
-    sbox: &[u8; 256],
-    mix: &[u32; 256],
-    code: &[[[u8; 4]; 4]; 11],
-    front: Front,
-    x: usize,
-    i: usize,
-) -> Pending
-    requires { ⌜ Tables (now sbox) (now mix) ⌝ }
+fn pending_term(tables: &[u64; 1536], code: &[u64; 40], front: Front, x: usize, i: usize) -> Pending
+    requires { ⌜ RoundTables (now tables) ⌝ }
     requires { ⌜ IsCode front × (i < front .terms) ⌝ }
-    ensures { λ r. ⌜ (r .place ≡ rowIn (now (code .entry)) front x .place i) × (noiseIn (front .field) (r .coefficient) ≡ rowIn (now (code .entry)) front x .coefficient i) ⌝ }
+    ensures { λ r. ⌜ (r .place ≡ rowIn (roundKeys (now (code .entry))) front x .place i) × (noiseIn (front .field) (r .coefficient) ≡ rowIn (roundKeys (now (code .entry))) front x .coefficient i) ⌝ }
 {
     let window = Window { first: x, count: 1 };
     let rows = window_rows(front, window);
-    let term = row_term(sbox, mix, code, rows.shape, x, i);
+    let term = row_term(tables, code, rows.shape, x, i);
     Pending {
         place: term.place,
         coefficient: coefficient(front.field, term.word),
@@ -53,21 +47,20 @@ fn pending_term(
 
 // Makes term i of each row.
 pub fn make_terms(
-    sbox: &[u8; 256],
-    mix: &[u32; 256],
-    code: &[[[u8; 4]; 4]; 11],
+    tables: &[u64; 1536],
+    code: &[u64; 40],
     batch: Batch,
     i: usize,
     rows: &mut [u64; 96],
 )
-    requires { ⌜ Tables (now sbox) (now mix) ⌝ }
+    requires { ⌜ RoundTables (now tables) ⌝ }
     requires { ⌜ IsBatch batch × IsCode (batch .vector .front) × (i < batch .vector .front .terms) × (length (now rows) ≡ 96) ⌝ }
-    ensures { λ _. ⌜ HasTerms (now (code .entry)) batch i (batch .count) (now (rows .entry)) (now (rows .exit)) ⌝ }
+    ensures { λ _. ⌜ HasTerms (roundKeys (now (code .entry))) batch i (batch .count) (now (rows .entry)) (now (rows .exit)) ⌝ }
 {
     let front = batch.vector.front;
     let mut k: usize = 0;
     while k < batch.count {
-        let term = pending_term(sbox, mix, code, front, batch.first + k, i);
+        let term = pending_term(tables, code, front, batch.first + k, i);
         rows[32 + k] = term.place as u64;
         rows[64 + k] = term.coefficient;
         k += 1;

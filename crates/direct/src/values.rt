@@ -1,7 +1,7 @@
 // The value of a vector at a place: μ by the positions, v0 and w0 by a walk in each tree, two trees at a time.
 ghost use mathlib.Core.Path.{_≡_};
 ghost use Prim.Native.Nat.{_+_, _^_, _≤_, _<_};
-ghost use Rattle.sbox.specs.Inner.Tables.{Tables};
+ghost use Rattle.sbox.specs.Inner.Tables.{RoundTables};
 ghost use lib.Dec.{eqb};
 ghost use Rattle.algebra.specs.Choice.{choose};
 ghost use Rattle.algebra.specs.Sum.{sum};
@@ -30,16 +30,15 @@ pub struct Vector {
 
 // The element of leaf j of tree i, walked alone; the correction stands in for a punctured leaf.
 fn leaf_of(
-    sbox: &[u8; 256],
-    mix: &[u32; 256],
-    keys: &[[[[u8; 4]; 4]; 11]; 8],
+    tables: &[u64; 1536],
+    keys: &[[u64; 40]; 8],
     source: &[u8],
     table: &[u64; 320],
     vector: Vector,
     i: usize,
     j: usize,
 ) -> Element
-    requires { ⌜ Tables (now sbox) (now mix) ⌝ }
+    requires { ⌜ RoundTables (now tables) ⌝ }
     requires { ⌜ Walking (vector .number) (now source) (vector .front) (now table) (now keys) × (i < vector .front .trees) × (j < 2 ^ vector .front .depth) ⌝ }
     ensures { λ r. ⌜ elementIn (vector .front .field) r ≡ leafOf (vector .number) (now (source .entry)) (vector .front) i j ⌝ }
 {
@@ -53,22 +52,21 @@ fn leaf_of(
     }
     let start = start_at(source, table, vector.number, front, i, j);
     let node = columns_at(source, start.at);
-    let leaf = walk_to(sbox, mix, keys, front.branch_bits, start.left, 0, node, j);
+    let leaf = walk_to(tables, keys, front.branch_bits, start.left, 0, node, j);
     leaf_element(front.field, leaf)
 }
 
 // The sum of the elements of leaf j below two blocks.
 fn two_walked(
-    sbox: &[u8; 256],
-    mix: &[u32; 256],
-    keys: &[[[[u8; 4]; 4]; 11]; 8],
+    tables: &[u64; 1536],
+    keys: &[[u64; 40]; 8],
     source: &[u8],
     front: Front,
     a: Start,
     b: Start,
     j: usize,
 ) -> Element
-    requires { ⌜ Tables (now sbox) (now mix) ⌝ }
+    requires { ⌜ RoundTables (now tables) ⌝ }
     requires { ⌜ TwoStarts (now source) front (now keys) a b ⌝ }
     ensures { λ r. ⌜ elementIn (front .field) r ≡ twoLeaves (now (source .entry)) front a b j ⌝ }
 {
@@ -79,7 +77,7 @@ fn two_walked(
     };
     let first = columns_at(source, a.at);
     let second = columns_at(source, b.at);
-    let leaves = walk_two(sbox, mix, keys, levels, first, second, j);
+    let leaves = walk_two(tables, keys, levels, first, second, j);
     element_sum(
         front.field,
         leaf_element(front.field, leaves[0]),
@@ -89,16 +87,15 @@ fn two_walked(
 
 // The sum of the elements of leaf j of trees i and i + 1.
 fn two_leaves(
-    sbox: &[u8; 256],
-    mix: &[u32; 256],
-    keys: &[[[[u8; 4]; 4]; 11]; 8],
+    tables: &[u64; 1536],
+    keys: &[[u64; 40]; 8],
     source: &[u8],
     table: &[u64; 320],
     vector: Vector,
     i: usize,
     j: usize,
 ) -> Element
-    requires { ⌜ Tables (now sbox) (now mix) ⌝ }
+    requires { ⌜ RoundTables (now tables) ⌝ }
     requires { ⌜ Walking (vector .number) (now source) (vector .front) (now table) (now keys) × (i + 1 < vector .front .trees) × (j < 2 ^ vector .front .depth) ⌝ }
     ensures { λ r. ⌜ elementIn (vector .front .field) r
         ≡ kindOf (vector .front .field) .field .scaled .group .add (leafOf (vector .number) (now (source .entry)) (vector .front) i j)
@@ -106,26 +103,25 @@ fn two_leaves(
 {
     let front = vector.front;
     if either_punctured(vector.number, table, i, j) {
-        let a = leaf_of(sbox, mix, keys, source, table, vector, i, j);
-        let b = leaf_of(sbox, mix, keys, source, table, vector, i + 1, j);
+        let a = leaf_of(tables, keys, source, table, vector, i, j);
+        let b = leaf_of(tables, keys, source, table, vector, i + 1, j);
         return element_sum(front.field, a, b);
     }
     let a = start_at(source, table, vector.number, front, i, j);
     let b = start_at(source, table, vector.number, front, i + 1, j);
-    two_walked(sbox, mix, keys, source, front, a, b, j)
+    two_walked(tables, keys, source, front, a, b, j)
 }
 
 // The sum of the elements of leaf j of all trees.
 fn leaves_sum(
-    sbox: &[u8; 256],
-    mix: &[u32; 256],
-    keys: &[[[[u8; 4]; 4]; 11]; 8],
+    tables: &[u64; 1536],
+    keys: &[[u64; 40]; 8],
     source: &[u8],
     table: &[u64; 320],
     vector: Vector,
     j: usize,
 ) -> Element
-    requires { ⌜ Tables (now sbox) (now mix) ⌝ }
+    requires { ⌜ RoundTables (now tables) ⌝ }
     requires { ⌜ Walking (vector .number) (now source) (vector .front) (now table) (now keys) × (j < 2 ^ vector .front .depth) ⌝ }
     ensures { λ r. ⌜ elementIn (vector .front .field) r
         ≡ sum (kindOf (vector .front .field) .field .scaled .group) (vector .front .trees) (λ i. leafOf (vector .number) (now (source .entry)) (vector .front) i j) ⌝ }
@@ -135,13 +131,13 @@ fn leaves_sum(
     let mut total = Element { low: 0, high: 0 };
     let mut i: usize = 0;
     while i + 1 < trees {
-        let both = two_leaves(sbox, mix, keys, source, table, vector, i, j);
+        let both = two_leaves(tables, keys, source, table, vector, i, j);
         let next = element_sum(field, total, both);
         total = next;
         i += 2;
     }
     if i < trees {
-        let last = leaf_of(sbox, mix, keys, source, table, vector, i, j);
+        let last = leaf_of(tables, keys, source, table, vector, i, j);
         return element_sum(field, total, last);
     }
     total
@@ -175,15 +171,14 @@ fn noise_at(table: &[u64; 320], trees: usize, j: usize) -> u64
 
 // The vector's value at place j.
 pub fn value_at(
-    sbox: &[u8; 256],
-    mix: &[u32; 256],
-    keys: &[[[[u8; 4]; 4]; 11]; 8],
+    tables: &[u64; 1536],
+    keys: &[[u64; 40]; 8],
     source: &[u8],
     table: &[u64; 320],
     vector: Vector,
     j: usize,
 ) -> Element
-    requires { ⌜ Tables (now sbox) (now mix) ⌝ }
+    requires { ⌜ RoundTables (now tables) ⌝ }
     requires { ⌜ Walking (vector .number) (now source) (vector .front) (now table) (now keys) × (j < 2 ^ vector .front .depth) ⌝ }
     ensures { λ r. ⌜ valueIn (vector .number) (vector .front .field) r ≡ valuesOf (vector .number) (now (source .entry)) (vector .front) j ⌝ }
 {
@@ -193,5 +188,5 @@ pub fn value_at(
             high: 0,
         };
     }
-    leaves_sum(sbox, mix, keys, source, table, vector, j)
+    leaves_sum(tables, keys, source, table, vector, j)
 }

@@ -2,13 +2,13 @@
 ghost use mathlib.Core.Path.{_≡_};
 ghost use mathlib.Core.List.{[], _∷_};
 ghost use Prim.Native.Nat.{_/_, _%_, _^_, _≤_, _<_};
-ghost use Rattle.sbox.specs.Inner.Tables.{Tables};
-ghost use Rattle.aes128.specs.State.{xorWord, xorState};
+ghost use Rattle.sbox.specs.Inner.Tables.{RoundTables};
 ghost use Rattle.tree.specs.Child.{keysFor, childBy};
 ghost use Rattle.tree.specs.Tree.{leafAt};
 ghost use Rattle.direct.specs.Inner.Trees.{IsWay};
-use aes128::encrypt_both;
-use aes128::encrypt_xor;
+use field::Block;
+use tree::child;
+use tree::child_of_both;
 
 // How many bits name a child, and how many levels are left below each of two nodes.
 pub struct Levels {
@@ -17,39 +17,28 @@ pub struct Levels {
     pub second: usize,
 }
 
-// The exclusive or of two columns.
-fn xor_column(a: [u8; 4], b: [u8; 4]) -> [u8; 4]
-    ensures { λ r. ⌜ r ≡ xorWord a b ⌝ }
+// Child c of a node.
+fn child_of(tables: &[u64; 1536], keys: &[[u64; 40]; 8], c: usize, s: [[u8; 4]; 4]) -> [[u8; 4]; 4]
+    requires { ⌜ RoundTables (now tables) × (c < 8) ⌝ }
+    ensures { λ r. ⌜ r ≡ childBy (keysFor (now (keys .entry))) c s ⌝ }
 {
-    [a[0] ^ b[0], a[1] ^ b[1], a[2] ^ b[2], a[3] ^ b[3]]
+    let next = child(tables, keys, c, Block::of_columns(s));
+    next.columns()
 }
 
-// The exclusive or of two blocks.
-fn xor_block(a: [[u8; 4]; 4], b: [[u8; 4]; 4]) -> [[u8; 4]; 4]
-    ensures { λ r. ⌜ r ≡ xorState a b ⌝ }
-{
-    [
-        xor_column(a[0], b[0]),
-        xor_column(a[1], b[1]),
-        xor_column(a[2], b[2]),
-        xor_column(a[3], b[3]),
-    ]
-}
-
-// Child c of each of two blocks.
-fn child_of_both(
-    sbox: &[u8; 256],
-    mix: &[u32; 256],
-    keys: &[[[[u8; 4]; 4]; 11]; 8],
+// Child c of each of two nodes.
+fn children_of(
+    tables: &[u64; 1536],
+    keys: &[[u64; 40]; 8],
     c: usize,
     a: [[u8; 4]; 4],
     b: [[u8; 4]; 4],
 ) -> [[[u8; 4]; 4]; 2]
-    requires { ⌜ Tables (now sbox) (now mix) × (c < 8) ⌝ }
+    requires { ⌜ RoundTables (now tables) × (c < 8) ⌝ }
     ensures { λ r. ⌜ r ≡ childBy (keysFor (now (keys .entry))) c a ∷ childBy (keysFor (now (keys .entry))) c b ∷ [] ⌝ }
 {
-    let both = encrypt_both(sbox, mix, &keys[c], a, b);
-    [xor_block(both[0], a), xor_block(both[1], b)]
+    let both = child_of_both(tables, keys, c, Block::of_columns(a), Block::of_columns(b));
+    [both.first.columns(), both.second.columns()]
 }
 
 // The child that leaf j lies below, of a node whose children have so many levels below them.
@@ -63,16 +52,15 @@ pub fn digit(branch_bits: usize, left: usize, j: usize) -> usize
 
 // The node above leaf j with `stop` levels below it, from the one with `left` levels below it.
 pub fn walk_to(
-    sbox: &[u8; 256],
-    mix: &[u32; 256],
-    keys: &[[[[u8; 4]; 4]; 11]; 8],
+    tables: &[u64; 1536],
+    keys: &[[u64; 40]; 8],
     branch_bits: usize,
     left: usize,
     stop: usize,
     s: [[u8; 4]; 4],
     j: usize,
 ) -> [[u8; 4]; 4]
-    requires { ⌜ Tables (now sbox) (now mix) ⌝ }
+    requires { ⌜ RoundTables (now tables) ⌝ }
     requires { ⌜ IsWay «branch_bits» left × (stop ≤ left) ⌝ }
     ensures { λ r. ⌜ leafAt (2 ^ «branch_bits») (childBy (keysFor (now (keys .entry)))) stop r j
         ≡ leafAt (2 ^ «branch_bits») (childBy (keysFor (now (keys .entry)))) left s j ⌝ }
@@ -82,7 +70,7 @@ pub fn walk_to(
     while stop < levels {
         levels -= 1;
         let c = digit(branch_bits, levels, j);
-        let next = encrypt_xor(sbox, mix, &keys[c], node);
+        let next = child_of(tables, keys, c, node);
         node = next;
     }
     node
@@ -90,16 +78,15 @@ pub fn walk_to(
 
 // Leaf j below each of two nodes with `left` levels below them.
 fn walk_both(
-    sbox: &[u8; 256],
-    mix: &[u32; 256],
-    keys: &[[[[u8; 4]; 4]; 11]; 8],
+    tables: &[u64; 1536],
+    keys: &[[u64; 40]; 8],
     branch_bits: usize,
     left: usize,
     a: [[u8; 4]; 4],
     b: [[u8; 4]; 4],
     j: usize,
 ) -> [[[u8; 4]; 4]; 2]
-    requires { ⌜ Tables (now sbox) (now mix) ⌝ }
+    requires { ⌜ RoundTables (now tables) ⌝ }
     requires { ⌜ IsWay «branch_bits» left ⌝ }
     ensures { λ r. ⌜ r ≡ leafAt (2 ^ «branch_bits») (childBy (keysFor (now (keys .entry)))) left a j
         ∷ leafAt (2 ^ «branch_bits») (childBy (keysFor (now (keys .entry)))) left b j ∷ [] ⌝ }
@@ -110,7 +97,7 @@ fn walk_both(
     while 0 < levels {
         levels -= 1;
         let c = digit(branch_bits, levels, j);
-        let next = child_of_both(sbox, mix, keys, c, x, y);
+        let next = children_of(tables, keys, c, x, y);
         x = next[0];
         y = next[1];
     }
@@ -126,22 +113,21 @@ fn smaller(a: usize, b: usize) -> usize
 
 // Leaf j below each of two nodes, walked in alternation from where both have the same number of levels left.
 pub fn walk_two(
-    sbox: &[u8; 256],
-    mix: &[u32; 256],
-    keys: &[[[[u8; 4]; 4]; 11]; 8],
+    tables: &[u64; 1536],
+    keys: &[[u64; 40]; 8],
     levels: Levels,
     a: [[u8; 4]; 4],
     b: [[u8; 4]; 4],
     j: usize,
 ) -> [[[u8; 4]; 4]; 2]
-    requires { ⌜ Tables (now sbox) (now mix) ⌝ }
+    requires { ⌜ RoundTables (now tables) ⌝ }
     requires { ⌜ IsWay (levels .«branch_bits») (levels .first) × IsWay (levels .«branch_bits») (levels .second) ⌝ }
     ensures { λ r. ⌜ r ≡ leafAt (2 ^ levels .«branch_bits») (childBy (keysFor (now (keys .entry)))) (levels .first) a j
         ∷ leafAt (2 ^ levels .«branch_bits») (childBy (keysFor (now (keys .entry)))) (levels .second) b j ∷ [] ⌝ }
 {
     let g = levels.branch_bits;
     let both = smaller(levels.first, levels.second);
-    let x = walk_to(sbox, mix, keys, g, levels.first, both, a, j);
-    let y = walk_to(sbox, mix, keys, g, levels.second, both, b, j);
-    walk_both(sbox, mix, keys, g, both, x, y, j)
+    let x = walk_to(tables, keys, g, levels.first, both, a, j);
+    let y = walk_to(tables, keys, g, levels.second, both, b, j);
+    walk_both(tables, keys, g, both, x, y, j)
 }

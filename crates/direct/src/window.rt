@@ -2,7 +2,8 @@
 ghost use mathlib.Core.Path.{_≡_};
 ghost use Prim.Native.Nat.{_+_, _≤_};
 ghost use Rattle.algebra.specs.Coding.{over};
-ghost use Rattle.sbox.specs.Inner.Tables.{Tables};
+ghost use Rattle.sbox.specs.Inner.Tables.{RoundTables};
+ghost use Rattle.aes128.specs.Words.{roundKeys};
 ghost use Rattle.direct.specs.Inner.Vectors.{fieldFor, outputOf};
 ghost use Rattle.direct.specs.Inner.Both.{BothFit};
 ghost use lib.ListN.{length};
@@ -44,20 +45,19 @@ pub struct Rows {
 
 // Writes u and v of a noise record's rows, under the round keys lent.
 fn write_tabled(
-    sbox: &[u8; 256],
-    mix: &[u32; 256],
-    keys: &[[[[u8; 4]; 4]; 11]; 8],
-    code: &[[[u8; 4]; 4]; 11],
+    tables: &[u64; 1536],
+    keys: &[[u64; 40]; 8],
+    code: &[u64; 40],
     source: &[u8],
     table: &[u64; 320],
     rows: Rows,
     u_out: &mut [u64],
     v_out: &mut [u64],
 )
-    requires { ⌜ Tables (now sbox) (now mix) ⌝ }
+    requires { ⌜ RoundTables (now tables) ⌝ }
     requires { ⌜ BothFit (now source) rows (now table) (now keys) (length (now «u_out»)) (length (now «v_out»)) ⌝ }
-    ensures { λ _. ⌜ (now («u_out» .exit) ≡ over (fieldFor 1 (rows .front .field) .elements) (rows .count) (λ k. outputOf 1 (now (source .entry)) (now (code .entry)) (rows .front) (rows .first + k)) (now («u_out» .entry)))
-        × (now («v_out» .exit) ≡ over (fieldFor 2 (rows .front .field) .elements) (rows .count) (λ k. outputOf 2 (now (source .entry)) (now (code .entry)) (rows .front) (rows .first + k)) (now («v_out» .entry))) ⌝ }
+    ensures { λ _. ⌜ (now («u_out» .exit) ≡ over (fieldFor 1 (rows .front .field) .elements) (rows .count) (λ k. outputOf 1 (now (source .entry)) (roundKeys (now (code .entry))) (rows .front) (rows .first + k)) (now («u_out» .entry)))
+        × (now («v_out» .exit) ≡ over (fieldFor 2 (rows .front .field) .elements) (rows .count) (λ k. outputOf 2 (now (source .entry)) (roundKeys (now (code .entry))) (rows .front) (rows .first + k)) (now («v_out» .entry))) ⌝ }
 {
     let front = rows.front;
     let mu = Batch {
@@ -65,13 +65,13 @@ fn write_tabled(
         first: rows.first,
         count: rows.count,
     };
-    write_outputs(sbox, mix, keys, code, source, table, mu, u_out);
+    write_outputs(tables, keys, code, source, table, mu, u_out);
     let v0 = Batch {
         vector: Vector { number: 2, front },
         first: rows.first,
         count: rows.count,
     };
-    write_outputs(sbox, mix, keys, code, source, table, v0, v_out);
+    write_outputs(tables, keys, code, source, table, v0, v_out);
 }
 
 // Writes a noise record's window.
@@ -82,7 +82,8 @@ fn write_both(source: &[u8], front: Front, window: Window, u_out: &mut [u64], v_
         ≡ noise.filled (noiseReady.contentOf (now (source .entry)) front) (record { source = now (source .entry); uOut = now («u_out» .entry); vOut = now («v_out» .entry) }) (window .first) (window .count) ⌝ }
 {
     let sb = sbox::table();
-    let mx = sbox::mix_table();
+    let mut tables = [0u64; 1536];
+    sbox::fill_tables(&mut tables);
     let keys = child_keys(&sb, front.branch_bits);
     let code = code_keys(&sb, source, front);
     let table = tree_table(source, front);
@@ -91,7 +92,7 @@ fn write_both(source: &[u8], front: Front, window: Window, u_out: &mut [u64], v_
         first: window.first,
         count: window.count,
     };
-    write_tabled(&sb, &mx, &keys, &code, source, &table, rows, u_out, v_out);
+    write_tabled(&tables, &keys, &code, source, &table, rows, u_out, v_out);
 }
 
 // The noise end's call on a record that was accepted.
@@ -137,7 +138,8 @@ fn write_w(source: &[u8], front: Front, window: Window, w_out: &mut [u64])
         ≡ scalar.filled (scalarReady.contentOf (now (source .entry)) front) (record { source = now (source .entry); wOut = now («w_out» .entry) }) (window .first) (window .count) ⌝ }
 {
     let sb = sbox::table();
-    let mx = sbox::mix_table();
+    let mut tables = [0u64; 1536];
+    sbox::fill_tables(&mut tables);
     let keys = child_keys(&sb, front.branch_bits);
     let code = code_keys(&sb, source, front);
     let table = [0u64; 320];
@@ -146,7 +148,7 @@ fn write_w(source: &[u8], front: Front, window: Window, w_out: &mut [u64])
         first: window.first,
         count: window.count,
     };
-    write_outputs(&sb, &mx, &keys, &code, source, &table, w0, w_out);
+    write_outputs(&tables, &keys, &code, source, &table, w0, w_out);
 }
 
 // The scalar end's call on a record that was accepted.

@@ -1,6 +1,6 @@
 -- Each return of the two calls gives what the definition says there: what was read, and which tests were passed before it.
 use mathlib.Core.Path.{_≡_, refl, sym, ap, _∙_}
-use mathlib.Core.Bool.{Bool, true, false, _&&_, _||_, not}
+use mathlib.Core.Bool.{Bool, true, false, _||_, not}
 use mathlib.Core.List.{List, _++_}
 use Prim.Native.Nat.{ℕ, _+_, _*_, _^_, _≤_, _<_}
 use native.Mathlib.Nat.{mul-one}
@@ -9,6 +9,7 @@ use lib.ListN.{length, take, drop}
 use lib.Seq.{length-take-le}
 use borrow.Author.Tests.{lt-ltb, le-ltb, ltb-false, eqb-true, not-true, not-false}
 use Rattle.answer.specs.declared.TwoLengths.{TwoLengths}
+use Rattle.algebra.specs.Choice.{choose}
 use Rattle.algebra.specs.Coding.{flat, over}
 use Rattle.algebra.specs.Sum.{accumulate}
 use Rattle.algebra.proofs.Choice.{choose-map}
@@ -16,6 +17,7 @@ use Rattle.algebra.proofs.Tests.{or-none}
 use Rattle.code.specs.Row.{rowOf}
 use Rattle.code.specs.declared.Window.{Window}
 use Rattle.field.specs.Kind.{kindOf, elementWords}
+use Rattle.field.proofs.BothKinds.{kindLaws}
 use Rattle.record.specs.Reading.{readHead, readNoise}
 use Rattle.record.specs.Inner.Answers.{headOf, opened, frontOf}
 use Rattle.record.specs.declared.Front.{Front}
@@ -24,17 +26,18 @@ use Rattle.record.specs.declared.Opened.the-variants.{Accepted, Fault}
 use Rattle.rows.specs.declared.WindowRows.{WindowRows}
 use Rattle.rows.specs.Head.{fieldOf, codeKeys}
 use Rattle.rows.specs.Inner.Numbers.{wrongVector, pastOutputs, shortBuffer}
-use Rattle.rows.specs.Inner.Outputs.{rowsOf, ofNoise, windowOver}
+use Rattle.rows.specs.Inner.Outputs.{rowsOf, ofNoise}
 use Rattle.rows.specs.Inner.Testing.{Fitting, elementsUsed}
 use Rattle.rows.specs.Inner.Words.{recordFault}
 use Rattle.rows.specs.Usable.{windowUsable}
+use Rattle.rows.proofs.Fronts.{front-over}
 use Rattle.rows.proofs.Numbers.{none-failed, one-failed, passed-fits}
 use Rattle.noise_end.specs.Vectors.{mu, v0}
 use Rattle.noise_end.specs.Offline as off
 use Rattle.noise_end.specs.Online as on
 use Rattle.noise_end.specs.Online.{Lent}
 use Rattle.noise_end.specs.Inner.Ready.{contentOf, Ready}
-use Rattle.noise_end.specs.Inner.Steps.{outputsUnder, bothNumber}
+use Rattle.noise_end.specs.Inner.Steps.{bothUsed, uOver, vOver, windowsUnder, outputsUnder, bothNumber}
 use Rattle.noise_end.proofs.Content.{ready, refused-is}
 use Rattle.noise_end.proofs.Laws.{one-word, offline-whole, offline-refused, online-whole, online-refused}
 use Rattle.noise_end.proofs.Steps.{every-both}
@@ -138,38 +141,84 @@ module _ (s noise v uOut vOut : List ℕ) (a : Window) (f : Front)
             shaped = t .shaped;
             whole = eqb-true (length noise) (2 ^ f .depth) (not-false (eqb (length noise) (2 ^ f .depth)) (lengths .0 .0)) ∙ sym (mul-one (2 ^ f .depth));
             within = t .within;
-            few = t .few;
           };
           enough = rw mul-one (ltb-false (length uOut) (a .count) (lengths .1 .0));
         }
 
--- the window under round keys
-module _ (keys : List (List (List ℕ))) (r : WindowRows) (noise v uOut vOut : List ℕ)
-    {x : Bool} (xe : x ≡ elementsUsed (ofNoise (kindOf (r .field) .field)) keys r noise) where
-  pub noise-not-usable : not x ≡ true
-      → (record { number = 8; «first_written» = 0; «second_written» = 0 }, uOut, vOut) ≡ outputsUnder keys r noise v uOut vOut
-  unfolding outputsUnder
-  noise-not-usable e = sym (rw (← xe, not-true x e))
+-- the windows under round keys
+module _ (keys : List (List (List ℕ))) (r : WindowRows) (noise v uOut vOut : List ℕ) where
+  none-written : bothUsed keys r noise v ≡ false → (false, uOut, vOut) ≡ windowsUnder keys r noise v uOut vOut
+  unfolding windowsUnder
+  none-written e = sym (rw e)
 
-  module _ (right : not x ≡ false) {y : Bool} (ye : y ≡ elementsUsed (kindOf (r .field) .field) keys r v) where
-    pub not-usable : not y ≡ true
-        → (record { number = 8; «first_written» = 0; «second_written» = 0 }, uOut, vOut) ≡ outputsUnder keys r noise v uOut vOut
-    unfolding outputsUnder
-    not-usable e = sym (rw (← xe, ← ye, not-false x right, not-true y e))
+  all-written : bothUsed keys r noise v ≡ true → {a b : List ℕ} → a ≡ uOver keys r noise uOut → b ≡ vOver keys r v vOut
+      → (true, a, b) ≡ windowsUnder keys r noise v uOut vOut
+  unfolding windowsUnder
+  all-written e p q = sym (rw e (cc (p, q)))
 
-    pub outputs-written : not y ≡ false → {width : ℕ} → width ≡ elementWords (r .field)
-        → {a : List ℕ} → a ≡ windowOver (ofNoise (kindOf (r .field) .field)) (kindOf (r .field) .coefficient) keys r noise uOut
-        → {b : List ℕ} → b ≡ windowOver (kindOf (r .field) .field) (kindOf (r .field) .coefficient) keys r v vOut
+  -- tested before they are written, the noise and then v
+  module _ {x : Bool} (xe : x ≡ elementsUsed (ofNoise (kindOf (r .field) .field)) keys r noise) where
+    pub noise-not-usable : not x ≡ true → (false, uOut, vOut) ≡ windowsUnder keys r noise v uOut vOut
+    noise-not-usable e = none-written (rw (← xe, not-true x e))
+
+    module _ (right : not x ≡ false) {y : Bool} (ye : y ≡ elementsUsed (kindOf (r .field) .field) keys r v) where
+      pub not-usable : not y ≡ true → (false, uOut, vOut) ≡ windowsUnder keys r noise v uOut vOut
+      not-usable e = none-written (rw (← xe, ← ye, not-false x right, not-true y e))
+
+      pub large-written : not y ≡ false → {a b : List ℕ} → a ≡ uOver keys r noise uOut → b ≡ vOver keys r v vOut
+          → (true, a, b) ≡ windowsUnder keys r noise v uOut vOut
+      large-written e = all-written (rw (← xe, ← ye, not-false x right, not-false y e))
+
+  -- tested as they are summed, in memory of its own
+  module _ {t : Bool} (te : t ≡ bothUsed keys r noise v) where
+    pub small-refused : not t ≡ true → (false, uOut, vOut) ≡ windowsUnder keys r noise v uOut vOut
+    small-refused e = none-written (sym te ∙ not-true t e)
+
+    pub small-written : not t ≡ false → {width : ℕ} → width ≡ elementWords (r .field)
+        → (uOwn : List ℕ) {x : List ℕ} → x ≡ uOver keys r noise uOwn
+        → (vOwn : List ℕ) {y : List ℕ} → y ≡ vOver keys r v vOwn
+        → {a : List ℕ} → a ≡ take (r .window .count) x ++ drop (r .window .count) uOut
+        → {b : List ℕ} → b ≡ take (r .window .count * width) y ++ drop (r .window .count * width) vOut
+        → (true, a, b) ≡ windowsUnder keys r noise v uOut vOut
+    small-written e we uOwn p vOwn q ae be =
+        let F = kindOf (r .field) .field in
+        let L = kindLaws (r .field) .field in
+        let one : r .window .count ≡ r .window .count * F .noiseValues .width =
+        sym (ap (λ (n : ℕ). r .window .count * n) (kindLaws (r .field) .noise-width) ∙ mul-one (r .window .count)) in
+        all-written (sym te ∙ not-false t e)
+        (front-over (F .noiseValues) (L .noiseValues) (r .window .count) _ uOwn uOut p one ae)
+        (front-over (F .elements) (L .elements) (r .window .count) _ vOwn vOut q (ap (λ (n : ℕ). r .window .count * n) we) be)
+
+  -- what is returned
+  module _ {t : Bool} {a b : List ℕ} (we : (t, a, b) ≡ windowsUnder keys r noise v uOut vOut) where
+    test-is : t ≡ bothUsed keys r noise v
+    unfolding windowsUnder
+    test-is = ap (λ (z : Bool × List ℕ × List ℕ). z .0) we ∙ cases (bothUsed keys r noise v)
+      where
+        cases : (c : Bool) → choose {A = Bool × List ℕ × List ℕ} c (true, uOver keys r noise uOut, vOver keys r v vOut) (false, uOut, vOut) .0 ≡ c
+        cases true = refl
+        cases false = refl
+
+    pub outputs-refused : not t ≡ true
+        → (record { number = 8; «first_written» = 0; «second_written» = 0 }, a, b) ≡ outputsUnder keys r noise v uOut vOut
+    unfolding windowsUnder outputsUnder
+    outputs-refused e =
+        let f : bothUsed keys r noise v ≡ false = sym test-is ∙ not-true t e in
+        rw f (ap (λ (z : Bool × List ℕ × List ℕ). (record { number = 8; «first_written» = 0; «second_written» = 0 }, z .1, z .2)) (rw f at we))
+
+    pub outputs-written : not t ≡ false → {width : ℕ} → width ≡ elementWords (r .field)
         → (record { number = 0; «first_written» = r .window .count; «second_written» = r .window .count * width }, a, b)
         ≡ outputsUnder keys r noise v uOut vOut
-    unfolding outputsUnder
-    outputs-written e we p q = sym (rw (← xe, ← ye, not-false x right, not-false y e) (cc (we, p, q)))
+    unfolding windowsUnder outputsUnder
+    outputs-written e {width} ww =
+        let f : bothUsed keys r noise v ≡ true = sym test-is ∙ not-false t e in
+        rw f (ap (λ (z : Bool × List ℕ × List ℕ). (record { number = 0; «first_written» = r .window .count; «second_written» = r .window .count * width }, z .1, z .2)) (rw f at we)
+        ∙ rw ww)
 
 -- the same under a record's code key
 module _ (s noise v uOut vOut : List ℕ) (a : Window) (f : Front) where
   -- both tests of a place, or one after the other
-  used-words : (elementsUsed (ofNoise (kindOf (f .field) .field)) (codeKeys (headOf s f)) (rowsOf f a) noise
-      && elementsUsed (kindOf (f .field) .field) (codeKeys (headOf s f)) (rowsOf f a) v)
+  used-words : bothUsed (codeKeys (headOf s f)) (rowsOf f a) noise v
       ≡ windowUsable (on.usable (fieldOf (headOf s f)) (lent s noise v uOut vOut)) (headOf s f) (a .first) (a .count)
   unfolding elementsUsed windowUsable on.usable rowOf
   used-words = simp every-both
@@ -184,6 +233,6 @@ module _ (s noise v uOut vOut : List ℕ) (a : Window) (f : Front) where
       (not (windowUsable (on.usable (fieldOf (headOf s f)) (lent s noise v uOut vOut)) (headOf s f) (a .first) (a .count)))
       (record { number = 8; «first_written» = 0; «second_written» = 0 }, uOut, vOut) (
         record { number = 0; «first_written» = a .count; «second_written» = a .count * elementWords (f .field) },
-        windowOver (ofNoise (kindOf (f .field) .field)) (kindOf (f .field) .coefficient) (codeKeys (headOf s f)) (rowsOf f a) noise uOut,
-        windowOver (kindOf (f .field) .field) (kindOf (f .field) .coefficient) (codeKeys (headOf s f)) (rowsOf f a) v vOut,
+        uOver (codeKeys (headOf s f)) (rowsOf f a) noise uOut,
+        vOver (codeKeys (headOf s f)) (rowsOf f a) v vOut,
       )

@@ -75,7 +75,7 @@ module _ (f : Front) (t : Tree) (source n : ℕ) (fits : TreeFits f t source n) 
   pub tree-words : n ≡ (2 ^ f .«branch_bits») ^ (f .depth / f .«branch_bits») * elementWords (f .field)
   tree-words = leaf-words (f .«branch_bits») (f .depth) (elementWords (f .field)) (fits .divides) (fits .whole)
 
-pub tree-is : (f : Front) (keys : List (List (List (List ℕ)))) (s : List ℕ) (t : Tree) (v : List ℕ) {next : List ℕ}
+pub tree-is : (f : Front) (keys : List (List ℕ)) (s : List ℕ) (t : Tree) (v : List ℕ) {next : List ℕ}
     → next ≡ puncturedAdded (kindOf (f .field)) (2 ^ f .«branch_bits») (childBy (keysFor keys)) (puncturedOf f t) s
     (kindOf (f .field) .field .elements .read (t .low ∷ t .high ∷ []) 0) v
     → next ≡ treeAdded f keys s t v
@@ -125,7 +125,7 @@ leavesOf s f i j = choose (eqb (treeIn (treesAt s f) i .position) j) (correction
 
 -- after i trees of so many siblings under the child keys' round keys: what is left of the record from a place on, after
 -- positions below `base`, the noise values stored, the trees added
-pub record Grown (s : List ℕ) (f : Front) (keys : List (List (List (List ℕ)))) (n place base i : ℕ) (w v : List ℕ) : Type 0 where
+pub record Grown (s : List ℕ) (f : Front) (keys : List (List ℕ)) (n place base i : ℕ) (w v : List ℕ) : Type 0 where
   pub own : OfChildKeys (2 ^ f .«branch_bits») (keysFor keys)
   pub siblings : n ≡ beside f
   pub few : n ≤ 112
@@ -170,7 +170,7 @@ module _ (s : List ℕ) (f : Front) where
       ∙ put-flat C (kindLaws (f .field) .field .noiseValues) (2 ^ f .depth) g (treeIn (treesAt s f) i .position) (value (contentOf s f) i) (rw (← p) below)
       ∙ ap (λ (n : ℕ). flat C (2 ^ f .depth) (noise R n (λ k. treeIn (treesAt s f) k .position) (value (contentOf s f)))) (sym (add-one i))
 
-  tree-added : (keys : List (List (List (List ℕ)))) → OfChildKeys (2 ^ f .«branch_bits») (keysFor keys) → f .depth % f .«branch_bits» ≡ 0
+  tree-added : (keys : List (List ℕ)) → OfChildKeys (2 ^ f .«branch_bits») (keysFor keys) → f .depth % f .«branch_bits» ≡ 0
       → (i : ℕ) (t : Tree) {n : ℕ} → n ≡ beside f → treeIn (treesAt s f) i ≡ treeOf s (f .field) n t
       → {v next : List ℕ} → v ≡ treesSum (kindOf (f .field) .field) (2 ^ f .depth) (leavesOf s f) i → next ≡ treeAdded f keys s t v
       → next ≡ treesSum (kindOf (f .field) .field) (2 ^ f .depth) (leavesOf s f) (i + 1)
@@ -207,7 +207,7 @@ module _ (s : List ℕ) (f : Front) where
       )
       cases (Refused m) e k = absurd (false≢true k)
 
-  pub grown-none : {keys : List (List (List (List ℕ)))} {n m : ℕ} → TreesFit s f keys n m → {k : ℕ} → (k ≡ beside f) × (k ≤ 112)
+  pub grown-none : {keys : List (List ℕ)} {n m : ℕ} → TreesFit s f keys n m → {k : ℕ} → (k ≡ beside f) × (k ≤ 112)
       → {w v : List ℕ} → w ≡ replicate n 0 → v ≡ replicate m 0 → Grown s f keys k (f .body) 0 0 w v
   grown-none fits {k} count wz vz =
       let a = all-left (fits .ready .known) in
@@ -229,7 +229,7 @@ module _ (s : List ℕ) (f : Front) where
         size = length-added 0 t;
       }
 
-  module _ {keys : List (List (List (List ℕ)))} {n place base i : ℕ} {w v : List ℕ} (g : Grown s f keys n place base i w v) where
+  module _ {keys : List (List ℕ)} {n place base i : ℕ} {w v : List ℕ} (g : Grown s f keys n place base i w v) where
     pub grown-asks : i < f .trees → isWhole (readTree (f .field) (f .depth) n base s place) ≡ true
     grown-asks more = again-asks (f .field) (f .depth) n (f .trees) base s place i more (g .rest)
 

@@ -5,7 +5,7 @@ ghost use Prim.Native.Nat.{_*_, _^_, _≤_};
 ghost use lib.ListN.{length};
 ghost use Rattle.algebra.specs.Coding.{flat};
 ghost use Rattle.algebra.specs.Sum.{accumulate};
-ghost use Rattle.sbox.specs.Inner.Tables.{Tables};
+ghost use Rattle.sbox.specs.Inner.Tables.{RoundTables};
 ghost use Rattle.field.specs.Kind.{kindOf, elementWords};
 ghost use Rattle.number.specs.Inner.Known.{isWhole};
 ghost use Rattle.record.specs.Content.{siblingCount};
@@ -40,15 +40,14 @@ pub fn tree_at(source: &[u8], front: Front, beside: usize, at: usize, base: usiz
 
 // Adds the leaves of a punctured tree of 2^g children a node (document 02, 10), its correction at its position.
 fn add_tree(
-    sbox: &[u8; 256],
-    mix: &[u32; 256],
-    keys: &[[[[u8; 4]; 4]; 11]; 8],
+    tables: &[u64; 1536],
+    keys: &[[u64; 40]; 8],
     source: &[u8],
     front: Front,
     tree: Tree,
     v: &mut [u64],
 )
-    requires { ⌜ Tables (now sbox) (now mix) ⌝ }
+    requires { ⌜ RoundTables (now tables) ⌝ }
     requires { ⌜ TreeFits front tree (length (now source)) (length (now v)) ⌝ }
     ensures { λ _. ⌜ now (v .exit) ≡ treeAdded front (now (keys .entry)) (now (source .entry)) tree (now (v .entry)) ⌝ }
 {
@@ -59,29 +58,19 @@ fn add_tree(
         at: tree.siblings,
     };
     let correction = [tree.low, tree.high];
-    add_punctured(
-        sbox,
-        mix,
-        keys,
-        front.field,
-        punctured,
-        source,
-        correction,
-        v,
-    );
+    add_punctured(tables, keys, front.field, punctured, source, correction, v);
 }
 
 // Writes μ and v0, under the round keys lent.
 fn add_trees(
-    sbox: &[u8; 256],
-    mix: &[u32; 256],
-    keys: &[[[[u8; 4]; 4]; 11]; 8],
+    tables: &[u64; 1536],
+    keys: &[[u64; 40]; 8],
     source: &[u8],
     front: Front,
     noise: &mut [u64],
     v: &mut [u64],
 )
-    requires { ⌜ Tables (now sbox) (now mix) ⌝ }
+    requires { ⌜ RoundTables (now tables) ⌝ }
     requires { ⌜ TreesFit (now source) front (now keys) (length (now noise)) (length (now v)) ⌝ }
     ensures { λ _. ⌜ (now (noise .exit) ≡ flat (kindOf (front .field) .field .noiseValues) (2 ^ front .depth) (mu (contentOf (now (source .entry)) front)))
         × (now (v .exit) ≡ flat (kindOf (front .field) .field .elements) (2 ^ front .depth) (v0 (contentOf (now (source .entry)) front))) ⌝ }
@@ -98,7 +87,7 @@ fn add_trees(
         let position = tree.position;
         base = position + 1;
         noise[position] = tree.value;
-        add_tree(sbox, mix, keys, source, front, tree, v);
+        add_tree(tables, keys, source, front, tree, v);
         i += 1;
     }
 }
@@ -110,9 +99,10 @@ fn write_trees(source: &[u8], front: Front, noise: &mut [u64], v: &mut [u64])
         × (now (v .exit) ≡ flat (kindOf (front .field) .field .elements) (2 ^ front .depth) (v0 (contentOf (now (source .entry)) front))) ⌝ }
 {
     let sb = sbox::table();
-    let mx = sbox::mix_table();
+    let mut tables = [0u64; 1536];
+    sbox::fill_tables(&mut tables);
     let keys = child_keys(&sb, front.branch_bits);
-    add_trees(&sb, &mx, &keys, source, front, noise, v);
+    add_trees(&tables, &keys, source, front, noise, v);
 }
 
 // Writes the accumulated μ and v0.

@@ -1,8 +1,10 @@
-// The window of an online call: the test of the words that its rows use, and its outputs written.
+// The window of an online call: the test of the words that its rows use, and its outputs written; of a small window in one walk.
+ghost use mathlib.Core.Bool.{_&&_};
 ghost use mathlib.Core.Path.{_≡_};
 ghost use Prim.Native.Nat.{_≤_};
 ghost use lib.ListN.{length};
-ghost use Rattle.sbox.specs.Inner.Tables.{Tables};
+ghost use Rattle.sbox.specs.Inner.Tables.{RoundTables};
+ghost use Rattle.aes128.specs.Words.{roundKeys};
 ghost use Rattle.field.specs.Binary.{binary};
 ghost use Rattle.field.specs.Kind.{kindOf, binaryKind, primeKind, elementWords};
 ghost use Rattle.field.specs.Prime.{primes};
@@ -11,7 +13,7 @@ ghost use Rattle.rows.specs.Inner.Testing.{Testing, Fitting, elementsUsed};
 ghost use Rattle.record.specs.Inner.Answers.{headOf};
 ghost use Rattle.noise_end.specs.Online as on;
 ghost use Rattle.noise_end.specs.Inner.Ready.{Ready};
-ghost use Rattle.noise_end.specs.Inner.Steps.{outputsUnder, bothNumber};
+ghost use Rattle.noise_end.specs.Inner.Steps.{bothUsed, uOver, vOver, windowsUnder, outputsUnder, bothNumber};
 use answer::BAD_LENGTH;
 use answer::BUFFER_SHORT;
 use answer::NOT_ELEMENT;
@@ -24,6 +26,7 @@ use record::Front;
 use record::leaves;
 use rows::WindowRows;
 use rows::code_keys;
+use rows::copy_front;
 use rows::element_width;
 use rows::elements_used;
 use rows::lengths_number;
@@ -31,128 +34,174 @@ use rows::put_block;
 use rows::window_rows;
 
 // Whether every word of the noise that the rows use is a noise value. In field 2 noise values are elements.
-fn noise_used(
-    sbox: &[u8; 256],
-    mix: &[u32; 256],
-    keys: &[[[u8; 4]; 4]; 11],
-    rows: WindowRows,
-    noise: &[u64],
-) -> bool
-    requires { ⌜ Tables (now sbox) (now mix) ⌝ }
+fn noise_used(tables: &[u64; 1536], keys: &[u64; 40], rows: WindowRows, noise: &[u64]) -> bool
+    requires { ⌜ RoundTables (now tables) ⌝ }
     requires { ⌜ Testing 1 rows (length (now noise)) ⌝ }
-    ensures { λ r. ⌜ r ≡ elementsUsed (ofNoise (kindOf (rows .field) .field)) (now (keys .entry)) rows (now (noise .entry)) ⌝ }
+    ensures { λ r. ⌜ r ≡ elementsUsed (ofNoise (kindOf (rows .field) .field)) (roundKeys (now (keys .entry))) rows (now (noise .entry)) ⌝ }
 {
     if rows.field == 1 {
-        return used_below(sbox, mix, keys, rows.shape, rows.window, noise, 2);
+        return used_below(tables, keys, rows.shape, rows.window, noise, 2);
     }
-    elements_used(sbox, mix, keys, rows, noise)
+    elements_used(tables, keys, rows, noise)
 }
 
-// Writes the window's words of u and elements of v in field 1.
+// Writes the window's words of u and elements of v in field 1; whether every word of the noise that its rows use is a bit.
 fn fill_binary(
-    sbox: &[u8; 256],
-    mix: &[u32; 256],
-    keys: &[[[u8; 4]; 4]; 11],
+    tables: &[u64; 1536],
+    keys: &[u64; 40],
     rows: WindowRows,
     noise: &[u64],
     v: &[u64],
     u_out: &mut [u64],
     v_out: &mut [u64],
-)
-    requires { ⌜ Tables (now sbox) (now mix) ⌝ }
+) -> bool
+    requires { ⌜ RoundTables (now tables) ⌝ }
     requires { ⌜ Fitting 1 rows (length (now noise)) (length (now «u_out»)) × Fitting 2 rows (length (now v)) (length (now «v_out»)) ⌝ }
-    ensures { λ _. ⌜ (now («u_out» .exit) ≡ windowOver (ofNoise binary) (binaryKind .coefficient) (now (keys .entry)) rows (now (noise .entry)) (now («u_out» .entry)))
-        × (now («v_out» .exit) ≡ windowOver binary (binaryKind .coefficient) (now (keys .entry)) rows (now (v .entry)) (now («v_out» .entry))) ⌝ }
+    ensures { λ r. ⌜ (now («u_out» .exit) ≡ windowOver (ofNoise binary) (binaryKind .coefficient) (roundKeys (now (keys .entry))) rows (now (noise .entry)) (now («u_out» .entry)))
+        × (now («v_out» .exit) ≡ windowOver binary (binaryKind .coefficient) (roundKeys (now (keys .entry))) rows (now (v .entry)) (now («v_out» .entry)))
+        × (r ≡ elementsUsed (ofNoise binary) (roundKeys (now (keys .entry))) rows (now (noise .entry))) ⌝ }
 {
+    let mut passed = true;
     let mut k: usize = 0;
     while k < rows.window.count {
-        let pair = noise_row_binary(sbox, mix, keys, rows.shape, rows.window.first + k, noise, v);
-        u_out[k] = pair.u;
-        put_block(v_out, k, pair.v);
+        let row = noise_row_binary(tables, keys, rows.shape, rows.window.first + k, noise, v);
+        passed = passed & row.used;
+        u_out[k] = row.u;
+        put_block(v_out, k, row.v);
         k += 1;
     }
+    passed
 }
 
-// Writes the window's words of u and elements of v in field 2.
+// Writes the window's words of u and elements of v in field 2; whether every word that its rows use is an element.
 fn fill_prime(
-    sbox: &[u8; 256],
-    mix: &[u32; 256],
-    keys: &[[[u8; 4]; 4]; 11],
+    tables: &[u64; 1536],
+    keys: &[u64; 40],
     rows: WindowRows,
     noise: &[u64],
     v: &[u64],
     u_out: &mut [u64],
     v_out: &mut [u64],
-)
-    requires { ⌜ Tables (now sbox) (now mix) ⌝ }
+) -> bool
+    requires { ⌜ RoundTables (now tables) ⌝ }
     requires { ⌜ Fitting 1 rows (length (now noise)) (length (now «u_out»)) × Fitting 1 rows (length (now v)) (length (now «v_out»)) ⌝ }
-    ensures { λ _. ⌜ (now («u_out» .exit) ≡ windowOver primes (primeKind .coefficient) (now (keys .entry)) rows (now (noise .entry)) (now («u_out» .entry)))
-        × (now («v_out» .exit) ≡ windowOver primes (primeKind .coefficient) (now (keys .entry)) rows (now (v .entry)) (now («v_out» .entry))) ⌝ }
+    ensures { λ r. ⌜ (now («u_out» .exit) ≡ windowOver primes (primeKind .coefficient) (roundKeys (now (keys .entry))) rows (now (noise .entry)) (now («u_out» .entry)))
+        × (now («v_out» .exit) ≡ windowOver primes (primeKind .coefficient) (roundKeys (now (keys .entry))) rows (now (v .entry)) (now («v_out» .entry)))
+        × (r ≡ (elementsUsed primes (roundKeys (now (keys .entry))) rows (now (noise .entry)) && elementsUsed primes (roundKeys (now (keys .entry))) rows (now (v .entry)))) ⌝ }
 {
+    let mut passed = true;
     let mut k: usize = 0;
     while k < rows.window.count {
-        let pair = noise_row_prime(sbox, mix, keys, rows.shape, rows.window.first + k, noise, v);
+        let pair = noise_row_prime(tables, keys, rows.shape, rows.window.first + k, noise, v);
+        passed = passed & pair.used;
         u_out[k] = pair.u.word;
         v_out[k] = pair.v.word;
         k += 1;
     }
+    passed
 }
 
-// Writes the window's words of u and elements of v.
+// Writes the window's words of u and elements of v; whether every word that its rows use is a noise value or an element.
 fn fill(
-    sbox: &[u8; 256],
-    mix: &[u32; 256],
-    keys: &[[[u8; 4]; 4]; 11],
+    tables: &[u64; 1536],
+    keys: &[u64; 40],
     rows: WindowRows,
     noise: &[u64],
     v: &[u64],
     u_out: &mut [u64],
     v_out: &mut [u64],
-)
-    requires { ⌜ Tables (now sbox) (now mix) ⌝ }
+) -> bool
+    requires { ⌜ RoundTables (now tables) ⌝ }
     requires { ⌜ Fitting 1 rows (length (now noise)) (length (now «u_out»)) × Fitting (elementWords (rows .field)) rows (length (now v)) (length (now «v_out»)) ⌝ }
-    ensures { λ _. ⌜ (now («u_out» .exit) ≡ windowOver (ofNoise (kindOf (rows .field) .field)) (kindOf (rows .field) .coefficient) (now (keys .entry)) rows (now (noise .entry)) (now («u_out» .entry)))
-        × (now («v_out» .exit) ≡ windowOver (kindOf (rows .field) .field) (kindOf (rows .field) .coefficient) (now (keys .entry)) rows (now (v .entry)) (now («v_out» .entry))) ⌝ }
+    ensures { λ r. ⌜ (now («u_out» .exit) ≡ uOver (roundKeys (now (keys .entry))) rows (now (noise .entry)) (now («u_out» .entry)))
+        × (now («v_out» .exit) ≡ vOver (roundKeys (now (keys .entry))) rows (now (v .entry)) (now («v_out» .entry)))
+        × (r ≡ bothUsed (roundKeys (now (keys .entry))) rows (now (noise .entry)) (now (v .entry))) ⌝ }
 {
     if rows.field == 1 {
-        fill_binary(sbox, mix, keys, rows, noise, v, u_out, v_out);
+        fill_binary(tables, keys, rows, noise, v, u_out, v_out)
     } else {
-        fill_prime(sbox, mix, keys, rows, noise, v, u_out, v_out);
+        fill_prime(tables, keys, rows, noise, v, u_out, v_out)
     }
+}
+
+// Writes a window of at most 32 outputs, if the words that its rows use are noise values and elements, and says whether they
+// are: one walk of the rows tests and sums them in memory of its own, from where the window is copied.
+fn write_small(
+    tables: &[u64; 1536],
+    keys: &[u64; 40],
+    rows: WindowRows,
+    noise: &[u64],
+    v: &[u64],
+    u_out: &mut [u64],
+    v_out: &mut [u64],
+) -> bool
+    requires { ⌜ RoundTables (now tables) × (rows .window .count ≤ 32) ⌝ }
+    requires { ⌜ Fitting 1 rows (length (now noise)) (length (now «u_out»)) × Fitting (elementWords (rows .field)) rows (length (now v)) (length (now «v_out»)) ⌝ }
+    ensures { λ r. ⌜ (r, now («u_out» .exit), now («v_out» .exit))
+        ≡ windowsUnder (roundKeys (now (keys .entry))) rows (now (noise .entry)) (now (v .entry)) (now («u_out» .entry)) (now («v_out» .entry)) ⌝ }
+{
+    let count = rows.window.count;
+    let mut u_own = [0u64; 32];
+    let mut v_own = [0u64; 64];
+    if !fill(tables, keys, rows, noise, v, &mut u_own, &mut v_own) {
+        return false;
+    }
+    copy_front(&u_own, count, u_out);
+    copy_front(&v_own, count * element_width(rows.field), v_out);
+    true
+}
+
+// The same for any window: a larger one is tested before its rows are walked to write it.
+fn write_tested(
+    tables: &[u64; 1536],
+    keys: &[u64; 40],
+    rows: WindowRows,
+    noise: &[u64],
+    v: &[u64],
+    u_out: &mut [u64],
+    v_out: &mut [u64],
+) -> bool
+    requires { ⌜ RoundTables (now tables) ⌝ }
+    requires { ⌜ Fitting 1 rows (length (now noise)) (length (now «u_out»)) × Fitting (elementWords (rows .field)) rows (length (now v)) (length (now «v_out»)) ⌝ }
+    ensures { λ r. ⌜ (r, now («u_out» .exit), now («v_out» .exit))
+        ≡ windowsUnder (roundKeys (now (keys .entry))) rows (now (noise .entry)) (now (v .entry)) (now («u_out» .entry)) (now («v_out» .entry)) ⌝ }
+{
+    if rows.window.count <= 32 {
+        return write_small(tables, keys, rows, noise, v, u_out, v_out);
+    }
+    if !noise_used(tables, keys, rows, noise) {
+        return false;
+    }
+    if !elements_used(tables, keys, rows, v) {
+        return false;
+    }
+    fill(tables, keys, rows, noise, v, u_out, v_out);
+    true
 }
 
 // The test of the words that the rows use, and the window, under the code key's round keys.
 fn write_outputs(
-    sbox: &[u8; 256],
-    mix: &[u32; 256],
-    keys: &[[[u8; 4]; 4]; 11],
+    tables: &[u64; 1536],
+    keys: &[u64; 40],
     rows: WindowRows,
     noise: &[u64],
     v: &[u64],
     u_out: &mut [u64],
     v_out: &mut [u64],
 ) -> TwoLengths
-    requires { ⌜ Tables (now sbox) (now mix) ⌝ }
+    requires { ⌜ RoundTables (now tables) ⌝ }
     requires { ⌜ Fitting 1 rows (length (now noise)) (length (now «u_out»)) × Fitting (elementWords (rows .field)) rows (length (now v)) (length (now «v_out»)) ⌝ }
     ensures { λ r. ⌜ (r, now («u_out» .exit), now («v_out» .exit))
-        ≡ outputsUnder (now (keys .entry)) rows (now (noise .entry)) (now (v .entry)) (now («u_out» .entry)) (now («v_out» .entry)) ⌝ }
+        ≡ outputsUnder (roundKeys (now (keys .entry))) rows (now (noise .entry)) (now (v .entry)) (now («u_out» .entry)) (now («v_out» .entry)) ⌝ }
 {
     let words = rows.window.count * element_width(rows.field);
-    if !noise_used(sbox, mix, keys, rows, noise) {
+    if !write_tested(tables, keys, rows, noise, v, u_out, v_out) {
         return TwoLengths {
             number: NOT_ELEMENT,
             first_written: 0,
             second_written: 0,
         };
     }
-    if !elements_used(sbox, mix, keys, rows, v) {
-        return TwoLengths {
-            number: NOT_ELEMENT,
-            first_written: 0,
-            second_written: 0,
-        };
-    }
-    fill(sbox, mix, keys, rows, noise, v, u_out, v_out);
     TwoLengths {
         number: 0,
         first_written: rows.window.count,
@@ -176,10 +225,11 @@ fn write_rows(
         ≡ on.rowsOutcome (headOf (now (source .entry)) front) (record { source = now (source .entry); noise = now (noise .entry); v = now (v .entry); uOut = now («u_out» .entry); vOut = now («v_out» .entry) }) (window .first) (window .count) ⌝ }
 {
     let sb = sbox::table();
-    let mx = sbox::mix_table();
+    let mut tables = [0u64; 1536];
+    sbox::fill_tables(&mut tables);
     let keys = code_keys(&sb, source, front);
     let rows = window_rows(front, window);
-    write_outputs(&sb, &mx, &keys, rows, noise, v, u_out, v_out)
+    write_outputs(&tables, &keys, rows, noise, v, u_out, v_out)
 }
 
 // The number of the tests 3, 7 and 13, from the lengths of the vectors and of the output buffers.

@@ -9,37 +9,31 @@ use lib.Dec.{ltb, eqb}
 use lib.ListN.{length, getD, drop, drop-of-length-le}
 use lib.Seq.{drop-cons}
 use borrow.Author.Tests.{ltb-true, eqb-true, lt-ltb, le-ltb, eq-eqb, ne-eqb}
-use Rattle.aes128.specs.Cipher.{cipher, keyExpansion, aes}
+use Rattle.aes128.specs.Cipher.{keyExpansion, aes}
+use Rattle.aes128.specs.Words.{roundKeys}
+use Rattle.aes128.specs.Inner.Blocks.{cipherOf}
 use Rattle.field.specs.declared.block.Block.{Block}
-use Rattle.field.specs.Binary.{block, blockAdd, blockLeaf}
-use Rattle.field.specs.Bytes.{columnsOf}
+use Rattle.field.specs.Binary.{blockAdd}
 use Rattle.pads.specs.Bytes.{anyAbove}
 use Rattle.field.specs.Inner.Written.{withWord}
-use Rattle.pads.specs.Inner.Written.{withBlock, withMessages}
-use Rattle.pads.specs.Pad.{padKey, underPadKey, pad, messagePair}
-use Rattle.pads.proofs.Written.{two-words, two-blocks}
+use Rattle.pads.specs.Inner.Written.{withBlock}
+use Rattle.pads.specs.Pad.{padKey, indexBlock, underPadKey, pad}
+use Rattle.pads.proofs.Written.{two-words}
 
 -- both words of a block written
 pub put-words : (l l′ l″ : List ℕ) (at : ℕ) (b : Block) → l′ ≡ withWord l at (b .low) → l″ ≡ withWord l′ (at + 8) (b .high) → l″ ≡ withBlock l at b
 put-words l l′ l″ at b e g = g ∙ rw e (two-words l at b)
 
--- both messages written
-pub put-both : (l l′ l″ : List ℕ) (at x : ℕ) (w d s p q : Block) → p ≡ pad x w → s ≡ blockAdd w d → q ≡ pad x s
-    → l′ ≡ withBlock l at p → l″ ≡ withBlock l′ (at + 16) q → l″ ≡ withMessages l at (messagePair pad x w d)
-unfolding messagePair
-put-both l l′ l″ at x w d s p q pe se qe e g = g ∙ rw (e, qe, se, pe) (two-blocks l at (messagePair pad x w d))
-
--- the cipher's result on a block
-pub under-is : (b r : Block) (keys : List (List (List ℕ))) (s e : List (List ℕ))
-    → keys ≡ keyExpansion padKey → s ≡ columnsOf (b .low) (b .high) → e ≡ cipher keys s → r ≡ blockLeaf e → r ≡ underPadKey b
-unfolding underPadKey aes
-under-is b r keys s e ks se ee re = rw (re, ee, se, ks)
+-- both pads written
+pub put-both : (l l′ l″ : List ℕ) (at x y : ℕ) (a b p q : Block) → p ≡ pad x a → q ≡ pad y b
+    → l′ ≡ withBlock l at p → l″ ≡ withBlock l′ (at + 16) q → l″ ≡ withBlock (withBlock l at (pad x a)) (at + 16) (pad y b)
+put-both l l′ l″ at x y a b p q pe qe e g = rw (g, e, pe, qe)
 
 -- the pad from both steps
-pub pad-is : (x : ℕ) (w a z e r : Block)
-    → a ≡ underPadKey w → z ≡ blockAdd a (block x 0) → e ≡ underPadKey z → r ≡ blockAdd e a → r ≡ pad x w
-unfolding pad
-pad-is x w a z e r ae ze ee re = rw (re, ee, ze, ae)
+pub pad-is : (keys : List ℕ) (x : ℕ) (w a z e r : Block) → roundKeys keys ≡ keyExpansion padKey
+    → a ≡ cipherOf keys w → z ≡ blockAdd a (indexBlock x) → e ≡ cipherOf keys z → r ≡ blockAdd e a → r ≡ pad x w
+unfolding pad underPadKey aes
+pad-is keys x w a z e r ks ae ze ee re = rw (re, ee, ze, ae, ks)
 
 -- tests that hold together have one value
 same : (s t : Bool) → (s ≡ true → t ≡ true) → (t ≡ true → s ≡ true) → s ≡ t

@@ -13,7 +13,7 @@ use Rattle.field.specs.declared.block.Block.{Block}
 use Rattle.field.specs.Bytes.{leBytes}
 use Rattle.field.specs.Inner.Written.{withWord}
 use Rattle.pads.specs.Bytes.{MessagePair, blockBytes, messageBytes}
-use Rattle.pads.specs.Inner.Written.{withBlock, withMessages}
+use Rattle.pads.specs.Inner.Written.{withBlock}
 
 -- every value has as many words as the coding's width
 abbrev pub Wide : {A : Type 0} → Coding A → Type 0
@@ -84,6 +84,6 @@ two-words l at b = sym (sets-append l at (leBytes 8 (b .low)) (leBytes 8 (b .hig
 
 -- messages are written as two blocks
 pub two-blocks : (l : List ℕ) (at : ℕ) (m : MessagePair)
-    → withBlock (withBlock l at (m .message0)) (at + 16) (m .message1) ≡ withMessages l at m
-unfolding withBlock withMessages leBytes
+    → withBlock (withBlock l at (m .message0)) (at + 16) (m .message1) ≡ sets l at (messageBytes .words m)
+unfolding withBlock leBytes
 two-blocks l at m = sym (sets-append l at (blockBytes .words (m .message0)) (blockBytes .words (m .message1)))

@@ -25,9 +25,10 @@ pub fn noise_pads(first: usize, count: usize, v: &[u8], choices: &[u8], pads: &m
         return number;
     }
     let sb = sbox::table();
-    let mx = sbox::mix_table();
+    let mut tables = [0u64; 1536];
+    sbox::fill_tables(&mut tables);
     let keys = pad_keys(&sb);
-    write_pads(&sb, &mx, &keys, first, count, v, pads);
+    write_pads(&tables, &keys, first, count, v, pads);
     0
 }
 
@@ -41,9 +42,10 @@ pub fn scalar_pads(first: usize, count: usize, w: &[u8], delta: &[u8], pads: &mu
         return number;
     }
     let sb = sbox::table();
-    let mx = sbox::mix_table();
+    let mut tables = [0u64; 1536];
+    sbox::fill_tables(&mut tables);
     let keys = pad_keys(&sb);
     let d = block_at(delta, 0);
-    write_messages(&sb, &mx, &keys, first, count, w, d, pads);
+    write_messages(&tables, &keys, first, count, w, d, pads);
     0
 }

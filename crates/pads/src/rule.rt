@@ -2,43 +2,45 @@
 ghost use mathlib.Core.Path.{_≡_};
 ghost use Rattle.sbox.specs.Table.{SBoxTable};
 ghost use Rattle.aes128.specs.Cipher.{keyExpansion};
-ghost use Rattle.pads.specs.Pad.{padKey, underPadKey, pad};
+ghost use Rattle.aes128.specs.Words.{roundKeys};
+ghost use Rattle.pads.specs.Pad.{padKey, pad};
 ghost use Rattle.pads.specs.Inner.Steps.{PadKeys};
+use aes128::TwoBlocks;
 use field::Block;
 
 // The round keys of the pads' key, 16 bytes FF.
-pub fn pad_keys(sbox: &[u8; 256]) -> [[[u8; 4]; 4]; 11]
+pub fn pad_keys(sbox: &[u8; 256]) -> [u64; 40]
     requires { ⌜ SBoxTable (now sbox) ⌝ }
-    ensures { λ r. ⌜ r ≡ keyExpansion padKey ⌝ }
+    ensures { λ r. ⌜ roundKeys r ≡ keyExpansion padKey ⌝ }
 {
     let column: [u8; 4] = [255, 255, 255, 255];
-    aes128::expand_key(sbox, [column, column, column, column])
+    aes128::schedule(sbox, [column, column, column, column])
 }
 
-// The cipher's result on a block.
-fn under_pad_key(sbox: &[u8; 256], mix: &[u32; 256], keys: &[[[u8; 4]; 4]; 11], b: Block) -> Block
-    requires { ⌜ PadKeys (now sbox) (now mix) (now keys) ⌝ }
-    ensures { λ r. ⌜ r ≡ underPadKey b ⌝ }
-{
-    Block::of_columns(aes128::encrypt(sbox, mix, keys, b.columns()))
-}
-
-// The pad of an index and a block, in two steps.
-pub fn pad_of(
-    sbox: &[u8; 256],
-    mix: &[u32; 256],
-    keys: &[[[u8; 4]; 4]; 11],
+// The pads of index x and block a, and of index y and block b, each in two steps, in alternation.
+pub fn two_pads(
+    tables: &[u64; 1536],
+    keys: &[u64; 40],
     x: usize,
-    w: Block,
-) -> Block
-    requires { ⌜ PadKeys (now sbox) (now mix) (now keys) ⌝ }
-    ensures { λ r. ⌜ r ≡ pad x w ⌝ }
+    y: usize,
+    a: Block,
+    b: Block,
+) -> TwoBlocks
+    requires { ⌜ PadKeys (now tables) (now keys) ⌝ }
+    ensures { λ r. ⌜ (r .first ≡ pad x a) × (r .second ≡ pad y b) ⌝ }
 {
-    let a = under_pad_key(sbox, mix, keys, w);
-    let z = a.add(Block {
+    let s = aes128::encrypt_two(tables, keys, keys, a, b);
+    let p = s.first.add(Block {
         low: x as u64,
         high: 0,
     });
-    let e = under_pad_key(sbox, mix, keys, z);
-    e.add(a)
+    let q = s.second.add(Block {
+        low: y as u64,
+        high: 0,
+    });
+    let t = aes128::encrypt_two(tables, keys, keys, p, q);
+    TwoBlocks {
+        first: t.first.add(s.first),
+        second: t.second.add(s.second),
+    }
 }

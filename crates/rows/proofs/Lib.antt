@@ -7,4 +7,6 @@ pub mod Widths
 pub mod Windows
 pub mod Flats
 pub mod Numbers
+pub mod Fronts
+pub mod Passed
 mod Steps

@@ -89,10 +89,9 @@ passed-fits s f vector w room sizes wrong past short =
     let n : w .first + w .count ≤ f .outputs = ltb-false (f .outputs) (w .first + w .count) past in
     record {
       testing = record {
-        shaped = record { some = sizes .some; full = sizes .full; most = pow-mono (sizes .depth); strip = refl };
+        shaped = record { some = sizes .some; full = sizes .full; few = sizes .terms; most = pow-mono (sizes .depth); strip = refl };
         whole = eqb-true vector (2 ^ f .depth * elementWords (f .field)) (not-false (eqb vector (2 ^ f .depth * elementWords (f .field))) wrong);
         within = omega (arith, sizes .outputs);
-        few = sizes .terms;
       };
       enough = ltb-false room (w .count * elementWords (f .field)) short;
     }

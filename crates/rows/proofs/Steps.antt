@@ -3,7 +3,6 @@ use mathlib.Core.Path.{_≡_, refl, sym, ap, _∙_}
 use mathlib.Core.Bool.{Bool, true}
 use mathlib.Core.List.{List, _++_, append-nil}
 use Prim.Native.Nat.{ℕ, _+_, _-_, _*_, _≤_, _<_}
-use native.Mathlib.Nat.{mul-one}
 use native.Mathlib.Omega.{arith}
 use lib.Dec.{ltb}
 use lib.ListN.{length, drop, replicate, set, length-set}
@@ -14,8 +13,8 @@ use Rattle.algebra.proofs.Tests.{together}
 use Rattle.algebra.specs.Coding.{at, flat}
 use Rattle.algebra.specs.Inner.Put.{put}
 use Rattle.algebra.specs.Sum.{accumulate}
-use Rattle.algebra.proofs.Every.{every-all}
 use Rattle.aes128.specs.Cipher.{keyExpansion}
+use Rattle.aes128.specs.Words.{roundKeys}
 use Rattle.field.specs.declared.block.Block.{Block}
 use Rattle.field.specs.Binary.{binary, bitRing, block, blockGroup}
 use Rattle.field.specs.Kind.{kindOf, elementWords}
@@ -25,11 +24,12 @@ use Rattle.field.proofs.Words.{put-two}
 use Rattle.record.specs.declared.Front.{Front}
 use Rattle.record.specs.Inner.Answers.{headOf}
 use Rattle.tree.specs.Columns.{columnsAt}
-use Rattle.code.specs.Inner.Used.{rowBelow, usedBelow}
+use Rattle.code.specs.Inner.Used.{usedBelow}
 use Rattle.rows.specs.declared.WindowRows.{WindowRows}
 use Rattle.rows.specs.Head.{codeKeys}
 use Rattle.rows.specs.Inner.Testing.{elementsUsed}
 use Rattle.rows.proofs.Blocks.{columns-part}
+use Rattle.rows.proofs.Passed.{all-primes, prime-used}
 use Rattle.rows.proofs.Widths.{whole-prime}
 
 pub past-by-first : (first count end : ℕ) → count ≤ end → ltb (end - count) first ≡ ltb end (first + count)
@@ -41,9 +41,9 @@ past-by-first first count end h =
 pub past-by-count : (first count end : ℕ) → end < count → true ≡ ltb end (first + count)
 past-by-count first count end h = sym (lt-ltb end (first + count) (omega arith))
 
-pub keys-at : (s : List ℕ) (f : Front) {at : ℕ} {c : List (List ℕ)} {r : List (List (List ℕ))} → at ≡ f .body - 32 → c ≡ columnsAt s at
-    → r ≡ keyExpansion c → r ≡ codeKeys (headOf s f)
-keys-at s f a e q = q ∙ ap keyExpansion (e ∙ ap (columnsAt s) a ∙ sym (columns-part s (f .body - 32)))
+pub keys-at : (s : List ℕ) (f : Front) {at : ℕ} {c : List (List ℕ)} (words : List ℕ) → at ≡ f .body - 32 → c ≡ columnsAt s at
+    → roundKeys words ≡ keyExpansion c → roundKeys words ≡ codeKeys (headOf s f)
+keys-at s f words a e q = q ∙ ap keyExpansion (e ∙ ap (columnsAt s) a ∙ sym (columns-part s (f .body - 32)))
 
 -- the first i words of b are zeroed
 pub record Zeroed (b w : List ℕ) (i : ℕ) : Type 0 where
@@ -98,14 +98,7 @@ module _ (field : ℕ) (w : List ℕ) where
 -- ---- the words that rows use
 
 module _ (keys : List (List (List ℕ))) (r : WindowRows) (w : List ℕ) where
-  pub used-binary : (field : ℕ) → field ≡ 1 → true ≡ elementsUsed (kindOf field .field) keys r w
-  unfolding elementsUsed
-  used-binary field e = rw e (sym (every-all _ (r .window .count) (λ k b. every-all _ (r .shape .terms) (λ i c. refl))))
-
-  used-at-prime : usedBelow modulus w keys (r .shape) (r .window) ≡ elementsUsed primes keys r w
-  unfolding usedBelow rowBelow elementsUsed
-  used-at-prime = simp mul-one
-
   pub used-prime : (field : ℕ) → (field ≡ 1 → ⊥) → {bound : ℕ} → bound ≡ modulus → {t : Bool}
       → t ≡ usedBelow bound w keys (r .shape) (r .window) → t ≡ elementsUsed (kindOf field .field) keys r w
-  used-prime field h e q = q ∙ rw (e, kind-2 field h) used-at-prime
+  unfolding usedBelow
+  used-prime field h e q = prime-used keys r w field h (q ∙ rw e (all-primes keys r w))

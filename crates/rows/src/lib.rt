@@ -17,6 +17,7 @@ pub use window::lengths_number;
 pub use window::window_rows;
 pub use words::accumulate_elements;
 pub use words::accumulate_noise;
+pub use words::copy_front;
 pub use words::put_block;
 pub use words::zero_words;
 

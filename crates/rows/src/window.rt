@@ -3,8 +3,9 @@ ghost use mathlib.Core.Path.{_≡_};
 ghost use Prim.Native.Nat.{_+_, _-_, _≤_};
 ghost use lib.Dec.{ltb};
 ghost use lib.ListN.{length};
-ghost use Rattle.sbox.specs.Inner.Tables.{Tables};
+ghost use Rattle.sbox.specs.Inner.Tables.{RoundTables};
 ghost use Rattle.sbox.specs.Table.{SBoxTable};
+ghost use Rattle.aes128.specs.Words.{roundKeys};
 ghost use Rattle.field.specs.Kind.{kindOf, elementWords};
 ghost use Rattle.record.specs.Inner.Answers.{headOf};
 ghost use Rattle.rows.specs.Head.{codeKeys};
@@ -13,7 +14,7 @@ ghost use Rattle.rows.specs.Inner.Outputs.{rowsOf};
 ghost use Rattle.rows.specs.Inner.Testing.{Testing, elementsUsed};
 use crate::WindowRows;
 use crate::element_width;
-use aes128::expand_key;
+use aes128::schedule;
 use answer::BAD_LENGTH;
 use answer::BUFFER_SHORT;
 use answer::WINDOW_PAST_END;
@@ -80,31 +81,29 @@ pub fn code_key_at(front: Front) -> usize
 }
 
 // The round keys of the code key.
-pub fn code_keys(sbox: &[u8; 256], source: &[u8], front: Front) -> [[[u8; 4]; 4]; 11]
+pub fn code_keys(sbox: &[u8; 256], source: &[u8], front: Front) -> [u64; 40]
     requires { ⌜ SBoxTable (now sbox) × (32 ≤ front .body) × (front .body ≤ length (now source)) ⌝ }
-    ensures { λ r. ⌜ r ≡ codeKeys (headOf (now (source .entry)) front) ⌝ }
+    ensures { λ r. ⌜ roundKeys r ≡ codeKeys (headOf (now (source .entry)) front) ⌝ }
 {
-    expand_key(sbox, columns_at(source, code_key_at(front)))
+    schedule(sbox, columns_at(source, code_key_at(front)))
 }
 
 // Whether every word that the rows use is an element. In field 1 every word is.
 pub fn elements_used(
-    sbox: &[u8; 256],
-    mix: &[u32; 256],
-    keys: &[[[u8; 4]; 4]; 11],
+    tables: &[u64; 1536],
+    keys: &[u64; 40],
     rows: WindowRows,
     words: &[u64],
 ) -> bool
-    requires { ⌜ Tables (now sbox) (now mix) ⌝ }
+    requires { ⌜ RoundTables (now tables) ⌝ }
     requires { ⌜ Testing (elementWords (rows .field)) rows (length (now words)) ⌝ }
-    ensures { λ r. ⌜ r ≡ elementsUsed (kindOf (rows .field) .field) (now (keys .entry)) rows (now (words .entry)) ⌝ }
+    ensures { λ r. ⌜ r ≡ elementsUsed (kindOf (rows .field) .field) (roundKeys (now (keys .entry))) rows (now (words .entry)) ⌝ }
 {
     if rows.field == 1 {
         return true;
     }
     used_below(
-        sbox,
-        mix,
+        tables,
         keys,
         rows.shape,
         rows.window,

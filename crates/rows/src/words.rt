@@ -1,7 +1,8 @@
-// Words zeroed, written and accumulated.
+// Words zeroed, copied, written and accumulated.
+ghost use mathlib.Core.List.{_++_};
 ghost use mathlib.Core.Path.{_≡_};
 ghost use Prim.Native.Nat.{_+_, _*_, _≤_};
-ghost use lib.ListN.{length, replicate};
+ghost use lib.ListN.{length, take, drop, replicate};
 ghost use Rattle.algebra.specs.Coding.{at, flat};
 ghost use Rattle.algebra.specs.Inner.Put.{put};
 ghost use Rattle.algebra.specs.Sum.{accumulate};
@@ -19,6 +20,18 @@ pub fn zero_words(words: &mut [u64])
     let mut i: usize = 0;
     while i < words.len() {
         words[i] = 0;
+        i += 1;
+    }
+}
+
+// Copies the first `count` words to the front of others.
+pub fn copy_front(words: &[u64], count: usize, out: &mut [u64])
+    requires { ⌜ (count ≤ length (now words)) × (count ≤ length (now out)) ⌝ }
+    ensures { λ _. ⌜ now (out .exit) ≡ take count (now (words .entry)) ++ drop count (now (out .entry)) ⌝ }
+{
+    let mut i: usize = 0;
+    while i < count {
+        out[i] = words[i];
         i += 1;
     }
 }

@@ -2,3 +2,6 @@
 mod Every
 mod Rules
 pub mod Bounds
+mod Bytes
+pub mod Columns
+mod Filled

@@ -7,12 +7,14 @@ use lib.ListN.{length, take, drop}
 use lib.Seq.{length-take-le}
 use borrow.Author.Tests.{lt-ltb, le-ltb, not-true, not-false}
 use Rattle.answer.specs.declared.OneLength.{OneLength}
+use Rattle.algebra.specs.Choice.{choose}
 use Rattle.algebra.specs.Coding.{flat, over}
 use Rattle.algebra.specs.Sum.{accumulate}
 use Rattle.algebra.proofs.Choice.{choose-map}
 use Rattle.code.specs.Row.{rowOf}
 use Rattle.code.specs.declared.Window.{Window}
 use Rattle.field.specs.Kind.{kindOf, elementWords}
+use Rattle.field.proofs.BothKinds.{kindLaws}
 use Rattle.record.specs.Reading.{readHead, readScalar}
 use Rattle.record.specs.Inner.Answers.{headOf, opened, frontOf}
 use Rattle.record.specs.declared.Front.{Front}
@@ -21,16 +23,17 @@ use Rattle.record.specs.declared.Opened.the-variants.{Accepted, Fault}
 use Rattle.rows.specs.declared.WindowRows.{WindowRows}
 use Rattle.rows.specs.Head.{codeKeys}
 use Rattle.rows.specs.Inner.Numbers.{wrongVector, pastOutputs, shortBuffer, lengthsNumber}
-use Rattle.rows.specs.Inner.Outputs.{rowsOf, windowOver}
+use Rattle.rows.specs.Inner.Outputs.{rowsOf}
 use Rattle.rows.specs.Inner.Testing.{Fitting, elementsUsed}
 use Rattle.rows.specs.Inner.Words.{recordFault}
 use Rattle.rows.specs.Usable.{windowUsable}
+use Rattle.rows.proofs.Fronts.{front-over}
 use Rattle.rows.proofs.Numbers.{none-failed, one-failed, passed-fits}
 use Rattle.scalar_end.specs.Vectors.{w0, deltaOut}
 use Rattle.scalar_end.specs.Offline as off
 use Rattle.scalar_end.specs.Online as on
 use Rattle.scalar_end.specs.Online.{Lent}
-use Rattle.scalar_end.specs.Inner.Steps.{deltaAt, outputsUnder}
+use Rattle.scalar_end.specs.Inner.Steps.{deltaAt, wOver, windowUnder, outputsUnder}
 use Rattle.scalar_end.specs.Inner.Ready.{contentOf, Ready}
 use Rattle.scalar_end.proofs.Content.{ready, refused-is}
 use Rattle.scalar_end.proofs.Laws.{offline-whole, offline-refused, online-whole, online-refused}
@@ -106,16 +109,47 @@ module _ (s w out : List ℕ) (a : Window) (f : Front) {number : ℕ} (ne : numb
         passed-fits s f (length w) a (length out) (accepted .sizes) (passed .0) (passed .1) (passed .2)
 
 -- the window under round keys
-module _ (keys : List (List (List ℕ))) (r : WindowRows) (w out : List ℕ) {used : Bool} (ue : used ≡ elementsUsed (kindOf (r .field) .field) keys r w) where
-  pub not-usable : not used ≡ true → (record { number = 8; written = 0 }, out) ≡ outputsUnder keys r w out
-  unfolding outputsUnder
-  not-usable e = sym (rw (← ue, not-true used e))
+module _ (keys : List (List (List ℕ))) (r : WindowRows) (w out : List ℕ) where
+  -- tested, and then written or not
+  module _ {used : Bool} (ue : used ≡ elementsUsed (kindOf (r .field) .field) keys r w) where
+    pub not-usable : not used ≡ true → (false, out) ≡ windowUnder keys r w out
+    unfolding windowUnder
+    not-usable e = sym (rw (← ue, not-true used e))
 
-  pub outputs-written : not used ≡ false → {width : ℕ} → width ≡ elementWords (r .field) → {x : List ℕ}
-      → x ≡ windowOver (kindOf (r .field) .field) (kindOf (r .field) .coefficient) keys r w out
-      → (record { number = 0; written = r .window .count * width }, x) ≡ outputsUnder keys r w out
-  unfolding outputsUnder
-  outputs-written e we q = sym (rw (← ue, not-false used e) (cc (we, q)))
+    pub large-written : not used ≡ false → {x : List ℕ} → x ≡ wOver keys r w out → (true, x) ≡ windowUnder keys r w out
+    unfolding windowUnder
+    large-written e q = sym (rw (← ue, not-false used e) (cc q))
+
+    -- from memory of its own
+    pub small-written : not used ≡ false → {width : ℕ} → width ≡ elementWords (r .field) → (own : List ℕ) {y : List ℕ} → y ≡ wOver keys r w own
+        → {x : List ℕ} → x ≡ take (r .window .count * width) y ++ drop (r .window .count * width) out → (true, x) ≡ windowUnder keys r w out
+    small-written e we own q xe =
+        large-written e
+        (front-over (kindOf (r .field) .field .elements) (kindLaws (r .field) .field .elements) (r .window .count) _ own out q
+        (ap (λ (n : ℕ). r .window .count * n) we) xe)
+
+  -- what is returned
+  module _ {t : Bool} {x : List ℕ} (ue : (t, x) ≡ windowUnder keys r w out) where
+    test-is : t ≡ elementsUsed (kindOf (r .field) .field) keys r w
+    unfolding windowUnder
+    test-is = ap (λ (z : Bool × List ℕ). z .0) ue ∙ cases (elementsUsed (kindOf (r .field) .field) keys r w)
+      where
+        cases : (c : Bool) → choose {A = Bool × List ℕ} c (true, wOver keys r w out) (false, out) .0 ≡ c
+        cases true = refl
+        cases false = refl
+
+    pub outputs-refused : not t ≡ true → (record { number = 8; written = 0 }, x) ≡ outputsUnder keys r w out
+    unfolding windowUnder outputsUnder
+    outputs-refused e =
+        let f : elementsUsed (kindOf (r .field) .field) keys r w ≡ false = sym test-is ∙ not-true t e in
+        rw f (ap (λ (z : Bool × List ℕ). (record { number = 8; written = 0 }, z .1)) (rw f at ue))
+
+    pub outputs-written : not t ≡ false → {width : ℕ} → width ≡ elementWords (r .field)
+        → (record { number = 0; written = r .window .count * width }, x) ≡ outputsUnder keys r w out
+    unfolding windowUnder outputsUnder
+    outputs-written e {width} we =
+        let f : elementsUsed (kindOf (r .field) .field) keys r w ≡ true = sym test-is ∙ not-false t e in
+        rw f (ap (λ (z : Bool × List ℕ). (record { number = 0; written = r .window .count * width }, z .1)) (rw f at ue) ∙ rw we)
 
 -- the same under a record's code key
 pub rows-written : (s w out : List ℕ) (a : Window) (f : Front) {keys : List (List (List ℕ))} → keys ≡ codeKeys (headOf s f) → {r : WindowRows} → r ≡ rowsOf f a
@@ -125,7 +159,5 @@ unfolding outputsUnder on.rowsOutcome on.filled elementsUsed windowUsable on.usa
 rows-written s w out a f {keys} ke {r} re q =
     ap (λ (z : OneLength × List ℕ). on.outcome (z .0) (lent s w (z .1))) (q ∙ rw (ke, re))
     ∙ choose-map (λ (z : OneLength × List ℕ). on.outcome (z .0) (lent s w (z .1)))
-    (not (elementsUsed (kindOf (f .field) .field) (codeKeys (headOf s f)) (rowsOf f a) w)) (record { number = 8; written = 0 }, out) (
-      record { number = 0; written = a .count * elementWords (f .field) },
-      windowOver (kindOf (f .field) .field) (kindOf (f .field) .coefficient) (codeKeys (headOf s f)) (rowsOf f a) w out,
-    )
+    (not (elementsUsed (kindOf (f .field) .field) (codeKeys (headOf s f)) (rowsOf f a) w)) (record { number = 8; written = 0 }, out)
+    (record { number = 0; written = a .count * elementWords (f .field) }, wOver (codeKeys (headOf s f)) (rowsOf f a) w out)

@@ -29,7 +29,7 @@ pub root-is : (s : List ℕ) (f : Front) (i : ℕ) → i < f .trees → {width :
     → root ≡ columnsAt s (f .body + 8 * width + 16 * i) → root ≡ columnsAt (getD (contentOf s f .roots) i []) 0
 root-is s f i h we e = e ∙ rw we (sym (columns-item s (rootsAt f) (f .trees) i h))
 
-pub tree-is : (f : Front) (keys : List (List (List (List ℕ)))) (root : List (List ℕ)) (w : List ℕ) {levels : ℕ} {next : List ℕ}
+pub tree-is : (f : Front) (keys : List (List ℕ)) (root : List (List ℕ)) (w : List ℕ) {levels : ℕ} {next : List ℕ}
     → levels ≡ f .depth / f .«branch_bits»
     → next ≡ leavesAdded (kindOf (f .field)) (2 ^ f .«branch_bits») (childBy (keysFor keys)) levels root w → next ≡ treeAdded f keys root w
 unfolding treeAdded
@@ -57,7 +57,7 @@ module _ (s : List ℕ) (f : Front) where
       grown 0 (omega arith)
       (trees-none (kindOf (f .field) .field) (kindLaws (f .field) .field) (2 ^ f .depth) (leaf (contentOf s f)) (zero-elements (f .field)) z whole)
 
-  pub grown-more : (keys : List (List (List (List ℕ)))) {root : List (List ℕ)} {v next : List ℕ} → next ≡ treeAdded f keys root v
+  pub grown-more : (keys : List (List ℕ)) {root : List (List ℕ)} {v next : List ℕ} → next ≡ treeAdded f keys root v
       → {n : ℕ} → TreesFit s f keys n → {i : ℕ} → Grown s f v i → i < f .trees → root ≡ columnsAt (getD (contentOf s f .roots) i []) 0
       → Grown s f next (i + 1)
   unfolding leafElement treeAdded

@@ -5,7 +5,7 @@ ghost use Prim.Native.Nat.{_+_, _*_, _%_, _^_, _≤_, _<_};
 ghost use lib.ListN.{length, getD, drop};
 ghost use Rattle.algebra.specs.Coding.{flat};
 ghost use Rattle.algebra.specs.Sum.{accumulate};
-ghost use Rattle.sbox.specs.Inner.Tables.{Tables};
+ghost use Rattle.sbox.specs.Inner.Tables.{RoundTables};
 ghost use Rattle.field.specs.Kind.{kindOf, elementWords};
 ghost use Rattle.tree.specs.Columns.{columnsAt};
 ghost use Rattle.tree.specs.Inner.Ranges.{IsBranch};
@@ -35,21 +35,19 @@ fn root_at(source: &[u8], front: Front, i: usize) -> [[u8; 4]; 4]
 
 // Adds the leaves of the tree of 2^g children a node (document 02, 10) below a root.
 fn add_tree(
-    sbox: &[u8; 256],
-    mix: &[u32; 256],
-    keys: &[[[[u8; 4]; 4]; 11]; 8],
+    tables: &[u64; 1536],
+    keys: &[[u64; 40]; 8],
     front: Front,
     root: [[u8; 4]; 4],
     w: &mut [u64],
 )
-    requires { ⌜ Tables (now sbox) (now mix) ⌝ }
+    requires { ⌜ RoundTables (now tables) ⌝ }
     requires { ⌜ IsBranch (front .«branch_bits») × (front .depth % front .«branch_bits» ≡ 0) × (length (now w) ≡ 2 ^ front .depth * elementWords (front .field)) ⌝ }
     ensures { λ _. ⌜ now (w .exit) ≡ treeAdded front (now (keys .entry)) root (now (w .entry)) ⌝ }
 {
     let levels = front.depth / front.branch_bits;
     add_leaves(
-        sbox,
-        mix,
+        tables,
         keys,
         front.field,
         front.branch_bits,
@@ -61,21 +59,20 @@ fn add_tree(
 
 // Writes w0, under the round keys lent.
 fn add_trees(
-    sbox: &[u8; 256],
-    mix: &[u32; 256],
-    keys: &[[[[u8; 4]; 4]; 11]; 8],
+    tables: &[u64; 1536],
+    keys: &[[u64; 40]; 8],
     source: &[u8],
     front: Front,
     w: &mut [u64],
 )
-    requires { ⌜ Tables (now sbox) (now mix) ⌝ }
+    requires { ⌜ RoundTables (now tables) ⌝ }
     requires { ⌜ TreesFit (now source) front (now keys) (length (now w)) ⌝ }
     ensures { λ _. ⌜ now (w .exit) ≡ flat (kindOf (front .field) .field .elements) (2 ^ front .depth) (w0 (contentOf (now (source .entry)) front)) ⌝ }
 {
     zero_words(w);
     let mut i: usize = 0;
     while i < front.trees {
-        add_tree(sbox, mix, keys, front, root_at(source, front, i), w);
+        add_tree(tables, keys, front, root_at(source, front, i), w);
         i += 1;
     }
 }
@@ -86,9 +83,10 @@ fn write_trees(source: &[u8], front: Front, w: &mut [u64])
     ensures { λ _. ⌜ now (w .exit) ≡ flat (kindOf (front .field) .field .elements) (2 ^ front .depth) (w0 (contentOf (now (source .entry)) front)) ⌝ }
 {
     let sb = sbox::table();
-    let mx = sbox::mix_table();
+    let mut tables = [0u64; 1536];
+    sbox::fill_tables(&mut tables);
     let keys = child_keys(&sb, front.branch_bits);
-    add_trees(&sb, &mx, &keys, source, front, w);
+    add_trees(&tables, &keys, source, front, w);
 }
 
 // Writes the accumulated w0.

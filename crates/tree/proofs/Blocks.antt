@@ -10,9 +10,6 @@ use Rattle.aes128.specs.State.{four, column, byteAt, xorWord, xorState}
 use Rattle.field.specs.Bytes.{fourAt}
 use Rattle.tree.specs.Columns.{columnsAt, columnsBytes, blocksBytes}
 
-pub two-eq : {A : Type 0} {a b x y : A} → a ≡ x → b ≡ y → a ∷ b ∷ [] ≡ x ∷ y ∷ []
-two-eq p q = cc
-
 pub four-eq : {A : Type 0} {a b c d x y z w : A} → a ≡ x → b ≡ y → c ≡ z → d ≡ w → a ∷ b ∷ c ∷ d ∷ [] ≡ x ∷ y ∷ z ∷ w ∷ []
 four-eq p q r s = cc
 
@@ -25,18 +22,6 @@ sets-append l i (x ∷ xs) ys = ap (λ k. sets (sets (set l i x) (suc i) xs) k y
   where
     more : (i n : ℕ) → i + suc n ≡ suc i + n
     more i n = omega arith
-
--- two columns, and two pairs of columns, after one another
-pub sets-pair : (l : List ℕ) {l₁ l₂ : List ℕ} (at : ℕ) (a b : List ℕ) → l₁ ≡ sets l at (fourAt a 0 [])
-    → l₂ ≡ sets l₁ (at + 4) (fourAt b 0 []) → l₂ ≡ sets l at (fourAt a 0 (fourAt b 0 []))
-sets-pair l at a b e₁ e₂ = e₂ ∙ rw e₁ (sets-append l at (fourAt a 0 []) (fourAt b 0 []))
-
-pub sets-block : (l : List ℕ) {l₁ l₂ : List ℕ} (at : ℕ) (s : List (List ℕ)) → l₁ ≡ sets l at (fourAt (column s 0) 0 (fourAt (column s 1) 0 []))
-    → l₂ ≡ sets l₁ (at + 8) (fourAt (column s 2) 0 (fourAt (column s 3) 0 [])) → l₂ ≡ sets l at (columnsBytes s)
-unfolding columnsBytes
-sets-block l at s e₁ e₂ =
-    e₂
-    ∙ rw e₁ (sets-append l at (fourAt (column s 0) 0 (fourAt (column s 1) 0 [])) (fourAt (column s 2) 0 (fourAt (column s 3) 0 [])))
 
 pub length-block : (s : List (List ℕ)) → length (columnsBytes s) ≡ 16
 unfolding columnsBytes
@@ -62,7 +47,7 @@ is-four none (a ∷ b ∷ c ∷ []) e = absurd (omega arith)
 is-four none (a ∷ b ∷ c ∷ d ∷ []) e = refl
 is-four none (a ∷ b ∷ c ∷ d ∷ x ∷ l) e = absurd (omega arith)
 
-square-is : (s : List (List ℕ)) → Square s → four (λ c. four (λ r. byteAt s r c)) ≡ s
+pub square-is : (s : List (List ℕ)) → Square s → four (λ c. four (λ r. byteAt s r c)) ≡ s
 square-is s h =
     four-eq (is-four 0 (column s 0) (h .columns 0 (omega arith))) (is-four 0 (column s 1) (h .columns 1 (omega arith)))
     (is-four 0 (column s 2) (h .columns 2 (omega arith))) (is-four 0 (column s 3) (h .columns 3 (omega arith)))

@@ -17,6 +17,7 @@ use Rattle.field.proofs.BothKinds.{kindLaws}
 use Rattle.aes128.specs.State.{xorState}
 use Rattle.aes128.specs.Inner.Sizes.{IsState}
 use Rattle.aes128.specs.Cipher.{cipher, keyExpansion, aes}
+use Rattle.aes128.specs.Words.{roundKeys}
 use Rattle.aes128.proofs.Sizes.{four-bytes, four-words, xor-state-is, aes-is}
 use Rattle.tree.specs.Tree.{leafAt, listed, siblings}
 use Rattle.tree.specs.Child.{childKey, child, keysFor, childBy}
@@ -31,10 +32,11 @@ use Rattle.tree.proofs.Listed.{length-listed, listed-at}
 
 -- ---- the round keys of the child keys
 
-lent-keys : (k : ℕ) (rest : List (List (List (List ℕ)))) → OfChildKeys k (keysFor (listed k (λ c. keyExpansion (childKey c)) ++ rest))
-lent-keys k rest c h =
-    List·getD-append (listed k (λ c. keyExpansion (childKey c))) rest [] c (rw (length-listed k (λ c. keyExpansion (childKey c))) h)
-    ∙ listed-at k (λ c. keyExpansion (childKey c)) [] c h
+lent-keys : (k : ℕ) (words : ℕ → List ℕ) (rest : List (List ℕ)) → ((c : ℕ) → c < k → roundKeys (words c) ≡ keyExpansion (childKey c))
+    → OfChildKeys k (keysFor (listed k words ++ rest))
+lent-keys k words rest own c h =
+    ap roundKeys (List·getD-append (listed k words) rest [] c (rw (length-listed k words) h) ∙ listed-at k words [] c h)
+    ∙ own c h
 
 -- a child's number is below eight
 module _ (g c : ℕ) {count : ℕ} (e : count ≡ 2 ^ g) (b : g ≤ 3) (l : c < count) where
@@ -44,34 +46,34 @@ module _ (g c : ℕ) {count : ℕ} (e : count ≡ 2 ^ g) (b : g ≤ 3) (l : c < 
   pub key-byte : Fits w8 c
   key-byte = record { fits = omega (arith, key-below) }
 
-  pub key-place : Fits w64 (c * 176)
+  pub key-place : Fits w64 (c * 320)
   key-place = record { fits = omega (arith, key-below) }
 
   pub key-next : Fits w64 (c + 1)
   key-next = record { fits = omega (arith, key-below) }
 
 -- those of child c stored at place c, after those before
-pub record Made (keys : List (List (List (List ℕ)))) (c : ℕ) : Type 0 where
+pub record Made (keys : List (List ℕ)) (c : ℕ) : Type 0 where
   pub own : OfChildKeys c (keysFor keys)
   pub size : length keys ≡ 8
 
-pub made-none : (keys : List (List (List (List ℕ)))) → length keys ≡ 8 → Made keys 0
+pub made-none : (keys : List (List ℕ)) → length keys ≡ 8 → Made keys 0
 made-none keys e = record { own = λ c h. absurd (omega arith); size = e }
 
-pub made-next : (keys : List (List (List (List ℕ)))) (c : ℕ) {r : List (List (List ℕ))} → Made keys c → c < 8 → r ≡ keyExpansion (childKey c)
+pub made-next : (keys : List (List ℕ)) (c : ℕ) (r : List ℕ) → Made keys c → c < 8 → roundKeys r ≡ keyExpansion (childKey c)
     → Made (set keys c r) (c + 1)
-made-next keys c {r} m l e = record { own = λ b h. decide b h (eqb b c) refl; size = length-set keys c r ∙ m .size }
+made-next keys c r m l e = record { own = λ b h. decide b h (eqb b c) refl; size = length-set keys c r ∙ m .size }
   where
-    decide : (b : ℕ) → b < c + 1 → (t : Bool) → eqb b c ≡ t → getD (set keys c r) b [] ≡ keyExpansion (childKey b)
+    decide : (b : ℕ) → b < c + 1 → (t : Bool) → eqb b c ≡ t → keysFor (set keys c r) b ≡ keyExpansion (childKey b)
     decide b h true q =
         let same : b ≡ c = eqb-true b c q in
-        ap (λ i. getD (set keys c r) i []) same
-        ∙ getD-set-same keys c r [] (omega (arith, m .size))
+        ap (keysFor (set keys c r)) same
+        ∙ ap roundKeys (getD-set-same keys c r [] (omega (arith, m .size)))
         ∙ e
         ∙ ap (λ i. keyExpansion (childKey i)) (sym same)
-    decide b h false q = getD-set-other keys c b r [] (eqb-false b c q) ∙ m .own b (omega (arith, eqb-false b c q))
+    decide b h false q = ap roundKeys (getD-set-other keys c b r [] (eqb-false b c q)) ∙ m .own b (omega (arith, eqb-false b c q))
 
-pub made-all : (g : ℕ) {count : ℕ} (keys : List (List (List (List ℕ)))) (c : ℕ) → Made keys c → count ≤ c → count ≡ 2 ^ g → OfChildKeys (2 ^ g) (keysFor keys)
+pub made-all : (g : ℕ) {count : ℕ} (keys : List (List ℕ)) (c : ℕ) → Made keys c → count ≤ c → count ≡ 2 ^ g → OfChildKeys (2 ^ g) (keysFor keys)
 made-all g keys c m l e b h = m .own b (omega arith)
 
 pub child-by : (k : ℕ) (keys : ℕ → List (List (List ℕ))) → OfChildKeys k keys → (c : ℕ) → c < k → (s : List (List ℕ)) → childBy keys c s ≡ child c s

@@ -1,6 +1,7 @@
 -- What the fills need of lengths and what they give: at a leaf, below a range, below a run of siblings, and below a range that
 -- holds a path, in either field.
 use mathlib.Core.Path.{_≡_, refl, ap, ap₂, sym, _∙_}
+use mathlib.Core.Bool.{true, false}
 use mathlib.Core.Logic.{_≢_}
 use mathlib.Core.List.{List, [], _∷_, _++_}
 use Prim.Native.Nat.{ℕ, _+_, _-_, _*_, _/_, _^_, _≤_, _<_}
@@ -16,13 +17,14 @@ use Rattle.tree.specs.Tree.{leafAt}
 use Rattle.tree.specs.Added.{added, leafElement, puncturedElement}
 use Rattle.tree.specs.Columns.{columnsAt, siblingsAt}
 use Rattle.tree.specs.Expanded.{leavesAdded, puncturedAdded}
-use Rattle.tree.specs.Inner.Ranges.{leafAdded, elementAdded, childCount, below, leftOf, sizeOf, IsRange, allChildren, halfFrom, front, back, rangeElement, IsRun, runElement, IsPath, pathElement}
+use Rattle.tree.specs.Inner.Ranges.{leafAdded, elementAdded, childCount, below, leftOf, sizeOf, IsRange, allChildren, halfFrom, front, back, rangeElement, IsRun, runElement, IsPath, pathIn, AreHalves, pathElement}
 use Rattle.tree.specs.declared.punctured.Punctured.{Punctured}
 use Rattle.tree.specs.declared.range.Range.{Range}
 use Rattle.tree.specs.declared.range.Path.{Path}
+use Rattle.tree.specs.declared.range.Halves.{Halves}
 use Rattle.tree.proofs.Laws.{leaf-none}
 use Rattle.tree.proofs.Halves.{front-length, second, second-length, filled, added-same}
-use Rattle.tree.proofs.Ranges.{size-is, size-all, size-none, two-some, one-twice, half-twice, half-falls, sibling-size}
+use Rattle.tree.proofs.Ranges.{size-is, size-all, size-none, two-some, one-twice, half-twice, half-falls, sibling-size, in-cases, held-size, holds-first, holds-second}
 use Rattle.tree.proofs.Elements.{all-element, first-child, second-child, back-element, run-one, run-back, path-above, path-below, path-first, path-second, path-back}
 
 -- ---- lengths
@@ -60,6 +62,35 @@ module _ {X : Type 0} (ρ : Range) (at n w : ℕ) (ok : IsRun ρ at n) (xs : Lis
       → length (midOf (length xs / 2) (length l - length xs / 2) l) ≡ sizeOf (halfFrom ρ c) * w
   run-half-back c b e = half-back ρ xs w e (ok .some) c b
 
+module _ {X : Type 0} (path : Path) (n : ℕ) (ok : IsPath path n) (h : path .range .levels ≢ 0) {half : ℕ} (eh : half ≡ sizeOf (front (path .range)))
+    (xs : List X) (w : ℕ) (e : length xs ≡ sizeOf (path .range) * w) (c s : ℕ) {r : Path} (er : r ≡ pathIn path c s) where
+  held-twice : sizeOf (path .range) ≡ sizeOf (r .range) + sizeOf (r .range)
+  held-twice =
+      half-twice (path .range) h (path .range .first) (two-some (path .range) (ok .range))
+      ∙ ap (λ m. m + m) (sym eh ∙ sym (held-size path n ok h eh c s er))
+
+  held-front : length (take (length xs / 2) xs) ≡ sizeOf (r .range) * w
+  held-front = front-length xs (sizeOf (path .range)) _ w e held-twice
+
+  held-back : (l : List X) → length l ≡ length xs → length (midOf (length xs / 2) (length l - length xs / 2) l) ≡ sizeOf (r .range) * w
+  held-back = second-length xs (sizeOf (path .range)) _ w e held-twice
+
+module _ {X : Type 0} (path : Path) (n : ℕ) (ok : IsPath path n) (h : path .range .levels ≢ 0) (xs : List X) (w : ℕ)
+    (e : length xs ≡ sizeOf (path .range) * w) (r : Halves) (parts : AreHalves path r) where
+  pub first-front : r .first ≡ true → length (take (length xs / 2) xs) ≡ sizeOf (r .below .range) * w
+  first-front t = held-front path n ok h refl xs w e (path .range .first) (path .position) (holds-first path parts t .on)
+
+  pub first-back : r .first ≡ true → (l : List X) → length l ≡ length xs
+      → length (midOf (length xs / 2) (length l - length xs / 2) l) ≡ sizeOf (r .beside) * w
+  first-back t = rw (holds-first path parts t .run) (half-back (path .range) xs w e h _ (two-some (path .range) (ok .range)))
+
+  pub second-front : r .first ≡ false → length (take (length xs / 2) xs) ≡ sizeOf (r .beside) * w
+  second-front t = rw (holds-second path parts t .run) (half-front (path .range) xs w e h _ (two-some (path .range) (ok .range)))
+
+  pub second-back : r .first ≡ false → (l : List X) → length l ≡ length xs
+      → length (midOf (length xs / 2) (length l - length xs / 2) l) ≡ sizeOf (r .below .range) * w
+  second-back t = held-back path n ok h refl xs w e (path .range .first + 2 ^ (path .range .bits - 1)) _ (holds-second path parts t .on)
+
 pub run-falls : (ρ : Range) (at n c : ℕ) {t : ℕ} → IsRun ρ at n → ρ .bits ≢ 0 → leftOf ρ ≡ t → leftOf (halfFrom ρ c) < t
 run-falls ρ at n c ok b l = half-falls ρ (ok .some) c b l
 
@@ -93,18 +124,17 @@ module _ (field : ℕ) (child : ℕ → List (List ℕ) → List (List ℕ)) whe
 
     module _ (h : ρ .levels ≢ 0) (e : length xs ≡ sizeOf ρ * F .elements .width) where
       -- by two children
-      pub filled-children : {both : List (List (List ℕ))} {ys zs : List ℕ} → IsRange ρ → ρ .bits ≡ 1
-          → both ≡ child (ρ .first) s ∷ child (ρ .first + 1) s ∷ []
-          → ys ≡ added F (sizeOf (allChildren (ρ .«branch_bits») (ρ .levels - 1))) (rangeElement leaf child (allChildren (ρ .«branch_bits») (ρ .levels - 1)) (getD both 0 [])) (take (length xs / 2) xs)
-          → zs ≡ added F (sizeOf (allChildren (ρ .«branch_bits») (ρ .levels - 1))) (rangeElement leaf child (allChildren (ρ .«branch_bits») (ρ .levels - 1)) (getD both 1 [])) (second (length xs / 2) xs ys)
+      pub filled-children : {x y : List (List ℕ)} {ys zs : List ℕ} → IsRange ρ → ρ .bits ≡ 1 → x ≡ child (ρ .first) s → y ≡ child (ρ .first + 1) s
+          → ys ≡ added F (sizeOf (allChildren (ρ .«branch_bits») (ρ .levels - 1))) (rangeElement leaf child (allChildren (ρ .«branch_bits») (ρ .levels - 1)) x) (take (length xs / 2) xs)
+          → zs ≡ added F (sizeOf (allChildren (ρ .«branch_bits») (ρ .levels - 1))) (rangeElement leaf child (allChildren (ρ .«branch_bits») (ρ .levels - 1)) y) (second (length xs / 2) xs ys)
           → Both xs ys zs ≡ added F (sizeOf ρ) (rangeElement leaf child ρ s) xs
-      filled-children {both} {ys} ok b eb ey ez =
+      filled-children {ys = ys} ok b ex ey el eh =
           filled F laws (sizeOf ρ) (sizeOf one) (rangeElement leaf child ρ s) (rangeElement leaf child one (child (ρ .first) s))
           (rangeElement leaf child one (child (ρ .first + 1) s)) xs e (one-twice ρ h b)
           (λ j l. first-child leaf child s ρ h j ok (rw size at l))
           (λ j l. ap (λ n. rangeElement leaf child ρ s (n + j)) size ∙ second-child leaf child s ρ h j ok b (rw size at l))
-          (ey ∙ ap (λ l. added F (sizeOf one) (rangeElement leaf child one (getD l 0 [])) (take (length xs / 2) xs)) eb)
-          (ez ∙ ap (λ l. added F (sizeOf one) (rangeElement leaf child one (getD l 1 [])) (second (length xs / 2) xs ys)) eb)
+          (el ∙ ap (λ z. added F (sizeOf one) (rangeElement leaf child one z) (take (length xs / 2) xs)) ex)
+          (eh ∙ ap (λ z. added F (sizeOf one) (rangeElement leaf child one z) (second (length xs / 2) xs ys)) ey)
         where
           one : Range
           one = allChildren (ρ .«branch_bits») (ρ .levels - 1)
@@ -127,12 +157,13 @@ module _ (field : ℕ) (child : ℕ → List (List ℕ) → List (List ℕ)) whe
           (ez ∙ ap (λ n. added F (sizeOf (front ρ)) (rangeElement leaf child (halfFrom ρ (ρ .first + n)) s) (second (length xs / 2) xs ys)) q)
 
   -- all children of s
-  pub filled-all : (g levels : ℕ) (s : List (List ℕ)) (xs : List ℕ) {ys : List ℕ}
-      → ys ≡ added F (sizeOf (allChildren g levels)) (rangeElement leaf child (allChildren g levels) s) xs
+  pub filled-all : (g levels : ℕ) (s : List (List ℕ)) (xs : List ℕ) {x : List (List ℕ)} {ys : List ℕ} → x ≡ s
+      → ys ≡ added F (sizeOf (allChildren g levels)) (rangeElement leaf child (allChildren g levels) x) xs
       → ys ≡ leavesAdded (kindOf field) (2 ^ g) child levels s xs
-  filled-all g levels s xs ey =
+  filled-all g levels s xs ex ey =
       added-same F laws ((2 ^ g) ^ levels) (sizeOf (allChildren g levels)) (leafElement leaf (2 ^ g) child levels s)
-      (rangeElement leaf child (allChildren g levels) s) xs ey (sym (size-all g levels)) (λ j l. all-element leaf child s g levels j)
+      (rangeElement leaf child (allChildren g levels) s) xs
+      (ey ∙ ap (λ x. added F (sizeOf (allChildren g levels)) (rangeElement leaf child (allChildren g levels) x) xs) ex) (sym (size-all g levels)) (λ j l. all-element leaf child s g levels j)
 
   pub filled-tree : (tree : Punctured) (bytes words : List ℕ) (xs : List ℕ) {ys : List ℕ}
       → ys ≡ added F (sizeOf (allChildren (tree .«branch_bits») (tree .levels)))
@@ -284,7 +315,7 @@ module _ (field : ℕ) (child : ℕ → List (List ℕ) → List (List ℕ)) whe
       above-elements l j m =
           path-above leaf child bytes correction (path .at) ρ (ok .range) h (path .position) j (omega (arith, product)) m
 
-      pub filled-first : {next : ℕ} {ys zs : List ℕ} → path .position < half → ρ .bits ≡ 1 → next ≡ path .at + 16 * (childCount ρ - 1)
+      filled-first : {next : ℕ} {ys zs : List ℕ} → path .position < half → ρ .bits ≡ 1 → next ≡ path .at + 16 * (childCount ρ - 1)
           → ys ≡ Low (sizeOf one) (inChild next (path .position))
           → zs ≡ High (sizeOf (halfFrom ρ (ρ .first + (p - 1)))) (Above p) ys → Both xs ys zs ≡ Whole
       unfolding here
@@ -295,7 +326,7 @@ module _ (field : ℕ) (child : ℕ → List (List ℕ) → List (List ℕ)) whe
           (ey ∙ ap₂ (λ m a. Low m (inChild a (path .position))) (one-half b) f)
           (above-words ys ez)
 
-      pub filled-front : {ys zs : List ℕ} → path .position < half → ys ≡ Low (sizeOf (front ρ)) (inHalf (ρ .first) (path .position))
+      filled-front : {ys zs : List ℕ} → path .position < half → ys ≡ Low (sizeOf (front ρ)) (inHalf (ρ .first) (path .position))
           → zs ≡ High (sizeOf (halfFrom ρ (ρ .first + (p - 1)))) (Above p) ys → Both xs ys zs ≡ Whole
       unfolding here pathElement
       filled-front {ys} l ey ez =
@@ -323,7 +354,7 @@ module _ (field : ℕ) (child : ℕ → List (List ℕ) → List (List ℕ)) whe
       unfolding here
       below-elements l j m = path-below leaf child bytes correction (path .at) ρ (ok .range) h rest j (rest-below l) m
 
-      pub filled-second : {next : ℕ} {ys zs : List ℕ} → half ≤ path .position → ρ .bits ≡ 1 → next ≡ path .at + 16 * (childCount ρ - 1)
+      filled-second : {next : ℕ} {ys zs : List ℕ} → half ≤ path .position → ρ .bits ≡ 1 → next ≡ path .at + 16 * (childCount ρ - 1)
           → ys ≡ Low (sizeOf (front ρ)) (byRun (ρ .first)) → zs ≡ High (sizeOf one) (inChild next rest) ys → Both xs ys zs ≡ Whole
       unfolding here
       filled-second {ys = ys} l b f ey ez =
@@ -333,7 +364,7 @@ module _ (field : ℕ) (child : ℕ → List (List ℕ) → List (List ℕ)) whe
           (below-words ey)
           (ez ∙ ap₂ (λ m a. High m (inChild a rest) ys) (one-half b) f)
 
-      pub filled-back : {ys zs : List ℕ} → half ≤ path .position → ys ≡ Low (sizeOf (front ρ)) (byRun (ρ .first))
+      filled-back : {ys zs : List ℕ} → half ≤ path .position → ys ≡ Low (sizeOf (front ρ)) (byRun (ρ .first))
           → zs ≡ High (sizeOf (halfFrom ρ (ρ .first + p))) (inHalf (ρ .first + p) rest) ys → Both xs ys zs ≡ Whole
       unfolding here
       filled-back {ys} l ey ez =
@@ -342,3 +373,41 @@ module _ (field : ℕ) (child : ℕ → List (List ℕ) → List (List ℕ)) whe
           (λ j m. path-back leaf child bytes correction (path .at) ρ (ok .range) h rest j)
           (below-words ey)
           (ez ∙ ap₂ (λ m c. High m (inHalf (ρ .first + c) rest) ys) (from-half (ρ .first + p)) ep)
+
+      -- the half that holds the path, as the path that goes on
+      filled-low : {r : Path} {ys zs : List ℕ} → path .position < half → r ≡ pathIn path (ρ .first) (path .position)
+          → ys ≡ Low (sizeOf (r .range)) (pathElement leaf child r bytes correction)
+          → zs ≡ High (sizeOf (halfFrom ρ (ρ .first + (p - 1)))) (Above p) ys → Both xs ys zs ≡ Whole
+      filled-low {ys = ys} {zs} l er ey ez =
+          in-cases path (ρ .first) (path .position)
+          (λ x. ys ≡ Low (sizeOf (x .range)) (pathElement leaf child x bytes correction) → Both xs ys zs ≡ Whole)
+          (λ b k. filled-first l b refl k ez)
+          (λ b k. filled-front l k ez)
+          (rw er at ey)
+
+      filled-high : {r : Path} {ys zs : List ℕ} → half ≤ path .position → r ≡ pathIn path (ρ .first + p) rest
+          → ys ≡ Low (sizeOf (front ρ)) (byRun (ρ .first))
+          → zs ≡ High (sizeOf (r .range)) (pathElement leaf child r bytes correction) ys → Both xs ys zs ≡ Whole
+      filled-high {ys = ys} {zs} l er ey ez =
+          in-cases path (ρ .first + p) rest
+          (λ x. zs ≡ High (sizeOf (x .range)) (pathElement leaf child x bytes correction) ys → Both xs ys zs ≡ Whole)
+          (λ b k. filled-second l b refl ey k)
+          (λ b k. filled-back l ey k)
+          (rw er at ez)
+
+    module _ (h : path .range .levels ≢ 0) (e : length xs ≡ sizeOf (path .range) * F .elements .width) (r : Halves) (parts : AreHalves path r) {ys zs : List ℕ} where
+      pub filled-first-holds : r .first ≡ true
+          → ys ≡ added F (sizeOf (r .below .range)) (pathElement leaf child (r .below) bytes correction) (take (length xs / 2) xs)
+          → zs ≡ added F (sizeOf (r .beside)) (runElement leaf child (r .beside) bytes (path .at)) (second (length xs / 2) xs ys)
+          → Both xs ys zs ≡ added F (sizeOf (path .range)) (pathElement leaf child path bytes correction) xs
+      filled-first-holds t ey ez =
+          let a = holds-first path parts t in
+          filled-low h e refl refl (a .inside) (a .on) ey (rw (a .run) at ez)
+
+      pub filled-second-holds : r .first ≡ false
+          → ys ≡ added F (sizeOf (r .beside)) (runElement leaf child (r .beside) bytes (path .at)) (take (length xs / 2) xs)
+          → zs ≡ added F (sizeOf (r .below .range)) (pathElement leaf child (r .below) bytes correction) (second (length xs / 2) xs ys)
+          → Both xs ys zs ≡ added F (sizeOf (path .range)) (pathElement leaf child path bytes correction) xs
+      filled-second-holds t ey ez =
+          let a = holds-second path parts t in
+          filled-high h e refl refl (a .inside) (a .on) (rw (a .run) at ey) ez

@@ -4,6 +4,7 @@ pub mod Laws
 pub mod Bits
 pub mod Added
 pub mod Blocks
+pub mod Nodes
 pub mod ChildLaws
 pub mod Listed
 pub mod Levels
@@ -11,4 +12,5 @@ pub mod Ranges
 mod Halves
 pub mod Elements
 mod Filled
+mod Bottom
 mod Walked

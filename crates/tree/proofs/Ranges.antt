@@ -1,16 +1,21 @@
 -- Ranges of a node's children by halves: what is left of a tree's depth below them, how many leaves, and that halves are ranges.
-use mathlib.Core.Path.{_≡_, ap, sym, _∙_}
+use mathlib.Core.Path.{_≡_, refl, ap, ap₂, sym, _∙_}
+use mathlib.Core.Bool.{Bool, true, false}
 use mathlib.Core.Logic.{_≢_}
 use Prim.Native.Nat.{ℕ, zero, suc, _+_, _-_, _*_, _%_, _^_, _≤_, _<_}
 use native.Mathlib.Nat.{one-mul, zero-mul, pow-zero, pow-suc, two-pow-succ, mod-eq-of-lt}
 use native.Mathlib.Omega.{arith}
 use mir.Syntax.{w64}
 use mir.Val.{Fits}
+use lib.Dec.{eqb}
 use lib.Pow.{pow-add, pow-lt, pow-pos, pow-mono}
-use Rattle.tree.specs.Inner.Ranges.{IsBranch, IsPunctured, childCount, below, leftOf, sizeOf, IsRange, allChildren, halfFrom, front, IsRun, IsPath}
+use borrow.Author.Tests.{eq-eqb, ne-eqb, eqb-true, eqb-false}
+use Rattle.algebra.specs.Choice.{choose}
+use Rattle.tree.specs.Inner.Ranges.{IsBranch, IsPunctured, childCount, below, leftOf, sizeOf, IsRange, allChildren, halfFrom, front, IsRun, IsPath, pathIn, FirstHolds, SecondHolds, AreHalves}
 use Rattle.tree.specs.declared.punctured.Punctured.{Punctured}
 use Rattle.tree.specs.declared.range.Range.{Range}
 use Rattle.tree.specs.declared.range.Path.{Path}
+use Rattle.tree.specs.declared.range.Halves.{Halves}
 
 -- ---- powers of two
 
@@ -210,6 +215,46 @@ module _ (ρ : Range) (at n : ℕ) (ok : IsRun ρ at n) where
 
 -- ---- ranges that hold a path
 
+module _ (path : Path) (c s : ℕ) where
+  -- one child's children, and half as many children
+  abbrev inChild : Path
+  inChild =
+      record {
+        range = allChildren (path .range .«branch_bits») (path .range .levels - 1);
+        position = s;
+        at = path .at + 16 * (childCount (path .range) - 1);
+      }
+
+  abbrev inHalf : Path
+  inHalf = record { range = halfFrom (path .range) c; position = s; at = path .at }
+
+  pub is-child : {next : ℕ} → path .range .bits ≡ 1 → next ≡ path .at + 16 * (childCount (path .range) - 1)
+      → record { range = allChildren (path .range .«branch_bits») (path .range .levels - 1); position = s; at = next } ≡ pathIn path c s
+  unfolding pathIn
+  is-child b e = rw (eq-eqb (path .range .bits) 1 b, e)
+
+  pub is-half : path .range .bits ≢ 1 → inHalf ≡ pathIn path c s
+  unfolding pathIn
+  is-half b = rw (ne-eqb (path .range .bits) 1 b)
+
+  -- what holds of both holds of either
+  pub in-cases : (P : Path → Type 0) → (path .range .bits ≡ 1 → P inChild) → (path .range .bits ≢ 1 → P inHalf) → P (pathIn path c s)
+  unfolding pathIn
+  in-cases P one half = decide (eqb (path .range .bits) 1) refl
+    where
+      decide : (t : Bool) → eqb (path .range .bits) 1 ≡ t → P (choose t inChild inHalf)
+      decide true e = one (eqb-true (path .range .bits) 1 e)
+      decide false e = half (eqb-false (path .range .bits) 1 e)
+
+-- which half holds the path
+pub holds-first : (path : Path) {r : Halves} → AreHalves path r → r .first ≡ true → FirstHolds path (r .below) (r .beside)
+unfolding AreHalves
+holds-first path a e = rw e at a
+
+pub holds-second : (path : Path) {r : Halves} → AreHalves path r → r .first ≡ false → SecondHolds path (r .below) (r .beside)
+unfolding AreHalves
+holds-second path a e = rw e at a
+
 module _ (path : Path) (n : ℕ) (ok : IsPath path n) (h : path .range .levels ≢ 0) where
   -- the next level's siblings
   levels-room : path .range .levels * (childCount (path .range) - 1)
@@ -254,28 +299,84 @@ module _ (path : Path) (n : ℕ) (ok : IsPath path n) (h : path .range .levels �
     past-half l = omega (arith, ok .inside, half-size)
 
     -- the half that holds the path, at a position s in it
-    module _ (s : ℕ) (l : s < half) where
-      pub one-path : {next : ℕ} → path .range .bits ≡ 1 → next ≡ path .at + 16 * (childCount (path .range) - 1)
-          → IsPath (record { range = allChildren (path .range .«branch_bits») (path .range .levels - 1); position = s; at = next }) n
-      one-path b f =
+    module _ (c s : ℕ) {r : Path} (er : r ≡ pathIn path c s) where
+      pub held-falls : {t : ℕ} → leftOf (path .range) ≡ t → leftOf (r .range) < t
+      held-falls {t} l =
+          rw er
+          (in-cases path c s (λ x. leftOf (x .range) < t) (λ b. one-falls (path .range) h b l)
+          (λ b. half-falls (path .range) h c (two-some (path .range) (ok .range)) l))
+
+      pub held-size : sizeOf (r .range) ≡ half
+      held-size =
+          rw er
+          (in-cases path c s (λ x. sizeOf (x .range) ≡ half) (λ b. omega (arith, half-size, one-twice (path .range) h b))
+          (λ b. omega (arith, half-size, half-twice (path .range) h c (two-some (path .range) (ok .range)))))
+
+      held-path : s < half → (path .range .bits ≢ 1 → IsRange (halfFrom (path .range) c)) → IsPath r n
+      held-path l range =
+          rw er
+          (in-cases path c s (λ x. IsPath x n)
+          (λ b.
           record {
             range = one-range (path .range) (ok .range);
             inside = omega (arith, half-size, one-twice (path .range) h b);
             short = omega (arith, ok .short, level-less (path .range .levels) (path .range .«branch_bits») h);
             room = omega (arith, ok .room, levels-room);
             fits = ok .fits;
-          }
+          })
+          (λ b.
+          record {
+            range = range b;
+            inside = omega (arith, half-size, half-twice (path .range) h c (two-some (path .range) (ok .range)));
+            short = ok .short;
+            room = ok .room;
+            fits = ok .fits;
+          }))
 
-      half-path : (c : ℕ) → IsRange (halfFrom (path .range) c) → IsPath (record { range = halfFrom (path .range) c; position = s; at = path .at }) n
-      unfolding leftOf
-      half-path c r = record { range = r; inside = rw (← e) l; short = ok .short; room = ok .room; fits = ok .fits }
+  -- the halves as the code finds them
+  pub wide-path : IsPath path (2 ^ 64 - 1)
+  wide-path = record { range = ok .range; inside = ok .inside; short = ok .short; room = omega (arith, ok .room, ok .fits); fits = omega arith }
 
-      pub front-path : path .range .bits ≢ 1 → IsPath (record { range = front (path .range); position = s; at = path .at }) n
-      front-path b = half-path (path .range .first) (front-range (path .range) (ok .range) b)
+  module _ (r : Halves) (parts : AreHalves path r) (e : r .first ≡ true) where
+    a : FirstHolds path (r .below) (r .beside)
+    a = holds-first path parts e
 
-      pub back-path : {p : ℕ} → path .range .bits ≢ 1 → p ≡ 2 ^ (path .range .bits - 1)
-          → IsPath (record { range = halfFrom (path .range) (path .range .first + p); position = s; at = path .at }) n
-      back-path b q = half-path (path .range .first + _) (back-range (path .range) (ok .range) b q)
+    pub first-falls : {t : ℕ} → leftOf (path .range) ≡ t → leftOf (r .below .range) < t
+    first-falls l = held-falls refl (path .range .first) (path .position) (a .on) l
+
+    pub first-path : IsPath (r .below) n
+    first-path = held-path refl (path .range .first) (path .position) (a .on) (a .inside) (front-range (path .range) (ok .range))
+
+    pub first-run : IsRun (r .beside) (path .at) n
+    first-run = rw (a .run) (above-run refl)
+
+  module _ (r : Halves) (parts : AreHalves path r) (e : r .first ≡ false) where
+    b : SecondHolds path (r .below) (r .beside)
+    b = holds-second path parts e
+
+    pub second-falls : {t : ℕ} → leftOf (path .range) ≡ t → leftOf (r .below .range) < t
+    second-falls l = held-falls refl (path .range .first + 2 ^ (path .range .bits - 1)) _ (b .on) l
+
+    pub second-path : IsPath (r .below) n
+    second-path =
+        held-path refl (path .range .first + 2 ^ (path .range .bits - 1)) _ (b .on) (past-half refl (b .inside))
+        (λ two. back-range (path .range) (ok .range) two refl)
+
+    pub second-run : IsRun (r .beside) (path .at) n
+    second-run = rw (b .run) below-run
+
+-- the halves made
+module _ (path : Path) {half p : ℕ} {below : Path} {beside : Range} (eh : half ≡ sizeOf (front (path .range))) (ep : p ≡ 2 ^ (path .range .bits - 1)) where
+  pub first-holds : path .position < half → below ≡ pathIn path (path .range .first) (path .position) → beside ≡ halfFrom (path .range) (path .range .first + (p - 1))
+      → AreHalves path (record { below = below; beside = beside; first = true })
+  unfolding AreHalves
+  first-holds l eb er = record { inside = rw (← eh) l; on = eb; run = er ∙ ap (λ m. halfFrom (path .range) (path .range .first + (m - 1))) ep }
+
+  pub second-holds : half ≤ path .position → below ≡ pathIn path (path .range .first + p) (path .position - half) → beside ≡ front (path .range)
+      → AreHalves path (record { below = below; beside = beside; first = false })
+  unfolding AreHalves
+  second-holds l eb er =
+      record { inside = rw (← eh) l; on = eb ∙ ap₂ (λ m k. pathIn path (path .range .first + m) (path .position - k)) ep eh; run = er }
 
 -- ---- all children of a root
 

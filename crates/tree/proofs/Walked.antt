@@ -5,7 +5,6 @@ use mathlib.Core.List.{List, [], _∷_, _++_, append-nil, append-assoc}
 use Prim.Native.Nat.{ℕ, zero, suc, _+_, _-_, _*_, _/_, _%_, _^_, _≤_, _<_}
 use native.Mathlib.Nat.{mod-lt, add-zero, zero-add}
 use native.Mathlib.Omega.{arith}
-use borrow.Author.Needs.{needs}
 use mir.Syntax.{w64}
 use mir.Val.{Fits}
 use lib.ListN.{length, getD, take, drop, length-append}
@@ -44,16 +43,13 @@ unfolding blocksBytes
 one-block l at x = ap (sets l at) (sym (append-nil (columnsBytes x)))
 
 -- two blocks
-pub sets-two : (l : List ℕ) {l₁ l₂ : List ℕ} (at : ℕ) (both : List (List (List ℕ))) → length both ≡ 2
-    → l₁ ≡ sets l at (columnsBytes (getD both 0 [])) → l₂ ≡ sets l₁ (at + 16) (columnsBytes (getD both 1 [])) → l₂ ≡ sets l at (blocksBytes both)
-sets-two l at [] h e₁ e₂ = absurd (omega arith)
-sets-two l at (a ∷ []) h e₁ e₂ = absurd (omega arith)
-sets-two l at (a ∷ b ∷ []) h e₁ e₂ =
+sets-two : (l : List ℕ) {l₁ l₂ : List ℕ} (at : ℕ) (a b : List (List ℕ)) → l₁ ≡ sets l at (columnsBytes a) → l₂ ≡ sets l₁ (at + 16) (columnsBytes b)
+    → l₂ ≡ sets l at (blocksBytes (a ∷ b ∷ []))
+sets-two l at a b e₁ e₂ =
     e₂
     ∙ ap (λ k. sets k (at + 16) (columnsBytes b)) (e₁ ∙ one-block l at a)
     ∙ one-block (sets l at (blocksBytes (a ∷ []))) (at + 16) b
     ∙ sets-blocks l at (at + 16) (a ∷ []) (b ∷ []) refl
-sets-two l at (a ∷ b ∷ c ∷ both) h e₁ e₂ = absurd (omega arith)
 
 -- ---- children written
 
@@ -82,13 +78,13 @@ module _ (child : ℕ → List (List ℕ) → List (List ℕ)) (s : List (List �
   unfolding childrenPut blocksBytes
   put-none e = sym (ap (λ n. sets l at (blocksBytes (childrenFrom child s first (2 * n)))) e ∙ ap (λ x. sets l at (blocksBytes x)) (from-none child s first))
 
-  pub put-more : {both : List (List (List ℕ))} {l₁ l₂ : List ℕ} → pairs ≢ 0 → both ≡ child first s ∷ child (first + 1) s ∷ []
-      → l₁ ≡ sets l at (blocksBytes both)
-      → l₂ ≡ childrenPut child s (first + 2) (2 * (pairs - 1)) (at + 32) l₁ → l₂ ≡ childrenPut child s first (2 * pairs) at l
+  pub put-more : {x y : List (List ℕ)} {l₁ l₂ l₃ : List ℕ} → pairs ≢ 0 → x ≡ child first s → y ≡ child (first + 1) s
+      → l₁ ≡ sets l at (columnsBytes x) → l₂ ≡ sets l₁ (at + 16) (columnsBytes y)
+      → l₃ ≡ childrenPut child s (first + 2) (2 * (pairs - 1)) (at + 32) l₂ → l₃ ≡ childrenPut child s first (2 * pairs) at l
   unfolding childrenPut
-  put-more h eb e₁ e₂ =
-      e₂
-      ∙ ap (λ k. sets k (at + 32) (blocksBytes rest)) (e₁ ∙ ap (λ b. sets l at (blocksBytes b)) eb)
+  put-more {x} {y} h ex ey e₁ e₂ e₃ =
+      e₃
+      ∙ ap (λ k. sets k (at + 32) (blocksBytes rest)) (sets-two l at x y e₁ e₂ ∙ ap₂ (λ a b. sets l at (blocksBytes (a ∷ b ∷ []))) ex ey)
       ∙ sets-blocks l at (at + 32) (child first s ∷ child (first + 1) s ∷ []) rest refl
       ∙ ap (λ x. sets l at (blocksBytes x)) (sym (from-two child s first (2 * (pairs - 1))) ∙ ap (childrenFrom child s first) (twice pairs h))
     where
@@ -157,25 +153,18 @@ module _ {A : Type 0} (child : ℕ → A → A) (s : A) where
 
 module _ (child : ℕ → List (List ℕ) → List (List ℕ)) (s : List (List ℕ)) (at : ℕ) (l : List ℕ) where
   -- a child and its twin, of two children made together
-  pub twin-put : (digit : ℕ) {both : List (List (List ℕ))} {r : List (List ℕ)} {l₁ : List ℕ}
-      → both ≡ child (2 * (digit / 2)) s ∷ child (2 * (digit / 2) + 1) s ∷ [] → l₁ ≡ sets l at (columnsBytes (getD both (1 - digit % 2) []))
-      → r ≡ getD both (digit % 2) [] → walk r l₁ ≡ twinPut child s digit at l
-  unfolding twinPut
-  twin-put digit {both} {r} {l₁} eb e₁ er = decide (digit % 2) refl (mod-lt digit (omega arith))
-    where
-      by : (b y : ℕ) → digit % 2 ≡ b → getD both b [] ≡ child y s → digit ≡ y → getD both (1 - b) [] ≡ child (2 * (digit / 2) + (1 - b)) s
-          → walk r l₁ ≡ walk (child digit s) (sets l at (columnsBytes (child (2 * (digit / 2) + (1 - digit % 2)) s)))
-      by b y e ey d ex =
-          ap₂ walk (er ∙ ap (λ i. getD both i []) e ∙ ey ∙ ap (λ i. child i s) (sym d))
-          (e₁ ∙ ap (λ x. sets l at (columnsBytes x)) (ap (λ i. getD both (1 - i) []) e ∙ ex ∙ ap (λ i. child (2 * (digit / 2) + (1 - i)) s) (sym e)))
+  module _ (digit : ℕ) {x y : List (List ℕ)} {l₁ : List ℕ} (ex : x ≡ child (2 * (digit / 2)) s) (ey : y ≡ child (2 * (digit / 2) + 1) s) where
+    pub twin-second : digit % 2 ≡ 0 → l₁ ≡ sets l at (columnsBytes y) → walk x l₁ ≡ twinPut child s digit at l
+    unfolding twinPut
+    twin-second e e₁ =
+        ap₂ walk (ex ∙ ap (λ i. child i s) {y = digit} (omega arith))
+        (e₁ ∙ ap (λ z. sets l at (columnsBytes z)) (ey ∙ ap (λ i. child i s) {y = twin digit} (omega arith)))
 
-      decide : (b : ℕ) → digit % 2 ≡ b → b < 2
-          → walk r l₁ ≡ walk (child digit s) (sets l at (columnsBytes (child (2 * (digit / 2) + (1 - digit % 2)) s)))
-      decide zero e h = by 0 (2 * (digit / 2)) e (ap (λ x. getD x 0 []) eb) (omega arith) (ap (λ x. getD x 1 []) eb)
-      decide (suc zero) e h =
-          by 1 (2 * (digit / 2) + 1) e (ap (λ x. getD x 1 []) eb) (omega arith)
-          (ap (λ x. getD x 0 []) eb ∙ ap (λ i. child i s) (sym (add-zero (2 * (digit / 2)))))
-      decide (suc (suc b)) e h = absurd (omega arith)
+    pub twin-first : digit % 2 ≢ 0 → l₁ ≡ sets l at (columnsBytes x) → walk y l₁ ≡ twinPut child s digit at l
+    unfolding twinPut
+    twin-first e e₁ =
+        ap₂ walk (ey ∙ ap (λ i. child i s) {y = digit} (omega arith))
+        (e₁ ∙ ap (λ z. sets l at (columnsBytes z)) (ex ∙ ap (λ i. child i s) {y = twin digit} (omega arith)))
 
   -- the others of a child: those before its pair, its twin, and those after its pair
   others-twin : (digit after : ℕ)
@@ -269,6 +258,10 @@ module _ (child : ℕ → List (List ℕ) → List (List ℕ)) (s : List (List �
       ap₂ (λ x y. walk x (sets l (t .at) (blocksBytes y))) (sym (leaf-none k child s (t .position))) (sym (siblings-none k child s (t .position)))
       ∙ ap By (sym e)
 
+  -- from the root's block to the leaf's columns
+  pub walked-root : {x y r : List (List ℕ)} {l₂ : List ℕ} → x ≡ s → r ≡ y → walk y l₂ ≡ walked k child x t l → walk r l₂ ≡ walked k child s t l
+  walked-root {l₂ = l₂} ex er e = ap (λ z. walk z l₂) er ∙ e ∙ ap (λ z. walked k child z t l) ex
+
   -- one level on, past the other children
   pub walked-on : {count : ℕ} {x r : List (List ℕ)} {l₁ l₂ : List ℕ} → t .levels ≢ 0 → count ≡ 2 ^ t .«branch_bits»
       → walk x l₁ ≡ levelPassed k child s (t .position / 2 ^ ((t .levels - 1) * t .«branch_bits») % count) (t .at) l
@@ -302,47 +295,77 @@ module _ (child : ℕ → List (List ℕ) → List (List ℕ)) (s : List (List �
       sixteen : (n : ℕ) → 16 * n ≡ n * 16
       sixteen n = omega arith
 
--- what a walk needs of numbers and of lengths
-module _ (t : Punctured) (n : ℕ) (ok : IsPunctured t n) where
-  pub branch-few : t .«branch_bits» < 64
-  branch-few = omega (arith, ok .branch .eight)
+-- ---- the walk as a loop
 
-  module _ (h : t .levels ≢ 0) where
-    less-levels : t .levels * t .«branch_bits» ≡ (t .levels - 1) * t .«branch_bits» + t .«branch_bits»
-    less-levels = level-less (t .levels) (t .«branch_bits») h
+pub branch-few : (t : Punctured) (n : ℕ) → IsPunctured t n → t .«branch_bits» < 64
+branch-few t n ok = omega (arith, ok .branch .eight)
 
-    less-room : t .levels * (2 ^ t .«branch_bits» - 1) ≡ (t .levels - 1) * (2 ^ t .«branch_bits» - 1) + (2 ^ t .«branch_bits» - 1)
-    less-room = level-less (t .levels) (2 ^ t .«branch_bits» - 1) h
+module _ (child : ℕ → List (List ℕ) → List (List ℕ)) (root : List (List ℕ)) (g levels₀ position at₀ : ℕ) (l₀ : List ℕ) where
+  -- the tree below a node with so many levels left
+  abbrev restOf : ℕ → ℕ → Punctured
+  restOf levels at = record { «branch_bits» = g; levels = levels; position = position; at = at }
 
-    pub shift-few : (t .levels - 1) * t .«branch_bits» < 64
-    shift-few = omega (arith, ok .short, ok .branch .two, less-levels)
+  -- the walk from a node gives what the whole walk gives
+  pub record Going (count : ℕ) (node : List (List ℕ)) (levels at : ℕ) (l : List ℕ) : Type 0 where
+    pub counted : count ≡ 2 ^ g
+    pub room : IsPunctured (restOf levels at) (length l)
+    pub left : walked (2 ^ g) child node (restOf levels at) l ≡ walked (2 ^ g) child root (restOf levels₀ at₀) l₀
+    pub long : length l ≡ length l₀
 
-    pub shift-fits : Fits w64 ((t .levels - 1) * t .«branch_bits»)
-    shift-fits = record { fits = omega (arith, shift-few) }
+  pub going-start : {count : ℕ} → count ≡ 2 ^ g → IsPunctured (restOf levels₀ at₀) (length l₀) → Going count root levels₀ at₀ l₀
+  going-start e ok = record { counted = e; room = ok; left = refl; long = refl }
 
-    module _ {count : ℕ} (e : count ≡ 2 ^ t .«branch_bits») where
-      pub level-of : (position m : ℕ) → m ≡ n → IsLevel (t .«branch_bits») (position % count) (t .at) m
-      level-of position m same =
+  module _ {count : ℕ} {node : List (List ℕ)} {levels at : ℕ} {l : List ℕ} (G : Going count node levels at l) where
+    pub going-done : levels ≤ 0 → walk node l ≡ walked (2 ^ g) child root (restOf levels₀ at₀) l₀
+    going-done e = walked-leaf child node (restOf levels at) l (omega arith) ∙ G .left
+
+    module _ (h : 0 < levels) where
+      some : levels ≢ 0
+      some e = omega arith
+
+      less-levels : levels * g ≡ (levels - 1) * g + g
+      less-levels = level-less levels g some
+
+      less-room : levels * (2 ^ g - 1) ≡ (levels - 1) * (2 ^ g - 1) + (2 ^ g - 1)
+      less-room = level-less levels (2 ^ g - 1) some
+
+      pub going-few : (levels - 1) * g < 64
+      going-few = omega (arith, G .room .short, G .room .branch .two, less-levels)
+
+      pub going-shift : Fits w64 ((levels - 1) * g)
+      going-shift = record { fits = omega (arith, going-few) }
+
+      pub going-level : (n : ℕ) → IsLevel g (n % count) at (length l)
+      going-level n =
           record {
-            branch = ok .branch;
-            few = eight (t .«branch_bits») (ok .branch);
-            named = omega (arith, mod-lt position {m = count} (omega (arith, pow-pos (t .«branch_bits»))));
-            room = omega (arith, ok .room, less-room);
+            branch = G .room .branch;
+            few = eight g (G .room .branch);
+            named = omega (arith, G .counted, mod-lt n {m = count} (omega (arith, G .counted, pow-pos g)));
+            room = omega (arith, G .room .room, less-room);
           }
 
-      pub others-fit : Fits w64 (16 * (count - 1))
-      others-fit = record { fits = omega (arith, eight (t .«branch_bits») (ok .branch)) }
+      pub going-others : Fits w64 (16 * (count - 1))
+      going-others = record { fits = omega (arith, G .counted, eight g (G .room .branch)) }
 
-      pub next-fit : n * 1 < 2 ^ 63 → Fits w64 (t .at + 16 * (count - 1))
-      next-fit f = record { fits = omega (arith, ok .room, less-room) }
+      pub going-count : 1 ≤ count
+      going-count = omega (arith, G .counted, pow-pos g)
 
-      pub next-walk : (m : ℕ) → m ≡ n
-          → IsPunctured (record { «branch_bits» = t .«branch_bits»; levels = t .levels - 1; position = t .position; at = t .at + 16 * (count - 1) }) m
-      next-walk m same =
+      pub going-at : length l₀ * 1 < 2 ^ 63 → Fits w64 (at + 16 * (count - 1))
+      going-at f = record { fits = omega (arith, G .counted, G .room .room, less-room, G .long) }
+
+      -- one level on, past the other children
+      pub going-next : {x : List (List ℕ)} {l₁ : List ℕ}
+          → walk x l₁ ≡ levelPassed (2 ^ g) child node (position / 2 ^ ((levels - 1) * g) % count) at l
+          → length l₁ ≡ length l → Going count x (levels - 1) (at + 16 * (count - 1)) l₁
+      unfolding walked
+      going-next {x} {l₁} e same =
           record {
-            branch = ok .branch;
-            short = omega (arith, ok .short, less-levels);
-            room = omega (arith, ok .room, less-room);
+            counted = G .counted;
+            room = record {
+              branch = G .room .branch;
+              short = omega (arith, G .room .short, less-levels);
+              room = omega (arith, G .counted, G .room .room, less-room);
+            };
+            left = walked-on child node (restOf levels at) l {x = x} {l₁ = l₁} some (G .counted) e refl ∙ G .left;
+            long = same ∙ G .long;
           }
-
-pub ruleset walks = (needs, branch-few, shift-few, shift-fits, level-of, others-fit, next-fit, next-walk)

@@ -8,6 +8,7 @@ use Prim.Native.Nat.{ℕ, _<_}
 use Rattle.algebra.specs.Field.{Value}
 use Rattle.field.specs.Kind.{kindOf}
 use Rattle.aes128.specs.Cipher.{keyExpansion}
+use Rattle.aes128.specs.Words.{roundKeys}
 use Rattle.tree.specs.Tree.{listed}
 use Rattle.tree.specs.Child.{childKey, child, keysFor, childBy}
 use Rattle.tree.specs.Expanded.{walked, leavesAdded, puncturedAdded}
@@ -18,8 +19,10 @@ abbrev pub OfChildKeys : ℕ → (ℕ → List (List (List ℕ))) → Type 0
 OfChildKeys k keys = (c : ℕ) → c < k → keys c ≡ keyExpansion (childKey c)
 
 pub record KeySchedules : Type 0 where
-  -- the round keys of the child keys, lent one after another, are such a family; `child_keys` makes one of 2^g children
-  pub lent : (k : ℕ) (rest : List (List (List (List ℕ)))) → OfChildKeys k (keysFor (listed k (λ c. keyExpansion (childKey c)) ++ rest))
+  -- words that hold the round keys of the child keys, lent one after another, are such a family; `child_keys` makes one of 2^g
+  -- children
+  pub lent : (k : ℕ) (words : ℕ → List ℕ) (rest : List (List ℕ)) → ((c : ℕ) → c < k → roundKeys (words c) ≡ keyExpansion (childKey c))
+      → OfChildKeys k (keysFor (listed k words ++ rest))
   -- child c under them is document 01's child c
   pub children : (k : ℕ) (keys : ℕ → List (List (List ℕ))) → OfChildKeys k keys
       → (c : ℕ) → c < k → (s : List (List ℕ)) → childBy keys c s ≡ child c s

@@ -7,9 +7,12 @@ mod node;
 mod punctured;
 mod range;
 
+pub use columns::block_at;
 pub use columns::columns_at;
 pub use fill::add_leaves;
 pub use fill::add_punctured;
 pub use leaf::walk;
+pub use node::child;
 pub use node::child_keys;
+pub use node::child_of_both;
 pub use punctured::Punctured;

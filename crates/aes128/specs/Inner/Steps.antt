@@ -1,13 +1,8 @@
 -- Inner: no promise cites this file. What the inner functions compute.
 use mathlib.Core.List.{List, [], _∷_}
-use Prim.Native.Nat.{ℕ, _+_, _%_}
-use lib.ListN.{getD}
-use Rattle.aes128.specs.State.{four, column, xorWord}
+use Prim.Native.Nat.{ℕ}
+use Rattle.aes128.specs.State.{column, xorWord}
 use Rattle.aes128.specs.Cipher.{rotWord, subWord}
-
--- a word's bytes moved down one row, the last to row 0
-abbrev pub turned : List ℕ → List ℕ
-turned a = four (λ r. getD a ((r + 3) % 4) 0)
 
 -- the round key after k, whose round constant has the first byte x
 unfoldable pub nextKey : ℕ → List (List ℕ) → List (List ℕ)

@@ -7,14 +7,19 @@ use Rattle.field.specs.Binary.{bitRing}
 use Rattle.field.specs.Kind.{binaryKind, primeKind}
 use Rattle.field.specs.Prime.{primeRing}
 use Rattle.code.specs.declared.Shape.{Shape}
-use Rattle.code.specs.Row.{strip, termPlace, rowOf}
+use Rattle.code.specs.Row.{strip, placeOf, termPlace, rowOf}
 
--- ℓ is 1 to N, N at most 65536, and the strip N / ℓ
+-- ℓ is 1 to N and at most 32, N at most 65536, and the strip N / ℓ
 pub record Shaped (s : Shape) : Type 0 where
   pub some : 1 ≤ s .terms
   pub full : s .terms ≤ s .places
+  pub few : s .terms ≤ 32
   pub most : s .places ≤ 65536
   pub strip : s .strip ≡ strip (s .places) (s .terms)
+
+-- the place that a word names for term i
+abbrev pub placeBy : Shape → ℕ → ℕ → ℕ
+placeBy s i word = placeOf (s .places) (s .terms) i word
 
 -- the place of term i of row x
 abbrev pub placeIn : List (List (List ℕ)) → Shape → ℕ → ℕ → ℕ

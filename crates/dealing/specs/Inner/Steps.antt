@@ -16,7 +16,7 @@ use Rattle.record.specs.Inner.Heads.{scalarWith}
 use Rattle.record.specs.Inner.Rising.{RisesFrom}
 use Rattle.record.specs.Inner.Lengths.{Writable, frontBytes, headLength, noiseLength, scalarLength}
 use Rattle.record.specs.declared.Front.{Front}
-use Rattle.sbox.specs.Inner.Tables.{Tables}
+use Rattle.sbox.specs.Inner.Tables.{RoundTables}
 use Rattle.tree.specs.Child.{child, keysFor}
 use Rattle.tree.specs.Columns.{columnsBytes}
 use Rattle.tree.specs.KeySchedules.{OfChildKeys}
@@ -28,8 +28,8 @@ use Rattle.dealing.specs.Parts.{noiseTree, noisePart}
 use Rattle.dealing.specs.declared.noise.Planned.{Planned}
 
 -- the tables and the round keys of the child keys of 2^g children
-pub record TablesAndKeys (g : ℕ) (sbox mix : List ℕ) (keys : List (List (List (List ℕ)))) : Type 0 where
-  pub tables : Tables sbox mix
+pub record TablesAndKeys (g : ℕ) (tables : List ℕ) (keys : List (List ℕ)) : Type 0 where
+  pub rounds : RoundTables tables
   pub child-keys : OfChildKeys (2 ^ g) (keysFor keys)
 
 -- the input of a head's numbers and the other parts

@@ -6,7 +6,7 @@ use Rattle.direct.specs.Inner.Vectors.{fieldFor}
 use Rattle.direct.specs.declared.window.Rows.{Rows}
 
 -- an accepted noise record with its table and the round keys of the child keys, rows up to 32768, and room for their outputs
-pub record BothFit (s : List ℕ) (r : Rows) (table : List ℕ) (keys : List (List (List (List ℕ)))) (u v : ℕ) : Type 0 where
+pub record BothFit (s : List ℕ) (r : Rows) (table : List ℕ) (keys : List (List ℕ)) (u v : ℕ) : Type 0 where
   pub mu : Walking 1 s (r .front) table keys
   pub v0 : Walking 2 s (r .front) table keys
   pub within : r .first + r .count ≤ 32768

@@ -37,6 +37,7 @@ pub record IsCode (f : Front) : Type 0 where
   pub depth : f .depth ≤ 16
   pub some : 1 ≤ f .terms
   pub full : f .terms ≤ 2 ^ f .depth
+  pub few : f .terms ≤ 32
 
 -- the terms of strip i stand in the first n rows, and the sums are as they were
 pub record HasTerms (code : List (List (List ℕ))) (b : Batch) (i n : ℕ) (before rows : List ℕ) : Type 0 where

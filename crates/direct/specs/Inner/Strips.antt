@@ -7,7 +7,7 @@ use Rattle.direct.specs.Inner.Trees.{Walking}
 use Rattle.direct.specs.declared.batch.Strip.{Strip}
 
 -- an accepted record, at most 32 rows, a strip, and as many words as the rows' outputs take
-pub record IsStrip (s table : List ℕ) (keys : List (List (List (List ℕ)))) (t : Strip) (out : ℕ) : Type 0 where
+pub record IsStrip (s table : List ℕ) (keys : List (List ℕ)) (t : Strip) (out : ℕ) : Type 0 where
   pub walking : Walking (t .batch .vector .number) s (t .batch .vector .front) table keys
   pub few : t .batch .count ≤ 32
   pub below : t .number < t .batch .vector .front .terms

@@ -58,7 +58,7 @@ pub record Standing (vector : ℕ) (s : List ℕ) (f : Front) (table : List ℕ)
   pub roots : vector ≡ 3 → rootsAt f + 16 * f .trees ≤ length s
 
 -- and the round keys of the child keys
-pub record Walking (vector : ℕ) (s : List ℕ) (f : Front) (table : List ℕ) (keys : List (List (List (List ℕ)))) : Type 0 where
+pub record Walking (vector : ℕ) (s : List ℕ) (f : Front) (table : List ℕ) (keys : List (List ℕ)) : Type 0 where
   pub standing : Standing vector s f table
   pub own : OfChildKeys (2 ^ f .«branch_bits») (keysFor keys)
 
@@ -92,7 +92,7 @@ pub record StartsAt (vector : ℕ) (s : List ℕ) (f : Front) (i j : ℕ) (r : S
   pub room : r .at + 16 ≤ length s
 
 -- two starts of walks under the round keys of the child keys
-pub record TwoStarts (s : List ℕ) (f : Front) (keys : List (List (List (List ℕ)))) (a b : Start) : Type 0 where
+pub record TwoStarts (s : List ℕ) (f : Front) (keys : List (List ℕ)) (a b : Start) : Type 0 where
   pub own : OfChildKeys (2 ^ f .«branch_bits») (keysFor keys)
   pub first : IsWay (f .«branch_bits») (a .left)
   pub second : IsWay (f .«branch_bits») (b .left)

@@ -5,16 +5,16 @@ use Rattle.fips197.proofs.chain_wrong.Statement.{statement}
 use Rattle.fips197.proofs.chain_wrong.Tie as tie
 
 abbrev Inv-loop2 : tie.InvT-loop2
-Inv-loop2 sbox mix plain block₀ d₀ n keys w m₀ block d m = m ≤ 100
+Inv-loop2 sbox tables plain block₀ key d₀ n keys lasts w v m₀ block d m = m ≤ 100
 
 abbrev μ-loop2 : tie.MeasureT-loop2
-μ-loop2 sbox mix plain block₀ d₀ n keys w m₀ block d m = 100 - m
+μ-loop2 sbox tables plain block₀ key d₀ n keys lasts w v m₀ block d m = 100 - m
 
 abbrev Inv-loop : tie.InvT-loop
-Inv-loop sbox mix plain block₀ key₀ d₀ n₀ block key d n = n ≤ 100
+Inv-loop sbox tables plain block₀ key₀ last₀ d₀ n₀ block key last d n = n ≤ 100
 
 abbrev μ-loop : tie.MeasureT-loop
-μ-loop sbox mix plain block₀ key₀ d₀ n₀ block key d n = 100 - n
+μ-loop sbox tables plain block₀ key₀ last₀ d₀ n₀ block key last d n = 100 - n
 
 pub chain-wrong-spec : {M : Type 1} → statement M
 chain-wrong-spec =
@@ -24,17 +24,19 @@ chain-wrong-spec =
     μ-loop2
     Inv-loop
     μ-loop
+    (λ c κs. search needs)  -- of-columns-requires
+    (λ c κs. search needs)  -- of-columns-requires-2
     (λ c. search needs)  -- loop-holds
-    (λ c κs. search needs)  -- expand-key-requires
-    (λ c κs. search needs)  -- bytes-requires
-    (λ c κs. search needs)  -- expand-requires
+    (λ c κs. search needs)  -- lent-of-requires
+    (λ c κs. search needs)  -- lent-of-requires-2
+    (λ c κs. search needs)  -- plain-of-requires
+    (λ c κs. search needs)  -- plain-of-requires-2
     (λ c. search needs)  -- loop2-holds
     (λ c κs. search needs)  -- encrypt-requires
-    (λ c κs. search needs)  -- encrypt-xor-requires
-    (λ c κs. search needs)  -- bytes-requires-2
-    (λ c κs. search needs)  -- encrypt-requires-2
-    (λ c κs. search needs)  -- bytes-requires-3
-    (λ c κs. search needs)  -- step-wrong-requires
+    (λ c κs. search needs)  -- encrypt-two-requires
+    (λ c κs. search needs)  -- apart-requires
+    (λ c κs. search needs)  -- apart-requires-2
+    (λ c κs. search needs)  -- apart-requires-3
     (λ c. search needs)  -- add-m
     (λ c. search needs)  -- loop2-less
     (λ c. search needs)  -- loop2-again

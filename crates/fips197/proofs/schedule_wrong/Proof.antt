@@ -16,16 +16,15 @@ schedule-wrong-spec =
     (tie.spec
     Inv-loop
     μ-loop
-    (λ c κs. search needs)  -- expand-key-requires
+    (λ c κs. search needs)  -- schedule-requires
     (λ c κs. search needs)  -- bytes-requires
     (λ c κs. search needs)  -- expand-requires
     (λ c. search needs)  -- loop-holds
-    (λ c. search needs)  -- mul-key-wrong
-    (λ c. search needs)  -- array-copy-out-key-wrong
+    (λ c κs. search needs)  -- lent-key-requires
     (λ c κs. search needs)  -- round-key-requires
-    (λ c. search needs)  -- mul-key-wrong-2
-    (λ c. search needs)  -- array-copy-out-key-wrong-2
-    (λ c κs. search needs)  -- key-wrong-requires
+    (λ c. search needs)  -- mul-one-wrong
+    (λ c. search needs)  -- array-copy-out-one-wrong
+    (λ c κs. search needs)  -- one-wrong-requires
     (λ c. search needs)  -- add-i
     (λ c. search needs)  -- loop-less
     (λ c. search needs)  -- loop-again

@@ -58,7 +58,7 @@ pub record TreeFits (f : Front) (t : Tree) (source v : ℕ) : Type 0 where
   pub room : t .siblings + 16 * beside f ≤ source
 
 -- an accepted record, the round keys of the child keys, and as many words as N noise values and N elements take
-pub record TreesFit (s : List ℕ) (f : Front) (keys : List (List (List (List ℕ)))) (noise v : ℕ) : Type 0 where
+pub record TreesFit (s : List ℕ) (f : Front) (keys : List (List ℕ)) (noise v : ℕ) : Type 0 where
   pub ready : Ready s f
   pub own : OfChildKeys (2 ^ f .«branch_bits») (keysFor keys)
   pub noiseValues : noise ≡ 2 ^ f .depth

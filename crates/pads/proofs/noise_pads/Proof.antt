@@ -11,7 +11,7 @@ noise-pads-spec =
     (λ c κs. search needs)  -- noise-number-requires
     (λ c. search noise-refused)  -- returns
     (λ c κs. search needs)  -- table-requires
-    (λ c κs. search needs)  -- mix-table-requires
+    (λ c κs. search needs)  -- fill-tables-requires
     (λ c κs. search needs)  -- pad-keys-requires
     (λ c κs. (search needs, search noise-fits))  -- write-pads-requires
     (λ c. search needs)  -- same-length

@@ -11,7 +11,7 @@ scalar-pads-spec =
     (λ c κs. search needs)  -- scalar-number-requires
     (λ c. search scalar-refused)  -- returns
     (λ c κs. search needs)  -- table-requires
-    (λ c κs. search needs)  -- mix-table-requires
+    (λ c κs. search needs)  -- fill-tables-requires
     (λ c κs. search needs)  -- pad-keys-requires
     (λ c κs. search scalar-delta)  -- block-at-requires
     (λ c κs. (search needs, search scalar-fits))  -- write-messages-requires

@@ -15,12 +15,11 @@ elementsUsed F keys r w =
     every (r .window .count) (λ k. every (r .shape .terms)
     (λ i. F .scaled .group .isElement (at (F .elements) w (placeIn keys (r .shape) (r .window .first + k) i))))
 
--- a whole vector of values of a width, a window that ends at 32768 (the largest n) or before, and rows of at most 32 terms
+-- a whole vector of values of a width, and a window that ends at 32768 (the largest n) or before
 pub record Testing (width : ℕ) (r : WindowRows) (vector : ℕ) : Type 0 where
   pub shaped : Shaped (r .shape)
   pub whole : vector ≡ r .shape .places * width
   pub within : r .window .first + r .window .count ≤ 32768
-  pub few : r .shape .terms ≤ 32
 
 -- and a buffer with room for the window
 pub record Fitting (width : ℕ) (r : WindowRows) (vector room : ℕ) : Type 0 where

@@ -1,24 +1,40 @@
--- Inner: no promise cites this file. The table that joins the S-box with MixColumns (FIPS 197, 5.1.1 and 5.1.3), and both tables.
+-- Inner: no promise cites this file. The tables that the rounds read, which join the S-box with MixColumns (FIPS 197, 5.1.1 and 5.1.3).
 use mathlib.Core.Path.{_≡_}
 use mathlib.Core.List.{List, [], _∷_}
-use Prim.Native.Nat.{ℕ, _/_, _%_, _^_, _<_}
+use Prim.Native.Nat.{ℕ, _+_, _*_, _/_, _%_, _^_, _<_}
 use lib.ListN.{getD}
 use Rattle.sbox.specs.Byte.{mulBytes, sBox}
-use Rattle.sbox.specs.Table.{SBoxTable}
+use Rattle.sbox.specs.Wide.{wideRows}
 
--- the four bytes of a 32-bit number, least first
-unfoldable pub bytesOf : ℕ → List ℕ
-bytesOf w = w % 2 ^ 8 ∷ w / 2 ^ 8 % 2 ^ 8 ∷ w / 2 ^ 16 % 2 ^ 8 ∷ w / 2 ^ 24 % 2 ^ 8 ∷ []
+-- what the byte x in row 0, 1, 2 or 3 adds to the rows of its column under SubBytes and MixColumns
+abbrev pub mixed0 : ℕ → List ℕ
+mixed0 x = mulBytes 2 (sBox x) ∷ sBox x ∷ sBox x ∷ mulBytes 3 (sBox x) ∷ []
 
--- what the byte x in row 0 of a column adds to rows 0 to 3 of that column under SubBytes and MixColumns
-abbrev pub mixed : ℕ → List ℕ
-mixed x = mulBytes 2 (sBox x) ∷ sBox x ∷ sBox x ∷ mulBytes 3 (sBox x) ∷ []
+abbrev pub mixed1 : ℕ → List ℕ
+mixed1 x = mulBytes 3 (sBox x) ∷ mulBytes 2 (sBox x) ∷ sBox x ∷ sBox x ∷ []
 
--- entry x is the number of those four bytes
-pub record MixTable (t : List ℕ) : Type 0 where
-  pub entry : (x : ℕ) → x < 256 → bytesOf (getD t x 0) ≡ mixed x
+abbrev pub mixed2 : ℕ → List ℕ
+mixed2 x = sBox x ∷ mulBytes 3 (sBox x) ∷ mulBytes 2 (sBox x) ∷ sBox x ∷ []
 
--- both tables
-pub record Tables (sb mx : List ℕ) : Type 0 where
-  pub sub : SBoxTable sb
-  pub mix : MixTable mx
+abbrev pub mixed3 : ℕ → List ℕ
+mixed3 x = sBox x ∷ sBox x ∷ mulBytes 3 (sBox x) ∷ mulBytes 2 (sBox x) ∷ []
+
+-- the wide column of four bytes
+abbrev pub wideColumn : ℕ → ℕ → ℕ → ℕ → ℕ
+wideColumn a b c d = a + b * 2 ^ 24 + c * 2 ^ 32 + d * 2 ^ 56
+
+-- a wide column whose rows moved down by two
+abbrev pub halfTurned : ℕ → ℕ
+halfTurned w = w % 2 ^ 32 * 2 ^ 32 + w / 2 ^ 32
+
+-- the tables: for each row, those four bytes as a wide column; then the S-box's value at each byte's place in a half word, rows
+-- 0 and 1 in the halves of one entry, rows 2 and 3 in those of another
+pub record RoundTables (t : List ℕ) : Type 0 where
+  pub mix0 : (x : ℕ) → x < 256 → wideRows (getD t x 0) ≡ mixed0 x
+  pub mix1 : (x : ℕ) → x < 256 → wideRows (getD t (256 + x) 0) ≡ mixed1 x
+  pub mix2 : (x : ℕ) → x < 256 → wideRows (getD t (512 + x) 0) ≡ mixed2 x
+  pub mix3 : (x : ℕ) → x < 256 → wideRows (getD t (768 + x) 0) ≡ mixed3 x
+  pub last0 : (x : ℕ) → x < 256 → getD t (1024 + x) 0 % 2 ^ 32 ≡ sBox x
+  pub last1 : (x : ℕ) → x < 256 → getD t (1024 + x) 0 / 2 ^ 32 ≡ sBox x * 2 ^ 8
+  pub last2 : (x : ℕ) → x < 256 → getD t (1280 + x) 0 % 2 ^ 32 ≡ sBox x * 2 ^ 16
+  pub last3 : (x : ℕ) → x < 256 → getD t (1280 + x) 0 / 2 ^ 32 ≡ sBox x * 2 ^ 24

@@ -33,7 +33,7 @@ pub record Ready (s : List ℕ) (f : Front) : Type 0 where
   pub room : rootsAt f + 16 * f .trees ≤ length s
 
 -- such a record, the round keys of the child keys, and as many words as N elements take
-pub record TreesFit (s : List ℕ) (f : Front) (keys : List (List (List (List ℕ)))) (words : ℕ) : Type 0 where
+pub record TreesFit (s : List ℕ) (f : Front) (keys : List (List ℕ)) (words : ℕ) : Type 0 where
   pub ready : Ready s f
   pub own : OfChildKeys (2 ^ f .«branch_bits») (keysFor keys)
   pub whole : words ≡ 2 ^ f .depth * elementWords (f .field)

@@ -1,5 +1,5 @@
 -- Inner: no promise cites this file. A tree added, Δ from its place, and a window's outcome under round keys.
-use mathlib.Core.Bool.{not}
+use mathlib.Core.Bool.{Bool, true, false, not}
 use mathlib.Core.List.{List, [], _∷_}
 use Prim.Native.Nat.{ℕ, _+_, _*_, _/_, _^_}
 use lib.Dec.{eqb}
@@ -16,7 +16,7 @@ use Rattle.rows.specs.Inner.Outputs.{windowOver}
 use Rattle.rows.specs.Inner.Testing.{elementsUsed}
 
 -- the words after the leaves of the tree below a root are added, under round keys
-unfoldable pub treeAdded : Front → List (List (List (List ℕ))) → List (List ℕ) → List ℕ → List ℕ
+unfoldable pub treeAdded : Front → List (List ℕ) → List (List ℕ) → List ℕ → List ℕ
 treeAdded f keys root w =
     leavesAdded (kindOf (f .field)) (2 ^ f .«branch_bits») (childBy (keysFor keys)) (f .depth / f .«branch_bits») root w
 
@@ -24,10 +24,16 @@ treeAdded f keys root w =
 unfoldable pub deltaAt : ℕ → List ℕ → ℕ → List ℕ
 deltaAt field source at = wordAt source at ∷ choose (eqb field 1) (wordAt source (at + 8)) 0 ∷ []
 
--- the test 8, and the window over the front of a buffer
+-- the window over the front of a buffer
+abbrev pub wOver : List (List (List ℕ)) → WindowRows → List ℕ → List ℕ → List ℕ
+wOver keys r w out = windowOver (kindOf (r .field) .field) (kindOf (r .field) .coefficient) keys r w out
+
+-- the window, if all words that the rows use are elements; else nothing is written
+unfoldable pub windowUnder : List (List (List ℕ)) → WindowRows → List ℕ → List ℕ → Bool × List ℕ
+windowUnder keys r w out = choose (elementsUsed (kindOf (r .field) .field) keys r w) (true, wOver keys r w out) (false, out)
+
+-- the test 8, and the window
 unfoldable pub outputsUnder : List (List (List ℕ)) → WindowRows → List ℕ → List ℕ → OneLength × List ℕ
 outputsUnder keys r w out =
-    choose (not (elementsUsed (kindOf (r .field) .field) keys r w)) (record { number = notElement; written = 0 }, out) (
-      record { number = accepted; written = r .window .count * elementWords (r .field) },
-      windowOver (kindOf (r .field) .field) (kindOf (r .field) .coefficient) keys r w out,
-    )
+    choose (not (elementsUsed (kindOf (r .field) .field) keys r w)) (record { number = notElement; written = 0 }, out)
+    (record { number = accepted; written = r .window .count * elementWords (r .field) }, wOver keys r w out)

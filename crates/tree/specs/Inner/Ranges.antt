@@ -1,13 +1,17 @@
 -- Inner: no promise cites this file. Consecutive children of a node, halved until two are left: how the fills go down a tree.
 use mathlib.Core.Logic.{_≢_}
 use mathlib.Core.List.{List, []}
+use mathlib.Core.Path.{_≡_}
 use Prim.Native.Nat.{ℕ, _+_, _-_, _*_, _/_, _%_, _^_, _≤_, _<_}
+use lib.Dec.{eqb}
+use Rattle.algebra.specs.Choice.{choose}
 use Rattle.field.specs.Kind.{kindOf}
 use Rattle.tree.specs.Columns.{columnsAt, siblingsAt}
 use Rattle.tree.specs.Added.{added, leafElement, puncturedElement}
 use Rattle.tree.specs.declared.punctured.Punctured.{Punctured}
 use Rattle.tree.specs.declared.range.Range.{Range}
 use Rattle.tree.specs.declared.range.Path.{Path}
+use Rattle.tree.specs.declared.range.Halves.{Halves}
 
 -- two, four or eight children
 pub record IsBranch (g : ℕ) : Type 0 where
@@ -20,7 +24,7 @@ pub record IsPunctured (tree : Punctured) (n : ℕ) : Type 0 where
   pub short : tree .levels * tree .«branch_bits» ≤ 64
   pub room : tree .at + 16 * (tree .levels * (2 ^ tree .«branch_bits» - 1)) ≤ n
 
--- ---- one element
+-- ---- elements of leaves
 
 -- the words of an element after the element of a leaf is added, and after the one that words begin with
 unfoldable pub leafAdded : ℕ → List (List ℕ) → List ℕ → List ℕ
@@ -28,6 +32,10 @@ leafAdded field s acc = added (kindOf field .field) 1 (λ j. kindOf field .leaf 
 
 unfoldable pub elementAdded : ℕ → List ℕ → List ℕ → List ℕ
 elementAdded field words acc = added (kindOf field .field) 1 (λ j. kindOf field .field .elements .read words 0) acc
+
+-- the words of n elements after those of the n children of s from child c on, which are leaves, are added
+unfoldable pub childrenAdded : ℕ → (ℕ → List (List ℕ) → List (List ℕ)) → ℕ → ℕ → List (List ℕ) → List ℕ → List ℕ
+childrenAdded field child c n s acc = added (kindOf field .field) n (λ j. kindOf field .leaf (child (c + j) s)) acc
 
 -- ---- ranges
 
@@ -93,6 +101,17 @@ above ρ = halfFrom ρ (ρ .first + (2 ^ (ρ .bits - 1) - 1))
 
 -- ---- paths: a range that holds the path of a punctured tree
 
+-- the half from child c on of a range that holds a path, at a position in it: of two children one, as all its own children
+unfoldable pub pathIn : Path → ℕ → ℕ → Path
+pathIn path c position =
+    choose (eqb (path .range .bits) 1)
+    (record {
+      range = allChildren (path .range .«branch_bits») (path .range .levels - 1);
+      position = position;
+      at = path .at + 16 * (childCount (path .range) - 1);
+    })
+    (record { range = halfFrom (path .range) c; position = position; at = path .at })
+
 -- a position below the range, and siblings within n bytes
 pub record IsPath (path : Path) (n : ℕ) : Type 0 where
   pub range : IsRange (path .range)
@@ -100,6 +119,20 @@ pub record IsPath (path : Path) (n : ℕ) : Type 0 where
   pub short : path .range .levels * path .range .«branch_bits» ≤ 64
   pub room : path .at + 16 * (path .range .levels * (childCount (path .range) - 1)) ≤ n
   pub fits : n < 2 ^ 64
+
+-- the halves of a range that holds a path, where the first holds it and where the second does: the other as a run of siblings
+pub record FirstHolds (path : Path) (below : Path) (beside : Range) : Type 0 where
+  pub inside : path .position < sizeOf (front (path .range))
+  pub on : below ≡ pathIn path (path .range .first) (path .position)
+  pub run : beside ≡ above (path .range)
+
+pub record SecondHolds (path : Path) (below : Path) (beside : Range) : Type 0 where
+  pub inside : sizeOf (front (path .range)) ≤ path .position
+  pub on : below ≡ pathIn path (path .range .first + 2 ^ (path .range .bits - 1)) (path .position - sizeOf (front (path .range)))
+  pub run : beside ≡ front (path .range)
+
+unfoldable pub AreHalves : Path → Halves → Type 0
+AreHalves path r = choose (r .first) (FirstHolds path (r .below) (r .beside)) (SecondHolds path (r .below) (r .beside))
 
 -- the element of leaf j below a range that holds the position
 unfoldable pub pathElement : {E : Type 0} → (List (List ℕ) → E) → (ℕ → List (List ℕ) → List (List ℕ)) → Path → List ℕ → E → ℕ → E

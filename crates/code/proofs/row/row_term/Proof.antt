@@ -1,4 +1,4 @@
--- `code::row::row_term` meets its contract: each callee's result put into the next. Assumes nothing.
+-- `code::row::row_term` meets its contract: the cipher's result put into the place. Assumes nothing.
 use borrow.Author.Needs.{needs}
 use Rattle.code.proofs.Terms.{place-is, word-is}
 use Rattle.code.proofs.row.row_term.Statement.{statement}
@@ -8,9 +8,7 @@ pub row-term-spec : {M : Type 1} → statement M
 row-term-spec =
     tie.close
     (tie.spec
-    (λ c κs. search needs)  -- columns-requires
     (λ c κs. search needs)  -- encrypt-requires
-    (λ c κs. search needs)  -- of-columns-requires
     (λ c κs. search needs)  -- place-of-requires
     (λ c. (search place-is, search needs, search word-is))  -- returns
     )

@@ -4,15 +4,17 @@ use mathlib.Core.Path.{_≡_}
 use mathlib.Core.Bool.{true}
 use Prim.Native.Nat.{_≤_, _-_}
 use borrow.Author.Needs.{needs}
-use Rattle.code.proofs.Tested.{termsBelow, terms-none, term-more, term-stop, terms-done}
+use Rattle.aes128.specs.Words.{roundKeys}
+use Rattle.code.specs.Inner.Sums.{termsBelow}
+use Rattle.code.proofs.Tested.{terms-none, term-more, term-stop, terms-done}
 use Rattle.code.proofs.used.row_below.Statement.{statement}
 use Rattle.code.proofs.used.row_below.Tie as tie
 
 abbrev Inv-loop : tie.InvT-loop
-Inv-loop sbox mix keys shape x words bound i₀ i = (i ≤ shape .terms) × (termsBelow bound words keys shape x i ≡ true)
+Inv-loop tables keys shape x words bound i₀ i = (i ≤ shape .terms) × (termsBelow bound words (roundKeys keys) shape x i ≡ true)
 
 abbrev μ-loop : tie.MeasureT-loop
-μ-loop sbox mix keys shape x words bound i₀ i = shape .terms - i
+μ-loop tables keys shape x words bound i₀ i = shape .terms - i
 
 pub row-below-spec : {M : Type 1} → statement M
 row-below-spec =
@@ -21,7 +23,7 @@ row-below-spec =
     Inv-loop
     μ-loop
     (λ c. search (needs, terms-none))  -- loop-holds
-    (λ c κs. search needs)  -- row-term-requires
+    (λ c κs. search needs)  -- row-place-requires
     (λ c. search needs)  -- mul-if1
     (λ c. search needs)  -- shared-slice-read-if1
     (λ c. search term-stop)  -- returns

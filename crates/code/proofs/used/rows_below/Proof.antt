@@ -4,6 +4,7 @@ use mathlib.Core.Path.{_≡_}
 use mathlib.Core.Bool.{true}
 use Prim.Native.Nat.{_≤_, _-_}
 use borrow.Author.Needs.{needs}
+use Rattle.aes128.specs.Words.{roundKeys}
 use borrow.Author.Tests.{not-true, not-false}
 use Rattle.code.specs.Inner.Used.{usedBelow}
 use Rattle.code.proofs.Tested.{rows-none, row-more, row-stop, rows-done}
@@ -11,10 +12,10 @@ use Rattle.code.proofs.used.rows_below.Statement.{statement}
 use Rattle.code.proofs.used.rows_below.Tie as tie
 
 abbrev Inv-loop : tie.InvT-loop
-Inv-loop sbox mix keys shape window words bound k₀ k = (k ≤ window .count) × (usedBelow bound words keys shape (record { first = window .first; count = k }) ≡ true)
+Inv-loop tables keys shape window words bound k₀ k = (k ≤ window .count) × (usedBelow bound words (roundKeys keys) shape (record { first = window .first; count = k }) ≡ true)
 
 abbrev μ-loop : tie.MeasureT-loop
-μ-loop sbox mix keys shape window words bound k₀ k = window .count - k
+μ-loop tables keys shape window words bound k₀ k = window .count - k
 
 pub rows-below-spec : {M : Type 1} → statement M
 rows-below-spec =

@@ -8,11 +8,11 @@ use Rattle.dealing.proofs.noise.write_trees.Statement.{statement}
 use Rattle.dealing.proofs.noise.write_trees.Tie as tie
 
 abbrev Inv-loop : tie.InvT-loop
-Inv-loop out₀ front roots positions values delta sb mx keys at₀ base₀ i₀ out at base i =
-    Turn front roots positions values delta out₀ sb mx keys out at base i
+Inv-loop out₀ front roots positions values delta tables keys at₀ base₀ i₀ out at base i =
+    Turn front roots positions values delta out₀ tables keys out at base i
 
 abbrev μ-loop : tie.MeasureT-loop
-μ-loop out₀ front roots positions values delta sb mx keys at₀ base₀ i₀ out at base i = front .trees - i
+μ-loop out₀ front roots positions values delta tables keys at₀ base₀ i₀ out at base i = front .trees - i
 
 pub write-trees-spec : {M : Type 1} → statement M
 write-trees-spec =
@@ -21,9 +21,9 @@ write-trees-spec =
     Inv-loop
     μ-loop
     (λ c κs. search needs)  -- table-requires
-    (λ c κs. search needs)  -- mix-table-requires
+    (λ c κs. search needs)  -- fill-tables-requires
     (λ c κs. search needs)  -- child-keys-requires
-    (λ c. turn-start _ _ _ _ _ _ (search) (record { tables = search needs; child-keys = search needs }))  -- loop-holds
+    (λ c. turn-start _ _ _ _ _ _ (search) (record { rounds = search needs; child-keys = search needs }))  -- loop-holds
     (λ c κs. (search turn-position, search turn-value))  -- plan-requires
     (λ c. search turn-fits)  -- mul-columns-at
     (λ c κs. search turn-root)  -- columns-at-requires

@@ -10,10 +10,10 @@ use Rattle.direct.proofs.batch.add_strip.Statement.{statement}
 use Rattle.direct.proofs.batch.add_strip.Tie as tie
 
 abbrev Inv-loop : tie.InvT-loop
-Inv-loop sbox mix keys source table rows out₀ batch size start left₀ out left = Stripped (batch .vector .number) (batch .vector .front .field) (batch .count) rows (valuesOf (batch .vector .number) source (batch .vector .front)) out₀ start size left out × (start + size ≤ 2 ^ batch .vector .front .depth) × (start + size ≤ 65536) × (length out ≡ length out₀)
+Inv-loop tables keys source table rows out₀ batch size start left₀ out left = Stripped (batch .vector .number) (batch .vector .front .field) (batch .count) rows (valuesOf (batch .vector .number) source (batch .vector .front)) out₀ start size left out × (start + size ≤ 2 ^ batch .vector .front .depth) × (start + size ≤ 65536) × (length out ≡ length out₀)
 
 abbrev μ-loop : tie.MeasureT-loop
-μ-loop sbox mix keys source table rows out₀ batch size start left₀ out left = left
+μ-loop tables keys source table rows out₀ batch size start left₀ out left = left
 
 pub add-strip-spec : {M : Type 1} → statement M
 add-strip-spec =

@@ -1,4 +1,5 @@
 -- `direct::batch::write_batch` meets its contract. The loop's invariant: the strips from `i` on are summed; the measure is `i`. Assumes nothing.
+use Rattle.aes128.specs.Words.{roundKeys}
 use mathlib.Core.Path.{refl}
 use Rattle.direct.proofs.Strips.{Down, batch-code, batch-none, batch-below, batch-strip, batch-more, batch-all}
 use borrow.Author.Needs.{needs}
@@ -6,10 +7,10 @@ use Rattle.direct.proofs.batch.write_batch.Statement.{statement}
 use Rattle.direct.proofs.batch.write_batch.Tie as tie
 
 abbrev Inv-loop : tie.InvT-loop
-Inv-loop sbox mix keys code source table batch out₀ rows₀ i₀ out rows i = Down (batch .vector .number) source code (batch .vector .front) (batch .first) (batch .count) i rows out
+Inv-loop tables keys code source table batch out₀ rows₀ i₀ out rows i = Down (batch .vector .number) source (roundKeys code) (batch .vector .front) (batch .first) (batch .count) i rows out
 
 abbrev μ-loop : tie.MeasureT-loop
-μ-loop sbox mix keys code source table batch out₀ rows₀ i₀ out rows i = i
+μ-loop tables keys code source table batch out₀ rows₀ i₀ out rows i = i
 
 pub write-batch-spec : {M : Type 1} → statement M
 write-batch-spec =

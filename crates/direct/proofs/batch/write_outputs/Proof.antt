@@ -1,4 +1,5 @@
 -- `direct::batch::write_outputs` meets its contract. The loop's invariant: the first `done` outputs are written; the measure is what is left of the window. Assumes nothing.
+use Rattle.aes128.specs.Words.{roundKeys}
 use Prim.Native.Nat.{_-_}
 use native.Mathlib.Omega.{arith}
 use Rattle.direct.proofs.Strips.{Windowed, windowed-none, part-room, part-whole, windowed-more, windowed-all, from-fits, bytes-fit, part-fits, to-fits, part-batch}
@@ -7,10 +8,10 @@ use Rattle.direct.proofs.batch.write_outputs.Statement.{statement}
 use Rattle.direct.proofs.batch.write_outputs.Tie as tie
 
 abbrev Inv-loop : tie.InvT-loop
-Inv-loop sbox mix keys code source table window out₀ vector width done₀ out done = Windowed source code window out₀ done out
+Inv-loop tables keys code source table window out₀ vector width done₀ out done = Windowed source (roundKeys code) window out₀ done out
 
 abbrev μ-loop : tie.MeasureT-loop
-μ-loop sbox mix keys code source table window out₀ vector width done₀ out done = window .count - done
+μ-loop tables keys code source table window out₀ vector width done₀ out done = window .count - done
 
 pub write-outputs-spec : {M : Type 1} → statement M
 write-outputs-spec =

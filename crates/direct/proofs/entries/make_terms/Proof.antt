@@ -1,4 +1,5 @@
 -- `direct::entries::make_terms` meets its contract. The loop's invariant: the terms of the rows before `k` are made; the measure is what is left of the rows. Assumes nothing.
+use Rattle.aes128.specs.Words.{roundKeys}
 use Prim.Native.Nat.{_≤_, _-_}
 use Rattle.direct.specs.Inner.Rows.{HasTerms}
 use Rattle.direct.proofs.Rows.{terms-none, terms-more, terms-all}
@@ -7,10 +8,10 @@ use Rattle.direct.proofs.entries.make_terms.Statement.{statement}
 use Rattle.direct.proofs.entries.make_terms.Tie as tie
 
 abbrev Inv-loop : tie.InvT-loop
-Inv-loop sbox mix code batch i rows₀ front k₀ rows k = (k ≤ batch .count) × HasTerms code batch i k rows₀ rows
+Inv-loop tables code batch i rows₀ front k₀ rows k = (k ≤ batch .count) × HasTerms (roundKeys code) batch i k rows₀ rows
 
 abbrev μ-loop : tie.MeasureT-loop
-μ-loop sbox mix code batch i rows₀ front k₀ rows k = batch .count - k
+μ-loop tables code batch i rows₀ front k₀ rows k = batch .count - k
 
 pub make-terms-spec : {M : Type 1} → statement M
 make-terms-spec =

@@ -7,10 +7,10 @@ use Rattle.direct.proofs.values.leaves_sum.Statement.{statement}
 use Rattle.direct.proofs.values.leaves_sum.Tie as tie
 
 abbrev Inv-loop : tie.InvT-loop
-Inv-loop sbox mix keys source table vector j field trees total₀ i₀ total i = Partly (vector .number) source (vector .front) j i total
+Inv-loop tables keys source table vector j field trees total₀ i₀ total i = Partly (vector .number) source (vector .front) j i total
 
 abbrev μ-loop : tie.MeasureT-loop
-μ-loop sbox mix keys source table vector j field trees total₀ i₀ total i = vector .front .trees - i
+μ-loop tables keys source table vector j field trees total₀ i₀ total i = vector .front .trees - i
 
 pub leaves-sum-spec : {M : Type 1} → statement M
 leaves-sum-spec =

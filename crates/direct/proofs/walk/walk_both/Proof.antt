@@ -10,10 +10,10 @@ use Rattle.direct.proofs.walk.walk_both.Statement.{statement}
 use Rattle.direct.proofs.walk.walk_both.Tie as tie
 
 abbrev Inv-loop : tie.InvT-loop
-Inv-loop sbox mix keys branch-bits left j x₀ y₀ levels₀ x y levels = (levels ≤ left) × (leafAt (2 ^ branch-bits) (childBy (keysFor keys)) levels x j ≡ leafAt (2 ^ branch-bits) (childBy (keysFor keys)) left x₀ j) × (leafAt (2 ^ branch-bits) (childBy (keysFor keys)) levels y j ≡ leafAt (2 ^ branch-bits) (childBy (keysFor keys)) left y₀ j)
+Inv-loop tables keys branch-bits left j x₀ y₀ levels₀ x y levels = (levels ≤ left) × (leafAt (2 ^ branch-bits) (childBy (keysFor keys)) levels x j ≡ leafAt (2 ^ branch-bits) (childBy (keysFor keys)) left x₀ j) × (leafAt (2 ^ branch-bits) (childBy (keysFor keys)) levels y j ≡ leafAt (2 ^ branch-bits) (childBy (keysFor keys)) left y₀ j)
 
 abbrev μ-loop : tie.MeasureT-loop
-μ-loop sbox mix keys branch-bits left j x₀ y₀ levels₀ x y levels = levels
+μ-loop tables keys branch-bits left j x₀ y₀ levels₀ x y levels = levels
 
 pub walk-both-spec : {M : Type 1} → statement M
 walk-both-spec =
@@ -24,7 +24,7 @@ walk-both-spec =
     (λ c. search needs)  -- loop-holds
     (λ c. search needs)  -- sub-levels
     (λ c κs. search way-below)  -- digit-requires
-    (λ c κs. search needs)  -- child-of-both-requires
+    (λ c κs. search needs)  -- children-of-requires
     (λ c. search needs)  -- array-copy-out-x
     (λ c. search needs)  -- array-copy-out-y
     (λ c. search needs)  -- loop-less

@@ -10,10 +10,10 @@ use Rattle.direct.proofs.walk.walk_to.Statement.{statement}
 use Rattle.direct.proofs.walk.walk_to.Tie as tie
 
 abbrev Inv-loop : tie.InvT-loop
-Inv-loop sbox mix keys branch-bits left stop j node₀ levels₀ node levels = (stop ≤ levels) × (levels ≤ left) × (leafAt (2 ^ branch-bits) (childBy (keysFor keys)) levels node j ≡ leafAt (2 ^ branch-bits) (childBy (keysFor keys)) left node₀ j)
+Inv-loop tables keys branch-bits left stop j node₀ levels₀ node levels = (stop ≤ levels) × (levels ≤ left) × (leafAt (2 ^ branch-bits) (childBy (keysFor keys)) levels node j ≡ leafAt (2 ^ branch-bits) (childBy (keysFor keys)) left node₀ j)
 
 abbrev μ-loop : tie.MeasureT-loop
-μ-loop sbox mix keys branch-bits left stop j node₀ levels₀ node levels = levels
+μ-loop tables keys branch-bits left stop j node₀ levels₀ node levels = levels
 
 pub walk-to-spec : {M : Type 1} → statement M
 walk-to-spec =
@@ -24,9 +24,7 @@ walk-to-spec =
     (λ c. search needs)  -- loop-holds
     (λ c. search needs)  -- sub-levels
     (λ c κs. search way-below)  -- digit-requires
-    (λ c. search needs)  -- mul-encrypt-xor
-    (λ c. search needs)  -- index-1-encrypt-xor
-    (λ c κs. search needs)  -- encrypt-xor-requires
+    (λ c κs. search needs)  -- child-of-requires
     (λ c. search needs)  -- loop-less
     (λ c. (omega arith, omega arith, search one-down))  -- loop-again
     (λ c. search one-stop)  -- returns

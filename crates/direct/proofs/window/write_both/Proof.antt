@@ -9,7 +9,7 @@ write-both-spec =
     tie.close
     (tie.spec
     (λ c κs. search needs)  -- table-requires
-    (λ c κs. search needs)  -- mix-table-requires
+    (λ c κs. search needs)  -- fill-tables-requires
     (λ c κs. search needs)  -- child-keys-requires
     (λ c κs. search needs)  -- code-keys-requires
     (λ c κs. (search needs, search few-trees))  -- tree-table-requires

@@ -6,10 +6,10 @@ use Rattle.noise_end.proofs.expansion.add_trees.Statement.{statement}
 use Rattle.noise_end.proofs.expansion.add_trees.Tie as tie
 
 abbrev Inv-loop : tie.InvT-loop
-Inv-loop sbox mix keys source front noise₀ v₀ beside at₀ base₀ i₀ noise v at base i = Grown source front keys beside at base i noise v
+Inv-loop tables keys source front noise₀ v₀ beside at₀ base₀ i₀ noise v at base i = Grown source front keys beside at base i noise v
 
 abbrev μ-loop : tie.MeasureT-loop
-μ-loop sbox mix keys source front noise₀ v₀ beside at₀ base₀ i₀ noise v at base i = front .trees - i
+μ-loop tables keys source front noise₀ v₀ beside at₀ base₀ i₀ noise v at base i = front .trees - i
 
 pub add-trees-spec : {M : Type 1} → statement M
 add-trees-spec =

@@ -9,7 +9,7 @@ pub noise-used-spec : {M : Type 1} → statement M
 noise-used-spec =
     tie.close
     (tie.spec
-    (λ c κs. (search needs, (search needs, omega arith, search needs, search needs)))  -- used-below-requires
+    (λ c κs. (search needs, (search needs, omega arith, search needs)))  -- used-below-requires
     (λ c. search noise-binary)  -- returns
     (λ c κs. (search needs, search testing-prime))  -- elements-used-requires
     (λ c. search noise-prime)  -- returns-2

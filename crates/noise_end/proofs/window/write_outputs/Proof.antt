@@ -1,7 +1,7 @@
 -- `noise_end::window::write_outputs` meets its contract: one law for each return. Assumes nothing.
 use borrow.Author.Needs.{needs}
 use Rattle.rows.proofs.Numbers.{count-fits}
-use Rattle.noise_end.proofs.Calls.{noise-not-usable, not-usable, outputs-written}
+use Rattle.noise_end.proofs.Calls.{outputs-refused, outputs-written}
 use Rattle.noise_end.proofs.window.write_outputs.Statement.{statement}
 use Rattle.noise_end.proofs.window.write_outputs.Tie as tie
 
@@ -11,12 +11,11 @@ write-outputs-spec =
     (tie.spec
     (λ c κs. search needs)  -- element-width-requires
     (λ c. search count-fits)  -- mul-words
-    (λ c κs. search needs)  -- noise-used-requires
-    (λ c. search noise-not-usable)  -- returns
-    (λ c κs. search needs)  -- elements-used-requires
-    (λ c. search not-usable)  -- returns-2
-    (λ c κs. search needs)  -- fill-requires
+    (λ c κs. search needs)  -- write-tested-requires
     (λ c. search needs)  -- same-length
     (λ c. search needs)  -- same-length-2
-    (λ c. search outputs-written)  -- returns-3
+    (λ c. search outputs-refused)  -- returns
+    (λ c. search needs)  -- same-length-3
+    (λ c. search needs)  -- same-length-4
+    (λ c. search outputs-written)  -- returns-2
     )

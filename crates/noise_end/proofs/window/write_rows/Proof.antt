@@ -10,7 +10,7 @@ write-rows-spec =
     tie.close
     (tie.spec
     (λ c κs. search needs)  -- table-requires
-    (λ c κs. search needs)  -- mix-table-requires
+    (λ c κs. search needs)  -- fill-tables-requires
     (λ c κs. search needs)  -- code-keys-requires
     (λ c κs. search needs)  -- window-rows-requires
     (λ c κs. (search needs, (search fits-noise, search fits-rows)))  -- write-outputs-requires

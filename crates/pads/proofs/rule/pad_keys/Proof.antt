@@ -6,12 +6,12 @@ use Rattle.pads.proofs.rule.pad_keys.Tie as tie
 
 returns : tie.Need-returns
 unfolding padKey
-returns c = c .expand-key .ensures
+returns c = c .schedule .ensures
 
 pub pad-keys-spec : {M : Type 1} → statement M
 pad-keys-spec =
     tie.close
     (tie.spec
-    (λ c κs. search needs)  -- expand-key-requires
+    (λ c κs. search needs)  -- schedule-requires
     returns
     )

@@ -10,6 +10,6 @@ code-keys-spec =
     (tie.spec
     (λ c κs. search needs)  -- code-key-at-requires
     (λ c κs. search needs)  -- columns-at-requires
-    (λ c κs. search needs)  -- expand-key-requires
+    (λ c κs. search needs)  -- schedule-requires
     (λ c. search keys-at)  -- returns
     )

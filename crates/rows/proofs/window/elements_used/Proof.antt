@@ -1,6 +1,7 @@
 -- `rows::window::elements_used` meets its contract, field by field. Assumes nothing.
 use borrow.Author.Needs.{needs}
-use Rattle.rows.proofs.Steps.{used-binary, used-prime}
+use Rattle.rows.proofs.Passed.{binary-used}
+use Rattle.rows.proofs.Steps.{used-prime}
 use Rattle.rows.proofs.Widths.{whole-prime}
 use Rattle.rows.proofs.window.elements_used.Statement.{statement}
 use Rattle.rows.proofs.window.elements_used.Tie as tie
@@ -9,8 +10,8 @@ pub elements-used-spec : {M : Type 1} → statement M
 elements-used-spec =
     tie.close
     (tie.spec
-    (λ c. search used-binary)  -- returns
+    (λ c. search binary-used)  -- returns
     (λ c κs. search needs)  -- modulus-requires
-    (λ c κs. (search needs, (search needs, search whole-prime, search needs, search needs)))  -- used-below-requires
+    (λ c κs. (search needs, (search needs, search whole-prime, search needs)))  -- used-below-requires
     (λ c. search used-prime)  -- returns-2
     )

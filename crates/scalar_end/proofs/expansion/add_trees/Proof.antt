@@ -6,10 +6,10 @@ use Rattle.scalar_end.proofs.expansion.add_trees.Statement.{statement}
 use Rattle.scalar_end.proofs.expansion.add_trees.Tie as tie
 
 abbrev Inv-loop : tie.InvT-loop
-Inv-loop sbox mix keys source front w₀ i₀ w i = Grown source front w i
+Inv-loop tables keys source front w₀ i₀ w i = Grown source front w i
 
 abbrev μ-loop : tie.MeasureT-loop
-μ-loop sbox mix keys source front w₀ i₀ w i = front .trees - i
+μ-loop tables keys source front w₀ i₀ w i = front .trees - i
 
 pub add-trees-spec : {M : Type 1} → statement M
 add-trees-spec =

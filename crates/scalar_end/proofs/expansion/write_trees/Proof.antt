@@ -8,7 +8,7 @@ write-trees-spec =
     tie.close
     (tie.spec
     (λ c κs. search needs)  -- table-requires
-    (λ c κs. search needs)  -- mix-table-requires
+    (λ c κs. search needs)  -- fill-tables-requires
     (λ c κs. search needs)  -- child-keys-requires
     (λ c κs. search needs)  -- add-trees-requires
     (λ c. search needs)  -- same-length

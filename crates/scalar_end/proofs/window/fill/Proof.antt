@@ -1,5 +1,6 @@
 -- `scalar_end::window::fill` meets its contract, field by field. Assumes nothing.
 use borrow.Author.Needs.{needs}
+use Rattle.rows.proofs.Passed.{binary-used, prime-used}
 use Rattle.rows.proofs.Windows.{fits-binary, fits-prime, filled-binary, filled-prime}
 use Rattle.scalar_end.proofs.window.fill.Statement.{statement}
 use Rattle.scalar_end.proofs.window.fill.Tie as tie
@@ -11,7 +12,7 @@ fill-spec =
     (λ c κs. (search needs, search fits-binary))  -- fill-binary-requires
     (λ c κs. (search needs, search fits-prime))  -- fill-prime-requires
     (λ c. search needs)  -- same-length
-    (λ c. search filled-binary)  -- returns
+    (λ c. (search filled-binary, search binary-used))  -- returns
     (λ c. search needs)  -- same-length-2
-    (λ c. search filled-prime)  -- returns-2
+    (λ c. (search filled-prime, search prime-used))  -- returns-2
     )

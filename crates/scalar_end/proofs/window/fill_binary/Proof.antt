@@ -2,6 +2,7 @@
 use Prim.Native.Nat.{_≤_, _-_}
 use native.Mathlib.Omega.{arith}
 use borrow.Author.Needs.{needs}
+use Rattle.aes128.specs.Words.{roundKeys}
 use Rattle.field.specs.Binary.{binary}
 use Rattle.field.specs.Kind.{binaryKind}
 use Rattle.field.proofs.BinaryField.{binaryLaws}
@@ -11,11 +12,11 @@ use Rattle.scalar_end.proofs.window.fill_binary.Statement.{statement}
 use Rattle.scalar_end.proofs.window.fill_binary.Tie as tie
 
 abbrev Inv-loop : tie.InvT-loop
-Inv-loop sbox mix keys rows w w-out₀ k₀ w-out k =
-    (k ≤ rows .window .count) × Written (binary .elements) (outputAt binary (binaryKind .coefficient) keys rows w) w-out₀ w-out k
+Inv-loop tables keys rows w w-out₀ k₀ w-out k =
+    (k ≤ rows .window .count) × Written (binary .elements) (outputAt binary (binaryKind .coefficient) (roundKeys keys) rows w) w-out₀ w-out k
 
 abbrev μ-loop : tie.MeasureT-loop
-μ-loop sbox mix keys rows w w-out₀ k₀ w-out k = rows .window .count - k
+μ-loop tables keys rows w w-out₀ k₀ w-out k = rows .window .count - k
 
 pub fill-binary-spec : {M : Type 1} → statement M
 fill-binary-spec =

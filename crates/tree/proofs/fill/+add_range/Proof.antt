@@ -1,4 +1,4 @@
--- `tree::fill::add_range` meets its contract: the two halves of the buffer by two children, or by half as many children each. The
+-- `tree::fill::add_range` meets its contract: the last level at once, else the two halves of the buffer by two children, or by half as many children each. The
 -- measure is what is left of the depth. Assumes nothing.
 use Prim.Native.Nat.{ℕ, _<_}
 use borrow.Author.Needs.{needs}
@@ -7,6 +7,7 @@ use borrow.Fn.PlainCycle.{Measures, is, falls, and}
 use Rattle.tree.proofs.fill.add_range.Reads as reads
 use Rattle.tree.proofs.fill.add_range.Kinds as kinds
 use Rattle.tree.proofs.fill.+add_range.Lts-add_range as lts
+use Rattle.tree.proofs.fill.add_bottom.Reads as add-bottom-reads
 use Rattle.tree.proofs.fill.add_leaf.Reads as add-leaf-reads
 use Rattle.tree.proofs.node.children.Reads as children-reads
 use Rattle.tree.proofs.range.power.Reads as power-reads
@@ -14,22 +15,25 @@ use Rattle.tree.specs.Inner.Ranges.{leftOf}
 use Rattle.tree.proofs.Halves.{front-count}
 use Rattle.tree.proofs.Ranges.{two-some, one-falls, half-falls, one-range, front-range, back-range, pair-keys, bits-few, back-fits}
 use Rattle.tree.proofs.Filled.{leaf-length, one-front, one-back, half-front, half-back, filled-leaf, filled-children, filled-halves}
+use Rattle.tree.proofs.Bottom.{bottom-branch, bottom-keys, bottom-length, filled-bottom}
 use Rattle.tree.proofs.fill.+add_range.{statement}
 use Rattle.tree.proofs.fill.+add_range.Tie.{close}
 
-abbrev μ : Measures 4 kinds.ps ℕ
-μ κs a = leftOf (a .1 .1 .1 .1 .0)
+abbrev μ : Measures 3 kinds.ps ℕ
+μ κs a = leftOf (a .1 .1 .1 .0)
 
-abbrev at : ℕ → In 4 kinds.ps
-at t = and 4 kinds.ps (is 4 kinds.ps μ t) reads.Pre
+abbrev at : ℕ → In 3 kinds.ps
+at t = and 3 kinds.ps (is 3 kinds.ps μ t) reads.Pre
 
-abbrev below : ℕ → In 4 kinds.ps
-below t = and 4 kinds.ps (falls 4 kinds.ps _<_ μ t) reads.Pre
+abbrev below : ℕ → In 3 kinds.ps
+below t = and 3 kinds.ps (falls 3 kinds.ps _<_ μ t) reads.Pre
 
 pub +add-range-spec : {M : Type 1} → statement M
 +add-range-spec = close μ λ t. lts.spec (
   add-leaf-reads.Asked,
   add-leaf-reads.Learnt,
+  add-bottom-reads.Asked,
+  add-bottom-reads.Learnt,
   children-reads.Asked,
   children-reads.Learnt,
   below t,
@@ -40,13 +44,12 @@ pub +add-range-spec : {M : Type 1} → statement M
     (at t)
     reads.Post
     (λ c κs. search leaf-length)  -- add-leaf-requires
+    (λ c κs. (search needs, search bottom-branch, search bottom-keys, search bottom-length))  -- add-bottom-requires
     (λ c κs. (search needs, search pair-keys))  -- children-requires
     (λ c. search needs)  -- sub-mid
-    (λ c. search needs)  -- array-copy-out-add-range
     (λ c. search needs)  -- slice-relend-prefix-add-range
     (λ c. search front-count)  -- slice-aggregate-add-range
     (λ c κs. (search one-falls, (search needs, search one-range, search one-front)))  -- add-range-requires
-    (λ c. search needs)  -- array-copy-out-add-range-2
     (λ c. search needs)  -- mul-add-range
     (λ c. search needs)  -- sub-add-range
     (λ c. search needs)  -- part-add-range-start
@@ -68,6 +71,8 @@ pub +add-range-spec : {M : Type 1} → statement M
     (λ c. search needs)  -- same-length
     (λ c. search filled-leaf)  -- returns
     (λ c. search needs)  -- same-length-2
-    (λ c. search filled-children)  -- returns-2
+    (λ c. search filled-bottom)  -- returns-2
     (λ c. search needs)  -- same-length-3
-    (λ c. search filled-halves)  -- returns-3
+    (λ c. search filled-children)  -- returns-3
+    (λ c. search needs)  -- same-length-4
+    (λ c. search filled-halves)  -- returns-4

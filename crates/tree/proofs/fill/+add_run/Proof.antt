@@ -7,7 +7,7 @@ use borrow.Fn.PlainCycle.{Measures, is, falls, and}
 use Rattle.tree.proofs.fill.add_run.Reads as reads
 use Rattle.tree.proofs.fill.add_run.Kinds as kinds
 use Rattle.tree.proofs.fill.+add_run.Lts-add_run as lts
-use Rattle.tree.proofs.columns.columns_at.Reads as columns-at-reads
+use Rattle.tree.proofs.columns.block_at.Reads as block-at-reads
 use Rattle.tree.proofs.fill.add_range.Reads as add-range-reads
 use Rattle.tree.proofs.range.power.Reads as power-reads
 use Rattle.tree.specs.Inner.Ranges.{leftOf}
@@ -17,19 +17,19 @@ use Rattle.tree.proofs.Filled.{sibling-length, run-falls, run-half-fron
 use Rattle.tree.proofs.fill.+add_run.{statement}
 use Rattle.tree.proofs.fill.+add_run.Tie.{close}
 
-abbrev μ : Measures 5 kinds.ps ℕ
-μ κs a = leftOf (a .1 .1 .1 .1 .0)
+abbrev μ : Measures 4 kinds.ps ℕ
+μ κs a = leftOf (a .1 .1 .1 .0)
 
-abbrev at : ℕ → In 5 kinds.ps
-at t = and 5 kinds.ps (is 5 kinds.ps μ t) reads.Pre
+abbrev at : ℕ → In 4 kinds.ps
+at t = and 4 kinds.ps (is 4 kinds.ps μ t) reads.Pre
 
-abbrev below : ℕ → In 5 kinds.ps
-below t = and 5 kinds.ps (falls 5 kinds.ps _<_ μ t) reads.Pre
+abbrev below : ℕ → In 4 kinds.ps
+below t = and 4 kinds.ps (falls 4 kinds.ps _<_ μ t) reads.Pre
 
 pub +add-run-spec : {M : Type 1} → statement M
 +add-run-spec = close μ λ t. lts.spec (
-  columns-at-reads.Asked,
-  columns-at-reads.Learnt,
+  block-at-reads.Asked,
+  block-at-reads.Learnt,
   add-range-reads.Asked,
   add-range-reads.Learnt,
   power-reads.Asked,
@@ -39,9 +39,9 @@ pub +add-run-spec : {M : Type 1} → statement M
 )
     (at t)
     reads.Post
-    (λ c. search needs)  -- mul-columns-at
-    (λ c. search needs)  -- add-columns-at
-    (λ c κs. search sibling-room)  -- columns-at-requires
+    (λ c. search needs)  -- mul-block-at
+    (λ c. search needs)  -- add-block-at
+    (λ c κs. search sibling-room)  -- block-at-requires
     (λ c. search needs)  -- sub-t19
     (λ c κs. (search needs, search sibling-range, search sibling-length))  -- add-range-requires
     (λ c. search needs)  -- sub-mid

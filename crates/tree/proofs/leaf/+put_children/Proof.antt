@@ -8,27 +8,27 @@ use borrow.Fn.PlainCycle.{Measures, is, falls, and}
 use Rattle.tree.proofs.leaf.put_children.Reads as reads
 use Rattle.tree.proofs.leaf.put_children.Kinds as kinds
 use Rattle.tree.proofs.leaf.+put_children.Lts-put_children as lts
-use Rattle.tree.proofs.columns.put_two.Reads as put-two-reads
+use Rattle.tree.proofs.columns.put_block.Reads as put-block-reads
 use Rattle.tree.proofs.node.children.Reads as children-reads
 use Rattle.tree.proofs.Walked.{put-none, put-more}
 use Rattle.tree.proofs.leaf.+put_children.{statement}
 use Rattle.tree.proofs.leaf.+put_children.Tie.{close}
 
-abbrev μ : Measures 4 kinds.ps ℕ
-μ κs a = a .1 .1 .1 .1 .1 .0
+abbrev μ : Measures 3 kinds.ps ℕ
+μ κs a = a .1 .1 .1 .1 .0
 
-abbrev at : ℕ → In 4 kinds.ps
-at t = and 4 kinds.ps (is 4 kinds.ps μ t) reads.Pre
+abbrev at : ℕ → In 3 kinds.ps
+at t = and 3 kinds.ps (is 3 kinds.ps μ t) reads.Pre
 
-abbrev below : ℕ → In 4 kinds.ps
-below t = and 4 kinds.ps (falls 4 kinds.ps _<_ μ t) reads.Pre
+abbrev below : ℕ → In 3 kinds.ps
+below t = and 3 kinds.ps (falls 3 kinds.ps _<_ μ t) reads.Pre
 
 pub +put-children-spec : {M : Type 1} → statement M
 +put-children-spec = close μ λ t. lts.spec (
   children-reads.Asked,
   children-reads.Learnt,
-  put-two-reads.Asked,
-  put-two-reads.Learnt,
+  put-block-reads.Asked,
+  put-block-reads.Learnt,
   below t,
   reads.Post,
 )
@@ -36,7 +36,9 @@ pub +put-children-spec : {M : Type 1} → statement M
     reads.Post
     (λ c. search (needs, put-none))  -- returns
     (λ c κs. (search needs, omega arith))  -- children-requires
-    (λ c κs. search needs)  -- put-two-requires
+    (λ c κs. search needs)  -- put-block-requires
+    (λ c. search needs)  -- add-put-block
+    (λ c κs. search needs)  -- put-block-requires-2
     (λ c. search needs)  -- add-put-children
     (λ c. search needs)  -- sub-put-children
     (λ c. search needs)  -- add-put-children-2

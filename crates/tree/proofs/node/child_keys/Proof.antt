@@ -22,7 +22,7 @@ child-keys-spec =
     (λ c κs. search needs)  -- power-requires
     (λ c. (omega arith, made-none _ refl))  -- loop-holds
     (λ c. search key-byte)  -- cast-byte
-    (λ c κs. search needs)  -- expand-key-requires
+    (λ c κs. search needs)  -- schedule-requires
     (λ c. search key-place)  -- mul-keys
     (λ c. search key-below)  -- array-set-from-keys
     (λ c. search key-next)  -- add-c

@@ -1,0 +1,58 @@
+-- Laws of wide columns. Assumes nothing.
+use mathlib.Core.Path.{_≡_, _∙_, sym, ap}
+use mathlib.Core.List.{List, [], _∷_}
+use Prim.Native.Nat.{ℕ, _+_, _*_, _/_, _%_, _^_, _<_}
+use lib.Bits.{bitXor, xor-shr, xor-mod, xor-comm}
+use lib.ListN.{length, getD}
+use Rattle.field.proofs.Xor.{xor-assoc}
+use Rattle.sbox.specs.Byte.{sBox}
+use Rattle.sbox.specs.Wide.{wideRows}
+use Rattle.sbox.specs.Inner.Tables.{mixed0, mixed1, mixed2, mixed3}
+use Rattle.sbox.proofs.Columns.{rows-of-column}
+use Rattle.aes128.specs.State.{column, xorWord}
+use Rattle.aes128.specs.Cipher.{mixColumn}
+use Rattle.aes128.specs.Words.{wideKey}
+use Rattle.aes128.proofs.Words.{is-four, four-eq}
+
+-- the rows of an exclusive or
+pub wide-xor : (a b : ℕ) → wideRows (bitXor a b) ≡ xorWord (wideRows a) (wideRows b)
+unfolding wideRows xorWord
+wide-xor a b =
+    four-eq (xor-mod a b 8)
+    (ap (λ (v : ℕ). v % 2 ^ 8) (xor-shr a b 24) ∙ xor-mod (a / 2 ^ 24) (b / 2 ^ 24) 8)
+    (ap (λ (v : ℕ). v % 2 ^ 8) (xor-shr a b 32) ∙ xor-mod (a / 2 ^ 32) (b / 2 ^ 32) 8)
+    (ap (λ (v : ℕ). v % 2 ^ 8) (xor-shr a b 56) ∙ xor-mod (a / 2 ^ 56) (b / 2 ^ 56) 8)
+
+-- the last two terms of a sum exchanged
+pub xor-swap : (a b x : ℕ) → bitXor (bitXor a b) x ≡ bitXor (bitXor a x) b
+xor-swap a b x = xor-assoc a b x ∙ ap (bitXor a) (xor-comm b x) ∙ sym (xor-assoc a x b)
+
+-- a sum in the order of the lookups, and in that of MixColumns
+ordered : (k a b x y : ℕ) → bitXor (bitXor (bitXor (bitXor k a) y) b) x ≡ bitXor (bitXor (bitXor (bitXor a b) x) y) k
+ordered k a b x y =
+    ap (λ v. bitXor (bitXor (bitXor v y) b) x) (xor-comm k a)
+    ∙ ap (λ v. bitXor (bitXor v b) x) (xor-swap a k y)
+    ∙ ap (λ v. bitXor v x) (xor-swap (bitXor a y) k b)
+    ∙ xor-swap (bitXor (bitXor a y) b) k x
+    ∙ ap (λ v. bitXor (bitXor v x) k) (xor-swap a y b)
+    ∙ ap (λ v. bitXor v k) (xor-swap (bitXor a b) y x)
+
+-- a column of MixColumns and AddRoundKey, from the tables' entries for its four bytes
+pub mixed-column : (a b x y k ta tb tx ty : ℕ) → wideRows ta ≡ mixed0 a → wideRows tb ≡ mixed1 b → wideRows tx ≡ mixed2 x
+    → wideRows ty ≡ mixed3 y
+    → wideRows (bitXor (bitXor (bitXor (bitXor k ta) ty) tb) tx) ≡ xorWord (mixColumn (sBox a ∷ sBox b ∷ sBox x ∷ sBox y ∷ [])) (wideRows k)
+unfolding xorWord mixColumn
+mixed-column a b x y k ta tb tx ty ea eb ex ey =
+    ap wideRows (ordered k ta tb tx ty) ∙ simp (wide-xor, ea, eb, ex, ey)
+
+-- a wide column that is made of a column's four bytes
+pub wide-made : {a b x y : ℕ} {l : List ℕ} → length l ≡ 4 → (a ≡ getD l 0 0) × (a < 256) → (b ≡ getD l 1 0) × (b < 256)
+    → (x ≡ getD l 2 0) × (x < 256) → (y ≡ getD l 3 0) × (y < 256)
+    → wideRows (a + b * 2 ^ 24 + x * 2 ^ 32 + y * 2 ^ 56) ≡ l
+wide-made {a} {b} {x} {y} {l} e p q r s =
+    rows-of-column a b x y (p .1) (q .1) (r .1) (s .1) ∙ four-eq (p .0) (q .0) (r .0) (s .0) ∙ sym (is-four 0 l e)
+
+-- a round key of four wide columns
+pub wide-key : (w0 w1 w2 w3 : ℕ) {k : List (List ℕ)} → length k ≡ 4 → wideRows w0 ≡ column k 0 → wideRows w1 ≡ column k 1
+    → wideRows w2 ≡ column k 2 → wideRows w3 ≡ column k 3 → wideKey (w0 ∷ w1 ∷ w2 ∷ w3 ∷ []) 0 ≡ k
+wide-key w0 w1 w2 w3 {k} e e0 e1 e2 e3 = four-eq e0 e1 e2 e3 ∙ sym (is-four [] k e)

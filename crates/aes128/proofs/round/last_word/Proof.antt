@@ -1,0 +1,12 @@
+-- `aes128::round::last_word` meets its contract. Assumes nothing.
+use borrow.Author.Needs.{needs}
+use Rattle.aes128.proofs.Last.{last-word}
+use Rattle.aes128.proofs.round.last_word.Statement.{statement}
+use Rattle.aes128.proofs.round.last_word.Tie as tie
+
+pub last-word-spec : {M : Type 1} → statement M
+last-word-spec =
+    tie.close
+    (tie.spec
+    (λ c. last-word (search needs) (search needs) (search needs))  -- returns
+    )

@@ -1,0 +1,195 @@
+-- Nodes as blocks of two words and as four columns: each form from the other, in bytes, the sum in both, and a child in both.
+use mathlib.Core.Path.{_≡_, refl, ap, ap₂, sym, _∙_}
+use mathlib.Core.Bool.{Bool, true, false}
+use mathlib.Core.List.{List, [], _∷_, _++_}
+use Prim.Native.Nat.{ℕ, zero, suc, _+_, _*_, _/_, _%_, _≤_, _<_}
+use native.Mathlib.Omega.{arith}
+use mir.Syntax.{w8}
+use mir.Val.{Val}
+use denote.Array as array
+use denote.Laws.{Is}
+use denote.Plain.{UInt}
+use denote.Shadow.{shadow}
+use denote.RattleType.{RattleType}
+use denote.Struct.Declared.{row}
+use borrow.Author.Tests.{ltb-true, ltb-false}
+use lib.Bits.{bitXor, xor-shr, xor-mod}
+use lib.Dec.{T, ltb, ltb→lt, lit<}
+use lib.ListN.{length, getD, List·getD-eq-default}
+use lib.Seq.{sets}
+use Rattle.field.specs.Bytes.{leNumber, leBytes, eightAt, wordAt, columnsOf, lowOf, highOf, fourAt}
+use Rattle.field.specs.Binary.{block, blockOf, blockAdd, blockLeaf}
+use Rattle.field.specs.Prime.{primeReduce, primeLeaf}
+use Rattle.field.specs.Inner.Written.{withWord}
+use Rattle.field.specs.declared.block.Block.{Block}
+use Rattle.field.proofs.block.Block.{the-type}
+use Rattle.field.proofs.ByteWords.{length-leBytes, leNumber-leBytes-word}
+use Rattle.aes128.specs.State.{column, byteAt, xorWord, xorState}
+use Rattle.aes128.specs.Inner.Sizes.{IsWord, IsState}
+use Rattle.aes128.specs.Inner.Blocks.{cipherOf}
+use Rattle.aes128.proofs.Sizes.{columns-of-cipher}
+use Rattle.tree.specs.Child.{keysFor, childBy}
+use Rattle.tree.specs.Columns.{columnsAt, columnsBytes}
+use Rattle.tree.specs.Inner.Nodes.{nodeOf}
+use Rattle.tree.proofs.Blocks.{four-eq, square-is, sets-append}
+
+-- ---- arrays of bytes
+
+-- a condition on each element of an array, from one on a value of the elements' type
+each-value : (R : RattleType) (P : R .Denot → Type 0) → ((x : R .Denot) (vs : List Val) → Is R x vs → P x)
+    → (none : R .Denot) (xs : List (R .Denot)) (us : List Val) → shadow (array.each (R .Denot) (R .own) xs us)
+    → (i : ℕ) → i < length xs → P (getD xs i none)
+each-value R P of none [] us s i h = absurd (omega arith)
+each-value R P of none (x ∷ xs) [] s i h = absurd s
+each-value R P of none (x ∷ xs) (u ∷ us) s zero h = of x (u ∷ []) (s .0)
+each-value R P of none (x ∷ xs) (u ∷ us) s (suc i) h = each-value R P of none xs us (s .1) i (omega arith)
+
+byte-word : (w : List ℕ) (vs : List Val) → Is (array.Array (UInt w8) 4) w vs → IsWord w
+byte-word w vs g = record { size = g .1 .0 .1; bytes = λ r. at r (ltb r 4) refl }
+  where
+    at : (r : ℕ) (t : Bool) → ltb r 4 ≡ t → getD w r 0 < 256
+    at r true e = each-value (UInt w8) (λ x. x < 256) (λ x us i. i .1) 0 w (g .0) (g .1 .1) r (rw (g .1 .0 .1) (ltb-true r 4 e))
+    at r false e =
+        let out : length w ≤ r = rw (g .1 .0 .1) (ltb-false r 4 e) in
+        rw (List·getD-eq-default w 0 out) (lit< tt)
+
+-- four columns of four bytes that a function is given are a state
+pub given-state : (s : List (List ℕ)) (vs : List Val) → Is (array.Array (array.Array (UInt w8) 4) 4) s vs → IsState s
+given-state s vs g =
+    record {
+      size = g .1 .0 .1;
+      words = λ c h. each-value (array.Array (UInt w8) 4) IsWord byte-word [] s (g .0) (g .1 .1) c (rw (g .1 .0 .1) h);
+    }
+
+-- two words
+pub record IsBlock (s : Block) : Type 0 where
+  pub low : s .low < 18446744073709551616
+  pub high : s .high < 18446744073709551616
+
+-- a block that a function is given or gets has two words
+pub given-block : (s : Block) (vs : List Val) → Is (row the-type) s vs → IsBlock s
+given-block s vs g = record { low = g .1 .1 .0 .1; high = g .1 .1 .1 .0 .1 }
+
+-- ---- columns and words
+
+-- the bytes of the number of bytes
+bytes-cons : (n b x : ℕ) → b < 256 → leBytes (suc n) (b + 256 * x) ≡ b ∷ leBytes n x
+unfolding leBytes
+bytes-cons n b x h =
+    let r : (b + 256 * x) % 256 ≡ b = omega arith in
+    let q : (b + 256 * x) / 256 ≡ x = omega arith in
+    rw (r, q)
+
+four-bytes-of : {a b c d : ℕ} (x : ℕ) → a < 256 → b < 256 → c < 256 → d < 256 → leBytes 4 (a + 256 * (b + 256 * (c + 256 * (d + 256 * x)))) ≡ a ∷ b ∷ c ∷ d ∷ []
+unfolding leBytes
+four-bytes-of {a} {b} {c} {d} x ha hb hc hd =
+    bytes-cons 3 a _ ha ∙ ap (λ l. a ∷ l) (bytes-cons 2 b _ hb ∙ ap (λ l. b ∷ l) (bytes-cons 1 c _ hc ∙ ap (λ l. c ∷ l) (bytes-cons 0 d x hd)))
+
+rest-of : {a b c d x : ℕ} → a < 256 → b < 256 → c < 256 → d < 256 → (a + 256 * (b + 256 * (c + 256 * (d + 256 * x)))) / 4294967296 ≡ x
+rest-of ha hb hc hd = omega arith
+
+-- the columns of the words of a state are the state
+pub columns-of-state : (s : List (List ℕ)) → IsState s → columnsOf (lowOf s) (highOf s) ≡ s
+unfolding columnsOf lowOf highOf leNumber
+columns-of-state s h =
+    four-eq (four-bytes-of _ (b 0 0 tt) (b 0 1 tt) (b 0 2 tt) (b 0 3 tt))
+    (ap (leBytes 4) (rest-of (b 0 0 tt) (b 0 1 tt) (b 0 2 tt) (b 0 3 tt)) ∙ four-bytes-of 0 (b 1 0 tt) (b 1 1 tt) (b 1 2 tt) (b 1 3 tt))
+    (four-bytes-of _ (b 2 0 tt) (b 2 1 tt) (b 2 2 tt) (b 2 3 tt))
+    (ap (leBytes 4) (rest-of (b 2 0 tt) (b 2 1 tt) (b 2 2 tt) (b 2 3 tt)) ∙ four-bytes-of 0 (b 3 0 tt) (b 3 1 tt) (b 3 2 tt) (b 3 3 tt))
+    ∙ square-is s (record { size = h .size; columns = λ c l. h .words c l .size })
+  where
+    b : (c r : ℕ) → T (ltb c 4) → byteAt s r c < 256
+    b c r l = h .words c (ltb→lt c 4 l) .bytes r
+
+-- the node of a state's block
+pub node-of-columns : (s : List (List ℕ)) {b : Block} → IsState s → b ≡ blockOf s → nodeOf b ≡ s
+node-of-columns s h e = ap nodeOf e ∙ columns-of-state s h
+
+-- the node whose bytes stand at a place
+pub node-at : (bytes : List ℕ) (at : ℕ) {s : Block} → ((i : ℕ) → getD bytes i 0 < 256) → s .low ≡ wordAt bytes at → s .high ≡ wordAt bytes (at + 8)
+    → nodeOf s ≡ columnsAt bytes at
+unfolding columnsOf columnsAt wordAt leNumber
+node-at bytes at {s} b el eh =
+    ap₂ columnsOf el eh
+    ∙ four-eq (first at) (second at) (first (at + 8)) (second (at + 8) ∙ ap (λ i. fourAt bytes i []) (omega arith))
+  where
+    first : (k : ℕ) → leBytes 4 (leNumber (eightAt bytes k)) ≡ fourAt bytes k []
+    first k = four-bytes-of _ (b k) (b (k + 1)) (b (k + 2)) (b (k + 3))
+
+    past : (k n : ℕ) → getD bytes (k + (4 + n)) 0 ≡ getD bytes (k + 4 + n) 0
+    past k n = ap (λ i. getD bytes i 0) (omega arith)
+
+    second : (k : ℕ) → leBytes 4 (leNumber (eightAt bytes k) / 4294967296) ≡ fourAt bytes (k + 4) []
+    second k =
+        ap (leBytes 4) (rest-of (b k) (b (k + 1)) (b (k + 2)) (b (k + 3)))
+        ∙ four-bytes-of 0 (b (k + 4)) (b (k + 5)) (b (k + 6)) (b (k + 7))
+        ∙ four-eq refl (past k 1) (past k 2) (past k 3)
+
+-- the eight bytes of a word as two columns
+eight-bytes : (x : ℕ) → leBytes 8 x ≡ fourAt (leBytes 4 x) 0 (fourAt (leBytes 4 (x / 4294967296)) 0 [])
+unfolding leBytes
+eight-bytes x = ap (λ y. fourAt (leBytes 4 x) 0 (leBytes 4 y)) e
+  where
+    e : x / 256 / 256 / 256 / 256 ≡ x / 4294967296
+    e = omega arith
+
+-- the block of a block's node is the block
+low-of-node : (s : Block) → IsBlock s → lowOf (nodeOf s) ≡ s .low
+unfolding lowOf columnsOf
+low-of-node s h = ap leNumber (sym (eight-bytes (s .low))) ∙ leNumber-leBytes-word (s .low) (h .low)
+
+high-of-node : (s : Block) → IsBlock s → highOf (nodeOf s) ≡ s .high
+unfolding highOf columnsOf
+high-of-node s h = ap leNumber (sym (eight-bytes (s .high))) ∙ leNumber-leBytes-word (s .high) (h .high)
+
+-- so the element of a leaf in either field is its block's, and its first word's
+pub leaf-block : {s : Block} {x : List (List ℕ)} → IsBlock s → nodeOf s ≡ x → s ≡ blockLeaf x
+leaf-block {s} h e = ap₂ block (sym (low-of-node s h)) (sym (high-of-node s h)) ∙ ap blockOf e
+
+pub leaf-prime : {s : Block} {x : List (List ℕ)} → IsBlock s → nodeOf s ≡ x → primeReduce (s .low) ≡ primeLeaf x
+leaf-prime {s} h e = ap primeReduce (sym (low-of-node s h)) ∙ ap primeLeaf e
+
+-- a node's bytes written as two words
+pub sets-node : (l : List ℕ) {l₁ l₂ : List ℕ} (at : ℕ) (s : Block) → l₁ ≡ withWord l at (s .low) → l₂ ≡ withWord l₁ (at + 8) (s .high)
+    → l₂ ≡ sets l at (columnsBytes (nodeOf s))
+unfolding withWord columnsBytes columnsOf
+sets-node l at s e₁ e₂ =
+    e₂
+    ∙ ap (λ k. sets k (at + 8) (leBytes 8 (s .high))) e₁
+    ∙ ap (λ n. sets (sets l at (leBytes 8 (s .low))) (at + n) (leBytes 8 (s .high))) (sym (length-leBytes 8 (s .low)))
+    ∙ sets-append l at (leBytes 8 (s .low)) (leBytes 8 (s .high))
+    ∙ ap₂ (λ a b. sets l at (a ++ b)) (eight-bytes (s .low)) (eight-bytes (s .high))
+
+-- ---- sums
+
+word-xor : (x y : ℕ) {z : ℕ} → z ≡ bitXor x y → leBytes 4 z ≡ xorWord (leBytes 4 x) (leBytes 4 y)
+unfolding leBytes xorWord
+word-xor x y e =
+    let e₁ = next x y e in
+    let e₂ = next (x / 256) (y / 256) e₁ in
+    let e₃ = next (x / 256 / 256) (y / 256 / 256) e₂ in
+    four-eq (low x y e) (low (x / 256) (y / 256) e₁) (low (x / 256 / 256) (y / 256 / 256) e₂) (low (x / 256 / 256 / 256) (y / 256 / 256 / 256) e₃)
+  where
+    low : (x y : ℕ) {z : ℕ} → z ≡ bitXor x y → z % 256 ≡ bitXor (x % 256) (y % 256)
+    low x y e = ap (λ v. v % 256) e ∙ xor-mod x y 8
+
+    next : (x y : ℕ) {z : ℕ} → z ≡ bitXor x y → z / 256 ≡ bitXor (x / 256) (y / 256)
+    next x y e = ap (λ v. v / 256) e ∙ xor-shr x y 8
+
+-- the columns of a sum of blocks are the sum of their columns
+pub columns-xor : (a b : Block) → nodeOf (blockAdd a b) ≡ xorState (nodeOf a) (nodeOf b)
+unfolding columnsOf xorState
+columns-xor a b =
+    four-eq (word-xor (a .low) (b .low) refl) (word-xor _ _ (xor-shr (a .low) (b .low) 32)) (word-xor (a .high) (b .high) refl)
+    (word-xor _ _ (xor-shr (a .high) (b .high) 32))
+
+-- ---- children
+
+-- child c of a block, as the cipher's block and the sum with the block
+pub child-block : (keys : List (List ℕ)) (c : ℕ) (s : Block) {r t : Block} → r ≡ cipherOf (getD keys c []) s → t ≡ blockAdd r s
+    → nodeOf t ≡ childBy (keysFor keys) c (nodeOf s)
+unfolding childBy
+child-block keys c s er et =
+    ap nodeOf (et ∙ ap (λ b. blockAdd b s) er)
+    ∙ columns-xor (cipherOf (getD keys c []) s) s
+    ∙ ap (λ l. xorState l (nodeOf s)) (columns-of-cipher (getD keys c []) s)
