@@ -16,19 +16,13 @@ use Rattle.pads.specs.Calls.{noisePadsBy, scalarPadsBy}
 use Rattle.pads.specs.Admitted.{NoisePadsAdmitted}
 use Rattle.pads.specs.Choice.{InWindow, padAt, messageAt, Choice}
 use Rattle.pads.proofs.Numbers.{answer-written}
-use Rattle.pads.proofs.Written.{Wide, drop-flat, wide-block, wide-messages}
+use Rattle.pads.proofs.Written.{Wide, drop-over, wide-block, wide-messages}
 use Rattle.pads.proofs.Accepts.{accepts}
 
--- what lies from value k on, in a buffer that n values were written over
-drop-over : {A : Type 0} (C : Coding A) → Wide C → (n : ℕ) (f : ℕ → A) (b : List ℕ) (k : ℕ) → k < n
-    → drop (k * C .width) (over C n f b) ≡ C .words (f k) ++ drop (suc k * C .width) (over C n f b)
-unfolding over
-drop-over C wide n f b k h = drop-flat C wide f n k (drop (n * C .width) b) h
-
--- value k again
+-- the words of value k, in a buffer that n values were written over
 value-over : {A : Type 0} (C : Coding A) → Wide C → (n : ℕ) (f : ℕ → A) (b : List ℕ) (k j : ℕ) → k < n → j ≡ k * C .width
     → take (C .width) (drop j (over C n f b)) ≡ C .words (f k)
-value-over C wide n f b k j h e = rw (e, drop-over C wide n f b k h) (take-at (C .words (f k)) _ (C .width) (wide (f k)))
+value-over C wide n f b k j h e = rw (e, drop-over C wide f n b k h) (take-at (C .words (f k)) _ (C .width) (wide (f k)))
 
 -- the noise end's bytes for an index of its window are those of its pad
 noise-bytes : (rule : Rule) (first count : ℕ) (vs choices pads : List ℕ) → noisePadsBy rule first count vs choices pads .number ≡ 0
@@ -75,7 +69,7 @@ scalar-bytes rule first count ws delta pads e x i u h =
     let place : 32 * (x - first) ≡ (x - first) * 32 = omega arith in
     ap (λ (l : List ℕ). messageAt l first x u) (answer-written _ _ pads _ _ e)
     ∙ rw
-    (place, ← drop-drop (16 * u), drop-over messageBytes wide-messages count f pads (x - first) (omega arith))
+    (place, ← drop-drop (16 * u), drop-over messageBytes wide-messages f count pads (x - first) (omega arith))
     (message-bytes (f (x - first)) _ u h)
     ∙ ap (λ (y : ℕ). blockBytes .words (named u (messagePair rule y (at blockBytes ws (x - first)) Δ))) here
 

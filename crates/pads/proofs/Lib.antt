@@ -5,5 +5,6 @@ pub mod Numbers
 pub mod Accepts
 pub mod Choice
 pub mod Needs
+pub mod Passes
 pub mod Turns
 pub mod Outcomes

@@ -1,5 +1,5 @@
 -- Laws shaped like what the functions of `pads` are asked: premises as the code has them, conclusions as contracts have them.
-use mathlib.Core.Path.{_≡_, refl, sym, _∙_}
+use mathlib.Core.Path.{_≡_, refl, sym, ap, _∙_}
 use mathlib.Core.Bool.{Bool, true, false}
 use mathlib.Core.List.{List}
 use Prim.Native.Nat.{ℕ, _+_, _-_, _*_, _/_, _%_, _≤_, _<_}
@@ -14,9 +14,10 @@ use Rattle.aes128.specs.Words.{roundKeys}
 use Rattle.aes128.specs.Inner.Blocks.{cipherOf}
 use Rattle.field.specs.declared.block.Block.{Block}
 use Rattle.field.specs.Binary.{blockAdd}
-use Rattle.pads.specs.Bytes.{anyAbove}
+use Rattle.pads.specs.Bytes.{anyAbove, blockBytes}
 use Rattle.field.specs.Inner.Written.{withWord}
 use Rattle.pads.specs.Inner.Written.{withBlock}
+use Rattle.pads.specs.Inner.Passes.{secondStep}
 use Rattle.pads.specs.Pad.{padKey, indexBlock, underPadKey, pad}
 use Rattle.pads.proofs.Written.{two-words}
 
@@ -24,16 +25,31 @@ use Rattle.pads.proofs.Written.{two-words}
 pub put-words : (l l′ l″ : List ℕ) (at : ℕ) (b : Block) → l′ ≡ withWord l at (b .low) → l″ ≡ withWord l′ (at + 8) (b .high) → l″ ≡ withBlock l at b
 put-words l l′ l″ at b e g = g ∙ rw e (two-words l at b)
 
--- both pads written
-pub put-both : (l l′ l″ : List ℕ) (at x y : ℕ) (a b p q : Block) → p ≡ pad x a → q ≡ pad y b
-    → l′ ≡ withBlock l at p → l″ ≡ withBlock l′ (at + 16) q → l″ ≡ withBlock (withBlock l at (pad x a)) (at + 16) (pad y b)
-put-both l l′ l″ at x y a b p q pe qe e g = rw (g, e, pe, qe)
+-- both blocks written
+pub put-both : (l l′ l″ : List ℕ) (at : ℕ) (p q p′ q′ : Block) → p ≡ p′ → q ≡ q′
+    → l′ ≡ withBlock l at p → l″ ≡ withBlock l′ (at + 16) q → l″ ≡ withBlock (withBlock l at p′) (at + 16) q′
+put-both l l′ l″ at p q p′ q′ pe qe e g = rw (g, e, pe, qe)
 
--- the pad from both steps
-pub pad-is : (keys : List ℕ) (x : ℕ) (w a z e r : Block) → roundKeys keys ≡ keyExpansion padKey
-    → a ≡ cipherOf keys w → z ≡ blockAdd a (indexBlock x) → e ≡ cipherOf keys z → r ≡ blockAdd e a → r ≡ pad x w
-unfolding pad underPadKey aes
-pad-is keys x w a z e r ks ae ze ee re = rw (re, ee, ze, ae, ks)
+-- both pads written where their first steps were read
+pub put-finished : (l l′ l″ : List ℕ) (at x y : ℕ) (s t p q : Block) → s ≡ blockBytes .read l at → t ≡ blockBytes .read l (at + 16)
+    → p ≡ secondStep x s → q ≡ secondStep y t → l′ ≡ withBlock l at p → l″ ≡ withBlock l′ (at + 16) q
+    → l″ ≡ withBlock (withBlock l at (secondStep x (blockBytes .read l at))) (at + 16) (secondStep y (blockBytes .read l (at + 16)))
+put-finished l l′ l″ at x y s t p q se te pe qe =
+    put-both l l′ l″ at p q _ _ (pe ∙ ap (secondStep x) se) (qe ∙ ap (secondStep y) te)
+
+-- the first step, the second, and both
+pub first-is : (keys : List ℕ) (w r : Block) → roundKeys keys ≡ keyExpansion padKey → r ≡ cipherOf keys w → r ≡ underPadKey w
+unfolding underPadKey aes
+first-is keys w r ks e = rw (e, ks)
+
+pub second-is : (keys : List ℕ) (x : ℕ) (s z e r : Block) → roundKeys keys ≡ keyExpansion padKey
+    → z ≡ blockAdd s (indexBlock x) → e ≡ cipherOf keys z → r ≡ blockAdd e s → r ≡ secondStep x s
+unfolding secondStep
+second-is keys x s z e r ks ze ee re = rw (re, first-is keys z e ks ee, ze)
+
+pub pad-is : (x : ℕ) (w s r : Block) → s ≡ underPadKey w → r ≡ secondStep x s → r ≡ pad x w
+unfolding pad secondStep
+pad-is x w s r se re = rw (re, se)
 
 -- tests that hold together have one value
 same : (s t : Bool) → (s ≡ true → t ≡ true) → (t ≡ true → s ≡ true) → s ≡ t

@@ -68,6 +68,12 @@ module _ {A : Type 0} (C : Coding A) (wide : Wide C) (f : ℕ → A) where
       (λ (s : k < n). rw append-assoc (drop-flat n k (C .words (f n) ++ rest) s))
       (eq-or-lt-of-le (le-of-suc-le-suc h))
 
+  -- the same in a buffer that n values were written over
+  pub drop-over : (n : ℕ) (b : List ℕ) (k : ℕ) → k < n
+      → drop (k * C .width) (over C n f b) ≡ C .words (f k) ++ drop (suc k * C .width) (over C n f b)
+  unfolding over
+  drop-over n b k h = drop-flat n k (drop (n * C .width) b) h
+
 -- a block has 16 bytes, and messages 32
 pub wide-block : Wide blockBytes
 unfolding leBytes

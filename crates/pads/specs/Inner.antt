@@ -1,3 +1,4 @@
 -- Inner: no promise cites this folder. What inner functions' contracts and the proofs use.
 pub mod Written
 pub mod Steps
+pub mod Passes

@@ -5,6 +5,7 @@ ghost use Rattle.aes128.specs.Cipher.{keyExpansion};
 ghost use Rattle.aes128.specs.Words.{roundKeys};
 ghost use Rattle.pads.specs.Pad.{padKey, pad};
 ghost use Rattle.pads.specs.Inner.Steps.{PadKeys};
+ghost use Rattle.pads.specs.Inner.Passes.{secondStep};
 use aes128::TwoBlocks;
 use field::Block;
 
@@ -17,30 +18,39 @@ pub fn pad_keys(sbox: &[u8; 256]) -> [u64; 40]
     aes128::schedule(sbox, [column, column, column, column])
 }
 
-// The pads of index x and block a, and of index y and block b, each in two steps, in alternation.
-pub fn two_pads(
+// The pad of index x whose first step is s, and that of index y whose first step is t, in alternation.
+pub fn second_steps(
     tables: &[u64; 1536],
     keys: &[u64; 40],
     x: usize,
     y: usize,
-    a: Block,
-    b: Block,
+    s: Block,
+    t: Block,
 ) -> TwoBlocks
     requires { ⌜ PadKeys (now tables) (now keys) ⌝ }
-    ensures { λ r. ⌜ (r .first ≡ pad x a) × (r .second ≡ pad y b) ⌝ }
+    ensures { λ r. ⌜ (r .first ≡ secondStep x s) × (r .second ≡ secondStep y t) ⌝ }
 {
-    let s = aes128::encrypt_two(tables, keys, keys, a, b);
-    let p = s.first.add(Block {
+    let p = s.add(Block {
         low: x as u64,
         high: 0,
     });
-    let q = s.second.add(Block {
+    let q = t.add(Block {
         low: y as u64,
         high: 0,
     });
-    let t = aes128::encrypt_two(tables, keys, keys, p, q);
+    let e = aes128::encrypt_two(tables, keys, keys, p, q);
     TwoBlocks {
-        first: t.first.add(s.first),
-        second: t.second.add(s.second),
+        first: e.first.add(s),
+        second: e.second.add(t),
     }
+}
+
+// The pad of index x and block a.
+pub fn one_pad(tables: &[u64; 1536], keys: &[u64; 40], x: usize, a: Block) -> Block
+    requires { ⌜ PadKeys (now tables) (now keys) ⌝ }
+    ensures { λ r. ⌜ r ≡ pad x a ⌝ }
+{
+    let s = aes128::encrypt(tables, keys, a);
+    let p = second_steps(tables, keys, x, x, s, s);
+    p.first
 }
