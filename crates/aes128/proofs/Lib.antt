@@ -1,12 +1,10 @@
--- The laws of `aes128`.
-mod Words
+-- The laws of `aes128`. Callers use Wide, Sizes, Words, Last and Rounds.
+pub mod Words
 pub mod Wide
 mod Columns
-mod Last
+pub mod Last
 mod Held
 mod Expansion
-mod Rounds
-mod Sharing
-mod RowRounds
+pub mod Rounds
 pub mod Sizes
 mod Examples

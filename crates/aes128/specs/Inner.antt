@@ -1,5 +1,4 @@
 -- Inner: no promise cites this folder. What inner functions' contracts and the proofs use.
 pub mod Steps
 pub mod Blocks
-pub mod Row
 pub mod Sizes

@@ -2,37 +2,23 @@
 ghost use mathlib.Core.Path.{_≡_};
 ghost use Rattle.sbox.specs.Inner.Tables.{RoundTables};
 ghost use Rattle.aes128.specs.Inner.Blocks.{cipherOf};
-use crate::round::first_key;
-use crate::round::full_round;
-use crate::round::last_round;
 use field::Block;
 
 mod key;
 mod round;
-mod row;
 
 pub use key::schedule;
-pub use row::share;
-pub use row::two_blocks;
-pub use row::two_words;
+pub use round::first_key;
+pub use round::full_round;
+pub use round::last_column;
+pub use round::last_round;
+pub use round::last_word;
+pub use round::rows;
 
 // Two blocks.
 pub struct TwoBlocks {
     pub first: Block,
     pub second: Block,
-}
-
-// Two words.
-pub struct TwoWords {
-    pub first: u64,
-    pub second: u64,
-}
-
-// What the blocks of x and i have in common in the first two rounds, for one x and every i below 256.
-pub struct Shared {
-    pub x: u64,
-    pub first: u64,
-    pub columns: [u64; 4],
 }
 
 // The cipher of a block.

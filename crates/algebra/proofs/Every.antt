@@ -1,9 +1,9 @@
--- Tests at every index below n: what a loop that tests one index a turn knows, and what the test says of an index.
-use mathlib.Core.Bool.{Bool, true, false, _&&_}
+-- Tests at every index below n: what a loop that tests one index or several a turn knows, and what the test says of an index.
+use mathlib.Core.Bool.{Bool, true, false, _&&_, true≢false}
 use mathlib.Core.Logic.{⊎-elim}
 use mathlib.Core.Path.{_≡_, refl, sym, ap, _∙_}
 use Prim.Native.Nat.{ℕ, zero, suc, _+_, _≤_, _<_}
-use native.Mathlib.Nat.{le-antisymm, eq-or-lt-of-le, le-of-suc-le-suc}
+use native.Mathlib.Nat.{add-zero, add-suc, le-antisymm, eq-or-lt-of-le, le-of-suc-le-suc}
 use native.Mathlib.Numerals.{add-one}
 use native.Mathlib.Omega.{arith}
 use Rattle.algebra.proofs.Tests.{and-left, and-right, and-both}
@@ -49,3 +49,20 @@ module _ (test : ℕ → Bool) where
   unfolding every
   every-all zero h = refl
   every-all (suc n) h = and-both (every-all n (λ i k. h i (omega arith))) (h n (omega arith))
+
+  -- the tests before i, and n more
+  pub every-and : (i n : ℕ) → every i test ≡ true → every n (λ k. test (i + k)) ≡ true → every (i + n) test ≡ true
+  unfolding every
+  every-and i zero e f = rw (add-zero i) e
+  every-and i (suc n) e f =
+      let front : every (i + n) test ≡ true = every-and i n e (and-left (every n (λ k. test (i + k))) (test (i + n)) f) in
+      rw (add-suc i n) (and-both front (and-right (every n (λ k. test (i + k))) (test (i + n)) f))
+
+  pub every-not : (i n m : ℕ) → i + n ≤ m → every n (λ k. test (i + k)) ≡ false → false ≡ every m test
+  unfolding every
+  every-not i zero m h f = absurd (true≢false f)
+  every-not i (suc n) m h f = decide (every n (λ k. test (i + k))) refl (every-not i n m (omega arith))
+    where
+      decide : (t : Bool) → every n (λ k. test (i + k)) ≡ t → (every n (λ k. test (i + k)) ≡ false → false ≡ every m test) → false ≡ every m test
+      decide true q earlier = every-stop (i + n) m (omega arith) (ap (λ (b : Bool). b && test (i + n)) (sym q) ∙ f)
+      decide false q earlier = earlier q

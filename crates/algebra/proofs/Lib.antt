@@ -1,6 +1,7 @@
 -- The laws of `algebra`, for any ring and any group that it scales.
 pub mod Choice
 pub mod Sum
+pub mod Falling
 pub mod Matrix
 pub mod Rising
 pub mod Correlation

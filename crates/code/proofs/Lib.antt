@@ -1,7 +1,6 @@
--- The laws of `code`.
+-- The laws of `code`. Callers use Laws, Strips, Terms and Tested.
 pub mod Laws
 pub mod Strips
-mod Terms
-mod Tested
-mod Sums
+pub mod Terms
+pub mod Tested
 mod InPlace

@@ -4,7 +4,7 @@ use mathlib.Core.Bool.{Bool, true, false, _&&_, and-true, and-false}
 use mathlib.Core.List.{List}
 use mathlib.Core.Path.{_≡_, sym, ap, _∙_}
 use Prim.Native.Nat.{ℕ, _+_, _*_, _≤_, _<_}
-use native.Mathlib.Nat.{le-antisymm, mul-le-mul}
+use native.Mathlib.Nat.{add-zero, le-antisymm, mul-le-mul}
 use native.Mathlib.Numerals.{add-one}
 use native.Mathlib.Omega.{arith}
 use borrow.Author.Tests.{lt-ltb, le-ltb}
@@ -16,9 +16,8 @@ use Rattle.code.specs.declared.Shape.{Shape}
 use Rattle.code.specs.declared.Window.{Window}
 use Rattle.code.specs.Inner.Rows.{placeIn}
 use Rattle.algebra.specs.Every.{every}
-use Rattle.code.specs.Inner.Sums.{termsBelow}
-use Rattle.code.specs.Inner.Used.{wordBelow, rowBelow, usedBelow, allBelow}
-use Rattle.algebra.proofs.Every.{every-none, every-more, every-done, every-stop}
+use Rattle.code.specs.Inner.Used.{wordBelow, termsBelow, rowBelow, usedBelow, fourBelow, allBelow}
+use Rattle.algebra.proofs.Every.{every-none, every-more, every-done, every-stop, every-and, every-not}
 use Rattle.code.proofs.Laws.{used-all}
 
 -- one word more
@@ -92,6 +91,20 @@ module _ (bound : ℕ) (words : List ℕ) where
   pub all-stop : (j : ℕ) → j < length words → bound ≤ getD words j 0 → false ≡ allBelow bound words
   unfolding allBelow
   all-stop j k h = every-stop (wordBelow bound words) j (length words) k (le-ltb (getD words j 0) bound h)
+
+  -- four words more
+  pub four-is : (j : ℕ) {a b x y : Bool} → a ≡ (true && wordBelow bound words j) → b ≡ (a && wordBelow bound words (j + 1))
+      → x ≡ (b && wordBelow bound words (j + 2)) → y ≡ (x && wordBelow bound words (j + 3)) → y ≡ fourBelow bound words j
+  unfolding fourBelow every
+  four-is j p q r s = s ∙ rw (r, q, p, add-zero)
+
+  pub four-more : (j : ℕ) {r : Bool} → r ≡ fourBelow bound words j → r ≡ true → every j (wordBelow bound words) ≡ true → every (j + 4) (wordBelow bound words) ≡ true
+  unfolding fourBelow
+  four-more j f t e = every-and (wordBelow bound words) j 4 e (sym f ∙ t)
+
+  pub four-stop : (j : ℕ) {r : Bool} → r ≡ fourBelow bound words j → r ≡ false → j + 4 ≤ length words → false ≡ allBelow bound words
+  unfolding fourBelow allBelow
+  four-stop j f t h = every-not (wordBelow bound words) j 4 (length words) h (sym f ∙ t)
 
   pub all-done : (j : ℕ) → every j (wordBelow bound words) ≡ true → j ≤ length words → length words ≤ j → true ≡ allBelow bound words
   unfolding allBelow

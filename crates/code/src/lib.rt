@@ -1,24 +1,15 @@
-// Accumulation in place, the rows of the code, and the test of the words that rows use.
+// Accumulation in place, the terms of a row of the code, and the test of the words that rows use.
 mod accumulation;
-mod noise_binary;
-mod noise_prime;
 mod row;
-mod scalar_binary;
-mod scalar_prime;
 mod used;
 
 pub use accumulation::accumulate_bits;
 pub use accumulation::accumulate_blocks;
 pub use accumulation::accumulate_primes;
-pub use noise_binary::noise_row_binary;
-pub use noise_prime::noise_row_prime;
-pub use row::BinaryPair;
-pub use row::PrimePair;
-pub use row::PrimeRow;
 pub use row::Term;
+pub use row::place_of;
 pub use row::row_term;
-pub use scalar_binary::scalar_row_binary;
-pub use scalar_prime::scalar_row_prime;
+pub use used::still_below;
 pub use used::used_below;
 
 // The code's shape: its places N, the terms ℓ of a row, and the strip N / ℓ.

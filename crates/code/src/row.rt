@@ -1,39 +1,14 @@
-// A row's outputs with the test of the words that it uses, and its terms' places.
+// The terms of a row and their places.
 ghost use mathlib.Core.Path.{_≡_};
-ghost use Prim.Native.Nat.{_+_, _*_, _<_};
-ghost use lib.ListN.{length};
-ghost use Rattle.algebra.specs.Coding.{at};
+ghost use Prim.Native.Nat.{_<_};
 ghost use Rattle.sbox.specs.Inner.Tables.{RoundTables};
 ghost use Rattle.aes128.specs.Words.{roundKeys};
-ghost use Rattle.field.specs.Binary.{binary};
 ghost use Rattle.field.specs.Bytes.{highOf};
 ghost use Rattle.code.specs.Row.{termBlock};
 ghost use Rattle.code.specs.Inner.Rows.{Shaped, placeBy, placeIn};
 use crate::Shape;
 use aes128::encrypt;
 use field::Block;
-use field::Prime;
-
-// A row's outputs at the noise end in field 1, and whether every noise word that it uses is a bit; before the row's end, those
-// of its terms so far.
-pub struct BinaryPair {
-    pub u: u64,
-    pub v: Block,
-    pub used: bool,
-}
-
-// A row's outputs at the noise end in field 2, and whether every word that it uses is an element.
-pub struct PrimePair {
-    pub u: Prime,
-    pub v: Prime,
-    pub used: bool,
-}
-
-// A row's output at the scalar end in field 2, and whether every word that it uses is an element.
-pub struct PrimeRow {
-    pub w: Prime,
-    pub used: bool,
-}
 
 // The place that a word names for term i, in strip i.
 pub fn place_of(shape: Shape, i: usize, word: u64) -> usize
@@ -79,16 +54,4 @@ pub fn row_place(tables: &[u64; 1536], keys: &[u64; 40], shape: Shape, x: usize,
 {
     let term = row_term(tables, keys, shape, x, i);
     term.place
-}
-
-// The element of field 1 at place j.
-pub fn block_at(v: &[u64], j: usize) -> Block
-    requires { ⌜ j * 2 + 1 < length (now v) ⌝ }
-    ensures { λ r. ⌜ r ≡ at (binary .elements) (now (v .entry)) j ⌝ }
-{
-    let low = j * 2;
-    Block {
-        low: v[low],
-        high: v[low + 1],
-    }
 }

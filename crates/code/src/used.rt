@@ -7,7 +7,7 @@ ghost use lib.ListN.{length};
 ghost use Rattle.sbox.specs.Inner.Tables.{RoundTables};
 ghost use Rattle.aes128.specs.Words.{roundKeys};
 ghost use Rattle.code.specs.Inner.Rows.{Shaped};
-ghost use Rattle.code.specs.Inner.Used.{rowBelow, usedBelow, allBelow};
+ghost use Rattle.code.specs.Inner.Used.{rowBelow, usedBelow, fourBelow, allBelow};
 use crate::Shape;
 use crate::Window;
 use crate::row::row_place;
@@ -67,11 +67,29 @@ pub fn rows_below(
     true
 }
 
-// Whether every word is below the bound.
+// Whether the four words from a place on are below the bound.
+fn four_below(words: &[u64], i: usize, bound: u64) -> bool
+    requires { ⌜ i + 4 ≤ length (now words) ⌝ }
+    ensures { λ r. ⌜ r ≡ fourBelow bound (now (words .entry)) i ⌝ }
+{
+    let one = still_below(true, words[i], bound);
+    let two = still_below(one, words[i + 1], bound);
+    let three = still_below(two, words[i + 2], bound);
+    still_below(three, words[i + 3], bound)
+}
+
+// Whether every word is below the bound, four words a turn.
 pub fn all_below(words: &[u64], bound: u64) -> bool
     ensures { λ r. ⌜ r ≡ allBelow bound (now (words .entry)) ⌝ }
 {
     let mut i: usize = 0;
+    while i + 3 < words.len() {
+        let four = four_below(words, i, bound);
+        if !four {
+            return false;
+        }
+        i += 4;
+    }
     while i < words.len() {
         if bound <= words[i] {
             return false;

@@ -34,7 +34,7 @@ use Rattle.tree.proofs.Listed.{listed-none, listed-last}
 use Rattle.tree.specs.Child.{child, keysFor, childBy}
 use Rattle.tree.specs.Columns.{columnsBytes, blocksBytes}
 use Rattle.tree.specs.Expanded.{walk, walked}
-use Rattle.tree.specs.Inner.Ranges.{IsPunctured}
+use Rattle.tree.specs.Inner.Branches.{IsPunctured}
 use Rattle.tree.specs.declared.punctured.Punctured.{Punctured}
 use Rattle.tree.specs.Tree.{listed, siblings, leafAt}
 use Rattle.dealing.specs.Input.{Input, position}

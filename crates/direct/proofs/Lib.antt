@@ -5,7 +5,7 @@ mod Walks
 mod Starts
 mod Tables
 mod Leaves
-mod Tops
+mod ByStrips
 mod Rows
 mod Strips
 mod Calls

@@ -19,6 +19,7 @@ use Rattle.algebra.specs.Field.{Field, FieldLaws, NoiseValue, Value}
 use Rattle.algebra.specs.Row.{Row, entry, rowTimes}
 use Rattle.algebra.specs.Sum.{sum}
 use Rattle.algebra.proofs.Coding.{flat-cong, length-flat, at-flat, at-over, over-none, flat-add, take-over, drop-over-add, length-over}
+use Rattle.algebra.proofs.Falling.{fromTop, top-none, top-more}
 use Rattle.algebra.proofs.Sum.{sum-none}
 use Rattle.code.specs.Strips.{ReadsStrips}
 use Rattle.code.proofs.Strips.{strip-end, strips-within, full-rows}
@@ -38,7 +39,7 @@ use Rattle.direct.specs.declared.batch.Strip.{Strip}
 use Rattle.direct.specs.declared.entries.Batch.{Batch}
 use Rattle.direct.proofs.Words.{noise-sum-is, noise-zero}
 use Rattle.direct.proofs.Rows.{vector-laws}
-use Rattle.direct.proofs.Tops.{fromTop, top-none, top-more, strip-entry, strips-times}
+use Rattle.direct.proofs.ByStrips.{strip-entry, strips-times}
 
 -- ---- a strip, one place a turn
 

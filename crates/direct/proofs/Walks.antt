@@ -25,8 +25,8 @@ use Rattle.tree.proofs.Laws.{leaf-none, leaf-suc, from-suc, leaf-same, rank-low
 use Rattle.tree.proofs.ChildLaws.{child-by}
 use Rattle.tree.proofs.Paths.{digit, mod-suc-digit}
 use Rattle.tree.specs.KeySchedules.{OfChildKeys}
-use Rattle.tree.proofs.Elements.{sibling-at, siblings-past}
-use Rattle.tree.proofs.Ranges.{power-of-power}
+use Rattle.tree.proofs.Blocks.{sibling-at, siblings-past}
+use Rattle.tree.proofs.PowerLaws.{power-of-power}
 use Rattle.direct.specs.Inner.Trees.{IsWay, IsBeside, FromSibling}
 use Rattle.direct.specs.declared.trees.Start.{Start}
 

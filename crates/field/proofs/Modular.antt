@@ -86,13 +86,13 @@ unfolding primeReduce primeMul
 multiplied a b f g z r e₁ e₂ p e = e ∙ ap prime (p ∙ folded-product (a .word) (b .word) f g e₁ e₂)
 
 -- what `add_product` returns
-pub product-added : (t a b f g h z k : ℕ) → f ≡ folded t → g ≡ folded a → h ≡ folded b → z % modulus ≡ (g * h) % modulus → k ≡ folded z
-    → primeReduce (f + k) ≡ primeAdd (prime t) (primeMul (prime a) (prime b))
+pub product-added : (t a b f g h z : ℕ) → f ≡ folded t → g ≡ folded a → h ≡ folded b → z % modulus ≡ (g * h) % modulus
+    → primeReduce (f + z) ≡ primeAdd (prime t) (primeMul (prime a) (prime b))
 unfolding primeReduce primeAdd primeMul
-product-added t a b f g h z k e₁ e₂ e₃ p e =
+product-added t a b f g h z e₁ e₂ e₃ p =
     let x : f % modulus ≡ t % modulus = rw e₁ (fold-mod t) in
-    let y : k % modulus ≡ (a * b) % modulus = rw e (fold-mod z) ∙ p ∙ folded-product a b g h e₂ e₃ in
-    ap prime (add-mod f k modulus ∙ ap₂ (λ (i j : ℕ). (i + j) % modulus) x y ∙ mod-add-mod t modulus ((a * b) % modulus))
+    let y : z % modulus ≡ (a * b) % modulus = p ∙ folded-product a b g h e₂ e₃ in
+    ap prime (add-mod f z modulus ∙ ap₂ (λ (i j : ℕ). (i + j) % modulus) x y ∙ mod-add-mod t modulus ((a * b) % modulus))
 
 -- the product from halves of 31 bits: 2^62 is 2 and 2^61 is 1 modulo p
 halves : (a₁ a₀ b₁ b₀ m₁ m₀ : ℕ) → m₁ * 1073741824 + m₀ ≡ a₁ * b₀ + a₀ * b₁

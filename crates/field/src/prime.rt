@@ -1,6 +1,6 @@
 // Field 2: words below p = 2^61 − 1.
 ghost use mathlib.Core.Path.{_≡_};
-ghost use Prim.Native.Nat.{_<_, _*_, _%_, _+_, _/_, _≤_};
+ghost use Prim.Native.Nat.{_<_, _*_, _%_, _+_, _/_, _^_, _≤_};
 ghost use Rattle.field.specs.Prime.{modulus, prime, primeZero, primeOne, primeReduce, primeAdd, primeSub, primeMul, primeLeaf};
 use crate::bytes::low_word;
 
@@ -80,7 +80,7 @@ impl Prime {
     pub fn add_product(total: u64, a: u64, b: u64) -> u64
         ensures { λ r. ⌜ primeReduce r ≡ primeAdd (prime total) (primeMul (prime a) (prime b)) ⌝ }
     {
-        fold(total) + fold(product(fold(a), fold(b)))
+        fold(total) + product(fold(a), fold(b))
     }
 
     // The element of a leaf: its first eight bytes modulo p.
@@ -98,10 +98,10 @@ fn fold(word: u64) -> u64
     word / 2305843009213693952 + word % 2305843009213693952
 }
 
-// A word that equals a × b modulo p, for folded a and b, from halves of 31 bits: 2^62 is 2 and 2^61 is 1 modulo p.
+// A word below 2^63 that equals a × b modulo p, for folded a and b, from halves of 31 bits: 2^62 is 2 and 2^61 is 1 modulo p.
 fn product(a: u64, b: u64) -> u64
     requires { ⌜ (a ≤ modulus + 7) × (b ≤ modulus + 7) ⌝ }
-    ensures { λ r. ⌜ r % modulus ≡ (a * b) % modulus ⌝ }
+    ensures { λ r. ⌜ (r % modulus ≡ (a * b) % modulus) × (r < 2 ^ 63) ⌝ }
 {
     let a1 = a / 2147483648;
     let a0 = a % 2147483648;

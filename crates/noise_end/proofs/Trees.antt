@@ -33,7 +33,7 @@ use Rattle.tree.specs.Added.{added, puncturedElement}
 use Rattle.tree.specs.Child.{child, childBy, keysFor}
 use Rattle.tree.specs.Columns.{columnsAt, siblingsAt}
 use Rattle.tree.specs.Expanded.{puncturedAdded}
-use Rattle.tree.specs.Inner.Ranges.{IsBranch, IsPunctured}
+use Rattle.tree.specs.Inner.Branches.{IsBranch, IsPunctured}
 use Rattle.tree.specs.KeySchedules.{OfChildKeys}
 use Rattle.tree.specs.Tree.{fromSiblings}
 use Rattle.tree.proofs.ChildLaws.{punctured-by}

@@ -16,6 +16,7 @@ ghost use Rattle.noise_end.specs.Inner.Ready.{Ready, TreesFit, TreeRead,
 ghost use Rattle.noise_end.specs.Inner.Steps.{treeAdded};
 use answer::BUFFER_SHORT;
 use answer::TwoLengths;
+use fill::add_punctured;
 use record::Front;
 use record::Tree;
 use record::known_tree;
@@ -26,7 +27,6 @@ use rows::accumulate_noise;
 use rows::element_width;
 use rows::zero_words;
 use tree::Punctured;
-use tree::add_punctured;
 use tree::child_keys;
 
 // The tree at a place of an accepted record, whose trees have `beside` siblings, after positions below `base`: its position is

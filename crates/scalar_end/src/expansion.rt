@@ -8,7 +8,7 @@ ghost use Rattle.algebra.specs.Sum.{accumulate};
 ghost use Rattle.sbox.specs.Inner.Tables.{RoundTables};
 ghost use Rattle.field.specs.Kind.{kindOf, elementWords};
 ghost use Rattle.tree.specs.Columns.{columnsAt};
-ghost use Rattle.tree.specs.Inner.Ranges.{IsBranch};
+ghost use Rattle.tree.specs.Inner.Branches.{IsBranch};
 ghost use Rattle.scalar_end.specs.Vectors.{w0};
 ghost use Rattle.scalar_end.specs.Inner.Steps.{treeAdded, deltaAt};
 ghost use Rattle.scalar_end.specs.Offline.{expanded, expand};
@@ -16,12 +16,12 @@ ghost use Rattle.scalar_end.specs.Inner.Ready.{Ready, TreesFit, contentO
 use answer::BUFFER_SHORT;
 use answer::TwoLengths;
 use field::word_at;
+use fill::add_leaves;
 use record::Front;
 use record::leaves;
 use rows::accumulate_elements;
 use rows::element_width;
 use rows::zero_words;
-use tree::add_leaves;
 use tree::child_keys;
 use tree::columns_at;
 

@@ -16,9 +16,9 @@ ghost use Rattle.scalar_end.specs.Inner.Steps.{windowUnder, outputsUnder
 use answer::NOT_ELEMENT;
 use answer::OneLength;
 use code::Window;
-use code::scalar_row_binary;
-use code::scalar_row_prime;
 use record::Front;
+use row_sums::scalar_row_binary;
+use row_sums::scalar_row_prime;
 use rows::WindowRows;
 use rows::code_keys;
 use rows::copy_front;

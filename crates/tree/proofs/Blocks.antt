@@ -1,14 +1,14 @@
 -- Blocks in bytes: what is written and what is read back.
-use mathlib.Core.Path.{_≡_, refl, ap, sym, _∙_}
+use mathlib.Core.Path.{_≡_, refl, ap, ap₂, sym, _∙_}
 use mathlib.Core.List.{List, [], _∷_, _++_}
 use Prim.Native.Nat.{ℕ, zero, suc, _+_, _*_, _<_}
-use native.Mathlib.Nat.{add-assoc, add-zero}
+use native.Mathlib.Nat.{add-assoc, add-zero, zero-add, suc-add}
 use native.Mathlib.Omega.{arith}
-use lib.ListN.{length, getD, set, length-append, List·getD-append}
+use lib.ListN.{length, getD, drop, set, length-append, List·getD-append}
 use lib.Seq.{sets, getD-append-add}
 use Rattle.aes128.specs.State.{four, column, byteAt, xorWord, xorState}
 use Rattle.field.specs.Bytes.{fourAt}
-use Rattle.tree.specs.Columns.{columnsAt, columnsBytes, blocksBytes}
+use Rattle.tree.specs.Columns.{columnsAt, columnsBytes, blocksBytes, siblingsAt}
 
 pub four-eq : {A : Type 0} {a b c d x y z w : A} → a ≡ x → b ≡ y → c ≡ z → d ≡ w → a ∷ b ∷ c ∷ d ∷ [] ≡ x ∷ y ∷ z ∷ w ∷ []
 four-eq p q r s = cc
@@ -88,3 +88,25 @@ xor-square s t = record { size = refl; columns = col }
     col (suc (suc zero)) h = refl
     col (suc (suc (suc zero))) h = refl
     col (suc (suc (suc (suc c)))) h = absurd (omega arith)
+
+-- ---- siblings, one after another
+
+-- sibling i of those at a place
+pub sibling-at : (bytes : List ℕ) (n at i : ℕ) → i < n → getD (siblingsAt bytes at n) i [] ≡ columnsAt bytes (at + 16 * i)
+unfolding siblingsAt
+sibling-at bytes zero at i l = absurd (omega arith)
+sibling-at bytes (suc n) at zero l = ap (columnsAt bytes) (omega arith)
+sibling-at bytes (suc n) at (suc i) l = sibling-at bytes n (at + 16) i (omega arith) ∙ ap (columnsAt bytes) (omega arith)
+
+-- the siblings after the first n
+pub siblings-past : (bytes : List ℕ) (n m at : ℕ) → drop n (siblingsAt bytes at (n + m)) ≡ siblingsAt bytes (at + 16 * n) m
+unfolding siblingsAt
+siblings-past bytes zero m at = ap₂ (siblingsAt bytes) (none at) (zero-add m)
+  where
+    none : (at : ℕ) → at ≡ at + 16 * 0
+    none at = omega arith
+siblings-past bytes (suc n) m at =
+    ap (λ i. drop (suc n) (siblingsAt bytes at i)) (suc-add n m) ∙ siblings-past bytes n m (at + 16) ∙ ap (λ a. siblingsAt bytes a m) (more at n)
+  where
+    more : (at n : ℕ) → at + 16 + 16 * n ≡ at + 16 * suc n
+    more at n = omega arith

@@ -4,7 +4,7 @@ use mathlib.Core.Path.{_≡_, ap, _∙_}
 use Prim.Native.Nat.{ℕ, _/_, _%_, _*_, _^_}
 use native.Mathlib.Nat.{div-add-mod'}
 use native.Mathlib.Omega.{arith}
-use Rattle.tree.proofs.Ranges.{power-of-power}
+use Rattle.tree.proofs.PowerLaws.{power-of-power}
 
 pub whole-levels : (g d : ℕ) → d % g ≡ 0 → d / g * g ≡ d
 whole-levels g d divides = omega (arith, div-add-mod' d g)

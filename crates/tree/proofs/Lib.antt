@@ -1,4 +1,4 @@
--- The laws of `tree`. Callers use Laws (any tree), Paths, Added, Blocks, ChildLaws, Levels, Ranges (powers) and Elements (siblings in bytes); Bits has the inhabitant of a statement.
+-- The laws of `tree`. Callers use Laws (any tree), Paths, Added, Blocks (siblings in bytes too), Nodes, ChildLaws, Listed, Levels and PowerLaws; Bits has the inhabitant of a statement.
 pub mod Paths
 pub mod Laws
 pub mod Bits
@@ -7,10 +7,6 @@ pub mod Blocks
 pub mod Nodes
 pub mod ChildLaws
 pub mod Listed
+pub mod PowerLaws
 pub mod Levels
-pub mod Ranges
-mod Halves
-pub mod Elements
-mod Filled
-mod Bottom
 mod Walked

@@ -13,14 +13,14 @@ use lib.Seq.{sets, take-at, drop-at}
 use Rattle.tree.specs.Tree.{leafAt, listed, others, siblings}
 use Rattle.tree.specs.Columns.{columnsBytes, blocksBytes}
 use Rattle.tree.specs.Expanded.{Walk, walk, walked}
-use Rattle.tree.specs.Inner.Ranges.{IsBranch, IsPunctured}
+use Rattle.tree.specs.Inner.Branches.{IsBranch, IsPunctured}
 use Rattle.tree.specs.Inner.Levels.{IsLevel, childrenFrom, childrenPut, twin, twinPut, frontPut, levelPassed}
 use Rattle.tree.specs.declared.punctured.Punctured.{Punctured}
 use Rattle.tree.proofs.Paths.{digit, digit-below}
 use Rattle.tree.proofs.Laws.{leaf-none, leaf-suc, siblings-none, siblings-suc, length-others}
 use Rattle.tree.proofs.Listed.{length-listed, listed-front, listed-cong, listed-none, listed-last}
 use Rattle.tree.proofs.Blocks.{sets-append, length-blocks}
-use Rattle.tree.proofs.Ranges.{power-of-power, down, level-less, halved, eight}
+use Rattle.tree.proofs.PowerLaws.{power-of-power, down, level-less, halved, eight}
 
 -- ---- blocks written one after another
 

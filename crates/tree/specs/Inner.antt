@@ -1,4 +1,4 @@
--- Inner: no promise cites these files. How the fills go down a tree, and a level of a walk.
+-- Inner: no promise cites these files. Nodes as blocks, what is asked of a tree, and a level of a walk.
 pub mod Nodes
-pub mod Ranges
+pub mod Branches
 pub mod Levels

@@ -5,13 +5,13 @@ ghost use lib.ListN.{length};
 ghost use Rattle.sbox.specs.Inner.Tables.{RoundTables};
 ghost use Rattle.tree.specs.Child.{keysFor, childBy};
 ghost use Rattle.tree.specs.Expanded.{walk, walked};
+ghost use Rattle.tree.specs.Inner.Branches.{IsBranch, IsPunctured};
 ghost use Rattle.tree.specs.Inner.Levels.{IsLevel, childrenPut, twinPut, frontPut, levelPassed};
 ghost use Rattle.tree.specs.Inner.Nodes.{nodeOf};
-ghost use Rattle.tree.specs.Inner.Ranges.{IsBranch, IsPunctured};
 use crate::columns::put_block;
 use crate::node::children;
+use crate::powers::power;
 use crate::punctured::Punctured;
-use crate::range::power;
 use field::Block;
 
 // Writes so many pairs of children of s, from child `first` on, from a place on.

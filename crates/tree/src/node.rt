@@ -6,7 +6,7 @@ ghost use Rattle.sbox.specs.Table.{SBoxTable};
 ghost use Rattle.tree.specs.Child.{keysFor, childBy};
 ghost use Rattle.tree.specs.KeySchedules.{OfChildKeys};
 ghost use Rattle.tree.specs.Inner.Nodes.{nodeOf};
-use crate::range::power;
+use crate::powers::power;
 use aes128::TwoBlocks;
 use field::Block;
 

@@ -13,6 +13,10 @@ use Rattle.code.specs.Inner.Rows.{placeIn}
 abbrev pub wordBelow : ℕ → List ℕ → ℕ → Bool
 wordBelow bound words j = ltb (getD words j 0) bound
 
+-- the words at the places of the first n terms are below the bound
+unfoldable pub termsBelow : ℕ → List ℕ → List (List (List ℕ)) → Shape → ℕ → ℕ → Bool
+termsBelow bound words keys s x n = every n (λ i. wordBelow bound words (placeIn keys s x i))
+
 -- a row uses every word at its places, also under a coefficient of zero
 unfoldable pub rowBelow : ℕ → List ℕ → List (List (List ℕ)) → Shape → ℕ → Bool
 rowBelow bound words keys s x = every (s .terms) (λ i. wordBelow bound words (placeIn keys s x i))
@@ -20,6 +24,10 @@ rowBelow bound words keys s x = every (s .terms) (λ i. wordBelow bound words (p
 -- every word that the window's rows use is below the bound
 unfoldable pub usedBelow : ℕ → List ℕ → List (List (List ℕ)) → Shape → Window → Bool
 usedBelow bound words keys s w = every (w .count) (λ k. rowBelow bound words keys s (w .first + k))
+
+-- the four words from place i on are below the bound
+unfoldable pub fourBelow : ℕ → List ℕ → ℕ → Bool
+fourBelow bound words i = every 4 (λ k. wordBelow bound words (i + k))
 
 -- every word of the whole vector is below the bound
 unfoldable pub allBelow : ℕ → List ℕ → Bool

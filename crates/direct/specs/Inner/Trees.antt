@@ -17,7 +17,7 @@ use Rattle.record.specs.declared.Tree.{Tree}
 use Rattle.rows.specs.Inner.Sizes.{Sizes}
 use Rattle.tree.specs.Child.{child, keysFor}
 use Rattle.tree.specs.Columns.{columnsAt, siblingsAt}
-use Rattle.tree.specs.Inner.Ranges.{IsBranch}
+use Rattle.tree.specs.Inner.Branches.{IsBranch}
 use Rattle.tree.specs.KeySchedules.{OfChildKeys}
 use Rattle.tree.specs.Tree.{leafAt, fromSiblings}
 use Rattle.noise_end.specs.Inner.Ready.{beside, treesAt}

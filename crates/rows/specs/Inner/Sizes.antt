@@ -5,7 +5,7 @@ use mathlib.Core.List.{List}
 use mathlib.Core.Path.{_≡_}
 use lib.ListN.{length}
 use Rattle.record.specs.Content.{Head}
-use Rattle.tree.specs.Inner.Ranges.{IsBranch}
+use Rattle.tree.specs.Inner.Branches.{IsBranch}
 
 pub record Sizes (s : List ℕ) (h : Head) (body : ℕ) : Type 0 where
   pub depth : h .depth ≤ 16

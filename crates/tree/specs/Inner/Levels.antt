@@ -5,7 +5,7 @@ use lib.Seq.{sets}
 use Rattle.tree.specs.Tree.{listed, others}
 use Rattle.tree.specs.Columns.{columnsBytes, blocksBytes}
 use Rattle.tree.specs.Expanded.{Walk, walk}
-use Rattle.tree.specs.Inner.Ranges.{IsBranch}
+use Rattle.tree.specs.Inner.Branches.{IsBranch}
 
 -- a digit names a child, and the others have room within n bytes
 pub record IsLevel (g digit at n : ℕ) : Type 0 where

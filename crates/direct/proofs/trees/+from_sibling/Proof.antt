@@ -1,6 +1,6 @@
 use native.Mathlib.Omega.{arith}
 use borrow.Author.Needs.{needs}
-use Rattle.tree.proofs.Ranges.{power-positive}
+use Rattle.tree.proofs.PowerLaws.{power-positive}
 use Rattle.direct.proofs.Walks.{beside-way, low-fits, high-fits, others-fit, next-fits, low-start, high-start, next-start, next-from}
 use Prim.Native.Nat.{ℕ, _<_}
 use borrow.Fn.Kinds.{In}

@@ -1,5 +1,5 @@
 -- `direct::walk::digit` meets its contract. Assumes nothing.
-use Rattle.tree.proofs.Ranges.{power-positive}
+use Rattle.tree.proofs.PowerLaws.{power-positive}
 use Rattle.direct.proofs.Walks.{digit-is, digit-named, digit-eight}
 use borrow.Author.Needs.{needs}
 use Rattle.direct.proofs.walk.digit.Statement.{statement}

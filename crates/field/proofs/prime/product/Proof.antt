@@ -1,5 +1,5 @@
 -- `field::prime::product` meets its contract: each partial product is bounded by those of the largest halves, and the sum
--- is a × b modulo p.
+-- is a × b modulo p and below 2^63.
 use native.Mathlib.Omega.{arith}
 use Rattle.field.proofs.Modular.{within, product-mod}
 use borrow.Author.Needs.{needs}
@@ -20,5 +20,5 @@ product-spec =
     (λ c. omega (arith, within _ _ (c .pre .0) (c .pre .1)))  -- add-result-2
     (λ c. omega (arith, within _ _ (c .pre .0) (c .pre .1)))  -- mul-result-4
     (λ c. omega (arith, within _ _ (c .pre .0) (c .pre .1)))  -- add-result-3
-    (λ c. product-mod (c .args .a) (c .args .b))  -- returns
+    (λ c. (product-mod (c .args .a) (c .args .b), omega (arith, within _ _ (c .pre .0) (c .pre .1))))  -- returns
     )

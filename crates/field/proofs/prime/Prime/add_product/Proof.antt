@@ -1,4 +1,4 @@
--- `field::prime::Prime::add_product` meets its contract: total, factors and product may be folded.
+-- `field::prime::Prime::add_product` meets its contract: total and factors may be folded.
 use Rattle.field.proofs.Modular.{folded-most, product-added}
 use borrow.Author.Needs.{needs}
 use Rattle.field.proofs.prime.Prime.add_product.Statement.{statement}
@@ -12,7 +12,6 @@ add-product-spec =
     (λ c κs. search needs)  -- fold-requires-2
     (λ c κs. search needs)  -- fold-requires-3
     (λ c κs. (search folded-most, search folded-most))  -- product-requires
-    (λ c κs. search needs)  -- fold-requires-4
     (λ c. search needs)  -- add-result
     (λ c. search product-added)  -- returns
     )

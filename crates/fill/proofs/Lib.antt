@@ -1,0 +1,6 @@
+-- The laws of `fill`.
+mod Ranges
+mod Halves
+mod Elements
+mod Filled
+mod Bottom

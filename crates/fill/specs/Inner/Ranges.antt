@@ -1,0 +1,139 @@
+-- Inner: no promise cites this file. Consecutive children of a node, halved until two are left: how the fills go down a tree.
+use mathlib.Core.Logic.{_≢_}
+use mathlib.Core.List.{List, []}
+use mathlib.Core.Path.{_≡_}
+use Prim.Native.Nat.{ℕ, zero, suc, _+_, _-_, _*_, _/_, _%_, _^_, _≤_, _<_}
+use lib.Dec.{eqb}
+use Rattle.algebra.specs.Choice.{choose}
+use Rattle.field.specs.Kind.{kindOf}
+use Rattle.tree.specs.Columns.{columnsAt, siblingsAt}
+use Rattle.tree.specs.Added.{added, leafElement, puncturedElement}
+use Rattle.tree.specs.Inner.Branches.{IsBranch}
+use Rattle.fill.specs.declared.range.Range.{Range}
+use Rattle.fill.specs.declared.range.Path.{Path}
+use Rattle.fill.specs.declared.range.Halves.{Halves}
+
+-- ---- elements of leaves
+
+-- the first and the second of two
+abbrev pub pairOf : {A : Type 0} → A → A → ℕ → A
+pairOf a b zero = a
+pairOf a b (suc j) = b
+
+-- the words of an element after the element of a leaf is added, and after the one that words begin with
+unfoldable pub leafAdded : ℕ → List (List ℕ) → List ℕ → List ℕ
+leafAdded field s acc = added (kindOf field .field) 1 (λ j. kindOf field .leaf s) acc
+
+unfoldable pub elementAdded : ℕ → List ℕ → List ℕ → List ℕ
+elementAdded field words acc = added (kindOf field .field) 1 (λ j. kindOf field .field .elements .read words 0) acc
+
+-- the words of n elements after those of the n children of s from child c on, which are leaves, are added
+unfoldable pub childrenAdded : ℕ → (ℕ → List (List ℕ) → List (List ℕ)) → ℕ → ℕ → List (List ℕ) → List ℕ → List ℕ
+childrenAdded field child c n s acc = added (kindOf field .field) n (λ j. kindOf field .leaf (child (c + j) s)) acc
+
+-- ---- ranges
+
+-- how many children a node has
+abbrev pub childCount : Range → ℕ
+childCount ρ = 2 ^ ρ .«branch_bits»
+
+-- the leaves below a child
+abbrev pub below : Range → ℕ
+below ρ = childCount ρ ^ (ρ .levels - 1)
+
+-- what is left of a tree's depth below a range; at no level nothing
+unfoldable pub leftOf : Range → ℕ
+leftOf ρ = ρ .levels * ρ .«branch_bits» + ρ .bits - ρ .«branch_bits»
+
+-- the leaves below a range
+abbrev pub sizeOf : Range → ℕ
+sizeOf ρ = 2 ^ leftOf ρ
+
+-- two children or more, within those of the node
+pub record IsRange (ρ : Range) : Type 0 where
+  pub two : 1 ≤ ρ .bits
+  pub most : ρ .bits ≤ ρ .«branch_bits»
+  pub within : ρ .first + 2 ^ ρ .bits ≤ childCount ρ
+  pub branch : IsBranch (ρ .«branch_bits»)
+
+abbrev pub allChildren : ℕ → ℕ → Range
+allChildren g levels = record { «branch_bits» = g; levels = levels; bits = g; first = 0 }
+
+-- half as many children, from child c on
+abbrev pub halfFrom : Range → ℕ → Range
+halfFrom ρ c = record { «branch_bits» = ρ .«branch_bits»; levels = ρ .levels; bits = ρ .bits - 1; first = c }
+
+-- the first and the second half of a range
+abbrev pub front : Range → Range
+front ρ = halfFrom ρ (ρ .first)
+
+abbrev pub back : Range → Range
+back ρ = halfFrom ρ (ρ .first + 2 ^ (ρ .bits - 1))
+
+-- the element of leaf j below a range of the children of s
+unfoldable pub rangeElement : {A E : Type 0} → (A → E) → (ℕ → A → A) → Range → A → ℕ → E
+rangeElement element child ρ s j = leafElement element (childCount ρ) child (ρ .levels) s (ρ .first * below ρ + j)
+
+-- ---- runs of siblings: a range whose first is counted among the siblings that begin at a place of the bytes
+
+-- one sibling or more, within n bytes
+pub record IsRun (ρ : Range) (at n : ℕ) : Type 0 where
+  pub some : ρ .levels ≢ 0
+  pub branch : IsBranch (ρ .«branch_bits»)
+  pub bits : ρ .bits ≤ 3
+  pub few : ρ .first + 2 ^ ρ .bits ≤ 8
+  pub room : at + 16 * (ρ .first + 2 ^ ρ .bits) ≤ n
+
+-- the element of leaf j below a run
+unfoldable pub runElement : {E : Type 0} → (List (List ℕ) → E) → (ℕ → List (List ℕ) → List (List ℕ)) → Range → List ℕ → ℕ → ℕ → E
+runElement element child ρ bytes at j =
+    leafElement element (childCount ρ) child (ρ .levels - 1) (columnsAt bytes (at + 16 * (ρ .first + j / below ρ))) (j % below ρ)
+
+-- the second half of a range as a run of siblings, where the first half holds the path: they stand one place lower
+abbrev pub above : Range → Range
+above ρ = halfFrom ρ (ρ .first + (2 ^ (ρ .bits - 1) - 1))
+
+-- ---- paths: a range that holds the path of a punctured tree
+
+-- the half from child c on of a range that holds a path, at a position in it: of two children one, as all its own children
+unfoldable pub pathIn : Path → ℕ → ℕ → Path
+pathIn path c position =
+    choose (eqb (path .range .bits) 1)
+    (record {
+      range = allChildren (path .range .«branch_bits») (path .range .levels - 1);
+      position = position;
+      at = path .at + 16 * (childCount (path .range) - 1);
+    })
+    (record { range = halfFrom (path .range) c; position = position; at = path .at })
+
+-- a position below the range, and siblings within n bytes
+pub record IsPath (path : Path) (n : ℕ) : Type 0 where
+  pub range : IsRange (path .range)
+  pub inside : path .position < sizeOf (path .range)
+  pub short : path .range .levels * path .range .«branch_bits» ≤ 64
+  pub room : path .at + 16 * (path .range .levels * (childCount (path .range) - 1)) ≤ n
+  pub fits : n < 2 ^ 64
+
+-- the halves of a range that holds a path, where the first holds it and where the second does: the other as a run of siblings
+pub record FirstHolds (path : Path) (below : Path) (beside : Range) : Type 0 where
+  pub inside : path .position < sizeOf (front (path .range))
+  pub on : below ≡ pathIn path (path .range .first) (path .position)
+  pub run : beside ≡ above (path .range)
+
+pub record SecondHolds (path : Path) (below : Path) (beside : Range) : Type 0 where
+  pub inside : sizeOf (front (path .range)) ≤ path .position
+  pub on : below ≡ pathIn path (path .range .first + 2 ^ (path .range .bits - 1)) (path .position - sizeOf (front (path .range)))
+  pub run : beside ≡ front (path .range)
+
+unfoldable pub AreHalves : Path → Halves → Type 0
+AreHalves path r = choose (r .first) (FirstHolds path (r .below) (r .beside)) (SecondHolds path (r .below) (r .beside))
+
+-- the element of leaf j below a range that holds the position
+unfoldable pub pathElement : {E : Type 0} → (List (List ℕ) → E) → (ℕ → List (List ℕ) → List (List ℕ)) → Path → List ℕ → E → ℕ → E
+pathElement element child path bytes correction j =
+    puncturedElement element (childCount (path .range)) child []
+    (siblingsAt bytes (path .at) (path .range .levels * (childCount (path .range) - 1)))
+    (path .range .levels)
+    (path .range .first * below (path .range) + path .position)
+    correction
+    (path .range .first * below (path .range) + j)

@@ -1,0 +1,372 @@
+// Leaves added into words, in either field: a tree by the two halves of its words, each from the middle on.
+ghost use mathlib.Core.Path.{_≡_};
+ghost use Prim.Native.Nat.{_+_, _*_, _^_, _≤_, _<_};
+ghost use lib.ListN.{length};
+ghost use Rattle.sbox.specs.Inner.Tables.{RoundTables};
+ghost use Rattle.field.specs.Binary.{binary};
+ghost use Rattle.field.specs.Prime.{primes, primeReduce};
+ghost use Rattle.field.specs.Kind.{kindOf, elementWords};
+ghost use Rattle.tree.specs.Child.{keysFor, childBy};
+ghost use Rattle.tree.specs.Added.{added};
+ghost use Rattle.tree.specs.Expanded.{leavesAdded, puncturedAdded};
+ghost use Rattle.tree.specs.Inner.Nodes.{nodeOf};
+ghost use Rattle.tree.specs.Inner.Branches.{IsBranch, IsPunctured};
+ghost use Rattle.fill.specs.Inner.Ranges.{pairOf, leafAdded, childrenAdded, elementAdded, IsRange, IsRun, IsPath, sizeOf, rangeElement, runElement, pathElement};
+use crate::range::Path;
+use crate::range::Range;
+use crate::range::parted;
+use aes128::TwoBlocks;
+use field::Block;
+use field::Prime;
+use tree::Punctured;
+use tree::block_at;
+use tree::children;
+use tree::power;
+
+// Adds an element of field 1 to the one that two words hold.
+fn add_block(element: Block, acc: &mut [u64])
+    requires { ⌜ length (now acc) ≡ 2 ⌝ }
+    ensures { λ _. ⌜ now (acc .exit) ≡ added binary 1 (λ j. element) (now (acc .entry)) ⌝ }
+{
+    let old = Block {
+        low: acc[0],
+        high: acc[1],
+    };
+    let sum = old.add(element);
+    acc[0] = sum.low;
+    acc[1] = sum.high;
+}
+
+// Adds an element of field 2 to the one that a word holds.
+fn add_prime(element: Prime, acc: &mut [u64])
+    requires { ⌜ length (now acc) ≡ 1 ⌝ }
+    ensures { λ _. ⌜ now (acc .exit) ≡ added primes 1 (λ j. element) (now (acc .entry)) ⌝ }
+{
+    let old = Prime { word: acc[0] };
+    let sum = old.add(element);
+    acc[0] = sum.word;
+}
+
+// Adds the element of a leaf to the one that the words hold.
+fn add_leaf(field: usize, s: Block, acc: &mut [u64])
+    requires { ⌜ length (now acc) ≡ elementWords field ⌝ }
+    ensures { λ _. ⌜ now (acc .exit) ≡ leafAdded field (nodeOf s) (now (acc .entry)) ⌝ }
+{
+    if field == 1 {
+        add_block(s, acc);
+    } else {
+        add_prime(Prime::reduce(s.low), acc);
+    }
+}
+
+// Adds the element that words begin with to the one that the words of acc hold.
+fn add_words(field: usize, words: [u64; 2], acc: &mut [u64])
+    requires { ⌜ length (now acc) ≡ elementWords field ⌝ }
+    ensures { λ _. ⌜ now (acc .exit) ≡ elementAdded field words (now (acc .entry)) ⌝ }
+{
+    if field == 1 {
+        let element = Block {
+            low: words[0],
+            high: words[1],
+        };
+        add_block(element, acc);
+    } else {
+        let element = Prime { word: words[0] };
+        add_prime(element, acc);
+    }
+}
+
+// Adds two elements of field 1 to those that four words hold.
+fn add_blocks(both: TwoBlocks, acc: &mut [u64])
+    requires { ⌜ length (now acc) ≡ 4 ⌝ }
+    ensures { λ _. ⌜ now (acc .exit) ≡ added binary 2 (pairOf (both .first) (both .second)) (now (acc .entry)) ⌝ }
+{
+    acc[0] = acc[0] ^ both.first.low;
+    acc[1] = acc[1] ^ both.first.high;
+    acc[2] = acc[2] ^ both.second.low;
+    acc[3] = acc[3] ^ both.second.high;
+}
+
+// Adds the elements of field 2 of two leaves to those that two words hold.
+fn add_primes(both: TwoBlocks, acc: &mut [u64])
+    requires { ⌜ length (now acc) ≡ 2 ⌝ }
+    ensures { λ _. ⌜ now (acc .exit) ≡ added primes 2 (pairOf (primeReduce (both .first .low)) (primeReduce (both .second .low))) (now (acc .entry)) ⌝ }
+{
+    let first = Prime { word: acc[0] };
+    let second = Prime { word: acc[1] };
+    let a = first.add(Prime::reduce(both.first.low));
+    let b = second.add(Prime::reduce(both.second.low));
+    acc[0] = a.word;
+    acc[1] = b.word;
+}
+
+// Adds children c and c + 1 of s, which are leaves, to the elements of acc.
+fn add_pair(
+    tables: &[u64; 1536],
+    keys: &[[u64; 40]; 8],
+    field: usize,
+    c: usize,
+    s: Block,
+    acc: &mut [u64],
+)
+    requires { ⌜ RoundTables (now tables) × (c + 2 ≤ 8) × (length (now acc) ≡ 2 * elementWords field) ⌝ }
+    ensures { λ _. ⌜ now (acc .exit) ≡ childrenAdded field (childBy (keysFor (now (keys .entry)))) c 2 (nodeOf s) (now (acc .entry)) ⌝ }
+{
+    let ciphers = aes128::encrypt_two(tables, &keys[c], &keys[c + 1], s, s);
+    let both = TwoBlocks {
+        first: ciphers.first.add(s),
+        second: ciphers.second.add(s),
+    };
+    if field == 1 {
+        add_blocks(both, acc);
+    } else {
+        add_primes(both, acc);
+    }
+}
+
+// The same of four children.
+fn add_four(
+    tables: &[u64; 1536],
+    keys: &[[u64; 40]; 8],
+    field: usize,
+    c: usize,
+    s: Block,
+    acc: &mut [u64],
+)
+    requires { ⌜ RoundTables (now tables) × (c + 4 ≤ 8) × (length (now acc) ≡ 4 * elementWords field) ⌝ }
+    ensures { λ _. ⌜ now (acc .exit) ≡ childrenAdded field (childBy (keysFor (now (keys .entry)))) c 4 (nodeOf s) (now (acc .entry)) ⌝ }
+{
+    let mid = acc.len() / 2;
+    add_pair(tables, keys, field, c, s, &mut acc[..mid]);
+    add_pair(tables, keys, field, c + 2, s, &mut acc[mid..]);
+}
+
+// The same of two, four or eight children.
+fn add_bottom(
+    tables: &[u64; 1536],
+    keys: &[[u64; 40]; 8],
+    field: usize,
+    bits: usize,
+    c: usize,
+    s: Block,
+    acc: &mut [u64],
+)
+    requires { ⌜ RoundTables (now tables) × IsBranch bits × (c + 2 ^ bits ≤ 8) × (length (now acc) ≡ 2 ^ bits * elementWords field) ⌝ }
+    ensures { λ _. ⌜ now (acc .exit) ≡ childrenAdded field (childBy (keysFor (now (keys .entry)))) c (2 ^ bits) (nodeOf s) (now (acc .entry)) ⌝ }
+{
+    if bits == 1 {
+        add_pair(tables, keys, field, c, s, acc);
+    } else if bits == 2 {
+        add_four(tables, keys, field, c, s, acc);
+    } else {
+        let mid = acc.len() / 2;
+        add_four(tables, keys, field, c, s, &mut acc[..mid]);
+        add_four(tables, keys, field, c + 4, s, &mut acc[mid..]);
+    }
+}
+
+// Adds the leaves below a range of the children of s to the elements of acc.
+fn add_range(
+    tables: &[u64; 1536],
+    keys: &[[u64; 40]; 8],
+    field: usize,
+    range: Range,
+    s: Block,
+    acc: &mut [u64],
+)
+    requires { ⌜ RoundTables (now tables) × IsRange range × (length (now acc) ≡ sizeOf range * elementWords field) ⌝ }
+    ensures { λ _. ⌜ now (acc .exit) ≡ added (kindOf field .field) (sizeOf range) (rangeElement (kindOf field .leaf) (childBy (keysFor (now (keys .entry)))) range (nodeOf s)) (now (acc .entry)) ⌝ }
+{
+    let branch_bits = range.branch_bits;
+    let levels = range.levels;
+    let bits = range.bits;
+    let first = range.first;
+    if levels == 0 {
+        add_leaf(field, s, acc);
+    } else if levels == 1 {
+        add_bottom(tables, keys, field, bits, first, s, acc);
+    } else if bits == 1 {
+        let both = children(tables, keys, first, s);
+        let all = Range {
+            branch_bits,
+            levels: levels - 1,
+            bits: branch_bits,
+            first: 0,
+        };
+        let mid = acc.len() / 2;
+        add_range(tables, keys, field, all, both.first, &mut acc[..mid]);
+        add_range(tables, keys, field, all, both.second, &mut acc[mid..]);
+    } else {
+        let low = Range {
+            branch_bits,
+            levels,
+            bits: bits - 1,
+            first,
+        };
+        let high = Range {
+            branch_bits,
+            levels,
+            bits: bits - 1,
+            first: first + power(bits - 1),
+        };
+        let mid = acc.len() / 2;
+        add_range(tables, keys, field, low, s, &mut acc[..mid]);
+        add_range(tables, keys, field, high, s, &mut acc[mid..]);
+    }
+}
+
+// Adds the leaves below a run of siblings, of those whose bytes begin at a place, to the elements of acc.
+fn add_run(
+    tables: &[u64; 1536],
+    keys: &[[u64; 40]; 8],
+    field: usize,
+    run: Range,
+    at: usize,
+    bytes: &[u8],
+    acc: &mut [u64],
+)
+    requires { ⌜ RoundTables (now tables) × IsRun run at (length (now bytes)) × (length (now acc) ≡ sizeOf run * elementWords field) ⌝ }
+    ensures { λ _. ⌜ now (acc .exit) ≡ added (kindOf field .field) (sizeOf run) (runElement (kindOf field .leaf) (childBy (keysFor (now (keys .entry)))) run (now (bytes .entry)) at) (now (acc .entry)) ⌝ }
+{
+    let branch_bits = run.branch_bits;
+    let levels = run.levels;
+    let bits = run.bits;
+    let first = run.first;
+    if bits == 0 {
+        let sibling = block_at(bytes, at + 16 * first);
+        let all = Range {
+            branch_bits,
+            levels: levels - 1,
+            bits: branch_bits,
+            first: 0,
+        };
+        add_range(tables, keys, field, all, sibling, acc);
+    } else {
+        let low = Range {
+            branch_bits,
+            levels,
+            bits: bits - 1,
+            first,
+        };
+        let high = Range {
+            branch_bits,
+            levels,
+            bits: bits - 1,
+            first: first + power(bits - 1),
+        };
+        let mid = acc.len() / 2;
+        add_run(tables, keys, field, low, at, bytes, &mut acc[..mid]);
+        add_run(tables, keys, field, high, at, bytes, &mut acc[mid..]);
+    }
+}
+
+// Adds the leaves below a range that holds the position of a punctured tree to the elements of acc: the correction at the
+// position, the others from the siblings among the bytes.
+fn add_path(
+    tables: &[u64; 1536],
+    keys: &[[u64; 40]; 8],
+    field: usize,
+    path: Path,
+    bytes: &[u8],
+    correction: [u64; 2],
+    acc: &mut [u64],
+)
+    requires { ⌜ RoundTables (now tables) × IsPath path (length (now bytes)) × (length (now acc) ≡ sizeOf (path .range) * elementWords field) ⌝ }
+    ensures { λ _. ⌜ now (acc .exit) ≡ added (kindOf field .field) (sizeOf (path .range)) (pathElement (kindOf field .leaf) (childBy (keysFor (now (keys .entry)))) path (now (bytes .entry)) (kindOf field .field .elements .read correction 0)) (now (acc .entry)) ⌝ }
+{
+    let at = path.at;
+    if path.range.levels == 0 {
+        add_words(field, correction, acc);
+        return;
+    }
+    let mid = acc.len() / 2;
+    let parts = parted(path);
+    if parts.first {
+        add_path(
+            tables,
+            keys,
+            field,
+            parts.below,
+            bytes,
+            correction,
+            &mut acc[..mid],
+        );
+        add_run(
+            tables,
+            keys,
+            field,
+            parts.beside,
+            at,
+            bytes,
+            &mut acc[mid..],
+        );
+    } else {
+        add_run(
+            tables,
+            keys,
+            field,
+            parts.beside,
+            at,
+            bytes,
+            &mut acc[..mid],
+        );
+        add_path(
+            tables,
+            keys,
+            field,
+            parts.below,
+            bytes,
+            correction,
+            &mut acc[mid..],
+        );
+    }
+}
+
+// Adds the leaves of the tree below s to the elements of acc.
+pub fn add_leaves(
+    tables: &[u64; 1536],
+    keys: &[[u64; 40]; 8],
+    field: usize,
+    branch_bits: usize,
+    levels: usize,
+    s: [[u8; 4]; 4],
+    acc: &mut [u64],
+)
+    requires { ⌜ RoundTables (now tables) × IsBranch «branch_bits» × (length (now acc) ≡ (2 ^ «branch_bits») ^ levels * elementWords field) ⌝ }
+    ensures { λ _. ⌜ now (acc .exit) ≡ leavesAdded (kindOf field) (2 ^ «branch_bits») (childBy (keysFor (now (keys .entry)))) levels s (now (acc .entry)) ⌝ }
+{
+    let all = Range {
+        branch_bits,
+        levels,
+        bits: branch_bits,
+        first: 0,
+    };
+    add_range(tables, keys, field, all, Block::of_columns(s), acc);
+}
+
+// Adds the leaves of a punctured tree to the elements of acc: at its position the correction, whose words are lent by value,
+// the others from the siblings among the bytes.
+pub fn add_punctured(
+    tables: &[u64; 1536],
+    keys: &[[u64; 40]; 8],
+    field: usize,
+    tree: Punctured,
+    bytes: &[u8],
+    correction: [u64; 2],
+    acc: &mut [u64],
+)
+    requires { ⌜ RoundTables (now tables) × IsPunctured tree (length (now bytes)) × (tree .position < (2 ^ tree .«branch_bits») ^ tree .levels) × (length (now acc) ≡ (2 ^ tree .«branch_bits») ^ tree .levels * elementWords field) ⌝ }
+    ensures { λ _. ⌜ now (acc .exit) ≡ puncturedAdded (kindOf field) (2 ^ tree .«branch_bits») (childBy (keysFor (now (keys .entry)))) tree (now (bytes .entry)) (kindOf field .field .elements .read correction 0) (now (acc .entry)) ⌝ }
+{
+    let path = Path {
+        range: Range {
+            branch_bits: tree.branch_bits,
+            levels: tree.levels,
+            bits: tree.branch_bits,
+            first: 0,
+        },
+        position: tree.position,
+        at: tree.at,
+    };
+    add_path(tables, keys, field, path, bytes, correction, acc);
+}

@@ -1,0 +1,3 @@
+-- The laws of `row_cipher`.
+mod Sharing
+mod RowRounds

@@ -1,0 +1,21 @@
+-- `row_cipher::without_row0` meets its contract: the order of the sums. Assumes nothing.
+use borrow.Author.Needs.{needs}
+use Rattle.row_cipher.proofs.Sharing.{lacks-row0}
+use Rattle.row_cipher.proofs.without_row0.Statement.{statement}
+use Rattle.row_cipher.proofs.without_row0.Tie as tie
+
+pub without-row0-spec : {M : Type 1} → statement M
+without-row0-spec =
+    tie.close
+    (tie.spec
+    (λ c. search needs)  -- add-result
+    (λ c. search needs)  -- mul-result
+    (λ c. search needs)  -- element-copy-out-result
+    (λ c. search needs)  -- add-result-2
+    (λ c. search needs)  -- mul-result-2
+    (λ c. search needs)  -- element-copy-out-result-2
+    (λ c. search needs)  -- add-result-3
+    (λ c. search needs)  -- mul-result-3
+    (λ c. search needs)  -- element-copy-out-result-3
+    (λ c. lacks-row0 (c .before .before .before .pre) _ (search needs) (search needs) (search needs))  -- returns
+    )

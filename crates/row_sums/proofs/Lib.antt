@@ -1,0 +1,3 @@
+-- The laws of `row_sums`.
+mod Turns
+mod Sums

@@ -1,0 +1,2 @@
+-- Inner: no promise cites this folder. The sums of a row so far.
+pub mod Sums

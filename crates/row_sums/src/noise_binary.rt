@@ -1,0 +1,101 @@
+// Row x of u and v in field 1, its terms' places made two at a time.
+ghost use mathlib.Core.Path.{_≡_};
+ghost use Prim.Native.Nat.{_+_, _*_, _<_};
+ghost use lib.ListN.{length};
+ghost use Rattle.algebra.specs.Coding.{at};
+ghost use Rattle.algebra.specs.Group.{itself};
+ghost use Rattle.algebra.specs.Row.{output};
+ghost use Rattle.sbox.specs.Inner.Tables.{RoundTables};
+ghost use Rattle.aes128.specs.Words.{roundKeys};
+ghost use Rattle.row_cipher.specs.Inner.Row.{IsShared};
+ghost use Rattle.field.specs.Binary.{binary, bitRing, blocks};
+ghost use Rattle.row_sums.specs.Inner.Sums.{BinaryAdded, termsTo, BinarySums};
+ghost use Rattle.code.specs.Inner.Rows.{Shaped, placeBy, binaryRow};
+ghost use Rattle.code.specs.Inner.Used.{rowBelow};
+use crate::row::BinaryPair;
+use crate::row::block_at;
+use code::Shape;
+use code::place_of;
+use code::still_below;
+use field::Block;
+use field::add_bits;
+use row_cipher::Shared;
+use row_cipher::share;
+use row_cipher::two_words;
+
+// Sums of field 1 at the noise end with term i added, by the first word of its block.
+fn binary_term(
+    shape: Shape,
+    i: usize,
+    word: u64,
+    noise: &[u64],
+    v: &[u64],
+    sums: BinaryPair,
+) -> BinaryPair
+    requires { ⌜ Shaped shape × (i < shape .terms) ⌝ }
+    requires { ⌜ (length (now noise) ≡ shape .places) × (length (now v) ≡ shape .places * 2) ⌝ }
+    ensures { λ r. ⌜ BinaryAdded (now (noise .entry)) (now (v .entry)) (placeBy shape i word) sums r ⌝ }
+{
+    let j = place_of(shape, i, word);
+    let bit = noise[j];
+    BinaryPair {
+        u: add_bits(sums.u, bit),
+        v: sums.v.add(block_at(v, j)),
+        used: still_below(sums.used, bit, 2),
+    }
+}
+
+// Two terms of a row at the noise end in field 1, from term i on, or the one that is left.
+fn noise_turn_binary(
+    tables: &[u64; 1536],
+    keys: &[u64; 40],
+    shared: Shared,
+    shape: Shape,
+    i: usize,
+    noise: &[u64],
+    v: &[u64],
+    sums: BinaryPair,
+) -> BinaryPair
+    requires { ⌜ RoundTables (now tables) × IsShared (now keys) shared × (i < shape .terms) ⌝ }
+    requires { ⌜ Shaped shape × (length (now noise) ≡ shape .places) × (length (now v) ≡ shape .places * 2) ⌝ }
+    requires { ⌜ BinarySums (roundKeys (now keys)) shape (shared .x) (now noise) (now v) (termsTo shape i) sums ⌝ }
+    ensures { λ r. ⌜ BinarySums (roundKeys (now (keys .entry))) shape (shared .x) (now (noise .entry)) (now (v .entry)) (termsTo shape (i + 2)) r ⌝ }
+{
+    let words = two_words(tables, keys, shared, i as u64);
+    let next = binary_term(shape, i, words.first, noise, v, sums);
+    if i + 1 < shape.terms {
+        binary_term(shape, i + 1, words.second, noise, v, next)
+    } else {
+        next
+    }
+}
+
+// Row x of u and v in field 1.
+pub fn noise_row_binary(
+    tables: &[u64; 1536],
+    keys: &[u64; 40],
+    shape: Shape,
+    x: usize,
+    noise: &[u64],
+    v: &[u64],
+) -> BinaryPair
+    requires { ⌜ RoundTables (now tables) ⌝ }
+    requires { ⌜ Shaped shape × (length (now noise) ≡ shape .places) × (length (now v) ≡ shape .places * 2) ⌝ }
+    ensures { λ r. ⌜ (r .u ≡ output (itself bitRing) (binaryRow (roundKeys (now (keys .entry))) shape x) (at (binary .noiseValues) (now (noise .entry))))
+        × (r .v ≡ output blocks (binaryRow (roundKeys (now (keys .entry))) shape x) (at (binary .elements) (now (v .entry))))
+        × (r .used ≡ rowBelow 2 (now (noise .entry)) (roundKeys (now (keys .entry))) shape x) ⌝ }
+{
+    let shared = share(tables, keys, x as u64);
+    let mut sums = BinaryPair {
+        u: 0,
+        v: Block::zero(),
+        used: true,
+    };
+    let mut i: usize = 0;
+    while i < shape.terms {
+        let next = noise_turn_binary(tables, keys, shared, shape, i, noise, v, sums);
+        sums = next;
+        i += 2;
+    }
+    sums
+}

@@ -1,0 +1,116 @@
+// Row x of u and v in field 2, its terms' blocks made two at a time. The sums are folded term by term and reduced at
+// the row's end.
+ghost use mathlib.Core.Bool.{_&&_};
+ghost use mathlib.Core.Path.{_≡_};
+ghost use Prim.Native.Nat.{_+_, _<_};
+ghost use lib.ListN.{length};
+ghost use Rattle.algebra.specs.Coding.{at};
+ghost use Rattle.algebra.specs.Group.{itself};
+ghost use Rattle.algebra.specs.Row.{output};
+ghost use Rattle.sbox.specs.Inner.Tables.{RoundTables};
+ghost use Rattle.aes128.specs.Words.{roundKeys};
+ghost use Rattle.row_cipher.specs.Inner.Row.{IsShared};
+ghost use Rattle.field.specs.Prime.{primes, primeRing, modulus};
+ghost use Rattle.row_sums.specs.Inner.Sums.{PrimesAdded, termsTo, PrimesTotal};
+ghost use Rattle.code.specs.Inner.Rows.{Shaped, placeBy, primeRow};
+ghost use Rattle.code.specs.Inner.Used.{rowBelow};
+use crate::row::PrimePair;
+use code::Shape;
+use code::place_of;
+use code::still_below;
+use field::Block;
+use field::Prime;
+use row_cipher::Shared;
+use row_cipher::share;
+use row_cipher::two_blocks;
+
+// The sums of u and v so far in field 2, not reduced, and whether every word in them is an element.
+pub struct PrimeSums {
+    pub u: u64,
+    pub v: u64,
+    pub used: bool,
+}
+
+// Sums of field 2 at the noise end with term i added, by its block.
+fn prime_term(
+    shape: Shape,
+    i: usize,
+    block: Block,
+    noise: &[u64],
+    v: &[u64],
+    sums: PrimeSums,
+) -> PrimeSums
+    requires { ⌜ Shaped shape × (i < shape .terms) ⌝ }
+    requires { ⌜ (length (now noise) ≡ shape .places) × (length (now v) ≡ shape .places) ⌝ }
+    ensures { λ r. ⌜ PrimesAdded (now (noise .entry)) (now (v .entry)) (placeBy shape i (block .low)) (block .high) sums r ⌝ }
+{
+    let j = place_of(shape, i, block.low);
+    let a = noise[j];
+    let b = v[j];
+    let below = still_below(sums.used, a, Prime::modulus());
+    PrimeSums {
+        u: Prime::add_product(sums.u, block.high, a),
+        v: Prime::add_product(sums.v, block.high, b),
+        used: still_below(below, b, Prime::modulus()),
+    }
+}
+
+// Two terms of a row at the noise end in field 2.
+fn noise_turn_prime(
+    tables: &[u64; 1536],
+    keys: &[u64; 40],
+    shared: Shared,
+    shape: Shape,
+    i: usize,
+    noise: &[u64],
+    v: &[u64],
+    sums: PrimeSums,
+) -> PrimeSums
+    requires { ⌜ RoundTables (now tables) × IsShared (now keys) shared × (i < shape .terms) ⌝ }
+    requires { ⌜ Shaped shape × (length (now noise) ≡ shape .places) × (length (now v) ≡ shape .places) ⌝ }
+    requires { ⌜ PrimesTotal (roundKeys (now keys)) shape (shared .x) (now noise) (now v) (termsTo shape i) sums ⌝ }
+    ensures { λ r. ⌜ PrimesTotal (roundKeys (now (keys .entry))) shape (shared .x) (now (noise .entry)) (now (v .entry)) (termsTo shape (i + 2)) r ⌝ }
+{
+    let pair = two_blocks(tables, keys, shared, i as u64);
+    let next = prime_term(shape, i, pair.first, noise, v, sums);
+    if i + 1 < shape.terms {
+        prime_term(shape, i + 1, pair.second, noise, v, next)
+    } else {
+        next
+    }
+}
+
+// Row x of u and v in field 2.
+pub fn noise_row_prime(
+    tables: &[u64; 1536],
+    keys: &[u64; 40],
+    shape: Shape,
+    x: usize,
+    noise: &[u64],
+    v: &[u64],
+) -> PrimePair
+    requires { ⌜ RoundTables (now tables) ⌝ }
+    requires { ⌜ Shaped shape × (length (now noise) ≡ shape .places) × (length (now v) ≡ shape .places) ⌝ }
+    ensures { λ r. ⌜ (r .u ≡ output (itself primeRing) (primeRow (roundKeys (now (keys .entry))) shape x) (at (primes .noiseValues) (now (noise .entry))))
+        × (r .v ≡ output (itself primeRing) (primeRow (roundKeys (now (keys .entry))) shape x) (at (primes .elements) (now (v .entry))))
+        × (r .used ≡ (rowBelow modulus (now (noise .entry)) (roundKeys (now (keys .entry))) shape x
+        && rowBelow modulus (now (v .entry)) (roundKeys (now (keys .entry))) shape x)) ⌝ }
+{
+    let shared = share(tables, keys, x as u64);
+    let mut sums = PrimeSums {
+        u: 0,
+        v: 0,
+        used: true,
+    };
+    let mut i: usize = 0;
+    while i < shape.terms {
+        let next = noise_turn_prime(tables, keys, shared, shape, i, noise, v, sums);
+        sums = next;
+        i += 2;
+    }
+    PrimePair {
+        u: Prime::reduce(sums.u),
+        v: Prime::reduce(sums.v),
+        used: sums.used,
+    }
+}

@@ -1,0 +1,74 @@
+// Row x of w in field 1, its terms' places made two at a time.
+ghost use mathlib.Core.Path.{_≡_};
+ghost use Prim.Native.Nat.{_+_, _*_, _<_};
+ghost use lib.ListN.{length};
+ghost use Rattle.algebra.specs.Coding.{at};
+ghost use Rattle.algebra.specs.Row.{output};
+ghost use Rattle.sbox.specs.Inner.Tables.{RoundTables};
+ghost use Rattle.aes128.specs.Words.{roundKeys};
+ghost use Rattle.row_cipher.specs.Inner.Row.{IsShared};
+ghost use Rattle.field.specs.Binary.{binary, blocks, blockAdd};
+ghost use Rattle.row_sums.specs.Inner.Sums.{termsTo, blocksSum};
+ghost use Rattle.code.specs.Inner.Rows.{Shaped, placeBy, binaryRow};
+use crate::row::block_at;
+use code::Shape;
+use code::place_of;
+use field::Block;
+use row_cipher::Shared;
+use row_cipher::share;
+use row_cipher::two_words;
+
+// A sum of field 1 at the scalar end with term i added.
+fn block_term(shape: Shape, i: usize, word: u64, w: &[u64], total: Block) -> Block
+    requires { ⌜ Shaped shape × (i < shape .terms) × (length (now w) ≡ shape .places * 2) ⌝ }
+    ensures { λ r. ⌜ r ≡ blockAdd total (at (binary .elements) (now (w .entry)) (placeBy shape i word)) ⌝ }
+{
+    total.add(block_at(w, place_of(shape, i, word)))
+}
+
+// Two terms of a row at the scalar end in field 1.
+fn scalar_turn_binary(
+    tables: &[u64; 1536],
+    keys: &[u64; 40],
+    shared: Shared,
+    shape: Shape,
+    i: usize,
+    w: &[u64],
+    total: Block,
+) -> Block
+    requires { ⌜ RoundTables (now tables) × IsShared (now keys) shared × (i < shape .terms) ⌝ }
+    requires { ⌜ Shaped shape × (length (now w) ≡ shape .places * 2) ⌝ }
+    requires { ⌜ total ≡ blocksSum (roundKeys (now keys)) shape (shared .x) (now w) (termsTo shape i) ⌝ }
+    ensures { λ r. ⌜ r ≡ blocksSum (roundKeys (now (keys .entry))) shape (shared .x) (now (w .entry)) (termsTo shape (i + 2)) ⌝ }
+{
+    let words = two_words(tables, keys, shared, i as u64);
+    let next = block_term(shape, i, words.first, w, total);
+    if i + 1 < shape.terms {
+        block_term(shape, i + 1, words.second, w, next)
+    } else {
+        next
+    }
+}
+
+// Row x of w in field 1.
+pub fn scalar_row_binary(
+    tables: &[u64; 1536],
+    keys: &[u64; 40],
+    shape: Shape,
+    x: usize,
+    w: &[u64],
+) -> Block
+    requires { ⌜ RoundTables (now tables) ⌝ }
+    requires { ⌜ Shaped shape × (length (now w) ≡ shape .places * 2) ⌝ }
+    ensures { λ r. ⌜ r ≡ output blocks (binaryRow (roundKeys (now (keys .entry))) shape x) (at (binary .elements) (now (w .entry))) ⌝ }
+{
+    let shared = share(tables, keys, x as u64);
+    let mut total = Block::zero();
+    let mut i: usize = 0;
+    while i < shape.terms {
+        let next = scalar_turn_binary(tables, keys, shared, shape, i, w, total);
+        total = next;
+        i += 2;
+    }
+    total
+}
