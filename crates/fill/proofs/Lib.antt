@@ -4,3 +4,4 @@ mod Halves
 mod Elements
 mod Filled
 mod Bottom
+mod Couples

@@ -11,7 +11,7 @@ ghost use Rattle.tree.specs.Added.{added};
 ghost use Rattle.tree.specs.Expanded.{leavesAdded, puncturedAdded};
 ghost use Rattle.tree.specs.Inner.Nodes.{nodeOf};
 ghost use Rattle.tree.specs.Inner.Branches.{IsBranch, IsPunctured};
-ghost use Rattle.fill.specs.Inner.Ranges.{pairOf, leafAdded, childrenAdded, elementAdded, IsRange, IsRun, IsPath, sizeOf, rangeElement, runElement, pathElement};
+ghost use Rattle.fill.specs.Inner.Ranges.{pairOf, leafAdded, childrenAdded, elementAdded, IsRange, IsRun, IsPath, sizeOf, rangeElement, runElement, pathElement, bothAdded, allChildren};
 use crate::range::Path;
 use crate::range::Range;
 use crate::range::parted;
@@ -165,6 +165,41 @@ fn add_bottom(
     }
 }
 
+// Adds the two children of each of two nodes, which are leaves, to the elements of acc.
+fn add_couple(
+    tables: &[u64; 1536],
+    keys: &[[u64; 40]; 8],
+    field: usize,
+    both: TwoBlocks,
+    acc: &mut [u64],
+)
+    requires { ⌜ RoundTables (now tables) × (length (now acc) ≡ 4 * elementWords field) ⌝ }
+    ensures { λ _. ⌜ now (acc .exit) ≡ bothAdded field (childBy (keysFor (now (keys .entry)))) (allChildren 1 1) (nodeOf (both .first)) (nodeOf (both .second)) (now (acc .entry)) ⌝ }
+{
+    let mid = acc.len() / 2;
+    add_pair(tables, keys, field, 0, both.first, &mut acc[..mid]);
+    add_pair(tables, keys, field, 0, both.second, &mut acc[mid..]);
+}
+
+// Adds the leaves two levels below each of two nodes with two children a node: the children of both nodes are made before any
+// leaf, so that no cipher waits for the one before.
+fn add_both(
+    tables: &[u64; 1536],
+    keys: &[[u64; 40]; 8],
+    field: usize,
+    both: TwoBlocks,
+    acc: &mut [u64],
+)
+    requires { ⌜ RoundTables (now tables) × (length (now acc) ≡ 8 * elementWords field) ⌝ }
+    ensures { λ _. ⌜ now (acc .exit) ≡ bothAdded field (childBy (keysFor (now (keys .entry)))) (allChildren 1 2) (nodeOf (both .first)) (nodeOf (both .second)) (now (acc .entry)) ⌝ }
+{
+    let low = children(tables, keys, 0, both.first);
+    let high = children(tables, keys, 0, both.second);
+    let mid = acc.len() / 2;
+    add_couple(tables, keys, field, low, &mut acc[..mid]);
+    add_couple(tables, keys, field, high, &mut acc[mid..]);
+}
+
 // Adds the leaves below a range of the children of s to the elements of acc.
 fn add_range(
     tables: &[u64; 1536],
@@ -187,6 +222,12 @@ fn add_range(
         add_bottom(tables, keys, field, bits, first, s, acc);
     } else if bits == 1 {
         let both = children(tables, keys, first, s);
+        if levels == 3 {
+            if branch_bits == 1 {
+                add_both(tables, keys, field, both, acc);
+                return;
+            }
+        }
         let all = Range {
             branch_bits,
             levels: levels - 1,

@@ -3,7 +3,7 @@ use mathlib.Core.Logic.{_≢_}
 use mathlib.Core.List.{List, []}
 use mathlib.Core.Path.{_≡_}
 use Prim.Native.Nat.{ℕ, zero, suc, _+_, _-_, _*_, _/_, _%_, _^_, _≤_, _<_}
-use lib.Dec.{eqb}
+use lib.Dec.{eqb, ltb}
 use Rattle.algebra.specs.Choice.{choose}
 use Rattle.field.specs.Kind.{kindOf}
 use Rattle.tree.specs.Columns.{columnsAt, siblingsAt}
@@ -73,6 +73,12 @@ back ρ = halfFrom ρ (ρ .first + 2 ^ (ρ .bits - 1))
 -- the element of leaf j below a range of the children of s
 unfoldable pub rangeElement : {A E : Type 0} → (A → E) → (ℕ → A → A) → Range → A → ℕ → E
 rangeElement element child ρ s j = leafElement element (childCount ρ) child (ρ .levels) s (ρ .first * below ρ + j)
+
+-- the words after the leaves below all children of x, and then those below all children of y, are added
+unfoldable pub bothAdded : ℕ → (ℕ → List (List ℕ) → List (List ℕ)) → Range → List (List ℕ) → List (List ℕ) → List ℕ → List ℕ
+bothAdded field child all x y acc =
+    added (kindOf field .field) (sizeOf all + sizeOf all)
+    (λ j. choose (ltb j (sizeOf all)) (rangeElement (kindOf field .leaf) child all x j) (rangeElement (kindOf field .leaf) child all y (j - sizeOf all))) acc
 
 -- ---- runs of siblings: a range whose first is counted among the siblings that begin at a place of the bytes
 

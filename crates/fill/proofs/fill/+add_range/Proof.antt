@@ -1,4 +1,4 @@
--- `fill::fill::add_range` meets its contract: the last level at once, else the two halves of the buffer by two children, or by half as many children each. The
+-- `fill::fill::add_range` meets its contract: the last level at once, with two children a node the last three, else the two halves of the buffer by two children, or by half as many children each. The
 -- measure is what is left of the depth. Assumes nothing.
 use Prim.Native.Nat.{ℕ, _<_}
 use borrow.Author.Needs.{needs}
@@ -8,6 +8,7 @@ use Rattle.fill.proofs.fill.add_range.Reads as reads
 use Rattle.fill.proofs.fill.add_range.Kinds as kinds
 use Rattle.fill.proofs.fill.+add_range.Lts-add_range as lts
 use Rattle.fill.proofs.fill.add_bottom.Reads as add-bottom-reads
+use Rattle.fill.proofs.fill.add_both.Reads as add-both-reads
 use Rattle.fill.proofs.fill.add_leaf.Reads as add-leaf-reads
 use Rattle.tree.proofs.children.Reads as children-reads
 use Rattle.tree.proofs.power.Reads as power-reads
@@ -16,6 +17,7 @@ use Rattle.fill.proofs.Halves.{front-count}
 use Rattle.fill.proofs.Ranges.{two-some, one-falls, half-falls, one-range, front-range, back-range, pair-keys, bits-few, back-fits}
 use Rattle.fill.proofs.Filled.{leaf-length, one-front, one-back, half-front, half-back, filled-leaf, filled-children, filled-halves}
 use Rattle.fill.proofs.Bottom.{bottom-branch, bottom-keys, bottom-length, filled-bottom}
+use Rattle.fill.proofs.Couples.{three-length, three-below}
 use Rattle.fill.proofs.fill.+add_range.{statement}
 use Rattle.fill.proofs.fill.+add_range.Tie.{close}
 
@@ -36,6 +38,8 @@ pub +add-range-spec : {M : Type 1} → statement M
   add-bottom-reads.Learnt,
   children-reads.Asked,
   children-reads.Learnt,
+  add-both-reads.Asked,
+  add-both-reads.Learnt,
   below t,
   reads.Post,
   power-reads.Asked,
@@ -46,6 +50,9 @@ pub +add-range-spec : {M : Type 1} → statement M
     (λ c κs. search leaf-length)  -- add-leaf-requires
     (λ c κs. (search needs, search bottom-branch, search bottom-keys, search bottom-length))  -- add-bottom-requires
     (λ c κs. (search needs, search pair-keys))  -- children-requires
+    (λ c κs. (search needs, search three-length))  -- add-both-requires
+    (λ c. search needs)  -- same-length
+    (λ c. search three-below)  -- returns
     (λ c. search needs)  -- sub-mid
     (λ c. search needs)  -- slice-relend-prefix-add-range
     (λ c. search front-count)  -- slice-aggregate-add-range
@@ -68,11 +75,11 @@ pub +add-range-spec : {M : Type 1} → statement M
     (λ c. search needs)  -- part-add-range-start-2
     (λ c. search needs)  -- part-add-range-end-2
     (λ c κs. (search (half-falls, two-some), (search needs, search back-range, search (half-back, two-some))))  -- add-range-requires-4
-    (λ c. search needs)  -- same-length
-    (λ c. search filled-leaf)  -- returns
     (λ c. search needs)  -- same-length-2
-    (λ c. search filled-bottom)  -- returns-2
+    (λ c. search filled-leaf)  -- returns-2
     (λ c. search needs)  -- same-length-3
-    (λ c. search filled-children)  -- returns-3
+    (λ c. search filled-bottom)  -- returns-3
     (λ c. search needs)  -- same-length-4
-    (λ c. search filled-halves)  -- returns-4
+    (λ c. search filled-children)  -- returns-4
+    (λ c. search needs)  -- same-length-5
+    (λ c. search filled-halves)  -- returns-5
