@@ -7,8 +7,9 @@ use Prim.Native.Nat.{ℕ, zero, suc, _+_, _-_, _%_, _<_, _≤_}
 use native.Mathlib.Nat.{eq-or-lt-of-le, mod-lt}
 use native.Mathlib.Omega.{arith}
 use lib.Bits.{bitXor, xor-lt}
-use lib.Dec.{eqb, lit<}
-use lib.ListN.{length, getD, length-append, List·getD-append}
+use lib.Dec.{eqb, ltb, lit<}
+use lib.ListN.{length, getD, length-append, List·getD-append, List·getD-eq-default}
+use borrow.Author.Tests.{ltb-true, ltb-false}
 use lib.Seq.{getD-at}
 use Rattle.field.specs.Bytes.{leBytes, columnsOf}
 use Rattle.field.specs.declared.block.Block.{Block}
@@ -42,6 +43,16 @@ four-words {a} {b} {x} {y} ha hb hx hy = record { size = refl; words = at }
     at (suc (suc zero)) h = hx
     at (suc (suc (suc zero))) h = hy
     at (suc (suc (suc (suc c)))) h = absurd (omega arith)
+
+-- what is read of a state is a byte
+pub state-bytes : (s : List (List ℕ)) → IsState s → (c r : ℕ) → getD (getD s c []) r 0 < 256
+state-bytes s h c r = decide (ltb c 4) refl
+  where
+    decide : (t : Bool) → ltb c 4 ≡ t → getD (getD s c []) r 0 < 256
+    decide true e = h .words c (ltb-true c 4 e) .bytes r
+    decide false e =
+        let out : length s ≤ c = rw (h .size) (ltb-false c 4 e) in
+        rw (List·getD-eq-default s [] out) (lit< tt)
 
 pub xor-word-is : {a b : List ℕ} → IsWord a → IsWord b → IsWord (xorWord a b)
 unfolding xorWord

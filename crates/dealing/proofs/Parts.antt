@@ -1,15 +1,15 @@
 -- Both ends' parts of an admitted dealing are contents that a record may hold.
 use mathlib.Core.Path.{_≡_, refl, ap, _∙_}
-use mathlib.Core.Bool.{Bool, true, false}
+use mathlib.Core.Bool.{true}
 use mathlib.Core.List.{List, [], _∷_, map}
 use mathlib.Core.Logic.{_⊎_, ⊎-elim}
 use Prim.Native.Nat.{ℕ, zero, suc, _+_, _-_, _*_, _/_, _%_, _^_, _≤_, _<_}
 use native.Mathlib.Nat.{mod-lt, lt-trans}
 use native.Mathlib.Omega.{arith}
-use borrow.Author.Tests.{lt-ltb, ltb-true, ltb-false}
+use borrow.Author.Tests.{lt-ltb}
 use lib.Bits.{xor-lt}
-use lib.Dec.{ltb, lit<}
-use lib.ListN.{length, getD, List·getD-eq-default}
+use lib.Dec.{lit<}
+use lib.ListN.{length, getD}
 use lib.Pow.{pow-pos, pow-mono}
 use Rattle.algebra.proofs.Rising.{Rises, rises, rising-is}
 use Rattle.algebra.proofs.Tests.{and-left}
@@ -21,7 +21,7 @@ use Rattle.field.specs.Binary.{block, blockScale}
 use Rattle.field.specs.declared.prime.Prime.{Prime}
 use Rattle.field.specs.Kind.{kindOf, elementWords}
 use Rattle.field.specs.Prime.{modulus, prime, primeSub, primeMul, primeLeaf}
-use Rattle.aes128.proofs.Sizes.{four-bytes, four-words}
+use Rattle.aes128.proofs.Sizes.{four-bytes, four-words, state-bytes}
 use Rattle.aes128.specs.State.{column}
 use Rattle.aes128.specs.Inner.Sizes.{IsWord, IsState}
 use Rattle.number.specs.Reading.{Bytes}
@@ -107,15 +107,6 @@ element-words k low high h a b = ⊎-elim (λ e. rw e (refl, (a, (b, tt)))) (λ 
 pub record ElementAdmitted (k : ℕ) (e : List ℕ) : Type 0 where
   pub words : (length e ≡ elementWords k) × Each SixtyFourBits e
   pub element : isElement k e ≡ true
-
-state-bytes : (s : List (List ℕ)) → IsState s → (c r : ℕ) → getD (getD s c []) r 0 < 256
-state-bytes s h c r = decide (ltb c 4) refl
-  where
-    decide : (t : Bool) → ltb c 4 ≡ t → getD (getD s c []) r 0 < 256
-    decide true e = h .words c (ltb-true c 4 e) .bytes r
-    decide false e =
-        let out : length s ≤ c = rw (h .size) (ltb-false c 4 e) in
-        rw (List·getD-eq-default s [] out) (lit< tt)
 
 -- a block scaled has words
 scale-words : (y : ℕ) (low high : ℕ) → SixtyFourBits low → SixtyFourBits high → SixtyFourBits (blockScale y (block low high) .low) × SixtyFourBits (blockScale y (block low high) .high)

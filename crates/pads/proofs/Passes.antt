@@ -2,19 +2,17 @@
 -- read back, and values written over values leave nothing of them. The results of a pad's first step are read back from the
 -- bytes of blocks and of messages.
 use mathlib.Core.Path.{_≡_, refl, sym, ap, _∙_}
-use mathlib.Core.Bool.{Bool, true, false}
 use mathlib.Core.List.{List, [], _++_, append-assoc}
 use Prim.Native.Nat.{ℕ, zero, suc, _+_, _-_, _*_, _≤_, _<_}
 use native.Mathlib.Nat.{mul-le-mul-right, add-zero, add-assoc}
 use native.Mathlib.Omega.{arith}
-use lib.Dec.{ltb, lit<}
-use lib.ListN.{length, getD, drop, List·getD-eq-default}
+use lib.Dec.{lit<}
+use lib.ListN.{length, drop}
 use lib.Seq.{getD-drop, drop-at, drop-drop, drop-append-add}
-use borrow.Author.Tests.{ltb-true, ltb-false}
 use Rattle.algebra.specs.Coding.{Coding, at, flat, over}
 use Rattle.aes128.specs.Cipher.{aes}
 use Rattle.aes128.specs.Inner.Sizes.{IsState}
-use Rattle.aes128.proofs.Sizes.{four-bytes, four-words, aes-is}
+use Rattle.aes128.proofs.Sizes.{four-bytes, four-words, state-bytes, aes-is}
 use Rattle.field.specs.declared.block.Block.{Block}
 use Rattle.field.specs.Bytes.{leBytes, wordAt}
 use Rattle.field.proofs.BinaryField.{block-eq}
@@ -107,16 +105,6 @@ back-messages m back0 back1 rest =
     (placed-block (w0 ++ (w1 ++ rest)) 16
     ∙ ap (λ (l : List ℕ). blockBytes .read l 0) (drop-at w0 (w1 ++ rest) 16 (wide-block (m .message0)))
     ∙ back1 rest))
-
--- what is read of a state is a byte
-state-bytes : (s : List (List ℕ)) → IsState s → (c r : ℕ) → getD (getD s c []) r 0 < 256
-state-bytes s h c r = decide (ltb c 4) refl
-  where
-    decide : (t : Bool) → ltb c 4 ≡ t → getD (getD s c []) r 0 < 256
-    decide true e = h .words c (ltb-true c 4 e) .bytes r
-    decide false e =
-        let out : length s ≤ c = rw (h .size) (ltb-false c 4 e) in
-        rw (List·getD-eq-default s [] out) (lit< tt)
 
 -- the pads' key is four columns of four bytes
 pad-key-is : IsState padKey
