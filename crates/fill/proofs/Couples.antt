@@ -5,7 +5,7 @@ use mathlib.Core.Logic.{_≢_}
 use mathlib.Core.List.{List, _++_}
 use Prim.Native.Nat.{ℕ, _+_, _-_, _*_, _/_, _^_, _≤_, _<_}
 use native.Mathlib.Omega.{arith}
-use lib.Dec.{ltb, lit<}
+use lib.Dec.{ltb}
 use lib.ListN.{length, take, drop}
 use borrow.Author.Tests.{lt-ltb, le-ltb, ltb-true, ltb-false}
 use borrow.Rule.Slice.PartMut.{midOf, putMid}
@@ -36,12 +36,6 @@ size-two = size-all 1 2
 -- ---- lengths
 
 module _ {X : Type 0} (w : ℕ) (xs : List X) where
-  pub couple-front : length xs ≡ 4 * w → length (take (length xs / 2) xs) ≡ 2 * w
-  couple-front e = front-length xs 4 2 w e refl
-
-  pub couple-back : length xs ≡ 4 * w → (l : List X) → length l ≡ length xs → length (midOf (length xs / 2) (length l - length xs / 2) l) ≡ 2 * w
-  couple-back e = second-length xs 4 2 w e refl
-
   pub both-front : length xs ≡ 8 * w → length (take (length xs / 2) xs) ≡ 4 * w
   both-front e = front-length xs 8 4 w e refl
 
@@ -70,13 +64,13 @@ module _ (field : ℕ) (child : ℕ → List (List ℕ) → List (List ℕ)) whe
         ∙ ap (rangeElement leaf child all y) {x = sizeOf all + j - sizeOf all} {y = j} (omega arith)
 
     -- from two halves
-    halves : (xs : List ℕ) {ys zs : List ℕ} → length xs ≡ (sizeOf all + sizeOf all) * F .elements .width
+    pub from-halves : (xs : List ℕ) {ys zs : List ℕ} → length xs ≡ (sizeOf all + sizeOf all) * F .elements .width
         → ys ≡ added F (sizeOf all) (rangeElement leaf child all x) (take (length xs / 2) xs)
         → zs ≡ added F (sizeOf all) (rangeElement leaf child all y) (second (length xs / 2) xs ys)
         → putMid (length xs / 2) (length (ys ++ drop (length xs / 2) xs) - length xs / 2) (ys ++ drop (length xs / 2) xs) zs
         ≡ bothAdded field child all x y xs
     unfolding bothAdded
-    halves xs e ey ez =
+    from-halves xs e ey ez =
         filled F (kindLaws field .field) (sizeOf all + sizeOf all) (sizeOf all) element (rangeElement leaf child all x) (rangeElement leaf child all y)
         xs e refl element-low (λ j h. element-high j) ey ez
 
@@ -119,7 +113,7 @@ module _ (field : ℕ) (child : ℕ → List (List ℕ) → List (List ℕ)) whe
         → putMid (length xs / 2) (length (ys ++ drop (length xs / 2) xs) - length xs / 2) (ys ++ drop (length xs / 2) xs) zs
         ≡ bothAdded field child (allChildren 1 1) x y xs
     couple-added e ey ez =
-        halves (allChildren 1 1) x y xs (e ∙ ap (λ n. (n + n) * elementWords field) (sym size-one))
+        from-halves (allChildren 1 1) x y xs (e ∙ ap (λ n. (n + n) * elementWords field) (sym size-one))
         (filled-bottom (allChildren 1 1) (two-range 1) refl field child x (take (length xs / 2) xs) ey)
         (filled-bottom (allChildren 1 1) (two-range 1) refl field child y (second (length xs / 2) xs ys) ez)
 
@@ -130,7 +124,7 @@ module _ (field : ℕ) (child : ℕ → List (List ℕ) → List (List ℕ)) whe
         → putMid (length xs / 2) (length (ys ++ drop (length xs / 2) xs) - length xs / 2) (ys ++ drop (length xs / 2) xs) zs
         ≡ bothAdded field child (allChildren 1 2) x y xs
     both-added e x₀ x₁ y₀ y₁ ey ez =
-        halves (allChildren 1 2) x y xs (e ∙ ap (λ n. (n + n) * elementWords field) (sym size-two))
+        from-halves (allChildren 1 2) x y xs (e ∙ ap (λ n. (n + n) * elementWords field) (sym size-two))
         (both-below (allChildren 1 2) x (take (length xs / 2) xs) (λ z. absurd (omega (arith, z))) (two-range 2) refl x₀ x₁ ey)
         (both-below (allChildren 1 2) y (second (length xs / 2) xs ys) (λ z. absurd (omega (arith, z))) (two-range 2) refl y₀ y₁ ez)
 

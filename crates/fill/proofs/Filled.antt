@@ -25,7 +25,8 @@ use Rattle.fill.specs.declared.range.Halves.{Halves}
 use Rattle.tree.proofs.Laws.{leaf-none}
 use Rattle.fill.proofs.Halves.{front-length, second, second-length, filled, added-same}
 use Rattle.fill.proofs.Ranges.{size-is, size-all, size-none, two-some, one-twice, half-twice, half-falls, sibling-size, in-cases, held-size, holds-first, holds-second}
-use Rattle.fill.proofs.Elements.{all-element, first-child, second-child, back-element, run-one, run-back, path-above, path-below, path-first, path-second, path-back}
+use Rattle.fill.proofs.Couples.{from-halves, both-below}
+use Rattle.fill.proofs.Elements.{all-element, back-element, run-one, run-back, path-above, path-below, path-first, path-second, path-back}
 
 -- ---- lengths
 
@@ -128,19 +129,9 @@ module _ (field : ℕ) (child : ℕ → List (List ℕ) → List (List ℕ)) whe
           → ys ≡ added F (sizeOf (allChildren (ρ .«branch_bits») (ρ .levels - 1))) (rangeElement leaf child (allChildren (ρ .«branch_bits») (ρ .levels - 1)) x) (take (length xs / 2) xs)
           → zs ≡ added F (sizeOf (allChildren (ρ .«branch_bits») (ρ .levels - 1))) (rangeElement leaf child (allChildren (ρ .«branch_bits») (ρ .levels - 1)) y) (second (length xs / 2) xs ys)
           → Both xs ys zs ≡ added F (sizeOf ρ) (rangeElement leaf child ρ s) xs
-      filled-children {ys = ys} ok b ex ey el eh =
-          filled F laws (sizeOf ρ) (sizeOf one) (rangeElement leaf child ρ s) (rangeElement leaf child one (child (ρ .first) s))
-          (rangeElement leaf child one (child (ρ .first + 1) s)) xs e (one-twice ρ h b)
-          (λ j l. first-child leaf child s ρ h j ok (rw size at l))
-          (λ j l. ap (λ n. rangeElement leaf child ρ s (n + j)) size ∙ second-child leaf child s ρ h j ok b (rw size at l))
-          (el ∙ ap (λ z. added F (sizeOf one) (rangeElement leaf child one z) (take (length xs / 2) xs)) ex)
-          (eh ∙ ap (λ z. added F (sizeOf one) (rangeElement leaf child one z) (second (length xs / 2) xs ys)) ey)
-        where
-          one : Range
-          one = allChildren (ρ .«branch_bits») (ρ .levels - 1)
-
-          size : sizeOf one ≡ below ρ
-          size = size-all (ρ .«branch_bits») (ρ .levels - 1)
+      filled-children {x} {y} ok b ex ey el eh =
+          both-below field child ρ s xs h ok b ex ey
+          (from-halves field child (allChildren (ρ .«branch_bits») (ρ .levels - 1)) x y xs (e ∙ ap (λ n. n * F .elements .width) (one-twice ρ h b)) el eh)
 
       -- by half as many children each
       pub filled-halves : {p : ℕ} {ys zs : List ℕ} → IsRange ρ → p ≡ 2 ^ (ρ .bits - 1)

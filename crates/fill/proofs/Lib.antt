@@ -2,6 +2,6 @@
 mod Ranges
 mod Halves
 mod Elements
-mod Filled
 mod Bottom
 mod Couples
+mod Filled

@@ -182,7 +182,7 @@ fn add_couple(
 }
 
 // Adds the leaves two levels below each of two nodes with two children a node: the children of both nodes are made before any
-// leaf, so that no cipher waits for the one before.
+// leaf, so that no leaf waits for the cipher right before it.
 fn add_both(
     tables: &[u64; 1536],
     keys: &[[u64; 40]; 8],

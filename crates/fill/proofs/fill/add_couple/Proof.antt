@@ -1,7 +1,8 @@
 -- `fill::fill::add_couple` meets its contract: the first node's children, then the second's. Assumes nothing.
 use borrow.Author.Needs.{needs}
 use Rattle.fill.proofs.Halves.{front-count}
-use Rattle.fill.proofs.Couples.{couple-front, couple-back, couple-added}
+use Rattle.fill.proofs.Bottom.{four-front, four-back}
+use Rattle.fill.proofs.Couples.{couple-added}
 use Rattle.fill.proofs.fill.add_couple.Statement.{statement}
 use Rattle.fill.proofs.fill.add_couple.Tie as tie
 
@@ -11,12 +12,12 @@ add-couple-spec =
     (tie.spec
     (λ c. search needs)  -- slice-relend-prefix-add-pair
     (λ c. search front-count)  -- slice-aggregate-add-pair
-    (λ c κs. (search needs, search needs, search couple-front))  -- add-pair-requires
+    (λ c κs. (search needs, search needs, search four-front))  -- add-pair-requires
     (λ c. search needs)  -- mul-add-pair
     (λ c. search needs)  -- sub-add-pair
     (λ c. search needs)  -- part-add-pair-start
     (λ c. search needs)  -- part-add-pair-end
-    (λ c κs. (search needs, search needs, search couple-back))  -- add-pair-requires-2
+    (λ c κs. (search needs, search needs, search four-back))  -- add-pair-requires-2
     (λ c. search needs)  -- same-length
     (λ c. search couple-added)  -- returns
     )
