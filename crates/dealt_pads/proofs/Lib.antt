@@ -2,4 +2,5 @@
 mod Taken
 pub mod Messages
 pub mod Triples
+pub mod Gathered
 pub mod CircuitRuns

@@ -1,10 +1,50 @@
--- The triples of two dealings' pads match: the law of `triples`, where in each pairing the choice names the pad.
-use Rattle.triples.proofs.Matching.{match}
+-- The triples of two dealings' pads match: the law of `triples`, where in each pairing the choice names the pad. What is taken for a
+-- place stands in what is lent, so the place is below both counts.
+use mathlib.Core.Path.{_≡_}
+use mathlib.Core.List.{List}
+use Prim.Native.Nat.{ℕ, _<_}
+use native.Mathlib.Omega.{arith}
+use lib.ListN.{length}
+use Rattle.algebra.specs.Coding.{at}
+use Rattle.triples.proofs.Accepts.{accepts}
+use Rattle.triples.proofs.Matching.{match, match-at}
+use Rattle.triples.specs.Call as call
+use Rattle.triples.specs.Matching.{MatchingAt, Matching, triplesOf}
+use Rattle.triples.specs.Triple.{tripleBytes}
+use Rattle.dealt_pads.specs.Formed.{FormedAt, GatheredAt}
+use Rattle.dealt_pads.specs.Taken.{Dealing, Taken}
 use Rattle.dealt_pads.specs.Triples.{Triples}
-use Rattle.dealt_pads.proofs.Taken.{named}
+use Rattle.dealt_pads.proofs.Taken.{named, within}
+
+below : (l l′ : call.TriplesLent) (i : ℕ) → FormedAt l l′ i → (i < length (l .choices)) × (i < length (l′ .choices))
+below l l′ i F =
+    let w = within (F .first) (l .choices) (l .pads) (l′ .messages) i (F .taken) in (
+      omega (arith, w .0, accepts l .1 (F .accepted) .pads-length),
+      omega (arith, w .1, accepts l′ .1 (F .accepted′) .messages-length),
+    )
 
 pub triples : Triples
-triples first second l l′ equal T T′ e e′ =
-    match l l′ equal e e′
-    (λ k h. named first (l .choices) (l .pads) (l′ .messages) k (T k h))
-    (λ k h. named second (l′ .choices) (l′ .pads) (l .messages) k (T′ k h))
+triples l l′ i F =
+    let b = below l l′ i F in (
+      b .0,
+      b .1,
+      match l l′ (F .accepted) (F .accepted′) i (b .0) (b .1)
+          (named (F .first) (l .choices) (l .pads) (l′ .messages) i (F .taken))
+          (named (F .second) (l′ .choices) (l′ .pads) (l .messages) i (F .taken′)),
+    )
+
+-- gathered triples match
+pub gathered-match : (triples₁ triples₂ : List ℕ) (j : ℕ) → GatheredAt triples₁ triples₂ j
+    → MatchingAt (at tripleBytes triples₁ j) (at tripleBytes triples₂ j)
+gathered-match triples₁ triples₂ j G =
+    match-at (at tripleBytes triples₁ j) (at tripleBytes triples₂ j) (at tripleBytes (triplesOf (G .l)) (G .i)) (at tripleBytes (triplesOf (G .l′)) (G .i))
+    (G .triple₁) (G .triple₂) (triples (G .l) (G .l′) (G .i) (G .formed) .2)
+
+-- for equally many outputs of two dealings, all of them
+pub triples-all : (first second : Dealing) (l l′ : call.TriplesLent) → length (l .choices) ≡ length (l′ .choices)
+    → Taken first (length (l .choices)) (l .choices) (l .pads) (l′ .messages)
+    → Taken second (length (l .choices)) (l′ .choices) (l′ .pads) (l .messages)
+    → call.triples l .number ≡ 0 → call.triples l′ .number ≡ 0
+    → Matching (length (l .choices)) (triplesOf l) (triplesOf l′)
+triples-all first second l l′ equal T T′ e e′ k h =
+    triples l l′ k (record { first = first; second = second; accepted = e; accepted′ = e′; taken = T k h; taken′ = T′ k h }) .2

@@ -42,6 +42,7 @@ module _ (circuit : List ℕ) (c : Circuit) (read : readCircuit circuit ≡ Whol
     pub one-each : length shares ≡ c .inputs
     pub share-bits : (w : ℕ) → getD shares w 0 ≤ 1
     pub triple-bits : (w : ℕ) → getD triples w 0 ≤ 1
+    pub enough : andsIn (c .gates) * 3 ≤ length triples
 
   of-took : (k : ℕ) (m : StepMade) → IsStep (runOf calls) k m → (s : Run) → m .gave ≡ step (m .got) s → Took c (m .got) s → Stood k m
   of-took k m e s g t =
@@ -52,6 +53,7 @@ module _ (circuit : List ℕ) (c : Circuit) (read : readCircuit circuit ≡ Whol
         one-each = ap length (sym (o .own-shares)) ∙ p .one-each;
         share-bits = λ w. subst (λ (l : List ℕ). getD l w 0 ≤ 1) (o .own-shares) (p .share-bits w);
         triple-bits = λ w. subst (λ (l : List ℕ). getD l w 0 ≤ 1) (o .own-triples) (p .triple-bits w);
+        enough = omega (arith, ap length (o .own-triples), p .enough);
       }
 
   pub stood : (k : ℕ) (m : StepMade) → IsStep (runOf calls) k m → Stood k m

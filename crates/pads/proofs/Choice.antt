@@ -25,7 +25,7 @@ value-over : {A : Type 0} (C : Coding A) → Wide C → (n : ℕ) (f : ℕ → A
 value-over C wide n f b k j h e = rw (e, drop-over C wide f n b k h) (take-at (C .words (f k)) _ (C .width) (wide (f k)))
 
 -- the noise end's bytes for an index of its window are those of its pad
-noise-bytes : (rule : Rule) (first count : ℕ) (vs choices pads : List ℕ) → noisePadsBy rule first count vs choices pads .number ≡ 0
+pub noise-bytes : (rule : Rule) (first count : ℕ) (vs choices pads : List ℕ) → noisePadsBy rule first count vs choices pads .number ≡ 0
     → (x : ℕ) → InWindow first count x
     → padAt (noisePadsBy rule first count vs choices pads .pads) first x ≡ blockBytes .words (rule x (at blockBytes vs (x - first)))
 unfolding noisePadsBy
@@ -57,7 +57,7 @@ message-bytes m rest (suc zero) h =
 message-bytes m rest (suc (suc u)) h = absurd (omega arith)
 
 -- the scalar end's bytes of message u for an index of its window are those of that message
-scalar-bytes : (rule : Rule) (first count : ℕ) (ws delta pads : List ℕ) → scalarPadsBy rule first count ws delta pads .number ≡ 0
+pub scalar-bytes : (rule : Rule) (first count : ℕ) (ws delta pads : List ℕ) → scalarPadsBy rule first count ws delta pads .number ≡ 0
     → (x : ℕ) → InWindow first count x → (u : ℕ) → u ≤ 1
     → messageAt (scalarPadsBy rule first count ws delta pads .pads) first x u
     ≡ blockBytes .words (named u (messagePair rule x (at blockBytes ws (x - first)) (at blockBytes delta 0)))

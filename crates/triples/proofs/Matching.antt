@@ -2,23 +2,24 @@
 -- third bits combined are the AND of the others, by one computed test.
 use mathlib.Core.Path.{_≡_, refl, ap, _∙_}
 use mathlib.Core.Bool.{Bool, true, _&&_}
-use mathlib.Core.List.{List, [], _∷_}
+use mathlib.Core.List.{List, [], _∷_, _++_}
 use Prim.Native.Nat.{ℕ, zero, suc, _+_, _*_, _/_, _%_, _≤_, _<_}
 use native.Mathlib.Omega.{arith}
 use native.Mathlib.Nat.{mul-comm}
 use lib.Bits.{bitAnd, bitXor, xor-lt, and-lt}
 use lib.Dec.{eqb}
-use lib.ListN.{length, getD, take}
+use lib.ListN.{length, getD, take, List·getD-append}
+use lib.Seq.{getD-append-add}
 use borrow.Author.Tests.{eqb-true}
 use Rattle.algebra.specs.Coding.{at, over}
 use Rattle.messages.specs.Outcome.{Outcome}
 use Rattle.messages.specs.Opening.{NamedAt}
-use Rattle.messages.proofs.Fronts.{byte-front}
+use Rattle.messages.proofs.Fronts.{length-front, byte-front}
 use Rattle.messages.proofs.Numbers.{both}
 use Rattle.messages.proofs.Opening.{outcome-accepted, named-byte}
 use Rattle.triples.specs.Triple.{Triple, tripleBytes, tripleFrom, messageBit, padBit, tripleOf}
 use Rattle.triples.specs.Call.{TriplesLent, triples}
-use Rattle.triples.specs.Matching.{MatchingAt, Match, ZeroOrOne, triplesOf}
+use Rattle.triples.specs.Matching.{MatchingAt, Matching, Match, ZeroOrOne, triplesOf}
 use Rattle.triples.proofs.Accepts.{accepts}
 use Rattle.triples.proofs.Turns.{wide-triple}
 
@@ -143,12 +144,12 @@ zero-or-one l e j h =
     rw place at b
 
 -- what matches is matched by equal triples
-match-at : (t t′ s s′ : Triple) → t ≡ s → t′ ≡ s′ → MatchingAt s s′ → MatchingAt t t′
+pub match-at : (t t′ s s′ : Triple) → t ≡ s → t′ ≡ s′ → MatchingAt s s′ → MatchingAt t t′
 match-at t t′ s s′ e e′ m = rw (e, e′) m
 
 pub match : Match
 unfolding tripleOf
-match l l′ equal e e′ N N′ k h =
+match l l′ e e′ k h h′ N N′ =
     let a = getD (l .choices) k 0 in
     let a′ = getD (l′ .choices) k 0 in
     let r = messageBit (l .messages) k 0 in
@@ -156,6 +157,38 @@ match l l′ equal e e′ N N′ k h =
     let r′ = messageBit (l′ .messages) k 0 in
     let q′ = messageBit (l′ .messages) k 1 in
     match-at (at tripleBytes (triplesOf l) k) (at tripleBytes (triplesOf l′) k) (near a a′ r q r′ q′) (far a a′ r q r′ q′)
-    (triple-is l e k h ∙ ap (λ (p : ℕ). tripleFrom a p r q) (pad-bit (l .choices) (l .pads) (l′ .messages) k (N k h)))
-    (triple-is l′ e′ k (omega arith) ∙ ap (λ (p : ℕ). tripleFrom a′ p r′ q′) (pad-bit (l′ .choices) (l′ .pads) (l .messages) k (N′ k h)))
-    (bits-match a a′ r q r′ q′ (N k h .bit) (N′ k h .bit) (omega arith) (omega arith) (omega arith) (omega arith))
+    (triple-is l e k h ∙ ap (λ (p : ℕ). tripleFrom a p r q) (pad-bit (l .choices) (l .pads) (l′ .messages) k N))
+    (triple-is l′ e′ k h′ ∙ ap (λ (p : ℕ). tripleFrom a′ p r′ q′) (pad-bit (l′ .choices) (l′ .pads) (l .messages) k N′))
+    (bits-match a a′ r q r′ q′ (N .bit) (N′ .bit) (omega arith) (omega arith) (omega arith) (omega arith))
+
+-- for equally many outputs, all of them
+pub match-all : (l l′ : TriplesLent) → length (l .choices) ≡ length (l′ .choices) → triples l .number ≡ 0 → triples l′ .number ≡ 0
+    → ((k : ℕ) → k < length (l .choices) → NamedAt (l .choices) (l .pads) (l′ .messages) k)
+    → ((k : ℕ) → k < length (l .choices) → NamedAt (l′ .choices) (l′ .pads) (l .messages) k)
+    → Matching (length (l .choices)) (triplesOf l) (triplesOf l′)
+match-all l l′ equal e e′ N N′ k h = match l l′ e e′ k h (omega arith) (N k h) (N′ k h)
+
+-- ---- triples of several calls, one after the other
+
+-- an accepted call wrote three bytes an output
+pub length-triples : (l : TriplesLent) → triples l .number ≡ 0 → length (triplesOf l) ≡ length (l .choices) * 3
+length-triples l e =
+    ap length (written-is l e)
+    ∙ length-front tripleBytes wide-triple (length (l .choices)) (tripleOf (l .choices) (l .pads) (l .messages)) (l .triples)
+    (omega (arith, accepts l .1 e .room))
+
+-- the triples of the front of a list, and those past it
+pub triple-front : (front rest : List ℕ) (k count : ℕ) → length front ≡ count * 3 → k < count
+    → at tripleBytes (front ++ rest) k ≡ at tripleBytes front k
+triple-front front rest k count e h =
+    triple-eq (List·getD-append front rest 0 (k * 3) (omega arith)) (List·getD-append front rest 0 (k * 3 + 1) (omega arith))
+    (List·getD-append front rest 0 (k * 3 + 2) (omega arith))
+
+pub triple-past : (front rest : List ℕ) (k count : ℕ) → length front ≡ count * 3
+    → at tripleBytes (front ++ rest) (count + k) ≡ at tripleBytes rest k
+triple-past front rest k count e =
+    triple-eq (past (k * 3) ((count + k) * 3) (omega arith)) (past (k * 3 + 1) ((count + k) * 3 + 1) (omega arith))
+    (past (k * 3 + 2) ((count + k) * 3 + 2) (omega arith))
+  where
+    past : (i n : ℕ) → n ≡ length front + i → getD (front ++ rest) n 0 ≡ getD rest i 0
+    past i n z = ap (λ (m : ℕ). getD (front ++ rest) m 0) z ∙ getD-append-add front rest i 0

@@ -28,12 +28,13 @@ triplesOf l = take (triples l .written) (triples l .lent .triples)
 abbrev pub ZeroOrOne : Type 0
 ZeroOrOne = (l : TriplesLent) → triples l .number ≡ 0 → Bits (3 * length (l .choices)) (triplesOf l)
 
--- in the bytes that both ends' accepted calls write, for equally many outputs, all triples match, if in each pairing the choices
--- name the noise end's pads among the scalar end's: one end is the noise end of the first pairing and the scalar end of the
+-- in the bytes that both ends' accepted calls write, the triples at a place of both match, if in each pairing the choice there
+-- names the noise end's pad among the scalar end's: one end is the noise end of the first pairing and the scalar end of the
 -- second, the other the scalar end of the first and the noise end of the second
 abbrev pub Match : Type 0
 Match =
-    (l l′ : TriplesLent) → length (l .choices) ≡ length (l′ .choices) → triples l .number ≡ 0 → triples l′ .number ≡ 0
-    → ((k : ℕ) → k < length (l .choices) → NamedAt (l .choices) (l .pads) (l′ .messages) k)
-    → ((k : ℕ) → k < length (l .choices) → NamedAt (l′ .choices) (l′ .pads) (l .messages) k)
-    → Matching (length (l .choices)) (triplesOf l) (triplesOf l′)
+    (l l′ : TriplesLent) → triples l .number ≡ 0 → triples l′ .number ≡ 0
+    → (k : ℕ) → k < length (l .choices) → k < length (l′ .choices)
+    → NamedAt (l .choices) (l .pads) (l′ .messages) k
+    → NamedAt (l′ .choices) (l′ .pads) (l .messages) k
+    → MatchingAt (at tripleBytes (triplesOf l) k) (at tripleBytes (triplesOf l′) k)
