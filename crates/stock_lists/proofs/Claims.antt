@@ -2,7 +2,7 @@
 use mathlib.Core.Path.{_≡_, refl, sym, ap, ap₂, subst, _∙_}
 use mathlib.Core.Bool.{Bool, true, false, not, _&&_, false≢true}
 use mathlib.Core.List.{List, [], _∷_}
-use mathlib.Core.Logic.{⊎-elim}
+use mathlib.Core.Logic.{_⊎_, ⊎-elim}
 use Prim.Native.Nat.{ℕ, zero, suc, _-_, _≤_, _<_}
 use native.Mathlib.Nat.{not-suc-le-zero, le-of-suc-le-suc}
 use native.Mathlib.Omega.{arith}
@@ -16,35 +16,28 @@ use Rattle.stock.specs.declared.Label.{Label}
 use Rattle.stock.specs.declared.Stock.{Stock}
 use Rattle.stock.specs.Label.{numberOf}
 use Rattle.stock.specs.Stock.{isCaller, remaining, held, sumOf, shareBlocks}
-use Rattle.stock.specs.Calls.{isUpTo, byNumber, shareOf, openNumber, openStock, draw, drawNumber}
-use Rattle.stock_lists.specs.Lists.{Call, draws, previews, passes, Reply, Made, make, run, last, those, drawsOf, passed, handedBy, handed, replies, replyNumbers, callsOf, Use, useAfter, NextOf, madeAt, concerns, StockClaim, StockLists}
+use Rattle.stock.specs.Calls.{isUpTo, byNumber, shareOf, openNumber, openStock, draw, drawNumber, preview}
+use Rattle.stock_lists.specs.Lists.{Call, draws, previews, passes, Reply, Made, make, run, last, those, drawsOf, passed, handedBy, handed, replies, replyNumbers, callsOf, upToPassage, sincePassage, outputsIn, shareIn, NextOf, madeAt, concerns, StockClaim, StockLists}
 use Rattle.stock.proofs.Cases.{by-test}
 use Rattle.stock_lists.proofs.Blocks.{Well, blocks-next, blocks-end, blocks-callers, blocks-well, blocks-holds, blocks-held, is-caller, fits-block, Fresh, pass-cases}
 use Rattle.stock.proofs.Entries.{sum-grows, sum-same}
 use Rattle.stock.proofs.Opened.{up-to-most}
+use Rattle.stock_lists.proofs.Picked.{those-in, those-out}
 use Rattle.stock_lists.proofs.Runs.{last-well, sums-run, callers-run, labels-run, once-run, InUse, use-run}
 use Rattle.stock_lists.proofs.Steps.{Stayed, kept, step, stayed-draw, Agree, agree-reply, agree-after, agree-other, accepted-draw, make-call, make-drawn, make-moved, stayed-preview, stayed-stale, moved-passed}
 
 -- ---- picked calls
 
 module _ {A : Type 0} (p : A → Bool) (a : A) (l : List A) where
-  those-in : p a ≡ true → those p (a ∷ l) ≡ a ∷ those p l
-  unfolding those
-  those-in e = rw e
-
-  those-out : p a ≡ false → those p (a ∷ l) ≡ those p l
-  unfolding those
-  those-out e = rw e
-
   -- if none of a list is picked, neither the first nor any of the rest is
   none-first : those p (a ∷ l) ≡ [] → p a ≡ false
   none-first e =
       by-test (p a)
-      (λ y. let q = sym (those-in y) ∙ e in let z : _≡_ {A = ℕ} 0 1 = cc in absurd (omega arith))
+      (λ y. let q = sym (those-in p a l y) ∙ e in let z : _≡_ {A = ℕ} 0 1 = cc in absurd (omega arith))
       (λ n. n)
 
   none-rest : those p (a ∷ l) ≡ [] → those p l ≡ []
-  none-rest e = sym (those-out (none-first e)) ∙ e
+  none-rest e = sym (those-out p a l (none-first e)) ∙ e
 
 -- a made call is caller k's draw exactly if the call is
 abbrev mine : ℕ → Made → Bool
@@ -224,28 +217,45 @@ made-at s [] i h = absurd (not-suc-le-zero h)
 made-at s (c ∷ calls) zero h = ap (make s) (sym (make-call s c))
 made-at s (c ∷ calls) (suc i) h = made-at (make s c .after) calls i (le-of-suc-le-suc h)
 
+-- the reply to a preview is that to the draw
+preview-reply : (k : ℕ) (s : Stock) (l : Label) (c : ℕ) → make s (previews l k c) .reply ≡ make s (draws l k c) .reply
+unfolding make preview
+preview-reply k s l c = refl
+
+-- a draw's reply, and that of a preview of it
+reply-at : (s : Stock) (calls : List Call) (i : ℕ) → i < length calls → (l : Label) (k c : ℕ)
+    → (madeAt (run s calls) i .call ≡ draws l k c) ⊎ (madeAt (run s calls) i .call ≡ previews l k c)
+    → madeAt (run s calls) i .reply ≡ make (last s (take i calls)) (draws l k c) .reply
+reply-at s calls i h l k c e =
+    let t = last s (take i calls) in
+    ap (λ (m : Made). m .reply) (made-at s calls i h)
+    ∙ ⊎-elim
+    (λ d. ap (λ (c : Call). make t c .reply) d)
+    (λ p. ap (λ (c : Call). make t c .reply) p ∙ preview-reply k t l c)
+    e
+
 take-run : (s : Stock) (calls : List Call) (i : ℕ) → take i (run s calls) ≡ run s (take i calls)
 unfolding run
 take-run s calls zero = refl
 take-run s [] (suc i) = refl
 take-run s (c ∷ calls) (suc i) = ap (λ (h : List Made). make s c ∷ h) (take-run (make s c .after) calls i)
 
--- an accepted draw after any list, by the use of the label in use
-next-of : (s : Stock) → Well s → (calls : List Call) (u : Use) → InUse u s → (l : Label) (k c : ℕ)
+-- an accepted draw after any list
+next-of : (outputs : ℕ) (shares : List ℕ) (s : Stock) → Well s → InUse outputs shares [] s → (calls : List Call) (l : Label) (k c : ℕ)
     → make (last s calls) (draws l k c) .reply .number ≡ accepted
-    → NextOf (useAfter u (run s calls)) k c (make (last s calls) (draws l k c) .reply)
-next-of s W calls u I l k c z =
+    → NextOf outputs shares (run s calls) k c (make (last s calls) (draws l k c) .reply)
+next-of outputs shares s W I calls l k c z =
     let t = last s calls in
     let T = last-well s W calls in
     let a = accepted-draw t T l k c z in
     let b = is-caller t k (a .caller) in
-    let N = use-run s W calls u I in
+    let N = use-run outputs shares [] s W I calls in
     rw (make-drawn t l k c a)
     (record {
       count = refl;
       first = N .next k (b .1);
       block = let f = fits-block t T l k c a in let e = N .end k (b .1) in omega arith;
-      within = let g = sum-grows (suc k) 8 (remaining (useAfter u (run s calls) .came)) (b .0) in let w = N .within in omega arith;
+      within = let g = sum-grows (suc k) 8 (shareIn shares (run s calls)) (b .0) in let w = N .within in omega arith;
     })
 
 -- ---- after an accepted opening
@@ -285,23 +295,30 @@ module _ (label : Label) (outputs : ℕ) (shares : List ℕ) (O : Opened label o
   start-held : held start ≡ sumOf (length shares) (shareOf shares)
   start-held = blocks-held label (length shares) (shareOf shares) (O .most) none-past
 
-  abbrev opening-use : Use
-  opening-use = record { outputs = outputs; came = start; since = [] }
+  -- before any call the shares in use are those of the opening
+  first-shares : (j : ℕ) → shareIn shares [] j ≡ shareOf shares j
+  unfolding handed upToPassage
+  first-shares j = omega arith
 
-  in-use : InUse opening-use start
-  unfolding handed held
+  in-use : InUse outputs shares [] start
+  unfolding handed held sincePassage outputsIn
   in-use =
       record {
         next = λ k h.
             let b : k < length shares = rw (blocks-callers label (length shares) (shareOf shares) (O .most)) at h in
             let e = blocks-next label (length shares) (shareOf shares) (O .most) k b in
-            let f = sum-same k (remaining start) (shareOf shares) (λ j g. start-holds j) in
+            let f = sum-same k (shareIn shares []) (shareOf shares) (λ j g. first-shares j) in
             omega arith;
         end = λ k h.
             let b : k < length shares = rw (blocks-callers label (length shares) (shareOf shares) (O .most)) at h in
             blocks-end label (length shares) (shareOf shares) (O .most) k b
-            ∙ sym (sum-same (suc k) (remaining start) (shareOf shares) (λ j g. start-holds j));
-        within = let e = start-held in let w = O .sum in omega arith;
+            ∙ sym (sum-same (suc k) (shareIn shares []) (shareOf shares) (λ j g. first-shares j));
+        within =
+            let e = start-held in
+            let f = sum-same 8 (shareIn shares []) (remaining start) (λ j g. first-shares j ∙ sym (start-holds j)) in
+            let w = O .sum in
+            omega arith;
+        left = λ k. let e = start-holds k in omega arith;
       }
 
   claim : (calls : List Call) → StockClaim outputs shares start calls
@@ -312,8 +329,8 @@ module _ (label : Label) (outputs : ℕ) (shares : List ℕ) (O : Opened label o
         labels = labels-run start well calls;
         callers = λ k. callers-run start well calls k ∙ start-holds k;
         next = λ i h l k c e z.
-            let m = made-at start calls i h ∙ ap (make (last start (take i calls))) e in
-            rw (m, take-run start calls i) (next-of start well (take i calls) opening-use in-use l k c (rw m at z));
+            let r = reply-at start calls i h l k c e in
+            rw (r, take-run start calls i) (next-of outputs shares start well in-use (take i calls) l k c (rw r at z));
         refusals = λ k other same. by-model k start well calls
             ∙ ap (numbersBy (isCaller start k) (numberOf (start .label)) (remaining start k)) same
             ∙ sym (by-model k start well other);

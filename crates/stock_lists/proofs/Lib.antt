@@ -1,5 +1,6 @@
 -- The laws of lists of calls on a stock, and the inhabitants of the statements.
 mod Blocks
+mod Picked
 mod Steps
 pub mod Runs
 pub mod Claims

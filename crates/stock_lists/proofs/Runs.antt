@@ -1,21 +1,25 @@
 -- Sums, indices and replies over every list of calls, by induction over the list.
 use mathlib.Core.Path.{_≡_, refl, sym, ap, subst, _∙_}
-use mathlib.Core.Bool.{Bool, true, false}
-use mathlib.Core.List.{List, [], _∷_, _++_}
+use mathlib.Core.Bool.{Bool}
+use mathlib.Core.List.{List, [], _∷_, _++_, append-nil}
 use mathlib.Core.Logic.{⊎-elim}
-use Prim.Native.Nat.{ℕ, zero, suc, _+_, _≤_, _<_}
+use Prim.Native.Nat.{ℕ, zero, suc, _+_, _-_, _≤_, _<_}
 use native.Mathlib.Nat.{not-suc-le-zero, le-of-suc-le-suc}
 use native.Mathlib.Omega.{arith}
 use lib.ListN.{length}
+use lib.Seq.{append-snoc}
 use borrow.Author.Tests.{eq-eqb, ne-eqb}
 use Rattle.algebra.specs.Choice.{choose}
 use Rattle.stock.specs.declared.Label.{Label}
 use Rattle.stock.specs.declared.Stock.{Stock}
 use Rattle.stock.specs.Label.{numberOf}
 use Rattle.stock.specs.Stock.{nextOf, endOf, remaining, held, sumOf}
-use Rattle.stock_lists.specs.Lists.{Call, draws, previews, passes, Made, make, run, last, those, aDraw, drawsOf, drawsUnder, passed, handedBy, handed, stocks, heldFirst, heldLast, Use, outputsOf, useAfter, HandsOut, madeAt, Unchanged, Previews}
+use Rattle.stock.specs.Calls.{shareOf}
+use Rattle.stock_lists.specs.Lists.{Call, draws, previews, passes, Made, make, run, last, those, aDraw, drawsOf, drawsUnder, handedBy, handed, stocks, heldFirst, heldLast, sincePassage, outputsOf, outputsIn, shareIn, HandsOut, madeAt, Unchanged, Previews}
 use Rattle.stock.proofs.Cases.{by-order, by-equality}
+use Rattle.stock.proofs.Entries.{sum-same}
 use Rattle.stock_lists.proofs.Blocks.{Well}
+use Rattle.stock_lists.proofs.Picked.{up-to-passed, since-passed, up-to-not, since-not, outputs-more, handed-more}
 use Rattle.stock_lists.proofs.Steps.{Stayed, Moved, kept, step, stayed-draw, label-rises, Free, hands-label, hands-free, hands-gone, hands-none, free-before}
 
 -- ---- sums
@@ -220,62 +224,83 @@ once-run s W (c ∷ calls) (suc i) (suc j) h w L x o p =
 
 -- ---- the blocks of the label in use
 
-handed-snoc : (p : Call → Bool) (h : List Made) (m : Made) → handed p (h ++ (m ∷ [])) ≡ handed p h + handedBy p m
-unfolding handed
-handed-snoc p [] m = omega arith
-handed-snoc p (n ∷ h) m = let ih = handed-snoc p h m in omega arith
+-- after an opening and made calls h: each caller's block, its next index by what it was handed since the last accepted passage,
+-- and what it holds by all that it was handed
+pub record InUse (outputs : ℕ) (shares : List ℕ) (h : List Made) (s : Stock) : Type 0 where
+  pub next : (k : ℕ) → k < s .callers → nextOf s k ≡ sumOf k (shareIn shares h) + handed (drawsOf k) (sincePassage h)
+  pub end : (k : ℕ) → k < s .callers → endOf s k ≡ sumOf (suc k) (shareIn shares h)
+  pub within : sumOf 8 (shareIn shares h) ≤ outputsIn outputs h
+  pub left : (k : ℕ) → handed (drawsOf k) h + remaining s k ≡ shareOf shares k
 
--- each caller's block, by what was held when the label came into use, and its next index, by what it drew since
-pub record InUse (u : Use) (s : Stock) : Type 0 where
-  pub next : (k : ℕ) → k < s .callers → nextOf s k ≡ sumOf k (remaining (u .came)) + handed (drawsOf k) (u .since)
-  pub end : (k : ℕ) → k < s .callers → endOf s k ≡ sumOf (suc k) (remaining (u .came))
-  pub within : sumOf 8 (remaining (u .came)) ≤ u .outputs
+module _ (outputs : ℕ) (shares : List ℕ) where
+  module _ (h : List Made) (s : Stock) (W : Well s) (I : InUse outputs shares h s) (c : Call) where
+    abbrev now : Made
+    now = make s c
 
--- the use after a call under which the label stays, and after an accepted passage
-abbrev goesOn : Use → Made → Use
-goesOn u m = record { outputs = u .outputs; came = u .came; since = u .since ++ (m ∷ []) }
+    abbrev more : List Made
+    more = h ++ (now ∷ [])
 
-abbrev anew : Made → Use
-anew m = record { outputs = outputsOf (m .call); came = m .after; since = [] }
+    left-more : (k : ℕ) → handed (drawsOf k) more + remaining (now .after) k ≡ shareOf shares k
+    left-more k =
+        let e = handed-more now (drawsOf k) h in let i = I .left k in let r = kept s W c .remaining k in omega arith
 
-use-step : (u : Use) (m : Made) (h : List Made) (t : Bool) → passed m ≡ t → useAfter u (m ∷ h) ≡ useAfter (choose t (anew m) (goesOn u m)) h
-unfolding useAfter
-use-step u m h t e = ap (λ (t : Bool). useAfter (choose t (anew m) (goesOn u m)) h) e
+    -- a call under which the label stays
+    in-use-on : Stayed s now → InUse outputs shares more (now .after)
+    in-use-on S =
+        let n = S .not-passed in
+        let same : (j : ℕ) → shareIn shares more j ≡ shareIn shares h j =
+        λ j. ap (λ (P : List Made). shareOf shares j - handed (drawsOf j) P) (up-to-not now n h) in
+        record {
+          next = λ k b.
+              let a = I .next k (rw (kept s W c .callers) at b) in
+              let o = S .next k in
+              let f = ap (handed (drawsOf k)) (since-not now n h) ∙ handed-more now (drawsOf k) (sincePassage h) in
+              let g = sum-same k _ _ (λ j l. same j) in
+              omega arith;
+          end = λ k b. S .end k ∙ I .end k (rw (kept s W c .callers) at b) ∙ sym (sum-same (suc k) _ _ (λ j l. same j));
+          within =
+              let g = sum-same 8 _ _ (λ j l. same j) in
+              let e : outputsIn outputs more ≡ outputsIn outputs h =
+              outputs-more now outputs h ∙ ap (λ (t : Bool). choose t (outputsOf (now .call)) (outputsIn outputs h)) n in
+              let w = I .within in
+              omega arith;
+          left = left-more;
+        }
 
-module _ (s : Stock) (W : Well s) (c : Call) where
-  in-use-on : (u : Use) → InUse u s → Stayed s (make s c) → InUse (goesOn u (make s c)) (make s c .after)
-  in-use-on u I S =
-      record {
-        next = λ k h.
-            let a = I .next k (rw (kept s W c .callers) at h) in
-            let b = S .next k in
-            let e = handed-snoc (drawsOf k) (u .since) (make s c) in
-            omega arith;
-        end = λ k h. S .end k ∙ I .end k (rw (kept s W c .callers) at h);
-        within = I .within;
-      }
+    -- an accepted passage
+    in-use-anew : Moved s now → InUse outputs shares more (now .after)
+    unfolding held handed
+    in-use-anew M =
+        let y = M .is-passed in
+        let same : (j : ℕ) → shareIn shares more j ≡ remaining (now .after) j =
+        λ j. ap (λ (P : List Made). shareOf shares j - handed (drawsOf j) P) (up-to-passed now y h) ∙ (let l = left-more j in omega arith) in
+        record {
+          next = λ k b.
+              let e = M .next k (rw (kept s W c .callers) at b) in
+              let f : handed (drawsOf k) (sincePassage more) ≡ 0 = ap (handed (drawsOf k)) (since-passed now y h) in
+              let g = sum-same k _ _ (λ j l. same j) in
+              omega arith;
+          end = λ k b. M .end k (rw (kept s W c .callers) at b) ∙ sym (sum-same (suc k) _ _ (λ j l. same j));
+          within =
+              let g = sum-same 8 _ _ (λ j l. same j) in
+              let e : outputsIn outputs more ≡ outputsOf (now .call) =
+              outputs-more now outputs h ∙ ap (λ (t : Bool). choose t (outputsOf (now .call)) (outputsIn outputs h)) y in
+              let r = M .room in
+              omega arith;
+          left = left-more;
+        }
 
-  in-use-anew : Moved s (make s c) → InUse (anew (make s c)) (make s c .after)
-  unfolding handed held
-  in-use-anew M =
-      record {
-        next = λ k h. let e = M .next k (rw (kept s W c .callers) at h) in omega arith;
-        end = λ k h. M .end k (rw (kept s W c .callers) at h);
-        within = M .room;
-      }
+    in-use-step : InUse outputs shares more (now .after)
+    in-use-step = ⊎-elim in-use-on in-use-anew (step s W c)
 
-pub use-run : (s : Stock) → Well s → (calls : List Call) (u : Use) → InUse u s → InUse (useAfter u (run s calls)) (last s calls)
-unfolding run last
-use-run s W [] u I = unfold useAfter in I
-use-run s W (c ∷ calls) u I =
-    let m = make s c in
-    let h = run (m .after) calls in
-    let t = last (m .after) calls in
-    let T = kept s W c .well in
-    ⊎-elim
-    (λ S. subst (λ (v : Use). InUse v t) (sym (use-step u m h false (S .not-passed))) (use-run (m .after) T calls (goesOn u m) (in-use-on s W c u I S)))
-    (λ M. subst (λ (v : Use). InUse v t) (sym (use-step u m h true (M .is-passed))) (use-run (m .after) T calls (anew m) (in-use-anew s W c M)))
-    (step s W c)
+  pub use-run : (h : List Made) (s : Stock) → Well s → InUse outputs shares h s → (calls : List Call)
+      → InUse outputs shares (h ++ run s calls) (last s calls)
+  unfolding run last
+  use-run h s W I [] = rw (append-nil h) I
+  use-run h s W I (c ∷ calls) =
+      let m = make s c in
+      subst (λ (g : List Made). InUse outputs shares g (last (m .after) calls)) (append-snoc h m (run (m .after) calls))
+      (use-run (h ++ (m ∷ [])) (m .after) (kept s W c .well) (in-use-step h s W I c) calls)
 
 -- ---- previews
 

@@ -1,8 +1,9 @@
 -- Lists of calls on one stock (document 02, 2, 5 and 14): each on the stock that the call before left.
 use mathlib.Core.Path.{_≡_}
 use mathlib.Core.Bool.{Bool, true, false, _&&_, _||_}
-use mathlib.Core.List.{List, [], _∷_, _++_}
-use Prim.Native.Nat.{ℕ, suc, _+_, _≤_, _<_}
+use mathlib.Core.List.{List, [], _∷_}
+use mathlib.Core.Logic.{_⊎_}
+use Prim.Native.Nat.{ℕ, suc, _+_, _-_, _≤_, _<_}
 use lib.Dec.{eqb}
 use lib.ListN.{length, getD, take}
 use Rattle.algebra.specs.Choice.{choose}
@@ -68,6 +69,11 @@ last s (c ∷ calls) = last (make s c .after) calls
 unfoldable pub those : {A : Type 0} → (A → Bool) → List A → List A
 those p [] = []
 those p (a ∷ l) = choose (p a) (a ∷ those p l) (those p l)
+
+-- a test picks at least one
+unfoldable pub some : {A : Type 0} → (A → Bool) → List A → Bool
+some p [] = false
+some p (a ∷ l) = p a || some p l
 
 -- draws, the draws of caller k, those under a label of number L, all but previews, and passages
 abbrev pub aDraw : Call → Bool
@@ -138,11 +144,16 @@ unfoldable pub heldLast : ℕ → ℕ → List Stock → ℕ
 heldLast L none [] = none
 heldLast L none (s ∷ l) = heldLast L (choose (eqb L (numberOf (s .label))) (held s) none) l
 
--- a label's use: n of the opening or of the accepted passage that brought it, the stock that this left, and the calls since
-pub record Use : Type 0 where
-  pub outputs : ℕ
-  pub came : Stock
-  pub since : List Made
+-- ---- the last accepted passage
+
+-- the made calls up to and with the last accepted passage, none where there is none; and those since
+unfoldable pub upToPassage : List Made → List Made
+upToPassage [] = []
+upToPassage (m ∷ h) = choose (some passed (m ∷ h)) (m ∷ upToPassage h) []
+
+unfoldable pub sincePassage : List Made → List Made
+sincePassage [] = []
+sincePassage (m ∷ h) = choose (some passed (m ∷ h)) (sincePassage h) (m ∷ h)
 
 -- the n that a call names
 abbrev pub outputsOf : Call → ℕ
@@ -150,15 +161,14 @@ outputsOf (draws l k c) = 0
 outputsOf (previews l k c) = 0
 outputsOf (passes l n) = n
 
--- the use at the end of a list of made calls
-unfoldable pub useAfter : Use → List Made → Use
-useAfter u [] = u
-useAfter u (m ∷ h) =
-    useAfter
-    (choose (passed m)
-    (record { outputs = outputsOf (m .call); came = m .after; since = [] })
-    (record { outputs = u .outputs; came = u .came; since = u .since ++ (m ∷ []) }))
-    h
+-- the n in use after made calls: the opening's, or the last accepted passage's
+unfoldable pub outputsIn : ℕ → List Made → ℕ
+outputsIn n [] = n
+outputsIn n (m ∷ h) = outputsIn (choose (passed m) (outputsOf (m .call)) n) h
+
+-- what the opening or the last accepted passage gave caller j: its opening share, less what it was handed up to that passage
+abbrev pub shareIn : List ℕ → List Made → ℕ → ℕ
+shareIn shares h j = shareOf shares j - handed (drawsOf j) (upToPassage h)
 
 -- ---- what is claimed of every list
 
@@ -169,13 +179,13 @@ pub record HandsOut (m : Made) (L x : ℕ) : Type 0 where
   pub from : m .reply .first ≤ x
   pub below : x < m .reply .first + m .reply .count
 
--- a reply is caller k's next c indices of its block, which begins at what the callers before k held when the label came into use,
--- after what k drew since; the block is within the n in use
-pub record NextOf (u : Use) (k c : ℕ) (r : Reply) : Type 0 where
+-- a reply after made calls h is caller k's next c indices of its block, which begins at the shares in use of the callers before k,
+-- after what k was handed since the last accepted passage; the block is within the n in use
+pub record NextOf (outputs : ℕ) (shares : List ℕ) (h : List Made) (k c : ℕ) (r : Reply) : Type 0 where
   pub count : r .count ≡ c
-  pub first : r .first ≡ sumOf k (remaining (u .came)) + handed (drawsOf k) (u .since)
-  pub block : r .first + c ≤ sumOf (suc k) (remaining (u .came))
-  pub within : sumOf (suc k) (remaining (u .came)) ≤ u .outputs
+  pub first : r .first ≡ sumOf k (shareIn shares h) + handed (drawsOf k) (sincePassage h)
+  pub block : r .first + c ≤ sumOf (suc k) (shareIn shares h)
+  pub within : sumOf (suc k) (shareIn shares h) ≤ outputsIn outputs h
 
 -- the call at place i of a list of made calls
 abbrev pub madeAt : List Made → ℕ → Made
@@ -198,11 +208,11 @@ pub record StockClaim (outputs : ℕ) (shares : List ℕ) (s : Stock) (calls : L
   pub labels : (L : ℕ) → handed (drawsUnder L) (run s calls) + heldLast L 0 (stocks s calls) ≡ heldFirst L (stocks s calls)
   -- all that a caller draws and what it still holds make up its opening share
   pub callers : (k : ℕ) → handed (drawsOf k) (run s calls) + remaining (last s calls) k ≡ shareOf shares k
-  -- an accepted draw of c returns the caller's next c indices
-  pub next : (i : ℕ) → i < length calls → (l : Label) (k c : ℕ) → madeAt (run s calls) i .call ≡ draws l k c
+  -- an accepted draw of c returns the caller's next c indices, and an accepted preview names them
+  pub next : (i : ℕ) → i < length calls → (l : Label) (k c : ℕ)
+      → (madeAt (run s calls) i .call ≡ draws l k c) ⊎ (madeAt (run s calls) i .call ≡ previews l k c)
       → madeAt (run s calls) i .reply .number ≡ accepted
-      → NextOf (useAfter (record { outputs = outputs; came = s; since = [] }) (take i (run s calls))) k c
-      (madeAt (run s calls) i .reply)
+      → NextOf outputs shares (take i (run s calls)) k c (madeAt (run s calls) i .reply)
   -- a caller's numbers are those of every list with the same accepted passages and the same draws of this caller, in their order
   pub refusals : (k : ℕ) (other : List Call) → callsOf (those (concerns k) (run s calls)) ≡ callsOf (those (concerns k) (run s other))
       → replyNumbers (those (λ m. drawsOf k (m .call)) (run s calls)) ≡ replyNumbers (those (λ m. drawsOf k (m .call)) (run s other))

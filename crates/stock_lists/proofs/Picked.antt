@@ -1,0 +1,102 @@
+-- Laws of picked calls, and of the last accepted passage in a list of made calls.
+use mathlib.Core.Path.{_≡_, refl, sym, ap, _∙_}
+use mathlib.Core.Bool.{Bool, true, false, _||_}
+use mathlib.Core.List.{List, [], _∷_, _++_}
+use Prim.Native.Nat.{ℕ, _+_}
+use native.Mathlib.Omega.{arith}
+use Rattle.algebra.specs.Choice.{choose}
+use Rattle.stock.proofs.Cases.{by-test}
+use Rattle.stock_lists.specs.Lists.{Call, Made, those, some, passed, handedBy, handed, upToPassage, sincePassage, outputsOf, outputsIn}
+
+-- ---- picked calls
+
+module _ {A : Type 0} (p : A → Bool) (a : A) (l : List A) where
+  pub those-in : p a ≡ true → those p (a ∷ l) ≡ a ∷ those p l
+  unfolding those
+  those-in e = rw e
+
+  pub those-out : p a ≡ false → those p (a ∷ l) ≡ those p l
+  unfolding those
+  those-out e = rw e
+
+  pub some-in : p a ≡ true → some p (a ∷ l) ≡ true
+  unfolding some
+  some-in e = rw e
+
+  pub some-out : p a ≡ false → some p (a ∷ l) ≡ some p l
+  unfolding some
+  some-out e = rw e
+
+-- with one more at the end
+module _ {A : Type 0} (p : A → Bool) (a : A) where
+  some-more : (l : List A) → p a ≡ true → some p (l ++ (a ∷ [])) ≡ true
+  unfolding some
+  some-more [] e = rw e
+  some-more (b ∷ l) e = by-test (p b) (λ y. rw y) (λ n. rw n (some-more l e))
+
+  some-same : (l : List A) → p a ≡ false → some p (l ++ (a ∷ [])) ≡ some p l
+  unfolding some
+  some-same [] e = rw e
+  some-same (b ∷ l) e = ap (λ (t : Bool). p b || t) (some-same l e)
+
+-- ---- the last accepted passage
+
+module _ (m : Made) (h : List Made) where
+  up-to-in : some passed (m ∷ h) ≡ true → upToPassage (m ∷ h) ≡ m ∷ upToPassage h
+  unfolding upToPassage
+  up-to-in e = ap (λ (t : Bool). choose t (m ∷ upToPassage h) []) e
+
+  up-to-out : some passed (m ∷ h) ≡ false → upToPassage (m ∷ h) ≡ []
+  unfolding upToPassage
+  up-to-out e = ap (λ (t : Bool). choose t (m ∷ upToPassage h) []) e
+
+  since-in : some passed (m ∷ h) ≡ true → sincePassage (m ∷ h) ≡ sincePassage h
+  unfolding sincePassage
+  since-in e = ap (λ (t : Bool). choose t (sincePassage h) (m ∷ h)) e
+
+  since-out : some passed (m ∷ h) ≡ false → sincePassage (m ∷ h) ≡ m ∷ h
+  unfolding sincePassage
+  since-out e = ap (λ (t : Bool). choose t (sincePassage h) (m ∷ h)) e
+
+-- with one more accepted passage
+module _ (m : Made) (y : passed m ≡ true) where
+  pub up-to-passed : (h : List Made) → upToPassage (h ++ (m ∷ [])) ≡ h ++ (m ∷ [])
+  unfolding upToPassage
+  up-to-passed [] = up-to-in m [] (some-in passed m [] y)
+  up-to-passed (a ∷ h) = up-to-in a (h ++ (m ∷ [])) (some-more passed m (a ∷ h) y) ∙ ap (λ (l : List Made). a ∷ l) (up-to-passed h)
+
+  pub since-passed : (h : List Made) → sincePassage (h ++ (m ∷ [])) ≡ []
+  unfolding sincePassage
+  since-passed [] = since-in m [] (some-in passed m [] y)
+  since-passed (a ∷ h) = since-in a (h ++ (m ∷ [])) (some-more passed m (a ∷ h) y) ∙ since-passed h
+
+-- with one more call that is none
+module _ (m : Made) (n : passed m ≡ false) where
+  pub up-to-not : (h : List Made) → upToPassage (h ++ (m ∷ [])) ≡ upToPassage h
+  unfolding upToPassage some
+  up-to-not [] = up-to-out m [] (some-same passed m [] n)
+  up-to-not (a ∷ h) =
+      let e = some-same passed m (a ∷ h) n in
+      by-test (some passed (a ∷ h))
+      (λ t. up-to-in a (h ++ (m ∷ [])) (e ∙ t) ∙ ap (λ (l : List Made). a ∷ l) (up-to-not h) ∙ sym (up-to-in a h t))
+      (λ t. up-to-out a (h ++ (m ∷ [])) (e ∙ t) ∙ sym (up-to-out a h t))
+
+  pub since-not : (h : List Made) → sincePassage (h ++ (m ∷ [])) ≡ sincePassage h ++ (m ∷ [])
+  unfolding sincePassage some
+  since-not [] = since-out m [] (some-same passed m [] n)
+  since-not (a ∷ h) =
+      let e = some-same passed m (a ∷ h) n in
+      by-test (some passed (a ∷ h))
+      (λ t. since-in a (h ++ (m ∷ [])) (e ∙ t) ∙ since-not h ∙ ap (λ (l : List Made). l ++ (m ∷ [])) (sym (since-in a h t)))
+      (λ t. since-out a (h ++ (m ∷ [])) (e ∙ t) ∙ ap (λ (l : List Made). l ++ (m ∷ [])) (sym (since-out a h t)))
+
+module _ (m : Made) where
+  pub outputs-more : (n : ℕ) (h : List Made) → outputsIn n (h ++ (m ∷ [])) ≡ choose (passed m) (outputsOf (m .call)) (outputsIn n h)
+  unfolding outputsIn
+  outputs-more n [] = refl
+  outputs-more n (a ∷ h) = outputs-more (choose (passed a) (outputsOf (a .call)) n) h
+
+  pub handed-more : (p : Call → Bool) (h : List Made) → handed p (h ++ (m ∷ [])) ≡ handed p h + handedBy p m
+  unfolding handed
+  handed-more p [] = omega arith
+  handed-more p (a ∷ h) = let ih = handed-more p h in omega arith
