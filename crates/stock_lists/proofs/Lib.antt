@@ -2,5 +2,7 @@
 mod Blocks
 mod Picked
 mod Steps
+mod Callers
 pub mod Runs
 pub mod Claims
+pub mod Draws

@@ -10,9 +10,9 @@ use Rattle.algebra.specs.Choice.{choose}
 use Rattle.stock.specs.declared.Label.{Label}
 use Rattle.stock.specs.declared.Stock.{Stock}
 use Rattle.stock.specs.Label.{numberOf}
-use Rattle.stock.specs.Stock.{isCaller, nextOf, endOf, remaining, sumOf, held, shareBlocks}
-use Rattle.stock.specs.Calls.{byNumber, drawNumber, advanced, draw}
-use Rattle.stock_lists.specs.Lists.{Call, draws, previews, passes, Reply, Made, make, aDraw, drawsOf, drawsUnder, passed, handedBy, outputsOf, HandsOut}
+use Rattle.stock.specs.Stock.{nextOf, endOf, remaining, sumOf, held, shareBlocks}
+use Rattle.stock.specs.Calls.{advanced}
+use Rattle.stock_lists.specs.Lists.{Call, draws, previews, passes, Made, make, aDraw, drawsOf, drawsUnder, passed, handedBy, outputsOf, HandsOut}
 use Rattle.stock.proofs.Cases.{by-order, by-equality}
 use Rattle.stock_lists.proofs.Blocks.{Well, holds-past, blocks-next, blocks-end, blocks-callers, blocks-well, blocks-holds, Accepted, Refused, draw-cases, Fresh, Stale, pass-cases, is-caller, advanced-label, advanced-callers, advanced-end, advanced-next, advanced-other, fits-block, advanced-well, advanced-holds, advanced-keeps, advanced-held}
 use Rattle.stock.proofs.Entries.{sum-same}
@@ -278,46 +278,4 @@ free-before s m K S x f =
       caller = rw (K .callers) at (f .caller);
       from = let n = S .next (f .k) in let l = f .from in omega arith;
       below = rw (S .end (f .k)) at (f .below);
-    }
-
--- ---- two stocks that agree on a caller give it the same replies
-
-pub record Agree (k : ℕ) (s t : Stock) : Type 0 where
-  pub label : s .label ≡ t .label
-  pub callers : s .callers ≡ t .callers
-  pub next : nextOf s k ≡ nextOf t k
-  pub end : endOf s k ≡ endOf t k
-
-pub agree-reply : (k : ℕ) (s t : Stock) → Agree k s t → (l : Label) (c : ℕ) → make s (draws l k c) .reply ≡ make t (draws l k c) .reply
-unfolding make draw drawNumber remaining isCaller
-agree-reply k s t A l c = rw (A .label, A .callers, A .next, A .end)
-
--- a caller's part, by its reply
-pub own-part : (s : Stock) (l : Label) (k c : ℕ)
-    → handedBy (drawsOf k) (make s (draws l k c)) ≡ byNumber (make s (draws l k c) .reply .number) (make s (draws l k c) .reply .count) 0
-unfolding make
-own-part s l k c = rw (eq-eqb k k refl)
-
-pub agree-after : (k : ℕ) (s t : Stock) → Well s → Well t → Agree k s t → (l : Label) (c : ℕ)
-    → Agree k (make s (draws l k c) .after) (make t (draws l k c) .after)
-agree-after k s t W U A l c =
-    let S = stayed-draw s W l k c in
-    let T = stayed-draw t U l k c in
-    record {
-      label = S .label ∙ A .label ∙ sym (T .label);
-      callers = kept s W (draws l k c) .callers ∙ A .callers ∙ sym (kept t U (draws l k c) .callers);
-      next = S .next k ∙ (let e = own-part s l k c in let f = own-part t l k c in
-          let r = ap (λ (r : Reply). byNumber (r .number) (r .count) 0) (agree-reply k s t A l c) in
-          let n = A .next in let o = T .next k in omega arith);
-      end = S .end k ∙ A .end ∙ sym (T .end k);
-    }
-
-pub agree-other : (k : ℕ) (c : Call) (s t : Stock) → Well s → Stayed s (make s c) → Agree k s t → drawsOf k c ≡ false → Agree k (make s c .after) t
-agree-other k c s t W S A n =
-    let none : handedBy (drawsOf k) (make s c) ≡ 0 = rw (make-call s c, n) in
-    record {
-      label = S .label ∙ A .label;
-      callers = kept s W c .callers ∙ A .callers;
-      next = let e = S .next k in let a = A .next in omega arith;
-      end = S .end k ∙ A .end;
     }

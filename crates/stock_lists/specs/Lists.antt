@@ -75,7 +75,7 @@ unfoldable pub some : {A : Type 0} → (A → Bool) → List A → Bool
 some p [] = false
 some p (a ∷ l) = p a || some p l
 
--- draws, the draws of caller k, those under a label of number L, all but previews, and passages
+-- draws, the draws of caller k, its draws and previews, the draws under a label of number L, all but previews, and passages
 abbrev pub aDraw : Call → Bool
 aDraw (draws l j c) = true
 aDraw (previews l j c) = false
@@ -85,6 +85,11 @@ abbrev pub drawsOf : ℕ → Call → Bool
 drawsOf k (draws l j c) = eqb k j
 drawsOf k (previews l j c) = false
 drawsOf k (passes l n) = false
+
+abbrev pub asksOf : ℕ → Call → Bool
+asksOf k (draws l j c) = eqb k j
+asksOf k (previews l j c) = eqb k j
+asksOf k (passes l n) = false
 
 abbrev pub drawsUnder : ℕ → Call → Bool
 drawsUnder L (draws l j c) = eqb L (numberOf l)
@@ -193,9 +198,16 @@ madeAt h i =
     getD h i
     (record { call = draws labelZero 0 0; reply = record { number = noCaller; first = 0; count = 0 }; after = noCallers })
 
--- what concerns caller k: its draws, and the accepted passages
+-- caller k's draws and previews, and what concerns it: these and the accepted passages
+abbrev pub asked : ℕ → Made → Bool
+asked k m = asksOf k (m .call)
+
 abbrev pub concerns : ℕ → Made → Bool
-concerns k m = drawsOf k (m .call) || passed m
+concerns k m = asked k m || passed m
+
+-- two lists of made calls are alike for caller k: what concerns it is equal, in its order
+abbrev pub AlikeFor : ℕ → List Made → List Made → Type 0
+AlikeFor k h g = callsOf (those (concerns k) h) ≡ callsOf (those (concerns k) g)
 
 -- a list of draws, previews and passages after an accepted opening
 pub record StockClaim (outputs : ℕ) (shares : List ℕ) (s : Stock) (calls : List Call) : Type 0 where
@@ -213,12 +225,12 @@ pub record StockClaim (outputs : ℕ) (shares : List ℕ) (s : Stock) (calls : L
       → (madeAt (run s calls) i .call ≡ draws l k c) ⊎ (madeAt (run s calls) i .call ≡ previews l k c)
       → madeAt (run s calls) i .reply .number ≡ accepted
       → NextOf outputs shares (take i (run s calls)) k c (madeAt (run s calls) i .reply)
-  -- a caller's numbers are those of every list with the same accepted passages and the same draws of this caller, in their order
-  pub refusals : (k : ℕ) (other : List Call) → callsOf (those (concerns k) (run s calls)) ≡ callsOf (those (concerns k) (run s other))
-      → replyNumbers (those (λ m. drawsOf k (m .call)) (run s calls)) ≡ replyNumbers (those (λ m. drawsOf k (m .call)) (run s other))
-  -- before any passage, a caller's replies are those of the list with all but its own draws struck out
-  pub own : (k : ℕ) → those passed (run s calls) ≡ []
-      → replies (those (λ m. drawsOf k (m .call)) (run s calls)) ≡ replies (run s (those (drawsOf k) calls))
+  -- a caller's numbers are those of every list that is alike for it
+  pub refusals : (k : ℕ) (other : List Call) → AlikeFor k (run s calls) (run s other)
+      → replyNumbers (those (asked k) (run s calls)) ≡ replyNumbers (those (asked k) (run s other))
+  -- with no accepted passage, so are its replies
+  pub own : (k : ℕ) (other : List Call) → AlikeFor k (run s calls) (run s other) → some passed (run s calls) ≡ false
+      → replies (those (asked k) (run s calls)) ≡ replies (those (asked k) (run s other))
 
 abbrev pub StockLists : Type 0
 StockLists =
