@@ -751,13 +751,13 @@ struct expander_one_length expander_triples(
  *                is not before the gate; an output wire is none of the wires
  *            and at the end:
  *            12: bytes follow the circuit
- *            17: state.phase is above 2, or is 1 where state.gate is no AND of the circuit
- *             9: role is not 1 or 2
  *             3: shares_len is not the number of inputs, or triples_len is no multiple of 3
  *            13: output_len is below the number of outputs
  *             8: a share or a triple's bit is above 1, in unused triples too; or, in phase 1, a far
  *                bit is
  *            18: there are fewer triples than ANDs
+ *            17: state.phase is above 2, or is 1 where state.gate is no AND of the circuit
+ *             9: role is not 1 or 2
  *  In:       role:       one end takes 1, the other 2: 1 the noise end of the one of the triples' two
  *                        dealings that both ends call the first, 2 its scalar end
  *            circuit:    the circuit, of exactly circuit_len bytes, the same at both ends

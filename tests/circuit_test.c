@@ -11,8 +11,8 @@ enum { FRESH = EXPANDER_RUN_FRESH, WAITS = EXPANDER_RUN_WAITS, FINISHED = EXPAND
 enum { CIRCUIT_STEP, CALLS };
 
 static const struct call calls[CALLS] = {
-    {"circuit_step", BIT(0) | BIT(10) | BIT(11) | BIT(17) | BIT(12) | BIT(9) | BIT(3) | BIT(13)
-                         | BIT(8) | BIT(18)},
+    {"circuit_step", BIT(0) | BIT(10) | BIT(11) | BIT(17) | BIT(12) | BIT(3) | BIT(13) | BIT(8)
+                         | BIT(18) | BIT(9)},
 };
 
 typedef struct expander_run run;
@@ -467,7 +467,8 @@ static void sizes(void)
 
 /* ---- Faults beside the circuit ---- */
 
-/* A state in phase `phase` of the circuit, or one that no step of it left. */
+/* A state in a phase from 0 to 2 that is admitted, or one that gives 17: phase 1 at no AND of the
+ * circuit, or a phase above 2. */
 static run some_state(int which, uint32_t an_and, uint32_t no_and)
 {
     run s = fresh;
@@ -514,11 +515,12 @@ static void refusals(void)
             shares[bad_share == 1 ? 0 : shares_len - 1] = bad_share == 1 ? 2 : 0x80;
         if (bad_triple)
             triple_bits[bad_triple == 1 ? 0 : triples_len - 1] = bad_triple == 1 ? 2 : 0xff;
-        number = which > 2 ? 17 : role < 1 || role > 2 ? 9
-               : shares_len != INPUTS || triples_len % 3 != 0 ? 3
+        number = shares_len != INPUTS || triples_len % 3 != 0 ? 3
                : room < 2 ? 13
                : bad_share || bad_triple || (bad_far && state.phase == WAITS) ? 8
-               : triples_len < 6 ? 18 : 0;
+               : triples_len < 6 ? 18
+               : which > 2 ? 17
+               : role < 1 || role > 2 ? 9 : 0;
         EXPECT(try_step(&a, room, &state, NULL).number == number);
         if (set % 7 == 0) { /* a fault in the circuit comes before all of these */
             a.circuit_len--;
@@ -527,9 +529,28 @@ static void refusals(void)
             EXPECT(try_step(&a, room, &state, NULL).number == 12);
         }
     }
+    /* State and role come last, in this order; far bits are tested in phase 1, at an AND or not. */
+    random_bits(shares, sizeof shares);
+    random_bits(triple_bits, sizeof triple_bits);
+    for (int k = 0; k < 6; k++) {
+        static const struct {
+            uint8_t role, far;
+            uint32_t phase, gate;
+            size_t shares_len;
+            uint32_t number;
+        } tries[6] = {{0, 0, FRESH, 0, INPUTS + 1, 3}, {1, 2, WAITS, 0, INPUTS, 8},
+                      {1, 0, WAITS, 0, INPUTS, 17},    {1, 2, 3, 1, INPUTS, 17},
+                      {0, 0, 3, 1, INPUTS, 17},        {0, 2, FRESH, 0, INPUTS, 9}};
+        struct asked a = {tries[k].role, tries[k].far, 0, made.bytes, shares, triple_bits, made.len,
+                          tries[k].shares_len, 3 * TRIPLES};
+        run state = fresh;
+        state.phase = tries[k].phase;
+        state.gate = tries[k].gate;
+        EXPECT(try_step(&a, 2, &state, NULL).number == tries[k].number);
+    }
 }
 
-/* A step on a state that no step left: any bytes in the wires, any gate. */
+/* A step on any state: any bytes in the wires, any gate, a phase from 0 to 4. */
 static void any_state(void)
 {
     static run state;

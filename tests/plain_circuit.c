@@ -132,12 +132,7 @@ struct expander_stepped plain_circuit_step(
     r.number = plain_read_circuit(&c, circuit, circuit_len);
     if (r.number != 0)
         return r;
-    if (state.phase > FINISHED
-        || (state.phase == WAITS && (state.gate >= c.gates || c.gate[state.gate].kind != AND)))
-        r.number = 17;
-    else if (role != 1 && role != 2)
-        r.number = 9;
-    else if (shares_len != c.inputs || triples_len % 3 != 0)
+    if (shares_len != c.inputs || triples_len % 3 != 0)
         r.number = 3;
     else if (output_len < c.outputs)
         r.number = 13;
@@ -146,6 +141,11 @@ struct expander_stepped plain_circuit_step(
         r.number = 8;
     else if (triples_len / 3 < ands_before(&c, c.gates))
         r.number = 18;
+    else if (state.phase > FINISHED
+             || (state.phase == WAITS && (state.gate >= c.gates || c.gate[state.gate].kind != AND)))
+        r.number = 17;
+    else if (role != 1 && role != 2)
+        r.number = 9;
     if (r.number != 0)
         return r;
 

@@ -77,36 +77,37 @@ module _ (role d e first second third : ℕ) where
 
 -- ---- the number of a step
 
-module _ (f : Front) (t : Bool) (a : Asked) (shares triples : List ℕ) (room : ℕ) where
-  pub number-state : not t ≡ true → 17 ≡ askedNumber f t a shares triples room
+module _ (f : Front) (t : Bool) (a : Asked) (shares triples : List ℕ) (room : ℕ) (n : Bool)
+    (lengths : n ≡ lengthsAsked (f .inputs) (length shares) (length triples)) where
+  pub number-lengths : not n ≡ true → 3 ≡ askedNumber f t a shares triples room
   unfolding askedNumber
-  number-state e = rw e
+  number-lengths e = rw (← lengths, e)
 
-  module _ (known : not t ≡ false) (r : Bool) (role : r ≡ isRole (a .role)) where
-    pub number-role : not r ≡ true → 9 ≡ askedNumber f t a shares triples room
+  module _ (fit : not n ≡ false) where
+    pub number-room : room < f .outputs → 13 ≡ askedNumber f t a shares triples room
     unfolding askedNumber
-    number-role e = rw (known, ← role, e)
+    number-room h = rw (← lengths, fit, lt-ltb room (f .outputs) h)
 
-    module _ (yes : not r ≡ false) (n : Bool) (lengths : n ≡ lengthsAsked (f .inputs) (length shares) (length triples)) where
-      pub number-lengths : not n ≡ true → 3 ≡ askedNumber f t a shares triples room
+    module _ (h : f .outputs ≤ room) (b : Bool) (bits : b ≡ bitsAsked a shares triples) where
+      pub number-bits : not b ≡ true → 8 ≡ askedNumber f t a shares triples room
       unfolding askedNumber
-      number-lengths e = rw (known, ← role, yes, ← lengths, e)
+      number-bits e = rw (← lengths, fit, le-ltb room (f .outputs) h, ← bits, e)
 
-      module _ (fit : not n ≡ false) where
-        pub number-room : room < f .outputs → 13 ≡ askedNumber f t a shares triples room
+      module _ (all : not b ≡ false) where
+        pub number-triples : length triples / 3 < f .ands → 18 ≡ askedNumber f t a shares triples room
         unfolding askedNumber
-        number-room h = rw (known, ← role, yes, ← lengths, fit, lt-ltb room (f .outputs) h)
+        number-triples g = rw (← lengths, fit, le-ltb room (f .outputs) h, ← bits, all, lt-ltb (length triples / 3) (f .ands) g)
 
-        module _ (h : f .outputs ≤ room) (b : Bool) (bits : b ≡ bitsAsked a shares triples) where
-          pub number-bits : not b ≡ true → 8 ≡ askedNumber f t a shares triples room
+        module _ (g : f .ands ≤ length triples / 3) where
+          pub number-state : not t ≡ true → 17 ≡ askedNumber f t a shares triples room
           unfolding askedNumber
-          number-bits e = rw (known, ← role, yes, ← lengths, fit, le-ltb room (f .outputs) h, ← bits, e)
+          number-state e = rw (← lengths, fit, le-ltb room (f .outputs) h, ← bits, all, le-ltb (length triples / 3) (f .ands) g, e)
 
-          module _ (all : not b ≡ false) where
-            pub number-triples : length triples / 3 < f .ands → 18 ≡ askedNumber f t a shares triples room
+          module _ (known : not t ≡ false) (r : Bool) (role : r ≡ isRole (a .role)) where
+            pub number-role : not r ≡ true → 9 ≡ askedNumber f t a shares triples room
             unfolding askedNumber
-            number-triples g = rw (known, ← role, yes, ← lengths, fit, le-ltb room (f .outputs) h, ← bits, all, lt-ltb (length triples / 3) (f .ands) g)
+            number-role e = rw (← lengths, fit, le-ltb room (f .outputs) h, ← bits, all, le-ltb (length triples / 3) (f .ands) g, known, ← role, e)
 
-            pub number-accepted : f .ands ≤ length triples / 3 → 0 ≡ askedNumber f t a shares triples room
+            pub number-accepted : not r ≡ false → 0 ≡ askedNumber f t a shares triples room
             unfolding askedNumber
-            number-accepted g = rw (known, ← role, yes, ← lengths, fit, le-ltb room (f .outputs) h, ← bits, all, le-ltb (length triples / 3) (f .ands) g)
+            number-accepted e = rw (← lengths, fit, le-ltb room (f .outputs) h, ← bits, all, le-ltb (length triples / 3) (f .ands) g, known, ← role, e)

@@ -41,8 +41,6 @@ state-and c phase gate e one =
 
 -- what a step with number 0 has passed, from the numbers of its circuit
 pub record AskedPasses (f : Front) (t : Bool) (a : Asked) (shares triples : List ℕ) (space : ℕ) : Type 0 where
-  pub state : t ≡ true
-  pub role : isRole (a .role) ≡ true
   pub one-each : length shares ≡ f .inputs
   pub three-each : length triples % 3 ≡ 0
   pub room : f .outputs ≤ space
@@ -50,34 +48,36 @@ pub record AskedPasses (f : Front) (t : Bool) (a : Asked) (shares triples : List
   pub triple-bits : (k : ℕ) → getD triples k 0 ≤ 1
   pub far : a .waits ≡ true → (a .«far_first» ≤ 1) × (a .«far_second» ≤ 1)
   pub enough : f .ands * 3 ≤ length triples
+  pub state : t ≡ true
+  pub role : isRole (a .role) ≡ true
 
 pub asked-passes : (f : Front) (t : Bool) (a : Asked) (shares triples : List ℕ) (space : ℕ) → askedNumber f t a shares triples space ≡ 0
     → AskedPasses f t a shares triples space
 unfolding askedNumber
 asked-passes f t a shares triples space e =
-    let p₁ = passed (not t) 16 _ e in
-    let p₂ = passed (not (isRole (a .role))) 8 _ (p₁ .1) in
-    let p₃ = passed (not (lengthsAsked (f .inputs) (length shares) (length triples))) 2 _ (p₂ .1) in
-    let p₄ = passed (ltb space (f .outputs)) 12 _ (p₃ .1) in
-    let p₅ = passed (not (bitsAsked a shares triples)) 7 _ (p₄ .1) in
-    let p₆ = passed (ltb (length triples / 3) (f .ands)) 17 _ (p₅ .1) in
-    let lengths = both (eqb (length shares) (f .inputs)) (eqb (length triples % 3) 0) (not-false _ (p₃ .0)) in
+    let p₁ = passed (not (lengthsAsked (f .inputs) (length shares) (length triples))) 2 _ e in
+    let p₂ = passed (ltb space (f .outputs)) 12 _ (p₁ .1) in
+    let p₃ = passed (not (bitsAsked a shares triples)) 7 _ (p₂ .1) in
+    let p₄ = passed (ltb (length triples / 3) (f .ands)) 17 _ (p₃ .1) in
+    let p₅ = passed (not t) 16 _ (p₄ .1) in
+    let p₆ = passed (not (isRole (a .role))) 8 _ (p₅ .1) in
+    let lengths = both (eqb (length shares) (f .inputs)) (eqb (length triples % 3) 0) (not-false _ (p₁ .0)) in
     let far : Bool = leb (a .«far_first») 1 && leb (a .«far_second») 1 in
-    let b₁ = both (not (anyAbove 1 shares) && not (anyAbove 1 triples)) (not (a .waits) || far) (not-false _ (p₅ .0)) in
+    let b₁ = both (not (anyAbove 1 shares) && not (anyAbove 1 triples)) (not (a .waits) || far) (not-false _ (p₃ .0)) in
     let b₂ = both (not (anyAbove 1 shares)) (not (anyAbove 1 triples)) (b₁ .0) in
     record {
-      state = not-false t (p₁ .0);
-      role = not-false _ (p₂ .0);
       one-each = eqb-true _ _ (lengths .0);
       three-each = eqb-true _ _ (lengths .1);
-      room = ltb-false _ _ (p₄ .0);
+      room = ltb-false _ _ (p₂ .0);
       share-bits = none-above 1 shares (not-true _ (b₂ .0));
       triple-bits = none-above 1 triples (not-true _ (b₂ .1));
       far =
           λ one.
           let g = both (leb (a .«far_first») 1) (leb (a .«far_second») 1) (either-true (not (a .waits)) far (b₁ .1) (ap not one)) in
           (leb-true _ _ (g .0), leb-true _ _ (g .1));
-      enough = omega (arith, ltb-false (length triples / 3) (f .ands) (p₆ .0));
+      enough = omega (arith, ltb-false (length triples / 3) (f .ands) (p₄ .0));
+      state = not-false t (p₅ .0);
+      role = not-false _ (p₆ .0);
     }
 
 -- the numbers of a circuit, and those that a step gets

@@ -1,5 +1,6 @@
 -- A step of an end's run of a circuit (document 02, 9): from everything lent and the state that the step before left to everything
--- that stands on return. It tests the reading (10, 11, 17, 12), then 17, 9, 3, 13, 8, 18.
+-- that stands on return. It tests the reading (10, 11, 17, 12), then 3, 13, 8, 18, and last what document 02 does not name: the state
+-- (17) and the role (9).
 use Prim.Native.Nat.{ℕ, zero, suc, _+_, _-_, _/_, _%_}
 use mathlib.Core.Bool.{Bool, not, _&&_, _||_}
 use mathlib.Core.List.{List, [], _∷_, _++_}
@@ -68,17 +69,6 @@ runWith phase gate wires = record { phase = phase; gate = gate; wires = wires }
 
 -- ---- tests
 
--- the gate of a number, from 0; past the last there is none, which a NOT stands for, since it is asked for ANDs alone
-abbrev pub gateAt : Circuit → ℕ → Gate
-gateAt c i = getD (c .gates) i (Not 0)
-
--- a state of a known phase which, in phase 1, waits at an AND of this circuit
-abbrev pub stateAdmitted : Circuit → ℕ → ℕ → Bool
-stateAdmitted c phase gate = leb phase 2 && (not (eqb phase 1) || isAnd (gateAt c gate))
-
-abbrev pub isRole : ℕ → Bool
-isRole role = eqb role 1 || eqb role 2
-
 -- shares one an input, triple bits three each
 abbrev pub slicesAdmitted : Circuit → StepLent → Bool
 slicesAdmitted c l = eqb (length (l .shares)) (c .inputs) && eqb (length (l .triples) % 3) 0
@@ -88,15 +78,26 @@ abbrev pub bitsAdmitted : StepLent → Run → Bool
 bitsAdmitted l s =
     not (anyAbove 1 (l .shares)) && not (anyAbove 1 (l .triples)) && (not (eqb (s .phase) 1) || (leb (l .farFirst) 1 && leb (l .farSecond) 1))
 
+-- the gate of a number, from 0; past the last there is none, which a NOT stands for, since it is asked for ANDs alone
+abbrev pub gateAt : Circuit → ℕ → Gate
+gateAt c i = getD (c .gates) i (Not 0)
+
+-- a state is refused for a phase above 2, or phase 1 at no AND of this circuit
+abbrev pub stateAdmitted : Circuit → ℕ → ℕ → Bool
+stateAdmitted c phase gate = leb phase 2 && (not (eqb phase 1) || isAnd (gateAt c gate))
+
+abbrev pub isRole : ℕ → Bool
+isRole role = eqb role 1 || eqb role 2
+
 -- the number of a step on a circuit that was read
 unfoldable pub stepNumber : Circuit → StepLent → Run → ℕ
 stepNumber c l s =
-    choose (not (stateAdmitted c (s .phase) (s .gate))) badCircuit
-    (choose (not (isRole (l .role))) wrongEnd
-    (choose (not (slicesAdmitted c l)) badLength
+    choose (not (slicesAdmitted c l)) badLength
     (choose (ltb (length (l .output)) (length (c .outputs))) bufferShort
     (choose (not (bitsAdmitted l s)) notElement
     (choose (ltb (length (l .triples) / 3) (andsIn (c .gates))) tooFewTriples
+    (choose (not (stateAdmitted c (s .phase) (s .gate))) badCircuit
+    (choose (not (isRole (l .role))) wrongEnd
     accepted)))))
 
 -- ---- what an accepted step does

@@ -19,6 +19,16 @@ pub struct Asked {
     pub far_second: u8,
 }
 
+// Whether shares are one an input, and triple bits three each.
+fn lengths_asked(inputs: usize, shares: usize, triples: usize) -> bool
+    ensures { λ r. ⌜ r ≡ lengthsAsked inputs shares triples ⌝ }
+{
+    if shares != inputs {
+        return false;
+    }
+    triples % 3 == 0
+}
+
 // Whether shares and triples are bits, and the far bits of a run that waits.
 fn bits_asked(asked: Asked, shares: &[u8], triples: &[u8]) -> bool
     ensures { λ r. ⌜ r ≡ bitsAsked asked (now (shares .entry)) (now (triples .entry)) ⌝ }
@@ -48,16 +58,6 @@ fn is_role(role: u8) -> bool
     role == 2
 }
 
-// Whether shares are one an input, and triple bits three each.
-fn lengths_asked(inputs: usize, shares: usize, triples: usize) -> bool
-    ensures { λ r. ⌜ r ≡ lengthsAsked inputs shares triples ⌝ }
-{
-    if shares != inputs {
-        return false;
-    }
-    triples % 3 == 0
-}
-
 // The number of a step, with room for an output of `room` bytes.
 pub fn step_number(
     front: Front,
@@ -69,12 +69,6 @@ pub fn step_number(
 ) -> u32
     ensures { λ r. ⌜ r ≡ askedNumber front admitted asked (now (shares .entry)) (now (triples .entry)) room ⌝ }
 {
-    if !admitted {
-        return BAD_CIRCUIT;
-    }
-    if !is_role(asked.role) {
-        return WRONG_END;
-    }
     if !lengths_asked(front.inputs, shares.len(), triples.len()) {
         return BAD_LENGTH;
     }
@@ -86,6 +80,12 @@ pub fn step_number(
     }
     if triples.len() / 3 < front.ands {
         return TOO_FEW_TRIPLES;
+    }
+    if !admitted {
+        return BAD_CIRCUIT;
+    }
+    if !is_role(asked.role) {
+        return WRONG_END;
     }
     0
 }

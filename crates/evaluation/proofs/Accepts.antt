@@ -35,8 +35,6 @@ number-zero : (c : Circuit) (l : StepLent) (s : Run) → StepAdmitted c l s → 
 unfolding stepNumber
 number-zero c l s ok =
     rw (
-      state-true c (s .phase) (s .gate) (ok .phase) (ok .gate),
-      ok .role,
       eq-eqb (length (l .shares)) (c .inputs) (ok .shares),
       eq-eqb (length (l .triples) % 3) 0 (ok .triples),
       le-ltb (length (l .output)) (length (c .outputs)) (ok .room),
@@ -44,6 +42,8 @@ number-zero c l s ok =
       above-none 1 (l .triples) (ok .triple-bits),
       far-true l s (ok .far),
       le-ltb (length (l .triples) / 3) (andsIn (c .gates)) (omega (arith, ok .enough)),
+      state-true c (s .phase) (s .gate) (ok .phase) (ok .gate),
+      ok .role,
     )
 
 step-zero : (c : Circuit) (l : StepLent) (s : Run) → readCircuit (l .circuit) ≡ Whole c → stepNumber c l s ≡ 0 → step l s .number ≡ 0
@@ -57,9 +57,6 @@ was-admitted : {c : Circuit} {l : StepLent} {s : Run} → Took c l s → StepAdm
 was-admitted {c} {l} {s} t =
     let p = passes c l s (t .number) in
     record {
-      phase = state-phase c (s .phase) (s .gate) (p .state);
-      gate = state-and c (s .phase) (s .gate) (p .state);
-      role = p .role;
       shares = p .one-each;
       triples = p .three-each;
       room = p .room;
@@ -67,6 +64,9 @@ was-admitted {c} {l} {s} t =
       triple-bits = λ k h. p .triple-bits k;
       far = λ e. p .far (eq-eqb (s .phase) 1 e);
       enough = p .enough;
+      phase = state-phase c (s .phase) (s .gate) (p .state);
+      gate = state-and c (s .phase) (s .gate) (p .state);
+      role = p .role;
     }
 
 -- a state that an accepted step left is fresh no more, and waits at an AND or has finished
@@ -97,9 +97,6 @@ goes-on l l′ s e circuit role shares triples room first second =
     step-zero c l′ (step l s .state) (ap readCircuit circuit ∙ t .1 .read)
     (number-zero c l′ (step l s .state)
     (record {
-      phase = left .0;
-      gate = left .1;
-      role = ap isRole role ∙ ok .role;
       shares = ap length shares ∙ ok .shares;
       triples = ap (λ (x : List ℕ). length x % 3) triples ∙ ok .triples;
       room = omega (arith, ok .room);
@@ -107,6 +104,9 @@ goes-on l l′ s e circuit role shares triples room first second =
       triple-bits = λ k h. subst (λ (x : List ℕ). getD x k 0 ≤ 1) (sym triples) (ok .triple-bits k (omega (arith, ap length triples)));
       far = λ _. (first, second);
       enough = omega (arith, ok .enough, ap length triples);
+      phase = left .0;
+      gate = left .1;
+      role = ap isRole role ∙ ok .role;
     }))
 
 -- document 02, 9: which steps are accepted

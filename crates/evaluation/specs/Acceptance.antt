@@ -12,12 +12,9 @@ use Rattle.pads.specs.Bytes.{Bits}
 use Rattle.circuit_run.specs.Step.{StepLent, gateAt, isRole, step}
 use Rattle.circuit_run.specs.declared.Run.{Run}
 
--- a state that is fresh, finished, or waits at an AND; role 1 or 2; shares one an input and triples three bits each, a triple for each
--- AND, all of them bits; room for the outputs; far bits that are bits, where they are read
+-- shares one an input, and triples three bits each; room for the outputs; shares and triples that are bits, and far bits, where they are
+-- read; a triple for each AND; a phase of 0 to 2 and, in phase 1, an AND at the gate; role 1 or 2
 pub record StepAdmitted (c : Circuit) (l : StepLent) (s : Run) : Type 0 where
-  pub phase : s .phase ≤ 2
-  pub gate : s .phase ≡ 1 → isAnd (gateAt c (s .gate)) ≡ true
-  pub role : isRole (l .role) ≡ true
   pub shares : length (l .shares) ≡ c .inputs
   pub triples : length (l .triples) % 3 ≡ 0
   pub room : length (c .outputs) ≤ length (l .output)
@@ -25,6 +22,9 @@ pub record StepAdmitted (c : Circuit) (l : StepLent) (s : Run) : Type 0 where
   pub triple-bits : Bits (length (l .triples)) (l .triples)
   pub far : s .phase ≡ 1 → (l .farFirst ≤ 1) × (l .farSecond ≤ 1)
   pub enough : andsIn (c .gates) * 3 ≤ length (l .triples)
+  pub phase : s .phase ≤ 2
+  pub gate : s .phase ≡ 1 → isAnd (gateAt c (s .gate)) ≡ true
+  pub role : isRole (l .role) ≡ true
 
 pub record StepAcceptance : Type 0 where
   -- a step on a circuit that is read is accepted exactly if it is admitted

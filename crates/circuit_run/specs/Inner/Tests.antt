@@ -23,10 +23,10 @@ lengthsAsked inputs shares triples = eqb shares inputs && eqb (triples % 3) 0
 -- the number, whether the state is admitted being known
 unfoldable pub askedNumber : Front → Bool → Asked → List ℕ → List ℕ → ℕ → ℕ
 askedNumber f admitted a shares triples room =
-    choose (not admitted) badCircuit
-    (choose (not (isRole (a .role))) wrongEnd
-    (choose (not (lengthsAsked (f .inputs) (length shares) (length triples))) badLength
+    choose (not (lengthsAsked (f .inputs) (length shares) (length triples))) badLength
     (choose (ltb room (f .outputs)) bufferShort
     (choose (not (bitsAsked a shares triples)) notElement
     (choose (ltb (length triples / 3) (f .ands)) tooFewTriples
+    (choose (not admitted) badCircuit
+    (choose (not (isRole (a .role))) wrongEnd
     accepted)))))
