@@ -128,7 +128,7 @@ extern "C" {
 #define EXPANDER_NO_CALLER 14u       /* no such caller */
 #define EXPANDER_SHARE_SPENT 15u     /* the caller's remaining share is under count */
 #define EXPANDER_SHARES_ABOVE 16u    /* shares, or what is left of them, sum above n */
-#define EXPANDER_BAD_CIRCUIT 17u     /* size, kind, wire or state not admitted */
+#define EXPANDER_BAD_CIRCUIT 17u     /* size, kind or wire not admitted; phase above 2, 1 at no AND */
 #define EXPANDER_TOO_FEW_TRIPLES 18u /* fewer triples than AND gates */
 #define EXPANDER_AMOUNT_OUT_OF_RANGE 19u /* amount below -(2^60 - 1) or above 2^60 - 1 */
 #define EXPANDER_LABEL_NOT_ABOVE 20u /* label not above the one in use */

@@ -9,7 +9,7 @@ accepted = 0
 abbrev pub badField : ℕ
 badField = 1
 
--- d, t, ℓ or n outside its range; 0 or more than eight callers of a stock
+-- d, g, t, ℓ or n outside its range (another g than 1, 2 and 3, or a d that is no multiple of g); 0 or more than eight callers of a stock
 abbrev pub badSize : ℕ
 badSize = 2
 
@@ -72,7 +72,7 @@ shareSpent = 15
 abbrev pub sharesAbove : ℕ
 sharesAbove = 16
 
--- a size, kind or wire of a circuit that is not admitted; a state that waits at no AND of the circuit
+-- a size, kind or wire of a circuit that is not admitted; a state with a phase above 2, or phase 1 at no AND of the circuit
 abbrev pub badCircuit : ℕ
 badCircuit = 17
 

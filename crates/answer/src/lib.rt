@@ -5,7 +5,7 @@
 
 // Field byte not 1 or 2.
 pub const BAD_FIELD: u32 = 1;
-// d, t, ℓ or n outside its range.
+// d, g, t, ℓ or n outside its range.
 pub const BAD_SIZE: u32 = 2;
 // An input slice not exactly the length that the sizes or the count call for.
 pub const BAD_LENGTH: u32 = 3;
@@ -38,7 +38,7 @@ pub const NO_CALLER: u32 = 14;
 pub const SHARE_SPENT: u32 = 15;
 // Shares sum above n.
 pub const SHARES_ABOVE: u32 = 16;
-// A size, kind or wire of a circuit that is not admitted, or a state that no step left.
+// A size, kind or wire of a circuit that is not admitted; a state with a phase above 2, or phase 1 at no AND.
 pub const BAD_CIRCUIT: u32 = 17;
 // Fewer triples than AND gates.
 pub const TOO_FEW_TRIPLES: u32 = 18;
