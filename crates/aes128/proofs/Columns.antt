@@ -1,5 +1,5 @@
 -- Blocks of two words as columns of bytes. Assumes nothing.
-use mathlib.Core.Path.{_≡_, _∙_, sym, ap, ap₂}
+use mathlib.Core.Path.{_≡_, _∙_, sym, ap}
 use mathlib.Core.List.{List, [], _∷_}
 use Prim.Native.Nat.{ℕ, zero, suc, _+_, _*_, _/_, _%_, _^_, _<_}
 use native.Mathlib.Omega.{arith}
@@ -8,7 +8,7 @@ use lib.Dec.{lit<}
 use lib.ListN.{length, getD, take, drop}
 use lib.Pow.{shr-shr}
 use Rattle.field.specs.Bytes.{leNumber, leBytes, columnsOf, fourAt, lowOf, highOf}
-use Rattle.field.proofs.ByteWords.{leNumber-leBytes-word, leBytes-leNumber}
+use Rattle.field.proofs.ByteWords.{leBytes-leNumber}
 use Rattle.aes128.specs.State.{column, xorWord, xorState}
 use Rattle.aes128.specs.Inner.Blocks.{IsHalf}
 use Rattle.aes128.specs.Inner.Sizes.{IsWord, IsState}
@@ -36,23 +36,6 @@ columns-xor a b x y =
 quarters : (x : ℕ) → x / 256 / 256 / 256 / 256 ≡ x / 4294967296
 quarters x =
     ap (λ (v : ℕ). v / 256 / 256) (shr-shr x 8 8) ∙ ap (λ (v : ℕ). v / 256) (shr-shr x 16 8) ∙ shr-shr x 24 8
-
--- a word, from its halves' bytes
-joined : {x : ℕ} {a b : List ℕ} → x < 2 ^ 64 → leBytes 4 x ≡ a → leBytes 4 (x / 4294967296) ≡ b → x ≡ leNumber (fourAt a 0 (fourAt b 0 []))
-unfolding leBytes
-joined {x} {a} {b} h e f =
-    sym (leNumber-leBytes-word x h)
-    ∙ ap (λ (v : ℕ). leNumber (x % 256 ∷ x / 256 % 256 ∷ x / 256 / 256 % 256 ∷ x / 256 / 256 / 256 % 256 ∷ leBytes 4 v)) (quarters x)
-    ∙ ap₂ (λ (p q : List ℕ). leNumber (fourAt p 0 (fourAt q 0 []))) e f
-
--- a block's words, from their halves' bytes
-pub low-of : {x : ℕ} (s : List (List ℕ)) → x < 2 ^ 64 → leBytes 4 x ≡ column s 0 → leBytes 4 (x / 4294967296) ≡ column s 1 → x ≡ lowOf s
-unfolding lowOf
-low-of s h e f = joined h e f
-
-pub high-of : {x : ℕ} (s : List (List ℕ)) → x < 2 ^ 64 → leBytes 4 x ≡ column s 2 → leBytes 4 (x / 4294967296) ≡ column s 3 → x ≡ highOf s
-unfolding highOf
-high-of s h e f = joined h e f
 
 module _ {a b : List ℕ} (ha : IsWord a) (hb : IsWord b) where
   abbrev eight : List ℕ

@@ -1,19 +1,17 @@
--- The last round on words. Assumes nothing.
+-- The last round: its columns two to a word. Assumes nothing.
 use mathlib.Core.Path.{_≡_, refl, _∙_, ap}
 use mathlib.Core.List.{List, [], _∷_}
 use Prim.Native.Nat.{ℕ, _+_, _*_, _/_, _%_, _^_, _<_}
 use native.Mathlib.Omega.{arith}
-use lib.Bits.{bitXor, xor-comm, xor-shifted, xor-shr, xor-lt, xor-zero-r}
-use Rattle.field.specs.Binary.{block, blockOf}
-use Rattle.field.specs.Bytes.{leBytes, columnsOf, lowOf, highOf}
-use Rattle.field.proofs.BinaryField.{block-eq}
+use lib.Bits.{bitXor, xor-comm, xor-shifted, xor-shr, xor-zero-r}
+use Rattle.field.specs.Bytes.{leBytes, columnsOf}
 use Rattle.sbox.specs.Byte.{sBox}
 use Rattle.sbox.proofs.Bounds.{sbox-lt}
 use Rattle.aes128.specs.State.{xorWord, xorState}
 use Rattle.aes128.specs.Inner.Blocks.{IsHalf, LastWord}
 use Rattle.aes128.proofs.Words.{four-eq}
 use Rattle.aes128.proofs.Wide.{xor-swap}
-use Rattle.aes128.proofs.Columns.{le-xor, half-made, low-of, high-of}
+use Rattle.aes128.proofs.Columns.{le-xor, half-made}
 
 apart : (x k r : ℕ) → r < 2 ^ k → bitXor r (x * 2 ^ k) ≡ x * 2 ^ k + r
 apart x k r h = xor-comm r (x * 2 ^ k) ∙ xor-shifted x k r h
@@ -37,7 +35,7 @@ last-column a b x y ea eb ex ey =
     let h = half-made {l = sBox a ∷ sBox b ∷ sBox x ∷ sBox y ∷ []} refl (refl, sbox-lt a) (refl, sbox-lt b) (refl, sbox-lt x) (refl, sbox-lt y) in
     rw (ea, eb, ex, ey, e) h
 
-module _ {k c0 c1 : ℕ} (hk : k < 2 ^ 64) (h0 : c0 < 2 ^ 32) (h1 : c1 < 2 ^ 32) where
+module _ (k : ℕ) {c0 c1 : ℕ} (h0 : c0 < 2 ^ 32) (h1 : c1 < 2 ^ 32) where
   abbrev sum : ℕ
   sum = bitXor (bitXor k c0) (c1 * 2 ^ 32)
 
@@ -64,12 +62,7 @@ module _ {k c0 c1 : ℕ} (hk : k < 2 ^ 64) (h0 : c0 < 2 ^ 32) (h1 : c1 < 2 ^ 32)
       ∙ rw (o, xor-shr k c0 32, z, xor-zero-r (k / 2 ^ 32)) (xor-comm (k / 2 ^ 32) c1)
 
   sum-is : LastWord k (leBytes 4 c0) (leBytes 4 c1) sum
-  sum-is =
-      record {
-        low = low-sum;
-        high = ap (leBytes 4) high-sum ∙ le-xor c1 (k / 2 ^ 32);
-        below = xor-lt 64 _ _ (xor-lt 64 k c0 hk (omega arith)) (omega arith);
-      }
+  sum-is = record { low = low-sum; high = ap (leBytes 4) high-sum ∙ le-xor c1 (k / 2 ^ 32) }
 
   -- a word of the last round, as the code computes it
   pub last-word : LastWord k (leBytes 4 c0) (leBytes 4 c1) (bitXor (bitXor k c0) (c1 * 2 ^ 32 % 2 ^ 64))
@@ -77,23 +70,13 @@ module _ {k c0 c1 : ℕ} (hk : k < 2 ^ 64) (h0 : c0 < 2 ^ 32) (h1 : c1 < 2 ^ 32)
       let e : c1 * 2 ^ 32 % 2 ^ 64 ≡ c1 * 2 ^ 32 = omega arith in
       rw e sum-is
 
--- the words of the last round, from its columns
-pub last-low : {k c0 c1 x : ℕ} {w0 w1 : List ℕ} (w2 w3 : List ℕ) (h : ℕ) → IsHalf c0 w0 → IsHalf c1 w1 → LastWord k (leBytes 4 c0) (leBytes 4 c1) x
-    → x ≡ lowOf (xorState (w0 ∷ w1 ∷ w2 ∷ w3 ∷ []) (columnsOf k h))
-unfolding xorState columnsOf
-last-low {k} w2 w3 h e0 e1 e =
-    low-of _ (e .below) (e .low ∙ ap (λ w. xorWord w (leBytes 4 k)) (e0 .bytes))
-    (e .high ∙ ap (λ w. xorWord w (leBytes 4 (k / 2 ^ 32))) (e1 .bytes))
-
-pub last-high : {h c2 c3 x : ℕ} {w2 w3 : List ℕ} (w0 w1 : List ℕ) (k : ℕ) → IsHalf c2 w2 → IsHalf c3 w3 → LastWord h (leBytes 4 c2) (leBytes 4 c3) x
-    → x ≡ highOf (xorState (w0 ∷ w1 ∷ w2 ∷ w3 ∷ []) (columnsOf k h))
-unfolding xorState columnsOf
-last-high {h} w0 w1 k e2 e3 e =
-    high-of _ (e .below) (e .low ∙ ap (λ w. xorWord w (leBytes 4 h)) (e2 .bytes))
-    (e .high ∙ ap (λ w. xorWord w (leBytes 4 (h / 2 ^ 32))) (e3 .bytes))
-
--- its block
-pub last-block : {k h c0 c1 c2 c3 x y : ℕ} {w0 w1 w2 w3 : List ℕ} → IsHalf c0 w0 → IsHalf c1 w1 → IsHalf c2 w2 → IsHalf c3 w3
+-- the state after the last round, from its four columns in two words
+pub last-state : {k h c0 c1 c2 c3 x y : ℕ} {w0 w1 w2 w3 : List ℕ} → IsHalf c0 w0 → IsHalf c1 w1 → IsHalf c2 w2 → IsHalf c3 w3
     → LastWord k (leBytes 4 c0) (leBytes 4 c1) x → LastWord h (leBytes 4 c2) (leBytes 4 c3) y
-    → block x y ≡ blockOf (xorState (w0 ∷ w1 ∷ w2 ∷ w3 ∷ []) (columnsOf k h))
-last-block {k} {h} e0 e1 e2 e3 ex ey = block-eq (last-low _ _ h e0 e1 ex) (last-high _ _ k e2 e3 ey)
+    → columnsOf x y ≡ xorState (w0 ∷ w1 ∷ w2 ∷ w3 ∷ []) (columnsOf k h)
+unfolding xorState columnsOf
+last-state {k} {h} e0 e1 e2 e3 ex ey =
+    four-eq (ex .low ∙ ap (λ w. xorWord w (leBytes 4 k)) (e0 .bytes))
+    (ex .high ∙ ap (λ w. xorWord w (leBytes 4 (k / 2 ^ 32))) (e1 .bytes))
+    (ey .low ∙ ap (λ w. xorWord w (leBytes 4 h)) (e2 .bytes))
+    (ey .high ∙ ap (λ w. xorWord w (leBytes 4 (h / 2 ^ 32))) (e3 .bytes))

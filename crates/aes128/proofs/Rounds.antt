@@ -30,11 +30,11 @@ module _ (words : List ℕ) (b : Block) where
   abbrev state : List (List ℕ)
   state = columnsOf (b .low) (b .high)
 
-  pub ten-rounds : {a0 a1 a2 a3 a4 a5 a6 a7 a8 a9 : List (List ℕ)} {r : Block}
+  pub ten-rounds : {a0 a1 a2 a3 a4 a5 a6 a7 a8 a9 a10 : List (List ℕ)} {r : Block}
       → a0 ≡ addRoundKey state (blockKey words 0) → a1 ≡ roundOf a0 (wideKey words 2) → a2 ≡ roundOf a1 (wideKey words 6)
       → a3 ≡ roundOf a2 (wideKey words 10) → a4 ≡ roundOf a3 (wideKey words 14) → a5 ≡ roundOf a4 (wideKey words 18)
       → a6 ≡ roundOf a5 (wideKey words 22) → a7 ≡ roundOf a6 (wideKey words 26) → a8 ≡ roundOf a7 (wideKey words 30)
-      → a9 ≡ roundOf a8 (wideKey words 34) → r ≡ blockOf (addRoundKey (shiftRows (subBytes a9)) (blockKey words 38))
-      → r ≡ cipherOf words b
+      → a9 ≡ roundOf a8 (wideKey words 34) → a10 ≡ addRoundKey (shiftRows (subBytes a9)) (blockKey words 38)
+      → r ≡ blockOf a10 → r ≡ cipherOf words b
   unfolding roundKeys rounds cipher
-  ten-rounds e0 e1 e2 e3 e4 e5 e6 e7 e8 e9 e = e ∙ rw (e9, e8, e7, e6, e5, e4, e3, e2, e1, e0)
+  ten-rounds e0 e1 e2 e3 e4 e5 e6 e7 e8 e9 e10 e = e ∙ rw (e10, e9, e8, e7, e6, e5, e4, e3, e2, e1, e0)

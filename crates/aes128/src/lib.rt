@@ -10,9 +10,7 @@ mod round;
 pub use key::schedule;
 pub use round::first_key;
 pub use round::full_round;
-pub use round::last_column;
 pub use round::last_round;
-pub use round::last_word;
 pub use round::rows;
 
 // Two blocks.
@@ -36,7 +34,8 @@ pub fn encrypt(tables: &[u64; 1536], keys: &[u64; 40], s: Block) -> Block
     let a7 = full_round(tables, a6, keys, 26);
     let a8 = full_round(tables, a7, keys, 30);
     let a9 = full_round(tables, a8, keys, 34);
-    last_round(tables, a9, keys)
+    let a10 = last_round(tables, a9, keys);
+    Block::of_columns(a10)
 }
 
 // The ciphers of two blocks, each under round keys of its own, in alternation.
@@ -73,7 +72,7 @@ pub fn encrypt_two(
     let a10 = last_round(tables, a9, first_keys);
     let b10 = last_round(tables, b9, second_keys);
     TwoBlocks {
-        first: a10,
-        second: b10,
+        first: Block::of_columns(a10),
+        second: Block::of_columns(b10),
     }
 }

@@ -2,7 +2,6 @@
 ghost use mathlib.Core.Path.{_≡_};
 ghost use mathlib.Core.List.{[], _∷_};
 ghost use Prim.Native.Nat.{_+_, _^_, _<_, _≤_};
-ghost use Rattle.field.specs.Binary.{blockOf};
 ghost use Rattle.field.specs.Bytes.{leBytes, columnsOf};
 ghost use Rattle.sbox.specs.Byte.{sBox};
 ghost use Rattle.sbox.specs.Wide.{wideRows};
@@ -57,7 +56,7 @@ pub fn full_round(
 }
 
 // A column of the last round without its round key, as the four low bytes of a word.
-pub fn last_column(tables: &[u64; 1536], a: u8, b: u8, c: u8, d: u8) -> u64
+fn last_column(tables: &[u64; 1536], a: u8, b: u8, c: u8, d: u8) -> u64
     requires { ⌜ RoundTables (now tables) ⌝ }
     ensures { λ r. ⌜ IsHalf r (sBox a ∷ sBox b ∷ sBox c ∷ sBox d ∷ []) ⌝ }
 {
@@ -68,7 +67,7 @@ pub fn last_column(tables: &[u64; 1536], a: u8, b: u8, c: u8, d: u8) -> u64
 }
 
 // The exclusive or of a word and of the word whose halves are two columns.
-pub fn last_word(k: u64, c0: u64, c1: u64) -> u64
+fn last_word(k: u64, c0: u64, c1: u64) -> u64
     requires { ⌜ (c0 < 2 ^ 32) × (c1 < 2 ^ 32) ⌝ }
     ensures { λ r. ⌜ LastWord k (leBytes 4 c0) (leBytes 4 c1) r ⌝ }
 {
@@ -76,18 +75,19 @@ pub fn last_word(k: u64, c0: u64, c1: u64) -> u64
 }
 
 // The last round, which has no MixColumns.
-pub fn last_round(tables: &[u64; 1536], s: [[u8; 4]; 4], keys: &[u64; 40]) -> Block
+pub fn last_round(tables: &[u64; 1536], s: [[u8; 4]; 4], keys: &[u64; 40]) -> [[u8; 4]; 4]
     requires { ⌜ RoundTables (now tables) ⌝ }
-    ensures { λ r. ⌜ r ≡ blockOf (addRoundKey (shiftRows (subBytes s)) (blockKey (now (keys .entry)) 38)) ⌝ }
+    ensures { λ r. ⌜ r ≡ addRoundKey (shiftRows (subBytes s)) (blockKey (now (keys .entry)) 38) ⌝ }
 {
     let c0 = last_column(tables, s[0][0], s[1][1], s[2][2], s[3][3]);
     let c1 = last_column(tables, s[1][0], s[2][1], s[3][2], s[0][3]);
     let c2 = last_column(tables, s[2][0], s[3][1], s[0][2], s[1][3]);
     let c3 = last_column(tables, s[3][0], s[0][1], s[1][2], s[2][3]);
-    Block {
+    let t = Block {
         low: last_word(keys[38], c0, c1),
         high: last_word(keys[39], c2, c3),
-    }
+    };
+    t.columns()
 }
 
 // The first AddRoundKey, of a block.

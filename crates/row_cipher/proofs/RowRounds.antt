@@ -7,7 +7,7 @@ use lib.Bits.{bitXor, xor-mod}
 use lib.Dec.{lit<}
 use lib.ListN.{getD}
 use Rattle.field.specs.Binary.{block, blockOf}
-use Rattle.field.specs.Bytes.{leBytes, columnsOf, lowOf}
+use Rattle.field.specs.Bytes.{leBytes, columnsOf}
 use Rattle.field.specs.declared.block.Block.{Block}
 use Rattle.sbox.specs.Wide.{wideRows}
 use Rattle.sbox.specs.Inner.Tables.{RoundTables}
@@ -68,13 +68,8 @@ module _ (keys : List ℕ) (x i : ℕ) where
   unfolding rounds roundKeys
   nine-rounds e2 e3 e4 e5 e6 e7 e8 e9 = e9 ∙ rw (e8, e7, e6, e5, e4, e3, e2)
 
-  -- the last round: its first word, and all of it
-  pub low-word : {s : List (List ℕ)} {r : ℕ} → s ≡ rowState keys 9 x i
-      → r ≡ lowOf (addRoundKey (shiftRows (subBytes s)) (blockKey keys 38)) → r ≡ lowOf (cipher (roundKeys keys) (columnsOf x i))
+  -- the last round and its block
+  pub whole-block : {s t : List (List ℕ)} {r : Block} → s ≡ rowState keys 9 x i
+      → t ≡ addRoundKey (shiftRows (subBytes s)) (blockKey keys 38) → r ≡ blockOf t → r ≡ cipherOf keys (block x i)
   unfolding cipher roundKeys
-  low-word e f = f ∙ rw e
-
-  pub whole-block : {s : List (List ℕ)} {r : Block} → s ≡ rowState keys 9 x i
-      → r ≡ blockOf (addRoundKey (shiftRows (subBytes s)) (blockKey keys 38)) → r ≡ cipherOf keys (block x i)
-  unfolding cipher roundKeys
-  whole-block e f = f ∙ rw e
+  whole-block e f g = g ∙ rw (f, e)

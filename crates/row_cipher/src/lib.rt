@@ -3,20 +3,15 @@ ghost use mathlib.Core.Path.{_≡_};
 ghost use Prim.Native.Nat.{_+_, _<_, _≤_};
 ghost use lib.ListN.{getD};
 ghost use Rattle.field.specs.Binary.{block};
-ghost use Rattle.field.specs.Bytes.{lowOf};
 ghost use Rattle.sbox.specs.Wide.{wideRows};
 ghost use Rattle.sbox.specs.Inner.Tables.{RoundTables, mixed0, mixed1, mixed2, mixed3};
 ghost use Rattle.aes128.specs.State.{xorWord};
-ghost use Rattle.aes128.specs.Cipher.{subBytes, shiftRows, addRoundKey};
-ghost use Rattle.aes128.specs.Words.{blockKey};
 ghost use Rattle.aes128.specs.Inner.Blocks.{cipherOf};
 ghost use Rattle.row_cipher.specs.Inner.Row.{mixedColumn, Lacks, rowState, IsShared};
 use aes128::TwoBlocks;
 use aes128::first_key;
 use aes128::full_round;
-use aes128::last_column;
 use aes128::last_round;
-use aes128::last_word;
 use aes128::rows;
 use field::Block;
 
@@ -105,16 +100,6 @@ fn second_round(tables: &[u64; 1536], keys: &[u64; 40], shared: Shared, i: u64) 
     [d0, d1, d2, d3]
 }
 
-// The first word of the last round.
-fn last_low(tables: &[u64; 1536], s: [[u8; 4]; 4], keys: &[u64; 40]) -> u64
-    requires { ⌜ RoundTables (now tables) ⌝ }
-    ensures { λ r. ⌜ r ≡ lowOf (addRoundKey (shiftRows (subBytes s)) (blockKey (now (keys .entry)) 38)) ⌝ }
-{
-    let c0 = last_column(tables, s[0][0], s[1][1], s[2][2], s[3][3]);
-    let c1 = last_column(tables, s[1][0], s[2][1], s[3][2], s[0][3]);
-    last_word(keys[38], c0, c1)
-}
-
 // The first words of the ciphers of the blocks of x and i, and of x and i + 1, in alternation.
 pub fn two_words(tables: &[u64; 1536], keys: &[u64; 40], shared: Shared, i: u64) -> TwoWords
     requires { ⌜ RoundTables (now tables) × IsShared (now keys) shared × (i + 1 < 256) ⌝ }
@@ -137,11 +122,11 @@ pub fn two_words(tables: &[u64; 1536], keys: &[u64; 40], shared: Shared, i: u64)
     let b8 = full_round(tables, b7, keys, 30);
     let a9 = full_round(tables, a8, keys, 34);
     let b9 = full_round(tables, b8, keys, 34);
-    let a10 = last_low(tables, a9, keys);
-    let b10 = last_low(tables, b9, keys);
+    let a10 = last_round(tables, a9, keys);
+    let b10 = last_round(tables, b9, keys);
     TwoWords {
-        first: a10,
-        second: b10,
+        first: Block::of_columns(a10).low,
+        second: Block::of_columns(b10).low,
     }
 }
 
@@ -170,7 +155,7 @@ pub fn two_blocks(tables: &[u64; 1536], keys: &[u64; 40], shared: Shared, i: u64
     let a10 = last_round(tables, a9, keys);
     let b10 = last_round(tables, b9, keys);
     TwoBlocks {
-        first: a10,
-        second: b10,
+        first: Block::of_columns(a10),
+        second: Block::of_columns(b10),
     }
 }

@@ -20,8 +20,10 @@ encrypt-spec =
     (λ c κs. (c .before .before .before .before .before .before .before .before .pre, omega arith))  -- full-round-requires-8
     (λ c κs. (c .before .before .before .before .before .before .before .before .before .pre, omega arith))  -- full-round-requires-9
     (λ c κs. c .before .before .before .before .before .before .before .before .before .before .pre)  -- last-round-requires
+    (λ c κs. search needs)  -- of-columns-requires
     (λ c.
-    let r10 = c .before in
+    let last = c .before in
+    let r10 = last .before in
     let r9 = r10 .before in
     let r8 = r9 .before in
     let r7 = r8 .before in
@@ -31,5 +33,5 @@ encrypt-spec =
     let r3 = r4 .before in
     let r2 = r3 .before in
     let r1 = r2 .before in
-    ten-rounds _ _ (r1 .first-key .ensures) (r2 .full-round .ensures) (r3 .full-round2 .ensures) (r4 .full-round3 .ensures) (r5 .full-round4 .ensures) (r6 .full-round5 .ensures) (r7 .full-round6 .ensures) (r8 .full-round7 .ensures) (r9 .full-round8 .ensures) (r10 .full-round9 .ensures) (c .last-round .ensures))  -- returns
+    ten-rounds _ _ (r1 .first-key .ensures) (r2 .full-round .ensures) (r3 .full-round2 .ensures) (r4 .full-round3 .ensures) (r5 .full-round4 .ensures) (r6 .full-round5 .ensures) (r7 .full-round6 .ensures) (r8 .full-round7 .ensures) (r9 .full-round8 .ensures) (r10 .full-round9 .ensures) (last .last-round .ensures) (c .of-columns .ensures))  -- returns
     )

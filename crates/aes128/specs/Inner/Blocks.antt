@@ -22,4 +22,3 @@ pub record IsHalf (x : ℕ) (column : List ℕ) : Type 0 where
 pub record LastWord (k : ℕ) (first second : List ℕ) (x : ℕ) : Type 0 where
   pub low : leBytes 4 x ≡ xorWord first (leBytes 4 k)
   pub high : leBytes 4 (x / 2 ^ 32) ≡ xorWord second (leBytes 4 (k / 2 ^ 32))
-  pub below : x < 2 ^ 64

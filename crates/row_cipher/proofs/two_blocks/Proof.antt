@@ -28,8 +28,12 @@ two-blocks-spec =
     (λ c κs. (c .before .before .before .before .before .before .before .before .before .before .before .before .before .before .before .pre .0, omega arith))  -- full-round-requires-14
     (λ c κs. c .before .before .before .before .before .before .before .before .before .before .before .before .before .before .before .before .pre .0)  -- last-round-requires
     (λ c κs. c .before .before .before .before .before .before .before .before .before .before .before .before .before .before .before .before .before .pre .0)  -- last-round-requires-2
+    (λ c κs. search needs)  -- of-columns-requires
+    (λ c κs. search needs)  -- of-columns-requires-2
     (λ c.
-    let a10 = c .before in
+    let first = c .before in
+    let b10 = first .before in
+    let a10 = b10 .before in
     let b9 = a10 .before in
     let a9 = b9 .before in
     let b8 = a9 .before in
@@ -46,7 +50,7 @@ two-blocks-spec =
     let a3 = b3 .before in
     let b2 = a3 .before in
     let a2 = b2 .before in (
-      whole-block _ _ _ (nine-rounds _ _ _ (a2 .second-round .ensures) (a3 .full-round .ensures) (a4 .full-round3 .ensures) (a5 .full-round5 .ensures) (a6 .full-round7 .ensures) (a7 .full-round9 .ensures) (a8 .full-round11 .ensures) (a9 .full-round13 .ensures)) (a10 .last-round .ensures),
-      whole-block _ _ _ (nine-rounds _ _ _ (b2 .second-round2 .ensures) (b3 .full-round2 .ensures) (b4 .full-round4 .ensures) (b5 .full-round6 .ensures) (b6 .full-round8 .ensures) (b7 .full-round10 .ensures) (b8 .full-round12 .ensures) (b9 .full-round14 .ensures)) (c .last-round2 .ensures),
+      whole-block _ _ _ (nine-rounds _ _ _ (a2 .second-round .ensures) (a3 .full-round .ensures) (a4 .full-round3 .ensures) (a5 .full-round5 .ensures) (a6 .full-round7 .ensures) (a7 .full-round9 .ensures) (a8 .full-round11 .ensures) (a9 .full-round13 .ensures)) (a10 .last-round .ensures) (first .of-columns .ensures),
+      whole-block _ _ _ (nine-rounds _ _ _ (b2 .second-round2 .ensures) (b3 .full-round2 .ensures) (b4 .full-round4 .ensures) (b5 .full-round6 .ensures) (b6 .full-round8 .ensures) (b7 .full-round10 .ensures) (b8 .full-round12 .ensures) (b9 .full-round14 .ensures)) (b10 .last-round2 .ensures) (c .of-columns2 .ensures),
     ))  -- returns
     )

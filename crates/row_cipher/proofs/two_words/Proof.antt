@@ -1,7 +1,9 @@
--- `row_cipher::two_words` meets its contract: for each block rounds 3 to 9, then the first word of the last. Assumes nothing.
+-- `row_cipher::two_words` meets its contract: for each block rounds 3 to 9, then the last. Assumes nothing.
+use mathlib.Core.Path.{ap}
 use borrow.Author.Needs.{needs}
 use native.Mathlib.Omega.{arith}
-use Rattle.row_cipher.proofs.RowRounds.{nine-rounds, low-word}
+use Rattle.field.specs.declared.block.Block.{Block}
+use Rattle.row_cipher.proofs.RowRounds.{nine-rounds, whole-block}
 use Rattle.row_cipher.proofs.two_words.Statement.{statement}
 use Rattle.row_cipher.proofs.two_words.Tie as tie
 
@@ -26,10 +28,14 @@ two-words-spec =
     (λ c κs. (c .before .before .before .before .before .before .before .before .before .before .before .before .before .pre .0, omega arith))  -- full-round-requires-12
     (λ c κs. (c .before .before .before .before .before .before .before .before .before .before .before .before .before .before .pre .0, omega arith))  -- full-round-requires-13
     (λ c κs. (c .before .before .before .before .before .before .before .before .before .before .before .before .before .before .before .pre .0, omega arith))  -- full-round-requires-14
-    (λ c κs. c .before .before .before .before .before .before .before .before .before .before .before .before .before .before .before .before .pre .0)  -- last-low-requires
-    (λ c κs. c .before .before .before .before .before .before .before .before .before .before .before .before .before .before .before .before .before .pre .0)  -- last-low-requires-2
+    (λ c κs. c .before .before .before .before .before .before .before .before .before .before .before .before .before .before .before .before .pre .0)  -- last-round-requires
+    (λ c κs. c .before .before .before .before .before .before .before .before .before .before .before .before .before .before .before .before .before .pre .0)  -- last-round-requires-2
+    (λ c κs. search needs)  -- of-columns-requires
+    (λ c κs. search needs)  -- of-columns-requires-2
     (λ c.
-    let a10 = c .before in
+    let first = c .before in
+    let b10 = first .before in
+    let a10 = b10 .before in
     let b9 = a10 .before in
     let a9 = b9 .before in
     let b8 = a9 .before in
@@ -46,7 +52,7 @@ two-words-spec =
     let a3 = b3 .before in
     let b2 = a3 .before in
     let a2 = b2 .before in (
-      low-word _ _ _ (nine-rounds _ _ _ (a2 .second-round .ensures) (a3 .full-round .ensures) (a4 .full-round3 .ensures) (a5 .full-round5 .ensures) (a6 .full-round7 .ensures) (a7 .full-round9 .ensures) (a8 .full-round11 .ensures) (a9 .full-round13 .ensures)) (a10 .last-low .ensures),
-      low-word _ _ _ (nine-rounds _ _ _ (b2 .second-round2 .ensures) (b3 .full-round2 .ensures) (b4 .full-round4 .ensures) (b5 .full-round6 .ensures) (b6 .full-round8 .ensures) (b7 .full-round10 .ensures) (b8 .full-round12 .ensures) (b9 .full-round14 .ensures)) (c .last-low2 .ensures),
+      ap (λ (b : Block). b .low) (whole-block _ _ _ (nine-rounds _ _ _ (a2 .second-round .ensures) (a3 .full-round .ensures) (a4 .full-round3 .ensures) (a5 .full-round5 .ensures) (a6 .full-round7 .ensures) (a7 .full-round9 .ensures) (a8 .full-round11 .ensures) (a9 .full-round13 .ensures)) (a10 .last-round .ensures) (first .of-columns .ensures)),
+      ap (λ (b : Block). b .low) (whole-block _ _ _ (nine-rounds _ _ _ (b2 .second-round2 .ensures) (b3 .full-round2 .ensures) (b4 .full-round4 .ensures) (b5 .full-round6 .ensures) (b6 .full-round8 .ensures) (b7 .full-round10 .ensures) (b8 .full-round12 .ensures) (b9 .full-round14 .ensures)) (b10 .last-round2 .ensures) (c .of-columns2 .ensures)),
     ))  -- returns
     )

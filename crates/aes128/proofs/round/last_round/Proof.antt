@@ -1,7 +1,8 @@
 -- `aes128::round::last_round` meets its contract. Assumes nothing.
+use mathlib.Core.Path.{_∙_}
 use borrow.Author.Needs.{needs}
 use Rattle.aes128.specs.Cipher.{subBytes, shiftRows}
-use Rattle.aes128.proofs.Last.{last-block}
+use Rattle.aes128.proofs.Last.{last-state}
 use Rattle.aes128.proofs.round.last_round.Statement.{statement}
 use Rattle.aes128.proofs.round.last_round.Tie as tie
 
@@ -50,11 +51,13 @@ last-round-spec =
     (λ c κs. search needs)  -- last-word-requires
     (λ c. search needs)  -- element-copy-out-last-word-2
     (λ c κs. search needs)  -- last-word-requires-2
+    (λ c κs. search needs)  -- columns-requires
     (λ c.
-    let w1 = c .before .before in
+    let w2 = c .before in
+    let w1 = w2 .before .before in
     let r4 = w1 .before .before in
     let r3 = r4 .before .before .before .before .before in
     let r2 = r3 .before .before .before .before .before in
     let r1 = r2 .before .before .before .before .before in
-    last-block (r1 .last-column .ensures) (r2 .last-column2 .ensures) (r3 .last-column3 .ensures) (r4 .last-column4 .ensures) (w1 .last-word .ensures) (c .last-word2 .ensures))  -- returns
+    c .columns .ensures ∙ last-state (r1 .last-column .ensures) (r2 .last-column2 .ensures) (r3 .last-column3 .ensures) (r4 .last-column4 .ensures) (w1 .last-word .ensures) (w2 .last-word2 .ensures))  -- returns
     )

@@ -8,5 +8,5 @@ pub last-word-spec : {M : Type 1} → statement M
 last-word-spec =
     tie.close
     (tie.spec
-    (λ c. last-word (search needs) (search needs) (search needs))  -- returns
+    (λ c. last-word _ (search needs) (search needs))  -- returns
     )
