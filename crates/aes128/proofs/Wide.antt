@@ -2,8 +2,9 @@
 use mathlib.Core.Path.{_≡_, _∙_, sym, ap}
 use mathlib.Core.List.{List, [], _∷_}
 use Prim.Native.Nat.{ℕ, _+_, _*_, _/_, _%_, _^_, _<_}
+use native.Mathlib.Omega.{arith}
 use lib.Bits.{bitXor, xor-shr, xor-mod, xor-comm}
-use lib.ListN.{length, getD}
+use lib.ListN.{length}
 use Rattle.field.proofs.Xor.{xor-assoc}
 use Rattle.sbox.specs.Byte.{sBox}
 use Rattle.sbox.specs.Wide.{wideRows}
@@ -45,12 +46,12 @@ unfolding xorWord mixColumn
 mixed-column a b x y k ta tb tx ty ea eb ex ey =
     ap wideRows (ordered k ta tb tx ty) ∙ simp (wide-xor, ea, eb, ex, ey)
 
--- a wide column that is made of a column's four bytes
-pub wide-made : {a b x y : ℕ} {l : List ℕ} → length l ≡ 4 → (a ≡ getD l 0 0) × (a < 256) → (b ≡ getD l 1 0) × (b < 256)
-    → (x ≡ getD l 2 0) × (x < 256) → (y ≡ getD l 3 0) × (y < 256)
-    → wideRows (a + b * 2 ^ 24 + x * 2 ^ 32 + y * 2 ^ 56) ≡ l
-wide-made {a} {b} {x} {y} {l} e p q r s =
-    rows-of-column a b x y (p .1) (q .1) (r .1) (s .1) ∙ four-eq (p .0) (q .0) (r .0) (s .0) ∙ sym (is-four 0 l e)
+-- a wide column that is made of four bytes
+pub wide-made : {a b x y : ℕ} → a < 256 → b < 256 → x < 256 → y < 256
+    → wideRows (a + (b + x * 256) * 2 ^ 24 + y * 2 ^ 56) ≡ a ∷ b ∷ x ∷ y ∷ []
+wide-made {a} {b} {x} {y} p q r s =
+    let e : a + (b + x * 256) * 2 ^ 24 + y * 2 ^ 56 ≡ a + b * 2 ^ 24 + x * 2 ^ 32 + y * 2 ^ 56 = omega arith in
+    ap wideRows e ∙ rows-of-column a b x y p q r s
 
 -- a round key of four wide columns
 pub wide-key : (w0 w1 w2 w3 : ℕ) {k : List (List ℕ)} → length k ≡ 4 → wideRows w0 ≡ column k 0 → wideRows w1 ≡ column k 1

@@ -10,6 +10,7 @@ ghost use Rattle.aes128.specs.Cipher.{keyExpansion};
 ghost use Rattle.aes128.specs.Words.{wideKey, roundKeys};
 ghost use Rattle.aes128.specs.Inner.Blocks.{IsHalf};
 ghost use Rattle.aes128.specs.Inner.Steps.{nextKey};
+use crate::round::wide_of;
 use field::Block;
 
 // The S-box at a byte.
@@ -70,14 +71,11 @@ fn number(x: u8) -> u64
     x as u64
 }
 
-// The wide column of four bytes.
+// The wide column of a word.
 fn wide_column(a: [u8; 4]) -> u64
     ensures { λ r. ⌜ wideRows r ≡ a ⌝ }
 {
-    number(a[0])
-        + number(a[1]) * 0x100_0000
-        + number(a[2]) * 0x1_0000_0000
-        + number(a[3]) * 0x100_0000_0000_0000
+    wide_of(a[0], a[1], a[2], a[3])
 }
 
 // The wide columns of a round key.

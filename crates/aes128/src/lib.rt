@@ -12,6 +12,7 @@ pub use round::first_key;
 pub use round::full_round;
 pub use round::last_round;
 pub use round::rows;
+pub use round::wide_of;
 
 // Two blocks.
 pub struct TwoBlocks {

@@ -24,6 +24,13 @@ pub fn rows(w: u64) -> [u8; 4]
     ]
 }
 
+// The wide column of four bytes.
+pub fn wide_of(a: u8, b: u8, c: u8, d: u8) -> u64
+    ensures { λ r. ⌜ wideRows r ≡ a ∷ b ∷ c ∷ d ∷ [] ⌝ }
+{
+    (a as u64) + ((b as u64) + (c as u64) * 0x100) * 0x100_0000 + (d as u64) * 0x100_0000_0000_0000
+}
+
 // A column of a round: SubBytes and MixColumns of four bytes, and the round key's column.
 fn mix_column(tables: &[u64; 1536], a: u8, b: u8, c: u8, d: u8, k: u64) -> [u8; 4]
     requires { ⌜ RoundTables (now tables) ⌝ }

@@ -1,5 +1,5 @@
--- What the blocks of x and i have in common in the first two rounds, for one x and every i below 256: the words that are made for
--- x and 0 serve each i. Assumes nothing.
+-- What the blocks of x and i have in common in the first two rounds, for one x and every i below 256: the states that are made
+-- for x and 0 serve each i. Assumes nothing.
 use mathlib.Core.Path.{_≡_, refl, _∙_, sym, ap}
 use mathlib.Core.List.{List, [], _∷_}
 use Prim.Native.Nat.{ℕ, _+_, _/_, _%_, _<_}
@@ -15,7 +15,7 @@ use Rattle.sbox.specs.Inner.Tables.{RoundTables, mixed0, mixed1, mixed2, mixed3
 use Rattle.aes128.specs.State.{column, byteAt, xorWord, xorState}
 use Rattle.aes128.specs.Cipher.{subBytes, shiftRows, mixColumn, mixColumns, addRoundKey, rounds}
 use Rattle.aes128.specs.Words.{wideKey, blockKey, roundKeys}
-use Rattle.row_cipher.specs.Inner.Row.{mixedColumn, Lacks, rowState, IsShared}
+use Rattle.row_cipher.specs.Inner.Row.{mixedColumn, Lacks, rowState, firstOf, secondOf, IsShared}
 use Rattle.aes128.proofs.Words.{four-eq}
 use Rattle.aes128.proofs.Wide.{wide-xor}
 
@@ -42,29 +42,33 @@ unfolding mixColumn xorWord
 mix-sum a b c d = refl
 
 module _ {t : List ℕ} (tables : RoundTables t) (k : ℕ) where
-  pub lacks-row0 : {b c d : ℕ} → b < 256 → c < 256 → d < 256
-      → Lacks mixed0 (λ a. mixedColumn a b c d k) (bitXor (bitXor (bitXor k (getD t (256 + b) 0)) (getD t (512 + c) 0)) (getD t (768 + d) 0))
+  pub lacks-row0 : {b c d : ℕ} {w : List ℕ} → b < 256 → c < 256 → d < 256
+      → w ≡ wideRows (bitXor (bitXor (bitXor k (getD t (256 + b) 0)) (getD t (512 + c) 0)) (getD t (768 + d) 0))
+      → Lacks mixed0 (λ a. mixedColumn a b c d k) w
   unfolding Lacks
-  lacks-row0 hb hc hd a =
-      simp (wide-xor, tables .mix1 _ hb, tables .mix2 _ hc, tables .mix3 _ hd, mix-sum, word-assoc, word-comm, word-left-comm)
+  lacks-row0 hb hc hd e a =
+      rw e (simp (wide-xor, tables .mix1 _ hb, tables .mix2 _ hc, tables .mix3 _ hd, mix-sum, word-assoc, word-comm, word-left-comm))
 
-  pub lacks-row1 : {a c d : ℕ} → a < 256 → c < 256 → d < 256
-      → Lacks mixed1 (λ b. mixedColumn a b c d k) (bitXor (bitXor (bitXor k (getD t a 0)) (getD t (512 + c) 0)) (getD t (768 + d) 0))
+  pub lacks-row1 : {a c d : ℕ} {w : List ℕ} → a < 256 → c < 256 → d < 256
+      → w ≡ wideRows (bitXor (bitXor (bitXor k (getD t a 0)) (getD t (512 + c) 0)) (getD t (768 + d) 0))
+      → Lacks mixed1 (λ b. mixedColumn a b c d k) w
   unfolding Lacks
-  lacks-row1 ha hc hd b =
-      simp (wide-xor, tables .mix0 _ ha, tables .mix2 _ hc, tables .mix3 _ hd, mix-sum, word-assoc, word-comm, word-left-comm)
+  lacks-row1 ha hc hd e b =
+      rw e (simp (wide-xor, tables .mix0 _ ha, tables .mix2 _ hc, tables .mix3 _ hd, mix-sum, word-assoc, word-comm, word-left-comm))
 
-  pub lacks-row2 : {a b d : ℕ} → a < 256 → b < 256 → d < 256
-      → Lacks mixed2 (λ c. mixedColumn a b c d k) (bitXor (bitXor (bitXor k (getD t a 0)) (getD t (256 + b) 0)) (getD t (768 + d) 0))
+  pub lacks-row2 : {a b d : ℕ} {w : List ℕ} → a < 256 → b < 256 → d < 256
+      → w ≡ wideRows (bitXor (bitXor (bitXor k (getD t a 0)) (getD t (256 + b) 0)) (getD t (768 + d) 0))
+      → Lacks mixed2 (λ c. mixedColumn a b c d k) w
   unfolding Lacks
-  lacks-row2 ha hb hd c =
-      simp (wide-xor, tables .mix0 _ ha, tables .mix1 _ hb, tables .mix3 _ hd, mix-sum, word-assoc, word-comm, word-left-comm)
+  lacks-row2 ha hb hd e c =
+      rw e (simp (wide-xor, tables .mix0 _ ha, tables .mix1 _ hb, tables .mix3 _ hd, mix-sum, word-assoc, word-comm, word-left-comm))
 
-  pub lacks-row3 : {a b c : ℕ} → a < 256 → b < 256 → c < 256
-      → Lacks mixed3 (λ d. mixedColumn a b c d k) (bitXor (bitXor (bitXor k (getD t a 0)) (getD t (256 + b) 0)) (getD t (512 + c) 0))
+  pub lacks-row3 : {a b c : ℕ} {w : List ℕ} → a < 256 → b < 256 → c < 256
+      → w ≡ wideRows (bitXor (bitXor (bitXor k (getD t a 0)) (getD t (256 + b) 0)) (getD t (512 + c) 0))
+      → Lacks mixed3 (λ d. mixedColumn a b c d k) w
   unfolding Lacks
-  lacks-row3 ha hb hc d =
-      simp (wide-xor, tables .mix0 _ ha, tables .mix1 _ hb, tables .mix2 _ hc, mix-sum, word-assoc, word-comm)
+  lacks-row3 ha hb hc e d =
+      rw e (simp (wide-xor, tables .mix0 _ ha, tables .mix1 _ hb, tables .mix2 _ hc, mix-sum, word-assoc, word-comm))
 
 -- the columns of a block whose second word is a byte
 byte-columns : (x i : ℕ) → i < 256
@@ -83,24 +87,24 @@ record Alike (s u : List (List ℕ)) : Type 0 where
   pub column3 : column s 3 ≡ column u 3
 
 -- what a column lacks is made good by the byte of column 2
-module _ {s u : List (List ℕ)} (alike : Alike s u) (k w : ℕ) where
+module _ {s u : List (List ℕ)} (alike : Alike s u) (k : ℕ) (w : List ℕ) where
   made-0 : Lacks mixed2 (λ c. mixedColumn (byteAt s 0 0) (byteAt s 1 1) c (byteAt s 3 3) k) w
-      → xorWord (wideRows w) (mixed2 (byteAt u 2 2)) ≡ mixedColumn (byteAt u 0 0) (byteAt u 1 1) (byteAt u 2 2) (byteAt u 3 3) k
+      → xorWord w (mixed2 (byteAt u 2 2)) ≡ mixedColumn (byteAt u 0 0) (byteAt u 1 1) (byteAt u 2 2) (byteAt u 3 3) k
   unfolding Lacks
   made-0 l = rw (← alike .column0, ← alike .column1, ← alike .column3) (l (byteAt u 2 2))
 
   made-1 : Lacks mixed1 (λ b. mixedColumn (byteAt s 0 1) b (byteAt s 2 3) (byteAt s 3 0) k) w
-      → xorWord (wideRows w) (mixed1 (byteAt u 1 2)) ≡ mixedColumn (byteAt u 0 1) (byteAt u 1 2) (byteAt u 2 3) (byteAt u 3 0) k
+      → xorWord w (mixed1 (byteAt u 1 2)) ≡ mixedColumn (byteAt u 0 1) (byteAt u 1 2) (byteAt u 2 3) (byteAt u 3 0) k
   unfolding Lacks
   made-1 l = rw (← alike .column0, ← alike .column1, ← alike .column3) (l (byteAt u 1 2))
 
   made-2 : Lacks mixed0 (λ a. mixedColumn a (byteAt s 1 3) (byteAt s 2 0) (byteAt s 3 1) k) w
-      → xorWord (wideRows w) (mixed0 (byteAt u 0 2)) ≡ mixedColumn (byteAt u 0 2) (byteAt u 1 3) (byteAt u 2 0) (byteAt u 3 1) k
+      → xorWord w (mixed0 (byteAt u 0 2)) ≡ mixedColumn (byteAt u 0 2) (byteAt u 1 3) (byteAt u 2 0) (byteAt u 3 1) k
   unfolding Lacks
   made-2 l = rw (← alike .column0, ← alike .column1, ← alike .column3) (l (byteAt u 0 2))
 
   made-3 : Lacks mixed3 (λ d. mixedColumn (byteAt s 0 3) (byteAt s 1 0) (byteAt s 2 1) d k) w
-      → xorWord (wideRows w) (mixed3 (byteAt u 3 2)) ≡ mixedColumn (byteAt u 0 3) (byteAt u 1 0) (byteAt u 2 1) (byteAt u 3 2) k
+      → xorWord w (mixed3 (byteAt u 3 2)) ≡ mixedColumn (byteAt u 0 3) (byteAt u 1 0) (byteAt u 2 1) (byteAt u 3 2) k
   unfolding Lacks
   made-3 l = rw (← alike .column0, ← alike .column1, ← alike .column3) (l (byteAt u 3 2))
 
@@ -114,22 +118,23 @@ module _ (keys : List ℕ) (x : ℕ) where
   unfolding rounds roundKeys xorState xorWord mixColumns shiftRows subBytes
   alike-1 {i} h = rw (byte-columns x 0 (lit< tt), byte-columns x i h) (record { column0 = refl; column1 = refl; column3 = refl })
 
-  pub shared : {s t : List (List ℕ)} {first c0 c1 c2 c3 : ℕ} → s ≡ addRoundKey (columnsOf x 0) (blockKey keys 0)
+  pub shared : {s t : List (List ℕ)} {first c0 c1 c2 c3 : List ℕ} → s ≡ addRoundKey (columnsOf x 0) (blockKey keys 0)
       → t ≡ addRoundKey (mixColumns (shiftRows (subBytes s))) (wideKey keys 2)
       → Lacks mixed0 (λ a. mixedColumn a (byteAt s 1 3) (byteAt s 2 0) (byteAt s 3 1) (getD keys 4 0)) first
       → Lacks mixed2 (λ c. mixedColumn (byteAt t 0 0) (byteAt t 1 1) c (byteAt t 3 3) (getD keys 6 0)) c0
       → Lacks mixed1 (λ b. mixedColumn (byteAt t 0 1) b (byteAt t 2 3) (byteAt t 3 0) (getD keys 7 0)) c1
       → Lacks mixed0 (λ a. mixedColumn a (byteAt t 1 3) (byteAt t 2 0) (byteAt t 3 1) (getD keys 8 0)) c2
       → Lacks mixed3 (λ d. mixedColumn (byteAt t 0 3) (byteAt t 1 0) (byteAt t 2 1) d (getD keys 9 0)) c3
-      → IsShared keys (record { x = x; first = first; columns = c0 ∷ c1 ∷ c2 ∷ c3 ∷ [] })
-  unfolding rounds roundKeys xorState mixColumns shiftRows subBytes
+      → IsShared keys x ((column t 0 ∷ column t 1 ∷ first ∷ column t 3 ∷ []) ∷ (c0 ∷ c1 ∷ c2 ∷ c3 ∷ []) ∷ [])
+  unfolding firstOf secondOf rounds roundKeys xorState mixColumns shiftRows subBytes
   shared {s} {t} es et lf l0 l1 l2 l3 =
       let e0 : s ≡ rowState keys 0 x 0 = es in
       let e1 : t ≡ rowState keys 1 x 0 = et ∙ rw es in
       record {
-        first = λ i h. made-2 (rw (← e0) at (alike-0 h)) _ _ lf;
-        column0 = λ i h. made-0 (rw (← e1) at (alike-1 h)) _ _ l0;
-        column1 = λ i h. made-1 (rw (← e1) at (alike-1 h)) _ _ l1;
-        column2 = λ i h. made-2 (rw (← e1) at (alike-1 h)) _ _ l2;
-        column3 = λ i h. made-3 (rw (← e1) at (alike-1 h)) _ _ l3;
+        first = λ i h.
+            let one = rw (← e1) at (alike-1 h) in
+            four-eq (one .column0) (one .column1) (made-2 (rw (← e0) at (alike-0 h)) _ _ lf) (one .column3);
+        second = λ i h.
+            let one = rw (← e1) at (alike-1 h) in
+            four-eq (made-0 one _ _ l0) (made-1 one _ _ l1) (made-2 one _ _ l2) (made-3 one _ _ l3);
       }

@@ -1,18 +1,21 @@
 // The cipher on the blocks of one row: of x and i, for one x and i below 256. They share most of the first two rounds.
 ghost use mathlib.Core.Path.{_≡_};
-ghost use Prim.Native.Nat.{_+_, _<_, _≤_};
+ghost use mathlib.Core.List.{[], _∷_};
+ghost use Prim.Native.Nat.{_+_, _%_, _<_, _≤_};
+ghost use lib.Bits.{bitXor};
 ghost use lib.ListN.{getD};
 ghost use Rattle.field.specs.Binary.{block};
 ghost use Rattle.sbox.specs.Wide.{wideRows};
 ghost use Rattle.sbox.specs.Inner.Tables.{RoundTables, mixed0, mixed1, mixed2, mixed3};
-ghost use Rattle.aes128.specs.State.{xorWord};
+ghost use Rattle.aes128.specs.State.{column, xorWord};
 ghost use Rattle.aes128.specs.Inner.Blocks.{cipherOf};
-ghost use Rattle.row_cipher.specs.Inner.Row.{mixedColumn, Lacks, rowState, IsShared};
+ghost use Rattle.row_cipher.specs.Inner.Row.{mixedColumn, Lacks, firstOf, secondOf, IsShared};
 use aes128::TwoBlocks;
 use aes128::first_key;
 use aes128::full_round;
 use aes128::last_round;
 use aes128::rows;
+use aes128::wide_of;
 use field::Block;
 
 // Two words.
@@ -21,49 +24,42 @@ pub struct TwoWords {
     pub second: u64,
 }
 
-// What the blocks of x and i have in common in the first two rounds, for one x and every i below 256.
-pub struct Shared {
-    pub x: u64,
-    pub first: u64,
-    pub columns: [u64; 4],
-}
-
-// A wide column of a round, with its round key's word, without what the byte in row 0 adds.
-fn without_row0(tables: &[u64; 1536], b: u8, c: u8, d: u8, k: u64) -> u64
+// A column of a round, with its round key's column, without what the byte in row 0 adds.
+fn without_row0(tables: &[u64; 1536], b: u8, c: u8, d: u8, k: u64) -> [u8; 4]
     requires { ⌜ RoundTables (now tables) ⌝ }
     ensures { λ r. ⌜ Lacks mixed0 (λ a. mixedColumn a b c d k) r ⌝ }
 {
-    k ^ tables[256 + (b as usize)] ^ tables[512 + (c as usize)] ^ tables[768 + (d as usize)]
+    rows(k ^ tables[256 + (b as usize)] ^ tables[512 + (c as usize)] ^ tables[768 + (d as usize)])
 }
 
 // The same without what the byte in row 1 adds.
-fn without_row1(tables: &[u64; 1536], a: u8, c: u8, d: u8, k: u64) -> u64
+fn without_row1(tables: &[u64; 1536], a: u8, c: u8, d: u8, k: u64) -> [u8; 4]
     requires { ⌜ RoundTables (now tables) ⌝ }
     ensures { λ r. ⌜ Lacks mixed1 (λ b. mixedColumn a b c d k) r ⌝ }
 {
-    k ^ tables[a as usize] ^ tables[512 + (c as usize)] ^ tables[768 + (d as usize)]
+    rows(k ^ tables[a as usize] ^ tables[512 + (c as usize)] ^ tables[768 + (d as usize)])
 }
 
 // The same without what the byte in row 2 adds.
-fn without_row2(tables: &[u64; 1536], a: u8, b: u8, d: u8, k: u64) -> u64
+fn without_row2(tables: &[u64; 1536], a: u8, b: u8, d: u8, k: u64) -> [u8; 4]
     requires { ⌜ RoundTables (now tables) ⌝ }
     ensures { λ r. ⌜ Lacks mixed2 (λ c. mixedColumn a b c d k) r ⌝ }
 {
-    k ^ tables[a as usize] ^ tables[256 + (b as usize)] ^ tables[768 + (d as usize)]
+    rows(k ^ tables[a as usize] ^ tables[256 + (b as usize)] ^ tables[768 + (d as usize)])
 }
 
 // The same without what the byte in row 3 adds.
-fn without_row3(tables: &[u64; 1536], a: u8, b: u8, c: u8, k: u64) -> u64
+fn without_row3(tables: &[u64; 1536], a: u8, b: u8, c: u8, k: u64) -> [u8; 4]
     requires { ⌜ RoundTables (now tables) ⌝ }
     ensures { λ r. ⌜ Lacks mixed3 (λ d. mixedColumn a b c d k) r ⌝ }
 {
-    k ^ tables[a as usize] ^ tables[256 + (b as usize)] ^ tables[512 + (c as usize)]
+    rows(k ^ tables[a as usize] ^ tables[256 + (b as usize)] ^ tables[512 + (c as usize)])
 }
 
-// What the blocks of x and i share, for one x.
-pub fn share(tables: &[u64; 1536], keys: &[u64; 40], x: u64) -> Shared
+// The states after rounds 1 and 2 that the blocks of x and i share, for one x: each without what the bytes that differ add.
+pub fn share(tables: &[u64; 1536], keys: &[u64; 40], x: u64) -> [[[u8; 4]; 4]; 2]
     requires { ⌜ RoundTables (now tables) ⌝ }
-    ensures { λ r. ⌜ IsShared (now (keys .entry)) r × (r .x ≡ x) ⌝ }
+    ensures { λ r. ⌜ IsShared (now (keys .entry)) x r ⌝ }
 {
     let s = first_key(Block { low: x, high: 0 }, keys);
     let t = full_round(tables, s, keys, 2);
@@ -72,42 +68,55 @@ pub fn share(tables: &[u64; 1536], keys: &[u64; 40], x: u64) -> Shared
     let c1 = without_row1(tables, t[1][0], t[3][2], t[0][3], keys[7]);
     let c2 = without_row0(tables, t[3][1], t[0][2], t[1][3], keys[8]);
     let c3 = without_row3(tables, t[3][0], t[0][1], t[1][2], keys[9]);
-    Shared {
-        x: x,
-        first: first,
-        columns: [c0, c1, c2, c3],
-    }
+    [[t[0], t[1], first, t[3]], [c0, c1, c2, c3]]
 }
 
-// The rows of a wide column with the entry for a byte of the table that begins at a place.
-fn with_entry(tables: &[u64; 1536], column: u64, at: usize, x: u8) -> [u8; 4]
+// A column of four bytes with the entry for a byte of the table that begins at a place.
+fn with_entry(tables: &[u64; 1536], a: u8, b: u8, c: u8, d: u8, at: usize, x: u8) -> [u8; 4]
     requires { ⌜ at + 256 ≤ 1536 ⌝ }
-    ensures { λ r. ⌜ r ≡ xorWord (wideRows column) (wideRows (getD (now (tables .entry)) (at + x) 0)) ⌝ }
+    ensures { λ r. ⌜ (r ≡ xorWord (a ∷ b ∷ c ∷ d ∷ []) (wideRows (getD (now (tables .entry)) (at + x) 0))) × (x < 256) ⌝ }
 {
-    rows(column ^ tables[at + (x as usize)])
+    rows(wide_of(a, b, c, d) ^ tables[at + (x as usize)])
 }
 
-// The state of the block of x and i after two rounds: one lookup for column 2 of round 1, and one for each column of round 2.
-fn second_round(tables: &[u64; 1536], keys: &[u64; 40], shared: Shared, i: u64) -> [[u8; 4]; 4]
-    requires { ⌜ RoundTables (now tables) × IsShared (now keys) shared × (i < 256) ⌝ }
-    ensures { λ r. ⌜ r ≡ rowState (now (keys .entry)) 2 (shared .x) i ⌝ }
+// The state of the block of x and i after round 1, from the state that the blocks share: one lookup, for column 2.
+fn first_round(tables: &[u64; 1536], keys: &[u64; 40], s: [[u8; 4]; 4], i: u64) -> [[u8; 4]; 4]
+    requires { ⌜ RoundTables (now tables) ⌝ }
+    ensures { λ r. ⌜ r ≡ firstOf s (bitXor i (getD (now (keys .entry)) 1 0) % 256) ⌝ }
 {
-    let c = with_entry(tables, shared.first, 0, ((i ^ keys[1]) % 0x100) as u8);
-    let d0 = with_entry(tables, shared.columns[0], 512, c[2]);
-    let d1 = with_entry(tables, shared.columns[1], 256, c[1]);
-    let d2 = with_entry(tables, shared.columns[2], 0, c[0]);
-    let d3 = with_entry(tables, shared.columns[3], 768, c[3]);
-    [d0, d1, d2, d3]
+    let x = ((i ^ keys[1]) % 0x100) as u8;
+    let c = with_entry(tables, s[2][0], s[2][1], s[2][2], s[2][3], 0, x);
+    [s[0], s[1], c, s[3]]
+}
+
+// Its state after round 2, from the state that they share and from its state t after round 1: one lookup for each column.
+fn second_round(tables: &[u64; 1536], s: [[u8; 4]; 4], t: [[u8; 4]; 4]) -> [[u8; 4]; 4]
+    requires { ⌜ RoundTables (now tables) ⌝ }
+    ensures { λ r. ⌜ r ≡ secondOf s (column t 2) ⌝ }
+{
+    let c0 = with_entry(tables, s[0][0], s[0][1], s[0][2], s[0][3], 512, t[2][2]);
+    let c1 = with_entry(tables, s[1][0], s[1][1], s[1][2], s[1][3], 256, t[2][1]);
+    let c2 = with_entry(tables, s[2][0], s[2][1], s[2][2], s[2][3], 0, t[2][0]);
+    let c3 = with_entry(tables, s[3][0], s[3][1], s[3][2], s[3][3], 768, t[2][3]);
+    [c0, c1, c2, c3]
 }
 
 // The first words of the ciphers of the blocks of x and i, and of x and i + 1, in alternation.
-pub fn two_words(tables: &[u64; 1536], keys: &[u64; 40], shared: Shared, i: u64) -> TwoWords
-    requires { ⌜ RoundTables (now tables) × IsShared (now keys) shared × (i + 1 < 256) ⌝ }
-    ensures { λ r. ⌜ (r .first ≡ cipherOf (now (keys .entry)) (block (shared .x) i) .low)
-        × (r .second ≡ cipherOf (now (keys .entry)) (block (shared .x) (i + 1)) .low) ⌝ }
+pub fn two_words(
+    tables: &[u64; 1536],
+    keys: &[u64; 40],
+    x: u64,
+    shared: [[[u8; 4]; 4]; 2],
+    i: u64,
+) -> TwoWords
+    requires { ⌜ RoundTables (now tables) × IsShared (now keys) x shared × (i + 1 < 256) ⌝ }
+    ensures { λ r. ⌜ (r .first ≡ cipherOf (now (keys .entry)) (block x i) .low)
+        × (r .second ≡ cipherOf (now (keys .entry)) (block x (i + 1)) .low) ⌝ }
 {
-    let a2 = second_round(tables, keys, shared, i);
-    let b2 = second_round(tables, keys, shared, i + 1);
+    let a1 = first_round(tables, keys, shared[0], i);
+    let a2 = second_round(tables, shared[1], a1);
+    let b1 = first_round(tables, keys, shared[0], i + 1);
+    let b2 = second_round(tables, shared[1], b1);
     let a3 = full_round(tables, a2, keys, 10);
     let b3 = full_round(tables, b2, keys, 10);
     let a4 = full_round(tables, a3, keys, 14);
@@ -131,13 +140,21 @@ pub fn two_words(tables: &[u64; 1536], keys: &[u64; 40], shared: Shared, i: u64)
 }
 
 // The ciphers of the blocks of x and i, and of x and i + 1, in alternation.
-pub fn two_blocks(tables: &[u64; 1536], keys: &[u64; 40], shared: Shared, i: u64) -> TwoBlocks
-    requires { ⌜ RoundTables (now tables) × IsShared (now keys) shared × (i + 1 < 256) ⌝ }
-    ensures { λ r. ⌜ (r .first ≡ cipherOf (now (keys .entry)) (block (shared .x) i))
-        × (r .second ≡ cipherOf (now (keys .entry)) (block (shared .x) (i + 1))) ⌝ }
+pub fn two_blocks(
+    tables: &[u64; 1536],
+    keys: &[u64; 40],
+    x: u64,
+    shared: [[[u8; 4]; 4]; 2],
+    i: u64,
+) -> TwoBlocks
+    requires { ⌜ RoundTables (now tables) × IsShared (now keys) x shared × (i + 1 < 256) ⌝ }
+    ensures { λ r. ⌜ (r .first ≡ cipherOf (now (keys .entry)) (block x i))
+        × (r .second ≡ cipherOf (now (keys .entry)) (block x (i + 1))) ⌝ }
 {
-    let a2 = second_round(tables, keys, shared, i);
-    let b2 = second_round(tables, keys, shared, i + 1);
+    let a1 = first_round(tables, keys, shared[0], i);
+    let a2 = second_round(tables, shared[1], a1);
+    let b1 = first_round(tables, keys, shared[0], i + 1);
+    let b2 = second_round(tables, shared[1], b1);
     let a3 = full_round(tables, a2, keys, 10);
     let b3 = full_round(tables, b2, keys, 10);
     let a4 = full_round(tables, a3, keys, 14);

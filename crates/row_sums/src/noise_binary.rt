@@ -19,7 +19,6 @@ use code::place_of;
 use code::still_below;
 use field::Block;
 use field::add_bits;
-use row_cipher::Shared;
 use row_cipher::share;
 use row_cipher::two_words;
 
@@ -49,19 +48,20 @@ fn binary_term(
 fn noise_turn_binary(
     tables: &[u64; 1536],
     keys: &[u64; 40],
-    shared: Shared,
+    x: u64,
+    shared: [[[u8; 4]; 4]; 2],
     shape: Shape,
     i: usize,
     noise: &[u64],
     v: &[u64],
     sums: BinaryPair,
 ) -> BinaryPair
-    requires { ⌜ RoundTables (now tables) × IsShared (now keys) shared × (i < shape .terms) ⌝ }
+    requires { ⌜ RoundTables (now tables) × IsShared (now keys) x shared × (i < shape .terms) ⌝ }
     requires { ⌜ Shaped shape × (length (now noise) ≡ shape .places) × (length (now v) ≡ shape .places * 2) ⌝ }
-    requires { ⌜ BinarySums (roundKeys (now keys)) shape (shared .x) (now noise) (now v) (termsTo shape i) sums ⌝ }
-    ensures { λ r. ⌜ BinarySums (roundKeys (now (keys .entry))) shape (shared .x) (now (noise .entry)) (now (v .entry)) (termsTo shape (i + 2)) r ⌝ }
+    requires { ⌜ BinarySums (roundKeys (now keys)) shape x (now noise) (now v) (termsTo shape i) sums ⌝ }
+    ensures { λ r. ⌜ BinarySums (roundKeys (now (keys .entry))) shape x (now (noise .entry)) (now (v .entry)) (termsTo shape (i + 2)) r ⌝ }
 {
-    let words = two_words(tables, keys, shared, i as u64);
+    let words = two_words(tables, keys, x, shared, i as u64);
     let next = binary_term(shape, i, words.first, noise, v, sums);
     if i + 1 < shape.terms {
         binary_term(shape, i + 1, words.second, noise, v, next)
@@ -93,7 +93,7 @@ pub fn noise_row_binary(
     };
     let mut i: usize = 0;
     while i < shape.terms {
-        let next = noise_turn_binary(tables, keys, shared, shape, i, noise, v, sums);
+        let next = noise_turn_binary(tables, keys, x as u64, shared, shape, i, noise, v, sums);
         sums = next;
         i += 2;
     }

@@ -20,7 +20,6 @@ use code::place_of;
 use code::still_below;
 use field::Block;
 use field::Prime;
-use row_cipher::Shared;
 use row_cipher::share;
 use row_cipher::two_blocks;
 
@@ -59,19 +58,20 @@ fn prime_term(
 fn noise_turn_prime(
     tables: &[u64; 1536],
     keys: &[u64; 40],
-    shared: Shared,
+    x: u64,
+    shared: [[[u8; 4]; 4]; 2],
     shape: Shape,
     i: usize,
     noise: &[u64],
     v: &[u64],
     sums: PrimeSums,
 ) -> PrimeSums
-    requires { ⌜ RoundTables (now tables) × IsShared (now keys) shared × (i < shape .terms) ⌝ }
+    requires { ⌜ RoundTables (now tables) × IsShared (now keys) x shared × (i < shape .terms) ⌝ }
     requires { ⌜ Shaped shape × (length (now noise) ≡ shape .places) × (length (now v) ≡ shape .places) ⌝ }
-    requires { ⌜ PrimesTotal (roundKeys (now keys)) shape (shared .x) (now noise) (now v) (termsTo shape i) sums ⌝ }
-    ensures { λ r. ⌜ PrimesTotal (roundKeys (now (keys .entry))) shape (shared .x) (now (noise .entry)) (now (v .entry)) (termsTo shape (i + 2)) r ⌝ }
+    requires { ⌜ PrimesTotal (roundKeys (now keys)) shape x (now noise) (now v) (termsTo shape i) sums ⌝ }
+    ensures { λ r. ⌜ PrimesTotal (roundKeys (now (keys .entry))) shape x (now (noise .entry)) (now (v .entry)) (termsTo shape (i + 2)) r ⌝ }
 {
-    let pair = two_blocks(tables, keys, shared, i as u64);
+    let pair = two_blocks(tables, keys, x, shared, i as u64);
     let next = prime_term(shape, i, pair.first, noise, v, sums);
     if i + 1 < shape.terms {
         prime_term(shape, i + 1, pair.second, noise, v, next)
@@ -104,7 +104,7 @@ pub fn noise_row_prime(
     };
     let mut i: usize = 0;
     while i < shape.terms {
-        let next = noise_turn_prime(tables, keys, shared, shape, i, noise, v, sums);
+        let next = noise_turn_prime(tables, keys, x as u64, shared, shape, i, noise, v, sums);
         sums = next;
         i += 2;
     }

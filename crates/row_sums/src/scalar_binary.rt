@@ -14,7 +14,6 @@ use crate::row::block_at;
 use code::Shape;
 use code::place_of;
 use field::Block;
-use row_cipher::Shared;
 use row_cipher::share;
 use row_cipher::two_words;
 
@@ -30,18 +29,19 @@ fn block_term(shape: Shape, i: usize, word: u64, w: &[u64], total: Block) -> Blo
 fn scalar_turn_binary(
     tables: &[u64; 1536],
     keys: &[u64; 40],
-    shared: Shared,
+    x: u64,
+    shared: [[[u8; 4]; 4]; 2],
     shape: Shape,
     i: usize,
     w: &[u64],
     total: Block,
 ) -> Block
-    requires { ⌜ RoundTables (now tables) × IsShared (now keys) shared × (i < shape .terms) ⌝ }
+    requires { ⌜ RoundTables (now tables) × IsShared (now keys) x shared × (i < shape .terms) ⌝ }
     requires { ⌜ Shaped shape × (length (now w) ≡ shape .places * 2) ⌝ }
-    requires { ⌜ total ≡ blocksSum (roundKeys (now keys)) shape (shared .x) (now w) (termsTo shape i) ⌝ }
-    ensures { λ r. ⌜ r ≡ blocksSum (roundKeys (now (keys .entry))) shape (shared .x) (now (w .entry)) (termsTo shape (i + 2)) ⌝ }
+    requires { ⌜ total ≡ blocksSum (roundKeys (now keys)) shape x (now w) (termsTo shape i) ⌝ }
+    ensures { λ r. ⌜ r ≡ blocksSum (roundKeys (now (keys .entry))) shape x (now (w .entry)) (termsTo shape (i + 2)) ⌝ }
 {
-    let words = two_words(tables, keys, shared, i as u64);
+    let words = two_words(tables, keys, x, shared, i as u64);
     let next = block_term(shape, i, words.first, w, total);
     if i + 1 < shape.terms {
         block_term(shape, i + 1, words.second, w, next)
@@ -66,7 +66,7 @@ pub fn scalar_row_binary(
     let mut total = Block::zero();
     let mut i: usize = 0;
     while i < shape.terms {
-        let next = scalar_turn_binary(tables, keys, shared, shape, i, w, total);
+        let next = scalar_turn_binary(tables, keys, x as u64, shared, shape, i, w, total);
         total = next;
         i += 2;
     }

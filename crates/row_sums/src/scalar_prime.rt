@@ -19,7 +19,6 @@ use code::place_of;
 use code::still_below;
 use field::Block;
 use field::Prime;
-use row_cipher::Shared;
 use row_cipher::share;
 use row_cipher::two_blocks;
 
@@ -45,18 +44,19 @@ fn scalar_term(shape: Shape, i: usize, block: Block, w: &[u64], sum: PrimeSum) -
 fn scalar_turn_prime(
     tables: &[u64; 1536],
     keys: &[u64; 40],
-    shared: Shared,
+    x: u64,
+    shared: [[[u8; 4]; 4]; 2],
     shape: Shape,
     i: usize,
     w: &[u64],
     sum: PrimeSum,
 ) -> PrimeSum
-    requires { ⌜ RoundTables (now tables) × IsShared (now keys) shared × (i < shape .terms) ⌝ }
+    requires { ⌜ RoundTables (now tables) × IsShared (now keys) x shared × (i < shape .terms) ⌝ }
     requires { ⌜ Shaped shape × (length (now w) ≡ shape .places) ⌝ }
-    requires { ⌜ PrimeTotal (roundKeys (now keys)) shape (shared .x) (now w) (termsTo shape i) sum ⌝ }
-    ensures { λ r. ⌜ PrimeTotal (roundKeys (now (keys .entry))) shape (shared .x) (now (w .entry)) (termsTo shape (i + 2)) r ⌝ }
+    requires { ⌜ PrimeTotal (roundKeys (now keys)) shape x (now w) (termsTo shape i) sum ⌝ }
+    ensures { λ r. ⌜ PrimeTotal (roundKeys (now (keys .entry))) shape x (now (w .entry)) (termsTo shape (i + 2)) r ⌝ }
 {
-    let pair = two_blocks(tables, keys, shared, i as u64);
+    let pair = two_blocks(tables, keys, x, shared, i as u64);
     let next = scalar_term(shape, i, pair.first, w, sum);
     if i + 1 < shape.terms {
         scalar_term(shape, i + 1, pair.second, w, next)
@@ -85,7 +85,7 @@ pub fn scalar_row_prime(
     };
     let mut i: usize = 0;
     while i < shape.terms {
-        let next = scalar_turn_prime(tables, keys, shared, shape, i, w, sum);
+        let next = scalar_turn_prime(tables, keys, x as u64, shared, shape, i, w, sum);
         sum = next;
         i += 2;
     }

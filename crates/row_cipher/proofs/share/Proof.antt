@@ -1,6 +1,5 @@
--- `row_cipher::share` meets its contract: from the words that `without_row0` to `without_row3` make. Assumes nothing.
+-- `row_cipher::share` meets its contract: from the columns that `without_row0` to `without_row3` make. Assumes nothing.
 use borrow.Author.Needs.{needs}
-use mathlib.Core.Path.{refl}
 use Rattle.row_cipher.proofs.Sharing.{shared}
 use Rattle.row_cipher.proofs.share.Statement.{statement}
 use Rattle.row_cipher.proofs.share.Tie as tie
@@ -51,14 +50,16 @@ share-spec =
     (λ c. search needs)  -- index-2-without-row3-3
     (λ c. search needs)  -- element-copy-out-without-row3
     (λ c κs. search needs)  -- without-row3-requires
+    (λ c. search needs)  -- array-copy-out-t90
+    (λ c. search needs)  -- array-copy-out-t93
+    (λ c. search needs)  -- array-copy-out-t96
     (λ c.
-    let e2 = c .before .before .before .before .before in
+    let e3 = c .before .before .before in
+    let e2 = e3 .before .before .before .before .before in
     let e1 = e2 .before .before .before .before .before in
     let e0 = e1 .before .before .before .before .before in
     let f = e0 .before .before .before .before .before in
-    let t = f .before .before .before .before .before in (
-      shared _ _ (t .before .first-key .ensures) (t .full-round .ensures) (f .without-row0 .ensures) (e0 .without-row2 .ensures)
-          (e1 .without-row1 .ensures) (e2 .without-row02 .ensures) (c .without-row3 .ensures),
-      refl,
-    ))  -- returns
+    let t = f .before .before .before .before .before in
+    shared _ _ (t .before .first-key .ensures) (t .full-round .ensures) (f .without-row0 .ensures) (e0 .without-row2 .ensures)
+    (e1 .without-row1 .ensures) (e2 .without-row02 .ensures) (e3 .without-row3 .ensures))  -- returns
     )

@@ -8,13 +8,14 @@ pub without-row3-spec : {M : Type 1} → statement M
 without-row3-spec =
     tie.close
     (tie.spec
-    (λ c. search needs)  -- mul-result
-    (λ c. search needs)  -- element-copy-out-result
-    (λ c. search needs)  -- add-result
-    (λ c. search needs)  -- mul-result-2
-    (λ c. search needs)  -- element-copy-out-result-2
-    (λ c. search needs)  -- add-result-2
-    (λ c. search needs)  -- mul-result-3
-    (λ c. search needs)  -- element-copy-out-result-3
-    (λ c. lacks-row3 (c .before .before .before .pre) _ (search needs) (search needs) (search needs))  -- returns
+    (λ c. search needs)  -- mul-rows
+    (λ c. search needs)  -- element-copy-out-rows
+    (λ c. search needs)  -- add-rows
+    (λ c. search needs)  -- mul-rows-2
+    (λ c. search needs)  -- element-copy-out-rows-2
+    (λ c. search needs)  -- add-rows-2
+    (λ c. search needs)  -- mul-rows-3
+    (λ c. search needs)  -- element-copy-out-rows-3
+    (λ c κs. search needs)  -- rows-requires
+    (λ c. lacks-row3 (c .before .before .before .before .pre) _ (search needs) (search needs) (search needs) (c .rows .ensures))  -- returns
     )

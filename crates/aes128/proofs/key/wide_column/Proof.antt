@@ -1,6 +1,7 @@
 -- `aes128::key::wide_column` meets its contract. Assumes nothing.
+use mathlib.Core.Path.{_∙_, sym}
 use borrow.Author.Needs.{needs}
-use Rattle.aes128.proofs.Wide.{wide-made}
+use Rattle.aes128.proofs.Words.{is-four}
 use Rattle.aes128.proofs.key.wide_column.Statement.{statement}
 use Rattle.aes128.proofs.key.wide_column.Tie as tie
 
@@ -8,19 +9,10 @@ pub wide-column-spec : {M : Type 1} → statement M
 wide-column-spec =
     tie.close
     (tie.spec
-    (λ c. search needs)  -- array-read-number
-    (λ c κs. search needs)  -- number-requires
-    (λ c. search needs)  -- array-read-number-2
-    (λ c κs. search needs)  -- number-requires-2
-    (λ c. search needs)  -- mul-result
-    (λ c. search needs)  -- add-result
-    (λ c. search needs)  -- array-read-number-3
-    (λ c κs. search needs)  -- number-requires-3
-    (λ c. search needs)  -- mul-result-2
-    (λ c. search needs)  -- add-result-2
-    (λ c. search needs)  -- array-read-number-4
-    (λ c κs. search needs)  -- number-requires-4
-    (λ c. search needs)  -- mul-result-3
-    (λ c. search needs)  -- add-result-3
-    (λ c. let start = c .before .before .before .before .good in wide-made (search needs) (search needs) (search needs) (search needs) (search needs))  -- returns
+    (λ c. search needs)  -- array-read-wide-of
+    (λ c. search needs)  -- array-read-wide-of-2
+    (λ c. search needs)  -- array-read-wide-of-3
+    (λ c. search needs)  -- array-read-wide-of-4
+    (λ c κs. search needs)  -- wide-of-requires
+    (λ c. c .wide-of .ensures ∙ sym (is-four 0 _ (search needs)))  -- returns
     )

@@ -10,7 +10,7 @@ use Rattle.row_sums.proofs.noise_prime.noise_row_prime.Tie as tie
 
 abbrev Inv-loop : tie.InvT-loop
 Inv-loop tables keys shape x noise v shared sums₀ i₀ sums i =
-    (i ≤ shape .terms + 1) × PrimesTotal (roundKeys keys) shape (shared .x) noise v (termsTo shape i) sums
+    (i ≤ shape .terms + 1) × PrimesTotal (roundKeys keys) shape x noise v (termsTo shape i) sums
 
 abbrev μ-loop : tie.MeasureT-loop
 μ-loop tables keys shape x noise v shared sums₀ i₀ sums i = shape .terms + 1 - i

@@ -11,7 +11,7 @@ use Rattle.row_sums.proofs.scalar_binary.scalar_row_binary.Tie as tie
 
 abbrev Inv-loop : tie.InvT-loop
 Inv-loop tables keys shape x w shared total₀ i₀ total i =
-    (i ≤ shape .terms + 1) × (total ≡ blocksSum (roundKeys keys) shape (shared .x) w (termsTo shape i))
+    (i ≤ shape .terms + 1) × (total ≡ blocksSum (roundKeys keys) shape x w (termsTo shape i))
 
 abbrev μ-loop : tie.MeasureT-loop
 μ-loop tables keys shape x w shared total₀ i₀ total i = shape .terms + 1 - i

@@ -10,7 +10,7 @@ use Rattle.row_sums.proofs.scalar_prime.scalar_row_prime.Tie as tie
 
 abbrev Inv-loop : tie.InvT-loop
 Inv-loop tables keys shape x w shared sum₀ i₀ sum i =
-    (i ≤ shape .terms + 1) × PrimeTotal (roundKeys keys) shape (shared .x) w (termsTo shape i) sum
+    (i ≤ shape .terms + 1) × PrimeTotal (roundKeys keys) shape x w (termsTo shape i) sum
 
 abbrev μ-loop : tie.MeasureT-loop
 μ-loop tables keys shape x w shared sum₀ i₀ sum i = shape .terms + 1 - i

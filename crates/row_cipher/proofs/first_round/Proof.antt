@@ -1,0 +1,28 @@
+-- `row_cipher::first_round` meets its contract: column 2 from its one lookup. Assumes nothing.
+use borrow.Author.Needs.{needs}
+use Rattle.row_cipher.proofs.RowRounds.{one-entered}
+use Rattle.row_cipher.proofs.first_round.Statement.{statement}
+use Rattle.row_cipher.proofs.first_round.Tie as tie
+
+pub first-round-spec : {M : Type 1} → statement M
+first-round-spec =
+    tie.close
+    (tie.spec
+    (λ c. search needs)  -- element-copy-out-x
+    (λ c. search needs)  -- cast-x
+    (λ c. search needs)  -- index-1-with-entry
+    (λ c. search needs)  -- index-2-with-entry
+    (λ c. search needs)  -- index-1-with-entry-2
+    (λ c. search needs)  -- index-2-with-entry-2
+    (λ c. search needs)  -- index-1-with-entry-3
+    (λ c. search needs)  -- index-2-with-entry-3
+    (λ c. search needs)  -- index-1-with-entry-4
+    (λ c. search needs)  -- index-2-with-entry-4
+    (λ c κs. search needs)  -- with-entry-requires
+    (λ c. search needs)  -- array-copy-out-t35
+    (λ c. search needs)  -- array-copy-out-t38
+    (λ c. search needs)  -- array-copy-out-t41
+    (λ c.
+    let entry = c .before .before .before in
+    one-entered (entry .before .before .before .before .before .before .pre) _ (entry .with-entry .ensures))  -- returns
+    )
