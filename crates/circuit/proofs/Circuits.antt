@@ -9,14 +9,15 @@ use lib.ListN.{length}
 use mir.Syntax.{w64}
 use mir.Val.{Fits}
 use Rattle.number.proofs.Places.{refused-whole, whole-is}
-use Rattle.number.specs.Inner.Answers.{numberRead, numberFault}
+use Rattle.number.specs.Answer.{numberRead, numberFault}
 use Rattle.number.specs.Reading.{Whole, Refused, Step}
 use Rattle.number.specs.declared.Number.{Number}
 use Rattle.number.specs.declared.Number.the-variants.{Value, Fault}
 use Rattle.circuit.proofs.Fields.{within-parts}
 use Rattle.circuit.proofs.Lists.{gates-length, wires-length}
 use Rattle.circuit.specs.Content.{Gate, Circuit, andsIn}
-use Rattle.circuit.specs.Inner.Fronts.{countedAnds, placed, content, circuitOf, HasFront}
+use Rattle.circuit.specs.Inner.Fronts.{countedAnds, placed}
+use Rattle.circuit.specs.Answer.{content, circuitOf, HasFront}
 use Rattle.circuit.specs.Reading.{readWithin, readGates, readWires, readCircuit}
 use Rattle.circuit.specs.declared.Front.{Front}
 

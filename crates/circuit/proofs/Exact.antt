@@ -12,7 +12,7 @@ use lib.ListN.{length, length-append}
 use Rattle.number.proofs.Laws.{number-reads, number-whole, length-number}
 use Rattle.number.proofs.Places.{either, refused-whole, then-whole, has-front, has-back, has-next, has-is, whole-has, has-whole}
 use Rattle.number.specs.Number.{readNumber, writeNumber}
-use Rattle.number.specs.Inner.Answers.{numbers}
+use Rattle.number.specs.Inner.Written.{numbers}
 use Rattle.number.specs.Reading.{Whole, Refused, choose, tested, Bytes}
 use Rattle.number.specs.Inner.Known.{Has}
 use Rattle.circuit.proofs.Fields.{within-parts, wire-parts, twoWires, GateParts, one, two, gate-parts}

@@ -8,7 +8,7 @@ use native.Mathlib.Omega.{arith}
 use lib.Dec.{ltb, eqb}
 use Rattle.number.proofs.Places.{either, whole-is, then-whole, tested-whole, choose-yes, choose-no}
 use Rattle.number.specs.Number.{readNumber}
-use Rattle.number.specs.Inner.Answers.{numberRead}
+use Rattle.number.specs.Answer.{numberRead}
 use Rattle.number.specs.Reading.{Whole, Refused, Step, then, choose, tested}
 use Rattle.number.specs.declared.Number.{Number}
 use Rattle.number.specs.declared.Number.the-variants.{Value, Fault}

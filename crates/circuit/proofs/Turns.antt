@@ -8,7 +8,7 @@ use borrow.Author.Tests.{eq-eqb, ne-eqb}
 use mir.Syntax.{w64}
 use mir.Val.{Fits}
 use Rattle.number.proofs.Places.{either, refused-whole, whole-is}
-use Rattle.number.specs.Inner.Answers.{numberRead}
+use Rattle.number.specs.Answer.{numberRead}
 use Rattle.number.specs.Reading.{Whole, Refused, Step, then, choose}
 use Rattle.number.specs.declared.Number.{Number}
 use Rattle.number.specs.declared.Number.the-variants.{Value, Fault}

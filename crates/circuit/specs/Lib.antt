@@ -4,5 +4,6 @@ pub mod Admitted
 pub mod Value
 pub mod Writing
 pub mod Reading
+pub mod Answer
 pub mod OneWriting
 pub mod Inner

@@ -1,6 +1,6 @@
 // The reading of a circuit, every number whole and tested.
 ghost use mathlib.Core.Path.{_≡_};
-ghost use Rattle.circuit.specs.Inner.Fronts.{OpenedAs, refusalOf};
+ghost use Rattle.circuit.specs.Answer.{OpenedAs, refusalOf};
 use crate::Front;
 use crate::Opened;
 use crate::gates::read_gates;

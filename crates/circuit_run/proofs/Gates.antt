@@ -17,7 +17,8 @@ use Rattle.circuit.proofs.Ands.{head-at, tail-at, ands-more, ands-split}
 use Rattle.circuit.proofs.Lists.{FirstGate, first-gate}
 use Rattle.circuit.specs.Content.{Gate, Xor, And, Not, isAnd, andsIn}
 use Rattle.circuit.specs.Inner.GateKinds.{kindNumber}
-use Rattle.circuit.specs.Inner.Fronts.{andOf, gateBy, content, HasFront}
+use Rattle.circuit.specs.Inner.Fronts.{andOf, gateBy}
+use Rattle.circuit.specs.Answer.{content, HasFront}
 use Rattle.circuit.specs.Reading.{readGate, readGates}
 use Rattle.circuit.specs.declared.Front.{Front}
 use Rattle.number.proofs.Places.{either, whole-is, choose-yes, choose-no}

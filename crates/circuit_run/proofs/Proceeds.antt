@@ -11,7 +11,7 @@ use mir.Val.{Fits}
 use Rattle.algebra.specs.Choice.{choose}
 use Rattle.circuit.proofs.Ands.{ands-more, before-few}
 use Rattle.circuit.specs.Content.{Gate, Not, isAnd, andsIn}
-use Rattle.circuit.specs.Inner.Fronts.{content, HasFront}
+use Rattle.circuit.specs.Answer.{content, HasFront}
 use Rattle.circuit.specs.declared.Front.{Front}
 use Rattle.number.proofs.Places.{choose-yes, choose-no}
 use Rattle.circuit_run.proofs.Gates.{gatesOf, left-start}

@@ -13,7 +13,7 @@ use mir.Val.{Fits}
 use Rattle.algebra.specs.Choice.{choose}
 use Rattle.circuit.proofs.Ands.{before-few}
 use Rattle.circuit.specs.Content.{And, Circuit}
-use Rattle.circuit.specs.Inner.Fronts.{content, HasFront, OpenedAs, refusalOf}
+use Rattle.circuit.specs.Answer.{content, HasFront, OpenedAs, refusalOf}
 use Rattle.circuit.specs.Reading.{readCircuit}
 use Rattle.circuit.specs.Value.{atWires}
 use Rattle.circuit.specs.declared.Front.{Front}

@@ -12,7 +12,7 @@ use lib.Seq.{set-at, take-suc, take-length, take-all, drop-cons, drop-drop, leng
 use mir.Syntax.{w64}
 use mir.Val.{Fits}
 use Rattle.circuit.proofs.Lists.{FirstWire, first-wire}
-use Rattle.circuit.specs.Inner.Fronts.{content, HasFront}
+use Rattle.circuit.specs.Answer.{content, HasFront}
 use Rattle.circuit.specs.Reading.{readWire, readWires}
 use Rattle.circuit.specs.Value.{atWires}
 use Rattle.circuit.specs.declared.Front.{Front}

@@ -1,7 +1,7 @@
 // All tests of a step whose circuit is read.
 ghost use mathlib.Core.Path.{_≡_};
 ghost use lib.Dec.{eqb};
-ghost use Rattle.circuit.specs.Inner.Fronts.{HasFront};
+ghost use Rattle.circuit.specs.Answer.{HasFront};
 ghost use Rattle.circuit_run.specs.Inner.Places.{Checks};
 use crate::input::Asked;
 use crate::input::step_number;

@@ -3,7 +3,7 @@ ghost use mathlib.Core.List.{_++_};
 ghost use mathlib.Core.Path.{_≡_};
 ghost use Prim.Native.Nat.{_+_, _*_, _<_, _≤_};
 ghost use lib.ListN.{length, drop};
-ghost use Rattle.circuit.specs.Inner.Fronts.{content, HasFront};
+ghost use Rattle.circuit.specs.Answer.{content, HasFront};
 ghost use Rattle.circuit.specs.Value.{atWires};
 ghost use Rattle.circuit_run.specs.Inner.Places.{localShare, Stands, CanProceed, Stops, givenAnd, proceeded};
 ghost use Rattle.circuit_run.specs.Step.{flipped, andShare, freshWires, runOn};

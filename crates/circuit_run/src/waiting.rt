@@ -1,7 +1,7 @@
 // Where a run stands in its circuit.
 ghost use mathlib.Core.Path.{_≡_};
 ghost use Prim.Native.Nat.{_≤_};
-ghost use Rattle.circuit.specs.Inner.Fronts.{content, HasFront};
+ghost use Rattle.circuit.specs.Answer.{content, HasFront};
 ghost use Rattle.circuit_run.specs.Inner.Places.{Left, Spots};
 ghost use Rattle.circuit_run.specs.Step.{andsBefore};
 use circuit::Front;

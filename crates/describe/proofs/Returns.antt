@@ -12,12 +12,11 @@ use Rattle.number.specs.Reading.{Reading, Whole, Refused, Step, tested, readByt
 use Rattle.number.proofs.Places.{either}
 use Rattle.record.specs.Content.{Head, NoisePart, ScalarPart}
 use Rattle.record.specs.Reading.{readHead, readNoise, readScalar}
-use Rattle.record.specs.Inner.Answers.{headOf, opened, frontOf}
+use Rattle.record.specs.Answer.{headOf, opened, frontOf, recordFault}
 use Rattle.record.specs.declared.Front.{Front}
 use Rattle.record.specs.declared.Opened.{Opened}
 use Rattle.record.specs.declared.Opened.the-variants.{Accepted, Fault}
 use Rattle.record.proofs.Callers.{Ranges, head-ranges, noise-refused, noise-opened, scalar-refused, scalar-opened}
-use Rattle.rows.specs.Inner.Words.{recordFault}
 use Rattle.describe.specs.declared.Described.{Described}
 use Rattle.describe.specs.Describe.{head, refused, said, byEnd, description, describe}
 use Rattle.describe.specs.Inner.Answers.{frontHead}

@@ -18,7 +18,7 @@ use Rattle.field.proofs.BothKinds.{kindLaws}
 use Rattle.number.specs.Reading.{Whole, Refused}
 use Rattle.record.specs.Content.{NoisePart, ScalarPart}
 use Rattle.record.specs.Reading.{readHead, readNoise, readScalar}
-use Rattle.record.specs.Inner.Answers.{headOf, opened, frontOf}
+use Rattle.record.specs.Answer.{headOf, opened, frontOf, recordFault}
 use Rattle.record.specs.declared.Front.{Front}
 use Rattle.record.specs.declared.Opened.{Opened}
 use Rattle.record.specs.declared.Opened.the-variants.{Accepted, Fault}
@@ -26,7 +26,6 @@ use Rattle.record.proofs.Callers.{head-ranges}
 use Rattle.record.proofs.Parts.{noise-parts, scalar-parts}
 use Rattle.rows.specs.Head.{codeKeys}
 use Rattle.rows.specs.Inner.Numbers.{pastOutputs, shortBuffer, lengthsNumber}
-use Rattle.rows.specs.Inner.Words.{recordFault}
 use Rattle.rows.proofs.Numbers.{count-fits}
 use Rattle.tree.specs.Child.{keysFor}
 use Rattle.tree.specs.KeySchedules.{OfChildKeys}

@@ -6,12 +6,11 @@ use Rattle.number.specs.Reading.{Whole, Refused}
 use Rattle.number.specs.Inner.Known.{isWhole}
 use Rattle.record.specs.Content.{NoiseTree, NoisePart}
 use Rattle.record.specs.Reading.{readHead, readTrees, readNoise}
-use Rattle.record.specs.Inner.Answers.{headOf, opened, frontOf}
+use Rattle.record.specs.Answer.{headOf, opened, frontOf, recordFault}
 use Rattle.record.specs.declared.Front.{Front}
 use Rattle.record.specs.declared.Opened.{Opened}
 use Rattle.record.specs.declared.Opened.the-variants.{Accepted, Fault}
 use Rattle.record.proofs.Callers.{noise-refused, noise-opened}
-use Rattle.rows.specs.Inner.Words.{recordFault}
 use Rattle.rows.proofs.Sizes.{head-sizes}
 use Rattle.noise_end.specs.Inner.Ready.{beside, treesAt, contentOf, Ready}
 

@@ -10,7 +10,7 @@ ghost use Rattle.field.specs.Kind.{kindOf, binaryKind, primeKind, elementWords}
 ghost use Rattle.field.specs.Prime.{primes};
 ghost use Rattle.rows.specs.Inner.Outputs.{rowsOf, ofNoise, windowOver};
 ghost use Rattle.rows.specs.Inner.Testing.{Testing, Fitting, elementsUsed};
-ghost use Rattle.record.specs.Inner.Answers.{headOf};
+ghost use Rattle.record.specs.Answer.{headOf};
 ghost use Rattle.noise_end.specs.Online as on;
 ghost use Rattle.noise_end.specs.Inner.Ready.{Ready};
 ghost use Rattle.noise_end.specs.Inner.Steps.{bothUsed, uOver, vOver, windowsUnder, outputsUnder, bothNumber};

@@ -9,8 +9,8 @@ use lib.ListN.{length, getD}
 use Rattle.number.proofs.Places.{split, whole-is, refused-whole, has-front, has-back, has-join, has-is, has-byte, byte-has}
 use Rattle.number.proofs.Steps.{ends-0, value-0, ends-1, zero-1, value-1, ends-2, zero-2, value-2, top-bit, one, two, three}
 pub use Rattle.number.proofs.Steps.{length-number}
-use Rattle.number.specs.Number.{writeNumber, readNumber}
-use Rattle.number.specs.Inner.Answers.{numbers, numberLength}
+use Rattle.number.specs.Number.{writeNumber, readNumber, numberLength}
+use Rattle.number.specs.Inner.Written.{numbers}
 use Rattle.number.specs.Reading.{Whole, Refused, Step, Bytes}
 use Rattle.number.specs.Inner.Known.{Has}
 

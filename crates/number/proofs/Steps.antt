@@ -9,8 +9,8 @@ use Rattle.number.proofs.Places.{split, refused-known}
 use native.Mathlib.Numerals.{add-one}
 use native.Mathlib.Omega.{arith}
 use lib.ListN.{length, getD, set}
-use Rattle.number.specs.Number.{writeNumber, lastGroup, readNumber}
-use Rattle.number.specs.Inner.Answers.{numberLength, numberRead}
+use Rattle.number.specs.Number.{writeNumber, lastGroup, readNumber, numberLength}
+use Rattle.number.specs.Answer.{numberRead}
 use Rattle.number.specs.Inner.Known.{isWhole}
 use Rattle.number.specs.Inner.Written.{Room, Wrote}
 use Rattle.number.specs.declared.Number.{Number}

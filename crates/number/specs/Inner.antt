@@ -1,4 +1,3 @@
 -- Inner: no promise cites this folder. What inner functions' contracts and the proofs use.
-pub mod Answers
 pub mod Known
 pub mod Written

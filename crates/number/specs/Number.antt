@@ -13,6 +13,10 @@ writeNumber n =
     (choose (ltb n 16384) ((128 + n % 128) ∷ n / 128 ∷ [])
     ((128 + n % 128) ∷ (128 + n / 128 % 128) ∷ n / 16384 ∷ []))
 
+-- how many bytes it takes: one for each group of seven bits
+unfoldable pub numberLength : ℕ → ℕ
+numberLength n = choose (ltb n 128) 1 (choose (ltb n 16384) 2 3)
+
 -- the last byte of several: 11: number not shortest, where it is 00
 unfoldable pub lastGroup : ℕ → ℕ → ℕ → Step ℕ
 lastGroup b n next = choose (eqb b 0) (Refused badNumber) (Whole (n, next))

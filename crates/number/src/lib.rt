@@ -4,9 +4,9 @@ ghost use mathlib.Core.Path.{_≡_};
 ghost use Prim.Native.Nat.{_<_};
 ghost use Rattle.number.specs.Reading.{Whole};
 ghost use Rattle.number.specs.Inner.Known.{isWhole};
-ghost use Rattle.number.specs.Number.{writeNumber, readNumber};
-ghost use Rattle.number.specs.Inner.Written.{Room, Wrote};
-ghost use Rattle.number.specs.Inner.Answers.{numbers, numberLength, numberRead, numberFault};
+ghost use Rattle.number.specs.Number.{writeNumber, readNumber, numberLength};
+ghost use Rattle.number.specs.Inner.Written.{Room, Wrote, numbers};
+ghost use Rattle.number.specs.Answer.{numberRead, numberFault};
 use answer::BAD_NUMBER;
 use answer::RECORD_ENDS;
 

@@ -6,17 +6,17 @@ use Prim.Native.Nat.{ℕ, _^_, _≤_, _<_}
 use borrow.Author.Tests.{not-true, not-false}
 use Rattle.record.specs.Content.{Head}
 use Rattle.record.specs.Reading.{readHead, readNoise, readScalar}
-use Rattle.record.specs.Inner.Answers.{headOf, opened, frontOf}
+use Rattle.record.specs.Answer.{headOf, opened, frontOf, recordFault}
 use Rattle.record.specs.declared.Front.{Front}
 use Rattle.record.specs.declared.Opened.{Opened}
 use Rattle.record.specs.declared.Opened.the-variants.{Accepted, Fault}
-use Rattle.rows.specs.Inner.Words.{recordFault}
 use Rattle.noise_end.specs.Inner.Ready as noise
 use Rattle.noise_end.proofs.Content as noiseContent
 use Rattle.scalar_end.specs.Inner.Ready as scalar
 use Rattle.scalar_end.proofs.Content as scalarContent
 use Rattle.pairing.specs.declared.Finding.the-variants as finding
-use Rattle.pairing.specs.Inner.Steps.{verdictOf, KeyIn}
+use Rattle.pairing.specs.Answer.{verdictOf}
+use Rattle.pairing.specs.Inner.Steps.{KeyIn}
 use Rattle.pairing.specs.Verdict.{sameDealing, verdict}
 use Rattle.pairing.proofs.Laws.{noise-refusal, scalar-refusal, noise-large, scalar-large, not-same}
 use Rattle.pairing.proofs.Same.{dealing-equal}

@@ -12,7 +12,7 @@ use Rattle.record.proofs.Writes.{after}
 use Rattle.pairing.specs.declared.Finding.{Finding}
 use Rattle.pairing.specs.declared.Finding.the-variants as finding
 use Rattle.pairing.specs.Line.{digits, decimal, refusedText, tooLargeText, differentText, checkedText, heldText, text, printed}
-use Rattle.pairing.specs.Inner.Steps.{verdictOf}
+use Rattle.pairing.specs.Answer.{verdictOf}
 use Rattle.pairing.specs.Verdict.{Verdict, Refusal, TooLarge, Different, Checked}
 use Rattle.pairing.proofs.Digits.{digits-most}
 

@@ -23,7 +23,7 @@ use Rattle.field.proofs.BothKinds.{kindLaws}
 use Rattle.field.specs.Kind.{binaryKind, primeKind, kindOf, elementWords}
 use Rattle.record.specs.Content.{Head}
 use Rattle.record.specs.declared.Front.{Front}
-use Rattle.record.specs.Inner.Answers.{headOf}
+use Rattle.record.specs.Answer.{headOf}
 use Rattle.record.proofs.Callers.{head-ranges}
 use Rattle.record.proofs.Parts.{noise-parts, scalar-parts}
 use Rattle.rows.specs.Head.{fieldOf}

@@ -13,7 +13,7 @@ use Rattle.algebra.proofs.Tests.{and-left, and-right, and-both}
 use Rattle.number.specs.Reading.{part}
 use Rattle.record.specs.Content.{Head}
 use Rattle.record.specs.declared.Front.{Front}
-use Rattle.record.specs.Inner.Answers.{headOf}
+use Rattle.record.specs.Answer.{headOf}
 use Rattle.record.specs.Inner.Heads.{headWith}
 use Rattle.pairing.specs.Inner.Steps.{sameSizes}
 use Rattle.pairing.specs.Verdict.{sameList, sameDealing}

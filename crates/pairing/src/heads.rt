@@ -2,7 +2,7 @@
 ghost use mathlib.Core.Path.{_≡_};
 ghost use Prim.Native.Nat.{_+_, _≤_};
 ghost use lib.ListN.{length};
-ghost use Rattle.record.specs.Inner.Answers.{headOf};
+ghost use Rattle.record.specs.Answer.{headOf};
 ghost use Rattle.record.specs.Reading.{blockAt};
 ghost use Rattle.pairing.specs.Inner.Steps.{KeyIn, sameSizes};
 ghost use Rattle.pairing.specs.Verdict.{sameList, sameDealing};

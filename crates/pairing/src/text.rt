@@ -4,7 +4,7 @@ ghost use Prim.Native.Nat.{_+_, _≤_, _<_};
 ghost use lib.ListN.{length};
 ghost use lib.Seq.{sets};
 ghost use Rattle.pairing.specs.Line.{digits, printed};
-ghost use Rattle.pairing.specs.Inner.Steps.{verdictOf};
+ghost use Rattle.pairing.specs.Answer.{verdictOf};
 ghost use Rattle.pairing.specs.Verdict.{Checked};
 use crate::Finding;
 use record::write_bytes;

@@ -25,7 +25,7 @@ use Rattle.record.specs.Admitted.{isField, isSize, mostTrees, mostTerms,
 use Rattle.field.specs.Kind.{elementWords}
 use Rattle.record.specs.Content.{Head, NoiseTree, NoisePart, ScalarPart, siblingCount}
 use Rattle.record.specs.Reading.{items, blockAt, readWords, readBlocks, readValue, readDelta, readHead, readTree, readTrees, readNoise, readScalar}
-use Rattle.record.specs.Inner.Answers.{frontOf}
+use Rattle.record.specs.Answer.{frontOf}
 
 -- ---- the head
 

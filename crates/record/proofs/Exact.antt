@@ -17,7 +17,7 @@ use Rattle.field.specs.Prime.{modulus}
 use Rattle.number.proofs.Laws.{length-number, number-reads, number-whole}
 use Rattle.number.proofs.Places.{split, either, whole-is, then-whole, tested-whole, tested-reads, choose-yes, choose-no, has-front, has-back, has-next, has-is, part-has, byte-reads, byte-whole, bytes-reads, bytes-whole}
 use Rattle.number.specs.Number.{writeNumber, readNumber}
-use Rattle.number.specs.Inner.Answers.{numbers}
+use Rattle.number.specs.Inner.Written.{numbers}
 use Rattle.number.specs.Reading.{Whole, Refused, Step, then, choose, tested, part, readByte, Bytes}
 use Rattle.number.specs.Inner.Known.{Has}
 use Rattle.record.proofs.Again.{value-parts-1, value-parts-2}

@@ -16,7 +16,7 @@ use Rattle.field.specs.Bytes.{wordAt}
 use Rattle.field.proofs.KindOf.{words-1, words-2}
 use Rattle.record.proofs.Elements.{is-element-1, is-element-2}
 use Rattle.number.specs.Number.{readNumber}
-use Rattle.number.specs.Inner.Answers.{numberRead}
+use Rattle.number.specs.Answer.{numberRead}
 use Rattle.number.specs.Reading.{Whole, Refused, choose, tested, readByte}
 use Rattle.number.specs.declared.Number.{Number}
 use Rattle.number.specs.declared.Number.the-variants.{Value, Fault}

@@ -11,7 +11,7 @@ use lib.Dec.{leb, eqb}
 use lib.ListN.{length}
 use Rattle.number.proofs.Places.{tested-whole}
 use Rattle.number.specs.Number.{readNumber}
-use Rattle.number.specs.Inner.Answers.{numberRead, numberFault}
+use Rattle.number.specs.Answer.{numberRead, numberFault}
 use Rattle.number.specs.Reading.{Whole, Refused, Step, tested, readBytes}
 use Rattle.number.specs.declared.Number.{Number}
 use Rattle.number.specs.declared.Number.the-variants.{Value, Fault}
@@ -20,7 +20,8 @@ use Rattle.record.proofs.Parts.{head-parts}
 use Rattle.record.specs.Admitted.{isSize, mostTrees}
 use Rattle.record.specs.Content.{Head}
 use Rattle.record.specs.Reading.{readSize, readBranch, readField, readAfterDepth, readSizes, readHead}
-use Rattle.record.specs.Inner.Answers.{skipped, headOf}
+use Rattle.record.specs.Inner.Answers.{skipped}
+use Rattle.record.specs.Answer.{headOf}
 use Rattle.record.specs.declared.Front.{Front}
 
 -- a size that was read is in its range

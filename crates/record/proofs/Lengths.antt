@@ -17,7 +17,7 @@ use Rattle.field.specs.Bytes.{leBytes}
 use Rattle.field.specs.Kind.{elementWords}
 use Rattle.number.proofs.Laws.{length-number, length-bounds}
 use Rattle.number.proofs.Places.{either}
-use Rattle.number.specs.Inner.Answers.{numberLength}
+use Rattle.number.specs.Number.{numberLength}
 use Rattle.number.specs.Reading.{part}
 use Rattle.record.specs.Inner.Rising.{RisesFrom}
 use Rattle.record.specs.Content.{Head, elementOf, siblingCount}

@@ -12,7 +12,7 @@ use mir.Syntax.{w64}
 use mir.Val.{Fits}
 use Rattle.number.proofs.Places.{refused-whole, whole-is, tested-whole}
 use Rattle.number.specs.Number.{readNumber}
-use Rattle.number.specs.Inner.Answers.{numberRead, numberFault}
+use Rattle.number.specs.Answer.{numberRead, numberFault}
 use Rattle.number.specs.Reading.{Whole, Refused, Step, then, choose}
 use Rattle.number.specs.declared.Number.{Number}
 use Rattle.number.specs.declared.Number.the-variants.{Value, Fault}
@@ -22,7 +22,8 @@ use Rattle.record.proofs.Parts.{tree-parts}
 use Rattle.record.proofs.Trees.{first-refused, first-whole}
 use Rattle.record.specs.Content.{Head, NoiseTree, NoisePart, ScalarPart, siblingCount}
 use Rattle.record.specs.Reading.{readItems, readPosition, readDelta, readHead, readTree, readTrees, ended, readNoise, readScalar}
-use Rattle.record.specs.Inner.Answers.{skipped, headOf, opened, frontOf, treeFront, firstWord}
+use Rattle.record.specs.Inner.Answers.{skipped, treeFront, firstWord}
+use Rattle.record.specs.Answer.{headOf, opened, frontOf}
 use Rattle.record.specs.declared.Front.{Front}
 use Rattle.record.specs.declared.Opened.{Opened}
 use Rattle.record.specs.declared.Opened.the-variants.{Accepted, Fault as Refuse}

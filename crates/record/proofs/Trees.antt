@@ -4,7 +4,7 @@ use mathlib.Core.List.{List}
 use mathlib.Core.Path.{_≡_, refl, sym, ap, _∙_}
 use lib.ListN.{getD}
 use Rattle.number.proofs.Places.{refused-whole, whole-is}
-use Rattle.number.specs.Inner.Answers.{numberRead}
+use Rattle.number.specs.Answer.{numberRead}
 use Rattle.number.specs.Reading.{Whole, Refused, Step}
 use Rattle.number.specs.declared.Number.{Number}
 use Rattle.number.specs.declared.Number.the-variants.{Value, Fault}

@@ -3,4 +3,5 @@ pub mod Content
 pub mod Admitted
 pub mod Writing
 pub mod Reading
+pub mod Answer
 pub mod Inner

@@ -1,7 +1,7 @@
 // The elements of a record: noise values, corrections and Δ.
 ghost use mathlib.Core.Path.{_≡_};
 ghost use Prim.Native.Nat.{_+_};
-ghost use Rattle.number.specs.Inner.Answers.{numberRead};
+ghost use Rattle.number.specs.Answer.{numberRead};
 ghost use Rattle.record.specs.Reading.{readValue, readCorrection, readDelta};
 ghost use Rattle.record.specs.Inner.Answers.{firstWord};
 ghost use Rattle.record.specs.Inner.Lengths.{elementLength};

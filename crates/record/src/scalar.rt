@@ -1,7 +1,7 @@
 // The scalar record.
 ghost use mathlib.Core.Path.{_≡_};
 ghost use Rattle.record.specs.Reading.{readHead, readScalar};
-ghost use Rattle.record.specs.Inner.Answers.{frontOf, opened};
+ghost use Rattle.record.specs.Answer.{frontOf, opened};
 use crate::Opened;
 use crate::element::read_delta;
 use crate::head::read_head;

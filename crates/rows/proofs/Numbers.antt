@@ -15,7 +15,7 @@ use Rattle.code.specs.declared.Window.{Window}
 use Rattle.field.specs.Kind.{elementWords}
 use Rattle.record.specs.declared.Front.{Front}
 use Rattle.rows.specs.Inner.Numbers.{testsNumber, wrongVector, pastOutputs, shortBuffer, lengthsNumber}
-use Rattle.record.specs.Inner.Answers.{headOf}
+use Rattle.record.specs.Answer.{headOf}
 use Rattle.rows.specs.Inner.Outputs.{rowsOf}
 use Rattle.rows.specs.Inner.Sizes.{Sizes}
 use Rattle.rows.specs.Inner.Testing.{Fitting}

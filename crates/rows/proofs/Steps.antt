@@ -22,7 +22,7 @@ use Rattle.field.specs.Prime.{primes, primeRing, modulus}
 use Rattle.field.proofs.KindOf.{kind-2, words-1}
 use Rattle.field.proofs.Words.{put-two}
 use Rattle.record.specs.declared.Front.{Front}
-use Rattle.record.specs.Inner.Answers.{headOf}
+use Rattle.record.specs.Answer.{headOf}
 use Rattle.tree.specs.Columns.{columnsAt}
 use Rattle.code.specs.Inner.Used.{usedBelow}
 use Rattle.rows.specs.declared.WindowRows.{WindowRows}

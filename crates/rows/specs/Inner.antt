@@ -3,4 +3,3 @@ pub mod Sizes
 pub mod Outputs
 pub mod Testing
 pub mod Numbers
-pub mod Words

@@ -2,7 +2,7 @@
 // accumulated.
 ghost use mathlib.Core.Path.{_≡_};
 ghost use Rattle.field.specs.Kind.{elementWords};
-ghost use Rattle.rows.specs.Inner.Words.{recordFault};
+ghost use Rattle.record.specs.Answer.{recordFault};
 
 mod window;
 mod words;

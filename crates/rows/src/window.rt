@@ -7,7 +7,7 @@ ghost use Rattle.sbox.specs.Inner.Tables.{RoundTables};
 ghost use Rattle.sbox.specs.Table.{SBoxTable};
 ghost use Rattle.aes128.specs.Words.{roundKeys};
 ghost use Rattle.field.specs.Kind.{kindOf, elementWords};
-ghost use Rattle.record.specs.Inner.Answers.{headOf};
+ghost use Rattle.record.specs.Answer.{headOf};
 ghost use Rattle.rows.specs.Head.{codeKeys};
 ghost use Rattle.rows.specs.Inner.Numbers.{lengthsNumber};
 ghost use Rattle.rows.specs.Inner.Outputs.{rowsOf};

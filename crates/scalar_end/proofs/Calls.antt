@@ -16,7 +16,7 @@ use Rattle.code.specs.declared.Window.{Window}
 use Rattle.field.specs.Kind.{kindOf, elementWords}
 use Rattle.field.proofs.BothKinds.{kindLaws}
 use Rattle.record.specs.Reading.{readHead, readScalar}
-use Rattle.record.specs.Inner.Answers.{headOf, opened, frontOf}
+use Rattle.record.specs.Answer.{headOf, opened, frontOf, recordFault}
 use Rattle.record.specs.declared.Front.{Front}
 use Rattle.record.specs.declared.Opened.{Opened}
 use Rattle.record.specs.declared.Opened.the-variants.{Accepted, Fault}
@@ -25,7 +25,6 @@ use Rattle.rows.specs.Head.{codeKeys}
 use Rattle.rows.specs.Inner.Numbers.{wrongVector, pastOutputs, shortBuffer, lengthsNumber}
 use Rattle.rows.specs.Inner.Outputs.{rowsOf}
 use Rattle.rows.specs.Inner.Testing.{Fitting, elementsUsed}
-use Rattle.rows.specs.Inner.Words.{recordFault}
 use Rattle.rows.specs.Usable.{windowUsable}
 use Rattle.rows.proofs.Fronts.{front-over}
 use Rattle.rows.proofs.Numbers.{none-failed, one-failed, passed-fits}

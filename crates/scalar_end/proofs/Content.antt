@@ -6,12 +6,11 @@ use Prim.Native.Nat.{ℕ}
 use Rattle.number.specs.Reading.{Whole, Refused}
 use Rattle.record.specs.Content.{Head, ScalarPart}
 use Rattle.record.specs.Reading.{readHead, readScalar}
-use Rattle.record.specs.Inner.Answers.{opened, frontOf}
+use Rattle.record.specs.Answer.{opened, frontOf, recordFault}
 use Rattle.record.specs.declared.Front.{Front}
 use Rattle.record.specs.declared.Opened.{Opened}
 use Rattle.record.specs.declared.Opened.the-variants.{Accepted, Fault}
 use Rattle.record.proofs.Callers.{scalar-opened, scalar-refused}
-use Rattle.rows.specs.Inner.Words.{recordFault}
 use Rattle.rows.proofs.Sizes.{head-sizes}
 use Rattle.scalar_end.specs.Inner.Ready.{contentOf, Ready}
 

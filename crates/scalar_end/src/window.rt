@@ -9,7 +9,7 @@ ghost use Rattle.field.specs.Kind.{kindOf, binaryKind, primeKind, elementWords}
 ghost use Rattle.field.specs.Prime.{primes};
 ghost use Rattle.rows.specs.Inner.Outputs.{rowsOf, windowOver};
 ghost use Rattle.rows.specs.Inner.Testing.{Fitting, elementsUsed};
-ghost use Rattle.record.specs.Inner.Answers.{headOf};
+ghost use Rattle.record.specs.Answer.{headOf};
 ghost use Rattle.scalar_end.specs.Online as on;
 ghost use Rattle.scalar_end.specs.Inner.Ready.{Ready};
 ghost use Rattle.scalar_end.specs.Inner.Steps.{windowUnder, outputsUnder};

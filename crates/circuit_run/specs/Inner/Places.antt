@@ -8,7 +8,7 @@ use lib.Dec.{eqb}
 use lib.ListN.{length, getD, set, drop}
 use Rattle.algebra.specs.Choice.{choose}
 use Rattle.circuit.specs.Content.{And, Circuit}
-use Rattle.circuit.specs.Inner.Fronts.{content, HasFront}
+use Rattle.circuit.specs.Answer.{content, HasFront}
 use Rattle.circuit.specs.Reading.{readGates}
 use Rattle.circuit.specs.declared.Front.{Front}
 use Rattle.number.specs.Reading.{Whole}

@@ -11,7 +11,8 @@ use Rattle.algebra.specs.Choice.{choose}
 use Rattle.algebra.specs.Field.{Value}
 use Rattle.field.specs.Kind.{kindOf}
 use Rattle.record.specs.Content.{treeIn}
-use Rattle.record.specs.Inner.Answers.{headOf, treeOf}
+use Rattle.record.specs.Answer.{headOf}
+use Rattle.record.specs.Inner.Answers.{treeOf}
 use Rattle.record.specs.declared.Front.{Front}
 use Rattle.record.specs.declared.Tree.{Tree}
 use Rattle.rows.specs.Inner.Sizes.{Sizes}

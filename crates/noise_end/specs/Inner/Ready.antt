@@ -10,7 +10,8 @@ use Rattle.number.specs.Reading.{Whole, Refused, Step}
 use Rattle.number.specs.Inner.Known.{isWhole}
 use Rattle.record.specs.Content.{NoiseTree, NoisePart, siblingCount}
 use Rattle.record.specs.Reading.{readTree, readTrees, readNoise}
-use Rattle.record.specs.Inner.Answers.{headOf, treeOf}
+use Rattle.record.specs.Answer.{headOf}
+use Rattle.record.specs.Inner.Answers.{treeOf}
 use Rattle.record.specs.declared.Front.{Front}
 use Rattle.record.specs.declared.Tree.{Tree}
 use Rattle.tree.specs.Child.{keysFor}

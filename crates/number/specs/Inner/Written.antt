@@ -5,6 +5,10 @@ use mathlib.Core.Path.{_≡_}
 use lib.ListN.{length}
 use lib.Seq.{sets}
 
+-- the numbers that at most 3 bytes hold are below this
+abbrev pub numbers : ℕ
+numbers = 2097152
+
 -- a buffer has room for bytes from a place on
 pub record Room (buffer : List ℕ) (at : ℕ) (bytes : List ℕ) : Type 0 where
   pub fits : at + length bytes ≤ length buffer

@@ -1,4 +1,4 @@
--- Inner: no promise cites this file. The verdict of a finding, two records that are checked, their outputs, and how many hold.
+-- Inner: no promise cites this file. Two records that are checked, their outputs, and how many hold.
 use mathlib.Core.Path.{_≡_}
 use mathlib.Core.Bool.{Bool, _&&_}
 use mathlib.Core.List.{List}
@@ -10,19 +10,10 @@ use Rattle.algebra.specs.Coding.{at}
 use Rattle.algebra.specs.Field.{Field, NoiseValue, Value}
 use Rattle.field.specs.Kind.{kindOf}
 use Rattle.record.specs.declared.Front.{Front}
-use Rattle.record.specs.Inner.Answers.{headOf}
+use Rattle.record.specs.Answer.{headOf}
 use Rattle.noise_end.specs.Inner.Ready as noise
 use Rattle.scalar_end.specs.Inner.Ready as scalar
-use Rattle.pairing.specs.declared.Finding.{Finding}
-use Rattle.pairing.specs.declared.Finding.the-variants as finding
-use Rattle.pairing.specs.Verdict.{Verdict, Refusal, TooLarge, Different, Checked, sameList, uAt, vAt, wAt}
-
--- what each case of a finding says
-abbrev pub verdictOf : Finding → Verdict
-verdictOf (finding.Refused k) = Refusal k
-verdictOf finding.TooLarge = TooLarge
-verdictOf finding.Different = Different
-verdictOf (finding.Checked n held) = Checked n held
+use Rattle.pairing.specs.Verdict.{sameList, uAt, vAt, wAt}
 
 -- field and sizes all equal
 abbrev pub sameSizes : Front → Front → Bool

@@ -2,8 +2,7 @@
 use Prim.Native.Nat.{ℕ, _+_, _-_, _*_, _≤_, _<_}
 use mathlib.Core.List.{List, [], _∷_, _++_}
 use mathlib.Core.Path.{_≡_}
-use Rattle.number.specs.Inner.Answers.{numberLength}
-use Rattle.number.specs.Number.{writeNumber}
+use Rattle.number.specs.Number.{numberLength, writeNumber}
 use Rattle.field.specs.Kind.{elementWords}
 use Rattle.record.specs.Content.{siblingCount}
 use Rattle.record.specs.Writing.{writeValue, writeWords}

@@ -7,7 +7,7 @@ use Rattle.field.specs.Bytes.{wordAt}
 use Rattle.number.specs.Reading.{Whole}
 use Rattle.record.specs.Content.{ScalarPart}
 use Rattle.record.specs.Reading.{items, blockAt, readScalar}
-use Rattle.record.specs.Inner.Answers.{headOf}
+use Rattle.record.specs.Answer.{headOf}
 use Rattle.record.specs.declared.Front.{Front}
 use Rattle.tree.specs.Child.{keysFor}
 use Rattle.tree.specs.KeySchedules.{OfChildKeys}
