@@ -9,6 +9,7 @@ pub mod Items
 pub mod Laws
 pub mod Lengths
 pub mod Parts
+pub mod RecordLengths
 mod Records
 mod Rising
 mod Trees

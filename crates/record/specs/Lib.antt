@@ -4,4 +4,5 @@ pub mod Admitted
 pub mod Writing
 pub mod Reading
 pub mod Answer
+pub mod Lengths
 pub mod Inner
