@@ -17,7 +17,7 @@ use Rattle.dealing.specs.Vectors.{head, field, delta, mu, v0, w0, u, v, w}
 use Rattle.noise_end.specs.Vectors as noiseVectors
 use Rattle.scalar_end.specs.Vectors as scalarVectors
 use Rattle.pairing.proofs.Laws.{held-at, correlated-held}
-use Rattle.pairing.specs.Verdict.{uAt, vAt, wAt, heldAt}
+use Rattle.pairing.specs.Verdict.{uAt, vAt, wAt, pairOf, heldAt}
 use Rattle.claims.specs.Pairing.{Held}
 use Rattle.claims.proofs.Dealt.{mu-dealt, v0-dealt, w0-dealt}
 use Rattle.claims.proofs.Outputs.{admitted-correlated}
@@ -43,15 +43,14 @@ module _ (I : Input) (A : Admitted I) (x : ℕ) where
       output-same (field I .ring) (field I .scaled) (places (head I)) (row (head I) x) (row-within (head I) (A .terms .2) x) _ _
       (accumulate-same (field I .scaled .group) (places (head I)) (scalarVectors.w0 (scalarPart I)) (w0 I) (λ j h. w0-dealt I A j))
 
-  dealt-held : heldAt (noisePart I) (scalarPart I) x ≡ true
+  dealt-held : heldAt (pairOf (noisePart I) (scalarPart I)) x ≡ true
   dealt-held =
-      held-at (noisePart I) (scalarPart I) x
-      (ap (field I .elements .words)
+      held-at (pairOf (noisePart I) (scalarPart I)) x
       (w-at ∙ admitted-correlated I A x
-      ∙ ap₂ (λ a b. field I .scaled .group .add (field I .scaled .scale a (delta I)) b) (sym u-at) (sym v-at)))
+      ∙ ap₂ (λ a b. field I .scaled .group .add (field I .scaled .scale a (delta I)) b) (sym u-at) (sym v-at))
 
 pub held : Held
 held I M a b z small =
     let A = dealing.deal-number I a b z .admitted in
-    correlated-held _ _ (noisePart I) (scalarPart I) (dealing.noise-reads I a b z M) (dealing.scalar-reads I a b z M)
-    (record { head = refl; small = small; held = λ x h. dealt-held I A x })
+    correlated-held _ _ (pairOf (noisePart I) (scalarPart I)) (dealing.noise-reads I a b z M) (dealing.scalar-reads I a b z M)
+    (record { small = small; held = λ x h. dealt-held I A x })

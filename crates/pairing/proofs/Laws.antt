@@ -13,9 +13,10 @@ use Rattle.number.specs.Reading.{Whole, Refused}
 use Rattle.record.specs.Content.{NoisePart, ScalarPart}
 use Rattle.record.specs.Reading.{readNoise, readScalar}
 use Rattle.rows.specs.Head.{fieldOf, places}
+use Rattle.scalar_end.specs.Vectors as scalarEnd
 use Rattle.pairing.specs.AllHeld.{CorrelatedHeld}
 use Rattle.pairing.specs.Line.{text, printed}
-use Rattle.pairing.specs.Verdict.{Verdict, Refusal, TooLarge, Different, Checked, sameDealing, uAt, vAt, wAt, heldAt, heldOf, paired, verdict}
+use Rattle.pairing.specs.Verdict.{Verdict, Refusal, TooLarge, Different, Checked, sameDealing, uAt, vAt, wAt, holds, Pair, noiseOf, scalarOf, pairOf, heldAt, heldOf, paired, verdict}
 use Rattle.pairing.proofs.Same.{same-refl, same-dealing}
 
 -- ---- a record is refused
@@ -50,38 +51,33 @@ module _ (noise scalar : List ℕ) {P : NoisePart} {Q : ScalarPart} (read : read
     not-same e = both ∙ rw (le-ltb 1024 (places (P .head)) small, le-ltb 1024 (places (Q .head)) small-too, e)
 
     pub same-checked : sameDealing (P .head) (Q .head) ≡ true
-        → verdict noise scalar ≡ Checked (P .head .outputs) (heldOf P Q (P .head .outputs))
+        → verdict noise scalar ≡ Checked (P .head .outputs) (heldOf (pairOf P Q) (P .head .outputs))
     unfolding paired
     same-checked e = both ∙ rw (le-ltb 1024 (places (P .head)) small, le-ltb 1024 (places (Q .head)) small-too, e)
 
 -- ---- correlated records
 
--- equal words of both sides are held
-pub held-at : (P : NoisePart) (Q : ScalarPart) (x : ℕ)
-    → fieldOf (Q .head) .elements .words (wAt Q x)
-    ≡ fieldOf (P .head) .elements .words
-    (fieldOf (P .head) .scaled .group .add
-    (fieldOf (P .head) .scaled .scale (uAt P x) (fieldOf (P .head) .elements .read (Q .delta) 0))
-    (vAt P x))
-    → heldAt P Q x ≡ true
-unfolding heldAt
-held-at P Q x e = rw e (same-refl _)
+-- equal sides are held
+pub held-at : (D : Pair) (x : ℕ)
+    → wAt (scalarOf D) x
+    ≡ fieldOf (D .head) .scaled .group .add (fieldOf (D .head) .scaled .scale (uAt (noiseOf D) x) (scalarEnd.delta (scalarOf D))) (vAt (noiseOf D) x)
+    → heldAt D x ≡ true
+unfolding heldAt holds
+held-at D x e = rw e (same-refl _)
 
 -- where all of the first n hold, n are counted
-pub all-counted : (P : NoisePart) (Q : ScalarPart) (n : ℕ) → ((x : ℕ) → x < n → heldAt P Q x ≡ true) → heldOf P Q n ≡ n
+pub all-counted : (D : Pair) (n : ℕ) → ((x : ℕ) → x < n → heldAt D x ≡ true) → heldOf D n ≡ n
 unfolding heldOf
-all-counted P Q zero h = refl
-all-counted P Q (suc n) h =
-    ap₂ (λ (a b : ℕ). a + b) (all-counted P Q n (λ x k. h x (omega arith))) (choose-true (heldAt P Q n) 1 0 (h n (omega arith))) ∙ add-one n
+all-counted D zero h = refl
+all-counted D (suc n) h =
+    ap₂ (λ (a b : ℕ). a + b) (all-counted D n (λ x k. h x (omega arith))) (choose-true (heldAt D n) 1 0 (h n (omega arith))) ∙ add-one n
 
 pub correlated-held : CorrelatedHeld
 unfolding text
-correlated-held noise scalar P Q read other C =
-    let small-too : places (Q .head) ≤ 1024 = rw (C .head) (C .small) in
-    let same : sameDealing (P .head) (Q .head) ≡ true = rw (C .head) (same-dealing (P .head)) in
-    let found : verdict noise scalar ≡ Checked (P .head .outputs) (P .head .outputs) =
-    same-checked noise scalar read other (C .small) small-too same
-    ∙ ap (Checked (P .head .outputs)) (all-counted P Q (P .head .outputs) (C .held)) in
+correlated-held noise scalar D read other C =
+    let found : verdict noise scalar ≡ Checked (D .head .outputs) (D .head .outputs) =
+    same-checked noise scalar read other (C .small) (C .small) (same-dealing (D .head))
+    ∙ ap (Checked (D .head .outputs)) (all-counted D (D .head .outputs) (C .held)) in
     record { found = found; line = ap text found }
 
 -- ---- the line

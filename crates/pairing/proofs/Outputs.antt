@@ -21,7 +21,7 @@ use Rattle.answer.specs.declared.OneLength.{OneLength}
 use Rattle.answer.specs.declared.TwoLengths.{TwoLengths}
 use Rattle.field.proofs.BothKinds.{kindLaws}
 use Rattle.field.specs.Kind.{binaryKind, primeKind, kindOf, elementWords}
-use Rattle.record.specs.Content.{Head}
+use Rattle.record.specs.Content.{Head, ScalarPart}
 use Rattle.record.specs.declared.Front.{Front}
 use Rattle.record.specs.Answer.{headOf}
 use Rattle.record.proofs.Callers.{head-ranges}
@@ -38,8 +38,8 @@ use Rattle.scalar_end.specs.Inner.Ready as scalar
 use Rattle.scalar_end.specs.Offline as scalarOffline
 use Rattle.scalar_end.specs.Online as scalarOnline
 use Rattle.scalar_end.specs.Vectors as scalarVectors
-use Rattle.pairing.specs.Inner.Steps.{Paired, NoiseOutputs, ScalarOutputs, counted, holds, holdsAt, heldWords}
-use Rattle.pairing.specs.Verdict.{Checked, sameList, uAt, vAt, wAt, heldAt, heldOf, verdict}
+use Rattle.pairing.specs.Inner.Steps.{Paired, NoiseOutputs, ScalarOutputs, counted, holdsAt, heldWords}
+use Rattle.pairing.specs.Verdict.{Checked, uAt, vAt, wAt, Pair, scalarOf, pairOf, heldAt, heldOf, verdict}
 use Rattle.pairing.proofs.Laws.{same-checked}
 use Rattle.pairing.proofs.Same.{same-dealing}
 
@@ -207,21 +207,26 @@ module _ (s : List ℕ) (p : Front) (t : List ℕ) (q : Front) (here : noise.Rea
   pub pairs-room : (l : List ℕ) → length l ≡ 1024 → p .outputs * 2 ≤ length l
   pairs-room l e = omega (arith, noise-few s p here (A .small))
 
+  abbrev pair : Pair
+  pair = pairOf (noise.contentOf s p) (scalar.contentOf t q)
+
+  -- the scalar record under the head that both have
+  one-head : scalar.contentOf t q ≡ scalarOf pair
+  one-head = ap (λ (h : Head). record { head = h; delta = scalar.contentOf t q .delta; roots = scalar.contentOf t q .roots }) (A .head)
+
   module _ {u v w delta : List ℕ} (left : NoiseOutputs s p u v) (right : ScalarOutputs t q w delta) where
     -- words of u, v, w and Δ that are those of the definition hold where it does
-    same-at : (x : ℕ) → x < p .outputs → holdsAt (kindOf (p .field) .field) delta u v w x ≡ heldAt (noise.contentOf s p) (scalar.contentOf t q) x
-    unfolding holdsAt holds heldAt
+    same-at : (x : ℕ) → x < p .outputs → holdsAt (kindOf (p .field) .field) delta u v w x ≡ heldAt pair x
+    unfolding holdsAt heldAt
     same-at x h =
         let count : p .outputs ≡ q .outputs = ap (λ (k : Head). k .outputs) (sym (A .head)) in
-        let words : kindOf (p .field) .field .elements .words (at (kindOf (p .field) .field .elements) w x)
-        ≡ kindOf (q .field) .field .elements .words (wAt (scalar.contentOf t q) x) =
-        ap (λ (k : Head). fieldOf k .elements .words (at (fieldOf k .elements) w x)) (sym (A .head))
-        ∙ ap (kindOf (q .field) .field .elements .words) (right .w-is x (omega arith)) in
-        let scalar : kindOf (p .field) .field .elements .read delta 0 ≡ kindOf (p .field) .field .elements .read (scalar.contentOf t q .delta) 0 =
-        subst (λ (k : Head). fieldOf k .elements .read delta 0 ≡ fieldOf k .elements .read (scalar.contentOf t q .delta) 0) (A .head) (right .delta-is) in
-        ap₂ sameList words (rw (scalar, left .u-is x h, left .v-is x h))
+        let w-same : at (kindOf (p .field) .field .elements) w x ≡ wAt (scalarOf pair) x =
+        subst (λ (Q : ScalarPart). at (fieldOf (Q .head) .elements) w x ≡ wAt Q x) one-head (right .w-is x (omega arith)) in
+        let delta-same : kindOf (p .field) .field .elements .read delta 0 ≡ scalarVectors.delta (scalarOf pair) =
+        subst (λ (Q : ScalarPart). fieldOf (Q .head) .elements .read delta 0 ≡ scalarVectors.delta Q) one-head (right .delta-is) in
+        rw (delta-same, w-same, left .u-is x h, left .v-is x h)
 
-    same-held : (n : ℕ) → n ≤ p .outputs → heldWords (kindOf (p .field) .field) delta u v w n ≡ heldOf (noise.contentOf s p) (scalar.contentOf t q) n
+    same-held : (n : ℕ) → n ≤ p .outputs → heldWords (kindOf (p .field) .field) delta u v w n ≡ heldOf pair n
     unfolding heldWords heldOf
     same-held zero h = refl
     same-held (suc n) h =

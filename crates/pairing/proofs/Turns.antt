@@ -16,8 +16,8 @@ use Rattle.field.specs.Kind.{Kind, kindOf}
 use Rattle.field.specs.Prime.{primes, prime, primeAdd, primeMul}
 use Rattle.field.specs.declared.block.Block.{Block}
 use Rattle.field.specs.declared.prime.Prime.{Prime}
-use Rattle.pairing.specs.Inner.Steps.{counted, holds, holdsAt, heldWords}
-use Rattle.pairing.specs.Verdict.{sameList}
+use Rattle.pairing.specs.Inner.Steps.{counted, holdsAt, heldWords}
+use Rattle.pairing.specs.Verdict.{sameList, holds}
 use Rattle.pairing.proofs.Same.{same-refl, same-not}
 
 -- ---- one output

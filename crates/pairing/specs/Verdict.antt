@@ -5,12 +5,12 @@ use mathlib.Core.List.{List, [], _∷_}
 use Prim.Native.Nat.{ℕ, zero, suc, _+_}
 use lib.Dec.{ltb, eqb}
 use Rattle.algebra.specs.Choice.{choose}
-use Rattle.algebra.specs.Field.{NoiseValue, Value}
+use Rattle.algebra.specs.Field.{Field, NoiseValue, Value}
 use Rattle.algebra.specs.Group.{itself}
 use Rattle.algebra.specs.Row.{output}
 use Rattle.algebra.specs.Sum.{accumulate}
 use Rattle.number.specs.Reading.{Reading, Whole, Refused}
-use Rattle.record.specs.Content.{Head, NoisePart, ScalarPart}
+use Rattle.record.specs.Content.{Head, NoiseTree, NoisePart, ScalarPart}
 use Rattle.record.specs.Reading.{readNoise, readScalar}
 use Rattle.rows.specs.Head.{fieldOf, places, row}
 use Rattle.noise_end.specs.Vectors as noiseEnd
@@ -55,27 +55,43 @@ vAt P x = output (fieldOf (P .head) .scaled) (row (P .head) x) (accumulate (fiel
 abbrev pub wAt : (Q : ScalarPart) → ℕ → Value (fieldOf (Q .head))
 wAt Q x = output (fieldOf (Q .head) .scaled) (row (Q .head) x) (accumulate (fieldOf (Q .head) .scaled .group) (scalarEnd.w0 Q))
 
--- w = Δu + v at output x, in the words of both sides
-unfoldable pub heldAt : NoisePart → ScalarPart → ℕ → Bool
-heldAt P Q x =
-    sameList
-    (fieldOf (Q .head) .elements .words (wAt Q x))
-    (fieldOf (P .head) .elements .words
-    (fieldOf (P .head) .scaled .group .add
-    (fieldOf (P .head) .scaled .scale (uAt P x) (fieldOf (P .head) .elements .read (Q .delta) 0))
-    (vAt P x)))
+-- w = Δu + v, in the words of both sides
+unfoldable pub holds : (F : Field) → Value F → NoiseValue F → Value F → Value F → Bool
+holds F Δ u v w = sameList (F .elements .words w) (F .elements .words (F .scaled .group .add (F .scaled .scale u Δ) v))
+
+-- two records of one dealing: the head that they share, the noise record's trees, and the scalar record's Δ and roots
+pub record Pair : Type 0 where
+  pub head : Head
+  pub trees : List NoiseTree
+  pub delta : List ℕ
+  pub roots : List (List ℕ)
+
+-- each record of a pair, under the one head
+abbrev pub noiseOf : Pair → NoisePart
+noiseOf D = record { head = D .head; trees = D .trees }
+
+abbrev pub scalarOf : Pair → ScalarPart
+scalarOf D = record { head = D .head; delta = D .delta; roots = D .roots }
+
+-- the pair of two records that have one head
+abbrev pub pairOf : NoisePart → ScalarPart → Pair
+pairOf P Q = record { head = P .head; trees = P .trees; delta = Q .delta; roots = Q .roots }
+
+-- w = Δu + v at output x of a pair
+unfoldable pub heldAt : Pair → ℕ → Bool
+heldAt D x = holds (fieldOf (D .head)) (scalarEnd.delta (scalarOf D)) (uAt (noiseOf D) x) (vAt (noiseOf D) x) (wAt (scalarOf D) x)
 
 -- how many of the outputs 0 to n − 1 hold
-unfoldable pub heldOf : NoisePart → ScalarPart → ℕ → ℕ
-heldOf P Q zero = 0
-heldOf P Q (suc n) = heldOf P Q n + choose (heldAt P Q n) 1 0
+unfoldable pub heldOf : Pair → ℕ → ℕ
+heldOf D zero = 0
+heldOf D (suc n) = heldOf D n + choose (heldAt D n) 1 0
 
 -- two accepted records
 unfoldable pub paired : NoisePart → ScalarPart → Verdict
 paired P Q =
     choose (ltb 1024 (places (P .head)) || ltb 1024 (places (Q .head))) TooLarge
     (choose (not (sameDealing (P .head) (Q .head))) Different
-    (Checked (P .head .outputs) (heldOf P Q (P .head .outputs))))
+    (Checked (P .head .outputs) (heldOf (pairOf P Q) (P .head .outputs))))
 
 -- the noise record's number if both are refused
 unfoldable pub verdict : List ℕ → List ℕ → Verdict

@@ -5,7 +5,8 @@ ghost use lib.ListN.{length};
 ghost use Rattle.field.specs.Binary.{binary};
 ghost use Rattle.field.specs.Kind.{kindOf};
 ghost use Rattle.field.specs.Prime.{primes};
-ghost use Rattle.pairing.specs.Inner.Steps.{counted, holds, holdsAt, heldWords};
+ghost use Rattle.pairing.specs.Inner.Steps.{counted, holdsAt, heldWords};
+ghost use Rattle.pairing.specs.Verdict.{holds};
 use field::Block;
 use field::Prime;
 

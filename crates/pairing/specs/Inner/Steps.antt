@@ -7,13 +7,13 @@ use lib.Dec.{eqb}
 use lib.ListN.{length}
 use Rattle.algebra.specs.Choice.{choose}
 use Rattle.algebra.specs.Coding.{at}
-use Rattle.algebra.specs.Field.{Field, NoiseValue, Value}
+use Rattle.algebra.specs.Field.{Field}
 use Rattle.field.specs.Kind.{kindOf}
 use Rattle.record.specs.declared.Front.{Front}
 use Rattle.record.specs.Answer.{headOf}
 use Rattle.noise_end.specs.Inner.Ready as noise
 use Rattle.scalar_end.specs.Inner.Ready as scalar
-use Rattle.pairing.specs.Verdict.{sameList, uAt, vAt, wAt}
+use Rattle.pairing.specs.Verdict.{uAt, vAt, wAt, holds}
 
 -- field and sizes all equal
 abbrev pub sameSizes : Front → Front → Bool
@@ -46,11 +46,7 @@ pub record ScalarOutputs (t : List ℕ) (f : Front) (w delta : List ℕ) : Type 
 abbrev pub counted : Bool → ℕ
 counted t = choose t 1 0
 
--- w = Δu + v, in the words of both sides
-unfoldable pub holds : (F : Field) → Value F → NoiseValue F → Value F → Value F → Bool
-holds F Δ u v w = sameList (F .elements .words w) (F .elements .words (F .scaled .group .add (F .scaled .scale u Δ) v))
-
--- the same at output x, from the words of Δ, u, v and w
+-- w = Δu + v at output x, from the words of Δ, u, v and w
 unfoldable pub holdsAt : Field → List ℕ → List ℕ → List ℕ → List ℕ → ℕ → Bool
 holdsAt F delta u v w x = holds F (F .elements .read delta 0) (at (F .noiseValues) u x) (at (F .elements) v x) (at (F .elements) w x)
 
