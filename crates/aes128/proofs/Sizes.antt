@@ -1,4 +1,4 @@
--- The results of the definitions are scheduleWords and states: four columns of four bytes. Assumes nothing.
+-- The results of the definitions are words of four bytes and states of four such words. Assumes nothing.
 use mathlib.Core.Path.{_≡_, refl}
 use mathlib.Core.Bool.{Bool, true, false}
 use mathlib.Core.List.{List, [], _∷_, _++_}

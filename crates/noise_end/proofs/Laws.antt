@@ -151,14 +151,14 @@ module _ (l : Lent) (P : NoisePart) (f : ℕ → NoiseValue (fieldOf (P .head)))
   full : P .head .terms ≤ places (P .head)
   full = head-ranges 1 (l .source) (noise-parts (l .source) read .2) .terms-leaves
 
-  scalar-coding : CodingLaws (fieldOf (P .head) .noiseValues)
-  scalar-coding = kindLaws (P .head .field) .field .noiseValues
+  noise-coding : CodingLaws (fieldOf (P .head) .noiseValues)
+  noise-coding = kindLaws (P .head .field) .field .noiseValues
 
   coding : CodingLaws (fieldOf (P .head) .elements)
   coding = kindLaws (P .head .field) .field .elements
 
   noise-at : (j : ℕ) → j < places (P .head) → at (fieldOf (P .head) .noiseValues) (l .noise) j ≡ f j
-  noise-at j h = rw noise-whole (at-flat (fieldOf (P .head) .noiseValues) scalar-coding (places (P .head)) f j h)
+  noise-at j h = rw noise-whole (at-flat (fieldOf (P .head) .noiseValues) noise-coding (places (P .head)) f j h)
 
   v-at : (j : ℕ) → j < places (P .head) → at (fieldOf (P .head) .elements) (l .v) j ≡ g j
   v-at j h = rw v-whole (at-flat (fieldOf (P .head) .elements) coding (places (P .head)) g j h)
@@ -167,7 +167,7 @@ module _ (l : Lent) (P : NoisePart) (f : ℕ → NoiseValue (fieldOf (P .head)))
   right-lengths =
       or-neither
       (ap not (eq-eqb (length (l .noise)) (places (P .head))
-      (ap length noise-whole ∙ length-flat (fieldOf (P .head) .noiseValues) scalar-coding (places (P .head)) f ∙ one-word (P .head) (places (P .head)))))
+      (ap length noise-whole ∙ length-flat (fieldOf (P .head) .noiseValues) noise-coding (places (P .head)) f ∙ one-word (P .head) (places (P .head)))))
       (ap not (eq-eqb (length (l .v)) (places (P .head) * fieldOf (P .head) .elements .width)
       (ap length v-whole ∙ length-flat (fieldOf (P .head) .elements) coding (places (P .head)) g)))
 
@@ -218,7 +218,7 @@ module _ (l : Lent) (P : NoisePart) (f : ℕ → NoiseValue (fieldOf (P .head)))
   unfolding filled accepted
   online-u n k h =
       rw (passed n (pastEnd (P .head) first count) (tooShort (P .head) count (l .uOut) (l .vOut)) refl refl)
-      (at-over (fieldOf (P .head) .noiseValues) scalar-coding count (λ i. uAt (P .head) l (first + i)) (l .uOut) k h
+      (at-over (fieldOf (P .head) .noiseValues) noise-coding count (λ i. uAt (P .head) l (first + i)) (l .uOut) k h
       ∙ row-output (P .head) full (first + k) (itself (fieldOf (P .head) .ring)) (at (fieldOf (P .head) .noiseValues) (l .noise)) f noise-at)
 
   pub online-v : online l first count .number ≡ 0 → (k : ℕ) → k < count

@@ -34,7 +34,7 @@ pub neither : (a b : Bool) → a || b ≡ false → (a ≡ false) × (b ≡ fals
 neither true b e = absurd (true≢false e)
 neither false b e = (refl, e)
 
--- the number and the buffer of an answered
+-- the number and the buffer that an answer by a number leaves
 module _ (values other pads written : List ℕ) where
   pub answer-number : (n : ℕ) → answered n values other pads written .number ≡ n
   unfolding answered

@@ -12,7 +12,7 @@ use Rattle.pads.specs.Inner.Steps.{WindowFits}
 use Rattle.pads.proofs.Accepts.{noise-number, scalar-number}
 use Rattle.pads.proofs.Turns.{padOf, messagesOf}
 
--- an answered by its number
+-- what an answer by a number is: refused, and accepted
 module _ (values other pads written : List ℕ) where
   refused : (n : ℕ) → (n ≡ 0 → ⊥) → outcome n values other pads ≡ answered n values other pads written
   unfolding answered

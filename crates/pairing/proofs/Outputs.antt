@@ -49,10 +49,10 @@ use Rattle.pairing.proofs.Same.{same-dealing}
 front-in : (k : ℕ) (l : List ℕ) → k ≡ length (take k l) → k ≤ length l
 front-in k l e = omega (arith, length-take k l, min-le-right k (length l))
 
--- an accumulated value is an element
-scalar-element : (h : Head) (f : ℕ → NoiseValue (fieldOf h)) (j : ℕ) → Element (fieldOf h .ring .group) (accumulate (fieldOf h .ring .group) f j)
+-- accumulated noise values are elements of the ring, and accumulated values of the group
+noise-element : (h : Head) (f : ℕ → NoiseValue (fieldOf h)) (j : ℕ) → Element (fieldOf h .ring .group) (accumulate (fieldOf h .ring .group) f j)
 unfolding accumulate
-scalar-element h f j = sum-element (fieldOf h .ring .group) (kindLaws (h .field) .field .ring .group) (suc j) f
+noise-element h f j = sum-element (fieldOf h .ring .group) (kindLaws (h .field) .field .ring .group) (suc j) f
 
 value-element : (h : Head) (f : ℕ → Value (fieldOf h)) (j : ℕ) → Element (fieldOf h .scaled .group) (accumulate (fieldOf h .scaled .group) f j)
 unfolding accumulate
@@ -120,7 +120,7 @@ module _ (s : List ℕ) (f : Front) (ready : noise.Ready s f) (small : 2 ^ f .de
       unfolding lent mu v0
       noise-number =
           noiseLaws.online-number lent (noise.contentOf s f) mu v0 (ready .read) (noise-accepted .noise) (noise-accepted .v)
-          (λ j h. scalar-element (headOf s f) _ j) (λ j h. value-element (headOf s f) _ j) 0 (f .outputs)
+          (λ j h. noise-element (headOf s f) _ j) (λ j h. value-element (headOf s f) _ j) 0 (f .outputs)
           ∙ rw (
             le-ltb (f .outputs) (0 + f .outputs) (omega arith),
             le-ltb (length uOut) (f .outputs) (omega (arith, noise-few)),
@@ -137,12 +137,12 @@ module _ (s : List ℕ) (f : Front) (ready : noise.Ready s f) (small : 2 ^ f .de
             u-is = λ x h.
                 ap (λ (l : noiseOnline.Outcome). at (kindOf (f .field) .field .noiseValues) (l .lent .uOut) x) window
                 ∙ noiseLaws.online-u lent (noise.contentOf s f) mu v0 (ready .read) (noise-accepted .noise) (noise-accepted .v)
-                (λ j h. scalar-element (headOf s f) _ j) (λ j h. value-element (headOf s f) _ j) 0 (f .outputs) noise-number x h
+                (λ j h. noise-element (headOf s f) _ j) (λ j h. value-element (headOf s f) _ j) 0 (f .outputs) noise-number x h
                 ∙ ap (uAt (noise.contentOf s f)) (zero-add x);
             v-is = λ x h.
                 ap (λ (l : noiseOnline.Outcome). at (kindOf (f .field) .field .elements) (l .lent .vOut) x) window
                 ∙ noiseLaws.online-v lent (noise.contentOf s f) mu v0 (ready .read) (noise-accepted .noise) (noise-accepted .v)
-                (λ j h. scalar-element (headOf s f) _ j) (λ j h. value-element (headOf s f) _ j) 0 (f .outputs) noise-number x h
+                (λ j h. noise-element (headOf s f) _ j) (λ j h. value-element (headOf s f) _ j) 0 (f .outputs) noise-number x h
                 ∙ ap (vAt (noise.contentOf s f)) (zero-add x);
           }
 
