@@ -1,44 +1,70 @@
 #!/usr/bin/env python3
-"""Holds the definitions to docs/PROMISES.md. Fails unless
-- every name in the page, written as a path, a colon and the name, stands in that file;
-- nothing that a promise reaches stands in a file of specs/Inner/, and no file outside it has a `use` of one. A promise is a
-  definition that the page names or that the contract of an exported call or of the pair program cites;
-- every definition of specs/ outside Inner/ is reached by a promise, so that a reader finds nothing else there.
+"""Holds docs/PROMISES.md to the files, and the files to it. Fails, with a sentence for each fault, unless
+
+the page
+- numbers every row once, by its section, and gives it one of the five marks;
+- names, as a path, a colon and a name (or Record.field), only what stands in that file, and only files that exist;
+- marks `contract` only what the contract of an exported call or of the pair program's line reaches;
+- names in each row marked `statement` a proof that is declared with a statement, applied to its parameters, as its type, or
+  a function whose contract cites one; and that statement is, or reaches, all that the row names of specs/;
+
+the definitions
+- hold in specs/Inner/ nothing that a promise reaches, and no file outside it has a `use` of one there. A promise is a
+  definition that the page names, or that the contract of an exported call or of the pair program cites;
+- hold outside specs/Inner/ nothing else than what promises reach, so that a reader finds nothing else there;
+
+the code and the edits
+- every exported function has exactly one `ensures` and no `requires`;
+- every statement of the page is named in an edit that makes it false: a comment `# Falsifies NAME: ..` in a must-fail edit of
+  its crate, or of another crate where no other statement has that name (`NAME, NAME` and `NAME.field` will do too);
+
+the landing notes
+- docs/landings/README.md names only what exists today, and has a row for each name in the notes that does not.
 """
+import glob
 import os
 import re
 import sys
 
 os.chdir(os.path.join(os.path.dirname(os.path.abspath(__file__)), ".."))
 PAGE = "docs/PROMISES.md"
-CONTRACTS = ["crates/pairing/src/lib.rt"] + sorted(
-    os.path.join("crates/expander/src", f) for f in os.listdir("crates/expander/src"))
-MODULE = r"Rattle·(\w+?)(?:·specs)?\.specs\.([\w.]+)"
+NOTES = "docs/landings"
+EXPORTS = sorted(glob.glob("crates/expander/src/*.rt"))
+MARKS = {"contract", "statement", "form", "tested", "assumed"}
+COLUMNS = "| no. | requirement | mark | said by | proof |"
+MODULE = r"Rattle·(\w+?)(?:·\w+)?\.(specs|proofs)\.([\w.]+)"
 NAME = re.compile(r"[^\s(){};,.λ⌜⌝]+")
 HEAD = re.compile(r"(?:unfoldable |abbrev )*(?:pub )?(?:record |data )?([^\s:({]+)(?: .*)? :(?: |$)")
+CITED = re.compile(r"`(crates/[^:`\s]+):([^`\s]+)`")
 
 faults = []
 definitions = {}  # (crate, module, name): its text
 brought = {}      # (crate, module): what each name or `as` name in it stands for
 
 
+def text_of(path):
+    return open(path, encoding="utf-8").read() if os.path.isfile(path) else ""
+
+
+# ---- the definitions of specs/
+
 def imports(text):
-    """What the `use` lines of a text bring: names as (crate, module, name), `as` names as (crate, module)."""
+    """What the `use` lines of a text bring of specs/: names as (crate, module, name), `as` names as (crate, module)."""
     found = {}
     for module, names in re.findall(r"(?m)^(?:pub |ghost )?use (\S+?)\.\{([^}]*)\};?$", text):
         place = re.fullmatch(MODULE, module)
-        if place:
+        if place and place[2] == "specs":
             for name in names.split(","):
-                found[name.strip()] = (place[1], place[2], name.strip())
+                found[name.strip()] = (place[1], place[3], name.strip())
     for module, short in re.findall(r"(?m)^(?:ghost )?use (\S+) as (\w+);?$", text):
         place = re.fullmatch(MODULE, module)
-        if place:
-            found[short] = (place[1], place[2])
+        if place and place[2] == "specs":
+            found[short] = (place[1], place[3])
     return found
 
 
 def read(crate, module, path):
-    text = re.sub(r"--[^\n]*", "", open(path, encoding="utf-8").read())
+    text = re.sub(r"--[^\n]*", "", text_of(path))
     brought[crate, module] = imports(text)
     current = None
     for line in text.split("\n"):
@@ -70,6 +96,35 @@ def cited(text, names, own=None):
     return {k for k in map(resolved, keys) if k}
 
 
+def reach(start):
+    found, left = set(), [key for key in start if key in definitions]
+    while left:
+        key = left.pop()
+        if key not in found:
+            found.add(key)
+            left += cited(definitions[key], brought[key[:2]], key[:2])
+    return found
+
+
+def show(key):
+    return f"crates/{key[0]}/specs/{key[1].replace('.', '/')}.antt:{key[2]}"
+
+
+def definition(path, name):
+    """The definition of specs/ that a path and a name, or a record and its field, name; None where it is none."""
+    place = re.fullmatch(r"crates/(\w+)/specs/(.+)\.antt", path)
+    return (place[1], place[2].replace("/", "."), name.split(".")[0]) if place else None
+
+
+def stands(path, name):
+    """Whether a file declares a name, or a record of it a field."""
+    key = definition(path, name)
+    if key and "." in name:
+        field = re.escape(name.split(".", 1)[1])
+        return bool(re.search(r"(?m)^  (?:pub )?" + field + r"(?=[\s:])", definitions.get(key, "")))
+    return bool(re.search(r"(?m)^\s*(?:[\w\"]+ )*" + re.escape(name) + r"(?=[\s(:{])", text_of(path)))
+
+
 for crate in sorted(os.listdir("crates")):
     top = os.path.join("crates", crate, "specs")
     for folder, _, files in os.walk(top):
@@ -78,36 +133,200 @@ for crate in sorted(os.listdir("crates")):
             if module not in ("Lib", "Inner"):
                 read(crate, module, os.path.join(folder, file))
 
-promises = set()
-for path, name in re.findall(r"`(crates/[^:`]+):([^`]+)`", open(PAGE, encoding="utf-8").read()):
-    text = open(path, encoding="utf-8").read() if os.path.exists(path) else ""
-    if not re.search(r"(?m)^\s*(?:[\w\"]+ )*" + re.escape(name) + r"(?=[\s(:{])", text):
-        faults.append(f"{PAGE}: {path} has no {name}")
-    place = re.fullmatch(r"crates/(\w+)/specs/(.+)\.antt", path)
-    if place:
-        promises.add((place[1], place[2].replace("/", "."), name))
-for path in CONTRACTS:
-    text = open(path, encoding="utf-8").read()
+from_contracts = set()
+for path in ["crates/pairing/src/lib.rt"] + EXPORTS:
+    text = text_of(path)
     code = "\n".join(line for line in text.split("\n") if not line.startswith(("ghost use", "//")))
-    promises |= cited(code, imports(text))
+    from_contracts |= cited(code, imports(text))
+by_contracts = reach(from_contracts)
 
-reached, left = set(), list(promises & set(definitions))
-while left:
-    key = left.pop()
-    if key not in reached:
-        reached.add(key)
-        left += cited(definitions[key], brought[key[:2]], key[:2])
 
+# ---- statements and their proofs
+
+def parameters(text):
+    """The names that `(a b : T)` and `{c : T}` groups at the front of a text bind, explicit ones apart, and what follows."""
+    explicit, hidden = [], []
+    while text[:1] in ("(", "{"):
+        depth, end = 0, 0
+        while end < len(text):
+            depth += (text[end] in "({") - (text[end] in ")}")
+            end += 1
+            if depth == 0:
+                break
+        names, colon, _ = text[1:end - 1].partition(" : ")
+        if not colon or not re.fullmatch(r"[^\s():→]+(?: [^\s():→]+)*", names):
+            break
+        (explicit if text[0] == "(" else hidden).extend(names.split())
+        text = text[end:].lstrip()
+        if text.startswith("→"):
+            text = text[1:].lstrip()
+    return explicit, hidden, text
+
+
+def stated(path, name):
+    """The statement that a proof is declared with, as a definition of specs/, or a sentence that says why there is none."""
+    text = text_of(path)
+    if path.endswith(".rt"):
+        contract = re.search(r"(?m)^\s*(?:pub )?(?:extern \"C\" )?fn " + re.escape(name) + r"\b(.*?)^\s*\{\n", text, re.S)
+        found = cited(" ".join(re.findall(r"ensures \{(.*?)\}\n", contract[1] + "\n", re.S)), imports(text)) if contract else set()
+        return found or f"the contract of {name} in {path} cites no statement"
+    declared = re.search(r"(?m)^( *)(?:abbrev |unfoldable )*(?:pub )?" + re.escape(name) + r" :((?: |\n).*?)\n(?=\1" + re.escape(name)
+                         + r"\s|\1unfolding |\s*\n|\1--)", text, re.S)
+    if not declared:
+        return f"{path} declares no {name}"
+    around = []
+    if declared[1]:
+        modules = re.findall(r"(?m)^module _ (.*?) where$", text[:declared.start()], re.S)
+        around = parameters(re.sub(r"\s+", " ", modules[-1]))[0] if modules else []
+    type_ = re.sub(r"--[^\n]*", "", declared[2])
+    explicit, hidden, rest = parameters(re.sub(r"\s+", " ", type_).strip())
+    words = rest.split()
+    if not words or not all(re.fullmatch(r"[^\s():→]+", w) for w in words):
+        return f"{path}: the type of {name} is no statement applied to its parameters, but `{re.sub(chr(92) + 's+', ' ', type_).strip()}`"
+    names = imports(text)
+    short, dot, last = words[0].rpartition(".")
+    key = resolved(names[short] + (last,)) if dot and len(names.get(short, ())) == 2 else resolved(names.get(words[0], ("", "", "")))
+    if not key:
+        return f"{path}: the type of {name} is `{rest}`, which is no definition of specs/"
+    premises = [p for p in explicit + around if p not in words[1:]]
+    if premises:
+        return f"{path}: {name} asks for {', '.join(premises)} beside the parameters of {words[0]}"
+    return {key}
+
+
+# ---- the page
+
+def page_rows():
+    section, prefix, head = "", "", ""
+    for number, line in enumerate(text_of(PAGE).split("\n"), 1):
+        if line.startswith("#"):
+            section, head = line.lstrip("# "), ""
+            found = re.match(r"(\d+)\. |Request (\d+):|(Preface)|(The three demands)|(Beyond the documents)", section)
+            prefix = "" if not found else (f"{found[1]}." if found[1] else f"R{found[2]}." if found[2] else
+                                           "R0." if found[3] else "D" if found[4] else "B.")
+        elif line.startswith("|"):
+            if not head:
+                head = line
+                if prefix and head != COLUMNS:
+                    faults.append(f"{PAGE}:{number}: the table of '{section}' has not the columns {COLUMNS}")
+            elif prefix and not re.fullmatch(r"[|\-]+", line):
+                yield number, prefix, [cell.strip() for cell in line.strip("|").split("|")]
+
+
+numbers, promises, statements = set(), set(), set()
+for line, prefix, cells in page_rows():
+    where = f"{PAGE}:{line}"
+    if len(cells) != 5:
+        faults.append(f"{where}: the row has {len(cells)} columns and not 5")
+        continue
+    no, requirement, mark, said, proof = cells
+    if not re.fullmatch(re.escape(prefix) + (r"\d\.\d+" if prefix == "D" else r"\d+"), no):
+        faults.append(f"{where}: '{no}' is no number of this section, which has {prefix}..")
+    if no in numbers:
+        faults.append(f"{where}: the number {no} stands twice")
+    numbers.add(no)
+    if mark not in MARKS:
+        faults.append(f"{where}: row {no} has the mark '{mark}', which is none of {', '.join(sorted(MARKS))}")
+    if not requirement or not said:
+        faults.append(f"{where}: row {no} has no requirement, or nothing that says it")
+    named = {key for key in (definition(*c) for c in CITED.findall(said)) if key}
+    if mark == "contract":
+        faults += [f"{where}: row {no} is marked contract, but no exported contract reaches {show(key)}"
+                   for key in sorted(named - by_contracts) if key in definitions]
+    if mark == "statement":
+        row = set()
+        for path, name in CITED.findall(proof):
+            found = stated(path, name)
+            if isinstance(found, str):
+                faults.append(f"{where}: row {no}: {found}")
+            else:
+                row |= found
+        if not CITED.findall(proof):
+            faults.append(f"{where}: row {no} is marked statement and names no proof")
+        elif row:
+            faults += [f"{where}: row {no}: what its proof states, {', '.join(k[2] for k in sorted(row))}, is not {key[2]} and does not reach it"
+                       for key in sorted(named - reach(row)) if key in definitions]
+        statements |= row
+
+page = text_of(PAGE)
+for path, name in CITED.findall(page):
+    if not stands(path, name):
+        faults.append(f"{PAGE}: {path} has no {name}")
+    key = definition(path, name)
+    if key:
+        promises.add(key)
+for path in sorted(set(re.findall(r"`((?:crates|docs|include|tests|tools)/[^`:\s]+)`", page))):
+    if not os.path.exists(path):
+        faults.append(f"{PAGE}: there is no {path}")
+
+
+# ---- inner and outer definitions
+
+reached = reach(promises | from_contracts)
 inner = {key for key in definitions if key[1].startswith("Inner.")}
-show = lambda key: f"crates/{key[0]}/specs/{key[1].replace('.', '/')}.antt: {key[2]}"
 faults += [f"{show(key)} is inner, and a promise reaches it" for key in sorted(reached & inner)]
 faults += [f"{show(key)} is reached by no promise: it belongs in Inner/" for key in sorted(set(definitions) - inner - reached)]
 for (crate, module), names in sorted(brought.items()):
     if not module.startswith("Inner."):
         faults += [f"crates/{crate}/specs/{module.replace('.', '/')}.antt uses {place[1]} of {place[0]}, which is inner"
                    for place in sorted(set(names.values())) if place[1].startswith("Inner.")]
+
+
+# ---- exported functions
+
+exported = 0
+for path in EXPORTS:
+    code = re.sub(r"(?m)^\s*//.*$", "", text_of(path))
+    for part in re.split(r"(?m)^pub extern \"C\" fn ", code)[1:]:
+        exported += 1
+        name = re.match(r"\w+", part)[0]
+        ensures, requires = len(re.findall(r"\bensures \{", part)), len(re.findall(r"\brequires \{", part))
+        if ensures != 1:
+            faults.append(f"{path}: the exported {name} has {ensures} `ensures` and not exactly one")
+        if requires:
+            faults.append(f"{path}: the exported {name} has a `requires`")
+
+
+# ---- edits that make a statement false
+
+falsified = {}  # name: the crates whose edits say so
+for path in sorted(glob.glob("crates/*/must-fail/*.edit")):
+    for names in re.findall(r"(?m)^# Falsifies ([^:\n]+):", text_of(path)):
+        for name in re.split(r",\s*|\s+and\s+", names):
+            falsified.setdefault(name.strip().split(".")[0], set()).add(path.split("/")[1])
+for key in sorted(statements):
+    alone = sum(1 for other in statements if other[2] == key[2]) == 1
+    if not (key[0] in falsified.get(key[2], ()) or alone and falsified.get(key[2])):
+        faults.append(f"{show(key)} is a statement, and no must-fail edit says `# Falsifies {key[2]}: ..`")
+
+
+# ---- names in the landing notes
+
+everything = "\n".join(text_of(p) for ext in ("antt", "rt") for p in glob.glob(f"crates/**/*.{ext}", recursive=True))
+today = set(re.findall(r"[^\s(){};,.:`\"]+", everything))
+today |= {os.path.basename(p)[:-len(".edit")] for p in glob.glob("crates/*/must-fail/*.edit")}
+today |= set(os.listdir("crates"))
+today |= {w for p in glob.glob("crates/**/*.antt", recursive=True) for w in (os.path.basename(p), os.path.basename(p)[:-len(".antt")])}
+NEWER = f"{NOTES}/README.md"
+mapped = set()
+for line in text_of(NEWER).split("\n"):
+    cells = [cell.strip() for cell in line.strip("|").split("|")]
+    if line.startswith("|") and len(cells) == 3:
+        mapped |= set(re.findall(r"`([^`]+)`", cells[1]))
+        for path, name in CITED.findall(cells[2]):
+            if not stands(path, name):
+                faults.append(f"{NEWER}: {path} has no {name}")
+        for path in re.findall(r"`(crates/[^`:\s]+)`", cells[2]):
+            if not os.path.exists(path):
+                faults.append(f"{NEWER}: there is no {path}")
+for path in sorted(set(glob.glob(f"{NOTES}/*.md")) - {NEWER}):
+    for name in sorted(set(re.findall(r"`([^`]+)`", text_of(path)))):
+        known = os.path.exists(name) if "/" in name else all(w in today for w in name.replace("::", " ").split())
+        if not known and name not in mapped:
+            faults.append(f"{path}: `{name}` is no name of today, and {NEWER} does not say what it became")
+
 for fault in faults:
     print(fault, file=sys.stderr)
-print(f"promises: {len(reached)} definitions in {len({k[:2] for k in reached})} files are reached by promises, "
-      f"{len(inner)} in {len({k[:2] for k in inner})} files are inner")
+print(f"promises: {len(numbers)} rows, {len(statements)} statements, {exported} exported calls; {len(reached)} definitions in "
+      f"{len({k[:2] for k in reached})} files are reached by promises, {len(inner)} in {len({k[:2] for k in inner})} files are inner")
 sys.exit(1 if faults else 0)
