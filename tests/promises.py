@@ -15,8 +15,9 @@ the definitions
 
 the code and the edits
 - every exported function has exactly one `ensures` and no `requires`;
-- every statement of the page is named in an edit that makes it false: a comment `# Falsifies NAME: ..` in a must-fail edit of
-  its crate, or of another crate where no other statement has that name (`NAME, NAME` and `NAME.field` will do too);
+- every statement of the page, and every part of one that the page names, is named in an edit that makes it false: a comment
+  `# Falsifies NAME: ..` in a must-fail edit of its crate, or of another crate where no other statement has that name
+  (`NAME, NAME` and `NAME.field` will do too). A part is the type of a field, as `Lists` of `Demand3`;
 
 the landing notes
 - docs/landings/README.md names only what exists today, and has a row for each name in the notes that does not.
@@ -194,6 +195,14 @@ def stated(path, name):
     return {key}
 
 
+def parts(key):
+    """What a statement's fields are, where those are statements in their turn: of its record, or of the one that it ends in."""
+    text = definitions[key]
+    ends = cited(text.rstrip().split("→")[-1], brought[key[:2]], key[:2]) if "record" not in text.split("\n")[0] else {key}
+    return {part for record in ends for type_ in re.findall(r"(?m)^  pub \S+ : ([^→\n]+)$", definitions[record])
+            for part in cited(type_.split()[0], brought[record[:2]], record[:2])}
+
+
 # ---- the page
 
 def page_rows():
@@ -213,7 +222,7 @@ def page_rows():
                 yield number, prefix, [cell.strip() for cell in line.strip("|").split("|")]
 
 
-numbers, promises, statements = set(), set(), set()
+numbers, promises, statements, claimed = set(), set(), set(), set()
 for line, prefix, cells in page_rows():
     where = f"{PAGE}:{line}"
     if len(cells) != 5:
@@ -247,6 +256,8 @@ for line, prefix, cells in page_rows():
             faults += [f"{where}: row {no}: what its proof states, {', '.join(k[2] for k in sorted(row))}, is not {key[2]} and does not reach it"
                        for key in sorted(named - reach(row)) if key in definitions]
         statements |= row
+        claimed |= named
+statements |= claimed & {part for key in statements for part in parts(key)}
 
 page = text_of(PAGE)
 for path, name in CITED.findall(page):
