@@ -196,11 +196,17 @@ def stated(path, name):
 
 
 def parts(key):
-    """What a statement's fields are, where those are statements in their turn: of its record, or of the one that it ends in."""
+    """The statements that are fields of a statement's record, or of the record that it ends in, applied to its parameters alone."""
     text = definitions[key]
-    ends = cited(text.rstrip().split("→")[-1], brought[key[:2]], key[:2]) if "record" not in text.split("\n")[0] else {key}
-    return {part for record in ends for type_ in re.findall(r"(?m)^  pub \S+ : ([^→\n]+)$", definitions[record])
-            for part in cited(type_.split()[0], brought[record[:2]], record[:2])}
+    ends = {key} if re.match(r"(pub )?record ", text) else cited(text.rstrip().split("→")[-1], brought[key[:2]], key[:2])
+    found = set()
+    for record in ends:
+        head = definitions[record].split("\n")[0]
+        for type_ in re.findall(r"(?m)^  pub \S+ : (\S+(?: \S+)*)$", definitions[record]):
+            words = type_.split()
+            if all(re.search(r"[({]" + re.escape(w) + r" : ", head) for w in words[1:]):
+                found |= cited(words[0], brought[record[:2]], record[:2])
+    return found
 
 
 # ---- the page
