@@ -123,7 +123,12 @@ def stands(path, name):
     if key and "." in name:
         field = re.escape(name.split(".", 1)[1])
         return bool(re.search(r"(?m)^  (?:pub )?" + field + r"(?=[\s:])", definitions.get(key, "")))
-    return bool(re.search(r"(?m)^\s*(?:[\w\"]+ )*" + re.escape(name) + r"(?=[\s(:{])", text_of(path)))
+    if path.endswith(".rt"):
+        declared = r"(?:pub )?(?:extern \"C\" )?(?:fn|const|struct|enum) " + re.escape(name) + r"\b"
+    else:
+        declared = r"(?:(?:unfoldable|abbrev|pub|record|data) )*" + re.escape(name) + r"(?: [^=\n]*)? :"
+    return bool(re.search(r"(?m)^\s*" + declared, text_of(path)))
+
 
 
 for crate in sorted(os.listdir("crates")):
