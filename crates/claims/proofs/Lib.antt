@@ -1,7 +1,7 @@
--- The proofs of the statements of specs/, one inhabitant each in the files that are public.
+-- The proofs of the statements of specs/, one inhabitant each in the files that are public, and what each listed call leaves (`Lists`).
 mod Dealt
 mod Outputs
-mod Lists
+pub mod Lists
 mod Pads
 pub mod Entire
 pub mod Paired

@@ -1,18 +1,18 @@
 -- The single claim about every two lists of calls, for an accepted dealing whose records read back as each end's part.
 use mathlib.Core.Path.{_≡_, refl, sym, ap, ap₂, _∙_}
-use mathlib.Core.List.{List, [], _∷_}
+use mathlib.Core.List.{List, [], _∷_, map}
 use mathlib.Core.Logic.{_⊎_, ⊎-elim}
-use Prim.Native.Nat.{ℕ, zero, suc, _+_, _^_, _<_}
+use Prim.Native.Nat.{ℕ, zero, suc, _+_, _*_, _^_, _<_}
 use native.Mathlib.Nat.{not-suc-le-zero, le-of-suc-le-suc}
 use native.Mathlib.Omega.{arith}
 use lib.ListN.{length, getD}
 use lib.Dec.{eqb}
 use Rattle.algebra.specs.Choice.{choose}
-use Rattle.algebra.proofs.Coding.{flat-cong}
+use Rattle.algebra.proofs.Coding.{flat-cong, at-flat}
 use Rattle.algebra.proofs.Matrix.{output-is-matrix}
 use Rattle.algebra.proofs.Same.{accumulate-same}
 use Rattle.algebra.proofs.Sum.{sum-element, itself-laws}
-use Rattle.algebra.specs.Coding.{at, flat}
+use Rattle.algebra.specs.Coding.{at, flat, over}
 use Rattle.algebra.specs.Field.{NoiseValue, Value}
 use Rattle.algebra.specs.Group.{Element, itself}
 use Rattle.algebra.specs.Row.{output}
@@ -23,8 +23,9 @@ use Rattle.field.specs.Kind.{kindOf}
 use Rattle.number.specs.Reading.{Whole}
 use Rattle.record.specs.Content.{elementOf}
 use Rattle.record.specs.Reading.{readNoise, readScalar}
-use Rattle.rows.proofs.Rows.{row-within}
+use Rattle.rows.proofs.Rows.{row-within, row-output}
 use Rattle.rows.specs.Head.{places, row}
+use Rattle.rows.specs.Window.{pastEnd}
 use Rattle.dealing.specs.Admitted.{Admitted}
 use Rattle.dealing.specs.Parts.{noisePart, scalarPart}
 use Rattle.dealing.specs.Vectors as dealt
@@ -48,6 +49,12 @@ noise-left m c =
     let k = noiseLaws.online-kept (record { source = m .source; noise = m .noise; v = m .v; uOut = c .uOut; vOut = c .vOut }) (c .first) (c .count) in
     λ i. record { source = k .source i; noise = k .noise i; v = k .v i }
 
+-- so the outcomes of a list are those of its calls, each on the first memory
+pub noise-steps : (m : NoiseMemory) (calls : List NoiseCall) → noiseRun m calls ≡ map (noiseStep m) calls
+unfolding noiseRun
+noise-steps m [] = refl
+noise-steps m (c ∷ calls) = ap (λ l. noiseStep m c ∷ noiseRun l calls) (noise-left m c) ∙ ap (λ l. noiseStep m c ∷ l) (noise-steps m calls)
+
 noise-end : (m : NoiseMemory) (calls : List NoiseCall) → noiseLast m calls ≡ m
 unfolding noiseLast
 noise-end m [] = refl
@@ -66,6 +73,11 @@ scalar-left m c =
     let k = scalarLaws.online-kept (record { source = m .source; w = m .w; wOut = c .wOut }) (c .first) (c .count) in
     λ i. record { source = k .source i; w = k .w i }
 
+pub scalar-steps : (m : ScalarMemory) (calls : List ScalarCall) → scalarRun m calls ≡ map (scalarStep m) calls
+unfolding scalarRun
+scalar-steps m [] = refl
+scalar-steps m (c ∷ calls) = ap (λ l. scalarStep m c ∷ scalarRun l calls) (scalar-left m c) ∙ ap (λ l. scalarStep m c ∷ l) (scalar-steps m calls)
+
 scalar-end : (m : ScalarMemory) (calls : List ScalarCall) → scalarLast m calls ≡ m
 unfolding scalarLast
 scalar-end m [] = refl
@@ -80,6 +92,46 @@ scalar-run m (d ∷ calls) o c (suc i) h =
     ap (λ l. getD (scalarRun l calls) i o) (scalar-left m d) ∙ scalar-run m calls o c i (le-of-suc-le-suc h)
 
 -- ---- one dealing
+
+-- what a call that is listed leaves where these are its outputs by index
+abbrev pub noiseListedBy : (S : Setting) → NoiseCall → (ℕ → NoiseValue (field (S .input))) → (ℕ → Value (field (S .input))) → noiseOnline.Outcome
+noiseListedBy S c u v =
+    let l : noiseOnline.Lent = record { source = noiseStart S .source; noise = noiseStart S .noise; v = noiseStart S .v; uOut = c .uOut; vOut = c .vOut } in
+    choose (pastEnd (head (S .input)) (c .first) (c .count)) (noiseOnline.refusal 7 l)
+    (choose (noiseOnline.tooShort (head (S .input)) (c .count) (c .uOut) (c .vOut)) (noiseOnline.refusal 13 l)
+    (record {
+      number = 0;
+      firstWritten = c .count;
+      secondWritten = c .count * field (S .input) .elements .width;
+      lent = record {
+        source = noiseStart S .source;
+        noise = noiseStart S .noise;
+        v = noiseStart S .v;
+        uOut = over (field (S .input) .noiseValues) (c .count) (λ k. u (c .first + k)) (c .uOut);
+        vOut = over (field (S .input) .elements) (c .count) (λ k. v (c .first + k)) (c .vOut);
+      };
+    }))
+
+abbrev pub noiseListed : Setting → NoiseCall → noiseOnline.Outcome
+noiseListed S c = noiseListedBy S c (dealt.u (S .input)) (dealt.v (S .input))
+
+abbrev pub scalarListedBy : (S : Setting) → ScalarCall → (ℕ → Value (field (S .input))) → scalarOnline.Outcome
+scalarListedBy S c w =
+    let l : scalarOnline.Lent = record { source = scalarStart S .source; w = scalarStart S .w; wOut = c .wOut } in
+    choose (pastEnd (head (S .input)) (c .first) (c .count)) (scalarOnline.refusal 7 l)
+    (choose (scalarOnline.tooShort (head (S .input)) (c .count) (c .wOut)) (scalarOnline.refusal 13 l)
+    (record {
+      number = 0;
+      written = c .count * field (S .input) .elements .width;
+      lent = record {
+        source = scalarStart S .source;
+        w = scalarStart S .w;
+        wOut = over (field (S .input) .elements) (c .count) (λ k. w (c .first + k)) (c .wOut);
+      };
+    }))
+
+abbrev pub scalarListed : Setting → ScalarCall → scalarOnline.Outcome
+scalarListed S c = scalarListedBy S c (dealt.w (S .input))
 
 -- Δ's words, as the scalar end's offline call writes them, read back as Δ
 delta-back : (f low high : ℕ) → (f ≡ 1) ⊎ (f ≡ 2)
@@ -156,7 +208,36 @@ module _ (S : Setting) (A : Admitted (S .input))
       (itself-laws (field (S .input) .ring) (kindLaws (S .input .field) .field .ring))
       (places (head (S .input))) (row (head (S .input)) x) (row-within (head (S .input)) (A .terms .2) x) (mu (S .input))
 
+  -- a row's outputs on the words in memory are the dealing's
+  u-words : (x : ℕ)
+      → output (itself (field (S .input) .ring)) (row (head (S .input)) x) (at (field (S .input) .noiseValues) (noiseStart S .noise)) ≡ dealt.u (S .input) x
+  u-words x =
+      row-output (head (S .input)) (A .terms .2) x (itself (field (S .input) .ring)) _ accMu
+      (λ j h. rw noise-words (at-flat (field (S .input) .noiseValues) (kindLaws (S .input .field) .field .noiseValues) (2 ^ S .input .depth) accMu j h))
+      ∙ u-is x
+
+  v-outputs : (x : ℕ) → output (field (S .input) .scaled) (row (head (S .input)) x) (at (field (S .input) .elements) (noiseStart S .v)) ≡ dealt.v (S .input) x
+  unfolding accV0 dealt.v
+  v-outputs x =
+      row-output (head (S .input)) (A .terms .2) x (field (S .input) .scaled) _ accV0
+      (λ j h. rw v-words (at-flat (field (S .input) .elements) (kindLaws (S .input .field) .field .elements) (2 ^ S .input .depth) accV0 j h))
+
+  w-outputs : (x : ℕ) → output (field (S .input) .scaled) (row (head (S .input)) x) (at (field (S .input) .elements) (scalarStart S .w)) ≡ dealt.w (S .input) x
+  unfolding accW0 dealt.w
+  w-outputs x =
+      row-output (head (S .input)) (A .terms .2) x (field (S .input) .scaled) _ accW0
+      (λ j h. rw w-words (at-flat (field (S .input) .elements) (kindLaws (S .input .field) .field .elements) (2 ^ S .input .depth) accW0 j h))
+
   module _ (c : NoiseCall) where
+    -- what a listed call leaves: 7, 13, or u and v of its window over the fronts of the output buffers
+    pub noise-step : noiseStep (noiseStart S) c ≡ noiseListed S c
+    unfolding noiseOnline.filled
+    noise-step =
+        noiseLaws.online-listed
+        (record { source = noiseStart S .source; noise = noiseStart S .noise; v = noiseStart S .v; uOut = c .uOut; vOut = c .vOut })
+        (noisePart (S .input)) accMu accV0 noise-start noise-words v-words accMu-element accV0-element (c .first) (c .count)
+        ∙ (λ i. noiseListedBy S c (λ x. u-words x i) (λ x. v-outputs x i))
+
     pub noise-number : noiseStep (noiseStart S) c .number ≡ listedNoiseNumber (S .input) c
     noise-number =
         noiseLaws.online-number
@@ -180,6 +261,13 @@ module _ (S : Setting) (A : Admitted (S .input))
         )
 
   module _ (c : ScalarCall) where
+    pub scalar-step : scalarStep (scalarStart S) c ≡ scalarListed S c
+    unfolding scalarOnline.filled
+    scalar-step =
+        scalarLaws.online-listed (record { source = scalarStart S .source; w = scalarStart S .w; wOut = c .wOut })
+        (scalarPart (S .input)) accW0 scalar-start w-words accW0-element (c .first) (c .count)
+        ∙ (λ i. scalarListedBy S c (λ x. w-outputs x i))
+
     pub scalar-number : scalarStep (scalarStart S) c .number ≡ listedScalarNumber (S .input) c
     scalar-number =
         scalarLaws.online-number (record { source = scalarStart S .source; w = scalarStart S .w; wOut = c .wOut })

@@ -1,3 +1,5 @@
 -- The computed examples.
+pub mod Dealt
+pub mod Worked
 pub mod Computed
 pub mod PadRule

@@ -1,52 +1,32 @@
--- Nothing is vacuous: one computed example in each field, d = t = ℓ = n = 1, from the dealing's input through both ends' offline
--- calls, as an inhabitant of `Setting`, and a list of two online calls at each end, a refused one and an accepted one, run by
--- `noiseRun` and `scalarRun` themselves (document 01, 'Lists of calls at both ends').
+-- Nothing is vacuous: of a small dealing in each field, from its input through both ends' offline calls as an inhabitant of
+-- `Setting`, a list of four online calls at each end, two refused and two accepted, run by `noiseRun` and `scalarRun` themselves
+-- (document 01, 'Lists of calls at both ends').
 use mathlib.Core.Path.{_≡_}
 use mathlib.Core.List.{List, [], _∷_, _++_, map}
-use Prim.Native.Nat.{ℕ}
+use Prim.Native.Nat.{ℕ, _*_}
 use lib.ListN.{replicate}
-use Rattle.answer.specs.Numbers.{accepted, windowPastEnd}
+use Rattle.answer.specs.Numbers.{accepted, windowPastEnd, bufferShort}
 use Rattle.dealing.specs.Input.{Input}
 use Rattle.claims.specs.Correlation.{Setting, NoiseCall, noiseStart, noiseRun, ScalarCall, scalarStart, scalarRun}
 use Rattle.noise_end.specs.Online as noiseOnline
 use Rattle.scalar_end.specs.Online as scalarOnline
+use Rattle.example.specs.Worked.{binaryInput, primeInput}
 
--- the input: root 01 02 .. 10, position 0, a noise value, Δ, the code key and the label 00 .. 00
-abbrev pub small : ℕ → ℕ → List ℕ → Input
-small field value delta =
-    record {
-      field = field;
-      depth = 1;
-      branchBits = 1;
-      trees = 1;
-      terms = 1;
-      outputs = 1;
-      roots = 1 ∷ 2 ∷ 3 ∷ 4 ∷ 5 ∷ 6 ∷ 7 ∷ 8 ∷ 9 ∷ 10 ∷ 11 ∷ 12 ∷ 13 ∷ 14 ∷ 15 ∷ 16 ∷ [];
-      positions = 0 ∷ [];
-      values = value ∷ [];
-      delta = delta;
-      codeKey = replicate 16 0;
-      label = replicate 16 0;
-    }
+-- a call on the window of a first index and a count, into output buffers of so many elements, which hold sevens
+abbrev pub noiseCall : ℕ → ℕ → ℕ → ℕ → NoiseCall
+noiseCall width first count room = record { first = first; count = count; uOut = replicate room 7; vOut = replicate (width * room) 7 }
 
-abbrev pub binaryInput : Input
-binaryInput = small 1 1 (3 ∷ (replicate 14 0 ++ (5 ∷ [])))
+abbrev pub scalarCall : ℕ → ℕ → ℕ → ℕ → ScalarCall
+scalarCall width first count room = record { first = first; count = count; wOut = replicate (width * room) 7 }
 
-abbrev pub primeInput : Input
-primeInput = small 2 5 (3 ∷ replicate 15 0)
-
--- a window past n, then window 0 and 1, into 1 and `width` words
+-- a window past n, buffers too short, outputs 0 and 1 with room for a third, and output 1 again
 abbrev pub noiseCalls : ℕ → List NoiseCall
-noiseCalls width =
-    record { first = 1; count = 1; uOut = replicate 1 0; vOut = replicate width 0 }
-    ∷ record { first = 0; count = 1; uOut = replicate 1 0; vOut = replicate width 0 }
-    ∷ []
+noiseCalls width = noiseCall width 1 2 2 ∷ noiseCall width 0 2 1 ∷ noiseCall width 0 2 3 ∷ noiseCall width 1 1 1 ∷ []
 
 abbrev pub scalarCalls : ℕ → List ScalarCall
-scalarCalls width =
-    record { first = 1; count = 1; wOut = replicate width 0 } ∷ record { first = 0; count = 1; wOut = replicate width 0 } ∷ []
+scalarCalls width = scalarCall width 1 2 2 ∷ scalarCall width 0 2 1 ∷ scalarCall width 0 2 3 ∷ scalarCall width 1 1 1 ∷ []
 
--- what stands in the output buffers on return, after the number
+-- the number, and what stands in the output buffers on return
 abbrev pub noiseShown : noiseOnline.Outcome → List ℕ
 noiseShown o = o .number ∷ (o .lent .uOut ++ o .lent .vOut)
 
@@ -63,9 +43,25 @@ pub record Ran (I : Input) (width : ℕ) (noise scalar : List (List ℕ)) : Type
 pub record Example : Type 0 where
   pub binary :
       Ran binaryInput 2
-      ((windowPastEnd ∷ 0 ∷ 0 ∷ 0 ∷ []) ∷ (accepted ∷ 1 ∷ 205336936553831 ∷ 9285005468926516466 ∷ []) ∷ [])
-      ((windowPastEnd ∷ 0 ∷ 0 ∷ []) ∷ (accepted ∷ 205336936553828 ∷ 9645293439116156146 ∷ []) ∷ [])
+      ((windowPastEnd ∷ 7 ∷ 7 ∷ 7 ∷ 7 ∷ 7 ∷ 7 ∷ [])
+      ∷ (bufferShort ∷ 7 ∷ 7 ∷ 7 ∷ [])
+      ∷ (accepted ∷ 0 ∷ 1 ∷ 7 ∷ 0x56fc245e521e23e1 ∷ 0xbc5ef013275b2a92 ∷ 0x38750a0f46026565 ∷ 0xc116e6641a37710e ∷ 7 ∷ 7 ∷ [])
+      ∷ (accepted ∷ 1 ∷ 0x38750a0f46026565 ∷ 0xc116e6641a37710e ∷ [])
+      ∷ [])
+      ((windowPastEnd ∷ 7 ∷ 7 ∷ 7 ∷ 7 ∷ [])
+      ∷ (bufferShort ∷ 7 ∷ 7 ∷ [])
+      ∷ (accepted ∷ 0x56fc245e521e23e1 ∷ 0xbc5ef013275b2a92 ∷ 0x38750a0f46026566 ∷ 0xc416e6641a37710e ∷ 7 ∷ 7 ∷ [])
+      ∷ (accepted ∷ 0x38750a0f46026566 ∷ 0xc416e6641a37710e ∷ [])
+      ∷ [])
   pub prime :
       Ran primeInput 1
-      ((windowPastEnd ∷ 0 ∷ 0 ∷ []) ∷ (accepted ∷ 493152902708428463 ∷ 1094412974102167835 ∷ []) ∷ [])
-      ((windowPastEnd ∷ 0 ∷ []) ∷ (accepted ∷ 268028673013759273 ∷ []) ∷ [])
+      ((windowPastEnd ∷ 7 ∷ 7 ∷ 7 ∷ 7 ∷ [])
+      ∷ (bufferShort ∷ 7 ∷ 7 ∷ [])
+      ∷ (accepted ∷ 1303918440556277007 ∷ 875958813381640159 ∷ 7 ∷ 2953517028875062 ∷ 375362654010699850 ∷ 7 ∷ [])
+      ∷ (accepted ∷ 875958813381640159 ∷ 375362654010699850 ∷ [])
+      ∷ [])
+      ((windowPastEnd ∷ 7 ∷ 7 ∷ [])
+      ∷ (bufferShort ∷ 7 ∷ [])
+      ∷ (accepted ∷ 1608865829484012132 ∷ 697396084941926376 ∷ 7 ∷ [])
+      ∷ (accepted ∷ 697396084941926376 ∷ [])
+      ∷ [])

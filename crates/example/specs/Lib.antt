@@ -1,2 +1,3 @@
--- One computed example in each field.
+-- The computed examples in each field: the numbers of small dealings, and lists of calls.
+pub mod Worked
 pub mod Example

@@ -1,1 +1,1 @@
-// One computed example in each field, from a dealing's input to the words that both ends hand out, and one of the pad rule; no code.
+// Computed examples: the numbers of a small dealing in each field and the lists of calls at both its ends, and the pad rule; no code.
