@@ -1,6 +1,6 @@
 -- The lists of calls of the small dealings: by `noise-step` and `scalar-step` each call leaves the dealing's outputs, whose words are
 -- those of `Worked`.
-use mathlib.Core.Path.{_≡_, refl, sym, ap, ap₂, _∙_}
+use mathlib.Core.Path.{_≡_, refl, ap, ap₂, _∙_}
 use mathlib.Core.Bool.{Bool, true, false, _&&_}
 use mathlib.Core.List.{List, [], _∷_, _++_, map}
 use Prim.Native.Nat.{ℕ, zero, suc, _+_, _*_, _<_}
@@ -8,7 +8,7 @@ use native.Mathlib.Omega.{arith}
 use borrow.Author.Tests.{ltb-true, ltb-false}
 use lib.Dec.{ltb, lit≤, lit<}
 use lib.ListN.{getD, drop, replicate}
-use Rattle.algebra.proofs.Coding.{flat-cong, at-flat}
+use Rattle.algebra.proofs.Coding.{flat-cong}
 use Rattle.algebra.proofs.Tests.{and-left, and-right}
 use Rattle.algebra.specs.Choice.{choose}
 use Rattle.algebra.specs.Coding.{Coding, CodingLaws, at, flat, over}
@@ -17,7 +17,7 @@ use Rattle.rows.specs.Window.{pastEnd}
 use Rattle.dealing.proofs.Laws as dealing
 use Rattle.dealing.specs.Admitted.{InMemory}
 use Rattle.dealing.specs.Input.{Input}
-use Rattle.dealing.specs.Vectors.{head, field, u, v, w}
+use Rattle.dealing.specs.Vectors.{head, field}
 use Rattle.claims.proofs.Entire.{acceptance}
 use Rattle.claims.proofs.Lists as lists
 use Rattle.claims.specs.Correlation.{Setting, NoiseCall, noiseStep, noiseStart, noiseRun, ScalarCall, scalarStep, scalarStart, scalarRun}
@@ -26,7 +26,7 @@ use Rattle.scalar_end.specs.Online as scalarOnline
 use Rattle.example.specs.Worked.{Numbers, Worked, binaryInput, primeInput, binaryNumbers, primeNumbers}
 use Rattle.example.specs.Example.{noiseCalls, scalarCalls, noiseShown, scalarShown, Ran, Example}
 use Rattle.example.proofs.Dealt.{binary-dealt, prime-dealt}
-use Rattle.example.proofs.Worked.{worked-dealings}
+use Rattle.example.proofs.Worked.{u-word, v-words, w-words, worked-dealings}
 
 -- ---- what lies in memory
 
@@ -116,21 +116,6 @@ choose-same show true r a b e = refl
 choose-same show false r a b e = e refl
 
 module _ (S : Setting) (N : Numbers) (W : Worked (S .input) N) where
-  u-at : (x : ℕ) → x < S .input .outputs → u (S .input) x ≡ at (field (S .input) .noiseValues) (N .us) x
-  u-at x h =
-      sym (at-flat (field (S .input) .noiseValues) (kindLaws (S .input .field) .field .noiseValues) (S .input .outputs) (u (S .input)) x h)
-      ∙ ap (λ l. at (field (S .input) .noiseValues) l x) (W .u-outputs)
-
-  v-at : (x : ℕ) → x < S .input .outputs → v (S .input) x ≡ at (field (S .input) .elements) (N .vs) x
-  v-at x h =
-      sym (at-flat (field (S .input) .elements) (kindLaws (S .input .field) .field .elements) (S .input .outputs) (v (S .input)) x h)
-      ∙ ap (λ l. at (field (S .input) .elements) l x) (W .v-outputs)
-
-  w-at : (x : ℕ) → x < S .input .outputs → w (S .input) x ≡ at (field (S .input) .elements) (N .ws) x
-  w-at x h =
-      sym (at-flat (field (S .input) .elements) (kindLaws (S .input .field) .field .elements) (S .input .outputs) (w (S .input)) x h)
-      ∙ ap (λ l. at (field (S .input) .elements) l x) (W .w-outputs)
-
   noise-one : (c : NoiseCall) → noiseShown (noiseStep (noiseStart S) c)
       ≡ noiseShown (lists.noiseListedBy S c (at (field (S .input) .noiseValues) (N .us)) (at (field (S .input) .elements) (N .vs)))
   noise-one c =
@@ -142,9 +127,9 @@ module _ (S : Setting) (N : Numbers) (W : Worked (S .input) N) where
       (λ e. choose-same noiseShown (noiseOnline.tooShort (head (S .input)) (c .count) (c .uOut) (c .vOut)) _ _ _
       (λ e′. ap₂ (λ a b. 0 ∷ (a ++ b))
       (over-same (field (S .input) .noiseValues) (kindLaws (S .input .field) .field .noiseValues) (c .count) _ _ (c .uOut)
-      (λ k h. u-at (c .first + k) (omega (arith, ltb-false (S .input .outputs) (c .first + c .count) e))))
+      (λ k h. u-word (S .input) N W (c .first + k) (omega (arith, ltb-false (S .input .outputs) (c .first + c .count) e))))
       (over-same (field (S .input) .elements) (kindLaws (S .input .field) .field .elements) (c .count) _ _ (c .vOut)
-      (λ k h. v-at (c .first + k) (omega (arith, ltb-false (S .input .outputs) (c .first + c .count) e))))))
+      (λ k h. v-words (S .input) N W (c .first + k) (omega (arith, ltb-false (S .input .outputs) (c .first + c .count) e))))))
 
   scalar-one : (c : ScalarCall) → scalarShown (scalarStep (scalarStart S) c) ≡ scalarShown (lists.scalarListedBy S c (at (field (S .input) .elements) (N .ws)))
   scalar-one c =
@@ -156,7 +141,7 @@ module _ (S : Setting) (N : Numbers) (W : Worked (S .input) N) where
       (λ e. choose-same scalarShown (scalarOnline.tooShort (head (S .input)) (c .count) (c .wOut)) _ _ _
       (λ e′. ap (λ a. 0 ∷ a)
       (over-same (field (S .input) .elements) (kindLaws (S .input .field) .field .elements) (c .count) _ _ (c .wOut)
-      (λ k h. w-at (c .first + k) (omega (arith, ltb-false (S .input .outputs) (c .first + c .count) e))))))
+      (λ k h. w-words (S .input) N W (c .first + k) (omega (arith, ltb-false (S .input .outputs) (c .first + c .count) e))))))
 
   noise-all : (calls : List NoiseCall) → map noiseShown (noiseRun (noiseStart S) calls)
       ≡ map (λ c. noiseShown (lists.noiseListedBy S c (at (field (S .input) .noiseValues) (N .us)) (at (field (S .input) .elements) (N .vs)))) calls

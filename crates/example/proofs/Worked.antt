@@ -228,3 +228,21 @@ worked-dealings =
       prime = worked primeInput prime-admitted primeNumbers prime-computed;
       second = worked secondInput second-admitted secondNumbers second-computed;
     }
+
+-- ---- a dealing's outputs, by their words
+
+module _ (I : Input) (N : Numbers) (W : Worked I N) where
+  pub u-word : (x : ℕ) → x < I .outputs → u I x ≡ at (field I .noiseValues) (N .us) x
+  u-word x h =
+      sym (at-flat (field I .noiseValues) (kindLaws (I .field) .field .noiseValues) (I .outputs) (u I) x h)
+      ∙ ap (λ l. at (field I .noiseValues) l x) (W .u-outputs)
+
+  pub v-words : (x : ℕ) → x < I .outputs → v I x ≡ at (field I .elements) (N .vs) x
+  v-words x h =
+      sym (at-flat (field I .elements) (kindLaws (I .field) .field .elements) (I .outputs) (v I) x h)
+      ∙ ap (λ l. at (field I .elements) l x) (W .v-outputs)
+
+  pub w-words : (x : ℕ) → x < I .outputs → w I x ≡ at (field I .elements) (N .ws) x
+  w-words x h =
+      sym (at-flat (field I .elements) (kindLaws (I .field) .field .elements) (I .outputs) (w I) x h)
+      ∙ ap (λ l. at (field I .elements) l x) (W .w-outputs)

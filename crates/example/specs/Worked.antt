@@ -45,7 +45,7 @@ binaryInput = small 1 (1 ∷ 1 ∷ []) (3 ∷ (replicate 14 0 ++ (5 ∷ [])))
 abbrev pub primeInput : Input
 primeInput = small 2 (5 ∷ (modulus - 2) ∷ []) (3 ∷ replicate 15 0)
 
--- another dealing of field 1: positions 1 and 3, roots 21 .. 30 and 31 .. 40, the code key 00 .. 0f, label 1
+-- another dealing of field 1: positions 0 and 1, roots 21 .. 30 and 31 .. 40, the code key 00 .. 0f, label 1
 abbrev pub secondInput : Input
 secondInput =
     record {
@@ -56,9 +56,9 @@ secondInput =
       terms = 2;
       outputs = 2;
       roots = bytesFrom 32 33;
-      positions = 1 ∷ 3 ∷ [];
+      positions = 0 ∷ 1 ∷ [];
       values = 1 ∷ 1 ∷ [];
-      delta = 7 ∷ (replicate 14 0 ++ (9 ∷ []));
+      delta = 13 ∷ (replicate 14 0 ++ (9 ∷ []));
       codeKey = bytesFrom 16 0;
       label = 1 ∷ replicate 15 0;
     }
@@ -150,7 +150,7 @@ primeNumbers =
           1608865829484012132 ∷ 697396084941926376 ∷ [];
     }
 
--- field 1, the other dealing
+-- field 1, the other dealing: u is 1 at output 0 and 0 at output 1
 abbrev pub secondNumbers : Numbers
 secondNumbers =
     record {
@@ -161,19 +161,19 @@ secondNumbers =
           ∷ 0xe713ff804e5d12f8 ∷ 0xcdde7f575ab47585 ∷ 0x6c4f941435dcb126 ∷ 0xbd74de7a130ad6ac ∷ [])
           ∷ [];
       corrections =
-          0xf6926a8166ee3255 ∷ 0xefd06f2df6607544 ∷ 0x6c4f941435dcb121 ∷ 0xb474de7a130ad6ac ∷ [];
-      noise = 0 ∷ 1 ∷ 1 ∷ 0 ∷ [];
+          0xc86519b39b697514 ∷ 0x8efcfe2e6ae66c46 ∷ 0x169b0953dce08537 ∷ 0x866e44feb108a259 ∷ [];
+      noise = 1 ∷ 0 ∷ 0 ∷ 0 ∷ [];
       v =
-          0x9150ddf560244c86 ∷ 0xbb1af598e0cc3cac ∷ 0x7159be27da2afbe9 ∷ 0xdba4de4ba7a4ebb1
-          ∷ 0x8044e95e4abe5431 ∷ 0x6d31781b9a5db94d ∷ 0x915592205dfac92e ∷ 0xe7632aa8ea299c8b ∷ [];
+          0x9150ddf560244c8b ∷ 0xb21af598e0cc3cac ∷ 0x7159be27da2afbee ∷ 0xd2a4de4ba7a4ebb1
+          ∷ 0x8044e95e4abe5436 ∷ 0x6431781b9a5db94d ∷ 0x915592205dfac92e ∷ 0xe7632aa8ea299c8b ∷ [];
       w =
           0x9150ddf560244c86 ∷ 0xbb1af598e0cc3cac ∷ 0x7159be27da2afbee ∷ 0xd2a4de4ba7a4ebb1
           ∷ 0x8044e95e4abe5436 ∷ 0x6431781b9a5db94d ∷ 0x915592205dfac92e ∷ 0xe7632aa8ea299c8b ∷ [];
       places = (0 ∷ 3 ∷ []) ∷ (1 ∷ 3 ∷ []) ∷ [];
       coefficients = (1 ∷ 1 ∷ []) ∷ (1 ∷ 1 ∷ []) ∷ [];
-      us = 0 ∷ 1 ∷ [];
+      us = 1 ∷ 0 ∷ [];
       vs =
-          0x00054fd53dde85a8 ∷ 0x5c79df300ae5a027 ∷ 0xe00c2c0787d032c7 ∷ 0x3cc7f4e34d8d773a ∷ [];
+          0x00054fd53dde85a5 ∷ 0x5579df300ae5a027 ∷ 0xe00c2c0787d032c0 ∷ 0x35c7f4e34d8d773a ∷ [];
       ws =
           0x00054fd53dde85a8 ∷ 0x5c79df300ae5a027 ∷ 0xe00c2c0787d032c0 ∷ 0x35c7f4e34d8d773a ∷ [];
     }

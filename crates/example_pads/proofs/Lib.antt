@@ -1,0 +1,4 @@
+-- The computed examples on pads, one inhabitant of each statement of specs/.
+pub mod Pads
+pub mod Triples
+pub mod Circuit

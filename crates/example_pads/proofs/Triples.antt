@@ -1,0 +1,28 @@
+-- The triples of both ends, from what was taken of both dealings; that they match, by `Triples` itself.
+use mathlib.Core.Path.{_≡_, refl}
+use Prim.Native.Nat.{ℕ, _<_}
+use Rattle.algebra.specs.Coding.{flat, over}
+use Rattle.pads.specs.Bytes.{anyAbove}
+use Rattle.messages.specs.Outcome.{outcomeOf, firstFault}
+use Rattle.triples.specs.Call.{triples}
+use Rattle.triples.specs.Triple.{tripleFrom, tripleOf}
+use Rattle.dealt_pads.proofs.Triples as dealt
+use Rattle.dealt_pads.specs.Formed.{FormedAt}
+use Rattle.example_pads.specs.Triples.{lent₁, lent₂, TriplesExample}
+use Rattle.example_pads.proofs.Pads.{firstDealing, secondDealing, first-taken, second-taken}
+
+pub formed : (i : ℕ) → i < 2 → FormedAt lent₁ lent₂ i
+unfolding anyAbove firstFault outcomeOf triples
+formed i h =
+    record {
+      first = firstDealing;
+      second = secondDealing;
+      accepted = refl;
+      accepted′ = refl;
+      taken = first-taken i h;
+      taken′ = second-taken i h;
+    }
+
+pub triples-example : TriplesExample
+unfolding anyAbove firstFault outcomeOf triples flat over tripleFrom tripleOf
+triples-example = record { formed = formed; triples₁ = refl; triples₂ = refl; match = λ i h. dealt.triples lent₁ lent₂ i (formed i h) .2 }

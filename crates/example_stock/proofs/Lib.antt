@@ -1,0 +1,2 @@
+-- The computed example.
+pub mod Stock

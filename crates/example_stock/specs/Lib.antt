@@ -1,0 +1,2 @@
+-- A computed example of a list of calls on one stock.
+pub mod Stock

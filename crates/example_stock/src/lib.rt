@@ -1,0 +1,1 @@
+// A computed example of a list of calls on one stock, with a preview and a passage; no code.
