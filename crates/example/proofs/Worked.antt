@@ -1,14 +1,18 @@
 -- The numbers of the small dealings: leaves and rows by computation with the cipher that looks up, each block once; then what is made
 -- of leaves and rows from their words.
 use mathlib.Core.Path.{_≡_, refl, sym, ap, ap₂, _∙_}
+use mathlib.Core.Bool.{Bool, true, false}
 use mathlib.Core.List.{List, []}
 use Prim.Native.Nat.{ℕ, _<_}
+use borrow.Author.Tests.{ltb-true}
+use lib.Dec.{ltb}
 use lib.ListN.{getD}
 use Rattle.algebra.proofs.Coding.{flat-cong, at-flat}
 use Rattle.algebra.proofs.Matrix.{output-is-matrix}
 use Rattle.algebra.proofs.Same.{accumulate-same, punctured-same, whole-same}
 use Rattle.algebra.proofs.Sum.{sum-cong, itself-laws}
-use Rattle.algebra.specs.Coding.{at, flat}
+use Rattle.algebra.specs.Choice.{choose}
+use Rattle.algebra.specs.Coding.{Coding, CodingLaws, at, flat}
 use Rattle.algebra.specs.Expansion.{noise, correction, punctured, whole}
 use Rattle.algebra.specs.Field.{NoiseValue, Value}
 use Rattle.algebra.specs.Group.{Scaled, itself}
@@ -231,18 +235,24 @@ worked-dealings =
 
 -- ---- a dealing's outputs, by their words
 
+-- the values of words below n, and those of f from there on
+abbrev pub inWords : {A : Type 0} → Coding A → ℕ → List ℕ → (ℕ → A) → ℕ → A
+inWords C n words f x = choose (ltb x n) (at C words x) (f x)
+
+-- where the words are f's, f is that
+in-words : {A : Type 0} (C : Coding A) → CodingLaws C → (n : ℕ) (words : List ℕ) (f : ℕ → A) → flat C n f ≡ words → f ≡ inWords C n words f
+in-words C L n words f e i x = from (ltb x n) refl i
+  where
+    from : (b : Bool) → ltb x n ≡ b → f x ≡ choose (ltb x n) (at C words x) (f x)
+    from true q = rw q (sym (at-flat C L n f x (ltb-true x n q)) ∙ ap (λ l. at C l x) e)
+    from false q = rw q
+
 module _ (I : Input) (N : Numbers) (W : Worked I N) where
-  pub u-word : (x : ℕ) → x < I .outputs → u I x ≡ at (field I .noiseValues) (N .us) x
-  u-word x h =
-      sym (at-flat (field I .noiseValues) (kindLaws (I .field) .field .noiseValues) (I .outputs) (u I) x h)
-      ∙ ap (λ l. at (field I .noiseValues) l x) (W .u-outputs)
+  pub u-is : u I ≡ inWords (field I .noiseValues) (I .outputs) (N .us) (u I)
+  u-is = in-words (field I .noiseValues) (kindLaws (I .field) .field .noiseValues) (I .outputs) (N .us) (u I) (W .u-outputs)
 
-  pub v-words : (x : ℕ) → x < I .outputs → v I x ≡ at (field I .elements) (N .vs) x
-  v-words x h =
-      sym (at-flat (field I .elements) (kindLaws (I .field) .field .elements) (I .outputs) (v I) x h)
-      ∙ ap (λ l. at (field I .elements) l x) (W .v-outputs)
+  pub v-is : v I ≡ inWords (field I .elements) (I .outputs) (N .vs) (v I)
+  v-is = in-words (field I .elements) (kindLaws (I .field) .field .elements) (I .outputs) (N .vs) (v I) (W .v-outputs)
 
-  pub w-words : (x : ℕ) → x < I .outputs → w I x ≡ at (field I .elements) (N .ws) x
-  w-words x h =
-      sym (at-flat (field I .elements) (kindLaws (I .field) .field .elements) (I .outputs) (w I) x h)
-      ∙ ap (λ l. at (field I .elements) l x) (W .w-outputs)
+  pub w-is : w I ≡ inWords (field I .elements) (I .outputs) (N .ws) (w I)
+  w-is = in-words (field I .elements) (kindLaws (I .field) .field .elements) (I .outputs) (N .ws) (w I) (W .w-outputs)

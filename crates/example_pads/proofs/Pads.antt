@@ -5,7 +5,6 @@ use Prim.Native.Nat.{ℕ, zero, suc, _-_, _<_}
 use native.Mathlib.Nat.{sub-zero}
 use native.Mathlib.Omega.{arith}
 use borrow.Author.Tests.{eqb-false}
-use lib.Dec.{lit≤, lit<}
 use lib.ListN.{getD, replicate}
 use Rattle.algebra.specs.Coding.{flat, over}
 use Rattle.answer.specs.Numbers.{accepted}
@@ -25,7 +24,7 @@ use Rattle.dealt_pads.specs.Taken.{Dealing, TakenAt}
 use Rattle.by_table.proofs.Cipher.{looked, lookedFrom, mixBy, subBy, roundBy, roundsBy, cipherBy, tempBy, wordsBy, lookedCipher, lookedWords, lookedKeys}
 use Rattle.by_table.proofs.Made.{lookedAes, lookedUnder, padBy, lookedPad, pad-looked}
 use Rattle.example.proofs.Dealt.{binary-dealt, second-dealt}
-use Rattle.example.proofs.Worked.{u-word, v-words, w-words, worked-dealings}
+use Rattle.example.proofs.Worked.{u-is, v-is, w-is, worked-dealings}
 use Rattle.example.specs.Worked.{Numbers, binaryInput, secondInput, binaryNumbers, secondNumbers}
 use Rattle.example_pads.specs.Pads.{PadsRan, firstNoise, firstScalar, secondNoise, secondScalar, PadsExample}
 
@@ -39,7 +38,8 @@ secondDealing = record { input = secondInput; binary = refl; noiseRecord = repli
 -- what two accepted pad calls leave, where the bytes lent are a dealing's
 module _ (D : Dealing) (N : Numbers) (noise scalar : List ℕ)
     (noise-call : noisePads 0 2 (writeWords (N .vs)) (N .us) (replicate 32 0) ≡ outcome accepted (writeWords (N .vs)) (N .us) noise)
-    (scalar-call : scalarPads 0 2 (writeWords (N .ws)) (D .input .delta) (replicate 64 0) ≡ outcome accepted (writeWords (N .ws)) (D .input .delta) scalar)
+    (scalar-call : scalarPads 0 2 (writeWords (N .ws)) (D .input .delta) (replicate 64 0)
+    ≡ outcome accepted (writeWords (N .ws)) (D .input .delta) scalar)
     (lent : (x : ℕ) → x < 2 → PadsLent (D .input) x 0 (writeWords (N .vs)) (N .us) 0 (writeWords (N .ws)) (D .input .delta))
     (outputs : D .input .outputs ≡ 2) where
   -- the pad that the choice names, by `Pads`
@@ -80,28 +80,31 @@ module _ (D : Dealing) (N : Numbers) (noise scalar : List ℕ)
 
 -- ---- the first dealing
 
-first-noise : noisePads 0 2 (writeWords (binaryNumbers .vs)) (binaryNumbers .us) (replicate 32 0) ≡ outcome accepted (writeWords (binaryNumbers .vs)) (binaryNumbers .us) firstNoise
+first-noise : noisePads 0 2 (writeWords (binaryNumbers .vs)) (binaryNumbers .us) (replicate 32 0)
+    ≡ outcome accepted (writeWords (binaryNumbers .vs)) (binaryNumbers .us) firstNoise
 unfolding looked lookedFrom mixBy subBy roundBy roundsBy cipherBy tempBy wordsBy lookedCipher lookedWords lookedKeys lookedAes lookedUnder padBy lookedPad xtime xorWord xorState shiftRows power keysOf leBytes leNumber wordAt columnsOf lowOf highOf padKey writing.writeEach flat over anyAbove answered noiseNumber scalarNumber noisePadsBy scalarPadsBy messagePair
 first-noise = ap (λ rule. noisePadsBy rule 0 2 (writeWords (binaryNumbers .vs)) (binaryNumbers .us) (replicate 32 0)) pad-looked
 
-first-scalar : scalarPads 0 2 (writeWords (binaryNumbers .ws)) (binaryInput .delta) (replicate 64 0) ≡ outcome accepted (writeWords (binaryNumbers .ws)) (binaryInput .delta) firstScalar
+first-scalar : scalarPads 0 2 (writeWords (binaryNumbers .ws)) (binaryInput .delta) (replicate 64 0)
+    ≡ outcome accepted (writeWords (binaryNumbers .ws)) (binaryInput .delta) firstScalar
 unfolding looked lookedFrom mixBy subBy roundBy roundsBy cipherBy tempBy wordsBy lookedCipher lookedWords lookedKeys lookedAes lookedUnder padBy lookedPad xtime xorWord xorState shiftRows power keysOf leBytes leNumber wordAt columnsOf lowOf highOf padKey writing.writeEach flat over anyAbove answered noiseNumber scalarNumber noisePadsBy scalarPadsBy messagePair
 first-scalar = ap (λ rule. scalarPadsBy rule 0 2 (writeWords (binaryNumbers .ws)) (binaryInput .delta) (replicate 64 0)) pad-looked
 
-first-lent : (x : ℕ) → x < 2 → PadsLent binaryInput x 0 (writeWords (binaryNumbers .vs)) (binaryNumbers .us) 0 (writeWords (binaryNumbers .ws)) (binaryInput .delta)
+first-lent : (x : ℕ) → x < 2
+    → PadsLent binaryInput x 0 (writeWords (binaryNumbers .vs)) (binaryNumbers .us) 0 (writeWords (binaryNumbers .ws)) (binaryInput .delta)
 unfolding writing.writeEach leBytes leNumber wordAt
 first-lent zero h =
     record {
-      v-lent = sym (v-words binaryInput binaryNumbers (worked-dealings .binary) 0 (lit< tt));
-      u-lent = sym (u-word binaryInput binaryNumbers (worked-dealings .binary) 0 (lit< tt));
-      w-lent = sym (w-words binaryInput binaryNumbers (worked-dealings .binary) 0 (lit< tt));
+      v-lent = sym (ap (λ f. f 0) (v-is binaryInput binaryNumbers (worked-dealings .binary)));
+      u-lent = sym (ap (λ f. f 0) (u-is binaryInput binaryNumbers (worked-dealings .binary)));
+      w-lent = sym (ap (λ f. f 0) (w-is binaryInput binaryNumbers (worked-dealings .binary)));
       Δ-lent = refl;
     }
 first-lent (suc zero) h =
     record {
-      v-lent = sym (v-words binaryInput binaryNumbers (worked-dealings .binary) 1 (lit< tt));
-      u-lent = sym (u-word binaryInput binaryNumbers (worked-dealings .binary) 1 (lit< tt));
-      w-lent = sym (w-words binaryInput binaryNumbers (worked-dealings .binary) 1 (lit< tt));
+      v-lent = sym (ap (λ f. f 1) (v-is binaryInput binaryNumbers (worked-dealings .binary)));
+      u-lent = sym (ap (λ f. f 1) (u-is binaryInput binaryNumbers (worked-dealings .binary)));
+      w-lent = sym (ap (λ f. f 1) (w-is binaryInput binaryNumbers (worked-dealings .binary)));
       Δ-lent = refl;
     }
 first-lent (suc (suc x)) h = absurd (omega arith)
@@ -116,28 +119,31 @@ first-taken = taken firstDealing binaryNumbers firstNoise firstScalar first-nois
 
 -- ---- the second dealing
 
-second-noise : noisePads 0 2 (writeWords (secondNumbers .vs)) (secondNumbers .us) (replicate 32 0) ≡ outcome accepted (writeWords (secondNumbers .vs)) (secondNumbers .us) secondNoise
+second-noise : noisePads 0 2 (writeWords (secondNumbers .vs)) (secondNumbers .us) (replicate 32 0)
+    ≡ outcome accepted (writeWords (secondNumbers .vs)) (secondNumbers .us) secondNoise
 unfolding looked lookedFrom mixBy subBy roundBy roundsBy cipherBy tempBy wordsBy lookedCipher lookedWords lookedKeys lookedAes lookedUnder padBy lookedPad xtime xorWord xorState shiftRows power keysOf leBytes leNumber wordAt columnsOf lowOf highOf padKey writing.writeEach flat over anyAbove answered noiseNumber scalarNumber noisePadsBy scalarPadsBy messagePair
 second-noise = ap (λ rule. noisePadsBy rule 0 2 (writeWords (secondNumbers .vs)) (secondNumbers .us) (replicate 32 0)) pad-looked
 
-second-scalar : scalarPads 0 2 (writeWords (secondNumbers .ws)) (secondInput .delta) (replicate 64 0) ≡ outcome accepted (writeWords (secondNumbers .ws)) (secondInput .delta) secondScalar
+second-scalar : scalarPads 0 2 (writeWords (secondNumbers .ws)) (secondInput .delta) (replicate 64 0)
+    ≡ outcome accepted (writeWords (secondNumbers .ws)) (secondInput .delta) secondScalar
 unfolding looked lookedFrom mixBy subBy roundBy roundsBy cipherBy tempBy wordsBy lookedCipher lookedWords lookedKeys lookedAes lookedUnder padBy lookedPad xtime xorWord xorState shiftRows power keysOf leBytes leNumber wordAt columnsOf lowOf highOf padKey writing.writeEach flat over anyAbove answered noiseNumber scalarNumber noisePadsBy scalarPadsBy messagePair
 second-scalar = ap (λ rule. scalarPadsBy rule 0 2 (writeWords (secondNumbers .ws)) (secondInput .delta) (replicate 64 0)) pad-looked
 
-second-lent : (x : ℕ) → x < 2 → PadsLent secondInput x 0 (writeWords (secondNumbers .vs)) (secondNumbers .us) 0 (writeWords (secondNumbers .ws)) (secondInput .delta)
+second-lent : (x : ℕ) → x < 2
+    → PadsLent secondInput x 0 (writeWords (secondNumbers .vs)) (secondNumbers .us) 0 (writeWords (secondNumbers .ws)) (secondInput .delta)
 unfolding writing.writeEach leBytes leNumber wordAt
 second-lent zero h =
     record {
-      v-lent = sym (v-words secondInput secondNumbers (worked-dealings .second) 0 (lit< tt));
-      u-lent = sym (u-word secondInput secondNumbers (worked-dealings .second) 0 (lit< tt));
-      w-lent = sym (w-words secondInput secondNumbers (worked-dealings .second) 0 (lit< tt));
+      v-lent = sym (ap (λ f. f 0) (v-is secondInput secondNumbers (worked-dealings .second)));
+      u-lent = sym (ap (λ f. f 0) (u-is secondInput secondNumbers (worked-dealings .second)));
+      w-lent = sym (ap (λ f. f 0) (w-is secondInput secondNumbers (worked-dealings .second)));
       Δ-lent = refl;
     }
 second-lent (suc zero) h =
     record {
-      v-lent = sym (v-words secondInput secondNumbers (worked-dealings .second) 1 (lit< tt));
-      u-lent = sym (u-word secondInput secondNumbers (worked-dealings .second) 1 (lit< tt));
-      w-lent = sym (w-words secondInput secondNumbers (worked-dealings .second) 1 (lit< tt));
+      v-lent = sym (ap (λ f. f 1) (v-is secondInput secondNumbers (worked-dealings .second)));
+      u-lent = sym (ap (λ f. f 1) (u-is secondInput secondNumbers (worked-dealings .second)));
+      w-lent = sym (ap (λ f. f 1) (w-is secondInput secondNumbers (worked-dealings .second)));
       Δ-lent = refl;
     }
 second-lent (suc (suc x)) h = absurd (omega arith)
