@@ -3,8 +3,7 @@
 use mathlib.Core.Path.{_≡_, refl, sym, ap, _∙_}
 use mathlib.Core.Bool.{Bool, true, false}
 use mathlib.Core.List.{List, [], _∷_, _++_}
-use Prim.Native.Nat.{ℕ, zero, suc, _+_, _-_, _*_, _/_, _%_, _^_, _<_}
-use native.Mathlib.Omega.{arith}
+use Prim.Native.Nat.{ℕ, zero, suc, _+_, _-_, _/_, _%_, _^_}
 use borrow.Author.Tests.{ltb-true, eqb-true}
 use lib.Bits.{bitXor}
 use lib.Dec.{eqb, ltb}
@@ -13,8 +12,8 @@ use Rattle.algebra.specs.Choice.{choose}
 use Rattle.algebra.specs.Every.{every}
 use Rattle.algebra.proofs.Every.{every-at}
 use Rattle.sbox.specs.Byte.{xtime, multiples, mulBytes, squares, inverse, fromBits, affine, sBox}
-use Rattle.aes128.specs.State.{four, column, byteAt, xorWord, xorState}
-use Rattle.aes128.specs.Cipher.{subBytes, shiftRows, mixColumn, mixColumns, addRoundKey, roundKey, rounds, cipher, rotWord, rcon, power, temp, scheduleWords, keyOf, keysOf, keyExpansion, aes}
+use Rattle.aes128.specs.State.{four, column, byteAt, xorWord}
+use Rattle.aes128.specs.Cipher.{subBytes, shiftRows, mixColumn, mixColumns, addRoundKey, roundKey, rounds, cipher, rotWord, rcon, temp, scheduleWords, keysOf, keyExpansion}
 
 -- ---- tables of 256 bytes, as four numbers of 64 bytes each, least byte first
 
@@ -39,6 +38,7 @@ looked-is t f h i x = from x (ltb x 256) refl i
     from x true e = rw e (sym (eqb-true (entry t x) (f x) (every-at (λ y. eqb (entry t y) (f y)) x 256 h (ltb-true x 256 e))))
     from x false e = rw e
 
+-- the S-box, and the products by 2 and by 3
 abbrev pub sBoxes : List ℕ
 sBoxes =
     0x75b227ebe28012079a059618c323c7041531d871f1e5a534ccf73f362693fdb7c072a49cafa2d4adf04759fa7dc982ca76abd7fe2b670130c56f6bf27b777c63
@@ -78,6 +78,7 @@ triple-looked = looked-is triples (mulBytes 3) refl
 -- ---- the cipher over any S-box and any products by 2 and 3
 
 module _ (sub double triple : ℕ → ℕ) where
+  -- one column of MixColumns
   unfoldable pub mixBy : List ℕ → List ℕ
   mixBy s =
       let s0 = getD s 0 0 in
@@ -90,9 +91,11 @@ module _ (sub double triple : ℕ → ℕ) where
       ∷ bitXor (bitXor (bitXor (triple s0) s1) s2) (double s3)
       ∷ []
 
+  -- SubBytes
   unfoldable pub subBy : List (List ℕ) → List (List ℕ)
   subBy s = four (λ c. four (λ r. sub (byteAt s r c)))
 
+  -- one round, and n rounds after the first AddRoundKey
   unfoldable pub roundBy : List (List ℕ) → List (List ℕ) → List (List ℕ)
   roundBy k s = let t = shiftRows (subBy s) in addRoundKey (four (λ c. mixBy (column t c))) k
 
@@ -100,9 +103,11 @@ module _ (sub double triple : ℕ → ℕ) where
   roundsBy w zero s = addRoundKey s (roundKey w 0)
   roundsBy w (suc n) s = roundBy (roundKey w (suc n)) (roundsBy w n s)
 
+  -- Cipher
   unfoldable pub cipherBy : List (List (List ℕ)) → List (List ℕ) → List (List ℕ)
   cipherBy w s = addRoundKey (shiftRows (subBy (roundsBy w 9 s))) (roundKey w 10)
 
+  -- what KeyExpansion adds to w[i - 4], and its words w[0] to w[n + 3]
   unfoldable pub tempBy : ℕ → List ℕ → List ℕ
   tempBy i t = choose (eqb (i % 4) 0) (xorWord (four (λ r. sub (getD (rotWord t) r 0))) (rcon (i / 4))) t
 

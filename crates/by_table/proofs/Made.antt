@@ -1,12 +1,12 @@
 -- What is made with the cipher is what is made with the one that looks up: leaves, the vectors of a dealing, rows and pads.
-use mathlib.Core.Path.{_≡_, refl, ap, ap₂, _∙_}
+use mathlib.Core.Path.{_≡_, ap, _∙_}
 use mathlib.Core.List.{List}
-use Prim.Native.Nat.{ℕ, _*_, _/_, _^_}
+use Prim.Native.Nat.{ℕ, _/_, _^_}
 use Rattle.algebra.specs.Expansion.{correction, punctured, whole}
 use Rattle.algebra.specs.Field.{Value}
 use Rattle.algebra.specs.Row.{Row}
 use Rattle.aes128.specs.State.{xorState}
-use Rattle.aes128.specs.Cipher.{cipher, keysOf, keyExpansion, aes}
+use Rattle.aes128.specs.Cipher.{cipher, keyExpansion, aes}
 use Rattle.field.specs.declared.block.Block.{Block}
 use Rattle.field.specs.Binary.{blockAdd, blockOf}
 use Rattle.field.specs.Bytes.{columnsOf, lowOf, highOf}
@@ -15,7 +15,7 @@ use Rattle.tree.specs.Columns.{columnsAt}
 use Rattle.tree.specs.Tree.{leafAt}
 use Rattle.code.specs.Row.{placeOf, termBlock, termPlace, rowOf}
 use Rattle.record.specs.Content.{Head}
-use Rattle.rows.specs.Head.{kind, fieldOf, places, codeKeys, row}
+use Rattle.rows.specs.Head.{kind, fieldOf, places, row}
 use Rattle.dealing.specs.Input.{Input, position}
 use Rattle.dealing.specs.Vectors.{head, field, value, root, leaf, delta, treeCorrection, v0, w0}
 use Rattle.pads.specs.Pad.{padKey, indexBlock, state, underPadKey, pad}
@@ -72,23 +72,25 @@ module _ (I : Input) where
 
 -- ---- rows
 
-unfoldable pub rowBy : (List (List (List ℕ)) → List (List ℕ) → List (List ℕ)) → List (List (List ℕ)) → (h : Head) → ℕ → Row (fieldOf h .ring)
-rowBy encrypt keys h x =
+-- row x where this is the block that a term's is encrypted to
+unfoldable pub rowBy : (List (List ℕ) → List (List ℕ)) → (h : Head) → ℕ → Row (fieldOf h .ring)
+rowBy encrypt h x =
     record {
       terms = h .terms;
-      place = λ i. placeOf (places h) (h .terms) i (lowOf (encrypt keys (columnsOf x i)));
-      coefficient = λ i. kind h .coefficient (highOf (encrypt keys (columnsOf x i)));
+      place = λ i. placeOf (places h) (h .terms) i (lowOf (encrypt (columnsOf x i)));
+      coefficient = λ i. kind h .coefficient (highOf (encrypt (columnsOf x i)));
     }
 
 unfoldable pub lookedRow : (h : Head) → ℕ → Row (fieldOf h .ring)
-lookedRow h x = rowBy lookedCipher (lookedKeys (columnsAt (h .codeKey) 0)) h x
+lookedRow h x = rowBy (lookedAes (columnsAt (h .codeKey) 0)) h x
 
 pub row-looked : (h : Head) (x : ℕ) → row h x ≡ lookedRow h x
-unfolding rowOf termPlace termBlock rowBy lookedRow
-row-looked h x i = rowBy (λ w s. cipher-looked w s i) (keys-looked (columnsAt (h .codeKey) 0) i) h x
+unfolding aes rowOf termPlace termBlock rowBy lookedRow
+row-looked h x i = rowBy (λ s. aes-looked (columnsAt (h .codeKey) 0) s i) h x
 
 -- ---- pads
 
+-- E(16 bytes FF, b)
 unfoldable pub lookedUnder : Block → Block
 lookedUnder b = blockOf (lookedAes padKey (state b))
 
@@ -96,6 +98,7 @@ pub under-looked : (b : Block) → underPadKey b ≡ lookedUnder b
 unfolding underPadKey lookedUnder
 under-looked b = ap blockOf (aes-looked padKey (state b))
 
+-- the pad rule over the cipher under the pad key
 unfoldable pub padBy : (Block → Block) → ℕ → Block → Block
 padBy under x w = let a = under w in blockAdd (under (blockAdd a (indexBlock x))) a
 

@@ -26,7 +26,7 @@ use Rattle.by_table.proofs.Made.{lookedAes, lookedUnder, padBy, lookedPad, pad-
 use Rattle.example.proofs.Dealt.{binary-dealt, second-dealt}
 use Rattle.example.proofs.Worked.{u-is, v-is, w-is, worked-dealings}
 use Rattle.example.specs.Worked.{Numbers, binaryInput, secondInput, binaryNumbers, secondNumbers}
-use Rattle.example_pads.specs.Pads.{PadsRan, firstNoise, firstScalar, secondNoise, secondScalar, PadsExample}
+use Rattle.example_pads.specs.Pads.{firstNoise, firstScalar, secondNoise, secondScalar, PadsExample}
 
 -- both dealings
 abbrev pub firstDealing : Dealing

@@ -1,5 +1,5 @@
 -- The triples of both ends, from what was taken of both dealings; that they match, by `Triples` itself.
-use mathlib.Core.Path.{_≡_, refl}
+use mathlib.Core.Path.{refl}
 use Prim.Native.Nat.{ℕ, _<_}
 use Rattle.algebra.specs.Coding.{flat, over}
 use Rattle.pads.specs.Bytes.{anyAbove}

@@ -1,7 +1,7 @@
 -- Nothing is vacuous: triples of two ends on the pads of the two dealings with the roles exchanged (document 02, 6), at places 0 and 1 of
 -- one call an end, through what `Triples` asks.
 use mathlib.Core.Path.{_≡_}
-use mathlib.Core.List.{List, [], _∷_}
+use mathlib.Core.List.{[], _∷_}
 use Prim.Native.Nat.{ℕ, _<_}
 use lib.ListN.{replicate}
 use Rattle.algebra.specs.Coding.{at}
