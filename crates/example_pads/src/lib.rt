@@ -1,1 +1,1 @@
-// Computed examples on the pads of two dealings: pads at both ends, triples, and a circuit run to its end by both; no code.
+// Computed examples on the pads of two dealings: pads at both ends, messages, triples, and a circuit run to its end by both; no code.

@@ -1,0 +1,47 @@
+-- The batch, by computation; that it opens, by `Messages` itself.
+use mathlib.Core.Path.{refl}
+use Prim.Native.Nat.{ℕ, zero, suc, _<_}
+use native.Mathlib.Omega.{arith}
+use lib.Dec.{lit≤}
+use Rattle.algebra.specs.Coding.{flat, over}
+use Rattle.pads.specs.Bytes.{anyAbove, Bits}
+use Rattle.messages.specs.Calls.{correctionBits, answerOf, maskMessages, openedOf, unmaskMessages}
+use Rattle.messages.specs.Opening.{BatchFits}
+use Rattle.messages.specs.Outcome.{outcomeOf, firstFault}
+use Rattle.dealt_pads.proofs.Messages.{messages}
+use Rattle.example_pads.specs.Messages.{batch, MessagesExample}
+use Rattle.example_pads.proofs.Pads.{firstDealing, first-taken}
+
+wanted-bits : Bits 2 (batch .wanted)
+wanted-bits zero h = lit≤ tt
+wanted-bits (suc zero) h = lit≤ tt
+wanted-bits (suc (suc k)) h = absurd (omega arith)
+
+fits : BatchFits batch
+fits =
+    record {
+      batch = lit≤ tt;
+      choices-length = refl;
+      wanted-length = refl;
+      noisePads-length = refl;
+      scalarPads-length = refl;
+      messages-length = refl;
+      wanted-bits = wanted-bits;
+      bits-room = lit≤ tt;
+      answers-room = lit≤ tt;
+      messages-room = lit≤ tt;
+    }
+
+pub messages-example : MessagesExample
+unfolding flat over anyAbove firstFault outcomeOf correctionBits answerOf maskMessages openedOf unmaskMessages
+messages-example =
+    record {
+      dealing = firstDealing;
+      input = refl;
+      fits = fits;
+      taken = first-taken;
+      bits = refl;
+      answers = refl;
+      opened = refl;
+      opens = messages firstDealing batch fits first-taken;
+    }
