@@ -10,9 +10,9 @@ use borrow.Author.Tests.{eqb-true, eq-eqb, ne-eqb}
 use Rattle.algebra.specs.Choice.{choose}
 use Rattle.algebra.specs.Group.{Element, Ring, Scaled, RingLaws, ScaledLaws, itself}
 use Rattle.algebra.specs.Sum.{sum, accumulate}
-use Rattle.algebra.specs.Row.{Row, output, entry, rowTimes}
-use Rattle.algebra.specs.Inner.Rows.{RowWithin}
-use Rattle.algebra.specs.Expansion.{Rising, noise, NoiseIs, correction, punctured, whole, Correlated}
+use Rattle.algebra.specs.Row.{Row, RowWithin, output, entry, rowTimes}
+use Rattle.algebra.specs.Expansion.{noise, NoiseIs, correction, punctured, whole, Correlated}
+use Rattle.algebra.specs.Common.{Dealt, dealtNoise, dealtPunctured, dealtWhole}
 use Rattle.algebra.proofs.Choice.{choose-true, choose-false, choose-either}
 use Rattle.algebra.proofs.Sum.{sum-cong, sum-element, sum-add, sum-zeros, add-zero, sum-scale, itself-laws}
 use Rattle.algebra.proofs.Rising.{Rises, rises, rising-pairs}
@@ -112,58 +112,56 @@ module _ (R : Ring) (S : Scaled R) (RL : RingLaws R) (L : ScaledLaws R S) (Δ : 
       ∙ L .scale-add c (S .scale (u p) Δ) (v p)
       ∙ ap (λ (x : S .group .Of). S .group .add x (S .scale c (v p))) (sym (L .mul-scale c (u p) Δ (W .coefficient-element i k) (h p b))))
 
-  module _ (Δ-element : Element (S .group) Δ) (t : ℕ) (position : ℕ → ℕ) (rising : Rising t position)
-      (value : ℕ → R .group .Of) (value-element : (i : ℕ) → i < t → Element (R .group) (value i))
-      (leaf : ℕ → ℕ → S .group .Of) (leaf-element : (i j : ℕ) → Element (S .group) (leaf i j))
-      (corrections : ℕ → S .group .Of)
-      (corrected : (i : ℕ) → i < t → corrections i ≡ correction S Δ (leaf i (position i)) (value i)) where
-    -- one tree at one place
-    tree-correlated : (i : ℕ) → i < t → (j : ℕ) (b : Bool) → eqb (position i) j ≡ b
-        → Correlated S Δ (choose b (value i) (R .group .zero)) (choose b (corrections i) (leaf i j)) (leaf i j)
-    unfolding correction
-    tree-correlated i h j true e =
-        let y = S .scale (value i) Δ in
-        let a = leaf i (position i) in
-        let at : leaf i j ≡ a = ap (leaf i) (sym (eqb-true (position i) j e)) in
-        at
-        ∙ sym (L .group .add-sub a y (leaf-element i (position i)) (L .scale-element (value i) Δ Δ-element))
-        ∙ ap (S .group .add y) (sym (corrected i h))
-    tree-correlated i h j false e =
-        sym (ap (λ (x : S .group .Of). S .group .add x (leaf i j)) (L .zero-scale Δ) ∙ L .group .zero-add (leaf i j) (leaf-element i j))
+module _ (R : Ring) (S : Scaled R) (RL : RingLaws R) (L : ScaledLaws R S) (D : Dealt S) where
+  abbrev corrections : ℕ → S .group .Of
+  corrections i = correction S (D .delta) (D .leaf i (D .position i)) (D .value i)
 
-    -- what is dealt is correlated at every place
-    pub dealt-correlated : (j : ℕ) → Correlated S Δ (noise R t position value j) (punctured S t position corrections leaf j) (whole S t leaf j)
-    unfolding punctured whole
-    dealt-correlated j =
-        let u : ℕ → R .group .Of = λ i. choose (eqb (position i) j) (value i) (R .group .zero) in
-        let v : ℕ → S .group .Of = λ i. choose (eqb (position i) j) (corrections i) (leaf i j) in
-        sum-correlated t u v (λ i. leaf i j)
-        (λ i h. choose-either (Element (R .group)) (eqb (position i) j) (value i) (R .group .zero) (value-element i h) (RL .group .zero-element))
-        (λ i h. tree-correlated i h j (eqb (position i) j) refl)
-        ∙ ap (λ (x : R .group .Of). S .group .add (S .scale x Δ) (sum (S .group) t v))
-        (sym (noise-sum R RL t position value (rises t position rising) value-element j))
+  -- one tree at one place
+  tree-correlated : (i j : ℕ) (b : Bool) → eqb (D .position i) j ≡ b
+      → Correlated S (D .delta) (choose b (D .value i) (R .group .zero)) (choose b (corrections i) (D .leaf i j)) (D .leaf i j)
+  unfolding correction
+  tree-correlated i j true e =
+      let y = S .scale (D .value i) (D .delta) in
+      let a = D .leaf i (D .position i) in
+      ap (D .leaf i) (sym (eqb-true (D .position i) j e))
+      ∙ sym (L .group .add-sub a y (D .leaf-element i (D .position i)) (L .scale-element (D .value i) (D .delta) (D .delta-element)))
+  tree-correlated i j false e =
+      sym (ap (λ (x : S .group .Of). S .group .add x (D .leaf i j)) (L .zero-scale (D .delta)) ∙ L .group .zero-add (D .leaf i j) (D .leaf-element i j))
 
-    module _ (N : ℕ) (row : Row R) (W : RowWithin R N row) where
-      -- the outputs of every row are correlated
-      pub row-correlated :
-          Correlated S Δ (output (itself R) row (accumulate (R .group) (noise R t position value)))
-          (output S row (accumulate (S .group) (punctured S t position corrections leaf)))
-          (output S row (accumulate (S .group) (whole S t leaf)))
-      unfolding accumulate
-      row-correlated =
-          let u = noise R t position value in
-          let v = punctured S t position corrections leaf in
-          let w = whole S t leaf in
-          output-correlated N row W (accumulate (R .group) u) (accumulate (S .group) v) (accumulate (S .group) w)
-          (λ j h. sum-element (R .group) (RL .group) (suc j) u)
-          (accumulate-correlated N u v w (λ j h. noise-element R RL t position value value-element j) (λ j h. dealt-correlated j))
+  -- what is dealt is correlated at every place
+  pub dealt-correlated : (j : ℕ) → Correlated S (D .delta) (dealtNoise D j) (dealtPunctured D j) (dealtWhole D j)
+  unfolding punctured whole
+  dealt-correlated j =
+      let u : ℕ → R .group .Of = λ i. choose (eqb (D .position i) j) (D .value i) (R .group .zero) in
+      let v : ℕ → S .group .Of = λ i. choose (eqb (D .position i) j) (corrections i) (D .leaf i j) in
+      sum-correlated R S RL L (D .delta) (D .trees) u v (λ i. D .leaf i j)
+      (λ i h. choose-either (Element (R .group)) (eqb (D .position i) j) (D .value i) (R .group .zero) (D .value-element i h) (RL .group .zero-element))
+      (λ i h. tree-correlated i j (eqb (D .position i) j) refl)
+      ∙ ap (λ (x : R .group .Of). S .group .add (S .scale x (D .delta)) (sum (S .group) (D .trees) v))
+      (sym (noise-sum R RL (D .trees) (D .position) (D .value) (rises (D .trees) (D .position) (D .rising)) (D .value-element) j))
 
-      -- the same with u the code matrix times the noise
-      pub matrix-correlated :
-          Correlated S Δ (rowTimes (itself R) N (entry row) (noise R t position value))
-          (output S row (accumulate (S .group) (punctured S t position corrections leaf)))
-          (output S row (accumulate (S .group) (whole S t leaf)))
-      matrix-correlated =
-          row-correlated
-          ∙ ap (λ (x : R .group .Of). S .group .add (S .scale x Δ) (output S row (accumulate (S .group) (punctured S t position corrections leaf))))
-          (output-is-matrix R (itself R) RL (itself-laws R RL) N row W (noise R t position value))
+  module _ (N : ℕ) (row : Row R) (W : RowWithin R N row) where
+    -- the outputs of every row are correlated
+    pub row-correlated :
+        Correlated S (D .delta) (output (itself R) row (accumulate (R .group) (dealtNoise D)))
+        (output S row (accumulate (S .group) (dealtPunctured D)))
+        (output S row (accumulate (S .group) (dealtWhole D)))
+    unfolding accumulate
+    row-correlated =
+        let u = dealtNoise D in
+        let v = dealtPunctured D in
+        let w = dealtWhole D in
+        output-correlated R S RL L (D .delta) N row W (accumulate (R .group) u) (accumulate (S .group) v) (accumulate (S .group) w)
+        (λ j h. sum-element (R .group) (RL .group) (suc j) u)
+        (accumulate-correlated R S RL L (D .delta) N u v w
+        (λ j h. noise-element R RL (D .trees) (D .position) (D .value) (D .value-element) j) (λ j h. dealt-correlated j))
+
+    -- the same with u the code matrix times the noise
+    pub matrix-correlated :
+        Correlated S (D .delta) (rowTimes (itself R) N (entry row) (dealtNoise D))
+        (output S row (accumulate (S .group) (dealtPunctured D)))
+        (output S row (accumulate (S .group) (dealtWhole D)))
+    matrix-correlated =
+        row-correlated
+        ∙ ap (λ (x : R .group .Of). S .group .add (S .scale x (D .delta)) (output S row (accumulate (S .group) (dealtPunctured D))))
+        (output-is-matrix R (itself R) RL (itself-laws R RL) N row W (dealtNoise D))

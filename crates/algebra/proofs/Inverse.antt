@@ -12,9 +12,10 @@ use Rattle.algebra.specs.Choice.{choose}
 use Rattle.algebra.specs.Group.{Group, Element, GroupLaws, Ring, Scaled, RingLaws, ScaledLaws}
 use Rattle.algebra.specs.Sum.{sum, accumulate}
 use Rattle.algebra.specs.Expansion.{noise, Correlated}
+use Rattle.algebra.specs.Common.{NoiseBelow}
 use Rattle.algebra.proofs.Sum.{sum-element, sum-add, sum-scale}
 use Rattle.algebra.proofs.Correlation.{noise-at, noise-elsewhere}
-use Rattle.algebra.proofs.Rising.{Rises, rising-pairs}
+use Rattle.algebra.proofs.Rising.{rises, rising-is, rising-pairs}
 
 module _ (G : Group) (L : GroupLaws G) where
   -- a summand may be cancelled
@@ -61,40 +62,43 @@ module _ (R : Ring) (S : Scaled R) (RL : RingLaws R) (L : ScaledLaws R S) (Δ : 
 
 -- noise values other than zero at rising positions below N are told by the noise
 module _ (R : Ring) (N : ℕ) where
-  -- t noise values
-  pub record Noise (t : ℕ) (position : ℕ → ℕ) (value : ℕ → R .group .Of) : Type 0 where
-    pub rising : Rises t position
-    pub below : (i : ℕ) → i < t → position i < N
-    pub nonzero : (i : ℕ) → i < t → value i ≡ R .group .zero → ⊥
-
-  fewer : (t : ℕ) (p : ℕ → ℕ) (y : ℕ → R .group .Of) → Noise (suc t) p y → Noise t p y
+  fewer : (t : ℕ) (p : ℕ → ℕ) (y : ℕ → R .group .Of) → NoiseBelow R N (suc t) p y → NoiseBelow R N t p y
   fewer t p y A =
-      record { rising = λ i h. A .rising i (omega arith); below = λ i h. A .below i (omega arith); nonzero = λ i h. A .nonzero i (omega arith) }
+      record {
+        rising = rising-is t p (λ i h. rises (suc t) p (A .rising) i (omega arith));
+        below = λ i h. A .below i (omega arith);
+        element = λ i h. A .element i (omega arith);
+        nonzero = λ i h. A .nonzero i (omega arith);
+      }
+
+  -- the last position is above the others
+  last-above : (t : ℕ) (p : ℕ → ℕ) (y : ℕ → R .group .Of) → NoiseBelow R N (suc t) p y → (i : ℕ) → i < t → p i < p t
+  last-above t p y A i h = rising-pairs (suc t) p (rises (suc t) p (A .rising)) i t h (omega arith)
 
   -- past the last position the noise is zero
-  past : (t : ℕ) (p : ℕ → ℕ) (y : ℕ → R .group .Of) → Noise (suc t) p y → (j : ℕ) → p t < j → noise R (suc t) p y j ≡ R .group .zero
+  past : (t : ℕ) (p : ℕ → ℕ) (y : ℕ → R .group .Of) → NoiseBelow R N (suc t) p y → (j : ℕ) → p t < j → noise R (suc t) p y j ≡ R .group .zero
   past t p y A j h =
       noise-elsewhere R (suc t) p y j
-      (λ i k e. ⊎-elim (λ (q : i ≡ t). omega (arith, ap p q)) (λ (l : i < t). omega (arith, rising-pairs (suc t) p (A .rising) i t l (omega arith)))
+      (λ i k e. ⊎-elim (λ (q : i ≡ t). omega (arith, ap p q)) (λ (l : i < t). omega (arith, last-above t p y A i l))
       (eq-or-lt-of-le {n = i} {m = t} (omega arith)))
 
   -- so the last position is not below another's
-  not-below : (t : ℕ) (p q : ℕ → ℕ) (y z : ℕ → R .group .Of) → Noise (suc t) p y → Noise (suc t) q z
+  not-below : (t : ℕ) (p q : ℕ → ℕ) (y z : ℕ → R .group .Of) → NoiseBelow R N (suc t) p y → NoiseBelow R N (suc t) q z
       → ((j : ℕ) → j < N → noise R (suc t) p y j ≡ noise R (suc t) q z j) → p t < q t → ⊥
   not-below t p q y z A B e h =
       B .nonzero t (omega arith)
-      (sym (noise-at R (suc t) q z (B .rising) t (omega arith)) ∙ sym (e (q t) (B .below t (omega arith))) ∙ past t p y A (q t) h)
+      (sym (noise-at R (suc t) q z (rises (suc t) q (B .rising)) t (omega arith)) ∙ sym (e (q t) (B .below t (omega arith))) ∙ past t p y A (q t) h)
 
   -- without the last noise value
-  shorter : (t : ℕ) (p : ℕ → ℕ) (y : ℕ → R .group .Of) → Noise (suc t) p y → (j : ℕ) (b : Bool) → eqb (p t) j ≡ b
+  shorter : (t : ℕ) (p : ℕ → ℕ) (y : ℕ → R .group .Of) → NoiseBelow R N (suc t) p y → (j : ℕ) (b : Bool) → eqb (p t) j ≡ b
       → noise R t p y j ≡ choose b (R .group .zero) (noise R (suc t) p y j)
   unfolding noise
   shorter t p y A j true e =
       noise-elsewhere R t p y j
-      (λ i k q. omega (arith, rising-pairs (suc t) p (A .rising) i t k (omega arith), eqb-true (p t) j e))
+      (λ i k q. omega (arith, last-above t p y A i k, eqb-true (p t) j e))
   shorter t p y A j false e = rw e
 
-  pub noise-tells : (t : ℕ) (p q : ℕ → ℕ) (y z : ℕ → R .group .Of) → Noise t p y → Noise t q z
+  pub noise-tells : (t : ℕ) (p q : ℕ → ℕ) (y z : ℕ → R .group .Of) → NoiseBelow R N t p y → NoiseBelow R N t q z
       → ((j : ℕ) → j < N → noise R t p y j ≡ noise R t q z j) → (i : ℕ) → i < t → (p i ≡ q i) × (y i ≡ z i)
   noise-tells zero p q y z A B e i h = absurd (omega arith)
   noise-tells (suc t) p q y z A B e i h =
@@ -110,10 +114,10 @@ module _ (R : Ring) (N : ℕ) where
 
       value : y t ≡ z t
       value =
-          sym (noise-at R (suc t) p y (A .rising) t (omega arith))
+          sym (noise-at R (suc t) p y (rises (suc t) p (A .rising)) t (omega arith))
           ∙ e (p t) (A .below t (omega arith))
           ∙ ap (noise R (suc t) q z) place
-          ∙ noise-at R (suc t) q z (B .rising) t (omega arith)
+          ∙ noise-at R (suc t) q z (rises (suc t) q (B .rising)) t (omega arith)
 
       rest : (j : ℕ) → j < N → noise R t p y j ≡ noise R t q z j
       rest j l =

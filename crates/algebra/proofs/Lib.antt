@@ -11,3 +11,4 @@ pub mod Tests
 pub mod Every
 pub mod Same
 pub mod Inverse
+pub mod Common

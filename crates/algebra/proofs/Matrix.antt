@@ -6,8 +6,7 @@ use lib.Dec.{leb}
 use Rattle.algebra.specs.Choice.{choose}
 use Rattle.algebra.specs.Group.{Element, Ring, Scaled, RingLaws, ScaledLaws}
 use Rattle.algebra.specs.Sum.{sum, accumulate}
-use Rattle.algebra.specs.Row.{Row, output, entry, rowTimes}
-use Rattle.algebra.specs.Inner.Rows.{RowWithin}
+use Rattle.algebra.specs.Row.{Row, RowWithin, output, entry, rowTimes}
 use Rattle.algebra.proofs.Choice.{choose-either}
 use Rattle.algebra.proofs.Sum.{sum-cong, sum-swap, sum-upto, scale-zero, scale-sum, sum-scale}
 

@@ -8,8 +8,7 @@ use lib.Dec.{eqb}
 use Rattle.algebra.specs.Choice.{choose}
 use Rattle.algebra.specs.Expansion.{noise, punctured, whole}
 use Rattle.algebra.specs.Group.{Group, Ring, Scaled}
-use Rattle.algebra.specs.Row.{Row, output}
-use Rattle.algebra.specs.Inner.Rows.{RowWithin}
+use Rattle.algebra.specs.Row.{Row, RowWithin, output}
 use Rattle.algebra.specs.Sum.{accumulate}
 use Rattle.algebra.proofs.Sum.{sum-cong}
 

@@ -7,4 +7,5 @@ pub mod Row
 pub mod Coding
 pub mod Field
 pub mod Expansion
+pub mod Common
 pub mod Inner

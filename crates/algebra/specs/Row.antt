@@ -1,8 +1,8 @@
 -- Rows of the code, a row's output, and the code matrix (document 01, 'Offline and online').
-use Prim.Native.Nat.{ℕ}
+use Prim.Native.Nat.{ℕ, _<_}
 use lib.Dec.{leb}
 use Rattle.algebra.specs.Choice.{choose}
-use Rattle.algebra.specs.Group.{Ring, Scaled}
+use Rattle.algebra.specs.Group.{Element, Ring, Scaled}
 use Rattle.algebra.specs.Sum.{sum}
 
 -- a row: how many terms it has, and the place and the coefficient of each
@@ -10,6 +10,11 @@ pub record Row (R : Ring) : Type 0 where
   pub terms : ℕ
   pub place : ℕ → ℕ
   pub coefficient : ℕ → R .group .Of
+
+-- every term's place is below N and its coefficient is an element
+pub record RowWithin (R : Ring) (N : ℕ) (row : Row R) : Type 0 where
+  pub place-below : (i : ℕ) → i < row .terms → row .place i < N
+  pub coefficient-element : (i : ℕ) → i < row .terms → Element (R .group) (row .coefficient i)
 
 -- a row's output: the sum of coefficient × value over its terms; repeated places count each time
 unfoldable pub output : {R : Ring} (S : Scaled R) → Row R → (ℕ → S .group .Of) → S .group .Of

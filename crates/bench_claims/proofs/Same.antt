@@ -13,7 +13,7 @@ use Rattle.algebra.specs.Row.{output, entry, rowTimes}
 use Rattle.algebra.specs.Sum.{accumulate}
 use Rattle.algebra.proofs.Choice.{choose-map}
 use Rattle.algebra.proofs.Coding.{at-flat, flat-cong}
-use Rattle.algebra.proofs.Matrix.{output-is-matrix}
+use Rattle.algebra.proofs.Common.{common-facts}
 use Rattle.algebra.proofs.Sum.{sum-element, itself-laws}
 use Rattle.field.proofs.BothKinds.{kindLaws}
 use Rattle.record.specs.Content.{Head, NoisePart, ScalarPart}
@@ -39,7 +39,7 @@ row-same : (h : Head) → h .terms ≤ places h → (x : ℕ) (S : Scaled (field
     → output S (row h x) g ≡ rowTimes S (places h) (entry (row h x)) f
 row-same h full x S L f g e =
     row-output h full x S g (accumulate (S .group) f) e
-    ∙ output-is-matrix (fieldOf h .ring) S (kindLaws (h .field) .field .ring) L (places h) (row h x) (row-within h full x) f
+    ∙ common-facts (fieldOf h .ring) S (kindLaws (h .field) .field .ring) L .matrix (places h) (row h x) (row-within h full x) f
 
 -- neither 3 nor 8
 neither : (past short : Bool) → (_≡_ {A = ℕ} (choose past 7 (choose short 13 0)) 3 → ⊥) × (_≡_ {A = ℕ} (choose past 7 (choose short 13 0)) 8 → ⊥)

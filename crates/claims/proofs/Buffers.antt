@@ -1,9 +1,9 @@
--- What accumulated buffers tell, from the inverse of accumulation over any ring and any group that it scales. The noise values of
+-- What accumulated buffers tell, from what accumulated vectors tell over any ring and any group that it scales. The noise values of
 -- an accepted record are elements other than zero, at rising positions below N.
 use mathlib.Core.Path.{_≡_, refl, sym, ap, _∙_}
 use mathlib.Core.Bool.{Bool, true, false}
 use mathlib.Core.List.{List, [], _∷_, map}
-use mathlib.Core.Logic.{_⊎_, inl, inr, ⊎-elim}
+use mathlib.Core.Logic.{_⊎_, inl, inr, ⊎-elim, _↔_}
 use Prim.Native.Nat.{ℕ, zero, suc, _-_, _≤_, _<_}
 use native.Mathlib.Nat.{not-suc-le-zero, le-of-suc-le-suc}
 use native.Mathlib.Omega.{arith}
@@ -12,17 +12,16 @@ use lib.Dec.{leb, eqb}
 use lib.ListN.{length, getD, length-map, List·getD-map}
 use lib.Seq.{ext-getD}
 use Rattle.algebra.proofs.Coding.{at-flat}
-use Rattle.algebra.proofs.Correlation.{noise-element, accumulate-correlated}
-use Rattle.algebra.proofs.Inverse.{accumulate-tells, correlation-tells, Noise, noise-tells}
-use Rattle.algebra.proofs.Rising.{rises}
+use Rattle.algebra.proofs.Correlation.{noise-element}
 use Rattle.algebra.proofs.Sum.{sum-element}
 use Rattle.algebra.proofs.Tests.{and-left, and-right, or-cases}
 use Rattle.algebra.specs.Choice.{choose}
 use Rattle.algebra.specs.Coding.{at}
-use Rattle.algebra.specs.Expansion.{whole}
+use Rattle.algebra.specs.Common.{NoiseBelow}
+use Rattle.algebra.specs.Expansion.{whole, Correlated}
 use Rattle.algebra.specs.Group.{Element}
 use Rattle.algebra.specs.Sum.{accumulate}
-use Rattle.field.proofs.BothKinds.{kindLaws}
+use Rattle.field.proofs.BothKinds.{kindLaws, kindFacts}
 use Rattle.field.specs.Kind.{KindLaws, binaryKind, primeKind, kindOf}
 use Rattle.field.specs.Prime.{modulus}
 use Rattle.field.specs.declared.prime.Prime.{Prime}
@@ -107,19 +106,19 @@ module _ (h : Head) where
     valued : (i : ℕ) → i < h .trees → isNoise (h .field) (treeIn (E .trees) i .value) ≡ true
     valued i l = tree i l .value
 
+    told : NoiseBelow (fieldOf h .ring) (places h) (h .trees) (λ i. treeIn (E .trees) i .position) (value (noiseContent h E))
+    told =
+        record {
+          rising = admitted .rising;
+          below = λ i l. ltb-true _ _ (tree i l .below);
+          element = λ i l. noise-is-element (h .field) (treeIn (E .trees) i .value) field-is (valued i l);
+          nonzero = λ i l. noise-nonzero (h .field) (treeIn (E .trees) i .value) field-is (valued i l);
+        }
+
     mu-element : (j : ℕ) → Element (fieldOf h .ring .group) (mu (noiseContent h E) j)
     unfolding mu
     mu-element j =
-        noise-element (fieldOf h .ring) (laws .field .ring) (h .trees) (λ i. treeIn (E .trees) i .position) (value (noiseContent h E))
-        (λ i l. noise-is-element (h .field) (treeIn (E .trees) i .value) field-is (valued i l)) j
-
-    told : Noise (fieldOf h .ring) (places h) (h .trees) (λ i. treeIn (E .trees) i .position) (value (noiseContent h E))
-    told =
-        record {
-          rising = rises (h .trees) (λ i. treeIn (E .trees) i .position) (admitted .rising);
-          below = λ i l. ltb-true _ _ (tree i l .below);
-          nonzero = λ i l. noise-nonzero (h .field) (treeIn (E .trees) i .value) field-is (valued i l);
-        }
+        noise-element (fieldOf h .ring) (laws .field .ring) (h .trees) (λ i. treeIn (E .trees) i .position) (value (noiseContent h E)) (told .element) j
 
     -- the words that the call wrote
     left : noiseLaws.Accepted (noiseContent h E) (E .source) (noiseAfter h E)
@@ -156,33 +155,33 @@ module _ (h : Head) where
   -- ---- both
 
   module _ (E : NoiseExpanded h) (D : ScalarExpanded h) (k : ℕ) (most : k ≤ places h) where
+    tell : ((j : ℕ) → j < k → Correlated (fieldOf h .scaled) (delta (scalarContent h D))
+        (accumulate (fieldOf h .ring .group) (mu (noiseContent h E)) j)
+        (accumulate (fieldOf h .scaled .group) (v0 (noiseContent h E)) j)
+        (accumulate (fieldOf h .scaled .group) (w0 (scalarContent h D)) j))
+        ↔ Below k (ExpandedAt h E D)
+    tell =
+        kindFacts (h .field) .accumulated .correlation (delta (scalarContent h D)) k
+        (mu (noiseContent h E)) (v0 (noiseContent h E)) (w0 (scalarContent h D)) (λ j l. mu-element E j) (λ j l. w0-element D j)
+
     told-by-accumulated : Below k (AccumulatedAt h E D) → Below k (ExpandedAt h E D)
     told-by-accumulated e =
-        correlation-tells (fieldOf h .ring) (fieldOf h .scaled) (laws .field .ring) (laws .field .scaled) (delta (scalarContent h D)) k
-        (mu (noiseContent h E)) (v0 (noiseContent h E)) (w0 (scalarContent h D)) (λ j l. mu-element E j) (λ j l. w0-element D j)
-        (λ j l. rw (delta-at D, noise-at E j (omega arith), v-at E j (omega arith), w-at D j (omega arith)) at (e j l))
+        tell .0 (λ j l. rw (delta-at D, noise-at E j (omega arith), v-at E j (omega arith), w-at D j (omega arith)) at (e j l))
 
     accumulated-by-told : Below k (ExpandedAt h E D) → Below k (AccumulatedAt h E D)
     accumulated-by-told e j l =
-        rw (delta-at D, noise-at E j (omega arith), v-at E j (omega arith), w-at D j (omega arith))
-        (accumulate-correlated (fieldOf h .ring) (fieldOf h .scaled) (laws .field .ring) (laws .field .scaled) (delta (scalarContent h D)) k
-        (mu (noiseContent h E)) (v0 (noiseContent h E)) (w0 (scalarContent h D)) (λ i m. mu-element E i) e j l)
+        rw (delta-at D, noise-at E j (omega arith), v-at E j (omega arith), w-at D j (omega arith)) (tell .1 e j l)
 
   -- ---- two noise records
 
   module _ (E E′ : NoiseExpanded h) (same : muAfter h E ≡ muAfter h E′) where
-    mu-same : (j : ℕ) → j < places h → mu (noiseContent h E) j ≡ mu (noiseContent h E′) j
-    mu-same =
-        accumulate-tells (fieldOf h .ring .group) (laws .field .ring .group) (places h) (mu (noiseContent h E)) (mu (noiseContent h E′))
-        (λ j l. mu-element E j) (λ j l. mu-element E′ j)
-        (λ j l. sym (noise-at E j l) ∙ ap (λ (ws : List ℕ). at (fieldOf h .noiseValues) ws j) same ∙ noise-at E′ j l)
-
     told-trees : (i : ℕ) → i < h .trees
         → (treeIn (E .trees) i .position ≡ treeIn (E′ .trees) i .position) × (value (noiseContent h E) i ≡ value (noiseContent h E′) i)
     unfolding mu
     told-trees =
-        noise-tells (fieldOf h .ring) (places h) (h .trees) (λ i. treeIn (E .trees) i .position) (λ i. treeIn (E′ .trees) i .position)
-        (value (noiseContent h E)) (value (noiseContent h E′)) (told E) (told E′) mu-same
+        kindFacts (h .field) .accumulated .positions (places h) (h .trees) (λ i. treeIn (E .trees) i .position) (λ i. treeIn (E′ .trees) i .position)
+        (value (noiseContent h E)) (value (noiseContent h E′)) (told E) (told E′)
+        (λ j l. sym (noise-at E j l) ∙ ap (λ (ws : List ℕ). at (fieldOf h .noiseValues) ws j) same ∙ noise-at E′ j l)
 
     -- lists of as many trees are equal in a part if all their trees are
     parts-same : (part : NoiseTree → ℕ) → ((i : ℕ) → i < h .trees → part (treeIn (E .trees) i) ≡ part (treeIn (E′ .trees) i))

@@ -9,15 +9,14 @@ use lib.ListN.{length, getD}
 use lib.Dec.{eqb}
 use Rattle.algebra.specs.Choice.{choose}
 use Rattle.algebra.proofs.Coding.{flat-cong, at-flat}
-use Rattle.algebra.proofs.Matrix.{output-is-matrix}
 use Rattle.algebra.proofs.Same.{accumulate-same}
-use Rattle.algebra.proofs.Sum.{sum-element, itself-laws}
+use Rattle.algebra.proofs.Sum.{sum-element}
 use Rattle.algebra.specs.Coding.{at, flat, over}
 use Rattle.algebra.specs.Field.{NoiseValue, Value}
 use Rattle.algebra.specs.Group.{Element, itself}
 use Rattle.algebra.specs.Row.{output}
 use Rattle.algebra.specs.Sum.{accumulate}
-use Rattle.field.proofs.BothKinds.{kindLaws}
+use Rattle.field.proofs.BothKinds.{kindLaws, noiseFacts}
 use Rattle.field.specs.Bytes.{wordAt}
 use Rattle.field.specs.Kind.{kindOf}
 use Rattle.number.specs.Reading.{Whole}
@@ -204,9 +203,8 @@ module _ (S : Setting) (A : Admitted (S .input))
   u-is : (x : ℕ) → output (itself (field (S .input) .ring)) (row (head (S .input)) x) accMu ≡ dealt.u (S .input) x
   unfolding accMu dealt.u
   u-is x =
-      output-is-matrix (field (S .input) .ring) (itself (field (S .input) .ring)) (kindLaws (S .input .field) .field .ring)
-      (itself-laws (field (S .input) .ring) (kindLaws (S .input .field) .field .ring))
-      (places (head (S .input))) (row (head (S .input)) x) (row-within (head (S .input)) (A .terms .2) x) (mu (S .input))
+      noiseFacts (S .input .field) .matrix (places (head (S .input))) (row (head (S .input)) x) (row-within (head (S .input)) (A .terms .2) x)
+      (mu (S .input))
 
   -- a row's outputs on the words in memory are the dealing's
   u-words : (x : ℕ)

@@ -6,10 +6,10 @@ use Prim.Native.Nat.{ℕ, zero, suc, _/_, _^_, _<_}
 use native.Mathlib.Omega.{arith}
 use borrow.Author.Tests.{lt-ltb}
 use lib.ListN.{getD}
-use Rattle.algebra.proofs.Correlation.{matrix-correlated}
+use Rattle.algebra.specs.Common.{Dealt}
 use Rattle.algebra.specs.Expansion.{Correlated}
 use Rattle.algebra.specs.Group.{Element}
-use Rattle.field.proofs.BothKinds.{kindLaws}
+use Rattle.field.proofs.BothKinds.{kindLaws, kindFacts}
 use Rattle.field.specs.Bytes.{wordAt}
 use Rattle.field.specs.Kind.{kindOf}
 use Rattle.field.specs.Prime.{modulus}
@@ -20,7 +20,7 @@ use Rattle.tree.specs.Child.{child}
 use Rattle.tree.specs.Tree.{leafAt}
 use Rattle.dealing.specs.Admitted.{Admitted, NoiseAdmitted}
 use Rattle.dealing.specs.Input.{Input, position}
-use Rattle.dealing.specs.Vectors.{head, field, value, root, leaf, delta, treeCorrection, mu, v0, w0, u, v, w}
+use Rattle.dealing.specs.Vectors.{head, field, value, root, leaf, delta, mu, v0, w0, u, v, w}
 
 -- an admitted noise value is an element
 noise-element : (f : ℕ) (l : List ℕ) (i : ℕ) → (f ≡ 1) ⊎ (f ≡ 2) → NoiseAdmitted f (getD l i 0)
@@ -38,14 +38,23 @@ delta-element (suc zero) low high h A = refl
 delta-element (suc (suc zero)) low high h A = lt-ltb low modulus (A refl)
 delta-element (suc (suc (suc n))) low high h A = absurd (⊎-elim (λ e. omega arith) (λ e. omega arith) h)
 
+-- what an admitted input deals
+dealt : (I : Input) → Admitted I → Dealt (field I .scaled)
+dealt I A =
+    record {
+      delta = delta I;
+      trees = I .trees;
+      position = position I;
+      value = value I;
+      leaf = leaf I;
+      rising = A .rising;
+      delta-element = delta-element (I .field) (wordAt (I .delta) 0) (wordAt (I .delta) 8) (A .field) (λ e. A .scalar .prime e .1);
+      value-element = λ i h. noise-element (I .field) (I .values) i (A .field) (A .noise i h);
+      leaf-element = λ i j.
+          kindLaws (I .field) .leaf-element (leafAt (2 ^ I .branchBits) child (I .depth / I .branchBits) (root I i) j);
+    }
+
 pub admitted-correlated : (I : Input) → Admitted I → (x : ℕ) → Correlated (field I .scaled) (delta I) (u I x) (v I x) (w I x)
-unfolding mu v0 w0 u v w
+unfolding dealt mu v0 w0 u v w
 admitted-correlated I A x =
-    let laws = kindLaws (I .field) in
-    matrix-correlated (field I .ring) (field I .scaled) (laws .field .ring) (laws .field .scaled) (delta I)
-    (delta-element (I .field) (wordAt (I .delta) 0) (wordAt (I .delta) 8) (A .field) (λ e. A .scalar .prime e .1))
-    (I .trees) (position I) (A .rising)
-    (value I) (λ i h. noise-element (I .field) (I .values) i (A .field) (A .noise i h))
-    (leaf I) (λ i j. laws .leaf-element (leafAt (2 ^ I .branchBits) child (I .depth / I .branchBits) (root I i) j))
-    (treeCorrection I) (λ i h. refl)
-    (places (head I)) (row (head I) x) (row-within (head I) (A .terms .2) x)
+    kindFacts (I .field) .outputs (dealt I A) (places (head I)) (row (head I) x) (row-within (head I) (A .terms .2) x)

@@ -2,11 +2,9 @@
 use mathlib.Core.Path.{_≡_, refl, sym, ap, ap₂, _∙_}
 use mathlib.Core.Bool.{true}
 use Prim.Native.Nat.{ℕ}
-use Rattle.algebra.proofs.Matrix.{output-is-matrix}
 use Rattle.algebra.proofs.Same.{accumulate-same, output-same}
-use Rattle.algebra.proofs.Sum.{itself-laws}
 use Rattle.algebra.specs.Group.{itself}
-use Rattle.field.proofs.BothKinds.{kindLaws}
+use Rattle.field.proofs.BothKinds.{noiseFacts}
 use Rattle.rows.proofs.Rows.{row-within}
 use Rattle.rows.specs.Head.{places, row}
 use Rattle.dealing.proofs.Laws as dealing
@@ -28,8 +26,7 @@ module _ (I : Input) (A : Admitted I) (x : ℕ) where
   u-at =
       output-same (field I .ring) (itself (field I .ring)) (places (head I)) (row (head I) x) (row-within (head I) (A .terms .2) x) _ _
       (accumulate-same (field I .ring .group) (places (head I)) (noiseVectors.mu (noisePart I)) (mu I) (λ j h. mu-dealt I A j))
-      ∙ output-is-matrix (field I .ring) (itself (field I .ring)) (kindLaws (I .field) .field .ring)
-      (itself-laws (field I .ring) (kindLaws (I .field) .field .ring)) (places (head I)) (row (head I) x) (row-within (head I) (A .terms .2) x) (mu I)
+      ∙ noiseFacts (I .field) .matrix (places (head I)) (row (head I) x) (row-within (head I) (A .terms .2) x) (mu I)
 
   v-at : vAt (noisePart I) x ≡ v I x
   unfolding v

@@ -6,8 +6,7 @@ use Prim.Native.Nat.{ℕ, _+_, _≤_, _<_}
 use borrow.Author.Tests.{lt-ltb, ltb-true}
 use lib.ListN.{length, getD}
 use Rattle.algebra.specs.Group.{Ring, Scaled}
-use Rattle.algebra.specs.Row.{Row, output}
-use Rattle.algebra.specs.Inner.Rows.{RowWithin}
+use Rattle.algebra.specs.Row.{Row, RowWithin, output}
 use Rattle.algebra.proofs.Sum.{sum-cong}
 use Rattle.field.specs.Kind.{Kind, KindLaws}
 use Rattle.code.specs.Row.{termPlace, rowOf}

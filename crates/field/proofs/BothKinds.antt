@@ -1,10 +1,15 @@
--- Both kinds obey the laws that are asked of a kind.
+-- Both kinds obey the laws that are asked of a kind, so the facts common to both fields hold in each.
 use mathlib.Core.Path.{refl}
 use mathlib.Core.Bool.{Bool, true, false}
+use Prim.Native.Nat.{ℕ}
 use lib.Dec.{eqb}
 use Rattle.algebra.specs.Choice.{choose}
+use Rattle.algebra.specs.Common.{Common}
+use Rattle.algebra.specs.Group.{itself}
+use Rattle.algebra.proofs.Common.{common-facts}
+use Rattle.algebra.proofs.Sum.{itself-laws}
 use Rattle.field.specs.Bytes.{lowOf}
-use Rattle.field.specs.Kind.{KindLaws, BothFields, binaryKind, primeKind}
+use Rattle.field.specs.Kind.{KindLaws, BothFields, binaryKind, primeKind, kindOf}
 use Rattle.field.proofs.BinaryField.{binaryLaws}
 use Rattle.field.proofs.PrimeField.{primeLaws, reduce-element}
 
@@ -34,3 +39,14 @@ kindLaws field = of (eqb field 1)
     of : (binary : Bool) → KindLaws (choose binary binaryKind primeKind)
     of true = binaryKindLaws
     of false = primeKindLaws
+
+-- the facts common to both fields, of a field's elements, and of its noise values
+pub kindFacts : (field : ℕ) → Common (kindOf field .field .scaled)
+kindFacts field =
+    let L = kindLaws field .field in
+    common-facts (kindOf field .field .ring) (kindOf field .field .scaled) (L .ring) (L .scaled)
+
+pub noiseFacts : (field : ℕ) → Common (itself (kindOf field .field .ring))
+noiseFacts field =
+    let L = kindLaws field .field in
+    common-facts (kindOf field .field .ring) (itself (kindOf field .field .ring)) (L .ring) (itself-laws (kindOf field .field .ring) (L .ring))

@@ -3,8 +3,7 @@ use mathlib.Core.Path.{_≡_}
 use mathlib.Core.Bool.{Bool, true}
 use Prim.Native.Nat.{ℕ, _+_, _≤_, _<_}
 use Rattle.algebra.specs.Group.{Scaled}
-use Rattle.algebra.specs.Row.{output}
-use Rattle.algebra.specs.Inner.Rows.{RowWithin}
+use Rattle.algebra.specs.Row.{RowWithin, output}
 use Rattle.algebra.proofs.Every.{every-all}
 use Rattle.code.specs.Row.{rowOf}
 use Rattle.algebra.specs.Every.{every}
