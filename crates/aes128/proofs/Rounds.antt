@@ -7,10 +7,10 @@ use lib.ListN.{getD}
 use Rattle.field.specs.Binary.{blockOf}
 use Rattle.field.specs.Bytes.{columnsOf}
 use Rattle.field.specs.declared.block.Block.{Block}
-use Rattle.sbox.specs.Wide.{wideRows}
+use Rattle.sbox.specs.Inner.Wide.{wideRows}
 use Rattle.aes128.specs.State.{xorWord, xorState}
 use Rattle.aes128.specs.Cipher.{subBytes, shiftRows, mixColumns, addRoundKey, rounds, cipher}
-use Rattle.aes128.specs.Words.{wideKey, blockKey, roundKeys}
+use Rattle.aes128.specs.Inner.Words.{wideKey, blockKey, roundKeys}
 use Rattle.aes128.specs.Inner.Blocks.{cipherOf}
 use Rattle.aes128.proofs.Words.{four-eq}
 

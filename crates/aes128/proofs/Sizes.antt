@@ -16,7 +16,7 @@ use Rattle.field.specs.declared.block.Block.{Block}
 use Rattle.sbox.specs.Byte.{sBox}
 use Rattle.sbox.proofs.Bounds.{xtime-lt, sbox-lt}
 use Rattle.aes128.specs.State.{column, xorWord, xorState}
-use Rattle.aes128.specs.Words.{roundKeys}
+use Rattle.aes128.specs.Inner.Words.{roundKeys}
 use Rattle.aes128.specs.Inner.Blocks.{cipherOf}
 use Rattle.aes128.specs.Inner.Sizes.{IsWord, IsState}
 use Rattle.algebra.specs.Choice.{choose}

@@ -7,12 +7,12 @@ use lib.Bits.{bitXor, xor-shr, xor-mod, xor-comm}
 use lib.ListN.{length}
 use Rattle.field.proofs.Xor.{xor-assoc}
 use Rattle.sbox.specs.Byte.{sBox}
-use Rattle.sbox.specs.Wide.{wideRows}
+use Rattle.sbox.specs.Inner.Wide.{wideRows}
 use Rattle.sbox.specs.Inner.Tables.{mixed0, mixed1, mixed2, mixed3}
 use Rattle.sbox.proofs.Columns.{rows-of-column}
 use Rattle.aes128.specs.State.{column, xorWord}
 use Rattle.aes128.specs.Cipher.{mixColumn}
-use Rattle.aes128.specs.Words.{wideKey}
+use Rattle.aes128.specs.Inner.Words.{wideKey}
 use Rattle.aes128.proofs.Words.{is-four, four-eq}
 
 -- the rows of an exclusive or

@@ -1,4 +1,5 @@
 -- Inner: no promise cites this folder. What inner functions' contracts and the proofs use.
+pub mod Words
 pub mod Steps
 pub mod Blocks
 pub mod Sizes

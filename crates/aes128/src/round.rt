@@ -4,11 +4,11 @@ ghost use mathlib.Core.List.{[], _∷_};
 ghost use Prim.Native.Nat.{_+_, _^_, _<_, _≤_};
 ghost use Rattle.field.specs.Bytes.{leBytes, columnsOf};
 ghost use Rattle.sbox.specs.Byte.{sBox};
-ghost use Rattle.sbox.specs.Wide.{wideRows};
+ghost use Rattle.sbox.specs.Inner.Wide.{wideRows};
 ghost use Rattle.sbox.specs.Inner.Tables.{RoundTables};
 ghost use Rattle.aes128.specs.State.{xorWord};
 ghost use Rattle.aes128.specs.Cipher.{subBytes, shiftRows, mixColumn, mixColumns, addRoundKey};
-ghost use Rattle.aes128.specs.Words.{wideKey, blockKey};
+ghost use Rattle.aes128.specs.Inner.Words.{wideKey, blockKey};
 ghost use Rattle.aes128.specs.Inner.Blocks.{IsHalf, LastWord};
 use field::Block;
 

@@ -7,7 +7,7 @@ use mir.Val.{Fits}
 use native.Mathlib.Nat.{mod-lt}
 use native.Mathlib.Omega.{arith}
 use Rattle.aes128.specs.Inner.Blocks.{cipherOf}
-use Rattle.aes128.specs.Words.{roundKeys}
+use Rattle.aes128.specs.Inner.Words.{roundKeys}
 use Rattle.field.specs.declared.block.Block.{Block}
 use Rattle.field.specs.Binary.{block}
 use Rattle.field.specs.Bytes.{highOf}

@@ -2,7 +2,7 @@
 ghost use mathlib.Core.Path.{_≡_};
 ghost use Prim.Native.Nat.{_<_};
 ghost use Rattle.sbox.specs.Inner.Tables.{RoundTables};
-ghost use Rattle.aes128.specs.Words.{roundKeys};
+ghost use Rattle.aes128.specs.Inner.Words.{roundKeys};
 ghost use Rattle.field.specs.Bytes.{highOf};
 ghost use Rattle.code.specs.Row.{termBlock};
 ghost use Rattle.code.specs.Inner.Rows.{Shaped, placeBy, placeIn};

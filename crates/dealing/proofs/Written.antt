@@ -31,7 +31,8 @@ use Rattle.tree.proofs.Blocks.{length-blocks}
 use Rattle.tree.proofs.ChildLaws.{key-schedules}
 use Rattle.tree.proofs.Laws.{length-siblings}
 use Rattle.tree.proofs.Listed.{listed-none, listed-last}
-use Rattle.tree.specs.Child.{child, keysFor, childBy}
+use Rattle.tree.specs.Child.{child, childBy}
+use Rattle.tree.specs.Inner.Keys.{keysFor}
 use Rattle.tree.specs.Columns.{columnsBytes, blocksBytes}
 use Rattle.tree.specs.Expanded.{walk, walked}
 use Rattle.tree.specs.Inner.Branches.{IsPunctured}

@@ -27,7 +27,7 @@ use Rattle.record.proofs.Parts.{noise-parts, scalar-parts}
 use Rattle.rows.specs.Head.{codeKeys}
 use Rattle.rows.specs.Inner.Numbers.{pastOutputs, shortBuffer, lengthsNumber}
 use Rattle.rows.proofs.Numbers.{count-fits}
-use Rattle.tree.specs.Child.{keysFor}
+use Rattle.tree.specs.Inner.Keys.{keysFor}
 use Rattle.tree.specs.KeySchedules.{OfChildKeys}
 use Rattle.noise_end.specs.Inner.Ready as noiseReady
 use Rattle.noise_end.proofs.Content as noiseContent

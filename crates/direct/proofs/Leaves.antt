@@ -22,7 +22,8 @@ use Rattle.field.proofs.BothKinds.{kindLaws}
 use Rattle.record.specs.Content.{NoiseTree, treeIn}
 use Rattle.record.specs.declared.Front.{Front}
 use Rattle.record.specs.declared.Tree.{Tree}
-use Rattle.tree.specs.Child.{child, childBy, keysFor}
+use Rattle.tree.specs.Child.{child, childBy}
+use Rattle.tree.specs.Inner.Keys.{keysFor}
 use Rattle.tree.specs.Columns.{columnsAt}
 use Rattle.tree.specs.KeySchedules.{OfChildKeys}
 use Rattle.tree.specs.Tree.{leafAt}

@@ -18,7 +18,8 @@ use Rattle.field.specs.Binary.{blockOf}
 use Rattle.field.specs.declared.block.Block.{Block}
 use Rattle.tree.specs.Inner.Nodes.{nodeOf}
 use Rattle.tree.proofs.Nodes.{node-of-columns}
-use Rattle.tree.specs.Child.{child, childBy, keysFor}
+use Rattle.tree.specs.Child.{child, childBy}
+use Rattle.tree.specs.Inner.Keys.{keysFor}
 use Rattle.tree.specs.Columns.{columnsAt, siblingsAt}
 use Rattle.tree.specs.Tree.{rank, leafAt, fromSiblings}
 use Rattle.tree.proofs.Laws.{leaf-none, leaf-suc, from-suc, leaf-same, rank-low, rank-high}

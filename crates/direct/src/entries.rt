@@ -4,7 +4,7 @@ ghost use mathlib.Core.Path.{_≡_};
 ghost use Prim.Native.Nat.{_*_, _≤_, _<_};
 ghost use lib.ListN.{length};
 ghost use Rattle.sbox.specs.Inner.Tables.{RoundTables};
-ghost use Rattle.aes128.specs.Words.{roundKeys};
+ghost use Rattle.aes128.specs.Inner.Words.{roundKeys};
 ghost use Rattle.direct.specs.Inner.Vectors.{fieldFor, noiseIn, valueIn, rowIn};
 ghost use Rattle.direct.specs.Inner.Rows.{IsBatch, IsCode, HasTerms, entryIn, sumsMore, placeAdded};
 use crate::elements::Element;

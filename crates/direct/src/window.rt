@@ -3,7 +3,7 @@ ghost use mathlib.Core.Path.{_≡_};
 ghost use Prim.Native.Nat.{_+_, _≤_};
 ghost use Rattle.algebra.specs.Coding.{over};
 ghost use Rattle.sbox.specs.Inner.Tables.{RoundTables};
-ghost use Rattle.aes128.specs.Words.{roundKeys};
+ghost use Rattle.aes128.specs.Inner.Words.{roundKeys};
 ghost use Rattle.direct.specs.Inner.Vectors.{fieldFor, outputOf};
 ghost use Rattle.direct.specs.Inner.Both.{BothFit};
 ghost use lib.ListN.{length};

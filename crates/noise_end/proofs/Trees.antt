@@ -30,7 +30,8 @@ use Rattle.record.specs.declared.Front.{Front}
 use Rattle.record.specs.declared.Tree.{Tree}
 use Rattle.record.proofs.Callers.{again-asks, again-at, tree-ranges}
 use Rattle.tree.specs.Added.{added, puncturedElement}
-use Rattle.tree.specs.Child.{child, childBy, keysFor}
+use Rattle.tree.specs.Child.{child, childBy}
+use Rattle.tree.specs.Inner.Keys.{keysFor}
 use Rattle.tree.specs.Columns.{columnsAt, siblingsAt}
 use Rattle.tree.specs.Expanded.{puncturedAdded}
 use Rattle.tree.specs.Inner.Branches.{IsBranch, IsPunctured}

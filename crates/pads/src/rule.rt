@@ -2,7 +2,7 @@
 ghost use mathlib.Core.Path.{_≡_};
 ghost use Rattle.sbox.specs.Table.{SBoxTable};
 ghost use Rattle.aes128.specs.Cipher.{keyExpansion};
-ghost use Rattle.aes128.specs.Words.{roundKeys};
+ghost use Rattle.aes128.specs.Inner.Words.{roundKeys};
 ghost use Rattle.pads.specs.Pad.{padKey, pad};
 ghost use Rattle.pads.specs.Inner.Steps.{PadKeys};
 ghost use Rattle.pads.specs.Inner.Passes.{secondStep};

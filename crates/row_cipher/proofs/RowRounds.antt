@@ -8,11 +8,11 @@ use lib.ListN.{getD}
 use Rattle.field.specs.Binary.{block, blockOf}
 use Rattle.field.specs.Bytes.{leBytes, columnsOf}
 use Rattle.field.specs.declared.block.Block.{Block}
-use Rattle.sbox.specs.Wide.{wideRows}
+use Rattle.sbox.specs.Inner.Wide.{wideRows}
 use Rattle.sbox.specs.Inner.Tables.{RoundTables, mixed0}
 use Rattle.aes128.specs.State.{column, byteAt, xorWord, xorState}
 use Rattle.aes128.specs.Cipher.{subBytes, shiftRows, addRoundKey, rounds, cipher}
-use Rattle.aes128.specs.Words.{wideKey, blockKey, roundKeys}
+use Rattle.aes128.specs.Inner.Words.{wideKey, blockKey, roundKeys}
 use Rattle.aes128.specs.Inner.Blocks.{cipherOf}
 use Rattle.row_cipher.specs.Inner.Row.{rowState, firstOf, secondOf, IsShared}
 use Rattle.aes128.proofs.Words.{four-eq}

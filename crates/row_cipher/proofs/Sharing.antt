@@ -10,11 +10,11 @@ use lib.ListN.{getD}
 use Rattle.field.specs.Bytes.{leBytes, columnsOf}
 use Rattle.field.proofs.Xor.{xor-assoc}
 use Rattle.sbox.specs.Byte.{sBox}
-use Rattle.sbox.specs.Wide.{wideRows}
+use Rattle.sbox.specs.Inner.Wide.{wideRows}
 use Rattle.sbox.specs.Inner.Tables.{RoundTables, mixed0, mixed1, mixed2, mixed3}
 use Rattle.aes128.specs.State.{column, byteAt, xorWord, xorState}
 use Rattle.aes128.specs.Cipher.{subBytes, shiftRows, mixColumn, mixColumns, addRoundKey, rounds}
-use Rattle.aes128.specs.Words.{wideKey, blockKey, roundKeys}
+use Rattle.aes128.specs.Inner.Words.{wideKey, blockKey, roundKeys}
 use Rattle.row_cipher.specs.Inner.Row.{mixedColumn, Lacks, rowState, firstOf, secondOf, IsShared}
 use Rattle.aes128.proofs.Words.{four-eq}
 use Rattle.aes128.proofs.Wide.{wide-xor}

@@ -5,7 +5,7 @@ ghost use Prim.Native.Nat.{_+_, _%_, _<_, _≤_};
 ghost use lib.Bits.{bitXor};
 ghost use lib.ListN.{getD};
 ghost use Rattle.field.specs.Binary.{block};
-ghost use Rattle.sbox.specs.Wide.{wideRows};
+ghost use Rattle.sbox.specs.Inner.Wide.{wideRows};
 ghost use Rattle.sbox.specs.Inner.Tables.{RoundTables, mixed0, mixed1, mixed2, mixed3};
 ghost use Rattle.aes128.specs.State.{column, xorWord};
 ghost use Rattle.aes128.specs.Inner.Blocks.{cipherOf};

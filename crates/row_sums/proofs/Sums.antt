@@ -9,7 +9,7 @@ use Rattle.algebra.specs.Coding.{at}
 use Rattle.algebra.specs.Group.{itself}
 use Rattle.algebra.specs.Row.{output}
 use Rattle.aes128.specs.Inner.Blocks.{cipherOf}
-use Rattle.aes128.specs.Words.{roundKeys}
+use Rattle.aes128.specs.Inner.Words.{roundKeys}
 use Rattle.field.specs.declared.block.Block.{Block}
 use Rattle.field.specs.declared.prime.Prime.{Prime}
 use Rattle.field.specs.Binary.{binary, bitRing, block, blocks, blockZero, blockAdd, bitAdd}

@@ -6,7 +6,7 @@ ghost use Rattle.algebra.specs.Coding.{at};
 ghost use Rattle.algebra.specs.Group.{itself};
 ghost use Rattle.algebra.specs.Row.{output};
 ghost use Rattle.sbox.specs.Inner.Tables.{RoundTables};
-ghost use Rattle.aes128.specs.Words.{roundKeys};
+ghost use Rattle.aes128.specs.Inner.Words.{roundKeys};
 ghost use Rattle.row_cipher.specs.Inner.Row.{IsShared};
 ghost use Rattle.field.specs.Binary.{binary, bitRing, blocks};
 ghost use Rattle.row_sums.specs.Inner.Sums.{BinaryAdded, termsTo, BinarySums};

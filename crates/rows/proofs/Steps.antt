@@ -14,7 +14,7 @@ use Rattle.algebra.specs.Coding.{at, flat}
 use Rattle.algebra.specs.Inner.Put.{put}
 use Rattle.algebra.specs.Sum.{accumulate}
 use Rattle.aes128.specs.Cipher.{keyExpansion}
-use Rattle.aes128.specs.Words.{roundKeys}
+use Rattle.aes128.specs.Inner.Words.{roundKeys}
 use Rattle.field.specs.declared.block.Block.{Block}
 use Rattle.field.specs.Binary.{binary, bitRing, block, blockGroup}
 use Rattle.field.specs.Kind.{kindOf, elementWords}

@@ -5,7 +5,7 @@ ghost use lib.Dec.{ltb};
 ghost use lib.ListN.{length};
 ghost use Rattle.sbox.specs.Inner.Tables.{RoundTables};
 ghost use Rattle.sbox.specs.Table.{SBoxTable};
-ghost use Rattle.aes128.specs.Words.{roundKeys};
+ghost use Rattle.aes128.specs.Inner.Words.{roundKeys};
 ghost use Rattle.field.specs.Kind.{kindOf, elementWords};
 ghost use Rattle.record.specs.Answer.{headOf};
 ghost use Rattle.rows.specs.Head.{codeKeys};

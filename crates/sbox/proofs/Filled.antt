@@ -10,7 +10,7 @@ use lib.ListN.{length, getD, set, length-set}
 use lib.Seq.{getD-set-same, getD-set-other}
 use Rattle.sbox.specs.Byte.{mulBytes, sBox}
 use Rattle.sbox.specs.Table.{SBoxTable}
-use Rattle.sbox.specs.Wide.{wideRows}
+use Rattle.sbox.specs.Inner.Wide.{wideRows}
 use Rattle.sbox.specs.Inner.Tables.{wideColumn, halfTurned, RoundTables}
 use Rattle.sbox.proofs.Bounds.{sbox-lt}
 use Rattle.sbox.proofs.Columns.{rows-of-column, half-turned-column}

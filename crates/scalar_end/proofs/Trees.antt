@@ -12,7 +12,8 @@ use Rattle.field.specs.Kind.{kindOf, elementWords}
 use Rattle.field.proofs.BothKinds.{kindLaws}
 use Rattle.record.specs.declared.Front.{Front}
 use Rattle.tree.specs.Added.{added, leafElement}
-use Rattle.tree.specs.Child.{child, childBy, keysFor}
+use Rattle.tree.specs.Child.{child, childBy}
+use Rattle.tree.specs.Inner.Keys.{keysFor}
 use Rattle.tree.specs.Columns.{columnsAt}
 use Rattle.tree.specs.Expanded.{leavesAdded}
 use Rattle.tree.proofs.ChildLaws.{filled-by}

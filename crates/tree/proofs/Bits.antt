@@ -1,7 +1,8 @@
--- Trees with two children are document 01's trees by bits.
+-- Trees are document 01's trees by bits for g = 1.
 use mathlib.Core.Path.{_≡_, refl, ap, sym, _∙_}
 use mathlib.Core.List.{_∷_}
 use Prim.Native.Nat.{ℕ, zero, suc, _-_}
+use native.Mathlib.Nat.{div-one}
 use Rattle.tree.specs.Tree.{path, reach, leafAt, listed, siblings}
 use Rattle.tree.specs.Bits.{bits, leafByBits, siblingByBits, siblingsByBits, TwoChildren}
 use Rattle.tree.proofs.Laws.{bit, siblings-none, siblings-two}
@@ -31,4 +32,9 @@ module _ {A : Type 0} (child : ℕ → A → A) where
       ∙ sym (first-sibling d root s)
 
 pub two-children : TwoChildren
-two-children = record { paths = same-path; leaves = same-leaf; beside = same-siblings }
+two-children =
+    record {
+      paths = λ g e d j. rw (e, div-one) (same-path d j);
+      leaves = λ g e child d root j. rw (e, div-one) (same-leaf child d root j);
+      beside = λ g e child d root s. rw (e, div-one) (same-siblings child d root s);
+    }

@@ -17,10 +17,11 @@ use Rattle.field.proofs.BothKinds.{kindLaws}
 use Rattle.aes128.specs.State.{xorState}
 use Rattle.aes128.specs.Inner.Sizes.{IsState}
 use Rattle.aes128.specs.Cipher.{cipher, keyExpansion, aes}
-use Rattle.aes128.specs.Words.{roundKeys}
+use Rattle.aes128.specs.Inner.Words.{roundKeys}
 use Rattle.aes128.proofs.Sizes.{four-bytes, four-words, xor-state-is, aes-is}
 use Rattle.tree.specs.Tree.{leafAt, listed, siblings}
-use Rattle.tree.specs.Child.{childKey, child, keysFor, childBy}
+use Rattle.tree.specs.Child.{childKey, child, childBy}
+use Rattle.tree.specs.Inner.Keys.{keysFor}
 use Rattle.tree.specs.Columns.{blocksBytes, siblingsAt}
 use Rattle.tree.specs.Added.{leafElement, puncturedElement}
 use Rattle.tree.specs.Expanded.{walk, walked, leavesAdded, puncturedAdded}
@@ -32,7 +33,8 @@ use Rattle.tree.proofs.Listed.{length-listed, listed-at}
 
 -- ---- the round keys of the child keys
 
-lent-keys : (k : ℕ) (words : ℕ → List ℕ) (rest : List (List ℕ)) → ((c : ℕ) → c < k → roundKeys (words c) ≡ keyExpansion (childKey c))
+-- words that hold them, lent one after another, are a family of the child keys
+pub lent-keys : (k : ℕ) (words : ℕ → List ℕ) (rest : List (List ℕ)) → ((c : ℕ) → c < k → roundKeys (words c) ≡ keyExpansion (childKey c))
     → OfChildKeys k (keysFor (listed k words ++ rest))
 lent-keys k words rest own c h =
     ap roundKeys (List·getD-append (listed k words) rest [] c (rw (length-listed k words) h) ∙ listed-at k words [] c h)
@@ -108,7 +110,6 @@ module _ (k : ℕ) (keys : ℕ → List (List (List ℕ))) (some : 0 < k) (own :
 pub key-schedules : KeySchedules
 key-schedules =
     record {
-      lent = lent-keys;
       children = child-by;
       walks = walked-by;
       fills = λ k keys some own field. filled-by k keys some own (kindOf field) (kindLaws field .field);

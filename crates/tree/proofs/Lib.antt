@@ -1,4 +1,4 @@
--- The laws of `tree`. Callers use Laws (any tree), Paths, Added, Blocks (siblings in bytes too), Nodes, ChildLaws, Listed, Levels and PowerLaws; Bits has the inhabitant of a statement.
+-- The laws of `tree`. Callers use Laws (any tree), Paths, Added, Blocks (siblings in bytes too), Nodes, ChildLaws, Listed, Levels and PowerLaws; Bits has the inhabitant of a statement, and Stored what may be lent.
 pub mod Paths
 pub mod Laws
 pub mod Bits
@@ -6,6 +6,7 @@ pub mod Added
 pub mod Blocks
 pub mod Nodes
 pub mod ChildLaws
+pub mod Stored
 pub mod Listed
 pub mod PowerLaws
 pub mod Levels

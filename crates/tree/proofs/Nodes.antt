@@ -28,7 +28,8 @@ use Rattle.aes128.specs.State.{column, byteAt, xorWord, xorState}
 use Rattle.aes128.specs.Inner.Sizes.{IsWord, IsState}
 use Rattle.aes128.specs.Inner.Blocks.{cipherOf}
 use Rattle.aes128.proofs.Sizes.{columns-of-cipher}
-use Rattle.tree.specs.Child.{keysFor, childBy}
+use Rattle.tree.specs.Child.{childBy}
+use Rattle.tree.specs.Inner.Keys.{keysFor}
 use Rattle.tree.specs.Columns.{columnsAt, columnsBytes}
 use Rattle.tree.specs.Inner.Nodes.{nodeOf}
 use Rattle.tree.proofs.Blocks.{four-eq, square-is, sets-append}

@@ -1,5 +1,5 @@
--- Document 01's trees as it says them, by bits ('Trees'), and that trees with two children are those (document 02, 10: 'for g =
--- 1 the trees and siblings are those of before'). They stand here for this statement alone.
+-- Document 01's trees as it says them, by bits ('Trees'), and that trees are those for g = 1 (document 02, 10). They stand here for
+-- this statement alone.
 use mathlib.Core.Path.{_≡_}
 use mathlib.Core.List.{List, [], _∷_, _++_}
 use Prim.Native.Nat.{ℕ, zero, suc, _-_, _/_, _%_, _^_}
@@ -23,8 +23,11 @@ siblingByBits child d root s i = reach child root (take i (bits d s) ++ ((1 - ge
 unfoldable pub siblingsByBits : {A : Type 0} → (ℕ → A → A) → ℕ → A → ℕ → List A
 siblingsByBits child d root s = listed d (siblingByBits child d root s)
 
--- for every child function: paths, leaves and siblings of a tree with two children are those by bits
+-- for every child function: with g = 1 the paths, leaves and siblings of a tree with 2^g children a node and d / g levels, as the
+-- calls have them, are those by bits
 pub record TwoChildren : Type 1 where
-  pub paths : (d j : ℕ) → path 2 d j ≡ bits d j
-  pub leaves : {A : Type 0} (child : ℕ → A → A) (d : ℕ) (root : A) (j : ℕ) → leafAt 2 child d root j ≡ leafByBits child d root j
-  pub beside : {A : Type 0} (child : ℕ → A → A) (d : ℕ) (root : A) (s : ℕ) → siblings 2 child d root s ≡ siblingsByBits child d root s
+  pub paths : (g : ℕ) → g ≡ 1 → (d j : ℕ) → path (2 ^ g) (d / g) j ≡ bits d j
+  pub leaves : (g : ℕ) → g ≡ 1 → {A : Type 0} (child : ℕ → A → A) (d : ℕ) (root : A) (j : ℕ)
+      → leafAt (2 ^ g) child (d / g) root j ≡ leafByBits child d root j
+  pub beside : (g : ℕ) → g ≡ 1 → {A : Type 0} (child : ℕ → A → A) (d : ℕ) (root : A) (s : ℕ)
+      → siblings (2 ^ g) child (d / g) root s ≡ siblingsByBits child d root s

@@ -1,16 +1,14 @@
 -- Key schedules out of the node loop (document 02, 3). 'The walk is proved for any round keys it is lent': the contracts of
 -- `walk`, and of `add_leaves` and `add_punctured` in crate `fill`, say `walked`, `leavesAdded` and `puncturedAdded` (Expanded)
--- with `childBy` the round keys lent, and ask nothing of those. 'Those of the child keys give the trees as before': the record
--- KeySchedules, for any number k of children.
+-- with `childBy` the family of round keys lent, and ask nothing of it. 'Those of the child keys give the trees as before': the
+-- record KeySchedules, for any number k of children and any such family.
 use mathlib.Core.Path.{_≡_}
-use mathlib.Core.List.{List, _++_}
+use mathlib.Core.List.{List}
 use Prim.Native.Nat.{ℕ, _<_}
 use Rattle.algebra.specs.Field.{Value}
 use Rattle.field.specs.Kind.{kindOf}
 use Rattle.aes128.specs.Cipher.{keyExpansion}
-use Rattle.aes128.specs.Words.{roundKeys}
-use Rattle.tree.specs.Tree.{listed}
-use Rattle.tree.specs.Child.{childKey, child, keysFor, childBy}
+use Rattle.tree.specs.Child.{childKey, child, childBy}
 use Rattle.tree.specs.Expanded.{walked, leavesAdded, puncturedAdded}
 use Rattle.tree.specs.declared.punctured.Punctured.{Punctured}
 
@@ -19,10 +17,6 @@ abbrev pub OfChildKeys : ℕ → (ℕ → List (List (List ℕ))) → Type 0
 OfChildKeys k keys = (c : ℕ) → c < k → keys c ≡ keyExpansion (childKey c)
 
 pub record KeySchedules : Type 0 where
-  -- words that hold the round keys of the child keys, lent one after another, are such a family; `child_keys` makes one of 2^g
-  -- children
-  pub lent : (k : ℕ) (words : ℕ → List ℕ) (rest : List (List ℕ)) → ((c : ℕ) → c < k → roundKeys (words c) ≡ keyExpansion (childKey c))
-      → OfChildKeys k (keysFor (listed k words ++ rest))
   -- child c under them is document 01's child c
   pub children : (k : ℕ) (keys : ℕ → List (List (List ℕ))) → OfChildKeys k keys
       → (c : ℕ) → c < k → (s : List (List ℕ)) → childBy keys c s ≡ child c s

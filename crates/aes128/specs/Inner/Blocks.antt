@@ -7,7 +7,7 @@ use Rattle.field.specs.Bytes.{leBytes, columnsOf}
 use Rattle.field.specs.declared.block.Block.{Block}
 use Rattle.aes128.specs.State.{xorWord}
 use Rattle.aes128.specs.Cipher.{cipher}
-use Rattle.aes128.specs.Words.{roundKeys}
+use Rattle.aes128.specs.Inner.Words.{roundKeys}
 
 -- the cipher under the round keys that forty words hold, of a block of two words
 abbrev pub cipherOf : List ℕ → Block → Block

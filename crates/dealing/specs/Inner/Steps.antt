@@ -17,7 +17,8 @@ use Rattle.record.specs.Inner.Rising.{RisesFrom}
 use Rattle.record.specs.Inner.Lengths.{Writable, frontBytes, headLength, noiseLength, scalarLength}
 use Rattle.record.specs.declared.Front.{Front}
 use Rattle.sbox.specs.Inner.Tables.{RoundTables}
-use Rattle.tree.specs.Child.{child, keysFor}
+use Rattle.tree.specs.Child.{child}
+use Rattle.tree.specs.Inner.Keys.{keysFor}
 use Rattle.tree.specs.Columns.{columnsBytes}
 use Rattle.tree.specs.KeySchedules.{OfChildKeys}
 use Rattle.tree.specs.Tree.{siblings, listed, leafAt}

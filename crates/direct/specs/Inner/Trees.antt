@@ -16,7 +16,8 @@ use Rattle.record.specs.Inner.Answers.{treeOf}
 use Rattle.record.specs.declared.Front.{Front}
 use Rattle.record.specs.declared.Tree.{Tree}
 use Rattle.rows.specs.Inner.Sizes.{Sizes}
-use Rattle.tree.specs.Child.{child, keysFor}
+use Rattle.tree.specs.Child.{child}
+use Rattle.tree.specs.Inner.Keys.{keysFor}
 use Rattle.tree.specs.Columns.{columnsAt, siblingsAt}
 use Rattle.tree.specs.Inner.Branches.{IsBranch}
 use Rattle.tree.specs.KeySchedules.{OfChildKeys}

@@ -14,7 +14,7 @@ use Rattle.record.specs.Answer.{headOf}
 use Rattle.record.specs.Inner.Answers.{treeOf}
 use Rattle.record.specs.declared.Front.{Front}
 use Rattle.record.specs.declared.Tree.{Tree}
-use Rattle.tree.specs.Child.{keysFor}
+use Rattle.tree.specs.Inner.Keys.{keysFor}
 use Rattle.tree.specs.Inner.Branches.{IsBranch}
 use Rattle.tree.specs.KeySchedules.{OfChildKeys}
 use Rattle.rows.specs.Inner.Sizes.{Sizes}

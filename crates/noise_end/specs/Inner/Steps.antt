@@ -10,7 +10,8 @@ use Rattle.code.specs.declared.Window.{Window}
 use Rattle.field.specs.Kind.{kindOf, elementWords}
 use Rattle.record.specs.declared.Front.{Front}
 use Rattle.record.specs.declared.Tree.{Tree}
-use Rattle.tree.specs.Child.{childBy, keysFor}
+use Rattle.tree.specs.Child.{childBy}
+use Rattle.tree.specs.Inner.Keys.{keysFor}
 use Rattle.tree.specs.Expanded.{puncturedAdded}
 use Rattle.tree.specs.declared.punctured.Punctured.{Punctured}
 use Rattle.rows.specs.declared.WindowRows.{WindowRows}

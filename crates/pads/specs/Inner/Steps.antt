@@ -4,7 +4,7 @@ use mathlib.Core.List.{List}
 use Prim.Native.Nat.{ℕ, _+_, _*_, _≤_}
 use Rattle.sbox.specs.Inner.Tables.{RoundTables}
 use Rattle.aes128.specs.Cipher.{keyExpansion}
-use Rattle.aes128.specs.Words.{roundKeys}
+use Rattle.aes128.specs.Inner.Words.{roundKeys}
 use Rattle.pads.specs.Pad.{padKey}
 
 -- the cipher's tables, and words that hold the round keys of the pads' key

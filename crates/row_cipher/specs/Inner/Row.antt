@@ -7,11 +7,11 @@ use Prim.Native.Nat.{ℕ, _<_}
 use lib.ListN.{getD}
 use Rattle.field.specs.Bytes.{columnsOf}
 use Rattle.sbox.specs.Byte.{sBox}
-use Rattle.sbox.specs.Wide.{wideRows}
+use Rattle.sbox.specs.Inner.Wide.{wideRows}
 use Rattle.sbox.specs.Inner.Tables.{mixed0, mixed1, mixed2, mixed3}
 use Rattle.aes128.specs.State.{column, byteAt, xorWord}
 use Rattle.aes128.specs.Cipher.{mixColumn, rounds}
-use Rattle.aes128.specs.Words.{roundKeys}
+use Rattle.aes128.specs.Inner.Words.{roundKeys}
 
 -- a column of a round: SubBytes and MixColumns of four bytes, and the round key's column
 abbrev pub mixedColumn : ℕ → ℕ → ℕ → ℕ → ℕ → List ℕ

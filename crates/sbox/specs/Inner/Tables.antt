@@ -4,7 +4,7 @@ use mathlib.Core.List.{List, [], _∷_}
 use Prim.Native.Nat.{ℕ, _+_, _*_, _/_, _%_, _^_, _<_}
 use lib.ListN.{getD}
 use Rattle.sbox.specs.Byte.{mulBytes, sBox}
-use Rattle.sbox.specs.Wide.{wideRows}
+use Rattle.sbox.specs.Inner.Wide.{wideRows}
 
 -- what the byte x in row 0, 1, 2 or 3 adds to the rows of its column under SubBytes and MixColumns
 abbrev pub mixed0 : ℕ → List ℕ

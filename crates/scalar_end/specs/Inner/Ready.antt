@@ -9,7 +9,7 @@ use Rattle.record.specs.Content.{ScalarPart}
 use Rattle.record.specs.Reading.{items, blockAt, readScalar}
 use Rattle.record.specs.Answer.{headOf}
 use Rattle.record.specs.declared.Front.{Front}
-use Rattle.tree.specs.Child.{keysFor}
+use Rattle.tree.specs.Inner.Keys.{keysFor}
 use Rattle.tree.specs.KeySchedules.{OfChildKeys}
 use Rattle.rows.specs.Inner.Sizes.{Sizes}
 use Rattle.field.specs.Kind.{elementWords}

@@ -9,7 +9,8 @@ use Rattle.algebra.specs.Choice.{choose}
 use Rattle.field.specs.Bytes.{wordAt}
 use Rattle.field.specs.Kind.{kindOf, elementWords}
 use Rattle.record.specs.declared.Front.{Front}
-use Rattle.tree.specs.Child.{childBy, keysFor}
+use Rattle.tree.specs.Child.{childBy}
+use Rattle.tree.specs.Inner.Keys.{keysFor}
 use Rattle.tree.specs.Expanded.{leavesAdded}
 use Rattle.rows.specs.declared.WindowRows.{WindowRows}
 use Rattle.rows.specs.Inner.Outputs.{windowOver}

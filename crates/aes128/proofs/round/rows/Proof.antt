@@ -1,7 +1,7 @@
 -- `aes128::round::rows` meets its contract. Assumes nothing.
 use mathlib.Core.Path.{refl}
 use borrow.Author.Needs.{needs}
-use Rattle.sbox.specs.Wide.{wideRows}
+use Rattle.sbox.specs.Inner.Wide.{wideRows}
 use Rattle.aes128.proofs.round.rows.Statement.{statement}
 use Rattle.aes128.proofs.round.rows.Tie as tie
 

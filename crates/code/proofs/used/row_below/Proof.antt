@@ -4,7 +4,7 @@ use mathlib.Core.Path.{_≡_}
 use mathlib.Core.Bool.{true}
 use Prim.Native.Nat.{_≤_, _-_}
 use borrow.Author.Needs.{needs}
-use Rattle.aes128.specs.Words.{roundKeys}
+use Rattle.aes128.specs.Inner.Words.{roundKeys}
 use Rattle.code.specs.Inner.Used.{termsBelow}
 use Rattle.code.proofs.Tested.{terms-none, term-more, term-stop, terms-done}
 use Rattle.code.proofs.used.row_below.Statement.{statement}

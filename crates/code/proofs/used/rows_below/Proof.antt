@@ -4,7 +4,7 @@ use mathlib.Core.Path.{_≡_}
 use mathlib.Core.Bool.{true}
 use Prim.Native.Nat.{_≤_, _-_}
 use borrow.Author.Needs.{needs}
-use Rattle.aes128.specs.Words.{roundKeys}
+use Rattle.aes128.specs.Inner.Words.{roundKeys}
 use borrow.Author.Tests.{not-true, not-false}
 use Rattle.code.specs.Inner.Used.{usedBelow}
 use Rattle.code.proofs.Tested.{rows-none, row-more, row-stop, rows-done}

@@ -1,5 +1,5 @@
 -- `direct::batch::write_batch` meets its contract. The loop's invariant: the strips from `i` on are summed; the measure is `i`. Assumes nothing.
-use Rattle.aes128.specs.Words.{roundKeys}
+use Rattle.aes128.specs.Inner.Words.{roundKeys}
 use mathlib.Core.Path.{refl}
 use Rattle.direct.proofs.Strips.{Down, batch-code, batch-none, batch-below, batch-strip, batch-more, batch-all}
 use borrow.Author.Needs.{needs}

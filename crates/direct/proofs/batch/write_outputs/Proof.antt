@@ -1,5 +1,5 @@
 -- `direct::batch::write_outputs` meets its contract. The loop's invariant: the first `done` outputs are written; the measure is what is left of the window. Assumes nothing.
-use Rattle.aes128.specs.Words.{roundKeys}
+use Rattle.aes128.specs.Inner.Words.{roundKeys}
 use Prim.Native.Nat.{_-_}
 use native.Mathlib.Omega.{arith}
 use Rattle.direct.proofs.Strips.{Windowed, windowed-none, part-room, part-whole, windowed-more, windowed-all, from-fits, bytes-fit, part-fits, to-fits, part-batch}

@@ -1,5 +1,5 @@
 -- `direct::entries::make_terms` meets its contract. The loop's invariant: the terms of the rows before `k` are made; the measure is what is left of the rows. Assumes nothing.
-use Rattle.aes128.specs.Words.{roundKeys}
+use Rattle.aes128.specs.Inner.Words.{roundKeys}
 use Prim.Native.Nat.{_≤_, _-_}
 use Rattle.direct.specs.Inner.Rows.{HasTerms}
 use Rattle.direct.proofs.Rows.{terms-none, terms-more, terms-all}

@@ -1,7 +1,8 @@
 -- `direct::walk::walk_to` meets its contract. The loop's invariant: the leaf below the node is the one below the first; the measure is the levels left. Assumes nothing.
 use mathlib.Core.Path.{_≡_}
 use Prim.Native.Nat.{_^_, _≤_}
-use Rattle.tree.specs.Child.{keysFor, childBy}
+use Rattle.tree.specs.Child.{childBy}
+use Rattle.tree.specs.Inner.Keys.{keysFor}
 use Rattle.tree.specs.Tree.{leafAt}
 use Rattle.direct.proofs.Walks.{way-below, one-down, one-stop}
 use native.Mathlib.Omega.{arith}

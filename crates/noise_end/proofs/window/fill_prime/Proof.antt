@@ -4,7 +4,7 @@ use Prim.Native.Nat.{_≤_, _-_}
 use native.Mathlib.Omega.{arith}
 use borrow.Author.Needs.{needs}
 use Rattle.algebra.specs.Every.{every}
-use Rattle.aes128.specs.Words.{roundKeys}
+use Rattle.aes128.specs.Inner.Words.{roundKeys}
 use Rattle.field.specs.Prime.{primes, prime}
 use Rattle.field.specs.Kind.{primeKind}
 use Rattle.field.proofs.PrimeField.{primeLaws}

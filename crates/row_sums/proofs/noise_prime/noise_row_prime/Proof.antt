@@ -2,7 +2,7 @@
 -- pass the last by one; the measure is what is left of the terms. Assumes nothing.
 use Prim.Native.Nat.{_+_, _≤_, _-_}
 use borrow.Author.Needs.{needs}
-use Rattle.aes128.specs.Words.{roundKeys}
+use Rattle.aes128.specs.Inner.Words.{roundKeys}
 use Rattle.row_sums.specs.Inner.Sums.{termsTo, PrimesTotal}
 use Rattle.row_sums.proofs.Sums.{primes-start, primes-u, primes-v, primes-used}
 use Rattle.row_sums.proofs.noise_prime.noise_row_prime.Statement.{statement}

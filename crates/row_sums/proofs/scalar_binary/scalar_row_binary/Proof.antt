@@ -3,7 +3,7 @@
 use mathlib.Core.Path.{_≡_}
 use Prim.Native.Nat.{_+_, _≤_, _-_}
 use borrow.Author.Needs.{needs}
-use Rattle.aes128.specs.Words.{roundKeys}
+use Rattle.aes128.specs.Inner.Words.{roundKeys}
 use Rattle.row_sums.specs.Inner.Sums.{termsTo, blocksSum}
 use Rattle.row_sums.proofs.Sums.{block-none, block-done}
 use Rattle.row_sums.proofs.scalar_binary.scalar_row_binary.Statement.{statement}

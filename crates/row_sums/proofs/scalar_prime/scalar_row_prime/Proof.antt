@@ -2,7 +2,7 @@
 -- pass the last by one; the measure is what is left of the terms. Assumes nothing.
 use Prim.Native.Nat.{_+_, _≤_, _-_}
 use borrow.Author.Needs.{needs}
-use Rattle.aes128.specs.Words.{roundKeys}
+use Rattle.aes128.specs.Inner.Words.{roundKeys}
 use Rattle.row_sums.specs.Inner.Sums.{termsTo, PrimeTotal}
 use Rattle.row_sums.proofs.Sums.{prime-none, prime-done, prime-used}
 use Rattle.row_sums.proofs.scalar_prime.scalar_row_prime.Statement.{statement}

@@ -1,7 +1,8 @@
 -- `tree::leaf::walk_from` meets its contract. The loop's invariant: the walk from the node reached gives what the whole walk gives; the
 -- measure is the levels left. Assumes nothing.
 use borrow.Author.Needs.{needs}
-use Rattle.tree.specs.Child.{keysFor, childBy}
+use Rattle.tree.specs.Child.{childBy}
+use Rattle.tree.specs.Inner.Keys.{keysFor}
 use Rattle.tree.specs.Inner.Nodes.{nodeOf}
 use Rattle.tree.proofs.Walked.{Going, branch-few, going-start, going-done, going-few, going-shift, going-level, going-others, going-count, going-at, going-next}
 use Rattle.tree.proofs.leaf.walk_from.Statement.{statement}

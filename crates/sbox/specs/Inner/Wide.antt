@@ -1,4 +1,4 @@
--- A column of four bytes in a word of 64 bits.
+-- Inner: no promise cites this file. A column of four bytes in a word of 64 bits.
 use mathlib.Core.List.{List, [], _∷_}
 use Prim.Native.Nat.{ℕ, _/_, _%_, _^_}
 

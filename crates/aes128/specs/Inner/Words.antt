@@ -1,10 +1,10 @@
--- Round keys as the cipher takes them: forty words. Two hold round key 0 as a block, four each of the round keys 1 to 9 as wide
--- columns, and two round key 10 as a block.
+-- Inner: no promise cites this file. Round keys as the cipher takes them: forty words. Two hold round key 0 as a block, four each of
+-- the round keys 1 to 9 as wide columns, and two round key 10 as a block.
 use mathlib.Core.List.{List, [], _∷_}
 use Prim.Native.Nat.{ℕ, _+_}
 use lib.ListN.{getD}
 use Rattle.field.specs.Bytes.{columnsOf}
-use Rattle.sbox.specs.Wide.{wideRows}
+use Rattle.sbox.specs.Inner.Wide.{wideRows}
 use Rattle.aes128.specs.State.{four}
 
 -- the round key that four words hold as wide columns
