@@ -13,7 +13,7 @@ use Rattle.field.specs.Bytes.{columnsOf, lowOf, highOf}
 use Rattle.tree.specs.Child.{childKey, child}
 use Rattle.tree.specs.Columns.{columnsAt}
 use Rattle.tree.specs.Tree.{leafAt}
-use Rattle.code.specs.Row.{placeOf, termBlock, termPlace, rowOf}
+use Rattle.code.specs.Row.{placeOf, termBlock, termPlace, rowOfBlocks}
 use Rattle.record.specs.Content.{Head}
 use Rattle.rows.specs.Head.{kind, fieldOf, places, row}
 use Rattle.dealing.specs.Input.{Input, position}
@@ -85,7 +85,7 @@ unfoldable pub lookedRow : (h : Head) → ℕ → Row (fieldOf h .ring)
 lookedRow h x = rowBy (lookedAes (columnsAt (h .codeKey) 0)) h x
 
 pub row-looked : (h : Head) (x : ℕ) → row h x ≡ lookedRow h x
-unfolding aes rowOf termPlace termBlock rowBy lookedRow
+unfolding aes rowOfBlocks termPlace termBlock rowBy lookedRow
 row-looked h x i = rowBy (λ s. aes-looked (columnsAt (h .codeKey) 0) s i) h x
 
 -- ---- pads

@@ -9,7 +9,7 @@ use Rattle.algebra.specs.Group.{Ring, Scaled}
 use Rattle.algebra.specs.Row.{Row, RowWithin, output}
 use Rattle.algebra.proofs.Sum.{sum-cong}
 use Rattle.field.specs.Kind.{Kind, KindLaws}
-use Rattle.code.specs.Row.{termPlace, rowOf}
+use Rattle.code.specs.Row.{termPlace, rowOfBlocks}
 use Rattle.code.proofs.Strips.{place-within}
 use Rattle.code.specs.declared.Shape.{Shape}
 use Rattle.code.specs.declared.Window.{Window}
@@ -30,23 +30,25 @@ pub all-word : (bound : ℕ) (words : List ℕ) → allBelow bound words ≡ tru
 unfolding allBelow
 all-word bound words e j h = ltb-true _ _ (every-at (wordBelow bound words) j (length words) e h)
 
-module _ (keys : List (List (List ℕ))) (N ℓ : ℕ) where
+-- rows whose terms have any blocks
+module _ (N ℓ : ℕ) where
   -- a place is below N
-  pub place-below : (x i : ℕ) → i < ℓ → ℓ ≤ N → termPlace keys N ℓ x i < N
+  pub place-below : (i : ℕ) (block : List (List ℕ)) → i < ℓ → ℓ ≤ N → termPlace N ℓ i block < N
   unfolding termPlace
-  place-below x i h full = place-within N ℓ full i h _
+  place-below i block h full = place-within N ℓ full i h _
 
   -- the terms of a row of either kind
-  pub row-within : (K : Kind) → KindLaws K → (x : ℕ) → ℓ ≤ N → RowWithin (K .field .ring) N (rowOf (K .field .ring) (K .coefficient) keys N ℓ x)
-  unfolding rowOf
-  row-within K L x full = record { place-below = λ i k. place-below x i k full; coefficient-element = λ i k. L .coefficient-element _ }
+  pub row-within : (K : Kind) → KindLaws K → (blocks : ℕ → List (List ℕ)) → ℓ ≤ N
+      → RowWithin (K .field .ring) N (rowOfBlocks (K .field .ring) (K .coefficient) N ℓ blocks)
+  unfolding rowOfBlocks
+  row-within K L blocks full = record { place-below = λ i k. place-below i (blocks i) k full; coefficient-element = λ i k. L .coefficient-element _ }
 
   -- vectors that agree below N have the same outputs
-  pub output-below : (K : Kind) (S : Scaled (K .field .ring)) (x : ℕ) (f g : ℕ → S .group .Of) → ℓ ≤ N → ((j : ℕ) → j < N → f j ≡ g j)
-      → output S (rowOf (K .field .ring) (K .coefficient) keys N ℓ x) f ≡ output S (rowOf (K .field .ring) (K .coefficient) keys N ℓ x) g
-  unfolding rowOf
-  output-below K S x f g h e =
-      output-places S (rowOf (K .field .ring) (K .coefficient) keys N ℓ x) f g (λ i k. e (termPlace keys N ℓ x i) (place-below x i k h))
+  pub output-below : (K : Kind) (S : Scaled (K .field .ring)) (blocks : ℕ → List (List ℕ)) (f g : ℕ → S .group .Of) → ℓ ≤ N → ((j : ℕ) → j < N → f j ≡ g j)
+      → output S (rowOfBlocks (K .field .ring) (K .coefficient) N ℓ blocks) f ≡ output S (rowOfBlocks (K .field .ring) (K .coefficient) N ℓ blocks) g
+  unfolding rowOfBlocks
+  output-below K S blocks f g h e =
+      output-places S (rowOfBlocks (K .field .ring) (K .coefficient) N ℓ blocks) f g (λ i k. e (termPlace N ℓ i (blocks i)) (place-below i (blocks i) k h))
 
 module _ (keys : List (List (List ℕ))) (s : Shape) (bound : ℕ) (words : List ℕ) (w : Window) where
   -- where every word is below the bound no row can fail
@@ -55,4 +57,4 @@ module _ (keys : List (List (List ℕ))) (s : Shape) (bound : ℕ) (words : List
   used-all h size e =
       every-all (λ k. rowBelow bound words keys s (w .first + k)) (w .count)
       (λ k g. every-all (λ i. wordBelow bound words (placeIn keys s (w .first + k) i)) (s .terms)
-      (λ i m. lt-ltb _ _ (all-word bound words e (placeIn keys s (w .first + k) i) (rw size (place-below keys (s .places) (s .terms) (w .first + k) i m h)))))
+      (λ i m. lt-ltb _ _ (all-word bound words e (placeIn keys s (w .first + k) i) (rw size (place-below (s .places) (s .terms) i _ m h)))))

@@ -4,9 +4,10 @@ use mathlib.Core.Path.{_≡_, refl, sym, ap, _∙_}
 use Prim.Native.Nat.{ℕ, suc, _+_, _*_, _/_, _%_, _≤_, _<_}
 use native.Mathlib.Nat.{mod-lt, mul-div-le, mul-le-mul-right, suc-mul, le-div-iff-mul-le, mul-add-div-right, div-eq-of-lt}
 use native.Mathlib.Omega.{arith}
-use Rattle.code.specs.Strips.{FullRows}
+use Rattle.code.specs.Strips.{ReadsStrips, FullRows}
+use Rattle.algebra.specs.Group.{Ring}
 use Rattle.field.specs.Bytes.{lowOf}
-use Rattle.code.specs.Row.{strip, termBlock, placeOf, termPlace, rowOf}
+use Rattle.code.specs.Row.{strip, termBlock, placeOf, termPlace, rowOfBlocks}
 
 module _ (N ℓ : ℕ) (full : ℓ ≤ N) where
   -- a strip has a place
@@ -39,9 +40,11 @@ module _ (N ℓ : ℕ) (full : ℓ ≤ N) where
         mul-add-div-right (strip-some (omega arith)) i (word % strip N ℓ)
         ∙ ap (λ (n : ℕ). i + n) (div-eq-of-lt (rest-below word)) ∙ omega arith
 
-pub full-rows : FullRows
-unfolding rowOf termPlace placeOf
-full-rows R coefficientOf keys N ℓ x some full =
+-- a row whose terms have any blocks
+pub blocks-full : (R : Ring) (coefficientOf : ℕ → R .group .Of) (N ℓ : ℕ) (blocks : ℕ → List (List ℕ)) → 1 ≤ ℓ → ℓ ≤ N
+    → ReadsStrips N ℓ (rowOfBlocks R coefficientOf N ℓ blocks)
+unfolding rowOfBlocks termPlace placeOf
+blocks-full R coefficientOf N ℓ blocks some full =
     record {
       terms = refl;
       from = λ i h. omega arith;
@@ -52,4 +55,7 @@ full-rows R coefficientOf keys N ℓ x some full =
     }
   where
     word : ℕ → ℕ
-    word i = lowOf (termBlock keys x i)
+    word i = lowOf (blocks i)
+
+pub full-rows : FullRows
+full-rows R coefficientOf key N ℓ x some full = blocks-full R coefficientOf N ℓ (termBlock key x) some full

@@ -1,6 +1,6 @@
 -- A row's terms: the place and the word that a term's block names.
 use mathlib.Core.List.{List}
-use mathlib.Core.Path.{_≡_, ap, _∙_}
+use mathlib.Core.Path.{_≡_, refl, ap, _∙_}
 use Prim.Native.Nat.{ℕ, _+_, _*_, _%_, _≤_, _<_}
 use mir.Syntax.{w64}
 use mir.Val.{Fits}
@@ -12,14 +12,20 @@ use Rattle.field.specs.declared.block.Block.{Block}
 use Rattle.field.specs.Binary.{block}
 use Rattle.field.specs.Bytes.{highOf}
 use Rattle.code.specs.Row.{termBlock, placeOf, termPlace}
+use Rattle.aes128.specs.Cipher.{keyExpansion, aes}
 use Rattle.code.specs.declared.Shape.{Shape}
 use Rattle.code.proofs.Strips.{strip-some, strip-end, strips-within}
-use Rattle.code.specs.Inner.Rows.{Shaped, placeBy, placeIn}
+use Rattle.code.specs.Inner.Rows.{Shaped, termBlockBy, placeBy, placeIn}
+
+-- the blocks under the round keys of the code key are those under the code key
+pub blocks-by-key : (key : List (List ℕ)) → termBlockBy (keyExpansion key) ≡ termBlock key
+unfolding termBlockBy termBlock aes
+blocks-by-key key = refl
 
 -- a term, from the block that the cipher gives, or from its first word
 module _ (keys : List ℕ) (s : Shape) (x i : ℕ) where
   pub place-word : {word : ℕ} → word ≡ cipherOf keys (block x i) .low → placeBy s i word ≡ placeIn (roundKeys keys) s x i
-  unfolding termPlace termBlock
+  unfolding termPlace termBlockBy
   place-word p = ap (placeBy s i) p
 
   module _ {b : Block} (p : b ≡ cipherOf keys (block x i)) where
@@ -29,8 +35,8 @@ module _ (keys : List ℕ) (s : Shape) (x i : ℕ) where
     pub place-is : {j : ℕ} → j ≡ placeBy s i (b .low) → j ≡ placeIn (roundKeys keys) s x i
     place-is e = e ∙ place-block
 
-    pub word-is : b .high ≡ highOf (termBlock (roundKeys keys) x i)
-    unfolding termBlock
+    pub word-is : b .high ≡ highOf (termBlockBy (roundKeys keys) x i)
+    unfolding termBlockBy
     word-is = ap (λ (c : Block). c .high) p
 
 -- the place that a word names for a term

@@ -22,5 +22,5 @@ pub record ReadsStrips (N ℓ : ℕ) {R : Ring} (row : Row R) : Type 0 where
 
 -- every row of a code whose ℓ is 1 to N reads exactly ℓ different places, under any code key and in any field
 abbrev pub FullRows : Type 1
-FullRows = (R : Ring) (coefficientOf : ℕ → R .group .Of) (keys : List (List (List ℕ))) (N ℓ x : ℕ) → 1 ≤ ℓ → ℓ ≤ N
-    → ReadsStrips N ℓ (rowOf R coefficientOf keys N ℓ x)
+FullRows = (R : Ring) (coefficientOf : ℕ → R .group .Of) (key : List (List ℕ)) (N ℓ x : ℕ) → 1 ≤ ℓ → ℓ ≤ N
+    → ReadsStrips N ℓ (rowOf R coefficientOf key N ℓ x)

@@ -4,8 +4,7 @@ ghost use Prim.Native.Nat.{_<_};
 ghost use Rattle.sbox.specs.Inner.Tables.{RoundTables};
 ghost use Rattle.aes128.specs.Inner.Words.{roundKeys};
 ghost use Rattle.field.specs.Bytes.{highOf};
-ghost use Rattle.code.specs.Row.{termBlock};
-ghost use Rattle.code.specs.Inner.Rows.{Shaped, placeBy, placeIn};
+ghost use Rattle.code.specs.Inner.Rows.{Shaped, termBlockBy, placeBy, placeIn};
 use crate::Shape;
 use aes128::encrypt;
 use field::Block;
@@ -30,7 +29,7 @@ pub fn row_term(tables: &[u64; 1536], keys: &[u64; 40], shape: Shape, x: usize, 
     requires { ⌜ RoundTables (now tables) ⌝ }
     requires { ⌜ Shaped shape × (i < shape .terms) ⌝ }
     ensures { λ r. ⌜ (r .place ≡ placeIn (roundKeys (now (keys .entry))) shape x i)
-        × (r .place < shape .places) × (r .word ≡ highOf (termBlock (roundKeys (now (keys .entry))) x i)) ⌝ }
+        × (r .place < shape .places) × (r .word ≡ highOf (termBlockBy (roundKeys (now (keys .entry))) x i)) ⌝ }
 {
     let block = encrypt(
         tables,

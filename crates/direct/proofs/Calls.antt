@@ -24,7 +24,10 @@ use Rattle.record.specs.declared.Opened.{Opened}
 use Rattle.record.specs.declared.Opened.the-variants.{Accepted, Fault}
 use Rattle.record.proofs.Callers.{head-ranges}
 use Rattle.record.proofs.Parts.{noise-parts, scalar-parts}
-use Rattle.rows.specs.Head.{codeKeys}
+use Rattle.aes128.specs.Cipher.{aes}
+use Rattle.code.specs.Row.{termBlock}
+use Rattle.code.specs.Inner.Rows.{termBlockBy}
+use Rattle.rows.specs.Inner.Outputs.{codeKeys}
 use Rattle.rows.specs.Inner.Numbers.{pastOutputs, shortBuffer, lengthsNumber}
 use Rattle.rows.proofs.Numbers.{count-fits}
 use Rattle.tree.specs.Inner.Keys.{keysFor}
@@ -107,7 +110,7 @@ pub both-filled : (s : List ℕ) (f : Front) (first count : ℕ) {code : List (L
     → u ≡ over (fieldFor 1 (f .field) .elements) count (λ k. outputOf 1 s code f (first + k)) uOut
     → v ≡ over (fieldFor 2 (f .field) .elements) count (λ k. outputOf 2 s code f (first + k)) vOut
     → record { source = s; uOut = u; vOut = v } ≡ noise.filled (noiseReady.contentOf s f) (record { source = s; uOut = uOut; vOut = vOut }) first count
-unfolding noise.filled noise.uAt noise.vAt outputOf valuesOf rowIn
+unfolding noise.filled noise.uAt noise.vAt outputOf valuesOf rowIn termBlock termBlockBy aes
 both-filled s f first count {code} e uOut vOut {u} {v} p q =
     let x : u ≡ over (fieldFor 1 (f .field) .elements) count (λ k. outputOf 1 s (codeKeys (headOf s f)) f (first + k)) uOut =
     p ∙ ap (λ (c : List (List (List ℕ))). over (fieldFor 1 (f .field) .elements) count (λ k. outputOf 1 s c f (first + k)) uOut) e in
@@ -164,7 +167,7 @@ module _ (s : List ℕ) (f : Front) (ready : scalarReady.Ready s f) where
 pub w-filled : (s : List ℕ) (f : Front) (first count : ℕ) {code : List (List (List ℕ))} → code ≡ codeKeys (headOf s f) → (wOut : List ℕ) {w : List ℕ}
     → w ≡ over (fieldFor 3 (f .field) .elements) count (λ k. outputOf 3 s code f (first + k)) wOut
     → record { source = s; wOut = w } ≡ scalar.filled (scalarReady.contentOf s f) (record { source = s; wOut = wOut }) first count
-unfolding scalar.filled scalar.wAt outputOf valuesOf rowIn
+unfolding scalar.filled scalar.wAt outputOf valuesOf rowIn termBlock termBlockBy aes
 w-filled s f first count {code} e wOut {w} p =
     let x : w ≡ over (fieldFor 3 (f .field) .elements) count (λ k. outputOf 3 s (codeKeys (headOf s f)) f (first + k)) wOut =
     p ∙ ap (λ (c : List (List (List ℕ))). over (fieldFor 3 (f .field) .elements) count (λ k. outputOf 3 s c f (first + k)) wOut) e in

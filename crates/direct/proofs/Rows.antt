@@ -19,8 +19,8 @@ use Rattle.algebra.proofs.Choice.{choose-true, choose-false}
 use Rattle.algebra.proofs.Coding.{at-over-past, length-put, over-whole}
 use Rattle.algebra.proofs.Sum.{itself-laws}
 use Rattle.code.specs.declared.Window.{Window}
-use Rattle.code.specs.Row.{termBlock, rowOf}
-use Rattle.code.specs.Inner.Rows.{Shaped, placeIn}
+use Rattle.code.specs.Row.{rowOfBlocks}
+use Rattle.code.specs.Inner.Rows.{Shaped, termBlockBy, placeIn}
 use Rattle.field.specs.Bytes.{highOf}
 use Rattle.field.specs.Binary.{binary}
 use Rattle.field.specs.Kind.{kindOf}
@@ -76,12 +76,12 @@ module _ (f : Front) (w : Window) (ok : IsCode f) {all : WindowRows} (e : all �
 
   module _ (code : List (List (List ℕ))) (x i : ℕ) where
     pub term-place : {p : ℕ} → p ≡ placeIn code (all .shape) x i → p ≡ rowIn code f x .place i
-    unfolding rowIn rowOf
+    unfolding rowIn rowOfBlocks
     term-place q = q ∙ ap (λ (r : WindowRows). placeIn code (r .shape) x i) e
 
-    pub term-coefficient : (c : ℕ) {word : ℕ} → word ≡ highOf (termBlock code x i) → noiseIn (f .field) c ≡ kindOf (f .field) .coefficient word
+    pub term-coefficient : (c : ℕ) {word : ℕ} → word ≡ highOf (termBlockBy code x i) → noiseIn (f .field) c ≡ kindOf (f .field) .coefficient word
         → noiseIn (f .field) c ≡ rowIn code f x .coefficient i
-    unfolding rowIn rowOf
+    unfolding rowIn rowOfBlocks
     term-coefficient c q n = n ∙ ap (kindOf (f .field) .coefficient) q
 
 module _ (code : List (List (List ℕ))) (b : Batch) (i : ℕ) (before : List ℕ) where

@@ -22,7 +22,8 @@ use Rattle.algebra.proofs.Coding.{flat-cong, length-flat, at-flat, at-over, ove
 use Rattle.algebra.proofs.Falling.{fromTop, top-none, top-more}
 use Rattle.algebra.proofs.Sum.{sum-none}
 use Rattle.code.specs.Strips.{ReadsStrips}
-use Rattle.code.proofs.Strips.{strip-end, strips-within, full-rows}
+use Rattle.code.specs.Inner.Rows.{termBlockBy}
+use Rattle.code.proofs.Strips.{strip-end, strips-within, blocks-full}
 use Rattle.field.specs.Binary.{binary}
 use Rattle.field.specs.Kind.{kindOf, elementWords}
 use Rattle.field.proofs.BinaryField.{binaryLaws}
@@ -112,7 +113,7 @@ module _ (vector : ℕ) (s : List ℕ) (code : List (List (List ℕ))) (f : Fron
 
   reads : (x : ℕ) → ReadsStrips (2 ^ f .depth) (f .terms) (rowIn code f x)
   unfolding rowIn
-  reads x = full-rows (kindOf (f .field) .field .ring) (kindOf (f .field) .coefficient) code (2 ^ f .depth) (f .terms) x (ok .some) (ok .full)
+  reads x = blocks-full (kindOf (f .field) .field .ring) (kindOf (f .field) .coefficient) (2 ^ f .depth) (f .terms) (termBlockBy code x) (ok .some) (ok .full)
 
   abbrev summedTo : ℕ → ℕ → ℕ → Value (fieldFor vector (f .field))
   summedTo first j k = fromTop (fieldFor vector (f .field) .scaled .group) (partOf vector s code f (first + k)) (stripsOf f) j

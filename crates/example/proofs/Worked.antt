@@ -28,7 +28,7 @@ use Rattle.aes128.specs.Cipher.{shiftRows, power, keysOf}
 use Rattle.tree.proofs.Listed.{listed-at}
 use Rattle.tree.specs.Columns.{columnsAt}
 use Rattle.tree.specs.Tree.{path, reach, leafAt, listed}
-use Rattle.code.specs.Row.{placeOf, rowOf}
+use Rattle.code.specs.Row.{placeOf, rowOfBlocks}
 use Rattle.rows.proofs.Rows.{row-within}
 use Rattle.rows.specs.Head.{places, row}
 use Rattle.dealing.specs.Admitted.{Admitted}
@@ -128,7 +128,7 @@ module _ (I : Input) (A : Admitted I) (N : Numbers) (C : Computed I N) where
   -- the output of row x on a vector, from the vector's words
   output-at : (S : Scaled (field I .ring)) (f g : ℕ → S .group .Of) → ((j : ℕ) → j < places (head I) → f j ≡ g j)
       → (x : ℕ) → x < I .outputs → output S (row (head I) x) f ≡ outputIn I N S g x
-  unfolding output rowOf
+  unfolding output rowOfBlocks
   output-at S f g e x h =
       sum-cong (S .group) (I .terms) _ _
       (λ i k.

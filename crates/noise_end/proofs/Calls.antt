@@ -14,7 +14,9 @@ use Rattle.algebra.specs.Coding.{flat, over}
 use Rattle.algebra.specs.Sum.{accumulate}
 use Rattle.algebra.proofs.Choice.{choose-map}
 use Rattle.algebra.proofs.Tests.{or-none}
-use Rattle.code.specs.Row.{rowOf}
+use Rattle.aes128.specs.Cipher.{aes}
+use Rattle.code.specs.Row.{termBlock, rowOfBlocks}
+use Rattle.code.specs.Inner.Rows.{termBlockBy}
 use Rattle.code.specs.declared.Window.{Window}
 use Rattle.field.specs.Kind.{kindOf, elementWords}
 use Rattle.field.proofs.BothKinds.{kindLaws}
@@ -24,9 +26,9 @@ use Rattle.record.specs.declared.Front.{Front}
 use Rattle.record.specs.declared.Opened.{Opened}
 use Rattle.record.specs.declared.Opened.the-variants.{Accepted, Fault}
 use Rattle.rows.specs.declared.WindowRows.{WindowRows}
-use Rattle.rows.specs.Head.{fieldOf, codeKeys}
+use Rattle.rows.specs.Head.{fieldOf}
 use Rattle.rows.specs.Inner.Numbers.{wrongVector, pastOutputs, shortBuffer}
-use Rattle.rows.specs.Inner.Outputs.{rowsOf, ofNoise}
+use Rattle.rows.specs.Inner.Outputs.{codeKeys, rowsOf, ofNoise}
 use Rattle.rows.specs.Inner.Testing.{Fitting, elementsUsed}
 use Rattle.rows.specs.Usable.{windowUsable}
 use Rattle.rows.proofs.Fronts.{front-over}
@@ -219,13 +221,13 @@ module _ (s noise v uOut vOut : List ℕ) (a : Window) (f : Front) where
   -- both tests of a place, or one after the other
   used-words : bothUsed (codeKeys (headOf s f)) (rowsOf f a) noise v
       ≡ windowUsable (on.usable (fieldOf (headOf s f)) (lent s noise v uOut vOut)) (headOf s f) (a .first) (a .count)
-  unfolding elementsUsed windowUsable on.usable rowOf
+  unfolding elementsUsed windowUsable on.usable rowOfBlocks termBlock termBlockBy aes
   used-words = simp every-both
 
   pub rows-written : {keys : List (List (List ℕ))} → keys ≡ codeKeys (headOf s f) → {r : WindowRows} → r ≡ rowsOf f a
       → {o : TwoLengths} {x y : List ℕ} → (o, x, y) ≡ outputsUnder keys r noise v uOut vOut
       → on.outcome o (lent s noise v x y) ≡ on.rowsOutcome (headOf s f) (lent s noise v uOut vOut) (a .first) (a .count)
-  unfolding outputsUnder on.rowsOutcome on.filled
+  unfolding outputsUnder on.rowsOutcome on.filled termBlock termBlockBy aes
   rows-written {keys} ke {r} re q =
       ap (λ (z : TwoLengths × List ℕ × List ℕ). on.outcome (z .0) (lent s noise v (z .1) (z .2))) (q ∙ rw (ke, re, used-words))
       ∙ choose-map (λ (z : TwoLengths × List ℕ × List ℕ). on.outcome (z .0) (lent s noise v (z .1) (z .2)))

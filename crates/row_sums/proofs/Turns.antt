@@ -18,9 +18,9 @@ use Rattle.field.specs.Binary.{binary, bitRing, blocks, blockZero, blockAdd, bl
 use Rattle.field.specs.Bytes.{highOf}
 use Rattle.field.specs.Prime.{primes, primeRing, prime, primeReduce, primeAdd, primeMul}
 use Rattle.field.proofs.PrimeField.{reduced-add, reduced-mul}
-use Rattle.code.specs.Row.{termBlock, rowOf}
+use Rattle.code.specs.Row.{rowOfBlocks}
 use Rattle.code.specs.declared.Shape.{Shape}
-use Rattle.code.specs.Inner.Rows.{placeIn, binaryRow, primeRow}
+use Rattle.code.specs.Inner.Rows.{termBlockBy, placeIn, binaryRow, primeRow}
 use Rattle.row_sums.specs.Inner.Sums.{termsTo, termsSum, bitsSum, blocksSum, primesSum}
 
 -- ---- a turn of two terms
@@ -87,36 +87,36 @@ module _ (keys : List (List (List ℕ))) (s : Shape) (x : ℕ) (words : List ℕ
 
   module _ (i : ℕ) where
     pub bits-done : {a : ℕ} → a ≡ bitsSum keys s x words i → i ≤ s .terms → s .terms ≤ i → a ≡ output (itself bitRing) (binaryRow keys s x) (at (binary .noiseValues) words)
-    unfolding rowOf bitsSum
+    unfolding rowOfBlocks bitsSum
     bits-done = terms-done (itself bitRing) (binaryRow keys s x) (at (binary .noiseValues) words) i
 
     pub blocks-done : {a : Block} → a ≡ blocksSum keys s x words i → i ≤ s .terms → s .terms ≤ i → a ≡ output blocks (binaryRow keys s x) (at (binary .elements) words)
-    unfolding rowOf blocksSum
+    unfolding rowOfBlocks blocksSum
     blocks-done = terms-done blocks (binaryRow keys s x) (at (binary .elements) words) i
 
     pub primes-done : (a : ℕ) {r : Prime} → primeReduce a ≡ primesSum keys s x words i → i ≤ s .terms → s .terms ≤ i → r ≡ primeReduce a
         → r ≡ output (itself primeRing) (primeRow keys s x) (at (primes .elements) words)
-    unfolding rowOf primesSum
+    unfolding rowOfBlocks primesSum
     primes-done a e h k p = p ∙ terms-done (itself primeRing) (primeRow keys s x) (at (primes .elements) words) i e h k
 
     module _ {j : ℕ} (named : j ≡ placeIn keys s x i) where
       pub bits-more : {u next : ℕ} → u ≡ bitsSum keys s x words i → next ≡ bitAdd u (getD words j 0) → next ≡ bitsSum keys s x words (i + 1)
-      unfolding rowOf bitsSum
+      unfolding rowOfBlocks bitsSum
       bits-more {u} {next} e q =
           let one : bitMul 1 (getD words j 0) ≡ bitMul 1 (at (binary .noiseValues) words (placeIn keys s x i)) =
           ap (bitMul 1) (word-at words named) in
           terms-more (itself bitRing) (binaryRow keys s x) (at (binary .noiseValues) words) i e one (omega arith)
 
       pub blocks-more : {a e next : Block} → a ≡ blocksSum keys s x words i → e ≡ at (binary .elements) words j → next ≡ blockAdd a e → next ≡ blocksSum keys s x words (i + 1)
-      unfolding rowOf blockScale blocksSum
+      unfolding rowOfBlocks blockScale blocksSum
       blocks-more e p q =
           terms-more blocks (binaryRow keys s x) (at (binary .elements) words) i e
           (p ∙ ap (at (binary .elements) words) named) q
 
-      pub primes-more : (a next word : ℕ) → primeReduce a ≡ primesSum keys s x words i → word ≡ highOf (termBlock keys x i)
+      pub primes-more : (a next word : ℕ) → primeReduce a ≡ primesSum keys s x words i → word ≡ highOf (termBlockBy keys x i)
           → primeReduce next ≡ primeAdd (prime a) (primeMul (prime word) (prime (getD words j 0)))
           → primeReduce next ≡ primesSum keys s x words (i + 1)
-      unfolding rowOf primesSum
+      unfolding rowOfBlocks primesSum
       primes-more a next word e p q =
           terms-more (itself primeRing) (primeRow keys s x) (at (primes .elements) words) i e
           (reduced-mul word (prime (getD words j 0)) ∙ ap₂ primeMul (ap primeReduce p) (ap prime (word-at words named)))

@@ -26,7 +26,7 @@ use Rattle.record.specs.Answer.{headOf}
 use Rattle.tree.specs.Columns.{columnsAt}
 use Rattle.code.specs.Inner.Used.{usedBelow}
 use Rattle.rows.specs.declared.WindowRows.{WindowRows}
-use Rattle.rows.specs.Head.{codeKeys}
+use Rattle.rows.specs.Inner.Outputs.{codeKeys}
 use Rattle.rows.specs.Inner.Testing.{elementsUsed}
 use Rattle.rows.proofs.Blocks.{columns-part}
 use Rattle.rows.proofs.Passed.{all-primes, prime-used}

@@ -1,10 +1,8 @@
 -- The field, N, and the rows of the code, from a record's head (document 01, 'Sizes', 'Offline and online').
-use mathlib.Core.List.{List}
 use Prim.Native.Nat.{ℕ, _^_}
 use Rattle.algebra.specs.Field.{Field}
 use Rattle.algebra.specs.Row.{Row}
 use Rattle.field.specs.Kind.{Kind, kindOf}
-use Rattle.aes128.specs.Cipher.{keyExpansion}
 use Rattle.tree.specs.Columns.{columnsAt}
 use Rattle.code.specs.Row.{rowOf}
 use Rattle.record.specs.Content.{Head}
@@ -20,10 +18,6 @@ fieldOf h = kind h .field
 abbrev pub places : Head → ℕ
 places h = 2 ^ h .depth
 
--- the round keys of the code key
-abbrev pub codeKeys : Head → List (List (List ℕ))
-codeKeys h = keyExpansion (columnsAt (h .codeKey) 0)
-
 -- row x of the code, under the code key
 abbrev pub row : (h : Head) → ℕ → Row (fieldOf h .ring)
-row h x = rowOf (fieldOf h .ring) (kind h .coefficient) (codeKeys h) (places h) (h .terms) x
+row h x = rowOf (fieldOf h .ring) (kind h .coefficient) (columnsAt (h .codeKey) 0) (places h) (h .terms) x

@@ -11,7 +11,9 @@ use Rattle.algebra.specs.Choice.{choose}
 use Rattle.algebra.specs.Coding.{flat, over}
 use Rattle.algebra.specs.Sum.{accumulate}
 use Rattle.algebra.proofs.Choice.{choose-map}
-use Rattle.code.specs.Row.{rowOf}
+use Rattle.aes128.specs.Cipher.{aes}
+use Rattle.code.specs.Row.{termBlock, rowOfBlocks}
+use Rattle.code.specs.Inner.Rows.{termBlockBy}
 use Rattle.code.specs.declared.Window.{Window}
 use Rattle.field.specs.Kind.{kindOf, elementWords}
 use Rattle.field.proofs.BothKinds.{kindLaws}
@@ -21,9 +23,8 @@ use Rattle.record.specs.declared.Front.{Front}
 use Rattle.record.specs.declared.Opened.{Opened}
 use Rattle.record.specs.declared.Opened.the-variants.{Accepted, Fault}
 use Rattle.rows.specs.declared.WindowRows.{WindowRows}
-use Rattle.rows.specs.Head.{codeKeys}
 use Rattle.rows.specs.Inner.Numbers.{wrongVector, pastOutputs, shortBuffer, lengthsNumber}
-use Rattle.rows.specs.Inner.Outputs.{rowsOf}
+use Rattle.rows.specs.Inner.Outputs.{codeKeys, rowsOf}
 use Rattle.rows.specs.Inner.Testing.{Fitting, elementsUsed}
 use Rattle.rows.specs.Usable.{windowUsable}
 use Rattle.rows.proofs.Fronts.{front-over}
@@ -154,7 +155,7 @@ module _ (keys : List (List (List ℕ))) (r : WindowRows) (w out : List ℕ) whe
 pub rows-written : (s w out : List ℕ) (a : Window) (f : Front) {keys : List (List (List ℕ))} → keys ≡ codeKeys (headOf s f) → {r : WindowRows} → r ≡ rowsOf f a
     → {o : OneLength} {x : List ℕ} → (o, x) ≡ outputsUnder keys r w out
     → on.outcome o (lent s w x) ≡ on.rowsOutcome (headOf s f) (lent s w out) (a .first) (a .count)
-unfolding outputsUnder on.rowsOutcome on.filled elementsUsed windowUsable on.usable rowOf
+unfolding outputsUnder on.rowsOutcome on.filled elementsUsed windowUsable on.usable rowOfBlocks termBlock termBlockBy aes
 rows-written s w out a f {keys} ke {r} re q =
     ap (λ (z : OneLength × List ℕ). on.outcome (z .0) (lent s w (z .1))) (q ∙ rw (ke, re))
     ∙ choose-map (λ (z : OneLength × List ℕ). on.outcome (z .0) (lent s w (z .1)))

@@ -10,7 +10,8 @@ use Rattle.algebra.specs.Coding.{Coding, flat}
 use Rattle.algebra.specs.Field.{Field, NoiseValue, Value}
 use Rattle.algebra.specs.Group.{Scaled, itself}
 use Rattle.algebra.specs.Row.{Row, entry, rowTimes}
-use Rattle.code.specs.Row.{rowOf}
+use Rattle.code.specs.Row.{rowOfBlocks}
+use Rattle.code.specs.Inner.Rows.{termBlockBy}
 use Rattle.field.specs.Kind.{kindOf}
 use Rattle.noise_end.specs.Vectors as noise
 use Rattle.noise_end.specs.Inner.Ready as noiseReady
@@ -68,7 +69,7 @@ valuesOf vector s f = valuesBy (eqb vector 1) (eqb vector 3) s f
 
 -- row x of the code under round keys, and its output on a vector: its row of the code matrix times the vector
 unfoldable pub rowIn : List (List (List ℕ)) → (f : Front) → ℕ → Row (kindOf (f .field) .field .ring)
-rowIn code f x = rowOf (kindOf (f .field) .field .ring) (kindOf (f .field) .coefficient) code (2 ^ f .depth) (f .terms) x
+rowIn code f x = rowOfBlocks (kindOf (f .field) .field .ring) (kindOf (f .field) .coefficient) (2 ^ f .depth) (f .terms) (termBlockBy code x)
 
 unfoldable pub outputOf : (vector : ℕ) (s : List ℕ) (code : List (List (List ℕ))) (f : Front) → ℕ → Value (fieldFor vector (f .field))
 outputOf vector s code f x = rowTimes (fieldFor vector (f .field) .scaled) (2 ^ f .depth) (entry (rowIn code f x)) (valuesOf vector s f)

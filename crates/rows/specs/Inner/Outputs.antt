@@ -7,10 +7,19 @@ use Rattle.algebra.specs.Field.{Field, NoiseValue, Value}
 use Rattle.algebra.specs.Group.{itself}
 use Rattle.algebra.specs.Row.{output}
 use Rattle.code.specs.declared.Window.{Window}
-use Rattle.code.specs.Row.{strip, rowOf}
+use Rattle.code.specs.Row.{strip, rowOfBlocks}
+use Rattle.code.specs.Inner.Rows.{termBlockBy}
+use Rattle.aes128.specs.Cipher.{keyExpansion}
+use Rattle.record.specs.Content.{Head}
 use Rattle.record.specs.declared.Front.{Front}
+use Rattle.tree.specs.Columns.{columnsAt}
 use Rattle.rows.specs.declared.WindowRows.{WindowRows}
 
+-- the round keys of a head's code key
+abbrev pub codeKeys : Head → List (List (List ℕ))
+codeKeys h = keyExpansion (columnsAt (h .codeKey) 0)
+
+-- the rows of a window
 abbrev pub rowsOf : Front → Window → WindowRows
 rowsOf f w = record { field = f .field; shape = record { places = 2 ^ f .depth; terms = f .terms; strip = strip (2 ^ f .depth) (f .terms) }; window = w }
 
@@ -21,7 +30,7 @@ ofNoise F = record { ring = F .ring; scaled = itself (F .ring); noiseValues = F 
 -- output k of the window, for a rule of coefficients
 abbrev pub outputAt : (F : Field) → (ℕ → NoiseValue F) → List (List (List ℕ)) → WindowRows → List ℕ → ℕ → Value F
 outputAt F coefficient keys r w k =
-    output (F .scaled) (rowOf (F .ring) coefficient keys (r .shape .places) (r .shape .terms) (r .window .first + k)) (at (F .elements) w)
+    output (F .scaled) (rowOfBlocks (F .ring) coefficient (r .shape .places) (r .shape .terms) (termBlockBy keys (r .window .first + k))) (at (F .elements) w)
 
 -- the window over the front of a buffer
 abbrev pub windowOver : (F : Field) → (ℕ → NoiseValue F) → List (List (List ℕ)) → WindowRows → List ℕ → List ℕ → List ℕ
