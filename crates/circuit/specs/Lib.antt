@@ -1,4 +1,5 @@
--- Circuits (document 02, 9): content, what is admitted, value, writing, reading, and that each content has one writing.
+-- Circuits (document 02, 9): content, what is admitted, value, writing, reading, what the code's answer stands for, and that each content has
+-- one writing.
 pub mod Content
 pub mod Admitted
 pub mod Value
