@@ -14,11 +14,11 @@ use Rattle.algebra.proofs.Choice.{choose-true}
 use Rattle.field.specs.Bytes.{lowOf, highOf}
 use Rattle.field.proofs.ByteWords.{lowOf-below, highOf-below}
 use Rattle.sbox.specs.Inner.Wide.{wideRows}
+use Rattle.sbox.proofs.Columns.{rows-of-column}
 use Rattle.aes128.specs.State.{four, column}
 use Rattle.aes128.specs.Inner.Words.{roundKeys}
 use Rattle.aes128.specs.Inner.Sizes.{IsWord, IsState}
 use Rattle.aes128.proofs.Sizes.{state-bytes}
-use Rattle.aes128.proofs.Wide.{wide-made}
 use Rattle.aes128.proofs.Words.{is-four, four-eq}
 use Rattle.tree.specs.Tree.{listed}
 use Rattle.tree.specs.Inner.Keys.{keysFor}
@@ -49,7 +49,9 @@ wide a = getD a 0 0 + getD a 1 0 * 2 ^ 24 + getD a 2 0 * 2 ^ 32 + getD a 3 0 * 2
 
 wide-read : (a : List ℕ) → IsWord a → wideRows (wide a) ≡ a
 unfolding wide
-wide-read a h = wide-made (h .size) (refl, h .bytes 0) (refl, h .bytes 1) (refl, h .bytes 2) (refl, h .bytes 3)
+wide-read a h =
+    rows-of-column (getD a 0 0) (getD a 1 0) (getD a 2 0) (getD a 3 0) (h .bytes 0) (h .bytes 1) (h .bytes 2) (h .bytes 3)
+    ∙ sym (is-four 0 a (h .size))
 
 wide-below : (a : List ℕ) → ((r : ℕ) → getD a r 0 < 256) → wide a < 2 ^ 64
 unfolding wide
