@@ -28,19 +28,19 @@ import re
 import sys
 
 os.chdir(os.path.join(os.path.dirname(os.path.abspath(__file__)), ".."))
+sys.path.insert(0, "tools")
+sys.dont_write_bytecode = True
+import definitions as reader  # noqa: E402
+
 PAGE = "docs/PROMISES.md"
 NOTES = "docs/landings"
 EXPORTS = sorted(glob.glob("crates/expander/src/*.rt"))
 MARKS = {"contract", "statement", "form", "tested", "assumed"}
 COLUMNS = "| no. | requirement | mark | said by | proof |"
-MODULE = r"Rattle·(\w+?)(?:·\w+)?\.(specs|proofs)\.([\w.]+)"
 NAME = re.compile(r"[^\s(){};,.λ⌜⌝]+")
-HEAD = re.compile(r"(?:unfoldable |abbrev )*(?:pub )?(?:record |data )?([^\s:({]+)(?: .*)? :(?: |$)")
 CITED = re.compile(r"`(crates/[^:`\s]+):([^`\s]+)`")
 
 faults = []
-definitions = {}  # (crate, module, name): its text
-brought = {}      # (crate, module): what each name or `as` name in it stands for
 
 
 def text_of(path):
@@ -51,42 +51,22 @@ def text_of(path):
 
 def imports(text):
     """What the `use` lines of a text bring of specs/: names as (crate, module, name), `as` names as (crate, module)."""
-    found = {}
-    for module, names in re.findall(r"(?m)^(?:pub |ghost )?use (\S+?)\.\{([^}]*)\};?$", text):
-        place = re.fullmatch(MODULE, module)
-        if place and place[2] == "specs":
-            for name in names.split(","):
-                found[name.strip()] = (place[1], place[3], name.strip())
-    for module, short in re.findall(r"(?m)^(?:ghost )?use (\S+) as (\w+);?$", text):
-        place = re.fullmatch(MODULE, module)
-        if place and place[2] == "specs":
-            found[short] = (place[1], place[3])
-    return found
+    return own_names(reader.imports(text))
 
 
-def read(crate, module, path):
-    text = re.sub(r"--[^\n]*", "", text_of(path))
-    brought[crate, module] = imports(text)
-    current = None
-    for line in text.split("\n"):
-        if re.match(r"(pub )?(use|mod) ", line):
-            continue
-        if line and not line.startswith(" "):
-            head = HEAD.match(line)
-            current = head[1] if head else line.split()[0]
-            definitions.setdefault((crate, module, current), "")
-        if current:
-            definitions[crate, module, current] += line + "\n"
+def own_names(names):
+    return {name: place[1] for name, place in names.items() if place[0] != "kit"}
+
+
+house = reader.House(".")
+definitions = {key: item.text + "\n" for key, item in house.definitions.items() if item.kind not in ("struct", "enum")}
+brought = {key: own_names(names) for key, names in house.brought.items() if isinstance(key, tuple) and key[1].split(".")[0] != "declared"}
 
 
 def resolved(key):
-    """The definition behind a name, through modules that pass it on."""
-    while key not in definitions:
-        onward = brought.get(key[:2], {}).get(key[2])
-        if onward is None or len(onward) != 3:
-            return None
-        key = onward
-    return key
+    """The definition of specs/ behind a name, through modules that pass it on; None where it is none."""
+    item = house.resolved(key)
+    return item.key if item and item.key in definitions else None
 
 
 def cited(text, names, own=None):
@@ -130,14 +110,6 @@ def stands(path, name):
     return bool(re.search(r"(?m)^\s*" + declared, text_of(path)))
 
 
-
-for crate in sorted(os.listdir("crates")):
-    top = os.path.join("crates", crate, "specs")
-    for folder, _, files in os.walk(top):
-        for file in sorted(files):
-            module = os.path.relpath(os.path.join(folder, file), top)[:-len(".antt")].replace("/", ".")
-            if module not in ("Lib", "Inner"):
-                read(crate, module, os.path.join(folder, file))
 
 from_contracts = set()
 for path in ["crates/pairing/src/lib.rt"] + EXPORTS:
