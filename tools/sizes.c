@@ -22,6 +22,8 @@
 #include <stdlib.h>
 #include <string.h>
 
+__extension__ typedef unsigned __int128 wide;
+
 enum {
     LEAVES = EXPANDER_LEAVES_MAX, TERMS = EXPANDER_TERMS_MAX, OUTPUTS = EXPANDER_OUTPUTS_MAX,
     NUMBER_BITS = 17, /* of a place */
@@ -97,7 +99,7 @@ static void ask_rows(void)
         memset(vector, 0, sizeof vector);
         for (unsigned k = 0; k < count; k++)
             for (unsigned j = 0; j < strip; j++) {
-                unsigned __int128 number = (unsigned __int128)(j + 1) << NUMBER_BITS * k;
+                wide number = (wide)(j + 1) << NUMBER_BITS * k;
                 size_t place = (size_t)(first + k) * strip + j;
                 vector[2 * place] = (uint64_t)number;
                 vector[2 * place + 1] = (uint64_t)(number >> 64);
@@ -105,7 +107,7 @@ static void ask_rows(void)
         accepted(expander_scalar_online(scalar_record, scalar_len, vector, 2 * (size_t)leaves, 0,
                                         outputs, out, 2 * (size_t)outputs).number);
         for (unsigned x = 0; x < outputs; x++) {
-            unsigned __int128 block = (unsigned __int128)out[2 * x + 1] << 64 | out[2 * x];
+            wide block = (wide)out[2 * x + 1] << 64 | out[2 * x];
             for (unsigned k = 0; k < count; k++) {
                 uint32_t number = (uint32_t)(block >> NUMBER_BITS * k) & ((1u << NUMBER_BITS) - 1);
                 if (number == 0 || number > strip)
