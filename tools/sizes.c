@@ -1,16 +1,16 @@
 /* Measures for docs/SIZES.md, on rows that the library gives; tools/sizes compiles and calls it.
  *
- *   sizes pair   D L N KEY             the lightest sum of two rows: x, x', weight; the lightest row: x,
- *                                      weight
- *   sizes every  D L N KEY             the weight of every sum of two rows, by a plain count
- *   sizes merged D L N KEY FIELD ROWS CHECKS
- *                                      rows that lie close together, at least ROWS: their number, and
- *                                      how many places a trial with them keeps
- *   sizes bias   D L N KEY T SAMPLES   the mean of (-1)^(u_x + u_x') over dealings, on the lightest
- *                                      pair, and the dealings in which the library's calls were asked
- *   sizes rows   D L N KEY             the places of every row
- *   sizes least  L N TRIALS            mean over drawn codes of the least weight of n rows of length 5 n
+ *   sizes pair   SIZES                the lightest sum of two rows: x, x', weight; the lightest row: x, weight
+ *   sizes every  SIZES                every sum of two rows by a plain count: x, x', weight
+ *   sizes rows   SIZES                the places of every row
+ *   sizes merged SIZES FIELD ROWS CHECKS
+ *                                     rows that lie close together, at least ROWS: their number, and how
+ *                                     many places a trial with them keeps
+ *   sizes bias   SIZES T SAMPLES      the lightest pair's weight, the mean of (-1)^(u_x + u_x') over
+ *                                     dealings, and in how many of them the library's calls were asked
+ *   sizes least  L OUTPUTS TRIALS     for the codes of a source: the mean of the least weight of a row
  *
+ * SIZES stands for D L OUTPUTS KEY.
  * KEY is 32 hexadecimal digits. In field 1 online adds what stands at a row's places. So vectors that
  * hold in strip i each place's own number, and 0 elsewhere, give term i's place of every row; a block
  * of 16 bytes has room for seven strips.
