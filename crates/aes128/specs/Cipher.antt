@@ -8,15 +8,15 @@ use Rattle.algebra.specs.Choice.{choose}
 use Rattle.sbox.specs.Byte.{xtime, mulBytes, sBox}
 use Rattle.aes128.specs.State.{four, column, byteAt, xorWord, xorState}
 
--- 5.1.1: SubBytes
+-- FIPS 197, 5.1.1: SubBytes
 unfoldable pub subBytes : List (List ℕ) → List (List ℕ)
 subBytes s = four (λ c. four (λ r. sBox (byteAt s r c)))
 
--- 5.1.2: ShiftRows: row r moves r places to the left
+-- FIPS 197, 5.1.2: ShiftRows: row r moves r places to the left
 unfoldable pub shiftRows : List (List ℕ) → List (List ℕ)
 shiftRows s = four (λ c. four (λ r. byteAt s r ((c + r) % 4)))
 
--- 5.1.3: one column of MixColumns
+-- FIPS 197, 5.1.3: one column of MixColumns
 unfoldable pub mixColumn : List ℕ → List ℕ
 mixColumn s =
     let s0 = getD s 0 0 in
@@ -29,11 +29,11 @@ mixColumn s =
     ∷ bitXor (bitXor (bitXor (mulBytes 3 s0) s1) s2) (mulBytes 2 s3)
     ∷ []
 
--- 5.1.3: MixColumns
+-- FIPS 197, 5.1.3: MixColumns
 unfoldable pub mixColumns : List (List ℕ) → List (List ℕ)
 mixColumns s = four (λ c. mixColumn (column s c))
 
--- 5.1.4: AddRoundKey
+-- FIPS 197, 5.1.4: AddRoundKey
 abbrev pub addRoundKey : List (List ℕ) → List (List ℕ) → List (List ℕ)
 addRoundKey s k = xorState s k
 
@@ -41,41 +41,41 @@ addRoundKey s k = xorState s k
 abbrev pub roundKey : List (List (List ℕ)) → ℕ → List (List ℕ)
 roundKey w i = getD w i []
 
--- 5.1: the state after the first AddRoundKey and n rounds
+-- FIPS 197, 5.1: the state after the first AddRoundKey and n rounds
 unfoldable pub rounds : List (List (List ℕ)) → ℕ → List (List ℕ) → List (List ℕ)
 rounds w zero s = addRoundKey s (roundKey w 0)
 rounds w (suc n) s = addRoundKey (mixColumns (shiftRows (subBytes (rounds w n s)))) (roundKey w (suc n))
 
--- 5.1: Cipher: nine rounds, and the last one without MixColumns
+-- FIPS 197, 5.1: Cipher: nine rounds, and the last one without MixColumns
 unfoldable pub cipher : List (List (List ℕ)) → List (List ℕ) → List (List ℕ)
 cipher w s = addRoundKey (shiftRows (subBytes (rounds w 9 s))) (roundKey w 10)
 
--- 5.2: RotWord
+-- FIPS 197, 5.2: RotWord
 abbrev pub rotWord : List ℕ → List ℕ
 rotWord a = four (λ r. getD a ((r + 1) % 4) 0)
 
--- 5.2: SubWord
+-- FIPS 197, 5.2: SubWord
 abbrev pub subWord : List ℕ → List ℕ
 subWord a = four (λ r. sBox (getD a r 0))
 
--- 5.2: x^n
+-- FIPS 197, 5.2: x^n
 unfoldable pub power : ℕ → ℕ
 power zero = 1
 power (suc n) = xtime (power n)
 
--- 5.2: the word Rcon[i], whose first byte is x^(i - 1)
+-- FIPS 197, 5.2: the word Rcon[i], whose first byte is x^(i - 1)
 abbrev pub rcon : ℕ → List ℕ
 rcon i = power (i - 1) ∷ 0 ∷ 0 ∷ 0 ∷ []
 
--- 5.2: what is added to w[i - 4], from w[i - 1]
+-- FIPS 197, 5.2: what is added to w[i - 4], from w[i - 1]
 unfoldable pub temp : ℕ → List ℕ → List ℕ
 temp i t = choose (eqb (i % 4) 0) (xorWord (subWord (rotWord t)) (rcon (i / 4))) t
 
--- 5.2: w[i], from the words before it
+-- FIPS 197, 5.2: w[i], from the words before it
 abbrev pub nextWord : ℕ → List (List ℕ) → List ℕ
 nextWord i w = xorWord (getD w (i - 4) []) (temp i (getD w (i - 1) []))
 
--- 5.2: the words w[0] to w[n + 3]
+-- FIPS 197, 5.2: the words w[0] to w[n + 3]
 unfoldable pub scheduleWords : List (List ℕ) → ℕ → List (List ℕ)
 scheduleWords key zero = key
 scheduleWords key (suc n) = scheduleWords key n ++ (nextWord (n + 4) (scheduleWords key n) ∷ [])
@@ -89,7 +89,7 @@ unfoldable pub keysOf : List (List ℕ) → ℕ → List (List (List ℕ))
 keysOf w zero = []
 keysOf w (suc n) = keysOf w n ++ (keyOf w n ∷ [])
 
--- 5.2: KeyExpansion: the forty-four words, as eleven round keys
+-- FIPS 197, 5.2: KeyExpansion: the forty-four words, as eleven round keys
 unfoldable pub keyExpansion : List (List ℕ) → List (List (List ℕ))
 keyExpansion key = keysOf (scheduleWords key 40) 11
 

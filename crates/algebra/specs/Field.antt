@@ -17,7 +17,7 @@ NoiseValue F = F .ring .group .Of
 abbrev pub Value : Field → Type 0
 Value F = F .scaled .group .Of
 
--- the laws of a field
+-- the laws of its ring, of the group that the ring scales, and of both codings
 pub record FieldLaws (F : Field) : Type 0 where
   pub ring : RingLaws (F .ring)
   pub scaled : ScaledLaws (F .ring) (F .scaled)

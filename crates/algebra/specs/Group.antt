@@ -4,7 +4,7 @@
 use mathlib.Core.Path.{_≡_}
 use mathlib.Core.Bool.{Bool, true}
 
--- a commutative group: its carrier, which values are its elements, zero, sum and difference
+-- the parts of a commutative group, whose laws are `GroupLaws`: its carrier, which values are its elements, zero, sum and difference
 pub record Group : Type 1 where
   pub Of : Type 0
   pub isElement : Of → Bool
@@ -26,7 +26,7 @@ pub record GroupLaws (G : Group) : Type 0 where
   pub zero-add : (a : G .Of) → Element G a → G .add (G .zero) a ≡ a
   pub add-sub : (a b : G .Of) → Element G a → Element G b → G .add b (G .sub a b) ≡ a
 
--- a commutative ring: a commutative group with one and a product
+-- the parts of a commutative ring, whose laws are `RingLaws`: a commutative group with one and a product
 pub record Ring : Type 1 where
   pub group : Group
   pub one : group .Of

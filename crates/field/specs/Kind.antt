@@ -24,7 +24,7 @@ binaryKind = record { field = binary; leaf = blockLeaf; coefficient = λ w. 1 }
 abbrev pub primeKind : Kind
 primeKind = record { field = primes; leaf = primeLeaf; coefficient = primeReduce }
 
--- the kind of a field byte: 1 is the binary field, 2 the prime field; no other byte is accepted
+-- the kind of a field byte: 1 is the binary field, any other the prime field; every call refuses a byte but 1 and 2 before it asks
 abbrev pub kindOf : ℕ → Kind
 kindOf field = choose (eqb field 1) binaryKind primeKind
 

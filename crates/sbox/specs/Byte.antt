@@ -2,16 +2,16 @@
 use Prim.Native.Nat.{ℕ, zero, suc, _+_, _*_, _/_, _%_, _^_}
 use lib.Bits.{bitXor}
 
--- 4.2: b times x: b shifted up one bit, with {1b} added if the bit that leaves is set
+-- FIPS 197, 4.2: b times x: b shifted up one bit, with {1b} added if the bit that leaves is set
 unfoldable pub xtime : ℕ → ℕ
 xtime b = bitXor (b / 128 * 0x1b) (b * 2 % 256)
 
--- 4.2: the sum of a x^i over the n low bits i that are set in b
+-- FIPS 197, 4.2: the sum of a x^i over the n low bits i that are set in b
 unfoldable pub multiples : ℕ → ℕ → ℕ → ℕ
 multiples zero a b = 0
 multiples (suc n) a b = bitXor (b % 2 * a) (multiples n (xtime a) (b / 2))
 
--- 4.2: the product of two bytes
+-- FIPS 197, 4.2: the product of two bytes
 unfoldable pub mulBytes : ℕ → ℕ → ℕ
 mulBytes a b = multiples 8 a b
 
@@ -20,7 +20,7 @@ unfoldable pub squares : ℕ → ℕ → ℕ
 squares zero b = 1
 squares (suc n) b = mulBytes (mulBytes b b) (squares n (mulBytes b b))
 
--- 4.4: the inverse of a byte that is not {00}, as b^254; {00} gives {00}. That it is the inverse stands in `Table`
+-- FIPS 197, 4.4: the inverse of a byte that is not {00}, as b^254; {00} gives {00}. That it is the inverse stands in `Table`
 unfoldable pub inverse : ℕ → ℕ
 inverse b = squares 7 b
 
@@ -28,7 +28,7 @@ inverse b = squares 7 b
 abbrev pub bit : ℕ → ℕ → ℕ
 bit b i = b / 2 ^ (i % 8) % 2
 
--- 5.1.1: bit i of the affine step, with the constant {63}
+-- FIPS 197, 5.1.1: bit i of the affine step, with the constant {63}
 abbrev pub affineBit : ℕ → ℕ → ℕ
 affineBit b i =
     bitXor (bit b i)
@@ -39,10 +39,10 @@ unfoldable pub fromBits : ℕ → (ℕ → ℕ) → ℕ
 fromBits zero f = 0
 fromBits (suc n) f = fromBits n f + f n * 2 ^ n
 
--- 5.1.1: the affine step
+-- FIPS 197, 5.1.1: the affine step
 unfoldable pub affine : ℕ → ℕ
 affine b = fromBits 8 (affineBit b)
 
--- 5.1.1: the S-box: the inverse, then the affine step
+-- FIPS 197, 5.1.1: the S-box: the inverse, then the affine step
 unfoldable pub sBox : ℕ → ℕ
 sBox b = affine (inverse b)

@@ -16,7 +16,7 @@ use Rattle.stock.specs.declared.Stock.{Stock}
 use Rattle.stock.specs.Label.{numberOf}
 use Rattle.stock.specs.Stock.{isCaller, nextOf, remaining, shareBlocks}
 use Rattle.stock.specs.Calls.{byNumber, draw, drawNumber, preview}
-use Rattle.stock_lists.specs.Lists.{Call, draws, previews, passes, Reply, Made, make, run, those, some, drawsOf, asksOf, aPassage, passed, handedBy, replies, replyNumbers, callsOf, asked, concerns, AlikeFor}
+use Rattle.stock_lists.specs.Lists.{Call, draws, previews, passes, Reply, Made, make, run, those, anyOf, drawsOf, asksOf, aPassage, passed, handedBy, replies, replyNumbers, callsOf, asked, concerns, AlikeFor}
 use Rattle.stock.proofs.Cases.{by-test}
 use Rattle.stock_lists.proofs.Blocks.{Well, Fresh, pass-cases}
 use Rattle.stock_lists.proofs.Picked.{those-in, those-out, some-in, some-out}
@@ -206,7 +206,7 @@ module _ {A : Type 0} (look : Reply → A) (k : ℕ) where
         ∙ ap (λ (h : List Made). sees look k s (callsOf h)) (sym (those-in (concerns k) m h on))
 
   -- where a passage is accepted, no first index may show
-  by-model : (s : Stock) → Well s → (calls : List Call) → (some passed (run s calls) ≡ true → Blind look) → ByModel s calls
+  by-model : (s : Stock) → Well s → (calls : List Call) → (anyOf passed (run s calls) ≡ true → Blind look) → ByModel s calls
   unfolding run those callsOf looks looksBy
   by-model s W [] b = refl
   by-model s W (draws l j c ∷ calls) b =
@@ -241,23 +241,23 @@ module _ {A : Type 0} (look : Reply → A) (k : ℕ) where
 -- ---- two lists
 
 -- an accepted passage is among made calls exactly if a passage is among what concerns a caller
-some-passed : (k : ℕ) (h : List Made) → some aPassage (callsOf (those (concerns k) h)) ≡ some passed h
-unfolding some those callsOf
+some-passed : (k : ℕ) (h : List Made) → anyOf aPassage (callsOf (those (concerns k) h)) ≡ anyOf passed h
+unfolding anyOf those callsOf
 some-passed k [] = refl
 some-passed k (m ∷ h) =
     let rest = callsOf (those (concerns k) h) in
     by-test (passed m)
     (λ y.
     let on : concerns k m ≡ true = by-test (asked k m) (λ t. rw t) (λ t. rw (t, y)) in
-    ap (λ (g : List Made). some aPassage (callsOf g)) (those-in (concerns k) m h on)
+    ap (λ (g : List Made). anyOf aPassage (callsOf g)) (those-in (concerns k) m h on)
     ∙ some-in aPassage (m .call) rest (and-left (aPassage (m .call)) _ y) ∙ sym (some-in passed m h y))
     (λ n.
     by-test (asked k m)
     (λ t.
     let on : concerns k m ≡ true = rw t in
-    ap (λ (g : List Made). some aPassage (callsOf g)) (those-in (concerns k) m h on)
+    ap (λ (g : List Made). anyOf aPassage (callsOf g)) (those-in (concerns k) m h on)
     ∙ some-out aPassage (m .call) rest (asks-passage k (m .call) t) ∙ some-passed k h)
-    (λ t. ap (λ (g : List Made). some aPassage (callsOf g)) (those-out (concerns k) m h (or-neither t n)) ∙ some-passed k h)
+    (λ t. ap (λ (g : List Made). anyOf aPassage (callsOf g)) (those-out (concerns k) m h (or-neither t n)) ∙ some-passed k h)
     ∙ sym (some-out passed m h n))
 
 looks-numbers : (h : List Made) → looks (λ r. r .number) h ≡ replyNumbers h
@@ -271,11 +271,11 @@ looks-replies [] = refl
 looks-replies (m ∷ h) = ap (λ (l : List Reply). m .reply ∷ l) (looks-replies h)
 
 module _ (k : ℕ) (s : Stock) (W : Well s) (calls other : List Call) (same : AlikeFor k (run s calls) (run s other)) where
-  alike : {A : Type 0} (look : Reply → A) → (some passed (run s calls) ≡ true → Blind look)
+  alike : {A : Type 0} (look : Reply → A) → (anyOf passed (run s calls) ≡ true → Blind look)
       → looks look (those (asked k) (run s calls)) ≡ looks look (those (asked k) (run s other))
   alike look b =
       let model = by-model look k s W calls b ∙ ap (sees look k s) same in
-      let passages = sym (some-passed k (run s calls)) ∙ ap (some aPassage) same ∙ some-passed k (run s other) in
+      let passages = sym (some-passed k (run s calls)) ∙ ap (anyOf aPassage) same ∙ some-passed k (run s other) in
       model ∙ sym (by-model look k s W other (λ e. b (passages ∙ e)))
 
   pub numbers-alike : replyNumbers (those (asked k) (run s calls)) ≡ replyNumbers (those (asked k) (run s other))
@@ -284,7 +284,7 @@ module _ (k : ℕ) (s : Stock) (W : Well s) (calls other : List Call) (same : Al
       ∙ alike (λ r. r .number) (λ e is L next from left l c. refl)
       ∙ looks-numbers (those (asked k) (run s other))
 
-  pub replies-alike : some passed (run s calls) ≡ false → replies (those (asked k) (run s calls)) ≡ replies (those (asked k) (run s other))
+  pub replies-alike : anyOf passed (run s calls) ≡ false → replies (those (asked k) (run s calls)) ≡ replies (those (asked k) (run s other))
   replies-alike none =
       sym (looks-replies (those (asked k) (run s calls)))
       ∙ alike (λ r. r) (λ e. absurd (false≢true (sym none ∙ e)))

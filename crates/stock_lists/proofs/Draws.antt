@@ -11,7 +11,7 @@ use Rattle.answer.specs.Numbers.{accepted}
 use Rattle.stock.specs.declared.Label.{Label}
 use Rattle.stock.specs.declared.Stock.{Stock}
 use Rattle.stock.specs.Calls.{openStock}
-use Rattle.stock_lists.specs.Lists.{Call, draws, previews, passes, Made, make, run, those, some, drawsOf, asksOf, noPreview, aPassage, passed, replies, replyNumbers, callsOf, asked, concerns}
+use Rattle.stock_lists.specs.Lists.{Call, draws, previews, passes, Made, make, run, those, anyOf, drawsOf, asksOf, noPreview, aPassage, passed, replies, replyNumbers, callsOf, asked, concerns}
 use Rattle.stock.proofs.Cases.{by-test}
 use Rattle.stock_lists.proofs.Claims.{lists}
 use Rattle.stock_lists.proofs.Picked.{those-in, those-out, some-in, some-out}
@@ -34,15 +34,15 @@ module _ {A : Type 0} where
       (λ t. those-out p a (those q l) t ∙ ih ∙ sym (those-out r a l (sym (both a) ∙ rw (y, t)))))
       (λ n. ap (those p) (those-out q a l n) ∙ ih ∙ sym (those-out r a l (sym (both a) ∙ rw n)))
 
-  some-none : (p : A → Bool) (l : List A) → those p l ≡ [] → some p l ≡ false
-  unfolding some those
+  some-none : (p : A → Bool) (l : List A) → those p l ≡ [] → anyOf p l ≡ false
+  unfolding anyOf those
   some-none p [] e = refl
   some-none p (a ∷ l) e =
       by-test (p a)
       (λ y. let q = sym (those-in p a l y) ∙ e in let z : _≡_ {A = ℕ} 0 1 = cc in absurd (omega arith))
       (λ n. some-out p a l n ∙ some-none p l (sym (those-out p a l n) ∙ e))
 
-  those-or : (p q : A → Bool) (l : List A) → some q l ≡ false → those (λ a. p a || q a) l ≡ those p l
+  those-or : (p q : A → Bool) (l : List A) → anyOf q l ≡ false → those (λ a. p a || q a) l ≡ those p l
   unfolding those
   those-or p q [] e = refl
   those-or p q (a ∷ l) e =

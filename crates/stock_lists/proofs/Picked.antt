@@ -6,7 +6,7 @@ use Prim.Native.Nat.{ℕ, _+_}
 use native.Mathlib.Omega.{arith}
 use Rattle.algebra.specs.Choice.{choose}
 use Rattle.stock.proofs.Cases.{by-test}
-use Rattle.stock_lists.specs.Lists.{Call, Made, those, some, passed, handedBy, handed, upToPassage, sincePassage, outputsOf, outputsIn}
+use Rattle.stock_lists.specs.Lists.{Call, Made, those, anyOf, passed, handedBy, handed, upToPassage, sincePassage, outputsOf, outputsIn}
 
 -- ---- picked calls
 
@@ -19,42 +19,42 @@ module _ {A : Type 0} (p : A → Bool) (a : A) (l : List A) where
   unfolding those
   those-out e = rw e
 
-  pub some-in : p a ≡ true → some p (a ∷ l) ≡ true
-  unfolding some
+  pub some-in : p a ≡ true → anyOf p (a ∷ l) ≡ true
+  unfolding anyOf
   some-in e = rw e
 
-  pub some-out : p a ≡ false → some p (a ∷ l) ≡ some p l
-  unfolding some
+  pub some-out : p a ≡ false → anyOf p (a ∷ l) ≡ anyOf p l
+  unfolding anyOf
   some-out e = rw e
 
 -- with one more at the end
 module _ {A : Type 0} (p : A → Bool) (a : A) where
-  some-more : (l : List A) → p a ≡ true → some p (l ++ (a ∷ [])) ≡ true
-  unfolding some
+  some-more : (l : List A) → p a ≡ true → anyOf p (l ++ (a ∷ [])) ≡ true
+  unfolding anyOf
   some-more [] e = rw e
   some-more (b ∷ l) e = by-test (p b) (λ y. rw y) (λ n. rw n (some-more l e))
 
-  some-same : (l : List A) → p a ≡ false → some p (l ++ (a ∷ [])) ≡ some p l
-  unfolding some
+  some-same : (l : List A) → p a ≡ false → anyOf p (l ++ (a ∷ [])) ≡ anyOf p l
+  unfolding anyOf
   some-same [] e = rw e
   some-same (b ∷ l) e = ap (λ (t : Bool). p b || t) (some-same l e)
 
 -- ---- the last accepted passage
 
 module _ (m : Made) (h : List Made) where
-  up-to-in : some passed (m ∷ h) ≡ true → upToPassage (m ∷ h) ≡ m ∷ upToPassage h
+  up-to-in : anyOf passed (m ∷ h) ≡ true → upToPassage (m ∷ h) ≡ m ∷ upToPassage h
   unfolding upToPassage
   up-to-in e = ap (λ (t : Bool). choose t (m ∷ upToPassage h) []) e
 
-  up-to-out : some passed (m ∷ h) ≡ false → upToPassage (m ∷ h) ≡ []
+  up-to-out : anyOf passed (m ∷ h) ≡ false → upToPassage (m ∷ h) ≡ []
   unfolding upToPassage
   up-to-out e = ap (λ (t : Bool). choose t (m ∷ upToPassage h) []) e
 
-  since-in : some passed (m ∷ h) ≡ true → sincePassage (m ∷ h) ≡ sincePassage h
+  since-in : anyOf passed (m ∷ h) ≡ true → sincePassage (m ∷ h) ≡ sincePassage h
   unfolding sincePassage
   since-in e = ap (λ (t : Bool). choose t (sincePassage h) (m ∷ h)) e
 
-  since-out : some passed (m ∷ h) ≡ false → sincePassage (m ∷ h) ≡ m ∷ h
+  since-out : anyOf passed (m ∷ h) ≡ false → sincePassage (m ∷ h) ≡ m ∷ h
   unfolding sincePassage
   since-out e = ap (λ (t : Bool). choose t (sincePassage h) (m ∷ h)) e
 
@@ -73,20 +73,20 @@ module _ (m : Made) (y : passed m ≡ true) where
 -- with one more call that is none
 module _ (m : Made) (n : passed m ≡ false) where
   pub up-to-not : (h : List Made) → upToPassage (h ++ (m ∷ [])) ≡ upToPassage h
-  unfolding upToPassage some
+  unfolding upToPassage anyOf
   up-to-not [] = up-to-out m [] (some-same passed m [] n)
   up-to-not (a ∷ h) =
       let e = some-same passed m (a ∷ h) n in
-      by-test (some passed (a ∷ h))
+      by-test (anyOf passed (a ∷ h))
       (λ t. up-to-in a (h ++ (m ∷ [])) (e ∙ t) ∙ ap (λ (l : List Made). a ∷ l) (up-to-not h) ∙ sym (up-to-in a h t))
       (λ t. up-to-out a (h ++ (m ∷ [])) (e ∙ t) ∙ sym (up-to-out a h t))
 
   pub since-not : (h : List Made) → sincePassage (h ++ (m ∷ [])) ≡ sincePassage h ++ (m ∷ [])
-  unfolding sincePassage some
+  unfolding sincePassage anyOf
   since-not [] = since-out m [] (some-same passed m [] n)
   since-not (a ∷ h) =
       let e = some-same passed m (a ∷ h) n in
-      by-test (some passed (a ∷ h))
+      by-test (anyOf passed (a ∷ h))
       (λ t. since-in a (h ++ (m ∷ [])) (e ∙ t) ∙ since-not h ∙ ap (λ (l : List Made). l ++ (m ∷ [])) (sym (since-in a h t)))
       (λ t. since-out a (h ++ (m ∷ [])) (e ∙ t) ∙ ap (λ (l : List Made). l ++ (m ∷ [])) (sym (since-out a h t)))
 

@@ -71,9 +71,9 @@ those p [] = []
 those p (a ∷ l) = choose (p a) (a ∷ those p l) (those p l)
 
 -- a test picks at least one
-unfoldable pub some : {A : Type 0} → (A → Bool) → List A → Bool
-some p [] = false
-some p (a ∷ l) = p a || some p l
+unfoldable pub anyOf : {A : Type 0} → (A → Bool) → List A → Bool
+anyOf p [] = false
+anyOf p (a ∷ l) = p a || anyOf p l
 
 -- draws, the draws of caller k, its draws and previews, the draws under a label of number L, all but previews, and passages
 abbrev pub aDraw : Call → Bool
@@ -154,11 +154,11 @@ heldLast L none (s ∷ l) = heldLast L (choose (eqb L (numberOf (s .label))) (he
 -- the made calls up to and with the last accepted passage, none where there is none; and those since
 unfoldable pub upToPassage : List Made → List Made
 upToPassage [] = []
-upToPassage (m ∷ h) = choose (some passed (m ∷ h)) (m ∷ upToPassage h) []
+upToPassage (m ∷ h) = choose (anyOf passed (m ∷ h)) (m ∷ upToPassage h) []
 
 unfoldable pub sincePassage : List Made → List Made
 sincePassage [] = []
-sincePassage (m ∷ h) = choose (some passed (m ∷ h)) (sincePassage h) (m ∷ h)
+sincePassage (m ∷ h) = choose (anyOf passed (m ∷ h)) (sincePassage h) (m ∷ h)
 
 -- the n that a call names
 abbrev pub outputsOf : Call → ℕ
@@ -229,7 +229,7 @@ pub record StockClaim (outputs : ℕ) (shares : List ℕ) (s : Stock) (calls : L
   pub refusals : (k : ℕ) (other : List Call) → AlikeFor k (run s calls) (run s other)
       → replyNumbers (those (asked k) (run s calls)) ≡ replyNumbers (those (asked k) (run s other))
   -- with no accepted passage, so are its replies
-  pub own : (k : ℕ) (other : List Call) → AlikeFor k (run s calls) (run s other) → some passed (run s calls) ≡ false
+  pub own : (k : ℕ) (other : List Call) → AlikeFor k (run s calls) (run s other) → anyOf passed (run s calls) ≡ false
       → replies (those (asked k) (run s calls)) ≡ replies (those (asked k) (run s other))
 
 abbrev pub StockLists : Type 0

@@ -8,7 +8,7 @@ use Rattle.aes128.specs.Cipher.{cipher, aes}
 abbrev pub childKey : ℕ → List (List ℕ)
 childKey c = four (λ column. four (λ row. c))
 
--- the child of block s under key k is E(k, s) exclusive-or s
+-- child c of block s is E(k, s) exclusive-or s, where k is the key of child c
 unfoldable pub child : ℕ → List (List ℕ) → List (List ℕ)
 child c s = xorState (aes (childKey c) s) s
 
