@@ -1,6 +1,6 @@
 #!/usr/bin/env python3
 """Holds the book of promises to what it is made of. Makes it in the folder that is given, and fails unless
-- every definition that a promise reaches, and every exported contract, stands in it exactly once;
+- every definition that a promise reaches, and every exported contract, stands in it exactly once, and after what it cites;
 - every link has its target, and every id stands once;
 - every row of docs/PROMISES.md stands in it, with one of the five marks;
 - every name of the kit that a shown definition uses is on the page of notation, and every name on that page exists: a name of the kit that
@@ -40,6 +40,10 @@ while left:
 for item in sorted(reached, key=str):
     if ids[made.anchor(item)] != 1:
         faults.append(f"{item.path}: {item.name} stands in the book {ids[made.anchor(item)]} times")
+order = {item: place for place, item in enumerate(i for under in book.under for i in under)}
+for item in sorted(reached, key=str):
+    late = [d for d in book.house.cites(item) if d in order and order[d] > order.get(item, len(order))]
+    faults += [f"{item.path}: {item.name} is shown before {d.name} of {d.path}, which it cites" for d in late]
 outside = {d for d in book.house.definitions.values() if not d.inner and d.kind not in ("struct", "enum")}
 for item in sorted(outside - reached, key=str):
     faults.append(f"{item.path}: {item.name} is in specs/ and not in the book")

@@ -18,6 +18,7 @@ class Definition:
         self.crate, self.module, self.name, self.kind = crate, module, name, kind
         self.path, self.line, self.comment, self.lines = path, line, comment, []
         self.fields, self.constructors = [], []
+        self.group, self.last = None, line  # the definition whose comment speaks of this one too, and the last line
 
     @property
     def key(self):
@@ -114,12 +115,16 @@ class House:
                     head = HEAD.match(line)
                     name = head[2] if head else line.split()[0]
                     if current is None or name != current.name:
+                        above = current
                         current = Definition(crate, module, name, (head and head[1]) or "definition", path, number, comment)
+                        current.group = (above.group or above) if above and not comment and number - above.last <= 2 else None
                         self.definitions[current.key] = current
                     current.lines.append(line)
+                    current.last = number
                     comment = []
                 elif current:
                     current.lines.append(line)
+                    current.last = number
                     member = re.match(r"  (?:pub )?([^\s:({]+)(?: [^\s:({]+)* :(?: |$)", line)
                     if member and current.kind == "record":
                         current.fields.append(member[1])
@@ -205,10 +210,14 @@ class House:
             if name and re.match(rf"\s*{re.escape(name)} [^:]*=", line):
                 local.update(w for w in re.findall(WORD, line.split(" = ")[0])[1:] if not self._constructor(w, brought, place))
         local |= self.bound(text)
+        depth = 0  # of braces: in a record that is given by its parts, the word before `=` is a part
         for match in TOKEN.finditer(text):
             kind, word = match.lastgroup, match.group()
+            depth += (word == "{") - (word == "}")
             if kind == "field":
                 yield "field", word, None
+            elif kind == "word" and depth and re.match(r"\s*=\s", text[match.end():]):
+                yield "part", word, None
             elif kind == "word":
                 yield self._word(word, brought, place, local, name)
             else:
@@ -258,10 +267,13 @@ class House:
                 out.append(target)
         return out
 
-    def _type(self, word, crate):
-        """The struct or enum that a word of the code names: the crate's own, or the only one of that name."""
-        found = [d for d in self.definitions.values() if d.kind in ("struct", "enum") and d.name == word]
-        return next((d for d in found if d.crate == crate), found[0] if len(found) == 1 else None)
+    def _type(self, word, item):
+        """The struct or enum that a word of the code names: the crate's own, or one that the file takes by `use`."""
+        if word == item.name or word in getattr(item, "constructors", ()):
+            return None
+        own = next((d for d in self.definitions.values() if d.kind in ("struct", "enum") and (d.crate, d.name) == (item.crate, word)), None)
+        taken = re.search(rf"(?m)^(?:pub )?use (\w+)::(?:\w+::)*{re.escape(word)};$", self._text(item.path)) if not own and word[:1].isupper() else None
+        return own or (self.definitions.get((taken[1], "declared." + word, word)) if taken else None)
 
     def shown(self, item):
         """The pieces of a definition's or contract's text, for showing it."""
@@ -274,8 +286,7 @@ class House:
         else:
             pieces = list(self.pieces(item.text, (item.crate, item.module), item.name, item.fields))
         if isinstance(item, Contract) or item.kind in ("struct", "enum"):
-            pieces = [(kind, word, target or (self._type(word, item.crate) if kind in ("word", "bound") and word != item.name else None))
-                      for kind, word, target in pieces]
+            pieces = [(kind, word, target or (self._type(word, item) if kind in ("word", "bound") else None)) for kind, word, target in pieces]
         self._pieces[item] = pieces
         return pieces
 
