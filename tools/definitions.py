@@ -54,10 +54,11 @@ def imports(text):
     for module, names in re.findall(r"(?m)^(?:pub |ghost )*use (\S+?)\.\{([^}]*)\};?$", text):
         place = MODULE.fullmatch(module)
         for name in (n.strip() for n in names.split(",")):
+            sign = name.strip("_") or name  # `_+_` is used as `+`
             if place:
-                found[name] = ("own", (place[1], place[2], name))
+                found[sign] = ("own", (place[1], place[2], name))
             elif name:
-                found[name.strip("_") if name.strip("_") else name] = ("kit", module, name)
+                found[sign] = ("kit", module, name)
     for module, short in re.findall(r"(?m)^(?:ghost )?use (\S+) as (\w+);?$", text):
         place = MODULE.fullmatch(module)
         if place:
@@ -103,7 +104,7 @@ class House:
             for number, line in enumerate(text.split("\n"), 1):
                 if line.startswith("--"):
                     comment.append(line)
-                elif re.match(r"(pub )?(use|mod) ", line):
+                elif re.match(r"(pub )?(use|mod) |infix[lr]? ", line):
                     if comment:
                         self.heads.setdefault((crate, module), comment)
                     comment = []
@@ -239,7 +240,7 @@ class House:
             if place + (bare,) in self.definitions:
                 return self.definitions[place + (bare,)]
             for item in self.definitions.values():
-                if item.kind == "data" and (item.crate, item.module) == place and bare in item.constructors:
+                if item.kind == "data" and (item.crate, item.module) == place and (bare in item.constructors or f"_{bare}_" in item.constructors):
                     return item
         return None
 
