@@ -225,8 +225,9 @@ class House:
                 yield kind, word, None
 
     def _constructor(self, word, brought, place):
+        """Whether a word of a pattern is a form of a data type, and no name that the pattern binds."""
         target = self._target(word, brought, place)
-        return bool(target)
+        return isinstance(target, tuple) or bool(target and target.kind in ("data", "enum"))
 
     def _target(self, word, brought, place):
         bare = word.strip("«»")
