@@ -1,5 +1,13 @@
 // What the calls answer: document 01's number, and the lengths written to each output buffer. A refused call has zero for
-// each length.
+// each length. And what the calls' tests ask of slices, lengths and windows.
+
+mod bytes;
+mod lengths;
+
+pub use bytes::any_above;
+pub use lengths::is_past;
+pub use lengths::is_short;
+pub use lengths::is_times;
 
 // The numbers of document 01's table, under the names of the C header.
 

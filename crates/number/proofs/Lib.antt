@@ -1,4 +1,5 @@
 -- The laws of `number`.
 pub mod Laws
+pub mod Records
 pub mod Places
 mod Steps

@@ -25,6 +25,11 @@ then (Refused n) k = Refused n
 unfoldable pub tested : {A : Type 0} → Step A → (A → Bool) → ℕ → Step A
 tested r ok k = then r λ x next. choose (ok x) (Whole (x, next)) (Refused k)
 
+-- a call on a record: refused with the record's number, else what it answers on the content
+unfoldable pub afterReading : {A O : Type 0} → Reading A → (ℕ → O) → (A → O) → O
+afterReading (Whole x) refusal answer = answer x
+afterReading (Refused n) refusal answer = refusal n
+
 -- the n bytes from a place on
 abbrev pub part : List ℕ → ℕ → ℕ → List ℕ
 part s at n = take n (drop at s)

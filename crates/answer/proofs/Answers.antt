@@ -1,0 +1,89 @@
+-- What a call returns, by its number, and that it returns 0 exactly if its tests are all met.
+use mathlib.Core.Path.{_≡_, refl, sym, ap, _∙_}
+use mathlib.Core.Bool.{true, false, true≢false}
+use mathlib.Core.List.{List}
+use mathlib.Core.Logic.{_↔_}
+use Prim.Native.Nat.{ℕ, zero, suc}
+use lib.Dec.{eqb}
+use borrow.Author.Tests.{ne-eqb}
+use Rattle.answer.specs.Tests.{Test, firstFault, AllMet}
+use Rattle.answer.specs.Outcome.{byNumber, answered, Outcome, TwoWritten, refusedNone, refusedOne, refusedTwo, wrote}
+use Rattle.answer.specs.Inner.Numbered.{numbered}
+use Rattle.answer.proofs.Faults.{all-met, no-fault}
+
+module _ {O : Type 0} (refusal : ℕ → O) (acceptance : O) where
+  by-fault : (n : ℕ) → eqb n 0 ≡ false → refusal n ≡ byNumber n refusal acceptance
+  unfolding byNumber
+  by-fault zero h = absurd (true≢false h)
+  by-fault (suc n) h = refl
+
+  by-none : (n : ℕ) → n ≡ 0 → acceptance ≡ byNumber n refusal acceptance
+  unfolding byNumber
+  by-none n e = rw e
+
+module _ {O : Type 0} (tests : List Test) (refusal : ℕ → O) (acceptance x : O) (n : ℕ) (e : n ≡ firstFault tests) where
+  -- refused with a number
+  pub refused-with : eqb n 0 ≡ false → x ≡ refusal n → x ≡ answered tests refusal acceptance
+  unfolding answered
+  refused-with h g = g ∙ rw (← e) (by-fault refusal acceptance n h)
+
+  -- accepted
+  pub accepted-with : n ≡ 0 → x ≡ acceptance → x ≡ answered tests refusal acceptance
+  unfolding answered
+  accepted-with z g = g ∙ rw (← e) (by-none refusal acceptance n z)
+
+-- a number and lengths, refused
+refused-is : {Written Lent : Type 0} (zeros : Written) (lent : Lent) (tests : List Test) (acceptance : Outcome Written Lent) (n : ℕ)
+    → n ≡ firstFault tests → eqb n 0 ≡ false
+    → record { number = n; written = zeros; lent = lent } ≡ answered tests (λ k. record { number = k; written = zeros; lent = lent }) acceptance
+refused-is zeros lent tests acceptance n e h = refused-with tests _ acceptance _ n e h refl
+
+-- as the three kinds of answers have it
+module _ {Lent : Type 0} (lent : Lent) (tests : List Test) (n : ℕ) (e : n ≡ firstFault tests) (h : eqb n 0 ≡ false) where
+  pub refused-none : (acceptance : Outcome (Unit {0}) Lent) → record { number = n; written = tt; lent = lent } ≡ answered tests (refusedNone lent) acceptance
+  refused-none acceptance = refused-is tt lent tests acceptance n e h
+
+  pub refused-one : (acceptance : Outcome ℕ Lent) → record { number = n; written = 0; lent = lent } ≡ answered tests (refusedOne lent) acceptance
+  refused-one acceptance = refused-is 0 lent tests acceptance n e h
+
+  pub refused-two : (acceptance : Outcome TwoWritten Lent)
+      → record { number = n; written = record { first = 0; second = 0 }; lent = lent } ≡ answered tests (refusedTwo lent) acceptance
+  refused-two acceptance = refused-is (record { first = 0; second = 0 }) lent tests acceptance n e h
+
+-- closes each refused return
+pub ruleset refused = (refused-none, refused-one, refused-two, ne-eqb)
+
+-- ---- accepted exactly if all tests are met
+
+-- for any answer that has a number
+module _ {O : Type 0} (number : O → ℕ) (refusal : ℕ → O) (acceptance : O) (gives : (n : ℕ) → number (refusal n) ≡ n) (none : number acceptance ≡ 0) where
+  by-number : (n : ℕ) → number (byNumber n refusal acceptance) ≡ n
+  unfolding byNumber
+  by-number zero = none
+  by-number (suc n) = gives (suc n)
+
+  pub number-of : (tests : List Test) → number (answered tests refusal acceptance) ≡ firstFault tests
+  unfolding answered
+  number-of tests = by-number (firstFault tests)
+
+  pub accepts-by : (tests : List Test) → numbered tests ≡ true → AllMet tests ↔ number (answered tests refusal acceptance) ≡ 0
+  accepts-by tests r = (
+    λ m. number-of tests ∙ no-fault tests m,
+    λ e. all-met tests r (sym (number-of tests) ∙ e),
+  )
+
+  -- what an accepted call answers
+  pub accepted-is : (tests : List Test) → number (answered tests refusal acceptance) ≡ 0 → answered tests refusal acceptance ≡ acceptance
+  unfolding answered byNumber
+  accepted-is tests e = ap (λ (n : ℕ). byNumber n refusal acceptance) (sym (number-of tests) ∙ e)
+
+-- the same of a number and lengths
+module _ {Written Lent : Type 0} (zeros written : Written) (lent after : Lent) (tests : List Test) where
+  abbrev call : Outcome Written Lent
+  call = answered tests (λ k. record { number = k; written = zeros; lent = lent }) (wrote written after)
+
+  pub outcome-accepts : numbered tests ≡ true → AllMet tests ↔ call .number ≡ 0
+  outcome-accepts = accepts-by (λ (o : Outcome Written Lent). o .number) _ _ (λ n. refl) refl tests
+
+  pub outcome-is : call .number ≡ 0 → call ≡ wrote written after
+  outcome-is = accepted-is (λ (o : Outcome Written Lent). o .number) _ _ (λ n. refl) refl tests
