@@ -19,8 +19,8 @@ use Rattle.dealt_pads.proofs.Taken.{named, within}
 below : (l l′ : call.TriplesLent) (i : ℕ) → FormedAt l l′ i → (i < length (l .choices)) × (i < length (l′ .choices))
 below l l′ i F =
     let w = within (F .first) (l .choices) (l .pads) (l′ .messages) i (F .taken) in (
-      omega (arith, w .0, accepts l .1 (F .accepted) .pads-length),
-      omega (arith, w .1, accepts l′ .1 (F .accepted′) .messages-length),
+      omega (arith, w .0, accepts l .1 (F .accepted) .all),
+      omega (arith, w .1, accepts l′ .1 (F .accepted′) .all),
     )
 
 pub triples : Triples

@@ -1,7 +1,7 @@
 // The call that forms AND triples, by its exported name.
 ghost use mathlib.Core.Path.{_≡_};
-ghost use Rattle.messages.specs.Outcome.{outcome};
-ghost use Rattle.triples.specs.Call.{triples};
+ghost use Rattle.answer.specs.Outcome.{outcomeOne};
+ghost use Rattle.triples.specs.Call.{lentTriples, triples};
 use answer::OneLength;
 
 // An end's triples, from its choices and pads in one pairing and its messages in another.
@@ -12,8 +12,8 @@ pub extern "C" fn expander_triples(
     messages: &[u8],
     triples_out: &mut [u8],
 ) -> OneLength
-    ensures { λ r. ⌜ outcome r (record { choices = now (choices .exit); pads = now (pads .exit); messages = now (messages .exit); triples = now («triples_out» .exit) })
-        ≡ triples (record { choices = now (choices .entry); pads = now (pads .entry); messages = now (messages .entry); triples = now («triples_out» .entry) }) ⌝ }
+    ensures { λ r. ⌜ outcomeOne r (lentTriples (now (choices .exit)) (now (pads .exit)) (now (messages .exit)) (now («triples_out» .exit)))
+        ≡ triples (lentTriples (now (choices .entry)) (now (pads .entry)) (now (messages .entry)) (now («triples_out» .entry))) ⌝ }
 {
     triples::triples(choices, pads, messages, triples_out)
 }

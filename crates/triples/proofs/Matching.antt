@@ -12,11 +12,12 @@ use lib.ListN.{length, getD, take, List·getD-append}
 use lib.Seq.{getD-append-add}
 use borrow.Author.Tests.{eqb-true}
 use Rattle.algebra.specs.Coding.{at, over}
-use Rattle.messages.specs.Outcome.{Outcome}
+use Rattle.answer.specs.Outcome.{Outcome}
+use Rattle.answer.proofs.Answers.{outcome-is}
+use Rattle.algebra.proofs.Tests.{and-left, and-right}
 use Rattle.messages.specs.Opening.{NamedAt}
 use Rattle.messages.proofs.Fronts.{length-front, byte-front}
-use Rattle.messages.proofs.Numbers.{both}
-use Rattle.messages.proofs.Opening.{outcome-accepted, named-byte}
+use Rattle.messages.proofs.Opening.{named-byte}
 use Rattle.triples.specs.Triple.{Triple, tripleBytes, tripleFrom, messageBit, padBit, tripleOf}
 use Rattle.triples.specs.Call.{TriplesLent, triples}
 use Rattle.triples.specs.Matching.{MatchingAt, Matching, Match, ZeroOrOne, triplesOf}
@@ -29,8 +30,8 @@ abbrev onBits : (ℕ → Bool) → Bool
 onBits f = f 0 && f 1
 
 on-bit : (f : ℕ → Bool) → onBits f ≡ true → (n : ℕ) → n ≤ 1 → f n ≡ true
-on-bit f e zero h = both (f 0) (f 1) e .0
-on-bit f e (suc zero) h = both (f 0) (f 1) e .1
+on-bit f e zero h = and-left (f 0) (f 1) e
+on-bit f e (suc zero) h = and-right (f 0) (f 1) e
 on-bit f e (suc (suc n)) h = absurd (omega arith)
 
 -- the first of two values for 0, else the second
@@ -113,7 +114,7 @@ module _ (l : TriplesLent) (e : triples l .number ≡ 0) where
   written-is : triplesOf l ≡ front
   unfolding triples
   written-is =
-      ap (λ (o : Outcome TriplesLent). take (o .written) (o .lent .triples)) (outcome-accepted _ _ _ _ e)
+      ap (λ (o : Outcome ℕ TriplesLent). take (o .written) (o .lent .triples)) (outcome-is _ _ _ _ _ e)
       ∙ rw (mul-comm 3 (length (l .choices)))
 
   byte-is : (k m : ℕ) → k < length (l .choices) → m < 3
@@ -133,7 +134,7 @@ module _ (l : TriplesLent) (e : triples l .number ≡ 0) where
   unfolding tripleOf
   byte-bit k m h =
       bits-of (getD (l .choices) k 0) (padBit (l .pads) k) (messageBit (l .messages) k 0) (messageBit (l .messages) k 1)
-      (accepts l .1 e .bits k h) (omega arith) (omega arith) (omega arith) m
+      (accepts l .1 e .all .1 .1 .1 .0 k) (omega arith) (omega arith) (omega arith) m
 
 pub zero-or-one : ZeroOrOne
 zero-or-one l e j h =
@@ -175,7 +176,7 @@ pub length-triples : (l : TriplesLent) → triples l .number ≡ 0 → length (t
 length-triples l e =
     ap length (written-is l e)
     ∙ length-front tripleBytes wide-triple (length (l .choices)) (tripleOf (l .choices) (l .pads) (l .messages)) (l .triples)
-    (omega (arith, accepts l .1 e .room))
+    (omega (arith, accepts l .1 e .all))
 
 -- the triples of the front of a list, and those past it
 pub triple-front : (front rest : List ℕ) (k count : ℕ) → length front ≡ count * 3 → k < count

@@ -1,14 +1,14 @@
 -- The call that forms an end's triples (document 02, 6): from everything lent to everything that stands on return, the input
 -- slices too. It tests 3 (lengths not of one count of outputs), 13, 8 (a choice above 1), in that order.
-use mathlib.Core.Bool.{not, _&&_}
-use mathlib.Core.List.{List}
+use mathlib.Core.Path.{_≡_}
+use mathlib.Core.Logic.{_↔_}
+use mathlib.Core.List.{List, [], _∷_}
 use Prim.Native.Nat.{ℕ, _*_}
-use lib.Dec.{ltb, eqb}
 use lib.ListN.{length}
 use Rattle.algebra.specs.Coding.{over}
 use Rattle.answer.specs.Numbers.{badLength, notElement, bufferShort}
-use Rattle.messages.specs.Outcome.{Outcome, outcomeOf, firstFault}
-use Rattle.pads.specs.Bytes.{anyAbove}
+use Rattle.answer.specs.Tests.{Test, _is_, _atMost_, allAtMost, _or_, AllMet}
+use Rattle.answer.specs.Outcome.{Outcome, answered, refusedOne, wrote}
 use Rattle.triples.specs.Triple.{tripleBytes, tripleOf}
 
 -- what is lent: the choices and the pads of the first pairing, the messages of the second, and the output buffer
@@ -18,21 +18,26 @@ pub record TriplesLent : Type 0 where
   pub messages : List ℕ
   pub triples : List ℕ
 
--- its number: for c choices, a byte each, 16 c bytes of pads and 32 c of messages, and room is asked for 3 c
-abbrev pub triplesNumber : List ℕ → List ℕ → List ℕ → ℕ → ℕ
-triplesNumber choices pads messages room =
-    firstFault
-    (not (eqb (length pads) (16 * length choices) && eqb (length messages) (32 * length choices))) badLength
-    (ltb room (3 * length choices)) bufferShort
-    (anyAbove 1 choices) notElement
+abbrev pub lentTriples : List ℕ → List ℕ → List ℕ → List ℕ → TriplesLent
+lentTriples choices pads messages triples = record { choices = choices; pads = pads; messages = messages; triples = triples }
+
+-- its tests: for c choices, a byte each, 16 c bytes of pads and 32 c of messages, and room is asked for 3 c
+abbrev pub triplesTests : List ℕ → List ℕ → List ℕ → ℕ → List Test
+triplesTests choices pads messages room =
+    length pads is 16 * length choices or badLength
+    ∷ length messages is 32 * length choices or badLength
+    ∷ 3 * length choices atMost room or bufferShort
+    ∷ allAtMost 1 choices or notElement
+    ∷ []
 
 -- the call: three bytes an output
-unfoldable pub triples : TriplesLent → Outcome TriplesLent
+unfoldable pub triples : TriplesLent → Outcome ℕ TriplesLent
 triples l =
-    outcomeOf (triplesNumber (l .choices) (l .pads) (l .messages) (length (l .triples))) (3 * length (l .choices)) l
-    (record {
-      choices = l .choices;
-      pads = l .pads;
-      messages = l .messages;
-      triples = over tripleBytes (length (l .choices)) (tripleOf (l .choices) (l .pads) (l .messages)) (l .triples);
-    })
+    answered (triplesTests (l .choices) (l .pads) (l .messages) (length (l .triples))) (refusedOne l)
+    (wrote (3 * length (l .choices))
+    (lentTriples (l .choices) (l .pads) (l .messages)
+    (over tripleBytes (length (l .choices)) (tripleOf (l .choices) (l .pads) (l .messages)) (l .triples))))
+
+-- the call returns 0 exactly if its tests are all met
+abbrev pub Accepts : Type 0
+Accepts = (l : TriplesLent) → AllMet (triplesTests (l .choices) (l .pads) (l .messages) (length (l .triples))) ↔ triples l .number ≡ 0

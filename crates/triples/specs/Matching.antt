@@ -8,7 +8,7 @@ use lib.Bits.{bitAnd, bitXor}
 use lib.ListN.{length, take}
 use Rattle.algebra.specs.Coding.{at}
 use Rattle.messages.specs.Opening.{NamedAt}
-use Rattle.pads.specs.Bytes.{Bits}
+use Rattle.answer.specs.Bytes.{Bits}
 use Rattle.triples.specs.Triple.{Triple, tripleBytes}
 use Rattle.triples.specs.Call.{TriplesLent, triples}
 

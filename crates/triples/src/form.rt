@@ -5,7 +5,8 @@ ghost use lib.ListN.{length};
 ghost use Rattle.algebra.specs.Coding.{over};
 ghost use Rattle.messages.specs.Inner.Writing.{withValue};
 ghost use Rattle.triples.specs.Triple.{tripleBytes, tripleOf};
-ghost use Rattle.triples.specs.Admitted.{TriplesAdmitted};
+ghost use Rattle.answer.specs.Tests.{AllMet};
+ghost use Rattle.triples.specs.Call.{triplesTests};
 
 // Writes the triple of output k.
 fn put_triple(k: usize, choices: &[u8], pads: &[u8], messages: &[u8], triples: &mut [u8])
@@ -26,9 +27,10 @@ fn put_triple(k: usize, choices: &[u8], pads: &[u8], messages: &[u8], triples: &
 
 // Writes the triple of each output.
 pub fn write_triples(choices: &[u8], pads: &[u8], messages: &[u8], triples_out: &mut [u8])
-    requires { ⌜ TriplesAdmitted (record { choices = now choices; pads = now pads; messages = now messages; triples = now «triples_out» }) ⌝ }
+    requires { ⌜ AllMet (triplesTests (now choices) (now pads) (now messages) (length (now «triples_out»))) ⌝ }
     ensures { λ _. ⌜ now («triples_out» .exit)
-        ≡ over tripleBytes (length (now (choices .entry))) (tripleOf (now (choices .entry)) (now (pads .entry)) (now (messages .entry))) (now («triples_out» .entry)) ⌝ }
+        ≡ over tripleBytes (length (now (choices .entry))) (tripleOf (now (choices .entry)) (now (pads .entry)) (now (messages .entry)))
+        (now («triples_out» .entry)) ⌝ }
 {
     let mut k: usize = 0;
     while k < choices.len() {

@@ -1,8 +1,8 @@
 // AND triples: an end's three bits of each output, from its choices and pads in one pairing and its messages in another with
 // the roles exchanged.
 ghost use mathlib.Core.Path.{_≡_};
-ghost use Rattle.messages.specs.Outcome.{outcome};
-ghost use Rattle.triples.specs.Call.{triples};
+ghost use Rattle.answer.specs.Outcome.{outcomeOne};
+ghost use Rattle.triples.specs.Call.{lentTriples, triples};
 
 mod form;
 mod number;
@@ -13,8 +13,8 @@ use number::triples_number;
 
 // Forms the triple of each output, three bytes.
 pub fn triples(choices: &[u8], pads: &[u8], messages: &[u8], triples_out: &mut [u8]) -> OneLength
-    ensures { λ r. ⌜ outcome r (record { choices = now (choices .exit); pads = now (pads .exit); messages = now (messages .exit); triples = now («triples_out» .exit) })
-        ≡ triples (record { choices = now (choices .entry); pads = now (pads .entry); messages = now (messages .entry); triples = now («triples_out» .entry) }) ⌝ }
+    ensures { λ r. ⌜ outcomeOne r (lentTriples (now (choices .exit)) (now (pads .exit)) (now (messages .exit)) (now («triples_out» .exit)))
+        ≡ triples (lentTriples (now (choices .entry)) (now (pads .entry)) (now (messages .entry)) (now («triples_out» .entry))) ⌝ }
 {
     let number = triples_number(choices, pads, messages, triples_out.len());
     if number != 0 {

@@ -1,26 +1,29 @@
 // The number that the call returns, by document 02's tests and in their order.
 ghost use mathlib.Core.Path.{_≡_};
-ghost use Rattle.triples.specs.Call.{triplesNumber};
+ghost use Rattle.answer.specs.Tests.{firstFault};
+ghost use Rattle.triples.specs.Call.{triplesTests};
 use answer::BAD_LENGTH;
 use answer::BUFFER_SHORT;
 use answer::NOT_ELEMENT;
-use messages::first_fault;
-use messages::is_short;
-use messages::is_times;
-use pads::any_above;
+use answer::any_above;
+use answer::is_short;
+use answer::is_times;
 
 // The number for a buffer of `room` bytes.
 pub fn triples_number(choices: &[u8], pads: &[u8], messages: &[u8], room: usize) -> u32
-    ensures { λ r. ⌜ r ≡ triplesNumber (now (choices .entry)) (now (pads .entry)) (now (messages .entry)) room ⌝ }
+    ensures { λ r. ⌜ r ≡ firstFault (triplesTests (now (choices .entry)) (now (pads .entry)) (now (messages .entry)) room) ⌝ }
 {
-    let count = choices.len();
-    let fits = is_times(pads.len(), 16, count) & is_times(messages.len(), 32, count);
-    first_fault(
-        !fits,
-        BAD_LENGTH,
-        is_short(room, 3, count),
-        BUFFER_SHORT,
-        any_above(1, choices),
-        NOT_ELEMENT,
-    )
+    if !is_times(pads.len(), 16, choices.len()) {
+        return BAD_LENGTH;
+    }
+    if !is_times(messages.len(), 32, choices.len()) {
+        return BAD_LENGTH;
+    }
+    if is_short(room, 3, choices.len()) {
+        return BUFFER_SHORT;
+    }
+    if any_above(1, choices) {
+        return NOT_ELEMENT;
+    }
+    0
 }

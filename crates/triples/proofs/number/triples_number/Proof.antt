@@ -1,6 +1,6 @@
--- `triples::number::triples_number` meets its contract, by the callees' contracts.
+-- `triples::number::triples_number` meets its contract, test by test.
 use borrow.Author.Needs.{needs}
-use Rattle.triples.proofs.Accepts.{triples-is}
+use Rattle.answer.proofs.Faults.{chain}
 use Rattle.triples.proofs.number.triples_number.Statement.{statement}
 use Rattle.triples.proofs.number.triples_number.Tie as tie
 
@@ -9,9 +9,12 @@ triples-number-spec =
     tie.close
     (tie.spec
     (λ c κs. search needs)  -- is-times-requires
+    (λ c. search chain depth 9)  -- returns
     (λ c κs. search needs)  -- is-times-requires-2
+    (λ c. search chain depth 9)  -- returns-2
     (λ c κs. search needs)  -- is-short-requires
+    (λ c. search chain depth 9)  -- returns-3
     (λ c κs. search needs)  -- any-above-requires
-    (λ c κs. search needs)  -- first-fault-requires
-    (λ c. search triples-is)  -- returns
+    (λ c. search chain depth 9)  -- returns-4
+    (λ c. search chain depth 9)  -- returns-5
     )
