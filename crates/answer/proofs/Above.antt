@@ -10,7 +10,7 @@ use lib.ListN.{length, getD, drop, drop-of-length-le}
 use lib.Seq.{drop-cons}
 use borrow.Author.Tests.{ltb-false, lt-ltb, le-ltb}
 use Rattle.algebra.proofs.Tests.{or-none}
-use Rattle.answer.specs.Bytes.{anyAbove}
+use Rattle.answer.specs.Bytes.{anyAbove, Bits}
 
 -- no byte is above the limit
 pub none-above : (limit : ℕ) (bytes : List ℕ) → anyAbove limit bytes ≡ false → (k : ℕ) → getD bytes k 0 ≤ limit
@@ -24,6 +24,10 @@ unfolding anyAbove
 above-none limit [] all = refl
 above-none limit (b ∷ bytes) all =
     rw (le-ltb limit b (all 0 (omega arith))) (above-none limit bytes (λ k h. all (suc k) (omega arith)))
+
+-- the bytes of a slice are bits everywhere, if those below its length are
+pub bits-all : (count : ℕ) (bytes : List ℕ) → length bytes ≡ count → Bits count bytes → (k : ℕ) → getD bytes k 0 ≤ 1
+bits-all count bytes e all = none-above 1 bytes (above-none 1 bytes (λ k h. all k (omega arith)))
 
 -- the search, where the first i bytes decide nothing
 module _ (limit : ℕ) (l : List ℕ) (i : ℕ) (so : anyAbove limit l ≡ anyAbove limit (drop i l)) where

@@ -1,7 +1,7 @@
 // The three calls that pass messages of the callers' own choosing under pads, by their exported names.
 ghost use mathlib.Core.Path.{_≡_};
-ghost use Rattle.messages.specs.Outcome.{outcome};
-ghost use Rattle.messages.specs.Calls.{correctionBits, maskMessages, unmaskMessages};
+ghost use Rattle.answer.specs.Outcome.{outcomeOne};
+ghost use Rattle.messages.specs.Calls.{lentCorrection, lentMask, lentUnmask, correctionBits, maskMessages, unmaskMessages};
 use answer::OneLength;
 
 // The noise end's bits to send: choice exclusive-or wanted bit of each output.
@@ -12,8 +12,8 @@ pub extern "C" fn expander_correction_bits(
     wanted: &[u8],
     bits_out: &mut [u8],
 ) -> OneLength
-    ensures { λ r. ⌜ outcome r (record { choices = now (choices .exit); wanted = now (wanted .exit); bits = now («bits_out» .exit) })
-        ≡ correctionBits count (record { choices = now (choices .entry); wanted = now (wanted .entry); bits = now («bits_out» .entry) }) ⌝ }
+    ensures { λ r. ⌜ outcomeOne r (lentCorrection (now (choices .exit)) (now (wanted .exit)) (now («bits_out» .exit)))
+        ≡ correctionBits count (lentCorrection (now (choices .entry)) (now (wanted .entry)) (now («bits_out» .entry))) ⌝ }
 {
     messages::correction_bits(count, choices, wanted, bits_out)
 }
@@ -27,8 +27,8 @@ pub extern "C" fn expander_mask_messages(
     messages: &[u8],
     answers_out: &mut [u8],
 ) -> OneLength
-    ensures { λ r. ⌜ outcome r (record { bits = now (bits .exit); pads = now (pads .exit); messages = now (messages .exit); answers = now («answers_out» .exit) })
-        ≡ maskMessages count (record { bits = now (bits .entry); pads = now (pads .entry); messages = now (messages .entry); answers = now («answers_out» .entry) }) ⌝ }
+    ensures { λ r. ⌜ outcomeOne r (lentMask (now (bits .exit)) (now (pads .exit)) (now (messages .exit)) (now («answers_out» .exit)))
+        ≡ maskMessages count (lentMask (now (bits .entry)) (now (pads .entry)) (now (messages .entry)) (now («answers_out» .entry))) ⌝ }
 {
     messages::mask_messages(count, bits, pads, messages, answers_out)
 }
@@ -42,8 +42,8 @@ pub extern "C" fn expander_unmask_messages(
     answers: &[u8],
     messages_out: &mut [u8],
 ) -> OneLength
-    ensures { λ r. ⌜ outcome r (record { wanted = now (wanted .exit); pads = now (pads .exit); answers = now (answers .exit); messages = now («messages_out» .exit) })
-        ≡ unmaskMessages count (record { wanted = now (wanted .entry); pads = now (pads .entry); answers = now (answers .entry); messages = now («messages_out» .entry) }) ⌝ }
+    ensures { λ r. ⌜ outcomeOne r (lentUnmask (now (wanted .exit)) (now (pads .exit)) (now (answers .exit)) (now («messages_out» .exit)))
+        ≡ unmaskMessages count (lentUnmask (now (wanted .entry)) (now (pads .entry)) (now (answers .entry)) (now («messages_out» .entry))) ⌝ }
 {
     messages::unmask_messages(count, wanted, pads, answers, messages_out)
 }

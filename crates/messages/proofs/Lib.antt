@@ -1,9 +1,6 @@
 -- The laws of `messages`: lengths and numbers, which input is accepted, what the loops write, and that the message wanted is
 -- opened.
-pub mod Lengths
-pub mod Numbers
 pub mod Accepts
 pub mod Turns
-pub mod Outcomes
 pub mod Fronts
 pub mod Opening

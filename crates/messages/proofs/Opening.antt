@@ -10,20 +10,15 @@ use lib.Seq.{getD-drop, getD-take}
 use Rattle.algebra.specs.Coding.{over}
 use Rattle.field.proofs.Xor.{xor-back}
 use Rattle.pads.specs.Choice.{padAt, messageAt}
-use Rattle.messages.specs.Outcome.{Outcome, outcomeOf}
+use Rattle.answer.specs.Outcome.{Outcome}
+use Rattle.answer.proofs.Above.{bits-all}
+use Rattle.answer.proofs.Answers.{outcome-is}
 use Rattle.messages.specs.Bytes.{Two, byte, sixteen, thirtyTwo}
 use Rattle.messages.specs.Calls.{CorrectionLent, MaskLent, UnmaskLent, correctionBit, answerOf, openedOf, correctionBits, maskMessages, unmaskMessages}
 use Rattle.messages.specs.Opening.{Batch, BatchFits, NamedAt, Opening, correctedBatch, sentBits, maskedBatch, sentAnswers, openedBatch}
 use Rattle.messages.proofs.Accepts.{accepts}
 use Rattle.messages.proofs.Turns.{wide-byte, wide-sixteen, wide-two}
 use Rattle.messages.proofs.Fronts.{value-over, length-front, byte-front, flat-equal, take-flat, byte-0, byte-1}
-
--- what an accepted answer says
-pub outcome-accepted : {L : Type 0} (n written : ℕ) (lent after : L) → outcomeOf n written lent after .number ≡ 0
-    → outcomeOf n written lent after ≡ record { number = 0; written = written; lent = after }
-unfolding outcomeOf
-outcome-accepted zero written lent after e = refl
-outcome-accepted (suc n) written lent after e = absurd (omega arith)
 
 -- ---- bits
 
@@ -70,20 +65,14 @@ named-byte choices noisePads scalarPads k N =
 module _ (B : Batch) (F : BatchFits B) (N : (k : ℕ) → k < B .count → NamedAt (B .choices) (B .noisePads) (B .scalarPads) k) where
   corrected-zero : correctedBatch B .number ≡ 0
   corrected-zero =
-      accepts .correction (B .count) _ .0
-      (record {
-        batch = F .batch;
-        choices-length = F .choices-length;
-        wanted-length = F .wanted-length;
-        choices-bits = λ k h. N k h .bit;
-        wanted-bits = F .wanted-bits;
-        room = F .bits-room;
-      })
+      let choices-all = bits-all (B .count) (B .choices) (F .choices-length) (λ k h. N k h .bit) in
+      let wanted-all = bits-all (B .count) (B .wanted) (F .wanted-length) (F .wanted-bits) in
+      accepts .correction (B .count) _ .0 (record { all = search })
 
   bits-are : sentBits B ≡ take (B .count * 1) (over byte (B .count) (correctionBit (B .choices) (B .wanted)) (B .bitsOut))
   unfolding correctionBits
   bits-are =
-      ap (λ (o : Outcome CorrectionLent). take (o .written) (o .lent .bits)) (outcome-accepted _ _ _ _ corrected-zero)
+      ap (λ (o : Outcome ℕ CorrectionLent). take (o .written) (o .lent .bits)) (outcome-is _ _ _ _ _ corrected-zero)
       ∙ rw (mul-one (B .count))
 
   bits-length : length (sentBits B) ≡ B .count
@@ -100,15 +89,8 @@ module _ (B : Batch) (F : BatchFits B) (N : (k : ℕ) → k < B .count → Named
 
   masked-zero : maskedBatch B .number ≡ 0
   masked-zero =
-      accepts .mask (B .count) _ .0
-      (record {
-        batch = F .batch;
-        bits-length = bits-length;
-        pads-length = F .scalarPads-length;
-        messages-length = F .messages-length;
-        bits-bits = λ k h. rw (bit-is k h) (bit-xor _ _ (N k h .bit) (F .wanted-bits k h));
-        room = F .answers-room;
-      })
+      let bits-all = bits-all (B .count) (sentBits B) bits-length (λ k h. rw (bit-is k h) (bit-xor _ _ (N k h .bit) (F .wanted-bits k h))) in
+      accepts .mask (B .count) _ .0 (record { all = search bits-length })
 
   abbrev answer-at : ℕ → Two
   answer-at = answerOf (sentBits B) (B .scalarPads) (B .messages)
@@ -116,7 +98,7 @@ module _ (B : Batch) (F : BatchFits B) (N : (k : ℕ) → k < B .count → Named
   answers-are : sentAnswers B ≡ take (B .count * 32) (over thirtyTwo (B .count) answer-at (B .answersOut))
   unfolding maskMessages
   answers-are =
-      ap (λ (o : Outcome MaskLent). take (o .written) (o .lent .answers)) (outcome-accepted _ _ _ _ masked-zero)
+      ap (λ (o : Outcome ℕ MaskLent). take (o .written) (o .lent .answers)) (outcome-is _ _ _ _ _ masked-zero)
       ∙ rw (mul-comm 32 (B .count))
 
   answers-length : length (sentAnswers B) ≡ 32 * B .count
@@ -133,19 +115,12 @@ module _ (B : Batch) (F : BatchFits B) (N : (k : ℕ) → k < B .count → Named
 
   opened-zero : openedBatch B .number ≡ 0
   opened-zero =
-      accepts .unmask (B .count) _ .0
-      (record {
-        batch = F .batch;
-        wanted-length = F .wanted-length;
-        pads-length = F .noisePads-length;
-        answers-length = answers-length;
-        wanted-bits = F .wanted-bits;
-        room = F .messages-room;
-      })
+      let wanted-all = bits-all (B .count) (B .wanted) (F .wanted-length) (F .wanted-bits) in
+      accepts .unmask (B .count) _ .0 (record { all = search answers-length })
 
   opened-are : openedBatch B .lent .messages ≡ over sixteen (B .count) (openedOf (B .wanted) (B .noisePads) (sentAnswers B)) (B .messagesOut)
   unfolding unmaskMessages
-  opened-are = ap (λ (o : Outcome UnmaskLent). o .lent .messages) (outcome-accepted _ _ _ _ opened-zero)
+  opened-are = ap (λ (o : Outcome ℕ UnmaskLent). o .lent .messages) (outcome-is _ _ _ _ _ opened-zero)
 
   -- a byte of the block wanted: the message's, masked by the pad that the choice names
   wanted-byte : (k i u w : ℕ) → k < B .count → i < 16 → u ≤ 1 → w ≤ 1 → getD (sentBits B) k 0 ≡ bitXor u w

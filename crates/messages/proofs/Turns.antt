@@ -13,8 +13,8 @@ use Rattle.pads.proofs.Turns.{turn}
 use Rattle.pads.proofs.Written.{Wide, sets-append, length-flat, over-none}
 use Rattle.messages.specs.Bytes.{Sixteen, byte, sixteen, thirtyTwo, oneOfTwo, masked}
 use Rattle.messages.specs.Inner.Writing.{withValue}
-use Rattle.messages.specs.Calls.{correctionBit, answerOf, openedOf}
-use Rattle.messages.specs.Admitted.{MaskAdmitted, UnmaskAdmitted}
+use Rattle.messages.specs.Calls.{maskTests, unmaskTests, correctionBit, answerOf, openedOf}
+use Rattle.answer.specs.Tests.{AllMet}
 
 -- every value has its coding's width
 pub wide-byte : Wide byte
@@ -75,9 +75,8 @@ module _ (bits pads messages b : List ℕ) where
   pub answers-none : b ≡ over thirtyTwo 0 (answerOf bits pads messages) b
   answers-none = over-none thirtyTwo wide-two (answerOf bits pads messages) b
 
-  pub mask-bit : (count : ℕ) → MaskAdmitted count (record { bits = bits; pads = pads; messages = messages; answers = b })
-      → (k : ℕ) → k < count → getD bits k 0 ≤ 1
-  mask-bit count a k h = a .bits-bits k h
+  pub mask-bit : (count : ℕ) → AllMet (maskTests count bits pads messages (length b)) → (k : ℕ) → getD bits k 0 ≤ 1
+  mask-bit count a k = a .all .1 .1 .1 .1 .0 k
 
   pub answers-more : (l l′ : List ℕ) (k : ℕ) → l ≡ over thirtyTwo k (answerOf bits pads messages) b
       → l′ ≡ withValue thirtyTwo l (32 * k) (answerOf bits pads messages k) → 32 * k + 32 ≤ length b
@@ -93,9 +92,8 @@ module _ (wanted pads answers b : List ℕ) where
   pub opened-none : b ≡ over sixteen 0 (openedOf wanted pads answers) b
   opened-none = over-none sixteen wide-sixteen (openedOf wanted pads answers) b
 
-  pub unmask-bit : (count : ℕ) → UnmaskAdmitted count (record { wanted = wanted; pads = pads; answers = answers; messages = b })
-      → (k : ℕ) → k < count → getD wanted k 0 ≤ 1
-  unmask-bit count a k h = a .wanted-bits k h
+  pub unmask-bit : (count : ℕ) → AllMet (unmaskTests count wanted pads answers (length b)) → (k : ℕ) → getD wanted k 0 ≤ 1
+  unmask-bit count a k = a .all .1 .1 .1 .1 .0 k
 
   pub opened-more : (l l′ : List ℕ) (k : ℕ) → l ≡ over sixteen k (openedOf wanted pads answers) b
       → l′ ≡ withValue sixteen l (16 * k) (openedOf wanted pads answers k) → 16 * k + 16 ≤ length b

@@ -1,20 +1,16 @@
 -- The three calls of the correction step (document 02, 1): from everything lent to everything that stands on return, the
--- input slices too. They test 3 (wrong lengths, or a batch above 4,096), 8 (a bit byte above 1), 13, in that order.
-use mathlib.Core.Bool.{Bool, not, _&&_, _||_}
-use mathlib.Core.List.{List}
+-- input slices too. They test 3 (a batch above 4,096, or wrong lengths), 8 (a bit byte above 1), 13, in that order.
+use mathlib.Core.Path.{_≡_}
+use mathlib.Core.Logic.{_↔_}
+use mathlib.Core.List.{List, [], _∷_}
 use Prim.Native.Nat.{ℕ, _-_, _*_}
 use lib.Bits.{bitXor}
-use lib.Dec.{leb, ltb, eqb}
 use lib.ListN.{length, getD}
 use Rattle.algebra.specs.Coding.{over}
 use Rattle.answer.specs.Numbers.{badLength, notElement, bufferShort}
-use Rattle.pads.specs.Bytes.{anyAbove}
-use Rattle.messages.specs.Outcome.{Outcome, outcomeOf, firstFault}
+use Rattle.answer.specs.Tests.{Test, _is_, _atMost_, allAtMost, _or_, AllMet}
+use Rattle.answer.specs.Outcome.{Outcome, answered, refusedOne, wrote}
 use Rattle.messages.specs.Bytes.{Sixteen, Two, byte, sixteen, thirtyTwo, oneOf, oneOfTwo, masked}
-
--- a batch has at most 4,096 outputs
-abbrev pub isBatch : ℕ → Bool
-isBatch count = leb count 4096
 
 -- ---- the noise end sends one bit per output
 
@@ -24,22 +20,29 @@ pub record CorrectionLent : Type 0 where
   pub wanted : List ℕ
   pub bits : List ℕ
 
--- its number: choices and wanted bits have a byte each, and as many bytes of room are asked for
-abbrev pub correctionNumber : ℕ → List ℕ → List ℕ → ℕ → ℕ
-correctionNumber count choices wanted room =
-    firstFault (not (isBatch count && eqb (length choices) count && eqb (length wanted) count)) badLength
-    (anyAbove 1 choices || anyAbove 1 wanted) notElement
-    (ltb room count) bufferShort
+abbrev pub lentCorrection : List ℕ → List ℕ → List ℕ → CorrectionLent
+lentCorrection choices wanted bits = record { choices = choices; wanted = wanted; bits = bits }
+
+-- its tests: choices and wanted bits have a byte each, and as many bytes of room are asked for
+abbrev pub correctionTests : ℕ → List ℕ → List ℕ → ℕ → List Test
+correctionTests count choices wanted room =
+    count atMost 4096 or badLength
+    ∷ length choices is count or badLength
+    ∷ length wanted is count or badLength
+    ∷ allAtMost 1 choices or notElement
+    ∷ allAtMost 1 wanted or notElement
+    ∷ count atMost room or bufferShort
+    ∷ []
 
 -- choice exclusive-or wanted bit
 abbrev pub correctionBit : List ℕ → List ℕ → ℕ → ℕ
 correctionBit choices wanted k = bitXor (getD choices k 0) (getD wanted k 0)
 
 -- the call: a byte an output
-unfoldable pub correctionBits : ℕ → CorrectionLent → Outcome CorrectionLent
+unfoldable pub correctionBits : ℕ → CorrectionLent → Outcome ℕ CorrectionLent
 correctionBits count l =
-    outcomeOf (correctionNumber count (l .choices) (l .wanted) (length (l .bits))) count l
-    (record { choices = l .choices; wanted = l .wanted; bits = over byte count (correctionBit (l .choices) (l .wanted)) (l .bits) })
+    answered (correctionTests count (l .choices) (l .wanted) (length (l .bits))) (refusedOne l)
+    (wrote count (lentCorrection (l .choices) (l .wanted) (over byte count (correctionBit (l .choices) (l .wanted)) (l .bits))))
 
 -- ---- the scalar end answers with two blocks
 
@@ -50,13 +53,19 @@ pub record MaskLent : Type 0 where
   pub messages : List ℕ
   pub answers : List ℕ
 
--- its number: the bits have a byte an output, pads and messages 32, and room is asked for as many
-abbrev pub maskNumber : ℕ → List ℕ → List ℕ → List ℕ → ℕ → ℕ
-maskNumber count bits pads messages room =
-    firstFault
-    (not (isBatch count && eqb (length bits) count && eqb (length pads) (32 * count) && eqb (length messages) (32 * count))) badLength
-    (anyAbove 1 bits) notElement
-    (ltb room (32 * count)) bufferShort
+abbrev pub lentMask : List ℕ → List ℕ → List ℕ → List ℕ → MaskLent
+lentMask bits pads messages answers = record { bits = bits; pads = pads; messages = messages; answers = answers }
+
+-- its tests: the bits have a byte an output, pads and messages 32, and room is asked for as many
+abbrev pub maskTests : ℕ → List ℕ → List ℕ → List ℕ → ℕ → List Test
+maskTests count bits pads messages room =
+    count atMost 4096 or badLength
+    ∷ length bits is count or badLength
+    ∷ length pads is 32 * count or badLength
+    ∷ length messages is 32 * count or badLength
+    ∷ allAtMost 1 bits or notElement
+    ∷ 32 * count atMost room or bufferShort
+    ∷ []
 
 -- message 0 masked by the pad that the bit names, message 1 by the other
 unfoldable pub answerOf : List ℕ → List ℕ → List ℕ → ℕ → Two
@@ -67,15 +76,11 @@ answerOf bits pads messages k =
     }
 
 -- the call: 32 bytes an output
-unfoldable pub maskMessages : ℕ → MaskLent → Outcome MaskLent
+unfoldable pub maskMessages : ℕ → MaskLent → Outcome ℕ MaskLent
 maskMessages count l =
-    outcomeOf (maskNumber count (l .bits) (l .pads) (l .messages) (length (l .answers))) (32 * count) l
-    (record {
-      bits = l .bits;
-      pads = l .pads;
-      messages = l .messages;
-      answers = over thirtyTwo count (answerOf (l .bits) (l .pads) (l .messages)) (l .answers);
-    })
+    answered (maskTests count (l .bits) (l .pads) (l .messages) (length (l .answers))) (refusedOne l)
+    (wrote (32 * count)
+    (lentMask (l .bits) (l .pads) (l .messages) (over thirtyTwo count (answerOf (l .bits) (l .pads) (l .messages)) (l .answers))))
 
 -- ---- the noise end unmasks the one it wants
 
@@ -86,25 +91,37 @@ pub record UnmaskLent : Type 0 where
   pub answers : List ℕ
   pub messages : List ℕ
 
--- its number: the wanted bits have a byte an output, pads 16 and answers 32, and room is asked for 16
-abbrev pub unmaskNumber : ℕ → List ℕ → List ℕ → List ℕ → ℕ → ℕ
-unmaskNumber count wanted pads answers room =
-    firstFault
-    (not (isBatch count && eqb (length wanted) count && eqb (length pads) (16 * count) && eqb (length answers) (32 * count))) badLength
-    (anyAbove 1 wanted) notElement
-    (ltb room (16 * count)) bufferShort
+abbrev pub lentUnmask : List ℕ → List ℕ → List ℕ → List ℕ → UnmaskLent
+lentUnmask wanted pads answers messages = record { wanted = wanted; pads = pads; answers = answers; messages = messages }
+
+-- its tests: the wanted bits have a byte an output, pads 16 and answers 32, and room is asked for 16
+abbrev pub unmaskTests : ℕ → List ℕ → List ℕ → List ℕ → ℕ → List Test
+unmaskTests count wanted pads answers room =
+    count atMost 4096 or badLength
+    ∷ length wanted is count or badLength
+    ∷ length pads is 16 * count or badLength
+    ∷ length answers is 32 * count or badLength
+    ∷ allAtMost 1 wanted or notElement
+    ∷ 16 * count atMost room or bufferShort
+    ∷ []
 
 -- the wanted block of the answer, masked again by the noise end's pad
 unfoldable pub openedOf : List ℕ → List ℕ → List ℕ → ℕ → Sixteen
 openedOf wanted pads answers k = masked (oneOfTwo answers k (getD wanted k 0)) (oneOf pads k)
 
 -- the call: 16 bytes an output
-unfoldable pub unmaskMessages : ℕ → UnmaskLent → Outcome UnmaskLent
+unfoldable pub unmaskMessages : ℕ → UnmaskLent → Outcome ℕ UnmaskLent
 unmaskMessages count l =
-    outcomeOf (unmaskNumber count (l .wanted) (l .pads) (l .answers) (length (l .messages))) (16 * count) l
-    (record {
-      wanted = l .wanted;
-      pads = l .pads;
-      answers = l .answers;
-      messages = over sixteen count (openedOf (l .wanted) (l .pads) (l .answers)) (l .messages);
-    })
+    answered (unmaskTests count (l .wanted) (l .pads) (l .answers) (length (l .messages))) (refusedOne l)
+    (wrote (16 * count)
+    (lentUnmask (l .wanted) (l .pads) (l .answers) (over sixteen count (openedOf (l .wanted) (l .pads) (l .answers)) (l .messages))))
+
+-- ---- a call returns 0 exactly if its tests are all met
+
+pub record Accepts : Type 0 where
+  pub correction : (count : ℕ) (l : CorrectionLent)
+      → AllMet (correctionTests count (l .choices) (l .wanted) (length (l .bits))) ↔ correctionBits count l .number ≡ 0
+  pub mask : (count : ℕ) (l : MaskLent)
+      → AllMet (maskTests count (l .bits) (l .pads) (l .messages) (length (l .answers))) ↔ maskMessages count l .number ≡ 0
+  pub unmask : (count : ℕ) (l : UnmaskLent)
+      → AllMet (unmaskTests count (l .wanted) (l .pads) (l .answers) (length (l .messages))) ↔ unmaskMessages count l .number ≡ 0

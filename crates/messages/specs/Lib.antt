@@ -1,8 +1,6 @@
--- Messages of the callers' own choosing (document 02, 1): what the three calls answer, blocks of bytes, the calls, which input
--- is admitted, and that the message wanted is opened.
-pub mod Outcome
+-- Messages of the callers' own choosing (document 02, 1): blocks of bytes, the three calls and which input they accept,
+-- and that the message wanted is opened.
 pub mod Bytes
 pub mod Calls
-pub mod Admitted
 pub mod Opening
 pub mod Inner

@@ -4,10 +4,11 @@ use mathlib.Core.Path.{_≡_}
 use mathlib.Core.List.{List}
 use Prim.Native.Nat.{ℕ, _*_, _≤_, _<_}
 use lib.ListN.{length, getD, take}
-use Rattle.pads.specs.Bytes.{Bits}
+use Rattle.answer.specs.Bytes.{Bits}
+use Rattle.answer.specs.Outcome.{Outcome}
 use Rattle.pads.specs.Choice.{padAt, messageAt}
-use Rattle.messages.specs.Outcome.{Outcome}
-use Rattle.messages.specs.Calls.{CorrectionLent, MaskLent, UnmaskLent, correctionBits, maskMessages, unmaskMessages}
+use Rattle.messages.specs.Calls.{CorrectionLent, MaskLent, UnmaskLent, lentCorrection, lentMask, lentUnmask}
+use Rattle.messages.specs.Calls.{correctionBits, maskMessages, unmaskMessages}
 
 -- one batch at both ends: its count; choices, wanted bits and pads of the noise end; pads and messages of the scalar end; and
 -- the buffers lent for the bits, the answers and the messages opened
@@ -37,24 +38,20 @@ pub record BatchFits (B : Batch) : Type 0 where
 
 -- ---- the three calls in turn; what is sent is the front that a call wrote, of the returned length
 
-abbrev pub correctedBatch : Batch → Outcome CorrectionLent
-correctedBatch B = correctionBits (B .count) (record { choices = B .choices; wanted = B .wanted; bits = B .bitsOut })
+abbrev pub correctedBatch : Batch → Outcome ℕ CorrectionLent
+correctedBatch B = correctionBits (B .count) (lentCorrection (B .choices) (B .wanted) (B .bitsOut))
 
 abbrev pub sentBits : Batch → List ℕ
 sentBits B = take (correctedBatch B .written) (correctedBatch B .lent .bits)
 
-abbrev pub maskedBatch : Batch → Outcome MaskLent
-maskedBatch B =
-    maskMessages (B .count)
-    (record { bits = sentBits B; pads = B .scalarPads; messages = B .messages; answers = B .answersOut })
+abbrev pub maskedBatch : Batch → Outcome ℕ MaskLent
+maskedBatch B = maskMessages (B .count) (lentMask (sentBits B) (B .scalarPads) (B .messages) (B .answersOut))
 
 abbrev pub sentAnswers : Batch → List ℕ
 sentAnswers B = take (maskedBatch B .written) (maskedBatch B .lent .answers)
 
-abbrev pub openedBatch : Batch → Outcome UnmaskLent
-openedBatch B =
-    unmaskMessages (B .count)
-    (record { wanted = B .wanted; pads = B .noisePads; answers = sentAnswers B; messages = B .messagesOut })
+abbrev pub openedBatch : Batch → Outcome ℕ UnmaskLent
+openedBatch B = unmaskMessages (B .count) (lentUnmask (B .wanted) (B .noisePads) (sentAnswers B) (B .messagesOut))
 
 -- the choice at k is 0 or 1, and the noise end's 16 bytes for k are those of the scalar end's pad that it names
 pub record NamedAt (choices noisePads scalarPads : List ℕ) (k : ℕ) : Type 0 where

@@ -1,21 +1,17 @@
 // Messages of the callers' own choosing, passed under pads of field 1: the noise end's correction bits, the scalar end's
 // answers, and their opening.
 ghost use mathlib.Core.Path.{_≡_};
-ghost use Rattle.messages.specs.Outcome.{outcome};
-ghost use Rattle.messages.specs.Calls.{correctionBits, maskMessages, unmaskMessages};
+ghost use Rattle.answer.specs.Outcome.{outcomeOne};
+ghost use Rattle.messages.specs.Calls.{lentCorrection, lentMask, lentUnmask, correctionBits, maskMessages, unmaskMessages};
 
-mod length;
 mod mask;
 mod number;
 
 use answer::OneLength;
-pub use length::is_short;
-pub use length::is_times;
 use mask::write_answers;
 use mask::write_bits;
 use mask::write_opened;
 use number::correction_number;
-pub use number::first_fault;
 use number::mask_number;
 use number::unmask_number;
 
@@ -26,8 +22,8 @@ pub fn correction_bits(
     wanted: &[u8],
     bits_out: &mut [u8],
 ) -> OneLength
-    ensures { λ r. ⌜ outcome r (record { choices = now (choices .exit); wanted = now (wanted .exit); bits = now («bits_out» .exit) })
-        ≡ correctionBits count (record { choices = now (choices .entry); wanted = now (wanted .entry); bits = now («bits_out» .entry) }) ⌝ }
+    ensures { λ r. ⌜ outcomeOne r (lentCorrection (now (choices .exit)) (now (wanted .exit)) (now («bits_out» .exit)))
+        ≡ correctionBits count (lentCorrection (now (choices .entry)) (now (wanted .entry)) (now («bits_out» .entry))) ⌝ }
 {
     let number = correction_number(count, choices, wanted, bits_out.len());
     if number != 0 {
@@ -48,8 +44,8 @@ pub fn mask_messages(
     messages: &[u8],
     answers_out: &mut [u8],
 ) -> OneLength
-    ensures { λ r. ⌜ outcome r (record { bits = now (bits .exit); pads = now (pads .exit); messages = now (messages .exit); answers = now («answers_out» .exit) })
-        ≡ maskMessages count (record { bits = now (bits .entry); pads = now (pads .entry); messages = now (messages .entry); answers = now («answers_out» .entry) }) ⌝ }
+    ensures { λ r. ⌜ outcomeOne r (lentMask (now (bits .exit)) (now (pads .exit)) (now (messages .exit)) (now («answers_out» .exit)))
+        ≡ maskMessages count (lentMask (now (bits .entry)) (now (pads .entry)) (now (messages .entry)) (now («answers_out» .entry))) ⌝ }
 {
     let number = mask_number(count, bits, pads, messages, answers_out.len());
     if number != 0 {
@@ -70,8 +66,8 @@ pub fn unmask_messages(
     answers: &[u8],
     messages_out: &mut [u8],
 ) -> OneLength
-    ensures { λ r. ⌜ outcome r (record { wanted = now (wanted .exit); pads = now (pads .exit); answers = now (answers .exit); messages = now («messages_out» .exit) })
-        ≡ unmaskMessages count (record { wanted = now (wanted .entry); pads = now (pads .entry); answers = now (answers .entry); messages = now («messages_out» .entry) }) ⌝ }
+    ensures { λ r. ⌜ outcomeOne r (lentUnmask (now (wanted .exit)) (now (pads .exit)) (now (answers .exit)) (now («messages_out» .exit)))
+        ≡ unmaskMessages count (lentUnmask (now (wanted .entry)) (now (pads .entry)) (now (answers .entry)) (now («messages_out» .entry))) ⌝ }
 {
     let number = unmask_number(count, wanted, pads, answers, messages_out.len());
     if number != 0 {

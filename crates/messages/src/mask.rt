@@ -4,13 +4,13 @@ ghost use Prim.Native.Nat.{_+_, _*_, _≤_, _<_};
 ghost use lib.ListN.{length, getD};
 ghost use Rattle.algebra.specs.Coding.{over};
 ghost use Rattle.messages.specs.Bytes.{byte, sixteen, thirtyTwo, masked};
-ghost use Rattle.messages.specs.Calls.{correctionBit, answerOf, openedOf};
+ghost use Rattle.messages.specs.Calls.{correctionTests, maskTests, unmaskTests, correctionBit, answerOf, openedOf};
 ghost use Rattle.messages.specs.Inner.Writing.{withValue};
-ghost use Rattle.messages.specs.Admitted.{CorrectionAdmitted, MaskAdmitted, UnmaskAdmitted};
+ghost use Rattle.answer.specs.Tests.{AllMet};
 
 // Writes choice exclusive-or wanted bit of each output.
 pub fn write_bits(count: usize, choices: &[u8], wanted: &[u8], bits_out: &mut [u8])
-    requires { ⌜ CorrectionAdmitted count (record { choices = now choices; wanted = now wanted; bits = now «bits_out» }) ⌝ }
+    requires { ⌜ AllMet (correctionTests count (now choices) (now wanted) (length (now «bits_out»))) ⌝ }
     ensures { λ _. ⌜ now («bits_out» .exit)
         ≡ over byte count (correctionBit (now (choices .entry)) (now (wanted .entry))) (now («bits_out» .entry)) ⌝ }
 {
@@ -58,7 +58,7 @@ pub fn write_answers(
     messages: &[u8],
     answers_out: &mut [u8],
 )
-    requires { ⌜ MaskAdmitted count (record { bits = now bits; pads = now pads; messages = now messages; answers = now «answers_out» }) ⌝ }
+    requires { ⌜ AllMet (maskTests count (now bits) (now pads) (now messages) (length (now «answers_out»))) ⌝ }
     ensures { λ _. ⌜ now («answers_out» .exit)
         ≡ over thirtyTwo count (answerOf (now (bits .entry)) (now (pads .entry)) (now (messages .entry))) (now («answers_out» .entry)) ⌝ }
 {
@@ -89,7 +89,7 @@ pub fn write_opened(
     answers: &[u8],
     messages_out: &mut [u8],
 )
-    requires { ⌜ UnmaskAdmitted count (record { wanted = now wanted; pads = now pads; answers = now answers; messages = now «messages_out» }) ⌝ }
+    requires { ⌜ AllMet (unmaskTests count (now wanted) (now pads) (now answers) (length (now «messages_out»))) ⌝ }
     ensures { λ _. ⌜ now («messages_out» .exit)
         ≡ over sixteen count (openedOf (now (wanted .entry)) (now (pads .entry)) (now (answers .entry))) (now («messages_out» .entry)) ⌝ }
 {

@@ -1,7 +1,7 @@
 -- `messages::mask::write_opened` meets its contract. The loop's invariant: the first k outputs' messages are written. The measure is what
 -- is left of the count.
 use mathlib.Core.Path.{_≡_, refl}
-use Prim.Native.Nat.{_≤_, _-_}
+use Prim.Native.Nat.{_≤_, _-_, _*_}
 use native.Mathlib.Omega.{arith}
 use borrow.Author.Needs.{needs}
 use lib.ListN.{length}
@@ -15,7 +15,7 @@ use Rattle.messages.proofs.mask.write_opened.Tie as tie
 
 abbrev Inv-loop : tie.InvT-loop
 Inv-loop count wanted pads answers messages₀ k₀ messages k =
-    (k ≤ count) × (length messages ≡ length messages₀)
+    (k ≤ count) × (16 * count ≤ length messages₀) × (length messages ≡ length messages₀)
     × (messages ≡ over sixteen k (openedOf wanted pads answers) messages₀)
 
 abbrev μ-loop : tie.MeasureT-loop
@@ -27,14 +27,14 @@ write-opened-spec =
     (tie.spec
     Inv-loop
     μ-loop
-    (λ c. (omega arith, refl, search opened-none))  -- loop-holds
+    (λ c. (omega arith, omega arith, refl, search opened-none))  -- loop-holds
     (λ c κs. (omega arith, search unmask-bit, omega arith, omega arith, omega arith))  -- put-opened-requires
     (λ c. omega arith)  -- add-k
     (λ c. omega arith)  -- loop-less
     (λ c.
     let stored = c .before .before in
-    let begun = stored .before .before in
-    (omega arith, omega arith, opened-more _ _ _ _ _ _ _ (begun .before .loop .inv .2) (stored .put-opened .ensures) (omega arith)))  -- loop-again
+    let inv = stored .before .before .before .loop .inv in
+    (omega arith, inv .1, omega arith, opened-more _ _ _ _ _ _ _ (inv .3) (stored .put-opened .ensures) (omega arith)))  -- loop-again
     (λ c. search needs)  -- same-length
     (λ c. search all-turns)  -- returns
     )
