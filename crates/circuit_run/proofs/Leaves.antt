@@ -8,7 +8,7 @@ use lib.Bits.{bitXor, bitAnd}
 use lib.Dec.{leb, eqb}
 use lib.ListN.{length}
 use Rattle.circuit.specs.declared.Front.{Front}
-use Rattle.pads.specs.Bytes.{anyAbove}
+use Rattle.answer.specs.Bytes.{anyAbove}
 use Rattle.circuit_run.specs.Inner.Places.{localShare}
 use Rattle.circuit_run.specs.Inner.Tests.{bitsAsked, lengthsAsked, askedNumber}
 use Rattle.circuit_run.specs.Step.{isRole, flipped, andShare}

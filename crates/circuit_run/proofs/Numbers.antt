@@ -10,8 +10,8 @@ use lib.ListN.{length, getD}
 use Rattle.algebra.specs.Choice.{choose}
 use Rattle.circuit.specs.Content.{Circuit, isAnd, andsIn}
 use Rattle.circuit.specs.declared.Front.{Front}
-use Rattle.pads.proofs.Numbers.{none-above}
-use Rattle.pads.specs.Bytes.{anyAbove}
+use Rattle.answer.specs.Bytes.{anyAbove}
+use Rattle.answer.proofs.Above.{none-above}
 use Rattle.circuit_run.specs.Inner.Tests.{bitsAsked, lengthsAsked, askedNumber}
 use Rattle.circuit_run.specs.Step.{StepLent, gateAt, stateAdmitted, isRole, stepNumber}
 use Rattle.circuit_run.specs.declared.Run.{Run}

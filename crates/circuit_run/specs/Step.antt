@@ -15,7 +15,7 @@ use Rattle.circuit.specs.Content.{Gate, Xor, And, Not, Circuit, isAnd, andsIn}
 use Rattle.circuit.specs.Reading.{readCircuit}
 use Rattle.circuit.specs.Value.{atWires}
 use Rattle.number.specs.Reading.{Reading, Whole, Refused}
-use Rattle.pads.specs.Bytes.{anyAbove}
+use Rattle.answer.specs.Bytes.{anyAbove}
 use Rattle.triples.specs.Triple.{tripleBytes}
 use Rattle.circuit_run.specs.declared.Run.{Run}
 use Rattle.circuit_run.specs.declared.Stepped.{Stepped}

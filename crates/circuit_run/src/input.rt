@@ -8,8 +8,8 @@ use answer::BUFFER_SHORT;
 use answer::NOT_ELEMENT;
 use answer::TOO_FEW_TRIPLES;
 use answer::WRONG_END;
+use answer::any_above;
 use circuit::Front;
-use pads::any_above;
 
 // The numbers that a step gets: the role, whether its state waits for the far bits, and these.
 pub struct Asked {

@@ -257,8 +257,8 @@ Pads =
     → (first′ count′ : ℕ) (ws Δ pads′ : List ℕ) → scalarPads first′ count′ ws Δ pads′ .number ≡ 0
     → (x : ℕ) → x < I .outputs → InWindow first count x → InWindow first′ count′ x
     → PadsLent I x first vs choices first′ ws Δ
-    → padAt (noisePads first count vs choices pads .pads) first x
-    ≡ messageAt (scalarPads first′ count′ ws Δ pads′ .pads) first′ x (getD choices (x - first) 0)
+    → padAt (noisePads first count vs choices pads .lent .pads) first x
+    ≡ messageAt (scalarPads first′ count′ ws Δ pads′ .lent .pads) first′ x (getD choices (x - first) 0)
 
 -- ---- demand 3, entire
 

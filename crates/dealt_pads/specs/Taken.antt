@@ -42,8 +42,8 @@ pub record TakenAt (D : Dealing) (choices pads messages : List ℕ) (k : ℕ) : 
   pub lent : PadsLent (D .input) x first vs us first′ ws Δ
   -- what is lent for k
   pub choice : field (D .input) .noiseValues .read choices k ≡ u (D .input) x
-  pub pad : padAt pads 0 k ≡ padAt (noisePads first count vs us out .pads) first x
-  pub both : (bit : ℕ) → bit ≤ 1 → messageAt messages 0 k bit ≡ messageAt (scalarPads first′ count′ ws Δ out′ .pads) first′ x bit
+  pub pad : padAt pads 0 k ≡ padAt (noisePads first count vs us out .lent .pads) first x
+  pub both : (bit : ℕ) → bit ≤ 1 → messageAt messages 0 k bit ≡ messageAt (scalarPads first′ count′ ws Δ out′ .lent .pads) first′ x bit
 
 -- the same for each k below a count, each with an index x of its own, equal ones among them
 abbrev pub Taken : Dealing → ℕ → List ℕ → List ℕ → List ℕ → Type 0

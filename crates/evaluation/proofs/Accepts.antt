@@ -14,7 +14,7 @@ use Rattle.circuit_run.specs.Step.{StepLent, gateAt, isRole, stateAdmitted, ste
 use Rattle.circuit_run.specs.declared.Run.{Run}
 use Rattle.number.proofs.Places.{either}
 use Rattle.number.specs.Reading.{Reading, Whole}
-use Rattle.pads.proofs.Numbers.{above-none}
+use Rattle.answer.proofs.Above.{above-none}
 use Rattle.evaluation.proofs.Chains.{accepted-number, Took, took, took-on, took-state}
 use Rattle.evaluation.proofs.Progresses.{and-gate}
 use Rattle.evaluation.proofs.Reaches.{Standing, waiting, finished, standing, and-inside, run-fresh, run-waits, run-ends}

@@ -8,7 +8,7 @@ use Rattle.answer.specs.Numbers.{accepted}
 use Rattle.circuit.specs.Content.{Circuit, isAnd, andsIn}
 use Rattle.circuit.specs.Reading.{readCircuit}
 use Rattle.number.specs.Reading.{Whole}
-use Rattle.pads.specs.Bytes.{Bits}
+use Rattle.answer.specs.Bytes.{Bits}
 use Rattle.circuit_run.specs.Step.{StepLent, gateAt, isRole, step}
 use Rattle.circuit_run.specs.declared.Run.{Run}
 

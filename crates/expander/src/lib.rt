@@ -4,7 +4,8 @@ ghost use Rattle.dealing.specs.Deal.{deal, dealt};
 ghost use Rattle.dealing.specs.Input.{inputWith};
 ghost use Rattle.noise_end.specs.Offline as noiseOffline;
 ghost use Rattle.noise_end.specs.Online as noiseOnline;
-ghost use Rattle.pads.specs.Calls.{outcome, noisePads, scalarPads};
+ghost use Rattle.answer.specs.Outcome.{outcomeNone};
+ghost use Rattle.pads.specs.Calls.{lentNoise, lentScalar, noisePads, scalarPads};
 ghost use Rattle.scalar_end.specs.Offline as scalarOffline;
 ghost use Rattle.scalar_end.specs.Online as scalarOnline;
 
@@ -131,7 +132,7 @@ pub extern "C" fn expander_noise_pads(
     choices: &[u8],
     pads: &mut [u8],
 ) -> u32
-    ensures { λ r. ⌜ outcome r (now (v .exit)) (now (choices .exit)) (now (pads .exit))
+    ensures { λ r. ⌜ outcomeNone r (lentNoise (now (v .exit)) (now (choices .exit)) (now (pads .exit)))
         ≡ noisePads first count (now (v .entry)) (now (choices .entry)) (now (pads .entry)) ⌝ }
 {
     pads::noise_pads(first, count, v, choices, pads)
@@ -146,7 +147,7 @@ pub extern "C" fn expander_scalar_pads(
     delta: &[u8],
     pads: &mut [u8],
 ) -> u32
-    ensures { λ r. ⌜ outcome r (now (w .exit)) (now (delta .exit)) (now (pads .exit))
+    ensures { λ r. ⌜ outcomeNone r (lentScalar (now (w .exit)) (now (delta .exit)) (now (pads .exit)))
         ≡ scalarPads first count (now (w .entry)) (now (delta .entry)) (now (pads .entry)) ⌝ }
 {
     pads::scalar_pads(first, count, w, delta, pads)

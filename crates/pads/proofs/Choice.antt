@@ -7,15 +7,15 @@ use lib.Bits.{bitXor, xor-zero-l, xor-comm}
 use lib.ListN.{take, drop}
 use lib.Seq.{take-at, drop-at, drop-drop}
 use Rattle.algebra.specs.Coding.{Coding, at, over}
+use Rattle.answer.specs.Outcome.{Outcome}
+use Rattle.answer.proofs.Answers.{outcome-is}
 use Rattle.field.specs.declared.block.Block.{Block}
 use Rattle.field.specs.Binary.{blockAdd, blockScale}
 use Rattle.field.proofs.Xor.{xor-back}
 use Rattle.pads.specs.Bytes.{MessagePair, blockBytes, messageBytes}
 use Rattle.pads.specs.Pad.{Rule, messagePair}
-use Rattle.pads.specs.Calls.{noisePadsBy, scalarPadsBy}
-use Rattle.pads.specs.Admitted.{NoisePadsAdmitted}
+use Rattle.pads.specs.Calls.{NoiseLent, ScalarLent, noisePadsBy, scalarPadsBy}
 use Rattle.pads.specs.Choice.{InWindow, padAt, messageAt, Choice}
-use Rattle.pads.proofs.Numbers.{answer-written}
 use Rattle.pads.proofs.Written.{Wide, drop-over, wide-block, wide-messages}
 use Rattle.pads.proofs.Accepts.{accepts}
 
@@ -27,12 +27,12 @@ value-over C wide n f b k j h e = rw (e, drop-over C wide f n b k h) (take-at (C
 -- the noise end's bytes for an index of its window are those of its pad
 pub noise-bytes : (rule : Rule) (first count : ℕ) (vs choices pads : List ℕ) → noisePadsBy rule first count vs choices pads .number ≡ 0
     → (x : ℕ) → InWindow first count x
-    → padAt (noisePadsBy rule first count vs choices pads .pads) first x ≡ blockBytes .words (rule x (at blockBytes vs (x - first)))
+    → padAt (noisePadsBy rule first count vs choices pads .lent .pads) first x ≡ blockBytes .words (rule x (at blockBytes vs (x - first)))
 unfolding noisePadsBy
 noise-bytes rule first count vs choices pads e x i =
     let f : ℕ → Block = λ k. rule (first + k) (at blockBytes vs k) in
     let here : first + (x - first) ≡ x = omega arith in
-    ap (λ (l : List ℕ). padAt l first x) (answer-written _ _ pads _ _ e)
+    ap (λ (o : Outcome (Unit {0}) NoiseLent). padAt (o .lent .pads) first x) (outcome-is _ _ _ _ _ e)
     ∙ value-over blockBytes wide-block count f pads (x - first) (16 * (x - first)) (omega arith) (omega arith)
     ∙ ap (λ (y : ℕ). blockBytes .words (rule y (at blockBytes vs (x - first)))) here
 
@@ -59,7 +59,7 @@ message-bytes m rest (suc (suc u)) h = absurd (omega arith)
 -- the scalar end's bytes of message u for an index of its window are those of that message
 pub scalar-bytes : (rule : Rule) (first count : ℕ) (ws delta pads : List ℕ) → scalarPadsBy rule first count ws delta pads .number ≡ 0
     → (x : ℕ) → InWindow first count x → (u : ℕ) → u ≤ 1
-    → messageAt (scalarPadsBy rule first count ws delta pads .pads) first x u
+    → messageAt (scalarPadsBy rule first count ws delta pads .lent .pads) first x u
     ≡ blockBytes .words (named u (messagePair rule x (at blockBytes ws (x - first)) (at blockBytes delta 0)))
 unfolding scalarPadsBy
 scalar-bytes rule first count ws delta pads e x i u h =
@@ -67,7 +67,7 @@ scalar-bytes rule first count ws delta pads e x i u h =
     let f : ℕ → MessagePair = λ k. messagePair rule (first + k) (at blockBytes ws k) Δ in
     let here : first + (x - first) ≡ x = omega arith in
     let place : 32 * (x - first) ≡ (x - first) * 32 = omega arith in
-    ap (λ (l : List ℕ). messageAt l first x u) (answer-written _ _ pads _ _ e)
+    ap (λ (o : Outcome (Unit {0}) ScalarLent). messageAt (o .lent .pads) first x u) (outcome-is _ _ _ _ _ e)
     ∙ rw
     (place, ← drop-drop (16 * u), drop-over messageBytes wide-messages f count pads (x - first) (omega arith))
     (message-bytes (f (x - first)) _ u h)
@@ -86,8 +86,7 @@ named-pad rule x v Δ (suc (suc u)) h = absurd (omega arith)
 
 pub choice : (rule : Rule) → Choice rule
 choice rule first count vs choices pads e first′ count′ ws delta pads′ e′ x i i′ v w Δ u lent =
-    let admitted : NoisePadsAdmitted first count vs choices pads = accepts rule .noise first count vs choices pads .1 e in
-    let bit : u ≤ 1 = omega (arith, admitted .bits (x - first) (omega arith)) in
+    let bit : u ≤ 1 = omega (arith, accepts rule .noise first count vs choices pads .1 e .all .1 .1 .1 .1 .0 (x - first)) in
     noise-bytes rule first count vs choices pads e x i
     ∙ ap (λ (b : Block). blockBytes .words (rule x b)) (lent .v-lent)
     ∙ ap (blockBytes .words) (named-pad rule x v Δ u bit)

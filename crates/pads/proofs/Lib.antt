@@ -1,7 +1,6 @@
 -- The laws of `pads`: what lies where in a written buffer, which input is accepted, the choice law, and the laws that the
 -- functions' proofs use.
 pub mod Written
-pub mod Numbers
 pub mod Accepts
 pub mod Choice
 pub mod Needs

@@ -1,22 +1,10 @@
--- Bits and blocks in bytes (document 01, 'Pads': choices are one byte each, 0 or 1; a block's bytes are its two words, each LE).
-use mathlib.Core.Bool.{Bool, false, _||_}
-use mathlib.Core.List.{List, [], _∷_, _++_}
-use Prim.Native.Nat.{ℕ, _+_, _≤_, _<_}
-use lib.Dec.{ltb}
-use lib.ListN.{getD}
+-- Blocks in bytes (document 01, 'Pads': a block's bytes are its two words, each LE).
+use mathlib.Core.List.{_++_}
+use Prim.Native.Nat.{_+_}
 use Rattle.algebra.specs.Coding.{Coding}
 use Rattle.field.specs.declared.block.Block.{Block}
 use Rattle.field.specs.Binary.{block}
 use Rattle.field.specs.Bytes.{leBytes, wordAt}
-
--- some byte is above a limit
-unfoldable pub anyAbove : ℕ → List ℕ → Bool
-anyAbove limit [] = false
-anyAbove limit (byte ∷ bytes) = ltb limit byte || anyAbove limit bytes
-
--- the bytes below a count are 0 or 1
-abbrev pub Bits : ℕ → List ℕ → Type 0
-Bits count bytes = (k : ℕ) → k < count → getD bytes k 0 ≤ 1
 
 -- a block takes 16 bytes: its two words, each LE
 abbrev pub blockBytes : Coding Block

@@ -41,5 +41,5 @@ Choice rule =
     → scalarPadsBy rule first′ count′ ws delta pads′ .number ≡ 0
     → (x : ℕ) → InWindow first count x → InWindow first′ count′ x
     → (v w Δ : Block) (u : ℕ) → LentAt vs choices first ws delta first′ x v w Δ u
-    → padAt (noisePadsBy rule first count vs choices pads .pads) first x
-    ≡ messageAt (scalarPadsBy rule first′ count′ ws delta pads′ .pads) first′ x u
+    → padAt (noisePadsBy rule first count vs choices pads .lent .pads) first x
+    ≡ messageAt (scalarPadsBy rule first′ count′ ws delta pads′ .lent .pads) first′ x u

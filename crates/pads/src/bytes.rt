@@ -2,7 +2,7 @@
 ghost use mathlib.Core.Path.{_≡_};
 ghost use Prim.Native.Nat.{_+_, _≤_};
 ghost use lib.ListN.{length};
-ghost use Rattle.pads.specs.Bytes.{anyAbove, blockBytes};
+ghost use Rattle.pads.specs.Bytes.{blockBytes};
 ghost use Rattle.pads.specs.Inner.Written.{withBlock};
 use field::Block;
 
@@ -24,18 +24,4 @@ pub fn put_block(bytes: &mut [u8], at: usize, b: Block)
 {
     field::put_word(bytes, at, b.low);
     field::put_word(bytes, at + 8, b.high);
-}
-
-// Whether some byte is above a limit.
-pub fn any_above(limit: u8, bytes: &[u8]) -> bool
-    ensures { λ r. ⌜ r ≡ anyAbove limit (now (bytes .entry)) ⌝ }
-{
-    let mut i: usize = 0;
-    while i < bytes.len() {
-        if bytes[i] > limit {
-            return true;
-        }
-        i += 1;
-    }
-    false
 }

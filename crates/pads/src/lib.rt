@@ -1,13 +1,13 @@
 // The pads of field 1: the pad rule, and both ends' pad calls on byte slices.
 ghost use mathlib.Core.Path.{_≡_};
-ghost use Rattle.pads.specs.Calls.{outcome, noisePads, scalarPads};
+ghost use Rattle.answer.specs.Outcome.{outcomeNone};
+ghost use Rattle.pads.specs.Calls.{lentNoise, lentScalar, noisePads, scalarPads};
 
 mod bytes;
 mod number;
 mod rule;
 mod write;
 
-pub use bytes::any_above;
 use bytes::block_at;
 use number::noise_number;
 use number::scalar_number;
@@ -17,7 +17,7 @@ use write::write_pads;
 
 // The noise end's pads: of each block of v, 16 bytes an output. The first output's index is `first`.
 pub fn noise_pads(first: usize, count: usize, v: &[u8], choices: &[u8], pads: &mut [u8]) -> u32
-    ensures { λ r. ⌜ outcome r (now (v .exit)) (now (choices .exit)) (now (pads .exit))
+    ensures { λ r. ⌜ outcomeNone r (lentNoise (now (v .exit)) (now (choices .exit)) (now (pads .exit)))
         ≡ noisePads first count (now (v .entry)) (now (choices .entry)) (now (pads .entry)) ⌝ }
 {
     let number = noise_number(first, count, v, choices, pads.len());
@@ -34,7 +34,7 @@ pub fn noise_pads(first: usize, count: usize, v: &[u8], choices: &[u8], pads: &m
 
 // The scalar end's pads: of each block of w, then of its sum with Δ, 32 bytes an output. The first output's index is `first`.
 pub fn scalar_pads(first: usize, count: usize, w: &[u8], delta: &[u8], pads: &mut [u8]) -> u32
-    ensures { λ r. ⌜ outcome r (now (w .exit)) (now (delta .exit)) (now (pads .exit))
+    ensures { λ r. ⌜ outcomeNone r (lentScalar (now (w .exit)) (now (delta .exit)) (now (pads .exit)))
         ≡ scalarPads first count (now (w .entry)) (now (delta .entry)) (now (pads .entry)) ⌝ }
 {
     let number = scalar_number(first, count, w, delta, pads.len());

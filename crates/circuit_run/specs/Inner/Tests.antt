@@ -7,7 +7,7 @@ use lib.ListN.{length}
 use Rattle.algebra.specs.Choice.{choose}
 use Rattle.answer.specs.Numbers.{accepted, badLength, notElement, wrongEnd, bufferShort, badCircuit, tooFewTriples}
 use Rattle.circuit.specs.declared.Front.{Front}
-use Rattle.pads.specs.Bytes.{anyAbove}
+use Rattle.answer.specs.Bytes.{anyAbove}
 use Rattle.circuit_run.specs.Step.{isRole}
 use Rattle.circuit_run.specs.declared.input.Asked.{Asked}
 
