@@ -28,7 +28,8 @@ named D choices noise scalar k T =
     let i = T .x - T .first in
     let same : getD choices k 0 ≡ getD (T .us) i 0 =
     same-byte (D .input .field) (D .binary) choices (T .us) k i (T .choice ∙ sym (T .lent .u-lent)) in
-    let bit = accepts pad .noise (T .first) (T .count) (T .vs) (T .us) (T .out) .1 (T .accepted) .all .1 .1 .1 .1 .0 i in
+    let bits : (k : ℕ) → getD (T .us) k 0 ≤ 1 = search (accepts pad .noise (T .first) (T .count) (T .vs) (T .us) (T .out) .1 (T .accepted)) in
+    let bit = bits i in
     record {
       bit = omega arith;
       pad = T .pad

@@ -76,7 +76,7 @@ module _ (bits pads messages b : List ℕ) where
   answers-none = over-none thirtyTwo wide-two (answerOf bits pads messages) b
 
   pub mask-bit : (count : ℕ) → AllMet (maskTests count bits pads messages (length b)) → (k : ℕ) → getD bits k 0 ≤ 1
-  mask-bit count a k = a .all .1 .1 .1 .1 .0 k
+  mask-bit count a = search
 
   pub answers-more : (l l′ : List ℕ) (k : ℕ) → l ≡ over thirtyTwo k (answerOf bits pads messages) b
       → l′ ≡ withValue thirtyTwo l (32 * k) (answerOf bits pads messages k) → 32 * k + 32 ≤ length b
@@ -93,7 +93,7 @@ module _ (wanted pads answers b : List ℕ) where
   opened-none = over-none sixteen wide-sixteen (openedOf wanted pads answers) b
 
   pub unmask-bit : (count : ℕ) → AllMet (unmaskTests count wanted pads answers (length b)) → (k : ℕ) → getD wanted k 0 ≤ 1
-  unmask-bit count a k = a .all .1 .1 .1 .1 .0 k
+  unmask-bit count a = search
 
   pub opened-more : (l l′ : List ℕ) (k : ℕ) → l ≡ over sixteen k (openedOf wanted pads answers) b
       → l′ ≡ withValue sixteen l (16 * k) (openedOf wanted pads answers k) → 16 * k + 16 ≤ length b

@@ -4,7 +4,7 @@ use mathlib.Core.List.{List, _++_, append-assoc}
 use Prim.Native.Nat.{ℕ, zero, suc, _+_, _-_, _*_, _≤_, _<_}
 use native.Mathlib.Omega.{arith}
 use lib.Bits.{bitXor, xor-zero-l, xor-comm}
-use lib.ListN.{take, drop}
+use lib.ListN.{getD, take, drop}
 use lib.Seq.{take-at, drop-at, drop-drop}
 use Rattle.algebra.specs.Coding.{Coding, at, over}
 use Rattle.answer.specs.Outcome.{Outcome}
@@ -86,7 +86,8 @@ named-pad rule x v Δ (suc (suc u)) h = absurd (omega arith)
 
 pub choice : (rule : Rule) → Choice rule
 choice rule first count vs choices pads e first′ count′ ws delta pads′ e′ x i i′ v w Δ u lent =
-    let bit : u ≤ 1 = omega (arith, accepts rule .noise first count vs choices pads .1 e .all .1 .1 .1 .1 .0 (x - first)) in
+    let bits : (k : ℕ) → getD choices k 0 ≤ 1 = search (accepts rule .noise first count vs choices pads .1 e) in
+    let bit : u ≤ 1 = omega (arith, bits (x - first)) in
     noise-bytes rule first count vs choices pads e x i
     ∙ ap (λ (b : Block). blockBytes .words (rule x b)) (lent .v-lent)
     ∙ ap (blockBytes .words) (named-pad rule x v Δ u bit)

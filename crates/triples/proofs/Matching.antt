@@ -129,12 +129,15 @@ module _ (l : TriplesLent) (e : triples l .number ≡ 0) where
       let z : k * 3 ≡ k * 3 + 0 = omega arith in
       triple-eq (ap (λ (n : ℕ). getD (triplesOf l) n 0) z ∙ byte-is k 0 h (omega arith)) (byte-is k 1 h (omega arith)) (byte-is k 2 h (omega arith))
 
+  choice-bits : (k : ℕ) → getD (l .choices) k 0 ≤ 1
+  choice-bits = search (accepts l .1 e)
+
   -- its bytes are 0 or 1
   byte-bit : (k m : ℕ) → k < length (l .choices) → getD (tripleBytes .words (tripleOf (l .choices) (l .pads) (l .messages) k)) m 0 ≤ 1
   unfolding tripleOf
   byte-bit k m h =
       bits-of (getD (l .choices) k 0) (padBit (l .pads) k) (messageBit (l .messages) k 0) (messageBit (l .messages) k 1)
-      (accepts l .1 e .all .1 .1 .1 .0 k) (omega arith) (omega arith) (omega arith) m
+      (choice-bits k) (omega arith) (omega arith) (omega arith) m
 
 pub zero-or-one : ZeroOrOne
 zero-or-one l e j h =
