@@ -1,5 +1,5 @@
 -- Each return of `step_run` gives what the definition says there. Assumes nothing.
-use Prim.Native.Nat.{ℕ, zero, suc, _+_, _*_, _≤_, _<_}
+use Prim.Native.Nat.{ℕ, _+_, _*_, _≤_, _<_}
 use mathlib.Core.Bool.{Bool, true, false}
 use mathlib.Core.List.{List, _++_}
 use mathlib.Core.Path.{_≡_, refl, sym, ap, _∙_, subst}
@@ -11,6 +11,10 @@ use lib.ListN.{length, getD, drop}
 use mir.Syntax.{w64}
 use mir.Val.{Fits}
 use Rattle.algebra.specs.Choice.{choose}
+use Rattle.answer.proofs.Answers.{refused-with, accepted-with}
+use Rattle.answer.proofs.Faults.{admitted-by}
+use Rattle.answer.specs.Outcome.{answered}
+use Rattle.answer.specs.Tests.{firstFault}
 use Rattle.circuit.proofs.Ands.{before-few}
 use Rattle.circuit.specs.Content.{And, Circuit}
 use Rattle.circuit.specs.Answer.{content, HasFront, OpenedAs, refusalOf}
@@ -20,12 +24,12 @@ use Rattle.circuit.specs.declared.Front.{Front}
 use Rattle.circuit.specs.declared.Opened.{Opened}
 use Rattle.circuit.specs.declared.Opened.the-variants.{Accepted, Fault}
 use Rattle.number.proofs.Places.{either, choose-yes, choose-no}
-use Rattle.number.specs.Reading.{Reading, Refused}
+use Rattle.number.proofs.Records.{read-refused, read-whole}
 use Rattle.circuit_run.proofs.Gates.{gatesOf}
-use Rattle.circuit_run.proofs.Numbers.{asked-passes, state-phase}
+use Rattle.circuit_run.proofs.Numbers.{state-phase}
 use Rattle.circuit_run.specs.Inner.Places.{Spots, Tested, Checks, Stops, givenAnd, proceeded, steppedWith, acceptedOn}
-use Rattle.circuit_run.specs.Inner.Tests.{askedNumber}
-use Rattle.circuit_run.specs.Step.{StepLent, lentWith, StepOutcome, stepOutcome, stepped, runWith, stepNumber, gateAt, freshWires, runOn, maskedFirst, maskedSecond, waitingShare, withAnd, stepRun, withOutputs, acceptedStep, refusedStep, stepBy, stepRead, step}
+use Rattle.circuit_run.specs.Inner.Tests.{askedTests}
+use Rattle.circuit_run.specs.Step.{StepLent, lentWith, StepOutcome, stepOutcome, stepped, runWith, stepTests, gateAt, freshWires, runOn, maskedFirst, maskedSecond, waitingShare, withAnd, stepRun, withOutputs, acceptedStep, refusedStep, step}
 use Rattle.circuit_run.specs.declared.Run.{Run}
 use Rattle.circuit_run.specs.declared.Stepped.{Stepped}
 use Rattle.circuit_run.specs.declared.checking.Checked.{Checked}
@@ -47,19 +51,8 @@ pub circuit-refused : (role : ℕ) {s : List ℕ} (shares triples output : List 
 unfolding step
 circuit-refused role {s} shares triples output far1 far2 {state} {r} {j} {k} {answer} h e n w =
     let l : StepLent = lentWith role s shares triples output far1 far2 in
-    let m : readCircuit s ≡ Refused j = subst (OpenedAs s) e h in
-    ap (λ (x : Stepped). stepped x l) w
-    ∙ ap (λ (i : ℕ). refusedStep i l state) (n ∙ ap refusalOf e)
-    ∙ sym (ap (λ (x : Reading Circuit). stepRead x l state) m)
-
-by-refused : (n : ℕ) (c : Circuit) (l : StepLent) (s : Run) → (n ≡ 0 → ⊥) → refusedStep n l s ≡ stepBy n c l s
-unfolding stepBy
-by-refused zero c l s h = absurd (h refl)
-by-refused (suc n) c l s h = refl
-
-by-accepted : (n : ℕ) (c : Circuit) (l : StepLent) (s : Run) → n ≡ 0 → stepBy n c l s ≡ acceptedStep c l (stepRun c l s)
-unfolding stepBy
-by-accepted n c l s e = ap (λ (m : ℕ). stepBy m c l s) e
+    read-refused (readCircuit s) (refusedStep l state) _ (stepped answer l) j (subst (OpenedAs s) e h)
+    (ap (λ (x : Stepped). stepped x l) w ∙ ap (refusedStep l state) (n ∙ ap refusalOf e))
 
 -- ---- a step that has passed every test
 
@@ -175,24 +168,25 @@ module _ {s : List ℕ} {f : Front} {a : Asked} {r : Spot} {shares triples : Lis
 -- ---- the tests together
 
 module _ {s : List ℕ} {f : Front} (o : HasFront s f) {a : Asked} (phase : ℕ) (asks : a .waits ≡ eqb phase 1) {gate : ℕ} {r : Spot}
-    (spots : Spots s f phase gate r) (shares triples : List ℕ) (space : ℕ) {n : ℕ} (number : n ≡ askedNumber f (r .admitted) a shares triples space) where
+    (spots : Spots s f phase gate r) (shares triples : List ℕ) (space : ℕ) {n : ℕ} (number : n ≡ firstFault (askedTests f (r .admitted) a shares triples space)) where
   pub checks : Checks s f a phase gate shares triples space (record { number = n; spot = r })
   checks =
       record {
-        number = number ∙ ap (λ (t : Bool). askedNumber f t a shares triples space) (spots .admitted);
+        number = number ∙ ap (λ (t : Bool). firstFault (askedTests f t a shares triples space)) (spots .admitted);
         tested =
             λ none.
-            let p = asked-passes f (r .admitted) a shares triples space (sym number ∙ none) in
+            let m = admitted-by (askedTests f (r .admitted) a shares triples space) n refl number none in
+            let known : r .admitted ≡ true = search (m .all) in
             record {
               opens = o;
               ready =
                   record {
-                    few = omega (arith, p .one-each, o .most);
-                    enough = p .enough;
-                    waits = λ e. spots .waits (eqb-true phase 1 (sym asks ∙ e)) (p .state);
+                    few = omega (arith, m .all, o .most);
+                    enough = omega (arith, m .all);
+                    waits = λ e. spots .waits (eqb-true phase 1 (sym asks ∙ e)) known;
                   };
-              room = p .room;
-              known = state-phase (content s) phase gate (sym (spots .admitted) ∙ p .state);
+              room = omega (arith, m .all);
+              known = state-phase (content s) phase gate (sym (spots .admitted) ∙ known);
               asks = asks;
               number = spots .number;
             };
@@ -209,23 +203,17 @@ module _ (role : ℕ) {s : List ℕ} {shares triples : List ℕ} (output : List 
   abbrev lent : StepLent
   lent = lentWith role s shares triples output far1 far2
 
-  number-is : r .number ≡ stepNumber (content s) lent state
-  unfolding askedNumber stepNumber
+  number-is : r .number ≡ firstFault (stepTests (content s) lent state)
   number-is = ch .number ∙ rw (o .inputs, o .outputs, o .ands)
 
-  step-is : step lent state ≡ stepBy (stepNumber (content s) lent state) (content s) lent state
-  unfolding step
-  step-is = ap (λ (x : Reading Circuit). stepRead x lent state) (o .whole)
+  step-by : (x : StepOutcome) → x ≡ answered (stepTests (content s) lent state) (refusedStep lent state) (acceptedOn (content s) lent state) → x ≡ step lent state
+  unfolding step acceptedOn
+  step-by x e = read-whole (readCircuit s) (refusedStep lent state) _ x (content s) (o .whole) e
 
   pub step-refused : {answer : Stepped} → (r .number ≡ 0 → ⊥) → answer ≡ steppedWith (r .number) 0 0 0 state
       → stepped answer (lentWith role s shares triples output far1 far2) ≡ step (lentWith role s shares triples output far1 far2) state
-  step-refused h w =
-      ap (λ (x : Stepped). stepped x lent) w
-      ∙ by-refused (r .number) (content s) lent state h
-      ∙ ap (λ (m : ℕ). stepBy m (content s) lent state) number-is
-      ∙ sym step-is
+  step-refused h w = step-by _ (refused-with _ _ _ _ (r .number) number-is (ne-eqb (r .number) 0 h) (ap (λ (x : Stepped). stepped x lent) w))
 
   pub step-accepted : r .number ≡ 0 → {answer : Stepped} {after : StepLent} → stepped answer after ≡ acceptedOn (content s) (lentWith role s shares triples output far1 far2) state
       → stepped answer after ≡ step (lentWith role s shares triples output far1 far2) state
-  unfolding acceptedOn
-  step-accepted none w = w ∙ sym (step-is ∙ by-accepted (stepNumber (content s) lent state) (content s) lent state (sym number-is ∙ none))
+  step-accepted none w = step-by _ (accepted-with _ _ _ _ (r .number) number-is none w)

@@ -1,21 +1,22 @@
 -- A step of an end's run of a circuit (document 02, 9): from everything lent and the state that the step before left to everything
 -- that stands on return. It tests the reading (10, 11, 17, 12), then 3, 13, 8, 18, and last what document 02 does not name: the state
 -- (17) and the role (9).
-use Prim.Native.Nat.{ℕ, zero, suc, _+_, _-_, _/_, _%_}
+use Prim.Native.Nat.{ℕ, _+_, _-_, _*_, _%_}
 use mathlib.Core.Bool.{Bool, not, _&&_, _||_}
 use mathlib.Core.List.{List, [], _∷_, _++_}
 use lib.Bits.{bitXor, bitAnd}
-use lib.Dec.{leb, ltb, eqb}
+use lib.Dec.{leb, eqb}
 use lib.ListN.{length, getD, take, drop, set, replicate}
 use Rattle.algebra.specs.Choice.{choose}
 use Rattle.algebra.specs.Coding.{at}
 use Rattle.answer.specs.Numbers.{accepted, badLength, notElement, wrongEnd, bufferShort, badCircuit, tooFewTriples}
+use Rattle.answer.specs.Outcome.{answered}
+use Rattle.answer.specs.Tests.{Test, _is_, _atMost_, allAtMost, holds, _or_}
 use Rattle.circuit.specs.Admitted.{mostWires}
 use Rattle.circuit.specs.Content.{Gate, Xor, And, Not, Circuit, isAnd, andsIn}
 use Rattle.circuit.specs.Reading.{readCircuit}
 use Rattle.circuit.specs.Value.{atWires}
-use Rattle.number.specs.Reading.{Reading, Whole, Refused}
-use Rattle.answer.specs.Bytes.{anyAbove}
+use Rattle.number.specs.Reading.{afterReading}
 use Rattle.triples.specs.Triple.{tripleBytes}
 use Rattle.circuit_run.specs.declared.Run.{Run}
 use Rattle.circuit_run.specs.declared.Stepped.{Stepped}
@@ -69,14 +70,9 @@ runWith phase gate wires = record { phase = phase; gate = gate; wires = wires }
 
 -- ---- tests
 
--- shares one an input, triple bits three each
-abbrev pub slicesAdmitted : Circuit → StepLent → Bool
-slicesAdmitted c l = eqb (length (l .shares)) (c .inputs) && eqb (length (l .triples) % 3) 0
-
--- shares and triples are bits, unused triples too; in phase 1 alone the far bits also
-abbrev pub bitsAdmitted : StepLent → Run → Bool
-bitsAdmitted l s =
-    not (anyAbove 1 (l .shares)) && not (anyAbove 1 (l .triples)) && (not (eqb (s .phase) 1) || (leb (l .farFirst) 1 && leb (l .farSecond) 1))
+-- far bits are bits where they are read, which is in phase 1 alone
+abbrev pub farAdmitted : Bool → ℕ → ℕ → Bool
+farAdmitted waits first second = not waits || (leb first 1 && leb second 1)
 
 -- the gate of a number, from 0; past the last there is none, which a NOT stands for, since it is asked for ANDs alone
 abbrev pub gateAt : Circuit → ℕ → Gate
@@ -89,16 +85,20 @@ stateAdmitted c phase gate = leb phase 2 && (not (eqb phase 1) || isAnd (gateAt 
 abbrev pub isRole : ℕ → Bool
 isRole role = eqb role 1 || eqb role 2
 
--- the number of a step on a circuit that was read
-unfoldable pub stepNumber : Circuit → StepLent → Run → ℕ
-stepNumber c l s =
-    choose (not (slicesAdmitted c l)) badLength
-    (choose (ltb (length (l .output)) (length (c .outputs))) bufferShort
-    (choose (not (bitsAdmitted l s)) notElement
-    (choose (ltb (length (l .triples) / 3) (andsIn (c .gates))) tooFewTriples
-    (choose (not (stateAdmitted c (s .phase) (s .gate))) badCircuit
-    (choose (not (isRole (l .role))) wrongEnd
-    accepted)))))
+-- the tests of a step on a circuit that was read: shares one an input, triple bits three each; room for the outputs; shares and
+-- triples are bits, unused triples too, and so are the far bits in phase 1; a triple for each AND; the state; the role
+abbrev pub stepTests : Circuit → StepLent → Run → List Test
+stepTests c l s =
+    length (l .shares) is c .inputs or badLength
+    ∷ length (l .triples) % 3 is 0 or badLength
+    ∷ length (c .outputs) atMost length (l .output) or bufferShort
+    ∷ allAtMost 1 (l .shares) or notElement
+    ∷ allAtMost 1 (l .triples) or notElement
+    ∷ holds (farAdmitted (eqb (s .phase) 1) (l .farFirst) (l .farSecond)) or notElement
+    ∷ 3 * andsIn (c .gates) atMost length (l .triples) or tooFewTriples
+    ∷ holds (stateAdmitted c (s .phase) (s .gate)) or badCircuit
+    ∷ holds (isRole (l .role)) or wrongEnd
+    ∷ []
 
 -- ---- what an accepted step does
 
@@ -195,18 +195,11 @@ acceptedStep c l s =
     (stepOutcome accepted (length (c .outputs)) 0 0 s (withOutputs c l s))
 
 -- a refused step returns zeros, the state and all that is lent as it was
-abbrev pub refusedStep : ℕ → StepLent → Run → StepOutcome
-refusedStep number l s = stepOutcome number 0 0 0 s l
+abbrev pub refusedStep : StepLent → Run → ℕ → StepOutcome
+refusedStep l s number = stepOutcome number 0 0 0 s l
 
--- a step by its number
-unfoldable pub stepBy : ℕ → Circuit → StepLent → Run → StepOutcome
-stepBy zero c l s = acceptedStep c l (stepRun c l s)
-stepBy (suc n) c l s = refusedStep (suc n) l s
-
-abbrev pub stepRead : Reading Circuit → StepLent → Run → StepOutcome
-stepRead (Whole c) l s = stepBy (stepNumber c l s) c l s
-stepRead (Refused k) l s = refusedStep k l s
-
--- the step
+-- the step: the reading's number, else that of the first test that is not met, else what an accepted step gives
 unfoldable pub step : StepLent → Run → StepOutcome
-step l s = stepRead (readCircuit (l .circuit)) l s
+step l s =
+    afterReading (readCircuit (l .circuit)) (refusedStep l s)
+    (λ c. answered (stepTests c l s) (refusedStep l s) (acceptedStep c l (stepRun c l s)))

@@ -1,7 +1,8 @@
 // The tests of a step, once its circuit is read.
 ghost use mathlib.Core.Path.{_≡_};
-ghost use Rattle.circuit_run.specs.Inner.Tests.{bitsAsked, lengthsAsked, askedNumber};
-ghost use Rattle.circuit_run.specs.Step.{isRole};
+ghost use Rattle.answer.specs.Tests.{firstFault};
+ghost use Rattle.circuit_run.specs.Inner.Tests.{askedTests};
+ghost use Rattle.circuit_run.specs.Step.{farAdmitted, isRole};
 use answer::BAD_CIRCUIT;
 use answer::BAD_LENGTH;
 use answer::BUFFER_SHORT;
@@ -9,6 +10,7 @@ use answer::NOT_ELEMENT;
 use answer::TOO_FEW_TRIPLES;
 use answer::WRONG_END;
 use answer::any_above;
+use answer::is_short;
 use circuit::Front;
 
 // The numbers that a step gets: the role, whether its state waits for the far bits, and these.
@@ -19,33 +21,17 @@ pub struct Asked {
     pub far_second: u8,
 }
 
-// Whether shares are one an input, and triple bits three each.
-fn lengths_asked(inputs: usize, shares: usize, triples: usize) -> bool
-    ensures { λ r. ⌜ r ≡ lengthsAsked inputs shares triples ⌝ }
+// Whether the far bits of a run that waits are bits.
+fn are_far_bits(waits: bool, first: u8, second: u8) -> bool
+    ensures { λ r. ⌜ r ≡ farAdmitted waits first second ⌝ }
 {
-    if shares != inputs {
-        return false;
-    }
-    triples % 3 == 0
-}
-
-// Whether shares and triples are bits, and the far bits of a run that waits.
-fn bits_asked(asked: Asked, shares: &[u8], triples: &[u8]) -> bool
-    ensures { λ r. ⌜ r ≡ bitsAsked asked (now (shares .entry)) (now (triples .entry)) ⌝ }
-{
-    if any_above(1, shares) {
-        return false;
-    }
-    if any_above(1, triples) {
-        return false;
-    }
-    if !asked.waits {
+    if !waits {
         return true;
     }
-    if 1 < asked.far_first {
+    if 1 < first {
         return false;
     }
-    asked.far_second <= 1
+    second <= 1
 }
 
 // Whether the role is 1 or 2.
@@ -67,18 +53,27 @@ pub fn step_number(
     triples: &[u8],
     room: usize,
 ) -> u32
-    ensures { λ r. ⌜ r ≡ askedNumber front admitted asked (now (shares .entry)) (now (triples .entry)) room ⌝ }
+    ensures { λ r. ⌜ r ≡ firstFault (askedTests front admitted asked (now (shares .entry)) (now (triples .entry)) room) ⌝ }
 {
-    if !lengths_asked(front.inputs, shares.len(), triples.len()) {
+    if shares.len() != front.inputs {
+        return BAD_LENGTH;
+    }
+    if triples.len() % 3 != 0 {
         return BAD_LENGTH;
     }
     if room < front.outputs {
         return BUFFER_SHORT;
     }
-    if !bits_asked(asked, shares, triples) {
+    if any_above(1, shares) {
         return NOT_ELEMENT;
     }
-    if triples.len() / 3 < front.ands {
+    if any_above(1, triples) {
+        return NOT_ELEMENT;
+    }
+    if !are_far_bits(asked.waits, asked.far_first, asked.far_second) {
+        return NOT_ELEMENT;
+    }
+    if is_short(triples.len(), 3, front.ands) {
         return TOO_FEW_TRIPLES;
     }
     if !admitted {

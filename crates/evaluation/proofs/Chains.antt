@@ -1,23 +1,30 @@
 -- What an accepted step gives, and the accepted steps of a run one after the other. Assumes nothing.
-use Prim.Native.Nat.{ℕ, zero, suc}
+use Prim.Native.Nat.{ℕ, zero, suc, _≤_}
 use mathlib.Core.Bool.{Bool, true, false}
 use mathlib.Core.List.{List, [], _∷_}
+use mathlib.Core.Logic.{_↔_}
 use mathlib.Core.Option.{some, none}
 use mathlib.Core.Path.{_≡_, refl, sym, ap, _∙_, subst}
 use borrow.Author.Tests.{eq-eqb, ne-eqb, eqb-true, eqb-false}
 use native.Mathlib.Omega.{arith}
 use lib.Dec.{eqb}
-use lib.ListN.{length, drop, length-map}
+use lib.ListN.{length, getD, drop, length-map}
 use lib.Seq.{take-at}
 use Rattle.algebra.specs.Choice.{choose}
+use Rattle.answer.proofs.Answers.{refused-with, accepted-with, number-of}
+use Rattle.answer.proofs.Faults.{admitted-by, no-fault}
+use Rattle.answer.specs.Outcome.{answered}
+use Rattle.answer.specs.Tests.{firstFault, AllMet}
 use Rattle.circuit.proofs.Refusals.{refused-numbered}
 use Rattle.circuit.specs.Content.{Circuit}
 use Rattle.circuit.specs.Reading.{readCircuit}
 use Rattle.circuit.specs.Value.{atWires}
 use Rattle.number.proofs.Places.{choose-yes, choose-no}
+use Rattle.number.proofs.Records.{read-refused, read-whole}
 use Rattle.number.specs.Reading.{Reading, Whole, Refused}
 use Rattle.evaluation.specs.Runs.{StepMade, acceptedSteps, IsStep, writtenBy}
-use Rattle.circuit_run.specs.Step.{StepLent, StepOutcome, stepOutcome, stepNumber, stepRun, maskedFirst, maskedSecond, withOutputs, acceptedStep, refusedStep, stepBy, stepRead, step}
+use Rattle.circuit_run.proofs.Numbers.{far-bits}
+use Rattle.circuit_run.specs.Step.{StepLent, StepOutcome, stepOutcome, stateAdmitted, stepTests, stepRun, maskedFirst, maskedSecond, withOutputs, acceptedStep, refusedStep, step}
 use Rattle.circuit_run.specs.declared.Run.{Run}
 
 some-is : {A : Type 0} {x y : A} → some x ≡ some y → x ≡ y
@@ -63,39 +70,64 @@ module _ (c : Circuit) (l : StepLent) (r : Run) where
       ap writtenBy (accepted-ends n)
       ∙ take-at (atWires (r .wires) (c .outputs)) (drop (length (c .outputs)) (l .output)) (length (c .outputs)) (length-map (c .outputs) _)
 
--- ---- a step by its number
+-- ---- a step by its reading and its tests
+
+-- refused by the reading
+read-none : (l : StepLent) (s : Run) (k : ℕ) → readCircuit (l .circuit) ≡ Refused k → refusedStep l s k ≡ step l s
+unfolding step
+read-none l s k f = read-refused (readCircuit (l .circuit)) (refusedStep l s) _ _ k f refl
+
+module _ {c : Circuit} (l : StepLent) (s : Run) (f : readCircuit (l .circuit) ≡ Whole c) where
+  -- on a circuit that is read
+  read-on : answered (stepTests c l s) (refusedStep l s) (acceptedStep c l (stepRun c l s)) ≡ step l s
+  unfolding step
+  read-on = read-whole (readCircuit (l .circuit)) (refusedStep l s) _ _ c f refl
+
+  number-is : step l s .number ≡ firstFault (stepTests c l s)
+  number-is =
+      ap (λ (o : StepOutcome). o .number) (sym read-on)
+      ∙ number-of (λ (o : StepOutcome). o .number) (refusedStep l s) _ (λ n. refl) (accepted-number c l (stepRun c l s)) (stepTests c l s)
+
+  -- accepted exactly if every test is met
+  pub takes : AllMet (stepTests c l s) ↔ step l s .number ≡ 0
+  takes = (λ m. number-is ∙ no-fault (stepTests c l s) m, λ e. admitted-by (stepTests c l s) (step l s .number) refl number-is e)
 
 -- what an accepted step had
 pub record Took (c : Circuit) (l : StepLent) (s : Run) : Type 0 where
   pub read : readCircuit (l .circuit) ≡ Whole c
-  pub number : stepNumber c l s ≡ 0
+  pub met : AllMet (stepTests c l s)
   pub is : step l s ≡ acceptedStep c l (stepRun c l s)
 
-step-by-number : (n : ℕ) (c : Circuit) (l : StepLent) (s : Run) → stepBy n c l s .number ≡ 0 → n ≡ 0
-unfolding stepBy
-step-by-number zero c l s e = refl
-step-by-number (suc n) c l s e = e
+module _ {c : Circuit} {l : StepLent} {s : Run} (t : Took c l s) where
+  pub share-bits : (k : ℕ) → getD (l .shares) k 0 ≤ 1
+  share-bits = search (t .met .all)
 
-step-by-zero : (n : ℕ) (c : Circuit) (l : StepLent) (s : Run) → n ≡ 0 → stepBy n c l s ≡ acceptedStep c l (stepRun c l s)
-unfolding stepBy
-step-by-zero n c l s e = ap (λ (m : ℕ). stepBy m c l s) e
+  pub triple-bits : (k : ℕ) → getD (l .triples) k 0 ≤ 1
+  triple-bits = search (t .met .all)
+
+  pub far-met : s .phase ≡ 1 → (l .farFirst ≤ 1) × (l .farSecond ≤ 1)
+  far-met e = far-bits (eqb (s .phase) 1) (l .farFirst) (l .farSecond) (search (t .met .all)) (eq-eqb (s .phase) 1 e)
+
+  pub state-met : stateAdmitted c (s .phase) (s .gate) ≡ true
+  state-met = search (t .met .all)
 
 -- with a circuit that is known
 pub took-on : {c : Circuit} (l : StepLent) (s : Run) → readCircuit (l .circuit) ≡ Whole c → step l s .number ≡ 0 → Took c l s
-unfolding step
 took-on {c} l s f e =
-    let g : stepRead (readCircuit (l .circuit)) l s ≡ stepBy (stepNumber c l s) c l s = ap (λ (x : Reading Circuit). stepRead x l s) f in
-    let z = step-by-number (stepNumber c l s) c l s (ap (λ (o : StepOutcome). o .number) (sym g) ∙ e) in
-    record { read = f; number = z; is = g ∙ step-by-zero (stepNumber c l s) c l s z }
+    record {
+      read = f;
+      met = takes l s f .1 e;
+      is = sym (accepted-with (stepTests c l s) (refusedStep l s) (acceptedStep c l (stepRun c l s)) _ (step l s .number) (number-is l s f) e refl ∙ read-on l s f);
+    }
 
 -- with any
 pub took : (l : StepLent) (s : Run) → step l s .number ≡ 0 → (c : Circuit) × Took c l s
-unfolding step
-took l s e = of (readCircuit (l .circuit)) refl e
+took l s e = of (readCircuit (l .circuit)) refl
   where
-    of : (r : Reading Circuit) → readCircuit (l .circuit) ≡ r → stepRead r l s .number ≡ 0 → (c : Circuit) × Took c l s
-    of (Whole c) f g = (c, took-on l s f e)
-    of (Refused k) f g = absurd (let h = refused-numbered (l .circuit) k f in omega arith)
+    of : (r : Reading Circuit) → readCircuit (l .circuit) ≡ r → (c : Circuit) × Took c l s
+    of (Whole c) f = (c, took-on l s f e)
+    of (Refused k) f =
+        absurd (omega (arith, refused-numbered (l .circuit) k f, ap (λ (o : StepOutcome). o .number) (read-none l s k f) ∙ e))
 
 -- the state that it left, and what it gave by that state
 pub took-state : {c : Circuit} {l : StepLent} {s : Run} → Took c l s → step l s .state ≡ stepRun c l s
@@ -105,18 +137,14 @@ pub took-gave : {c : Circuit} {l : StepLent} {s : Run} → Took c l s → step l
 took-gave {c} {l} {s} t = t .is ∙ ap (acceptedStep c l) (sym (took-state t))
 
 -- a refused step
-by-number : (n : ℕ) (c : Circuit) (l : StepLent) (s : Run) → (stepBy n c l s .number ≡ 0 → ⊥) → stepBy n c l s ≡ refusedStep (stepBy n c l s .number) l s
-unfolding stepBy
-by-number zero c l s g = absurd (g (accepted-number c l (stepRun c l s)))
-by-number (suc n) c l s g = refl
-
-pub step-refused : (l : StepLent) (s : Run) → (step l s .number ≡ 0 → ⊥) → step l s ≡ refusedStep (step l s .number) l s
-unfolding step
-step-refused l s h = of (readCircuit (l .circuit)) h
+pub step-refused : (l : StepLent) (s : Run) → (step l s .number ≡ 0 → ⊥) → step l s ≡ refusedStep l s (step l s .number)
+step-refused l s h = of (readCircuit (l .circuit)) refl
   where
-    of : (r : Reading Circuit) → (stepRead r l s .number ≡ 0 → ⊥) → stepRead r l s ≡ refusedStep (stepRead r l s .number) l s
-    of (Whole c) g = by-number (stepNumber c l s) c l s g
-    of (Refused k) g = refl
+    of : (r : Reading Circuit) → readCircuit (l .circuit) ≡ r → step l s ≡ refusedStep l s (step l s .number)
+    of (Whole c) f =
+        sym (refused-with (stepTests c l s) (refusedStep l s) (acceptedStep c l (stepRun c l s)) _ (step l s .number) (number-is l s f)
+        (ne-eqb (step l s .number) 0 h) refl ∙ read-on l s f)
+    of (Refused k) f = let e = sym (read-none l s k f) in e ∙ ap (λ (o : StepOutcome). refusedStep l s (o .number)) (sym e)
 
 -- ---- one after the other
 

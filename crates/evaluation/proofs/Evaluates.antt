@@ -16,9 +16,8 @@ use Rattle.circuit.specs.Reading.{readCircuit}
 use Rattle.circuit.specs.Value.{wireValues, valueOf, atWires}
 use Rattle.number.proofs.Places.{split, either}
 use Rattle.number.specs.Reading.{Whole}
-use Rattle.evaluation.proofs.Chains.{accepted-waits, ends-written, Took, took-state, took-gave, step-before}
+use Rattle.evaluation.proofs.Chains.{accepted-waits, ends-written, Took, share-bits, triple-bits, took-state, took-gave, step-before}
 use Rattle.evaluation.proofs.Joins.{Agree, Joint, joint-run, joint-and, combined-length, combined-at, fresh-length, fresh-at, combined-outputs}
-use Rattle.circuit_run.proofs.Numbers.{passes}
 use Rattle.evaluation.proofs.Progresses.{phase-fresh, and-gate, first-took, next-took, stands, finishes}
 use Rattle.evaluation.proofs.Reaches.{Standing, waiting, finished, run-fresh, run-waits, run-ends}
 use Rattle.evaluation.specs.Evaluation.{combined, Unaltered, Ends, Evaluation}
@@ -46,14 +45,13 @@ module _ (circuit : List ℕ) (c : Circuit) (read : readCircuit circuit ≡ Whol
 
   of-took : (k : ℕ) (m : StepMade) → IsStep (runOf calls) k m → (s : Run) → m .gave ≡ step (m .got) s → Took c (m .got) s → Stood k m
   of-took k m e s g t =
-      let p = passes c (m .got) s (t .number) in
       let o = own k m e in
       record {
         gave = g ∙ took-gave t ∙ ap (λ (x : StepOutcome). acceptedStep c (m .got) (x .state)) (sym g);
-        one-each = ap length (sym (o .own-shares)) ∙ p .one-each;
-        share-bits = λ w. subst (λ (l : List ℕ). getD l w 0 ≤ 1) (o .own-shares) (p .share-bits w);
-        triple-bits = λ w. subst (λ (l : List ℕ). getD l w 0 ≤ 1) (o .own-triples) (p .triple-bits w);
-        enough = omega (arith, ap length (o .own-triples), p .enough);
+        one-each = ap length (sym (o .own-shares)) ∙ t .met .all .0;
+        share-bits = λ w. subst (λ (l : List ℕ). getD l w 0 ≤ 1) (o .own-shares) (share-bits t w);
+        triple-bits = λ w. subst (λ (l : List ℕ). getD l w 0 ≤ 1) (o .own-triples) (triple-bits t w);
+        enough = omega (arith, ap length (o .own-triples), t .met .all);
       }
 
   pub stood : (k : ℕ) (m : StepMade) → IsStep (runOf calls) k m → Stood k m

@@ -7,19 +7,21 @@ use mathlib.Core.Path.{_≡_, refl, sym, ap, _∙_, subst}
 use borrow.Author.Tests.{eq-eqb, ne-eqb}
 use native.Mathlib.Omega.{arith}
 use lib.ListN.{length, drop}
+use Rattle.answer.specs.Outcome.{byNumber, answered}
+use Rattle.answer.specs.Tests.{Test, firstFault}
 use Rattle.circuit.specs.Admitted.{mostWires}
 use Rattle.circuit.specs.Content.{Circuit, isAnd, andsIn}
 use Rattle.circuit.specs.Reading.{readCircuit}
 use Rattle.circuit.specs.Value.{atWires}
 use Rattle.number.proofs.Places.{either}
-use Rattle.number.specs.Reading.{Reading, Whole, Refused}
+use Rattle.number.specs.Reading.{Reading, Whole, Refused, afterReading}
 use Rattle.evaluation.proofs.Bits.{xor-bit, share-bit}
-use Rattle.evaluation.proofs.Chains.{accepted-state, accepted-waits, accepted-ends, ends-written, Took, took, took-state, took-gave, took-on, step-refused, Chain, chain-of, first-made, next-made, step-before}
-use Rattle.circuit_run.proofs.Numbers.{Passes, passes, state-phase, state-and}
+use Rattle.evaluation.proofs.Chains.{accepted-state, accepted-waits, accepted-ends, ends-written, Took, share-bits, triple-bits, far-met, state-met, took, took-state, took-gave, took-on, step-refused, Chain, chain-of, first-made, next-made, step-before}
+use Rattle.circuit_run.proofs.Numbers.{state-phase, state-and}
 use Rattle.evaluation.proofs.Reaches.{Standing, waiting, finished, standing, from-start, and-inside, and-after, and-before, run-fresh, run-waits, run-ends, WireBits, set-bits, run-bits, zeros-bits, append-bits}
 use Rattle.evaluation.specs.Progress.{OnCircuit, GivesBits, withFar, farLent, Progress}
 use Rattle.evaluation.specs.Runs.{fresh, StepMade, runOf, IsStep, writtenBy}
-use Rattle.circuit_run.specs.Step.{StepLent, StepOutcome, gateAt, andsBefore, freshWires, advance, maskedFirst, maskedSecond, waitingShare, withAnd, stepNumber, stepRun, withOutputs, acceptedStep, stepBy, stepRead, step}
+use Rattle.circuit_run.specs.Step.{StepLent, StepOutcome, gateAt, andsBefore, freshWires, advance, maskedFirst, maskedSecond, waitingShare, withAnd, stepTests, stepRun, withOutputs, acceptedStep, refusedStep, step}
 use Rattle.circuit_run.specs.declared.Run.{Run}
 
 -- ---- where a run stands
@@ -27,7 +29,7 @@ use Rattle.circuit_run.specs.declared.Run.{Run}
 -- after an accepted step of a run that waits
 module _ {c : Circuit} {l : StepLent} {s : Run} (one : s .phase ≡ 1) (t : Took c l s) where
   pub and-gate : isAnd (gateAt c (s .gate)) ≡ true
-  and-gate = state-and c (s .phase) (s .gate) (passes c l s (t .number) .state) one
+  and-gate = state-and c (s .phase) (s .gate) (state-met t) one
 
   after-and : Standing c (s .gate + 1) (andsBefore c (s .gate) + 1) (step l s .state)
   after-and =
@@ -133,23 +135,23 @@ gives c l r wires triples =
     })
 
 -- the wires after an accepted step
-pub step-bits : (c : Circuit) (l : StepLent) (s : Run) → Passes c l s → WireBits (s .wires) → WireBits (stepRun c l s .wires)
+pub step-bits : (c : Circuit) (l : StepLent) (s : Run) → Took c l s → WireBits (s .wires) → WireBits (stepRun c l s .wires)
 unfolding freshWires withAnd waitingShare maskedFirst maskedSecond
-step-bits c l s p wires =
+step-bits c l s t wires =
     either (s .phase) 0
     (λ e.
     subst (λ (r : Run). WireBits (r .wires)) (sym (run-fresh c l s e))
-    (run-bits (l .role) (c .inputs) (c .gates) 0 (freshWires (l .shares)) (append-bits (l .shares) _ (p .share-bits) (zeros-bits (mostWires - length (l .shares))))))
+    (run-bits (l .role) (c .inputs) (c .gates) 0 (freshWires (l .shares)) (append-bits (l .shares) _ (share-bits t) (zeros-bits (mostWires - length (l .shares))))))
     (λ n. either (s .phase) 1
     (λ e.
-    let far = p .far (eq-eqb (s .phase) 1 e) in
+    let far = far-met t e in
     subst (λ (r : Run). WireBits (r .wires)) (sym (run-waits c l s e))
     (run-bits (l .role) (c .inputs) (drop (s .gate + 1) (c .gates)) (s .gate + 1) (withAnd c l s)
     (set-bits (s .wires) (c .inputs + s .gate) (waitingShare c l s) wires
-    (share-bit (l .role) (xor-bit (xor-bit (wires _) (p .triple-bits _)) (far .0)) (xor-bit (xor-bit (wires _) (p .triple-bits _)) (far .1))
-    (p .triple-bits _) (p .triple-bits _) (p .triple-bits _)))))
-    (λ m.
-    let two : s .phase ≡ 2 = omega (arith, state-phase c (s .phase) (s .gate) (p .state)) in
+    (share-bit (l .role) (xor-bit (xor-bit (wires _) (triple-bits t _)) (far .0)) (xor-bit (xor-bit (wires _) (triple-bits t _)) (far .1))
+    (triple-bits t _) (triple-bits t _) (triple-bits t _)))))
+    (λ o.
+    let two : s .phase ≡ 2 = omega (arith, state-phase c (s .phase) (s .gate) (state-met t)) in
     subst (λ (r : Run). WireBits (r .wires)) (sym (run-ends c l s two)) wires))
 
 fresh-bits : WireBits (fresh .wires)
@@ -160,8 +162,7 @@ fresh-bits = zeros-bits mostWires
 step-gives : (l : StepLent) (s : Run) → step l s .number ≡ 0 → WireBits (s .wires) → GivesBits (step l s)
 step-gives l s e wires =
     let t = took l s e in
-    let p = passes (t .0) l s (t .1 .number) in
-    subst GivesBits (sym (t .1 .is)) (gives (t .0) l (stepRun (t .0) l s) (step-bits (t .0) l s p wires) (p .triple-bits))
+    subst GivesBits (sym (t .1 .is)) (gives (t .0) l (stepRun (t .0) l s) (step-bits (t .0) l s (t .1) wires) (triple-bits (t .1)))
 
 run-gives : (calls : List StepLent) (k : ℕ) (m : StepMade) → IsStep (runOf calls) k m → GivesBits (m .gave)
 run-gives calls zero m e =
@@ -176,9 +177,8 @@ run-gives calls (suc k) m e =
 -- ---- far bits
 
 module _ (l : StepLent) (s : Run) (n : s .phase ≡ 1 → ⊥) (x y : ℕ) where
-  far-number : (c : Circuit) → stepNumber c (withFar x y l) s ≡ stepNumber c l s
-  unfolding stepNumber
-  far-number c = rw (ne-eqb (s .phase) 1 n)
+  far-tests : (c : Circuit) → stepTests c (withFar x y l) s ≡ stepTests c l s
+  far-tests c = rw (ne-eqb (s .phase) 1 n)
 
   far-run : (c : Circuit) → stepRun c (withFar x y l) s ≡ stepRun c l s
   unfolding stepRun
@@ -191,17 +191,21 @@ module _ (l : StepLent) (s : Run) (n : s .phase ≡ 1 → ⊥) (x y : ℕ) where
       (λ e. accepted-waits c (withFar x y l) r e ∙ ap (farLent x y) (sym (accepted-waits c l r e)))
       (λ m. accepted-ends c (withFar x y l) r m ∙ ap (farLent x y) (sym (accepted-ends c l r m)))
 
-  far-by : (m : ℕ) (c : Circuit) → stepBy m c (withFar x y l) s ≡ farLent x y (stepBy m c l s)
-  unfolding stepBy
-  far-by zero c = ap (acceptedStep c (withFar x y l)) (far-run c) ∙ far-accepted c (stepRun c l s)
-  far-by (suc m) c = refl
+  abbrev by : StepLent → Circuit → ℕ → StepOutcome
+  by k c m = byNumber m (refusedStep k s) (acceptedStep c k (stepRun c k s))
+
+  far-by : (c : Circuit) (m : ℕ) → by (withFar x y l) c m ≡ farLent x y (by l c m)
+  unfolding byNumber
+  far-by c zero = ap (acceptedStep c (withFar x y l)) (far-run c) ∙ far-accepted c (stepRun c l s)
+  far-by c (suc m) = refl
 
   far-unread : step (withFar x y l) s ≡ farLent x y (step l s)
-  unfolding step
+  unfolding step afterReading answered
   far-unread = of (readCircuit (l .circuit))
     where
-      of : (r : Reading Circuit) → stepRead r (withFar x y l) s ≡ farLent x y (stepRead r l s)
-      of (Whole c) = ap (λ (m : ℕ). stepBy m c (withFar x y l) s) (far-number c) ∙ far-by (stepNumber c l s) c
+      of : (r : Reading Circuit) → afterReading r (refusedStep (withFar x y l) s) (λ c. by (withFar x y l) c (firstFault (stepTests c (withFar x y l) s)))
+          ≡ farLent x y (afterReading r (refusedStep l s) (λ c. by l c (firstFault (stepTests c l s))))
+      of (Whole c) = ap (λ (t : List Test). by (withFar x y l) c (firstFault t)) (far-tests c) ∙ far-by c (firstFault (stepTests c l s))
       of (Refused k) = refl
 
 -- document 02, 9: progress

@@ -31,7 +31,7 @@ farLent first second o = stepOutcome (o .number) (o .written) (o .firstBit) (o .
 
 pub record Progress : Type 0 where
   -- a refused step changes nothing, and gives zeros beside its number
-  pub refused : (l : StepLent) (s : Run) → (step l s .number ≡ accepted → ⊥) → step l s ≡ refusedStep (step l s .number) l s
+  pub refused : (l : StepLent) (s : Run) → (step l s .number ≡ accepted → ⊥) → step l s ≡ refusedStep l s (step l s .number)
   -- an accepted step of a run that waits passes at least one gate
   pub passes : (l : StepLent) (s : Run) → s .phase ≡ 1 → step l s .number ≡ accepted → s .gate < step l s .state .gate
   -- while the circuit stays, a run from the fresh state waits after as many accepted steps as the circuit has ANDs, or fewer, and has

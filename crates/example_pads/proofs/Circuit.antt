@@ -7,15 +7,16 @@ use native.Mathlib.Omega.{arith}
 use lib.Dec.{lit<}
 use lib.ListN.{getElem?}
 use Rattle.algebra.specs.Coding.{flat, over}
+use Rattle.answer.specs.Bytes.{anyAbove}
+use Rattle.answer.specs.Outcome.{byNumber, answered}
+use Rattle.answer.specs.Tests.{isMet, firstFault}
 use Rattle.number.specs.Number.{readNumber, lastGroup}
-use Rattle.number.specs.Reading.{Whole, tested, readByte}
-use Rattle.messages.specs.Outcome.{outcomeOf, firstFault}
-use Rattle.pads.specs.Bytes.{anyAbove}
+use Rattle.number.specs.Reading.{Whole, tested, afterReading, readByte}
 use Rattle.triples.specs.Call.{triples}
 use Rattle.triples.specs.Triple.{tripleFrom, tripleOf}
 use Rattle.circuit.specs.Content.{andsIn}
 use Rattle.circuit.specs.Reading.{readWithin, readWire, readGate, readGates, readWires, readCircuit}
-use Rattle.circuit_run.specs.Step.{stepNumber, freshWires, flipped, runOn, maskedFirst, maskedSecond, andShare, waitingShare, withAnd, stepRun, withOutputs, acceptedStep, stepBy, step}
+use Rattle.circuit_run.specs.Step.{freshWires, flipped, runOn, maskedFirst, maskedSecond, andShare, waitingShare, withAnd, stepRun, withOutputs, acceptedStep, step}
 use Rattle.evaluation.specs.Evaluation.{combined, Own, Receives, Ends}
 use Rattle.evaluation.specs.Runs.{fresh, StepMade, acceptedSteps, runOf, IsStep}
 use Rattle.dealt_pads.proofs.CircuitRuns.{circuits}
@@ -58,15 +59,15 @@ last₂ : StepMade
 last₂ = record { got = step₂ 2 0 0; gave = step (step₂ 2 0 0) (made₂ .gave .state) }
 
 run₁ : runOf calls₁ ≡ made₁ ∷ last₁ ∷ []
-unfolding readWithin readWire readGate readGates readWires readCircuit tested readByte readNumber lastGroup andsIn anyAbove stepNumber freshWires flipped runOn maskedFirst maskedSecond andShare waitingShare withAnd stepRun withOutputs acceptedStep stepBy step fresh acceptedSteps made₁ last₁
+unfolding readWithin readWire readGate readGates readWires readCircuit tested readByte readNumber lastGroup andsIn anyAbove isMet firstFault freshWires flipped runOn maskedFirst maskedSecond andShare waitingShare withAnd stepRun withOutputs acceptedStep byNumber answered afterReading step fresh acceptedSteps made₁ last₁
 run₁ = refl
 
 run₂ : runOf calls₂ ≡ made₂ ∷ last₂ ∷ []
-unfolding readWithin readWire readGate readGates readWires readCircuit tested readByte readNumber lastGroup andsIn anyAbove stepNumber freshWires flipped runOn maskedFirst maskedSecond andShare waitingShare withAnd stepRun withOutputs acceptedStep stepBy step fresh acceptedSteps made₂ last₂
+unfolding readWithin readWire readGate readGates readWires readCircuit tested readByte readNumber lastGroup andsIn anyAbove isMet firstFault freshWires flipped runOn maskedFirst maskedSecond andShare waitingShare withAnd stepRun withOutputs acceptedStep byNumber answered afterReading step fresh acceptedSteps made₂ last₂
 run₂ = refl
 
 ends : Ends circuitBytes shares₁ triple₁ shares₂ triple₂ (runOf calls₁) (runOf calls₂)
-unfolding readWithin readWire readGate readGates readWires readCircuit tested readByte readNumber lastGroup andsIn anyAbove stepNumber freshWires flipped runOn maskedFirst maskedSecond andShare waitingShare withAnd stepRun withOutputs acceptedStep stepBy step fresh acceptedSteps made₁ last₁ made₂ last₂
+unfolding readWithin readWire readGate readGates readWires readCircuit tested readByte readNumber lastGroup andsIn anyAbove isMet firstFault freshWires flipped runOn maskedFirst maskedSecond andShare waitingShare withAnd stepRun withOutputs acceptedStep byNumber answered afterReading step fresh acceptedSteps made₁ last₁ made₂ last₂
 ends =
     rw (run₁, run₂)
     (record {
@@ -81,16 +82,16 @@ ends =
     })
 
 finished₁ : Finished calls₁ (0 ∷ 0 ∷ [])
-unfolding readWithin readWire readGate readGates readWires readCircuit tested readByte readNumber lastGroup andsIn anyAbove stepNumber freshWires flipped runOn maskedFirst maskedSecond andShare waitingShare withAnd stepRun withOutputs acceptedStep stepBy step fresh acceptedSteps made₁ last₁
+unfolding readWithin readWire readGate readGates readWires readCircuit tested readByte readNumber lastGroup andsIn anyAbove isMet firstFault freshWires flipped runOn maskedFirst maskedSecond andShare waitingShare withAnd stepRun withOutputs acceptedStep byNumber answered afterReading step fresh acceptedSteps made₁ last₁
 finished₁ = record { made = last₁; step = ap (λ (l : List StepMade). getElem? l 1) run₁; phase = refl; written = refl }
 
 finished₂ : Finished calls₂ (0 ∷ 1 ∷ [])
-unfolding readWithin readWire readGate readGates readWires readCircuit tested readByte readNumber lastGroup andsIn anyAbove stepNumber freshWires flipped runOn maskedFirst maskedSecond andShare waitingShare withAnd stepRun withOutputs acceptedStep stepBy step fresh acceptedSteps made₂ last₂
+unfolding readWithin readWire readGate readGates readWires readCircuit tested readByte readNumber lastGroup andsIn anyAbove isMet firstFault freshWires flipped runOn maskedFirst maskedSecond andShare waitingShare withAnd stepRun withOutputs acceptedStep byNumber answered afterReading step fresh acceptedSteps made₂ last₂
 finished₂ = record { made = last₂; step = ap (λ (l : List StepMade). getElem? l 1) run₂; phase = refl; written = refl }
 
 -- the circuit's one AND takes triple 0, which is the triple at place 1 of both calls
 gathered : (j : ℕ) → j < andsIn (circuit .gates) → GatheredAt triple₁ triple₂ j
-unfolding andsIn anyAbove firstFault outcomeOf triples flat over tripleFrom tripleOf
+unfolding andsIn anyAbove isMet firstFault byNumber answered triples flat over tripleFrom tripleOf
 gathered zero h = record { l = lent₁; l′ = lent₂; i = 1; formed = formed 1 (lit< tt); triple₁ = refl; triple₂ = refl }
 gathered (suc j) h = absurd (omega arith)
 

@@ -7,13 +7,14 @@ use lib.Bits.{bitXor}
 use lib.Dec.{eqb}
 use lib.ListN.{length, getD, set, drop}
 use Rattle.algebra.specs.Choice.{choose}
+use Rattle.answer.specs.Tests.{firstFault}
 use Rattle.circuit.specs.Content.{And, Circuit}
 use Rattle.circuit.specs.Answer.{content, HasFront}
 use Rattle.circuit.specs.Reading.{readGates}
 use Rattle.circuit.specs.declared.Front.{Front}
 use Rattle.number.specs.Reading.{Whole}
 use Rattle.circuit_run.specs.Step.{gateAt, andsBefore, firstWire, secondWire, tripleFirst, tripleSecond, tripleThird, stateAdmitted, flipped, andShare, freshWires, runOn, runWith, StepLent, StepOutcome, stepRun, acceptedStep}
-use Rattle.circuit_run.specs.Inner.Tests.{askedNumber}
+use Rattle.circuit_run.specs.Inner.Tests.{askedTests}
 use Rattle.circuit_run.specs.declared.checking.Checked.{Checked}
 use Rattle.circuit_run.specs.declared.input.Asked.{Asked}
 use Rattle.circuit_run.specs.declared.waiting.Place.{Place}
@@ -70,7 +71,7 @@ pub record Tested (s : List ℕ) (f : Front) (a : Asked) (r : Spot) (shares trip
 
 -- a step's number, and what it has where that is 0
 pub record Checks (s : List ℕ) (f : Front) (a : Asked) (phase gate : ℕ) (shares triples : List ℕ) (space : ℕ) (r : Checked) : Type 0 where
-  pub number : r .number ≡ askedNumber f (stateAdmitted (content s) phase gate) a shares triples space
+  pub number : r .number ≡ firstFault (askedTests f (stateAdmitted (content s) phase gate) a shares triples space)
   pub tested : r .number ≡ 0 → Tested s f a (r .spot) shares triples space phase gate
 
 -- where a run stops: at an AND or at the end

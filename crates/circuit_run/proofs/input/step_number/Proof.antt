@@ -1,5 +1,5 @@
 -- `circuit_run::input::step_number` meets its contract, test by test. Assumes nothing.
-use Rattle.circuit_run.proofs.Leaves.{number-lengths, number-room, number-bits, number-triples, number-state, number-role, number-accepted}
+use Rattle.answer.proofs.Faults.{chain}
 use borrow.Author.Needs.{needs}
 use Rattle.circuit_run.proofs.input.step_number.Statement.{statement}
 use Rattle.circuit_run.proofs.input.step_number.Tie as tie
@@ -8,14 +8,19 @@ pub step-number-spec : {M : Type 1} → statement M
 step-number-spec =
     tie.close
     (tie.spec
-    (λ c κs. search needs)  -- lengths-asked-requires
-    (λ c. search number-lengths)  -- returns
-    (λ c. search number-room)  -- returns-2
-    (λ c κs. search needs)  -- bits-asked-requires
-    (λ c. search number-bits)  -- returns-3
-    (λ c. search number-triples)  -- returns-4
-    (λ c. search number-state)  -- returns-5
+    (λ c. search chain depth 12 fits 4000)  -- returns
+    (λ c. search chain depth 12 fits 4000)  -- returns-2
+    (λ c. search chain depth 12 fits 4000)  -- returns-3
+    (λ c κs. search needs)  -- any-above-requires
+    (λ c. search chain depth 12 fits 4000)  -- returns-4
+    (λ c κs. search needs)  -- any-above-requires-2
+    (λ c. search chain depth 12 fits 4000)  -- returns-5
+    (λ c κs. search needs)  -- are-far-bits-requires
+    (λ c. search chain depth 12 fits 4000)  -- returns-6
+    (λ c κs. search needs)  -- is-short-requires
+    (λ c. search chain depth 12 fits 4000)  -- returns-7
+    (λ c. search chain depth 12 fits 4000)  -- returns-8
     (λ c κs. search needs)  -- is-role-requires
-    (λ c. search number-role)  -- returns-6
-    (λ c. search number-accepted)  -- returns-7
+    (λ c. search chain depth 12 fits 4000)  -- returns-9
+    (λ c. search chain depth 12 fits 4000)  -- returns-10
     )
