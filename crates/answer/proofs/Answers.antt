@@ -4,12 +4,12 @@ use mathlib.Core.Bool.{true, false, true≢false}
 use mathlib.Core.List.{List}
 use mathlib.Core.Logic.{_↔_}
 use Prim.Native.Nat.{ℕ, zero, suc}
-use lib.Dec.{eqb}
+use lib.Dec.{eqb, eqb·suc-zero}
 use borrow.Author.Tests.{ne-eqb}
 use Rattle.answer.specs.Tests.{Test, firstFault, AllMet}
 use Rattle.answer.specs.Outcome.{byNumber, answered, Outcome, TwoWritten, refusedNone, refusedOne, refusedTwo, wrote}
 use Rattle.answer.specs.Inner.Numbered.{numbered}
-use Rattle.answer.proofs.Faults.{all-met, no-fault}
+use Rattle.answer.proofs.Faults.{all-met, admitted-by, no-fault}
 
 module _ {O : Type 0} (refusal : ℕ → O) (acceptance : O) where
   by-fault : (n : ℕ) → eqb n 0 ≡ false → refusal n ≡ byNumber n refusal acceptance
@@ -31,6 +31,15 @@ module _ {O : Type 0} (tests : List Test) (refusal : ℕ → O) (acceptance x : 
   pub accepted-with : n ≡ 0 → x ≡ acceptance → x ≡ answered tests refusal acceptance
   unfolding answered
   accepted-with z g = g ∙ rw (← e) (by-none refusal acceptance n z)
+
+-- accepted where the code has met every test
+pub accepted-now : {O : Type 0} (tests : List Test) (refusal : ℕ → O) (acceptance x : O)
+    → 0 ≡ firstFault tests → x ≡ acceptance → x ≡ answered tests refusal acceptance
+accepted-now tests refusal acceptance x e g = accepted-with tests refusal acceptance x 0 e refl g
+
+-- with all tests met a call answers as accepted
+pub accepted-if : {O : Type 0} (tests : List Test) (refusal : ℕ → O) (acceptance : O) → AllMet tests → answered tests refusal acceptance ≡ acceptance
+accepted-if tests refusal acceptance m = sym (accepted-now tests refusal acceptance acceptance (sym (no-fault tests m)) refl)
 
 -- a number and lengths, refused
 refused-is : {Written Lent : Type 0} (zeros : Written) (lent : Lent) (tests : List Test) (acceptance : Outcome Written Lent) (n : ℕ)
@@ -76,6 +85,16 @@ module _ {O : Type 0} (number : O → ℕ) (refusal : ℕ → O) (acceptance : O
   pub accepted-is : (tests : List Test) → number (answered tests refusal acceptance) ≡ 0 → answered tests refusal acceptance ≡ acceptance
   unfolding answered byNumber
   accepted-is tests e = ap (λ (n : ℕ). byNumber n refusal acceptance) (sym (number-of tests) ∙ e)
+
+-- a call is accepted with all its tests met, or refused with the number of a fault
+pub answered-cases {ℓ} : {O : Type 0} {C : Type ℓ} (tests : List Test) (refusal : ℕ → O) (acceptance : O) → numbered tests ≡ true
+    → (AllMet tests → answered tests refusal acceptance ≡ acceptance → C)
+    → ((n : ℕ) → answered tests refusal acceptance ≡ refusal (suc n) → C) → C
+answered-cases {O} {C} tests refusal acceptance r met not-met = cases (firstFault tests) refl
+  where
+    cases : (n : ℕ) → n ≡ firstFault tests → C
+    cases zero e = met (admitted-by tests 0 r e refl) (sym (accepted-now tests refusal acceptance acceptance e refl))
+    cases (suc n) e = not-met n (sym (refused-with tests refusal acceptance (refusal (suc n)) (suc n) e (eqb·suc-zero n) refl))
 
 -- the same of a number and lengths
 module _ {Written Lent : Type 0} (zeros written : Written) (lent after : Lent) (tests : List Test) where

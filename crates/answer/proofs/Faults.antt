@@ -6,7 +6,7 @@ use mathlib.Core.List.{List, [], _∷_}
 use Prim.Native.Nat.{ℕ, zero, suc, _≤_, _<_}
 use native.Mathlib.Omega.{arith}
 use lib.Dec.{ltb, leb, eqb}
-use borrow.Author.Tests.{leb-true, ltb-true, ltb-false, eqb-true, le-leb, lt-leb, eq-eqb, ne-eqb, not-true, not-false}
+use borrow.Author.Tests.{leb-true, ltb-true, ltb-false, eqb-true, le-leb, lt-leb, lt-ltb, le-ltb, eq-eqb, ne-eqb, not-true, not-false}
 use Rattle.algebra.specs.Choice.{choose}
 use Rattle.answer.specs.Bytes.{anyAbove}
 use Rattle.answer.specs.Tests.{Ask, _is_, _atMost_, allAtMost, holds, Says, isMet, Test, _or_, firstFault, AllSaid, AllMet}
@@ -46,6 +46,24 @@ module _ (a b : ℕ) where
 
   pub above-by : (t : Bool) → t ≡ ltb b a → t ≡ true → isMet (a atMost b) ≡ false
   above-by t e g = above (ltb-true b a (sym e ∙ g))
+
+-- by an order that the call itself asks for
+module _ (a b : ℕ) where
+  pub below : a < b → isMet (holds (ltb a b)) ≡ true
+  unfolding isMet
+  below = lt-ltb a b
+
+  pub not-below : b ≤ a → isMet (holds (ltb a b)) ≡ false
+  unfolding isMet
+  not-below = le-ltb a b
+
+-- by a function that gives the most
+module _ (a b most : ℕ) (e : most ≡ b) where
+  pub at-most-given : a ≤ most → isMet (a atMost b) ≡ true
+  at-most-given h = at-most a b (omega arith)
+
+  pub above-given : most < a → isMet (a atMost b) ≡ false
+  above-given h = above a b (omega arith)
 
 module _ (limit : ℕ) (bytes : List ℕ) (t : Bool) where
   pub none-so : t ≡ anyAbove limit bytes → t ≡ false → isMet (allAtMost limit bytes) ≡ true

@@ -4,20 +4,18 @@ use mathlib.Core.Bool.{Bool, true, false, not}
 use mathlib.Core.List.{List}
 use Prim.Native.Nat.{ℕ, suc, _+_, _-_, _*_, _≤_, _<_, min}
 use native.Mathlib.Omega.{arith}
-use lib.Dec.{leb, ltb, eqb}
+use lib.Dec.{leb, ltb}
 use lib.ListN.{length, getD, set, replicate}
 use mir.Syntax.{w32, w64}
 use mir.Val.{Fits}
 use borrow.Author.Tests.{ltb-true, lt-ltb, le-ltb, le-leb, lt-leb, not-true, not-false}
 use Rattle.algebra.proofs.Tests.{and-left}
-use Rattle.answer.specs.Numbers.{noCaller, shareSpent, labelNotInUse}
 use Rattle.stock.specs.declared.Drawn.{Drawn}
 use Rattle.stock.specs.declared.Label.{Label}
 use Rattle.stock.specs.declared.Stock.{Stock}
-use Rattle.stock.specs.Label.{numberOf}
 use Rattle.stock.specs.Stock.{isCaller, nextOf, endOf, remaining, sumOf, entries, shareBlocks}
-use Rattle.stock.specs.Calls.{isUpTo, shareOf, drawNumber, advanced, draw, preview}
-use Rattle.stock.specs.Inner.Steps.{takenDraw, refusedDraw, starts, ends}
+use Rattle.stock.specs.Calls.{isUpTo, shareOf, advanced, takenDraw, draw, preview}
+use Rattle.stock.specs.Inner.Steps.{starts, ends}
 use Rattle.stock.proofs.Entries.{entries-none, entries-more, entries-min, sum-suc, sum-one-more, sum-grows}
 
 -- ---- is_up_to
@@ -38,7 +36,7 @@ pub caller-in : (s : Stock) (k : ℕ) → k < 8 → ltb k (s .callers) ≡ isCal
 unfolding isCaller
 caller-in s k h = rw (lt-ltb k 8 h)
 
--- ---- holding, and draw
+-- ---- holding
 
 module _ (s : Stock) (k : ℕ) (t : Bool) (told : t ≡ isCaller s k) where
   pub holds-none : not t ≡ true → 0 ≡ remaining s k
@@ -90,29 +88,10 @@ module _ (s : Stock) (k : ℕ) (is : isCaller s k ≡ true) where
   unfolding advanced
   taken-is c = refl
 
-pub is-so : (t x : Bool) → t ≡ x → not t ≡ false → x ≡ true
-is-so t x e n = sym e ∙ not-false t n
+-- ---- draw
 
--- ---- draw, test by test
-
-module _ (s : Stock) (l : Label) (k c : ℕ) (u : Bool) (used : u ≡ eqb (numberOf l) (numberOf (s .label))) where
-  pub draw-other-label : {r : Drawn} → r ≡ refusedDraw s labelNotInUse → not u ≡ true → r ≡ draw s l k c
-  unfolding draw drawNumber
-  draw-other-label e n = rw (← used, not-true u n) e
-
-  module _ (same : not u ≡ false) (t : Bool) (told : t ≡ isCaller s k) where
-    pub draw-no-caller : {r : Drawn} → r ≡ refusedDraw s noCaller → not t ≡ true → r ≡ draw s l k c
-    unfolding draw drawNumber
-    draw-no-caller e n = rw (← used, not-false u same, ← told, not-true t n) e
-
-    module _ (is : not t ≡ false) (h : ℕ) (rest : h ≡ remaining s k) where
-      pub draw-spent : {r : Drawn} → r ≡ refusedDraw s shareSpent → h < c → r ≡ draw s l k c
-      unfolding draw drawNumber
-      draw-spent e w = rw (← used, not-false u same, ← told, not-false t is, ← rest, lt-ltb h c w) e
-
-      pub draw-accepted : {r : Drawn} → c ≤ h → r ≡ takenDraw s k c → r ≡ draw s l k c
-      unfolding draw drawNumber
-      draw-accepted enough e = rw (← used, not-false u same, ← told, not-false t is, ← rest, le-ltb h c enough) e
+pub is-caller : (s : Stock) (k : ℕ) (t : Bool) → t ≡ isCaller s k → not t ≡ false → isCaller s k ≡ true
+is-caller s k t told n = sym told ∙ not-false t n
 
 -- ---- preview
 

@@ -1,11 +1,13 @@
--- The calls on a stock (document 02, 2, 5 and 14): from everything that a caller passes to everything that it gets.
-use mathlib.Core.Bool.{Bool, not, _&&_}
-use mathlib.Core.List.{List}
-use Prim.Native.Nat.{ℕ, zero, suc, _+_}
-use lib.Dec.{leb, ltb, eqb}
+-- The calls on a stock (document 02, 2, 5 and 14): from everything that a caller passes to everything that it gets. A call has its
+-- tests one a line, in document 02's order, and then what it answers.
+use mathlib.Core.Bool.{Bool, _&&_}
+use mathlib.Core.List.{List, [], _∷_}
+use Prim.Native.Nat.{ℕ, _+_}
+use lib.Dec.{leb, ltb}
 use lib.ListN.{length, getD, set}
-use Rattle.algebra.specs.Choice.{choose}
 use Rattle.answer.specs.Numbers.{accepted, badSize, noCaller, shareSpent, sharesAbove, labelNotAbove, labelNotInUse}
+use Rattle.answer.specs.Tests.{Test, _is_, _atMost_, holds, _or_}
+use Rattle.answer.specs.Outcome.{answered}
 use Rattle.stock.specs.declared.Drawn.{Drawn}
 use Rattle.stock.specs.declared.Label.{Label}
 use Rattle.stock.specs.declared.OpenedStock.{OpenedStock}
@@ -18,23 +20,15 @@ use Rattle.stock.specs.Stock.{isCaller, nextOf, remaining, sumOf, held, 
 abbrev pub isUpTo : ℕ → ℕ → Bool
 isUpTo most n = leb 1 n && leb n most
 
--- what an accepted call, of number 0, gives, or what a refused one gives
-abbrev pub byNumber : {A : Type 0} → ℕ → A → A → A
-byNumber zero given refused = given
-byNumber (suc n) given refused = refused
+-- the answer of an opening or a passage: a stock, and a number
+abbrev pub withStock : Stock → ℕ → OpenedStock
+withStock stock number = record { number = number; stock = stock }
 
 -- ---- opening
 
 -- caller k's share
 abbrev pub shareOf : List ℕ → ℕ → ℕ
 shareOf shares k = getD shares k 0
-
--- 0 or more than eight callers, or n outside 1 to 32,768, gives 2; then shares that sum above n give 16
-unfoldable pub openNumber : ℕ → List ℕ → ℕ
-openNumber outputs shares =
-    choose (not (isUpTo 8 (length shares) && isUpTo 32768 outputs)) badSize
-    (choose (ltb outputs (sumOf (length shares) (shareOf shares))) sharesAbove
-    accepted)
 
 -- a stock without callers, under label 0
 unfoldable pub noCallers : Stock
@@ -48,39 +42,45 @@ pub record StockOpening : Type 0 where
 abbrev pub stockOpening : OpenedStock → List ℕ → StockOpening
 stockOpening opened shares = record { opened = opened; shares = shares }
 
--- opening a stock names a label, n and a share per caller
+-- its tests: one to eight callers, n from 1 to 32,768, and shares that sum to at most n
+abbrev pub openTests : ℕ → List ℕ → List Test
+openTests outputs shares =
+    holds (isUpTo 8 (length shares)) or badSize
+    ∷ holds (isUpTo 32768 outputs) or badSize
+    ∷ sumOf (length shares) (shareOf shares) atMost outputs or sharesAbove
+    ∷ []
+
+-- opening a stock names a label, n and a share per caller; a refused opening gives a stock without callers
 unfoldable pub openStock : Label → ℕ → List ℕ → StockOpening
 openStock label outputs shares =
     stockOpening
-    (record {
-      number = openNumber outputs shares;
-      stock = byNumber (openNumber outputs shares) (shareBlocks label (length shares) (shareOf shares)) noCallers;
-    })
+    (answered (openTests outputs shares) (withStock noCallers)
+    (withStock (shareBlocks label (length shares) (shareOf shares)) accepted))
     shares
 
 -- ---- draws
 
--- a label not in use gives 21; then no such caller gives 14; then a remaining share under c gives 15
-unfoldable pub drawNumber : Stock → Label → ℕ → ℕ → ℕ
-drawNumber s l k c =
-    choose (not (eqb (numberOf l) (numberOf (s .label)))) labelNotInUse
-    (choose (not (isCaller s k)) noCaller
-    (choose (ltb (remaining s k) c) shareSpent
-    accepted))
+-- its tests: the label in use, a caller of the stock, and a remaining share of c or more
+abbrev pub drawTests : Stock → Label → ℕ → ℕ → List Test
+drawTests s l k c =
+    numberOf l is numberOf (s .label) or labelNotInUse
+    ∷ holds (isCaller s k) or noCaller
+    ∷ c atMost remaining s k or shareSpent
+    ∷ []
 
 -- the stock with caller k's next index raised by c
 unfoldable pub advanced : Stock → ℕ → ℕ → Stock
 advanced s k c = record { callers = s .callers; label = s .label; next = set (s .next) k (nextOf s k + c); end = s .end }
 
--- a draw of c returns the caller's next c indices, as a window; a refused draw names no index and changes nothing
+-- an accepted draw of c returns the caller's next c indices, as a window; a refused draw names no index and changes nothing
+abbrev pub takenDraw : Stock → ℕ → ℕ → Drawn
+takenDraw s k c = record { number = accepted; first = nextOf s k; count = c; stock = advanced s k c }
+
+abbrev pub refusedDraw : Stock → ℕ → Drawn
+refusedDraw s number = record { number = number; first = 0; count = 0; stock = s }
+
 unfoldable pub draw : Stock → Label → ℕ → ℕ → Drawn
-draw s l k c =
-    record {
-      number = drawNumber s l k c;
-      first = byNumber (drawNumber s l k c) (nextOf s k) 0;
-      count = byNumber (drawNumber s l k c) c 0;
-      stock = byNumber (drawNumber s l k c) (advanced s k c) s;
-    }
+draw s l k c = answered (drawTests s l k c) (refusedDraw s) (takenDraw s k c)
 
 -- ---- previews
 
@@ -97,19 +97,17 @@ preview s l k c =
 
 -- ---- passage to a fresh dealing
 
--- n outside 1 to 32,768 gives 2; then a label not above the one in use gives 20; then unspent shares above n give 16
-unfoldable pub passNumber : Stock → Label → ℕ → ℕ
-passNumber s l outputs =
-    choose (not (isUpTo 32768 outputs)) badSize
-    (choose (not (ltb (numberOf (s .label)) (numberOf l))) labelNotAbove
-    (choose (ltb outputs (held s)) sharesAbove
-    accepted))
+-- its tests: n from 1 to 32,768, a label above the one in use, and unspent shares that sum to at most n
+abbrev pub passTests : Stock → Label → ℕ → List Test
+passTests s l outputs =
+    holds (isUpTo 32768 outputs) or badSize
+    ∷ holds (ltb (numberOf (s .label)) (numberOf l)) or labelNotAbove
+    ∷ held s atMost outputs or sharesAbove
+    ∷ []
 
 -- each caller keeps its unspent share, as a consecutive block of the fresh outputs from index 0, in caller order; a refused
 -- passage changes nothing (document 02, 14)
 unfoldable pub pass : Stock → Label → ℕ → OpenedStock
 pass s l outputs =
-    record {
-      number = passNumber s l outputs;
-      stock = byNumber (passNumber s l outputs) (shareBlocks l (s .callers) (remaining s)) s;
-    }
+    answered (passTests s l outputs) (withStock s)
+    (withStock (shareBlocks l (s .callers) (remaining s)) accepted)

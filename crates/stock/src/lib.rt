@@ -4,7 +4,7 @@ ghost use mathlib.Core.Path.{_≡_};
 ghost use mathlib.Core.Bool.{true};
 ghost use Prim.Native.Nat.{_≤_};
 ghost use Rattle.stock.specs.Calls.{stockOpening, openStock, draw as drawStock, preview as previewStock, pass as passStock};
-ghost use Rattle.stock.specs.Inner.Steps.{refusedOpening, refusedDraw, takenDraw, refusedPassage};
+ghost use Rattle.stock.specs.Calls.{noCallers, withStock, refusedDraw, takenDraw};
 ghost use Rattle.stock.specs.Stock.{isCaller, remaining};
 
 mod labels;
@@ -92,7 +92,7 @@ pub fn open(label: Label, outputs: usize, shares: &[u32]) -> OpenedStock
 
 // A refused opening: a stock without callers, under label 0.
 fn refused_opening(number: u32) -> OpenedStock
-    ensures { λ r. ⌜ r ≡ refusedOpening number ⌝ }
+    ensures { λ r. ⌜ r ≡ withStock noCallers number ⌝ }
 {
     let stock = Stock {
         callers: 0,
@@ -186,7 +186,7 @@ pub fn pass(stock: Stock, label: Label, outputs: usize) -> OpenedStock
 
 // A refused passage: the stock as it was.
 fn refused_passage(stock: Stock, number: u32) -> OpenedStock
-    ensures { λ r. ⌜ r ≡ refusedPassage stock number ⌝ }
+    ensures { λ r. ⌜ r ≡ withStock stock number ⌝ }
 {
     OpenedStock { number, stock }
 }

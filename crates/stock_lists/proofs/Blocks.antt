@@ -4,18 +4,18 @@ use mathlib.Core.Bool.{true}
 use mathlib.Core.Logic.{_⊎_, inl, inr}
 use Prim.Native.Nat.{ℕ, suc, _+_, _-_, _≤_, _<_}
 use native.Mathlib.Omega.{arith}
-use lib.Dec.{ltb, eqb}
+use lib.Dec.{ltb}
 use lib.ListN.{length, length-set}
 use lib.Seq.{getD-set-same, getD-set-other}
-use borrow.Author.Tests.{ltb-true, ltb-false, eqb-true, lt-ltb, le-ltb}
+use borrow.Author.Tests.{ltb-true, lt-ltb, le-ltb}
 use Rattle.algebra.proofs.Tests.{and-left, and-right}
+use Rattle.answer.proofs.Answers.{answered-cases}
 use Rattle.stock.specs.declared.Label.{Label}
 use Rattle.stock.specs.declared.Stock.{Stock}
 use Rattle.stock.specs.Label.{numberOf}
 use Rattle.stock.specs.Stock.{isCaller, nextOf, endOf, remaining, sumOf, held, shareBlocks}
-use Rattle.stock.specs.Calls.{isUpTo, drawNumber, advanced, draw, passNumber, pass}
-use Rattle.stock.specs.Inner.Steps.{takenDraw, refusedDraw, refusedPassage}
-use Rattle.stock.proofs.Cases.{by-test, by-order, by-equality}
+use Rattle.stock.specs.Calls.{withStock, drawTests, advanced, takenDraw, refusedDraw, draw, passTests, pass}
+use Rattle.stock.proofs.Cases.{by-order, by-equality}
 use Rattle.stock.proofs.Entries.{entries-length, entries-in, sum-suc, sum-grows, sum-same, sum-stays, sum-less}
 
 -- at most eight callers, each with its block, and the blocks one after the other
@@ -91,21 +91,11 @@ pub record Refused (s : Stock) (l : Label) (k c : ℕ) : Type 0 where
   pub kept : draw s l k c ≡ refusedDraw s (suc fault)
 
 pub draw-cases : (s : Stock) (l : Label) (k c : ℕ) → Accepted s l k c ⊎ Refused s l k c
-unfolding draw drawNumber
+unfolding draw
 draw-cases s l k c =
-    by-test (eqb (numberOf l) (numberOf (s .label)))
-    (λ same. by-test (isCaller s k)
-    (λ is. by-test (ltb (remaining s k) c)
-    (λ t. inr (record { fault = 14; kept = rw (same, is, t) }))
-    (λ t. inl
-    (record {
-      label = eqb-true (numberOf l) (numberOf (s .label)) same;
-      caller = is;
-      enough = ltb-false (remaining s k) c t;
-      drawn = rw (same, is, t);
-    })))
-    (λ t. inr (record { fault = 13; kept = rw (same, t) })))
-    (λ t. inr (record { fault = 20; kept = rw t }))
+    answered-cases (drawTests s l k c) (refusedDraw s) (takenDraw s k c) refl
+    (λ m e. inl (record { label = m .all .0; caller = m .all .1 .0; enough = m .all .1 .1 .0; drawn = e }))
+    (λ n e. inr (record { fault = n; kept = e }))
 
 module _ (s : Stock) (W : Well s) (l : Label) (k c : ℕ) (a : Accepted s l k c) where
   below : (k < 8) × (k < s .callers)
@@ -179,24 +169,15 @@ module _ (s : Stock) (W : Well s) (l : Label) (k c : ℕ) (a : Accepted s l k c)
 pub record Fresh (s : Stock) (l : Label) (n : ℕ) : Type 0 where
   pub above : numberOf (s .label) < numberOf l
   pub room : held s ≤ n
-  pub gave : pass s l n ≡ record { number = 0; stock = shareBlocks l (s .callers) (remaining s) }
+  pub gave : pass s l n ≡ withStock (shareBlocks l (s .callers) (remaining s)) 0
 
 pub record Stale (s : Stock) (l : Label) (n : ℕ) : Type 0 where
   pub fault : ℕ
-  pub kept : pass s l n ≡ refusedPassage s (suc fault)
+  pub kept : pass s l n ≡ withStock s (suc fault)
 
 pub pass-cases : (s : Stock) (l : Label) (n : ℕ) → Fresh s l n ⊎ Stale s l n
-unfolding pass passNumber
+unfolding pass
 pass-cases s l n =
-    by-test (isUpTo 32768 n)
-    (λ sized. by-test (ltb (numberOf (s .label)) (numberOf l))
-    (λ up. by-test (ltb n (held s))
-    (λ t. inr (record { fault = 15; kept = rw (sized, up, t) }))
-    (λ t. inl
-    (record {
-      above = ltb-true (numberOf (s .label)) (numberOf l) up;
-      room = ltb-false n (held s) t;
-      gave = rw (sized, up, t);
-    })))
-    (λ t. inr (record { fault = 19; kept = rw (sized, t) })))
-    (λ t. inr (record { fault = 1; kept = rw t }))
+    answered-cases (passTests s l n) (withStock s) (withStock (shareBlocks l (s .callers) (remaining s)) 0) refl
+    (λ m e. inl (record { above = ltb-true (numberOf (s .label)) (numberOf l) (m .all .1 .0); room = m .all .1 .1 .0; gave = e }))
+    (λ n e. inr (record { fault = n; kept = e }))

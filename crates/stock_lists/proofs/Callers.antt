@@ -1,21 +1,23 @@
 -- What concerns a caller decides its numbers, and without an accepted passage its replies, by induction over the list: a model of
 -- the caller alone gives what its replies show.
 use mathlib.Core.Path.{_≡_, refl, sym, ap, ap₂, subst, _∙_}
-use mathlib.Core.Bool.{Bool, true, false, not, false≢true}
+use mathlib.Core.Bool.{Bool, true, false, false≢true}
 use mathlib.Core.List.{List, [], _∷_}
 use mathlib.Core.Logic.{⊎-elim}
 use Prim.Native.Nat.{ℕ, zero, suc, _+_, _-_}
 use native.Mathlib.Omega.{arith}
-use lib.Dec.{eqb, ltb}
+use lib.Dec.{eqb, eqb·suc-zero}
 use borrow.Author.Tests.{eqb-true, eq-eqb}
 use Rattle.algebra.proofs.Tests.{and-left, or-neither}
 use Rattle.algebra.specs.Choice.{choose}
-use Rattle.answer.specs.Numbers.{accepted, noCaller, shareSpent, labelNotInUse}
+use Rattle.answer.specs.Numbers.{noCaller, shareSpent, labelNotInUse}
+use Rattle.answer.specs.Tests.{_is_, _atMost_, holds, _or_, firstFault}
+use Rattle.answer.specs.Outcome.{byNumber, answered}
 use Rattle.stock.specs.declared.Label.{Label}
 use Rattle.stock.specs.declared.Stock.{Stock}
 use Rattle.stock.specs.Label.{numberOf}
 use Rattle.stock.specs.Stock.{isCaller, nextOf, remaining, shareBlocks}
-use Rattle.stock.specs.Calls.{byNumber, draw, drawNumber, preview}
+use Rattle.stock.specs.Calls.{drawTests, refusedDraw, takenDraw, draw, preview}
 use Rattle.stock_lists.specs.Lists.{Call, draws, previews, passes, Reply, Made, make, run, those, anyOf, drawsOf, asksOf, aPassage, passed, handedBy, replies, replyNumbers, callsOf, asked, concerns, AlikeFor}
 use Rattle.stock.proofs.Cases.{by-test}
 use Rattle.stock_lists.proofs.Blocks.{Well, Fresh, pass-cases}
@@ -26,19 +28,19 @@ use Rattle.stock_lists.proofs.Steps.{Stayed, kept, stayed-draw, stayed-
 
 -- the number of a caller's draw, by whether there is such a caller, the number of the label in use, and what the caller holds
 abbrev numberBy : Bool → ℕ → ℕ → Label → ℕ → ℕ
-numberBy is L left l c =
-    choose (not (eqb (numberOf l) L)) labelNotInUse
-    (choose (not is) noCaller
-    (choose (ltb left c) shareSpent
-    accepted))
+numberBy known L left l c = firstFault (numberOf l is L or labelNotInUse ∷ holds known or noCaller ∷ c atMost left or shareSpent ∷ [])
+
+-- what an accepted call hands out, by its number
+abbrev given : ℕ → ℕ → ℕ
+given number n = byNumber number (λ k. 0) n
 
 -- its reply, by its next index too
 abbrev replyBy : Bool → ℕ → ℕ → ℕ → Label → ℕ → Reply
-replyBy is L next left l c =
+replyBy known L next left l c =
     record {
-      number = numberBy is L left l c;
-      first = byNumber (numberBy is L left l c) next 0;
-      count = byNumber (numberBy is L left l c) c 0;
+      number = numberBy known L left l c;
+      first = given (numberBy known L left l c) next;
+      count = given (numberBy known L left l c) c;
     }
 
 module _ {A : Type 0} (look : Reply → A) where
@@ -49,33 +51,33 @@ module _ {A : Type 0} (look : Reply → A) where
 
   -- what the draws and previews in a list of what concerns a caller show
   looksBy : Bool → ℕ → ℕ → ℕ → List Call → List A
-  looksBy is L next left [] = []
-  looksBy is L next left (draws l j c ∷ calls) =
-      look (replyBy is L next left l c)
-      ∷ looksBy is L (next + byNumber (numberBy is L left l c) c 0) (left - byNumber (numberBy is L left l c) c 0) calls
-  looksBy is L next left (previews l j c ∷ calls) = look (replyBy is L next left l c) ∷ looksBy is L next left calls
-  looksBy is L next left (passes l n ∷ calls) = looksBy is (numberOf l) next left calls
+  looksBy known L next left [] = []
+  looksBy known L next left (draws l j c ∷ calls) =
+      look (replyBy known L next left l c)
+      ∷ looksBy known L (next + given (numberBy known L left l c) c) (left - given (numberBy known L left l c) c) calls
+  looksBy known L next left (previews l j c ∷ calls) = look (replyBy known L next left l c) ∷ looksBy known L next left calls
+  looksBy known L next left (passes l n ∷ calls) = looksBy known (numberOf l) next left calls
 
   -- no first index shows
   abbrev Blind : Type 0
-  Blind = (is : Bool) (L next from left : ℕ) (l : Label) (c : ℕ) → look (replyBy is L next left l c) ≡ look (replyBy is L from left l c)
+  Blind = (known : Bool) (L next from left : ℕ) (l : Label) (c : ℕ) → look (replyBy known L next left l c) ≡ look (replyBy known L from left l c)
 
-  blind-by : Blind → (is : Bool) (L next from left : ℕ) (calls : List Call) → looksBy is L next left calls ≡ looksBy is L from left calls
+  blind-by : Blind → (known : Bool) (L next from left : ℕ) (calls : List Call) → looksBy known L next left calls ≡ looksBy known L from left calls
   unfolding looksBy
-  blind-by b is L next from left [] = refl
-  blind-by b is L next from left (draws l j c ∷ calls) =
-      ap₂ (λ (a : A) (r : List A). a ∷ r) (b is L next from left l c) (blind-by b is L _ _ _ calls)
-  blind-by b is L next from left (previews l j c ∷ calls) =
-      ap₂ (λ (a : A) (r : List A). a ∷ r) (b is L next from left l c) (blind-by b is L next from left calls)
-  blind-by b is L next from left (passes l n ∷ calls) = blind-by b is (numberOf l) next from left calls
+  blind-by b known L next from left [] = refl
+  blind-by b known L next from left (draws l j c ∷ calls) =
+      ap₂ (λ (a : A) (r : List A). a ∷ r) (b known L next from left l c) (blind-by b known L _ _ _ calls)
+  blind-by b known L next from left (previews l j c ∷ calls) =
+      ap₂ (λ (a : A) (r : List A). a ∷ r) (b known L next from left l c) (blind-by b known L next from left calls)
+  blind-by b known L next from left (passes l n ∷ calls) = blind-by b known (numberOf l) next from left calls
 
   -- what a stock shows a caller of a list of what concerns it
   abbrev sees : ℕ → Stock → List Call → List A
   sees k s calls = looksBy (isCaller s k) (numberOf (s .label)) (nextOf s k) (remaining s k) calls
 
-  sees-by : (k : ℕ) (s : Stock) (is : Bool) (L next left : ℕ) → isCaller s k ≡ is → numberOf (s .label) ≡ L → nextOf s k ≡ next → remaining s k ≡ left
-      → (calls : List Call) → sees k s calls ≡ looksBy is L next left calls
-  sees-by k s is L next left a b c d calls = rw (a, b, c, d)
+  sees-by : (k : ℕ) (s : Stock) (known : Bool) (L next left : ℕ) → isCaller s k ≡ known → numberOf (s .label) ≡ L → nextOf s k ≡ next → remaining s k ≡ left
+      → (calls : List Call) → sees k s calls ≡ looksBy known L next left calls
+  sees-by k s known L next left a b c d calls = rw (a, b, c, d)
 
 -- ---- one call
 
@@ -101,21 +103,29 @@ asks-passage k (passes l n) y = absurd (false≢true y)
 -- the reply to a draw and to a preview of it
 draw-reply : (k : ℕ) (s : Stock) (l : Label) (c : ℕ)
     → make s (draws l k c) .reply ≡ replyBy (isCaller s k) (numberOf (s .label)) (nextOf s k) (remaining s k) l c
-unfolding make draw drawNumber
-draw-reply k s l c = refl
+unfolding make draw answered byNumber
+draw-reply k s l c = by-number (firstFault (drawTests s l k c))
+  where
+    by-number : (n : ℕ) → let d = byNumber n (refusedDraw s) (takenDraw s k c) in
+        _≡_ {A = Reply} (record { number = d .number; first = d .first; count = d .count })
+        (record { number = n; first = given n (nextOf s k); count = given n c })
+    by-number zero = refl
+    by-number (suc n) = refl
 
 pub preview-reply : (k : ℕ) (s : Stock) (l : Label) (c : ℕ) → make s (previews l k c) .reply ≡ make s (draws l k c) .reply
 unfolding make preview
 preview-reply k s l c = refl
 
-by-byNumber : (n c : ℕ) → byNumber n (byNumber n c 0) 0 ≡ byNumber n c 0
-by-byNumber zero c = refl
-by-byNumber (suc n) c = refl
-
 draw-part : (k : ℕ) (s : Stock) (l : Label) (c : ℕ)
-    → handedBy (drawsOf k) (make s (draws l k c)) ≡ byNumber (numberBy (isCaller s k) (numberOf (s .label)) (remaining s k) l c) c 0
-unfolding make draw drawNumber
-draw-part k s l c = rw (eq-eqb k k refl) (by-byNumber (numberBy (isCaller s k) (numberOf (s .label)) (remaining s k) l c) c)
+    → handedBy (drawsOf k) (make s (draws l k c)) ≡ given (numberBy (isCaller s k) (numberOf (s .label)) (remaining s k) l c) c
+unfolding byNumber
+draw-part k s l c =
+    rw (make-call s (draws l k c), draw-reply k s l c, eq-eqb k k refl)
+    (handed-out (numberBy (isCaller s k) (numberOf (s .label)) (remaining s k) l c))
+  where
+    handed-out : (n : ℕ) → choose (eqb n 0) (given n c) 0 ≡ given n c
+    handed-out zero = refl
+    handed-out (suc n) = rw (eqb·suc-zero n)
 
 moved-label : (s : Stock) (l : Label) (n : ℕ) → Fresh s l n → make s (passes l n) .after .label ≡ l
 unfolding shareBlocks
@@ -171,7 +181,7 @@ module _ {A : Type 0} (look : Reply → A) (k : ℕ) where
         let S = stayed-draw s W l k c in
         let p = draw-part k s l c in
         let n = numberBy (isCaller s k) (numberOf (s .label)) (remaining s k) l c in
-        let left : remaining (m .after) k ≡ remaining s k - byNumber n c 0 = let h = kept s W d .remaining k in omega arith in
+        let left : remaining (m .after) k ≡ remaining s k - given n c = let h = kept s W d .remaining k in omega arith in
         by-ask d calls y
         (ap₂ (λ (a : A) (r : List A). a ∷ r) (ap look (draw-reply k s l c))
         (ih ∙ sees-by look k (m .after) _ _ _ _ (same-caller s (m .after) k (kept s W d .callers)) (ap numberOf (S .label))
@@ -281,7 +291,7 @@ module _ (k : ℕ) (s : Stock) (W : Well s) (calls other : List Call) (same : Al
   pub numbers-alike : replyNumbers (those (asked k) (run s calls)) ≡ replyNumbers (those (asked k) (run s other))
   numbers-alike =
       sym (looks-numbers (those (asked k) (run s calls)))
-      ∙ alike (λ r. r .number) (λ e is L next from left l c. refl)
+      ∙ alike (λ r. r .number) (λ e known L next from left l c. refl)
       ∙ looks-numbers (those (asked k) (run s other))
 
   pub replies-alike : anyOf passed (run s calls) ≡ false → replies (those (asked k) (run s calls)) ≡ replies (those (asked k) (run s other))

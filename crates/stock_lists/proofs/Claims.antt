@@ -1,20 +1,18 @@
 -- The claim about every list of calls after an accepted opening.
 use mathlib.Core.Path.{_≡_, refl, sym, ap, _∙_}
-use mathlib.Core.Bool.{Bool, true, false, _&&_}
 use mathlib.Core.List.{List, [], _∷_}
 use mathlib.Core.Logic.{_⊎_, ⊎-elim}
 use Prim.Native.Nat.{ℕ, zero, suc, _≤_, _<_}
 use native.Mathlib.Nat.{not-suc-le-zero, le-of-suc-le-suc}
 use native.Mathlib.Omega.{arith}
 use lib.ListN.{length, take, List·getD-eq-default}
-use borrow.Author.Tests.{ltb-false}
-use Rattle.algebra.proofs.Tests.{and-left, passed as passed-not}
-use Rattle.algebra.specs.Choice.{choose}
 use Rattle.answer.specs.Numbers.{accepted}
+use Rattle.answer.proofs.Answers.{answered-cases}
 use Rattle.stock.specs.declared.Label.{Label}
+use Rattle.stock.specs.declared.OpenedStock.{OpenedStock}
 use Rattle.stock.specs.declared.Stock.{Stock}
 use Rattle.stock.specs.Stock.{remaining, held, sumOf, shareBlocks}
-use Rattle.stock.specs.Calls.{isUpTo, shareOf, openNumber, openStock}
+use Rattle.stock.specs.Calls.{withStock, shareOf, noCallers, openTests, openStock}
 use Rattle.stock_lists.specs.Lists.{Call, draws, previews, Made, make, run, last, handed, upToPassage, sincePassage, outputsIn, shareIn, NextOf, madeAt, StockClaim, StockLists}
 use Rattle.stock_lists.proofs.Blocks.{Well, blocks-next, blocks-end, blocks-callers, blocks-well, blocks-holds, blocks-held, is-caller, fits-block}
 use Rattle.stock.proofs.Entries.{sum-grows, sum-same}
@@ -70,24 +68,17 @@ next-of outputs shares s W I calls l k c z =
 
 -- ---- after an accepted opening
 
-passed-test : (t : Bool) (n rest : ℕ) → choose t (suc n) rest ≡ 0 → t ≡ false
-passed-test true n rest e = absurd (omega arith)
-passed-test false n rest e = refl
-
 pub record Opened (label : Label) (outputs : ℕ) (shares : List ℕ) : Type 0 where
   pub most : length shares ≤ 8
   pub sum : sumOf (length shares) (shareOf shares) ≤ outputs
   pub stock : openStock label outputs shares .opened .stock ≡ shareBlocks label (length shares) (shareOf shares)
 
 opened : (label : Label) (outputs : ℕ) (shares : List ℕ) → openStock label outputs shares .opened .number ≡ accepted → Opened label outputs shares
-unfolding openStock openNumber
-opened label outputs shares e =
-    let p = passed-not (isUpTo 8 (length shares) && isUpTo 32768 outputs) 1 _ e in
-    record {
-      most = up-to-most 8 (length shares) (and-left (isUpTo 8 (length shares)) (isUpTo 32768 outputs) (p .0));
-      sum = ltb-false outputs (sumOf (length shares) (shareOf shares)) (passed-test _ 15 0 (p .1));
-      stock = rw e;
-    }
+unfolding openStock
+opened label outputs shares =
+    answered-cases (openTests outputs shares) (withStock noCallers) (withStock (shareBlocks label (length shares) (shareOf shares)) accepted) refl
+    (λ m g e. record { most = up-to-most 8 (length shares) (m .all .0); sum = m .all .1 .1 .0; stock = ap (λ (o : OpenedStock). o .stock) g })
+    (λ n g e. let z = sym (ap (λ (o : OpenedStock). o .number) g) ∙ e in absurd (omega arith))
 
 module _ (label : Label) (outputs : ℕ) (shares : List ℕ) (O : Opened label outputs shares) where
   abbrev start : Stock

@@ -1,12 +1,12 @@
 -- What one call of a list does to a stock.
 use mathlib.Core.Path.{_≡_, refl, sym, ap, _∙_}
-use mathlib.Core.Bool.{Bool, true, false, false≢true}
+use mathlib.Core.Bool.{Bool, true, false, _&&_, false≢true}
 use mathlib.Core.Logic.{_⊎_, inl, inr, ⊎-elim}
 use Prim.Native.Nat.{ℕ, suc, _+_, _≤_, _<_}
 use native.Mathlib.Omega.{arith}
 use lib.Dec.{eqb, eqb·suc-zero}
 use borrow.Author.Tests.{eq-eqb, ne-eqb, eqb-true}
-use Rattle.algebra.specs.Choice.{choose}
+use Rattle.algebra.proofs.Choice.{choose-either}
 use Rattle.stock.specs.declared.Label.{Label}
 use Rattle.stock.specs.declared.Stock.{Stock}
 use Rattle.stock.specs.Label.{numberOf}
@@ -78,11 +78,7 @@ make-stale s l n t = rw (t .kept)
 
 -- a refused call hands out nothing
 none-turned : (p : Call → Bool) (s : Stock) (c : Call) (n : ℕ) → handedBy p (turned s c n) ≡ 0
-none-turned p s c n = choose-none (p c)
-  where
-    choose-none : (t : Bool) → _≡_ {A = ℕ} (choose t 0 0) 0
-    choose-none true = refl
-    choose-none false = refl
+none-turned p s c n = choose-either (λ (x : ℕ). x ≡ 0) (p c && eqb (suc n) 0) 0 0 refl refl
 
 module _ (s : Stock) (W : Well s) where
   kept-turned : (c : Call) (n : ℕ) → Kept s (turned s c n)

@@ -12,7 +12,7 @@ use Rattle.stock.specs.declared.Label.{Label}
 use Rattle.stock.specs.declared.Stock.{Stock}
 use Rattle.stock.specs.Label.{numberOf, labelZero}
 use Rattle.stock.specs.Stock.{remaining, sumOf, held}
-use Rattle.stock.specs.Calls.{byNumber, shareOf, noCallers, openStock, draw, preview, pass}
+use Rattle.stock.specs.Calls.{shareOf, noCallers, openStock, draw, preview, pass}
 
 -- ---- lists of calls
 
@@ -112,7 +112,7 @@ passed m = aPassage (m .call) && eqb (m .reply .number) accepted
 
 -- outputs that a made call hands out, if a test picks it: an accepted reply's own count
 abbrev pub handedBy : (Call → Bool) → Made → ℕ
-handedBy p m = choose (p (m .call)) (byNumber (m .reply .number) (m .reply .count) 0) 0
+handedBy p m = choose (p (m .call) && eqb (m .reply .number) accepted) (m .reply .count) 0
 
 -- outputs handed out by the made calls that a test picks
 unfoldable pub handed : (Call → Bool) → List Made → ℕ
