@@ -13,6 +13,7 @@ use lib.ListN.{length, take, drop, length-append, length-drop, take-append-drop}
 use lib.Seq.{take-at, drop-at, take-add, drop-drop, take-all, take-append-le, drop-append-le, length-take-le}
 use Rattle.algebra.specs.Coding.{Coding, CodingLaws, at, flat, over}
 use Rattle.algebra.specs.Inner.Put.{put}
+use Rattle.algebra.proofs.Written.{flat-length, flat-same, front-none, front-take, front-drop, front-past, front-length, front-put}
 
 module _ {A : Type 0} (C : Coding A) (L : CodingLaws C) where
   -- the clauses of `flat`
@@ -25,16 +26,11 @@ module _ {A : Type 0} (C : Coding A) (L : CodingLaws C) where
   flat-suc n f = refl
 
   pub length-flat : (n : ℕ) (f : ℕ → A) → length (flat C n f) ≡ n * C .width
-  unfolding flat
-  length-flat zero f = sym (zero-mul (C .width))
-  length-flat (suc n) f =
-      length-append (flat C n f) (C .words (f n)) ∙ cc (length-flat n f, L .length-words (f n), suc-mul n (C .width))
+  length-flat = flat-length C (L .length-words)
 
   -- equal values below n give equal words
   pub flat-cong : (n : ℕ) (f g : ℕ → A) → ((i : ℕ) → i < n → f i ≡ g i) → flat C n f ≡ flat C n g
-  unfolding flat
-  flat-cong zero f g e = refl
-  flat-cong (suc n) f g e = cc (flat-cong n f g (λ i h. e i (omega arith)), e n (omega arith))
+  flat-cong = flat-same C (L .length-words)
 
   -- the values below n + m are those below n and m more
   pub flat-add : (n m : ℕ) (f : ℕ → A) → flat C (n + m) f ≡ flat C n f ++ flat C m (λ i. f (n + i))
@@ -88,38 +84,27 @@ module _ {A : Type 0} (C : Coding A) (L : CodingLaws C) where
 
   -- ---- values written over a buffer
   pub over-none : (f : ℕ → A) (b : List ℕ) → over C 0 f b ≡ b
-  unfolding over flat
-  over-none f b = rw zero-mul
+  over-none f b = sym (front-none C f b)
 
   pub take-over : (n : ℕ) (f : ℕ → A) (b : List ℕ) → take (n * C .width) (over C n f b) ≡ flat C n f
-  unfolding over
-  take-over n f b = take-at (flat C n f) (drop (n * C .width) b) (n * C .width) (length-flat n f)
+  take-over = front-take C (L .length-words)
 
   pub drop-over : (n : ℕ) (f : ℕ → A) (b : List ℕ) → drop (n * C .width) (over C n f b) ≡ drop (n * C .width) b
-  unfolding over
-  drop-over n f b = drop-at (flat C n f) (drop (n * C .width) b) (n * C .width) (length-flat n f)
+  drop-over = front-drop C (L .length-words)
 
   -- the same for any place past the values
   pub drop-over-add : (n : ℕ) (f : ℕ → A) (b : List ℕ) (k : ℕ) → drop (n * C .width + k) (over C n f b) ≡ drop (n * C .width + k) b
-  drop-over-add n f b k =
-      sym (drop-drop k (n * C .width) (over C n f b)) ∙ ap (drop k) (drop-over n f b) ∙ drop-drop k (n * C .width) b
+  drop-over-add = front-past C (L .length-words)
 
   pub length-over : (n : ℕ) (f : ℕ → A) (b : List ℕ) → n * C .width ≤ length b → length (over C n f b) ≡ length b
-  unfolding over
-  length-over n f b h =
-      length-append (flat C n f) (drop (n * C .width) b)
-      ∙ (let e = length-flat n f in let d = length-drop (n * C .width) b in omega arith)
+  length-over = front-length C (L .length-words)
 
-  -- one value more
-  pub over-suc : (n : ℕ) (f : ℕ → A) (b : List ℕ) → over C (suc n) f b ≡ put C (over C n f b) n (f n)
-  unfolding over put flat
-  over-suc n f b =
-      append-assoc (flat C n f) (C .words (f n)) (drop (suc n * C .width) b)
-      ∙ cc (suc-mul n (C .width), take-over n f b, drop-over-add n f b (C .width))
-
-  -- the same as code counts
+  -- one value more, as code counts
   pub over-one : (n : ℕ) (f : ℕ → A) (b : List ℕ) → over C (n + 1) f b ≡ put C (over C n f b) n (f n)
-  over-one n f b = ap (λ (k : ℕ). over C k f b) (add-one n) ∙ over-suc n f b
+  over-one n f b = sym (front-put C (L .length-words) f b n _ _ refl refl)
+
+  pub over-suc : (n : ℕ) (f : ℕ → A) (b : List ℕ) → over C (suc n) f b ≡ put C (over C n f b) n (f n)
+  over-suc n f b = ap (λ (k : ℕ). over C k f b) (sym (add-one n)) ∙ over-one n f b
 
   pub at-over : (n : ℕ) (f : ℕ → A) (b : List ℕ) (i : ℕ) → i < n → at C (over C n f b) i ≡ f i
   unfolding over

@@ -5,6 +5,7 @@ pub mod Falling
 pub mod Matrix
 pub mod Rising
 pub mod Correlation
+pub mod Written
 pub mod Coding
 pub mod Loop
 pub mod Tests

@@ -10,7 +10,7 @@ use Rattle.field.specs.Kind.{kindOf}
 use Rattle.messages.specs.Opening.{NamedAt}
 use Rattle.pads.proofs.Accepts.{accepts}
 use Rattle.pads.proofs.Choice.{noise-bytes, scalar-bytes}
-use Rattle.pads.proofs.Written.{wide-block}
+use Rattle.pads.proofs.Blocks.{wide-block}
 use Rattle.pads.specs.Choice.{padAt, messageAt}
 use Rattle.pads.specs.Pad.{pad}
 use Rattle.dealt_pads.specs.Taken.{Dealing, TakenAt}

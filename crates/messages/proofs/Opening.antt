@@ -8,6 +8,7 @@ use lib.Bits.{bitXor, xor-comm, xor-zero-r, xor-lt}
 use lib.ListN.{length, getD, take, drop}
 use lib.Seq.{getD-drop, getD-take}
 use Rattle.algebra.specs.Coding.{over}
+use Rattle.algebra.proofs.Written.{flat-same, over-value, taken-length, taken-word}
 use Rattle.field.proofs.Xor.{xor-back}
 use Rattle.pads.specs.Choice.{padAt, messageAt}
 use Rattle.answer.specs.Outcome.{Outcome}
@@ -18,7 +19,7 @@ use Rattle.messages.specs.Calls.{CorrectionLent, MaskLent, UnmaskLent, c
 use Rattle.messages.specs.Opening.{Batch, BatchFits, NamedAt, Opening, correctedBatch, sentBits, maskedBatch, sentAnswers, openedBatch}
 use Rattle.messages.proofs.Accepts.{accepts}
 use Rattle.messages.proofs.Turns.{wide-byte, wide-sixteen, wide-two}
-use Rattle.messages.proofs.Fronts.{value-over, length-front, byte-front, flat-equal, take-flat, byte-0, byte-1}
+use Rattle.messages.proofs.Fronts.{take-flat, byte-0, byte-1}
 
 -- ---- bits
 
@@ -77,7 +78,7 @@ module _ (B : Batch) (F : BatchFits B) (N : (k : ℕ) → k < B .count → Named
 
   bits-length : length (sentBits B) ≡ B .count
   bits-length =
-      ap length bits-are ∙ length-front byte wide-byte (B .count) (correctionBit (B .choices) (B .wanted)) (B .bitsOut) (omega (arith, F .bits-room))
+      ap length bits-are ∙ taken-length byte wide-byte (B .count) (correctionBit (B .choices) (B .wanted)) (B .bitsOut) (omega (arith, F .bits-room))
       ∙ mul-one (B .count)
 
   bit-is : (k : ℕ) → k < B .count → getD (sentBits B) k 0 ≡ bitXor (getD (B .choices) k 0) (getD (B .wanted) k 0)
@@ -85,7 +86,7 @@ module _ (B : Batch) (F : BatchFits B) (N : (k : ℕ) → k < B .count → Named
       let i : k ≡ k * 1 + 0 = omega arith in
       ap (λ (l : List ℕ). getD l k 0) bits-are
       ∙ ap (λ (n : ℕ). getD (take (B .count * 1) (over byte (B .count) (correctionBit (B .choices) (B .wanted)) (B .bitsOut))) n 0) i
-      ∙ byte-front byte wide-byte (B .count) (correctionBit (B .choices) (B .wanted)) (B .bitsOut) k 0 h (omega arith)
+      ∙ taken-word byte wide-byte (B .count) (correctionBit (B .choices) (B .wanted)) (B .bitsOut) k 0 h (omega arith)
 
   masked-zero : maskedBatch B .number ≡ 0
   masked-zero =
@@ -103,7 +104,7 @@ module _ (B : Batch) (F : BatchFits B) (N : (k : ℕ) → k < B .count → Named
 
   answers-length : length (sentAnswers B) ≡ 32 * B .count
   answers-length =
-      ap length answers-are ∙ length-front thirtyTwo wide-two (B .count) answer-at (B .answersOut) (omega (arith, F .answers-room))
+      ap length answers-are ∙ taken-length thirtyTwo wide-two (B .count) answer-at (B .answersOut) (omega (arith, F .answers-room))
       ∙ mul-comm (B .count) 32
 
   -- a byte of the answer of output k
@@ -111,7 +112,7 @@ module _ (B : Batch) (F : BatchFits B) (N : (k : ℕ) → k < B .count → Named
   answer-byte k j h i =
       ap (λ (l : List ℕ). getD l (32 * k + j) 0) answers-are
       ∙ ap (λ (n : ℕ). getD (take (B .count * 32) (over thirtyTwo (B .count) answer-at (B .answersOut))) (n + j) 0) (mul-comm 32 k)
-      ∙ byte-front thirtyTwo wide-two (B .count) answer-at (B .answersOut) k j h i
+      ∙ taken-word thirtyTwo wide-two (B .count) answer-at (B .answersOut) k j h i
 
   opened-zero : openedBatch B .number ≡ 0
   opened-zero =
@@ -161,8 +162,8 @@ module _ (B : Batch) (F : BatchFits B) (N : (k : ℕ) → k < B .count → Named
       let m = F .messages-length in
       let f = openedOf (B .wanted) (B .noisePads) (sentAnswers B) in
       pad-from-0 (openedBatch B .lent .messages) k
-      ∙ rw (opened-are, mul-comm 16 k) (value-over sixteen wide-sixteen (B .count) f (B .messagesOut) k h)
-      ∙ flat-equal 16 (f k) (λ i. getD (B .messages) (32 * k + 16 * w + i) 0) (λ i j. opened-byte k i h j)
+      ∙ rw (opened-are, mul-comm 16 k) (over-value sixteen wide-sixteen (B .count) f (B .messagesOut) k h)
+      ∙ flat-same byte wide-byte 16 (f k) (λ i. getD (B .messages) (32 * k + 16 * w + i) 0) (λ i j. opened-byte k i h j)
       ∙ sym (take-flat 16 (B .messages) (32 * k + 16 * w) (omega arith))
       ∙ sym (message-from-0 (B .messages) k w)
 

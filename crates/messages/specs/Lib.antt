@@ -3,4 +3,3 @@
 pub mod Bytes
 pub mod Calls
 pub mod Opening
-pub mod Inner

@@ -3,9 +3,9 @@ ghost use mathlib.Core.Path.{_≡_};
 ghost use Prim.Native.Nat.{_+_, _*_, _≤_, _<_};
 ghost use lib.ListN.{length, getD};
 ghost use Rattle.algebra.specs.Coding.{over};
+ghost use Rattle.algebra.specs.Inner.Put.{withValue};
 ghost use Rattle.messages.specs.Bytes.{byte, sixteen, thirtyTwo, masked};
 ghost use Rattle.messages.specs.Calls.{correctionTests, maskTests, unmaskTests, correctionBit, answerOf, openedOf};
-ghost use Rattle.messages.specs.Inner.Writing.{withValue};
 ghost use Rattle.answer.specs.Tests.{AllMet};
 
 // Writes choice exclusive-or wanted bit of each output.

@@ -2,11 +2,13 @@
 use mathlib.Core.Path.{_≡_, sym, ap, _∙_}
 use mathlib.Core.List.{List, _++_, append-assoc}
 use Prim.Native.Nat.{ℕ, zero, suc, _+_, _-_, _*_, _≤_, _<_}
+use native.Mathlib.Nat.{mul-comm}
 use native.Mathlib.Omega.{arith}
 use lib.Bits.{bitXor, xor-zero-l, xor-comm}
 use lib.ListN.{getD, take, drop}
 use lib.Seq.{take-at, drop-at, drop-drop}
-use Rattle.algebra.specs.Coding.{Coding, at, over}
+use Rattle.algebra.specs.Coding.{at}
+use Rattle.algebra.proofs.Written.{over-value, over-from}
 use Rattle.answer.specs.Outcome.{Outcome}
 use Rattle.answer.proofs.Answers.{outcome-is}
 use Rattle.field.specs.declared.block.Block.{Block}
@@ -16,13 +18,8 @@ use Rattle.pads.specs.Bytes.{MessagePair, blockBytes, messageBytes}
 use Rattle.pads.specs.Pad.{Rule, messagePair}
 use Rattle.pads.specs.Calls.{NoiseLent, ScalarLent, noisePadsBy, scalarPadsBy}
 use Rattle.pads.specs.Choice.{InWindow, padAt, messageAt, Choice}
-use Rattle.pads.proofs.Written.{Wide, drop-over, wide-block, wide-messages}
+use Rattle.pads.proofs.Blocks.{wide-block, wide-messages}
 use Rattle.pads.proofs.Accepts.{accepts}
-
--- the words of value k, in a buffer that n values were written over
-value-over : {A : Type 0} (C : Coding A) → Wide C → (n : ℕ) (f : ℕ → A) (b : List ℕ) (k j : ℕ) → k < n → j ≡ k * C .width
-    → take (C .width) (drop j (over C n f b)) ≡ C .words (f k)
-value-over C wide n f b k j h e = rw (e, drop-over C wide f n b k h) (take-at (C .words (f k)) _ (C .width) (wide (f k)))
 
 -- the noise end's bytes for an index of its window are those of its pad
 pub noise-bytes : (rule : Rule) (first count : ℕ) (vs choices pads : List ℕ) → noisePadsBy rule first count vs choices pads .number ≡ 0
@@ -33,7 +30,7 @@ noise-bytes rule first count vs choices pads e x i =
     let f : ℕ → Block = λ k. rule (first + k) (at blockBytes vs k) in
     let here : first + (x - first) ≡ x = omega arith in
     ap (λ (o : Outcome (Unit {0}) NoiseLent). padAt (o .lent .pads) first x) (outcome-is _ _ _ _ _ e)
-    ∙ value-over blockBytes wide-block count f pads (x - first) (16 * (x - first)) (omega arith) (omega arith)
+    ∙ rw (mul-comm 16 (x - first)) (over-value blockBytes wide-block count f pads (x - first) (omega arith))
     ∙ ap (λ (y : ℕ). blockBytes .words (rule y (at blockBytes vs (x - first)))) here
 
 -- message 0 or 1 of two
@@ -69,7 +66,7 @@ scalar-bytes rule first count ws delta pads e x i u h =
     let place : 32 * (x - first) ≡ (x - first) * 32 = omega arith in
     ap (λ (o : Outcome (Unit {0}) ScalarLent). messageAt (o .lent .pads) first x u) (outcome-is _ _ _ _ _ e)
     ∙ rw
-    (place, ← drop-drop (16 * u), drop-over messageBytes wide-messages f count pads (x - first) (omega arith))
+    (place, ← drop-drop (16 * u), over-from messageBytes wide-messages count f pads (x - first) (omega arith))
     (message-bytes (f (x - first)) _ u h)
     ∙ ap (λ (y : ℕ). blockBytes .words (named u (messagePair rule y (at blockBytes ws (x - first)) Δ))) here
 

@@ -1,9 +1,8 @@
 -- The laws of `pads`: what lies where in a written buffer, which input is accepted, the choice law, and the laws that the
 -- functions' proofs use.
-pub mod Written
+pub mod Blocks
 pub mod Accepts
 pub mod Choice
 pub mod Needs
-pub mod Passes
 pub mod Turns
 pub mod Outcomes

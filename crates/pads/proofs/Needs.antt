@@ -2,6 +2,7 @@
 use mathlib.Core.Path.{_≡_, ap, _∙_}
 use mathlib.Core.List.{List}
 use Prim.Native.Nat.{ℕ, _+_}
+use Rattle.algebra.specs.Inner.Put.{withValue}
 use Rattle.aes128.specs.Cipher.{keyExpansion, aes}
 use Rattle.aes128.specs.Inner.Words.{roundKeys}
 use Rattle.aes128.specs.Inner.Blocks.{cipherOf}
@@ -9,24 +10,23 @@ use Rattle.field.specs.declared.block.Block.{Block}
 use Rattle.field.specs.Binary.{blockAdd}
 use Rattle.pads.specs.Bytes.{blockBytes}
 use Rattle.field.specs.Inner.Written.{withWord}
-use Rattle.pads.specs.Inner.Written.{withBlock}
 use Rattle.pads.specs.Inner.Passes.{secondStep}
 use Rattle.pads.specs.Pad.{padKey, indexBlock, underPadKey, pad}
-use Rattle.pads.proofs.Written.{two-words}
+use Rattle.pads.proofs.Blocks.{two-words}
 
 -- both words of a block written
-pub put-words : (l l′ l″ : List ℕ) (at : ℕ) (b : Block) → l′ ≡ withWord l at (b .low) → l″ ≡ withWord l′ (at + 8) (b .high) → l″ ≡ withBlock l at b
+pub put-words : (l l′ l″ : List ℕ) (at : ℕ) (b : Block) → l′ ≡ withWord l at (b .low) → l″ ≡ withWord l′ (at + 8) (b .high) → l″ ≡ withValue blockBytes l at b
 put-words l l′ l″ at b e g = g ∙ rw e (two-words l at b)
 
 -- both blocks written
 pub put-both : (l l′ l″ : List ℕ) (at : ℕ) (p q p′ q′ : Block) → p ≡ p′ → q ≡ q′
-    → l′ ≡ withBlock l at p → l″ ≡ withBlock l′ (at + 16) q → l″ ≡ withBlock (withBlock l at p′) (at + 16) q′
+    → l′ ≡ withValue blockBytes l at p → l″ ≡ withValue blockBytes l′ (at + 16) q → l″ ≡ withValue blockBytes (withValue blockBytes l at p′) (at + 16) q′
 put-both l l′ l″ at p q p′ q′ pe qe e g = rw (g, e, pe, qe)
 
 -- both pads written where their first steps were read
 pub put-finished : (l l′ l″ : List ℕ) (at x y : ℕ) (s t p q : Block) → s ≡ blockBytes .read l at → t ≡ blockBytes .read l (at + 16)
-    → p ≡ secondStep x s → q ≡ secondStep y t → l′ ≡ withBlock l at p → l″ ≡ withBlock l′ (at + 16) q
-    → l″ ≡ withBlock (withBlock l at (secondStep x (blockBytes .read l at))) (at + 16) (secondStep y (blockBytes .read l (at + 16)))
+    → p ≡ secondStep x s → q ≡ secondStep y t → l′ ≡ withValue blockBytes l at p → l″ ≡ withValue blockBytes l′ (at + 16) q
+    → l″ ≡ withValue blockBytes (withValue blockBytes l at (secondStep x (blockBytes .read l at))) (at + 16) (secondStep y (blockBytes .read l (at + 16)))
 put-finished l l′ l″ at x y s t p q se te pe qe =
     put-both l l′ l″ at p q _ _ (pe ∙ ap (secondStep x) se) (qe ∙ ap (secondStep y) te)
 

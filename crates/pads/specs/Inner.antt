@@ -1,4 +1,3 @@
 -- Inner: no promise cites this folder. What inner functions' contracts and the proofs use.
-pub mod Written
 pub mod Steps
 pub mod Passes

@@ -4,8 +4,8 @@ ghost use mathlib.Core.Path.{_≡_};
 ghost use Prim.Native.Nat.{_+_, _*_, _≤_};
 ghost use lib.ListN.{length};
 ghost use Rattle.algebra.specs.Coding.{at, over};
+ghost use Rattle.algebra.specs.Inner.Put.{withValue};
 ghost use Rattle.pads.specs.Bytes.{blockBytes, messageBytes};
-ghost use Rattle.pads.specs.Inner.Written.{withBlock};
 ghost use Rattle.pads.specs.Pad.{pad, messagePair, underPadKey};
 ghost use Rattle.pads.specs.Inner.Steps.{PadKeys, WindowFits};
 ghost use Rattle.pads.specs.Inner.Passes.{secondStep, firstMessages, secondMessages};
@@ -18,7 +18,8 @@ use field::Block;
 // Writes the first steps of blocks a and b from a place on.
 fn start_two(tables: &[u64; 1536], keys: &[u64; 40], a: Block, b: Block, pads: &mut [u8], at: usize)
     requires { ⌜ PadKeys (now tables) (now keys) × (at + 32 ≤ length (now pads)) ⌝ }
-    ensures { λ _. ⌜ now (pads .exit) ≡ withBlock (withBlock (now (pads .entry)) at (underPadKey a)) (at + 16) (underPadKey b) ⌝ }
+    ensures { λ _. ⌜ now (pads .exit)
+        ≡ withValue blockBytes (withValue blockBytes (now (pads .entry)) at (underPadKey a)) (at + 16) (underPadKey b) ⌝ }
 {
     let s = aes128::encrypt_two(tables, keys, keys, a, b);
     put_block(pads, at, s.first);
@@ -35,8 +36,8 @@ fn finish_two(
     at: usize,
 )
     requires { ⌜ PadKeys (now tables) (now keys) × (at + 32 ≤ length (now pads)) ⌝ }
-    ensures { λ _. ⌜ now (pads .exit) ≡ withBlock
-        (withBlock (now (pads .entry)) at (secondStep x (blockBytes .read (now (pads .entry)) at)))
+    ensures { λ _. ⌜ now (pads .exit) ≡ withValue blockBytes
+        (withValue blockBytes (now (pads .entry)) at (secondStep x (blockBytes .read (now (pads .entry)) at)))
         (at + 16) (secondStep y (blockBytes .read (now (pads .entry)) (at + 16))) ⌝ }
 {
     let s = block_at(pads, at);
@@ -142,7 +143,8 @@ fn finish_messages(
     pads: &mut [u8],
 )
     requires { ⌜ PadKeys (now tables) (now keys) × (first + count ≤ 32768) × (count * 32 ≤ length (now pads)) ⌝ }
-    ensures { λ _. ⌜ now (pads .exit) ≡ over messageBytes count (λ k. secondMessages (first + k) (at messageBytes (now (pads .entry)) k)) (now (pads .entry)) ⌝ }
+    ensures { λ _. ⌜ now (pads .exit)
+        ≡ over messageBytes count (λ k. secondMessages (first + k) (at messageBytes (now (pads .entry)) k)) (now (pads .entry)) ⌝ }
 {
     let mut k: usize = 0;
     while k < count {
@@ -163,7 +165,8 @@ pub fn write_messages(
     pads: &mut [u8],
 )
     requires { ⌜ PadKeys (now tables) (now keys) × WindowFits first count (length (now w)) 32 (length (now pads)) ⌝ }
-    ensures { λ _. ⌜ now (pads .exit) ≡ over messageBytes count (λ k. messagePair pad (first + k) (at blockBytes (now (w .entry)) k) delta) (now (pads .entry)) ⌝ }
+    ensures { λ _. ⌜ now (pads .exit)
+        ≡ over messageBytes count (λ k. messagePair pad (first + k) (at blockBytes (now (w .entry)) k) delta) (now (pads .entry)) ⌝ }
 {
     start_messages(tables, keys, count, w, delta, pads);
     finish_messages(tables, keys, first, count, pads);

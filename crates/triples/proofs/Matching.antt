@@ -16,7 +16,7 @@ use Rattle.answer.specs.Outcome.{Outcome}
 use Rattle.answer.proofs.Answers.{outcome-is}
 use Rattle.algebra.proofs.Tests.{and-left, and-right}
 use Rattle.messages.specs.Opening.{NamedAt}
-use Rattle.messages.proofs.Fronts.{length-front, byte-front}
+use Rattle.algebra.proofs.Written.{taken-length, taken-word}
 use Rattle.messages.proofs.Opening.{named-byte}
 use Rattle.triples.specs.Triple.{Triple, tripleBytes, tripleFrom, messageBit, padBit, tripleOf}
 use Rattle.triples.specs.Call.{TriplesLent, triples}
@@ -121,7 +121,7 @@ module _ (l : TriplesLent) (e : triples l .number ≡ 0) where
       → getD (triplesOf l) (k * 3 + m) 0 ≡ getD (tripleBytes .words (tripleOf (l .choices) (l .pads) (l .messages) k)) m 0
   byte-is k m h i =
       ap (λ (s : List ℕ). getD s (k * 3 + m) 0) written-is
-      ∙ byte-front tripleBytes wide-triple (length (l .choices)) (tripleOf (l .choices) (l .pads) (l .messages)) (l .triples) k m h i
+      ∙ taken-word tripleBytes wide-triple (length (l .choices)) (tripleOf (l .choices) (l .pads) (l .messages)) (l .triples) k m h i
 
   -- triple k
   triple-is : (k : ℕ) → k < length (l .choices) → at tripleBytes (triplesOf l) k ≡ tripleOf (l .choices) (l .pads) (l .messages) k
@@ -178,7 +178,7 @@ match-all l l′ equal e e′ N N′ k h = match l l′ e e′ k h (omega arith)
 pub length-triples : (l : TriplesLent) → triples l .number ≡ 0 → length (triplesOf l) ≡ length (l .choices) * 3
 length-triples l e =
     ap length (written-is l e)
-    ∙ length-front tripleBytes wide-triple (length (l .choices)) (tripleOf (l .choices) (l .pads) (l .messages)) (l .triples)
+    ∙ taken-length tripleBytes wide-triple (length (l .choices)) (tripleOf (l .choices) (l .pads) (l .messages)) (l .triples)
     (omega (arith, accepts l .1 e .all))
 
 -- the triples of the front of a list, and those past it

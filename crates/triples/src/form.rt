@@ -3,7 +3,7 @@ ghost use mathlib.Core.Path.{_≡_};
 ghost use Prim.Native.Nat.{_+_, _*_, _≤_, _<_};
 ghost use lib.ListN.{length};
 ghost use Rattle.algebra.specs.Coding.{over};
-ghost use Rattle.messages.specs.Inner.Writing.{withValue};
+ghost use Rattle.algebra.specs.Inner.Put.{withValue};
 ghost use Rattle.triples.specs.Triple.{tripleBytes, tripleOf};
 ghost use Rattle.answer.specs.Tests.{AllMet};
 ghost use Rattle.triples.specs.Call.{triplesTests};

@@ -6,10 +6,10 @@ use native.Mathlib.Omega.{arith}
 use borrow.Author.Needs.{needs}
 use lib.ListN.{length}
 use Rattle.algebra.specs.Coding.{over}
+use Rattle.algebra.proofs.Written.{front-none, front-more, front-all}
 use Rattle.messages.specs.Bytes.{thirtyTwo}
 use Rattle.messages.specs.Calls.{answerOf}
-use Rattle.pads.proofs.Turns.{all-turns}
-use Rattle.messages.proofs.Turns.{answers-none, answers-more, mask-bit}
+use Rattle.messages.proofs.Turns.{wide-two, mask-bit}
 use Rattle.messages.proofs.mask.write_answers.Statement.{statement}
 use Rattle.messages.proofs.mask.write_answers.Tie as tie
 
@@ -27,14 +27,14 @@ write-answers-spec =
     (tie.spec
     Inv-loop
     μ-loop
-    (λ c. (omega arith, omega arith, refl, search answers-none))  -- loop-holds
+    (λ c. (omega arith, omega arith, refl, search front-none))  -- loop-holds
     (λ c κs. (omega arith, search mask-bit, omega arith, omega arith, omega arith))  -- put-answer-requires
     (λ c. omega arith)  -- add-k
     (λ c. omega arith)  -- loop-less
     (λ c.
     let stored = c .before .before in
     let inv = stored .before .before .before .loop .inv in
-    (omega arith, inv .1, omega arith, answers-more _ _ _ _ _ _ _ (inv .3) (stored .put-answer .ensures) (omega arith)))  -- loop-again
+    (omega arith, inv .1, omega arith, front-more thirtyTwo wide-two _ _ _ _ _ _ (omega arith) (omega arith) (inv .3) (stored .put-answer .ensures)))  -- loop-again
     (λ c. search needs)  -- same-length
-    (λ c. search all-turns)  -- returns
+    (λ c. search front-all)  -- returns
     )

@@ -6,10 +6,10 @@ use native.Mathlib.Omega.{arith}
 use borrow.Author.Needs.{needs}
 use lib.ListN.{length}
 use Rattle.algebra.specs.Coding.{over}
+use Rattle.algebra.proofs.Written.{front-none, front-all}
 use Rattle.messages.specs.Bytes.{byte}
 use Rattle.messages.specs.Calls.{correctionBit}
-use Rattle.pads.proofs.Turns.{all-turns}
-use Rattle.messages.proofs.Turns.{bits-none, bits-more}
+use Rattle.messages.proofs.Turns.{bits-more}
 use Rattle.messages.proofs.mask.write_bits.Statement.{statement}
 use Rattle.messages.proofs.mask.write_bits.Tie as tie
 
@@ -26,7 +26,7 @@ write-bits-spec =
     (tie.spec
     Inv-loop
     μ-loop
-    (λ c. (omega arith, refl, search bits-none))  -- loop-holds
+    (λ c. (omega arith, refl, search front-none))  -- loop-holds
     (λ c. omega arith)  -- shared-slice-read-bits-out
     (λ c. omega arith)  -- shared-slice-read-bits-out-2
     (λ c. omega arith)  -- slice-write-bits-out
@@ -34,5 +34,5 @@ write-bits-spec =
     (λ c. omega arith)  -- loop-less
     (λ c. (omega arith, search needs, search bits-more))  -- loop-again
     (λ c. search needs)  -- same-length
-    (λ c. search all-turns)  -- returns
+    (λ c. search front-all)  -- returns
     )

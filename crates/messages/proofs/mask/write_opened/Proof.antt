@@ -6,10 +6,10 @@ use native.Mathlib.Omega.{arith}
 use borrow.Author.Needs.{needs}
 use lib.ListN.{length}
 use Rattle.algebra.specs.Coding.{over}
+use Rattle.algebra.proofs.Written.{front-none, front-more, front-all}
 use Rattle.messages.specs.Bytes.{sixteen}
 use Rattle.messages.specs.Calls.{openedOf}
-use Rattle.pads.proofs.Turns.{all-turns}
-use Rattle.messages.proofs.Turns.{opened-none, opened-more, unmask-bit}
+use Rattle.messages.proofs.Turns.{wide-sixteen, unmask-bit}
 use Rattle.messages.proofs.mask.write_opened.Statement.{statement}
 use Rattle.messages.proofs.mask.write_opened.Tie as tie
 
@@ -27,14 +27,14 @@ write-opened-spec =
     (tie.spec
     Inv-loop
     μ-loop
-    (λ c. (omega arith, omega arith, refl, search opened-none))  -- loop-holds
+    (λ c. (omega arith, omega arith, refl, search front-none))  -- loop-holds
     (λ c κs. (omega arith, search unmask-bit, omega arith, omega arith, omega arith))  -- put-opened-requires
     (λ c. omega arith)  -- add-k
     (λ c. omega arith)  -- loop-less
     (λ c.
     let stored = c .before .before in
     let inv = stored .before .before .before .loop .inv in
-    (omega arith, inv .1, omega arith, opened-more _ _ _ _ _ _ _ (inv .3) (stored .put-opened .ensures) (omega arith)))  -- loop-again
+    (omega arith, inv .1, omega arith, front-more sixteen wide-sixteen _ _ _ _ _ _ (omega arith) (omega arith) (inv .3) (stored .put-opened .ensures)))  -- loop-again
     (λ c. search needs)  -- same-length
-    (λ c. search all-turns)  -- returns
+    (λ c. search front-all)  -- returns
     )

@@ -6,10 +6,10 @@ use native.Mathlib.Omega.{arith}
 use borrow.Author.Needs.{needs}
 use lib.ListN.{length}
 use Rattle.algebra.specs.Coding.{at, over}
+use Rattle.algebra.proofs.Written.{front-none, front-all}
 use Rattle.pads.specs.Bytes.{messageBytes}
 use Rattle.pads.specs.Inner.Passes.{secondMessages}
-use Rattle.pads.proofs.Written.{over-none, wide-messages}
-use Rattle.pads.proofs.Turns.{messages-finished, all-turns}
+use Rattle.pads.proofs.Turns.{messages-finished}
 use Rattle.pads.proofs.write.finish_messages.Statement.{statement}
 use Rattle.pads.proofs.write.finish_messages.Tie as tie
 
@@ -27,7 +27,7 @@ finish-messages-spec =
     (tie.spec
     Inv-loop
     μ-loop
-    (λ c. (omega arith, omega arith, refl, over-none messageBytes wide-messages _ _))  -- loop-holds
+    (λ c. (omega arith, omega arith, refl, front-none messageBytes _ _))  -- loop-holds
     (λ c. omega arith)  -- add-x
     (λ c. omega arith)  -- mul-finish-two
     (λ c κs. (search needs, omega arith))  -- finish-two-requires
@@ -43,5 +43,5 @@ finish-messages-spec =
       messages-finished _ _ _ _ _ _ _ (begun .loop-test .taken) (inv .1) (inv .3) (omega arith) (finished .finish-two .ensures),
     ))  -- loop-again
     (λ c. search needs)  -- same-length
-    (λ c. search all-turns)  -- returns
+    (λ c. search front-all)  -- returns
     )

@@ -6,10 +6,10 @@ use native.Mathlib.Omega.{arith}
 use borrow.Author.Needs.{needs}
 use lib.ListN.{length}
 use Rattle.algebra.specs.Coding.{at, over}
+use Rattle.algebra.proofs.Written.{front-none, front-all}
 use Rattle.pads.specs.Bytes.{blockBytes}
 use Rattle.pads.specs.Inner.Passes.{secondStep}
-use Rattle.pads.proofs.Written.{over-none, wide-block}
-use Rattle.pads.proofs.Turns.{pairs-finished, all-turns}
+use Rattle.pads.proofs.Turns.{pairs-finished}
 use Rattle.pads.proofs.write.finish_pairs.Statement.{statement}
 use Rattle.pads.proofs.write.finish_pairs.Tie as tie
 
@@ -27,7 +27,7 @@ finish-pairs-spec =
     (tie.spec
     Inv-loop
     μ-loop
-    (λ c. (omega arith, omega arith, refl, over-none blockBytes wide-block _ _))  -- loop-holds
+    (λ c. (omega arith, omega arith, refl, front-none blockBytes _ _))  -- loop-holds
     (λ c. omega arith)  -- mul-x
     (λ c. omega arith)  -- add-x
     (λ c. omega arith)  -- add-finish-two
@@ -45,5 +45,5 @@ finish-pairs-spec =
       pairs-finished _ _ _ _ _ _ _ (begun .loop-test .taken) (inv .1) (inv .3) (omega arith) (finished .finish-two .ensures),
     ))  -- loop-again
     (λ c. search needs)  -- same-length
-    (λ c. all-turns blockBytes _ _ _ _ _ (omega arith) (omega arith) (c .before .loop .inv .3))  -- returns
+    (λ c. front-all blockBytes _ _ _ _ _ (omega arith) (omega arith) (c .before .loop .inv .3))  -- returns
     )

@@ -6,10 +6,10 @@ use native.Mathlib.Omega.{arith}
 use borrow.Author.Needs.{needs}
 use lib.ListN.{length}
 use Rattle.algebra.specs.Coding.{at, over}
+use Rattle.algebra.proofs.Written.{front-none, front-all}
 use Rattle.pads.specs.Bytes.{blockBytes, messageBytes}
 use Rattle.pads.specs.Inner.Passes.{firstMessages}
-use Rattle.pads.proofs.Written.{over-none, wide-messages}
-use Rattle.pads.proofs.Turns.{messages-started, all-turns}
+use Rattle.pads.proofs.Turns.{messages-started}
 use Rattle.pads.proofs.write.start_messages.Statement.{statement}
 use Rattle.pads.proofs.write.start_messages.Tie as tie
 
@@ -27,7 +27,7 @@ start-messages-spec =
     (tie.spec
     Inv-loop
     μ-loop
-    (λ c. (omega arith, omega arith, refl, over-none messageBytes wide-messages _ _))  -- loop-holds
+    (λ c. (omega arith, omega arith, refl, front-none messageBytes _ _))  -- loop-holds
     (λ c. omega arith)  -- mul-block-at
     (λ c κs. omega arith)  -- block-at-requires
     (λ c κs. search needs)  -- add-requires
@@ -53,5 +53,5 @@ start-messages-spec =
           (started .start-two .ensures),
     ))  -- loop-again
     (λ c. search needs)  -- same-length
-    (λ c. search all-turns)  -- returns
+    (λ c. search front-all)  -- returns
     )

@@ -6,10 +6,10 @@ use native.Mathlib.Omega.{arith}
 use borrow.Author.Needs.{needs}
 use lib.ListN.{length}
 use Rattle.algebra.specs.Coding.{at, over}
+use Rattle.algebra.proofs.Written.{front-none, front-all}
 use Rattle.pads.specs.Bytes.{blockBytes}
 use Rattle.pads.specs.Pad.{underPadKey}
-use Rattle.pads.proofs.Written.{over-none, wide-block}
-use Rattle.pads.proofs.Turns.{pairs-started, all-turns}
+use Rattle.pads.proofs.Turns.{pairs-started}
 use Rattle.pads.proofs.write.start_pairs.Statement.{statement}
 use Rattle.pads.proofs.write.start_pairs.Tie as tie
 
@@ -27,7 +27,7 @@ start-pairs-spec =
     (tie.spec
     Inv-loop
     μ-loop
-    (λ c. (omega arith, omega arith, refl, over-none blockBytes wide-block _ _))  -- loop-holds
+    (λ c. (omega arith, omega arith, refl, front-none blockBytes _ _))  -- loop-holds
     (λ c. omega arith)  -- mul-at
     (λ c κs. omega arith)  -- block-at-requires
     (λ c. omega arith)  -- add-block-at
@@ -53,5 +53,5 @@ start-pairs-spec =
           (started .start-two .ensures),
     ))  -- loop-again
     (λ c. search needs)  -- same-length
-    (λ c. all-turns blockBytes _ _ _ _ _ (omega arith) (omega arith) (c .before .loop .inv .3))  -- returns
+    (λ c. front-all blockBytes _ _ _ _ _ (omega arith) (omega arith) (c .before .loop .inv .3))  -- returns
     )

@@ -1,8 +1,9 @@
 -- `pads::write::write_pads` meets its contract: after the pairs at most one pad is left.
 use native.Mathlib.Omega.{arith}
 use borrow.Author.Needs.{needs}
+use Rattle.algebra.proofs.Written.{front-all}
 use Rattle.pads.specs.Bytes.{blockBytes}
-use Rattle.pads.proofs.Turns.{pads-last, all-turns}
+use Rattle.pads.proofs.Turns.{pads-last}
 use Rattle.pads.proofs.write.write_pads.Statement.{statement}
 use Rattle.pads.proofs.write.write_pads.Tie as tie
 
@@ -37,5 +38,5 @@ write-pads-spec =
     (λ c. search needs)  -- same-length-2
     (λ c.
     let pairs = c .before .before .before in
-    all-turns blockBytes _ _ _ _ _ (omega arith) (omega arith) (pairs .write-pairs .ensures))  -- returns-2
+    front-all blockBytes _ _ _ _ _ (omega arith) (omega arith) (pairs .write-pairs .ensures))  -- returns-2
     )

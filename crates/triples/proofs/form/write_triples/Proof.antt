@@ -6,9 +6,9 @@ use native.Mathlib.Omega.{arith}
 use borrow.Author.Needs.{needs}
 use lib.ListN.{length}
 use Rattle.algebra.specs.Coding.{over}
-use Rattle.pads.proofs.Turns.{all-turns}
+use Rattle.algebra.proofs.Written.{front-none, front-more, front-all}
 use Rattle.triples.specs.Triple.{tripleBytes, tripleOf}
-use Rattle.triples.proofs.Turns.{triples-none, triples-more}
+use Rattle.triples.proofs.Turns.{wide-triple}
 use Rattle.triples.proofs.form.write_triples.Statement.{statement}
 use Rattle.triples.proofs.form.write_triples.Tie as tie
 
@@ -25,14 +25,14 @@ write-triples-spec =
     (tie.spec
     Inv-loop
     μ-loop
-    (λ c. (omega arith, refl, search triples-none))  -- loop-holds
+    (λ c. (omega arith, refl, search front-none))  -- loop-holds
     (λ c κs. (omega arith, omega arith, omega arith, omega arith))  -- put-triple-requires
     (λ c. omega arith)  -- add-k
     (λ c. omega arith)  -- loop-less
     (λ c.
     let stored = c .before .before in
     let begun = stored .before .before in
-    (omega arith, omega arith, triples-more _ _ _ _ _ _ _ (begun .before .loop .inv .2) (stored .put-triple .ensures) (omega arith)))  -- loop-again
+    (omega arith, omega arith, front-more tripleBytes wide-triple _ _ _ _ _ _ (omega arith) (omega arith) (begun .before .loop .inv .2) (stored .put-triple .ensures)))  -- loop-again
     (λ c. search needs)  -- same-length
-    (λ c. search all-turns)  -- returns
+    (λ c. search front-all)  -- returns
     )

@@ -1,2 +1,0 @@
--- What the inner functions' contracts cite.
-pub mod Writing

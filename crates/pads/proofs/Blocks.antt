@@ -1,0 +1,84 @@
+-- Blocks and messages in bytes: a block is written as its two words, and messages as two blocks; both are read from their place on, and
+-- the results of a pad's first step are read back.
+use mathlib.Core.Path.{_≡_, refl, sym, ap, _∙_}
+use mathlib.Core.List.{List, _++_, append-assoc}
+use Prim.Native.Nat.{ℕ, _+_, _<_}
+use native.Mathlib.Nat.{add-zero, add-assoc}
+use lib.Dec.{lit<}
+use lib.ListN.{drop}
+use lib.Seq.{getD-drop, drop-at, drop-drop}
+use Rattle.algebra.specs.Inner.Put.{withValue}
+use Rattle.algebra.proofs.Written.{Wide, Placed, Back, sets-append}
+use Rattle.aes128.specs.Cipher.{aes}
+use Rattle.aes128.specs.Inner.Sizes.{IsState}
+use Rattle.aes128.proofs.Sizes.{four-bytes, four-words, state-bytes, aes-is}
+use Rattle.field.specs.declared.block.Block.{Block}
+use Rattle.field.specs.Bytes.{leBytes, wordAt}
+use Rattle.field.specs.Inner.Written.{withWord}
+use Rattle.field.proofs.BinaryField.{block-eq}
+use Rattle.field.proofs.ByteWords.{leNumber-leBytes-word, lowOf-below, highOf-below}
+use Rattle.pads.specs.Bytes.{MessagePair, blockBytes, messageBytes}
+use Rattle.pads.specs.Pad.{padKey, state, underPadKey}
+
+-- a block has 16 bytes, and messages 32
+pub wide-block : Wide blockBytes
+unfolding leBytes
+wide-block b = refl
+
+pub wide-messages : Wide messageBytes
+unfolding leBytes
+wide-messages m = refl
+
+-- a block is written as its two words
+pub two-words : (l : List ℕ) (at : ℕ) (b : Block) → withWord (withWord l at (b .low)) (at + 8) (b .high) ≡ withValue blockBytes l at b
+unfolding withWord withValue leBytes
+two-words l at b = sym (sets-append l at (leBytes 8 (b .low)) (leBytes 8 (b .high)))
+
+-- messages are written as two blocks
+pub two-blocks : (l : List ℕ) (at : ℕ) (m : MessagePair)
+    → withValue blockBytes (withValue blockBytes l at (m .message0)) (at + 16) (m .message1) ≡ withValue messageBytes l at m
+unfolding withValue leBytes
+two-blocks l at m = sym (sets-append l at (blockBytes .words (m .message0)) (blockBytes .words (m .message1)))
+
+-- equal messages make equal pairs
+pair-eq : {a b x y : Block} → a ≡ x → b ≡ y → _≡_ {A = MessagePair} (record { message0 = a; message1 = b }) (record { message0 = x; message1 = y })
+pair-eq e g = rw (e, g)
+
+-- blocks and messages are read from their place on
+pub placed-block : Placed blockBytes
+unfolding wordAt
+placed-block l i = simp (getD-drop, add-zero, add-assoc)
+
+pub placed-messages : Placed messageBytes
+placed-messages l i = pair-eq (placed-block l i) (placed-block l (i + 16) ∙ rw drop-drop at (sym (placed-block (drop i l) 16)))
+
+-- a block of two words is read back
+back-block : (b : Block) → b .low < 18446744073709551616 → b .high < 18446744073709551616 → Back blockBytes b
+unfolding wordAt leBytes
+back-block b low high rest = block-eq (leNumber-leBytes-word (b .low) low) (leNumber-leBytes-word (b .high) high)
+
+-- and so are two messages that are read back
+pub back-messages : (m : MessagePair) → Back blockBytes (m .message0) → Back blockBytes (m .message1) → Back messageBytes m
+back-messages m back0 back1 rest =
+    let w0 = blockBytes .words (m .message0) in
+    let w1 = blockBytes .words (m .message1) in
+    rw (append-assoc w0 w1 rest) (pair-eq (back0 (w1 ++ rest))
+    (placed-block (w0 ++ (w1 ++ rest)) 16
+    ∙ ap (λ (l : List ℕ). blockBytes .read l 0) (drop-at w0 (w1 ++ rest) 16 (wide-block (m .message0)))
+    ∙ back1 rest))
+
+-- the pads' key is four columns of four bytes
+pad-key-is : IsState padKey
+unfolding padKey
+pad-key-is =
+    let byte : 255 < 256 = lit< tt in
+    let w = four-bytes byte byte byte byte in
+    four-words w w w w
+
+-- the first step's result is read back
+pub back-step : (w : Block) → Back blockBytes (underPadKey w)
+unfolding underPadKey
+back-step w =
+    let s = aes padKey (state w) in
+    let bytes = state-bytes s (aes-is padKey pad-key-is (state w)) in
+    back-block (underPadKey w) (lowOf-below s bytes) (highOf-below s bytes)
