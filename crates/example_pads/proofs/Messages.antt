@@ -4,10 +4,11 @@ use Prim.Native.Nat.{ℕ, zero, suc, _<_}
 use native.Mathlib.Omega.{arith}
 use lib.Dec.{lit≤}
 use Rattle.algebra.specs.Coding.{flat, over}
-use Rattle.pads.specs.Bytes.{anyAbove, Bits}
+use Rattle.answer.specs.Bytes.{anyAbove, Bits}
+use Rattle.answer.specs.Outcome.{byNumber, answered}
+use Rattle.answer.specs.Tests.{isMet, firstFault}
 use Rattle.messages.specs.Calls.{correctionBits, answerOf, maskMessages, openedOf, unmaskMessages}
 use Rattle.messages.specs.Opening.{BatchFits}
-use Rattle.messages.specs.Outcome.{outcomeOf, firstFault}
 use Rattle.dealt_pads.proofs.Messages.{messages}
 use Rattle.example_pads.specs.Messages.{batch, MessagesExample}
 use Rattle.example_pads.proofs.Pads.{firstDealing, first-taken}
@@ -33,7 +34,7 @@ fits =
     }
 
 pub messages-example : MessagesExample
-unfolding flat over anyAbove firstFault outcomeOf correctionBits answerOf maskMessages openedOf unmaskMessages
+unfolding flat over anyAbove isMet firstFault byNumber answered correctionBits answerOf maskMessages openedOf unmaskMessages
 messages-example =
     record {
       dealing = firstDealing;

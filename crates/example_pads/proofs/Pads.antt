@@ -7,15 +7,16 @@ use native.Mathlib.Omega.{arith}
 use borrow.Author.Tests.{eqb-false}
 use lib.ListN.{getD, replicate}
 use Rattle.algebra.specs.Coding.{flat, over}
-use Rattle.answer.specs.Numbers.{accepted}
+use Rattle.answer.specs.Bytes.{anyAbove}
+use Rattle.answer.specs.Outcome.{byNumber, answered, wrote}
+use Rattle.answer.specs.Tests.{isMet, firstFault}
 use Rattle.sbox.specs.Byte.{xtime}
 use Rattle.aes128.specs.State.{xorWord, xorState}
 use Rattle.aes128.specs.Cipher.{shiftRows, power, keysOf}
 use Rattle.field.specs.Bytes.{leBytes, leNumber, wordAt, columnsOf, lowOf, highOf}
 use Rattle.record.specs.Writing as writing
 use Rattle.record.specs.Writing.{writeWords}
-use Rattle.pads.specs.Bytes.{anyAbove}
-use Rattle.pads.specs.Calls.{outcome, answered, noiseNumber, scalarNumber, noisePadsBy, scalarPadsBy, noisePads, scalarPads}
+use Rattle.pads.specs.Calls.{lentNoise, lentScalar, noisePadsBy, scalarPadsBy, noisePads, scalarPads}
 use Rattle.pads.specs.Choice.{padAt, messageAt}
 use Rattle.pads.specs.Pad.{padKey, messagePair}
 use Rattle.claims.proofs.Entire.{pads}
@@ -37,20 +38,20 @@ secondDealing = record { input = secondInput; binary = refl; noiseRecord = repli
 
 -- what two accepted pad calls leave, where the bytes lent are a dealing's
 module _ (D : Dealing) (N : Numbers) (noise scalar : List ℕ)
-    (noise-call : noisePads 0 2 (writeWords (N .vs)) (N .us) (replicate 32 0) ≡ outcome accepted (writeWords (N .vs)) (N .us) noise)
+    (noise-call : noisePads 0 2 (writeWords (N .vs)) (N .us) (replicate 32 0) ≡ wrote tt (lentNoise (writeWords (N .vs)) (N .us) noise))
     (scalar-call : scalarPads 0 2 (writeWords (N .ws)) (D .input .delta) (replicate 64 0)
-    ≡ outcome accepted (writeWords (N .ws)) (D .input .delta) scalar)
+    ≡ wrote tt (lentScalar (writeWords (N .ws)) (D .input .delta) scalar))
     (lent : (x : ℕ) → x < 2 → PadsLent (D .input) x 0 (writeWords (N .vs)) (N .us) 0 (writeWords (N .ws)) (D .input .delta))
     (outputs : D .input .outputs ≡ 2) where
   -- the pad that the choice names, by `Pads`
   named : (x : ℕ) → x < 2 → padAt noise 0 x ≡ messageAt scalar 0 x (getD (N .us) x 0)
   named x h =
-      ap (λ o. padAt (o .pads) 0 x) (sym noise-call)
+      ap (λ o. padAt (o .lent .pads) 0 x) (sym noise-call)
       ∙ pads (D .input) (D .binary) (D .noiseRecord) (D .scalarRecord) (D .dealt)
       0 2 (writeWords (N .vs)) (N .us) (replicate 32 0) (ap (λ o. o .number) noise-call)
       0 2 (writeWords (N .ws)) (D .input .delta) (replicate 64 0) (ap (λ o. o .number) scalar-call)
       x (rw outputs h) (omega arith, omega arith) (omega arith, omega arith) (lent x h)
-      ∙ ap₂ (λ o (i : ℕ). messageAt (o .pads) 0 x (getD (N .us) i 0)) scalar-call (sub-zero x)
+      ∙ ap₂ (λ o (i : ℕ). messageAt (o .lent .pads) 0 x (getD (N .us) i 0)) scalar-call (sub-zero x)
 
   -- what is taken for place x is that of output x
   taken : (x : ℕ) → x < 2 → TakenAt D (N .us) noise scalar x
@@ -74,20 +75,20 @@ module _ (D : Dealing) (N : Numbers) (noise scalar : List ℕ)
         within′ = (omega arith, omega arith);
         lent = lent x h;
         choice = rw (sub-zero x) at (lent x h .u-lent);
-        pad = ap (λ o. padAt (o .pads) 0 x) (sym noise-call);
-        both = λ bit b. ap (λ o. messageAt (o .pads) 0 x bit) (sym scalar-call);
+        pad = ap (λ o. padAt (o .lent .pads) 0 x) (sym noise-call);
+        both = λ bit b. ap (λ o. messageAt (o .lent .pads) 0 x bit) (sym scalar-call);
       }
 
 -- ---- the first dealing
 
 first-noise : noisePads 0 2 (writeWords (binaryNumbers .vs)) (binaryNumbers .us) (replicate 32 0)
-    ≡ outcome accepted (writeWords (binaryNumbers .vs)) (binaryNumbers .us) firstNoise
-unfolding looked lookedFrom mixBy subBy roundBy roundsBy cipherBy tempBy wordsBy lookedCipher lookedWords lookedKeys lookedAes lookedUnder padBy lookedPad xtime xorWord xorState shiftRows power keysOf leBytes leNumber wordAt columnsOf lowOf highOf padKey writing.writeEach flat over anyAbove answered noiseNumber scalarNumber noisePadsBy scalarPadsBy messagePair
+    ≡ wrote tt (lentNoise (writeWords (binaryNumbers .vs)) (binaryNumbers .us) firstNoise)
+unfolding looked lookedFrom mixBy subBy roundBy roundsBy cipherBy tempBy wordsBy lookedCipher lookedWords lookedKeys lookedAes lookedUnder padBy lookedPad xtime xorWord xorState shiftRows power keysOf leBytes leNumber wordAt columnsOf lowOf highOf padKey writing.writeEach flat over anyAbove isMet firstFault byNumber answered noisePadsBy scalarPadsBy messagePair
 first-noise = ap (λ rule. noisePadsBy rule 0 2 (writeWords (binaryNumbers .vs)) (binaryNumbers .us) (replicate 32 0)) pad-looked
 
 first-scalar : scalarPads 0 2 (writeWords (binaryNumbers .ws)) (binaryInput .delta) (replicate 64 0)
-    ≡ outcome accepted (writeWords (binaryNumbers .ws)) (binaryInput .delta) firstScalar
-unfolding looked lookedFrom mixBy subBy roundBy roundsBy cipherBy tempBy wordsBy lookedCipher lookedWords lookedKeys lookedAes lookedUnder padBy lookedPad xtime xorWord xorState shiftRows power keysOf leBytes leNumber wordAt columnsOf lowOf highOf padKey writing.writeEach flat over anyAbove answered noiseNumber scalarNumber noisePadsBy scalarPadsBy messagePair
+    ≡ wrote tt (lentScalar (writeWords (binaryNumbers .ws)) (binaryInput .delta) firstScalar)
+unfolding looked lookedFrom mixBy subBy roundBy roundsBy cipherBy tempBy wordsBy lookedCipher lookedWords lookedKeys lookedAes lookedUnder padBy lookedPad xtime xorWord xorState shiftRows power keysOf leBytes leNumber wordAt columnsOf lowOf highOf padKey writing.writeEach flat over anyAbove isMet firstFault byNumber answered noisePadsBy scalarPadsBy messagePair
 first-scalar = ap (λ rule. scalarPadsBy rule 0 2 (writeWords (binaryNumbers .ws)) (binaryInput .delta) (replicate 64 0)) pad-looked
 
 first-lent : (x : ℕ) → x < 2
@@ -120,13 +121,13 @@ first-taken = taken firstDealing binaryNumbers firstNoise firstScalar first-nois
 -- ---- the second dealing
 
 second-noise : noisePads 0 2 (writeWords (secondNumbers .vs)) (secondNumbers .us) (replicate 32 0)
-    ≡ outcome accepted (writeWords (secondNumbers .vs)) (secondNumbers .us) secondNoise
-unfolding looked lookedFrom mixBy subBy roundBy roundsBy cipherBy tempBy wordsBy lookedCipher lookedWords lookedKeys lookedAes lookedUnder padBy lookedPad xtime xorWord xorState shiftRows power keysOf leBytes leNumber wordAt columnsOf lowOf highOf padKey writing.writeEach flat over anyAbove answered noiseNumber scalarNumber noisePadsBy scalarPadsBy messagePair
+    ≡ wrote tt (lentNoise (writeWords (secondNumbers .vs)) (secondNumbers .us) secondNoise)
+unfolding looked lookedFrom mixBy subBy roundBy roundsBy cipherBy tempBy wordsBy lookedCipher lookedWords lookedKeys lookedAes lookedUnder padBy lookedPad xtime xorWord xorState shiftRows power keysOf leBytes leNumber wordAt columnsOf lowOf highOf padKey writing.writeEach flat over anyAbove isMet firstFault byNumber answered noisePadsBy scalarPadsBy messagePair
 second-noise = ap (λ rule. noisePadsBy rule 0 2 (writeWords (secondNumbers .vs)) (secondNumbers .us) (replicate 32 0)) pad-looked
 
 second-scalar : scalarPads 0 2 (writeWords (secondNumbers .ws)) (secondInput .delta) (replicate 64 0)
-    ≡ outcome accepted (writeWords (secondNumbers .ws)) (secondInput .delta) secondScalar
-unfolding looked lookedFrom mixBy subBy roundBy roundsBy cipherBy tempBy wordsBy lookedCipher lookedWords lookedKeys lookedAes lookedUnder padBy lookedPad xtime xorWord xorState shiftRows power keysOf leBytes leNumber wordAt columnsOf lowOf highOf padKey writing.writeEach flat over anyAbove answered noiseNumber scalarNumber noisePadsBy scalarPadsBy messagePair
+    ≡ wrote tt (lentScalar (writeWords (secondNumbers .ws)) (secondInput .delta) secondScalar)
+unfolding looked lookedFrom mixBy subBy roundBy roundsBy cipherBy tempBy wordsBy lookedCipher lookedWords lookedKeys lookedAes lookedUnder padBy lookedPad xtime xorWord xorState shiftRows power keysOf leBytes leNumber wordAt columnsOf lowOf highOf padKey writing.writeEach flat over anyAbove isMet firstFault byNumber answered noisePadsBy scalarPadsBy messagePair
 second-scalar = ap (λ rule. scalarPadsBy rule 0 2 (writeWords (secondNumbers .ws)) (secondInput .delta) (replicate 64 0)) pad-looked
 
 second-lent : (x : ℕ) → x < 2

@@ -2,8 +2,9 @@
 use mathlib.Core.Path.{refl}
 use Prim.Native.Nat.{ℕ, _<_}
 use Rattle.algebra.specs.Coding.{flat, over}
-use Rattle.pads.specs.Bytes.{anyAbove}
-use Rattle.messages.specs.Outcome.{outcomeOf, firstFault}
+use Rattle.answer.specs.Bytes.{anyAbove}
+use Rattle.answer.specs.Outcome.{byNumber, answered}
+use Rattle.answer.specs.Tests.{isMet, firstFault}
 use Rattle.triples.specs.Call.{triples}
 use Rattle.triples.specs.Triple.{tripleFrom, tripleOf}
 use Rattle.dealt_pads.proofs.Triples as dealt
@@ -12,7 +13,7 @@ use Rattle.example_pads.specs.Triples.{lent₁, lent₂, TriplesExample}
 use Rattle.example_pads.proofs.Pads.{firstDealing, secondDealing, first-taken, second-taken}
 
 pub formed : (i : ℕ) → i < 2 → FormedAt lent₁ lent₂ i
-unfolding anyAbove firstFault outcomeOf triples
+unfolding anyAbove isMet firstFault byNumber answered triples
 formed i h =
     record {
       first = firstDealing;
@@ -24,5 +25,5 @@ formed i h =
     }
 
 pub triples-example : TriplesExample
-unfolding anyAbove firstFault outcomeOf triples flat over tripleFrom tripleOf
+unfolding anyAbove isMet firstFault byNumber answered triples flat over tripleFrom tripleOf
 triples-example = record { formed = formed; triples₁ = refl; triples₂ = refl; match = λ i h. dealt.triples lent₁ lent₂ i (formed i h) .2 }

@@ -4,10 +4,10 @@ use mathlib.Core.Path.{_≡_}
 use mathlib.Core.List.{List, [], _∷_}
 use Prim.Native.Nat.{ℕ, _-_, _<_}
 use lib.ListN.{getD, replicate}
-use Rattle.answer.specs.Numbers.{accepted}
+use Rattle.answer.specs.Outcome.{wrote}
 use Rattle.record.specs.Writing.{writeWords}
 use Rattle.dealing.specs.Input.{Input}
-use Rattle.pads.specs.Calls.{outcome, noisePads, scalarPads}
+use Rattle.pads.specs.Calls.{lentNoise, lentScalar, noisePads, scalarPads}
 use Rattle.pads.specs.Choice.{padAt, messageAt}
 use Rattle.claims.specs.Correlation.{PadsLent}
 use Rattle.dealt_pads.specs.Taken.{Dealing}
@@ -18,8 +18,8 @@ pub record PadsRan (I : Input) (N : Numbers) (noise scalar : List ℕ) : Type 0 
   pub dealing : Dealing
   pub input : dealing .input ≡ I
   -- both pad calls, on the window of outputs 0 and 1, are accepted and leave these pads
-  pub noise-call : noisePads 0 2 (writeWords (N .vs)) (N .us) (replicate 32 0) ≡ outcome accepted (writeWords (N .vs)) (N .us) noise
-  pub scalar-call : scalarPads 0 2 (writeWords (N .ws)) (I .delta) (replicate 64 0) ≡ outcome accepted (writeWords (N .ws)) (I .delta) scalar
+  pub noise-call : noisePads 0 2 (writeWords (N .vs)) (N .us) (replicate 32 0) ≡ wrote tt (lentNoise (writeWords (N .vs)) (N .us) noise)
+  pub scalar-call : scalarPads 0 2 (writeWords (N .ws)) (I .delta) (replicate 64 0) ≡ wrote tt (lentScalar (writeWords (N .ws)) (I .delta) scalar)
   -- the bytes lent for each output are the dealing's
   pub lent : (x : ℕ) → x < 2 → PadsLent I x 0 (writeWords (N .vs)) (N .us) 0 (writeWords (N .ws)) (I .delta)
   -- the noise end's pad is the message that the choice names, and not the other
