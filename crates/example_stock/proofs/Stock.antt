@@ -1,20 +1,22 @@
 -- The list of calls on one stock, by computation; the claim about it, by `StockLists` itself.
 use mathlib.Core.Path.{_≡_, refl}
 use Rattle.answer.specs.Numbers.{accepted}
+use Rattle.answer.specs.Outcome.{byNumber, answered}
+use Rattle.answer.specs.Tests.{isMet, firstFault}
 use Rattle.field.specs.Bytes.{leNumber}
 use Rattle.stock.specs.Label.{numberOf}
 use Rattle.stock.specs.Stock.{isCaller, remaining, sumOf, held, entries, shareBlocks}
-use Rattle.stock.specs.Calls.{openNumber, openStock, drawNumber, advanced, draw, preview, passNumber, pass}
+use Rattle.stock.specs.Calls.{openStock, advanced, draw, preview, pass}
 use Rattle.stock_lists.proofs.Claims.{lists}
 use Rattle.stock_lists.specs.Lists.{make, run, last, handed}
 use Rattle.example_stock.specs.Stock.{label, shares, calls, StockExample}
 
 opened : openStock (label 5) 10 shares .opened .number ≡ accepted
-unfolding sumOf openNumber openStock
+unfolding isMet firstFault byNumber answered sumOf openStock
 opened = refl
 
 pub stock-example : StockExample
-unfolding leNumber numberOf isCaller remaining sumOf held entries shareBlocks openNumber openStock drawNumber advanced draw preview passNumber pass make run last handed
+unfolding isMet firstFault byNumber answered leNumber numberOf isCaller remaining sumOf held entries shareBlocks openStock advanced draw preview pass make run last handed
 stock-example =
     record {
       opened = opened;
