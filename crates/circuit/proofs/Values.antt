@@ -9,7 +9,7 @@ use lib.ListN.{length, getD, drop, length-append, List·getD-append}
 use lib.Seq.{getD-at}
 use Rattle.circuit.specs.Admitted.{GateBelow, GatesBelow}
 use Rattle.circuit.specs.Content.{Gate, Xor, And, Not}
-use Rattle.circuit.specs.Value.{gateValue, wireValues}
+use Rattle.circuit.specs.Value.{gateValue, overGates}
 
 -- the wire of each gate, the first at a wire, has the gate's value
 unfoldable pub Holds : List ℕ → ℕ → List Gate → Type 0
@@ -17,8 +17,8 @@ Holds values wire [] = Unit {0}
 Holds values wire (g ∷ gs) = (getD values wire 0 ≡ gateValue g values) × Holds values (wire + 1) gs
 
 -- wires keep their values
-pub values-keep : (gs : List Gate) (wires : List ℕ) (w : ℕ) → w < length wires → getD (wireValues gs wires) w 0 ≡ getD wires w 0
-unfolding wireValues
+pub values-keep : (gs : List Gate) (wires : List ℕ) (w : ℕ) → w < length wires → getD (overGates gateValue gs wires) w 0 ≡ getD wires w 0
+unfolding overGates
 values-keep [] wires w h = refl
 values-keep (g ∷ gs) wires w h =
     values-keep gs (wires ++ (gateValue g wires ∷ [])) w (omega (arith, length-append wires (gateValue g wires ∷ [])))
@@ -32,15 +32,15 @@ value-below (Xor a b) wire xs ys ok same = ap₂ bitXor (same a (ok .0)) (same b
 value-below (And a b) wire xs ys ok same = ap₂ bitAnd (same a (ok .0)) (same b (ok .1))
 value-below (Not a) wire xs ys ok same = ap (λ (x : ℕ). bitXor x 1) (same a ok)
 
-pub values-hold : (gs : List Gate) (wires : List ℕ) (n : ℕ) → length wires ≡ n → GatesBelow n gs → Holds (wireValues gs wires) n gs
-unfolding Holds GatesBelow wireValues
+pub values-hold : (gs : List Gate) (wires : List ℕ) (n : ℕ) → length wires ≡ n → GatesBelow n gs → Holds (overGates gateValue gs wires) n gs
+unfolding Holds GatesBelow overGates
 values-hold [] wires n e ok = tt
 values-hold (g ∷ gs) wires n e ok =
     let v : ℕ = gateValue g wires in
     let more : List ℕ = wires ++ (v ∷ []) in
     let longer : length more ≡ n + 1 = length-append wires (v ∷ []) ∙ ap (λ (k : ℕ). k + 1) e in (
       values-keep gs more n (omega (arith, longer)) ∙ getD-at wires v [] 0 n e
-          ∙ value-below g n wires (wireValues gs more) (ok .0)
+          ∙ value-below g n wires (overGates gateValue gs more) (ok .0)
           (λ w h. sym (values-keep gs more w (omega (arith, longer)) ∙ List·getD-append wires (v ∷ []) 0 w (omega arith))),
       values-hold gs more (n + 1) longer (ok .1),
     )

@@ -11,10 +11,14 @@ gateValue (Xor a b) wires = bitXor (getD wires a 0) (getD wires b 0)
 gateValue (And a b) wires = bitAnd (getD wires a 0) (getD wires b 0)
 gateValue (Not a) wires = bitXor (getD wires a 0) 1
 
+-- all wires: those given, then for each gate in order what is made of it and of the wires before it
+unfoldable pub overGates : (Gate → List ℕ → ℕ) → List Gate → List ℕ → List ℕ
+overGates make [] wires = wires
+overGates make (g ∷ gs) wires = overGates make gs (wires ++ (make g wires ∷ []))
+
 -- the values of all wires: the gates in order, each after the wires before it
-unfoldable pub wireValues : List Gate → List ℕ → List ℕ
-wireValues [] wires = wires
-wireValues (g ∷ gs) wires = wireValues gs (wires ++ (gateValue g wires ∷ []))
+abbrev pub wireValues : List Gate → List ℕ → List ℕ
+wireValues gates wires = overGates gateValue gates wires
 
 -- what stands at wires
 abbrev pub atWires : List ℕ → List ℕ → List ℕ
