@@ -1,6 +1,7 @@
 -- The laws of `circuit`.
 pub mod Ands
 pub mod Exact
+pub mod Folds
 pub mod Lists
 pub mod Refusals
 pub mod Second
