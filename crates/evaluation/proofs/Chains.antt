@@ -1,11 +1,10 @@
 -- What an accepted step gives, and the accepted steps of a run one after the other. Assumes nothing.
-use Prim.Native.Nat.{ℕ, zero, suc, _≤_}
+use Prim.Native.Nat.{ℕ, suc, _≤_}
 use mathlib.Core.Bool.{Bool, true, false}
-use mathlib.Core.List.{List, [], _∷_}
+use mathlib.Core.List.{List}
 use mathlib.Core.Logic.{_↔_}
-use mathlib.Core.Option.{some, none}
-use mathlib.Core.Path.{_≡_, refl, sym, ap, _∙_, subst}
-use borrow.Author.Tests.{eq-eqb, ne-eqb, eqb-true, eqb-false}
+use mathlib.Core.Path.{_≡_, refl, sym, ap, _∙_}
+use borrow.Author.Tests.{eq-eqb, ne-eqb}
 use native.Mathlib.Omega.{arith}
 use lib.Dec.{eqb}
 use lib.ListN.{length, getD, drop, length-map}
@@ -22,16 +21,11 @@ use Rattle.circuit.specs.Value.{atWires}
 use Rattle.number.proofs.Places.{choose-yes, choose-no}
 use Rattle.number.proofs.Records.{read-refused, read-whole}
 use Rattle.number.specs.Reading.{Reading, Whole, Refused}
-use Rattle.evaluation.specs.Runs.{StepMade, acceptedSteps, IsStep, writtenBy}
+use Rattle.evaluation.proofs.Calls.{Keeps, first-made, next-made}
+use Rattle.evaluation.specs.Runs.{fresh, StepMade, runOf, IsStep, writtenBy}
 use Rattle.circuit_run.proofs.Numbers.{far-bits}
 use Rattle.circuit_run.specs.Step.{StepLent, StepOutcome, stepOutcome, stateAdmitted, stepTests, stepRun, maskedFirst, maskedSecond, withOutputs, acceptedStep, refusedStep, step}
 use Rattle.circuit_run.specs.declared.Run.{Run}
-
-some-is : {A : Type 0} {x y : A} → some x ≡ some y → x ≡ y
-some-is e = cc
-
-none-some : {A : Type 0} {x : A} → none ≡ some x → ⊥
-none-some {A} {x} e = let z : _≡_ {A = ℕ} 0 1 = cc in omega arith
 
 -- ---- an accepted step's outcome
 
@@ -148,42 +142,13 @@ step-refused l s h = of (readCircuit (l .circuit)) refl
 
 -- ---- one after the other
 
--- each accepted step is on the state that the one before left
-unfoldable pub Chain : Run → List StepMade → Type 0
-Chain s [] = Unit {0}
-Chain s (m ∷ ms) = (m .gave ≡ step (m .got) s) × (m .gave .number ≡ 0) × Chain (m .gave .state) ms
+step-keeps : Keeps step (λ (o : StepOutcome). o .number) (λ (o : StepOutcome). o .state)
+step-keeps l s h = ap (λ (o : StepOutcome). o .state) (step-refused l s h)
 
-pub chain-of : (s : Run) (calls : List StepLent) → Chain s (acceptedSteps s calls)
-unfolding Chain acceptedSteps
-chain-of s [] = tt
-chain-of s (l ∷ ls) = of (eqb (step l s .number) 0) refl (chain-of (step l s .state) ls)
-  where
-    of : (b : Bool) → eqb (step l s .number) 0 ≡ b → Chain (step l s .state) (acceptedSteps (step l s .state) ls)
-        → Chain s (choose b (record { got = l; gave = step l s } ∷ acceptedSteps (step l s .state) ls) (acceptedSteps (step l s .state) ls))
-    of true e later = (refl, eqb-true _ _ e, later)
-    of false e later =
-        let r = step-refused l s (eqb-false _ _ e) in
-        let k : step l s .state ≡ s = ap (λ (o : StepOutcome). o .state) r in
-        subst (λ (z : Run). Chain z (acceptedSteps (step l s .state) ls)) k later
+-- the accepted steps of a run: the first is on a fresh state, a later one on the state that the one before left
+pub first-step : (calls : List StepLent) {m : StepMade} → IsStep (runOf calls) 0 m → (m .gave ≡ step (m .got) fresh) × (step (m .got) fresh .number ≡ 0)
+first-step calls = first-made step (λ (o : StepOutcome). o .number) (λ (o : StepOutcome). o .state) step-keeps fresh calls
 
--- accepted step k had this
-pub first-made : (s : Run) (ms : List StepMade) → Chain s ms → {m : StepMade} → IsStep ms 0 m → (m .gave ≡ step (m .got) s) × (m .gave .number ≡ 0)
-unfolding Chain
-first-made s [] h e = absurd (none-some e)
-first-made s (x ∷ ms) h {m} e =
-    let p : x ≡ m = some-is e in
-    (subst (λ (y : StepMade). y .gave ≡ step (y .got) s) p (h .0), subst (λ (y : StepMade). y .gave .number ≡ 0) p (h .1))
-
-pub next-made : (k : ℕ) (s : Run) (ms : List StepMade) → Chain s ms → {a m : StepMade} → IsStep ms k a → IsStep ms (suc k) m
-    → (m .gave ≡ step (m .got) (a .gave .state)) × (m .gave .number ≡ 0)
-unfolding Chain
-next-made k s [] h e f = absurd (none-some e)
-next-made zero s (x ∷ ms) h {a} {m} e f =
-    subst (λ (y : StepMade). (m .gave ≡ step (m .got) (y .gave .state)) × (m .gave .number ≡ 0)) (some-is e) (first-made (x .gave .state) ms (h .2) f)
-next-made (suc k) s (x ∷ ms) h e f = next-made k (x .gave .state) ms (h .2) e f
-
--- there is a step before a step
-pub step-before : (k : ℕ) (ms : List StepMade) {m : StepMade} → IsStep ms (suc k) m → (a : StepMade) × IsStep ms k a
-step-before k [] e = absurd (none-some e)
-step-before zero (x ∷ ms) e = (x, refl)
-step-before (suc k) (x ∷ ms) e = step-before k ms e
+pub next-step : (calls : List StepLent) (k : ℕ) {a m : StepMade} → IsStep (runOf calls) k a → IsStep (runOf calls) (suc k) m
+    → (m .gave ≡ step (m .got) (a .gave .state)) × (step (m .got) (a .gave .state) .number ≡ 0)
+next-step calls = next-made step (λ (o : StepOutcome). o .number) (λ (o : StepOutcome). o .state) step-keeps fresh calls

@@ -16,7 +16,8 @@ use Rattle.circuit.specs.Reading.{readCircuit}
 use Rattle.circuit.specs.Value.{wireValues, valueOf, atWires}
 use Rattle.number.proofs.Places.{split, either}
 use Rattle.number.specs.Reading.{Whole}
-use Rattle.evaluation.proofs.Chains.{accepted-waits, ends-written, Took, share-bits, triple-bits, took-state, took-gave, step-before}
+use Rattle.evaluation.proofs.Chains.{accepted-waits, ends-written, Took, share-bits, triple-bits, took-state, took-gave}
+use Rattle.evaluation.proofs.Calls.{call-before}
 use Rattle.evaluation.proofs.Joins.{Agree, Joint, joint-run, joint-and, combined-length, combined-at, fresh-length, fresh-at, combined-outputs}
 use Rattle.evaluation.proofs.Progresses.{phase-fresh, and-gate, first-took, next-took, stands, finishes}
 use Rattle.evaluation.proofs.Reaches.{Standing, waiting, finished, run-fresh, run-waits, run-ends}
@@ -57,7 +58,7 @@ module _ (circuit : List ℕ) (c : Circuit) (read : readCircuit circuit ≡ Whol
   pub stood : (k : ℕ) (m : StepMade) → IsStep (runOf calls) k m → Stood k m
   stood zero m e = let t = first-took circuit c read calls on-circuit e in of-took zero m e fresh (t .0) (t .1)
   stood (suc k) m e =
-      let b = step-before k (runOf calls) e in
+      let b = call-before k (runOf calls) e in
       let t = next-took circuit c read calls on-circuit k (b .1) e in
       of-took (suc k) m e (b .0 .gave .state) (t .0) (t .1)
 
@@ -114,7 +115,7 @@ module _ (circuit : List ℕ) (c : Circuit) (read : readCircuit circuit ≡ Whol
   step-at (suc k) n m e h =
       split k n (λ g. (m, subst (λ (j : ℕ). IsStep (runOf calls) j m) {x = suc k} {y = n} (omega arith) e, λ _. refl))
       (λ g.
-      let b = step-before k (runOf calls) e in
+      let b = call-before k (runOf calls) e in
       let r = step-at k n (b .0) (b .1) g in
       (r .0, r .1, λ two. next-ends k (b .0) m (b .1) e (ap (λ (x : Run). x .phase) (r .2 two) ∙ two) ∙ r .2 two))
 
@@ -238,8 +239,8 @@ module _ (circuit : List ℕ) (c : Circuit) (read : readCircuit circuit ≡ Whol
       (subst (λ (q : Run). Joint (c .inputs) all values (advance 1 c 0 (freshWires shares₁)) q) (sym (first-state circuit c read 2 shares₂ triples₂ calls₂ (ends .role-2) m₂ e₂))
       (first-joint (a .one-each) (b .one-each) (a .share-bits) (b .share-bits)))
   joint (suc k) m₁ m₂ e₁ e₂ =
-      let b₁ = step-before k (runOf calls₁) e₁ in
-      let b₂ = step-before k (runOf calls₂) e₂ in
+      let b₁ = call-before k (runOf calls₁) e₁ in
+      let b₂ = call-before k (runOf calls₂) e₂ in
       let j = joint k (b₁ .0) (b₂ .0) (b₁ .1) (b₂ .1) in
       either (b₁ .0 .gave .state .phase) 1 (λ one. and-joint k (b₁ .0) (b₂ .0) m₁ m₂ (b₁ .1) (b₂ .1) e₁ e₂ j one)
       (λ n. same-joint k (b₁ .0) (b₂ .0) m₁ m₂ (b₁ .1) (b₂ .1) e₁ e₂ j

@@ -2,6 +2,7 @@
 pub mod Accepts
 pub mod Evaluates
 pub mod Progresses
+pub mod Calls
 mod Bits
 mod Chains
 mod Joins

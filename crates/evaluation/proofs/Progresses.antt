@@ -16,7 +16,8 @@ use Rattle.circuit.specs.Value.{atWires}
 use Rattle.number.proofs.Places.{either}
 use Rattle.number.specs.Reading.{Reading, Whole, Refused, afterReading}
 use Rattle.evaluation.proofs.Bits.{xor-bit, share-bit}
-use Rattle.evaluation.proofs.Chains.{accepted-state, accepted-waits, accepted-ends, ends-written, Took, share-bits, triple-bits, far-met, state-met, took, took-state, took-gave, took-on, step-refused, Chain, chain-of, first-made, next-made, step-before}
+use Rattle.evaluation.proofs.Chains.{accepted-state, accepted-waits, accepted-ends, ends-written, Took, share-bits, triple-bits, far-met, state-met, took, took-state, took-gave, took-on, step-refused, first-step, next-step}
+use Rattle.evaluation.proofs.Calls.{call-before}
 use Rattle.circuit_run.proofs.Numbers.{state-phase, state-and}
 use Rattle.evaluation.proofs.Reaches.{Standing, waiting, finished, standing, from-start, and-inside, and-after, and-before, run-fresh, run-waits, run-ends, WireBits, set-bits, run-bits, zeros-bits, append-bits}
 use Rattle.evaluation.specs.Progress.{OnCircuit, GivesBits, withFar, farLent, Progress}
@@ -65,27 +66,24 @@ next-stands {c} {k} {l} {s} t (finished two h n) =
 
 -- accepted step k of a run, on a circuit that stays
 module _ (circuit : List ℕ) (c : Circuit) (read : readCircuit circuit ≡ Whole c) (calls : List StepLent) (stays : OnCircuit circuit (runOf calls)) where
-  chain : Chain fresh (runOf calls)
-  chain = chain-of fresh calls
-
   reads : (k : ℕ) {m : StepMade} → IsStep (runOf calls) k m → readCircuit (m .got .circuit) ≡ Whole c
   reads k {m} e = ap readCircuit (stays k m e) ∙ read
 
   pub first-took : {m : StepMade} → IsStep (runOf calls) 0 m → (m .gave ≡ step (m .got) fresh) × Took c (m .got) fresh
   first-took {m} e =
-      let f = first-made fresh (runOf calls) chain e in
-      (f .0, took-on (m .got) fresh (reads 0 e) (ap (λ (o : StepOutcome). o .number) (sym (f .0)) ∙ f .1))
+      let f = first-step calls e in
+      (f .0, took-on (m .got) fresh (reads 0 e) (f .1))
 
   pub next-took : (k : ℕ) {a m : StepMade} → IsStep (runOf calls) k a → IsStep (runOf calls) (suc k) m
       → (m .gave ≡ step (m .got) (a .gave .state)) × Took c (m .got) (a .gave .state)
   next-took k {a} {m} e g =
-      let f = next-made k fresh (runOf calls) chain e g in
-      (f .0, took-on (m .got) (a .gave .state) (reads (suc k) g) (ap (λ (o : StepOutcome). o .number) (sym (f .0)) ∙ f .1))
+      let f = next-step calls k e g in
+      (f .0, took-on (m .got) (a .gave .state) (reads (suc k) g) (f .1))
 
   pub stands : (k : ℕ) (m : StepMade) → IsStep (runOf calls) k m → Standing c 0 k (m .gave .state)
   stands zero m e = let t = first-took e in subst (λ (o : StepOutcome). Standing c 0 0 (o .state)) (sym (t .0)) (first-stands (t .1))
   stands (suc k) m e =
-      let b = step-before k (runOf calls) e in
+      let b = call-before k (runOf calls) e in
       let t = next-took k (b .1) e in
       subst (λ (o : StepOutcome). Standing c 0 (suc k) (o .state)) (sym (t .0)) (next-stands (t .1) (stands k (b .0) (b .1)))
 
@@ -166,13 +164,12 @@ step-gives l s e wires =
 
 run-gives : (calls : List StepLent) (k : ℕ) (m : StepMade) → IsStep (runOf calls) k m → GivesBits (m .gave)
 run-gives calls zero m e =
-    let f = first-made fresh (runOf calls) (chain-of fresh calls) e in
-    subst GivesBits (sym (f .0)) (step-gives (m .got) fresh (ap (λ (o : StepOutcome). o .number) (sym (f .0)) ∙ f .1) fresh-bits)
+    let f = first-step calls e in
+    subst GivesBits (sym (f .0)) (step-gives (m .got) fresh (f .1) fresh-bits)
 run-gives calls (suc k) m e =
-    let b = step-before k (runOf calls) e in
-    let f = next-made k fresh (runOf calls) (chain-of fresh calls) (b .1) e in
-    subst GivesBits (sym (f .0))
-    (step-gives (m .got) (b .0 .gave .state) (ap (λ (o : StepOutcome). o .number) (sym (f .0)) ∙ f .1) (run-gives calls k (b .0) (b .1) .wires))
+    let b = call-before k (runOf calls) e in
+    let f = next-step calls k (b .1) e in
+    subst GivesBits (sym (f .0)) (step-gives (m .got) (b .0 .gave .state) (f .1) (run-gives calls k (b .0) (b .1) .wires))
 
 -- ---- far bits
 

@@ -18,7 +18,8 @@ use Rattle.circuit.specs.Content.{andsIn}
 use Rattle.circuit.specs.Reading.{readWithin, readWire, readGate, readGates, readWires, readCircuit}
 use Rattle.circuit_run.specs.Step.{freshWires, flipped, runOn, maskedFirst, maskedSecond, andShare, waitingShare, withAnd, stepRun, withOutputs, acceptedStep, step}
 use Rattle.evaluation.specs.Evaluation.{combined, Own, Receives, Ends}
-use Rattle.evaluation.specs.Runs.{fresh, StepMade, acceptedSteps, runOf, IsStep}
+use Rattle.evaluation.specs.Calls.{acceptedCalls}
+use Rattle.evaluation.specs.Runs.{fresh, StepMade, runOf, IsStep}
 use Rattle.dealt_pads.proofs.CircuitRuns.{circuits}
 use Rattle.dealt_pads.specs.Formed.{GatheredAt}
 use Rattle.example_pads.specs.Triples.{lent₁, lent₂}
@@ -59,15 +60,15 @@ last₂ : StepMade
 last₂ = record { got = step₂ 2 0 0; gave = step (step₂ 2 0 0) (made₂ .gave .state) }
 
 run₁ : runOf calls₁ ≡ made₁ ∷ last₁ ∷ []
-unfolding readWithin readWire readGate readGates readWires readCircuit tested readByte readNumber lastGroup andsIn anyAbove isMet firstFault freshWires flipped runOn maskedFirst maskedSecond andShare waitingShare withAnd stepRun withOutputs acceptedStep byNumber answered afterReading step fresh acceptedSteps made₁ last₁
+unfolding readWithin readWire readGate readGates readWires readCircuit tested readByte readNumber lastGroup andsIn anyAbove isMet firstFault freshWires flipped runOn maskedFirst maskedSecond andShare waitingShare withAnd stepRun withOutputs acceptedStep byNumber answered afterReading step fresh acceptedCalls made₁ last₁
 run₁ = refl
 
 run₂ : runOf calls₂ ≡ made₂ ∷ last₂ ∷ []
-unfolding readWithin readWire readGate readGates readWires readCircuit tested readByte readNumber lastGroup andsIn anyAbove isMet firstFault freshWires flipped runOn maskedFirst maskedSecond andShare waitingShare withAnd stepRun withOutputs acceptedStep byNumber answered afterReading step fresh acceptedSteps made₂ last₂
+unfolding readWithin readWire readGate readGates readWires readCircuit tested readByte readNumber lastGroup andsIn anyAbove isMet firstFault freshWires flipped runOn maskedFirst maskedSecond andShare waitingShare withAnd stepRun withOutputs acceptedStep byNumber answered afterReading step fresh acceptedCalls made₂ last₂
 run₂ = refl
 
 ends : Ends circuitBytes shares₁ triple₁ shares₂ triple₂ (runOf calls₁) (runOf calls₂)
-unfolding readWithin readWire readGate readGates readWires readCircuit tested readByte readNumber lastGroup andsIn anyAbove isMet firstFault freshWires flipped runOn maskedFirst maskedSecond andShare waitingShare withAnd stepRun withOutputs acceptedStep byNumber answered afterReading step fresh acceptedSteps made₁ last₁ made₂ last₂
+unfolding readWithin readWire readGate readGates readWires readCircuit tested readByte readNumber lastGroup andsIn anyAbove isMet firstFault freshWires flipped runOn maskedFirst maskedSecond andShare waitingShare withAnd stepRun withOutputs acceptedStep byNumber answered afterReading step fresh acceptedCalls made₁ last₁ made₂ last₂
 ends =
     rw (run₁, run₂)
     (record {
@@ -82,11 +83,11 @@ ends =
     })
 
 finished₁ : Finished calls₁ (0 ∷ 0 ∷ [])
-unfolding readWithin readWire readGate readGates readWires readCircuit tested readByte readNumber lastGroup andsIn anyAbove isMet firstFault freshWires flipped runOn maskedFirst maskedSecond andShare waitingShare withAnd stepRun withOutputs acceptedStep byNumber answered afterReading step fresh acceptedSteps made₁ last₁
+unfolding readWithin readWire readGate readGates readWires readCircuit tested readByte readNumber lastGroup andsIn anyAbove isMet firstFault freshWires flipped runOn maskedFirst maskedSecond andShare waitingShare withAnd stepRun withOutputs acceptedStep byNumber answered afterReading step fresh acceptedCalls made₁ last₁
 finished₁ = record { made = last₁; step = ap (λ (l : List StepMade). getElem? l 1) run₁; phase = refl; written = refl }
 
 finished₂ : Finished calls₂ (0 ∷ 1 ∷ [])
-unfolding readWithin readWire readGate readGates readWires readCircuit tested readByte readNumber lastGroup andsIn anyAbove isMet firstFault freshWires flipped runOn maskedFirst maskedSecond andShare waitingShare withAnd stepRun withOutputs acceptedStep byNumber answered afterReading step fresh acceptedSteps made₂ last₂
+unfolding readWithin readWire readGate readGates readWires readCircuit tested readByte readNumber lastGroup andsIn anyAbove isMet firstFault freshWires flipped runOn maskedFirst maskedSecond andShare waitingShare withAnd stepRun withOutputs acceptedStep byNumber answered afterReading step fresh acceptedCalls made₂ last₂
 finished₂ = record { made = last₂; step = ap (λ (l : List StepMade). getElem? l 1) run₂; phase = refl; written = refl }
 
 -- the circuit's one AND takes triple 0, which is the triple at place 1 of both calls
