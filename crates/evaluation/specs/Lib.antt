@@ -4,3 +4,4 @@ pub mod Runs
 pub mod Progress
 pub mod Evaluation
 pub mod Acceptance
+pub mod Inner
