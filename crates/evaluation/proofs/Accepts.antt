@@ -12,9 +12,10 @@ use Rattle.circuit_run.proofs.Numbers.{far-bits, bits-far, state-phase, state-a
 use Rattle.circuit_run.specs.Step.{StepLent, gateAt, stepRun, step}
 use Rattle.circuit_run.specs.declared.Run.{Run}
 use Rattle.number.proofs.Places.{either}
-use Rattle.evaluation.proofs.Chains.{takes, Took, share-bits, triple-bits, state-met, took, took-state}
+use Rattle.evaluation.proofs.AndGates.{and-inside}
+use Rattle.evaluation.proofs.Chains.{takes, Took, state-met, took, took-state}
 use Rattle.evaluation.proofs.Progresses.{and-gate}
-use Rattle.evaluation.proofs.Reaches.{Standing, waiting, finished, standing, and-inside, run-fresh, run-waits, run-ends}
+use Rattle.evaluation.proofs.Reaches.{Standing, waiting, finished, standing, run-fresh, run-waits, run-ends}
 use Rattle.evaluation.specs.Acceptance.{StepAcceptance}
 
 -- a state that an accepted step left is fresh no more, and waits at an AND or has finished

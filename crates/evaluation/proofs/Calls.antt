@@ -1,13 +1,15 @@
 -- The accepted calls of a list one after the other, for any call that keeps its state when it is refused. Assumes nothing.
-use Prim.Native.Nat.{ℕ, zero, suc}
+use Prim.Native.Nat.{ℕ, zero, suc, _≤_}
 use mathlib.Core.Bool.{Bool, true, false}
-use mathlib.Core.List.{List, [], _∷_}
+use mathlib.Core.List.{List, [], _∷_, map}
 use mathlib.Core.Option.{some, none}
 use mathlib.Core.Path.{_≡_, refl, ap, _∙_, sym, subst}
 use borrow.Author.Tests.{eqb-true, eqb-false}
 use native.Mathlib.Omega.{arith}
 use lib.Dec.{eqb}
+use lib.ListN.{getD}
 use Rattle.algebra.specs.Choice.{choose}
+use Rattle.number.proofs.Places.{split}
 use Rattle.evaluation.specs.Calls.{Made, acceptedCalls, IsCall}
 
 some-is : {A : Type 0} {x y : A} → some x ≡ some y → x ≡ y
@@ -21,6 +23,18 @@ pub call-before : {L O : Type 0} (k : ℕ) (ms : List (Made L O)) {m : Made L O}
 call-before k [] e = absurd (none-some e)
 call-before zero (x ∷ ms) e = (x, refl)
 call-before (suc k) (x ∷ ms) e = call-before k ms e
+
+pub call-at : {L O : Type 0} (k n : ℕ) (ms : List (Made L O)) {m : Made L O} → IsCall ms k m → n ≤ k → (a : Made L O) × IsCall ms n a
+call-at zero n ms {m} e h = (m, subst (λ (j : ℕ). IsCall ms j m) {x = 0} {y = n} (omega arith) e)
+call-at (suc k) n ms {m} e h =
+    split k n (λ g. (m, subst (λ (j : ℕ). IsCall ms j m) {x = suc k} {y = n} (omega arith) e))
+    (λ g. let b = call-before k ms e in call-at k n ms (b .1) g)
+
+-- what a list has of each call, at a call
+pub made-at : {L O A : Type 0} (f : Made L O → A) (d : A) (ms : List (Made L O)) (k : ℕ) {m : Made L O} → IsCall ms k m → getD (map f ms) k d ≡ f m
+made-at f d [] k e = absurd (none-some e)
+made-at f d (x ∷ ms) zero e = ap f (some-is e)
+made-at f d (x ∷ ms) (suc k) e = made-at f d ms k e
 
 -- a call is one
 pub call-one : {L O : Type 0} (ms : List (Made L O)) (k : ℕ) {a m : Made L O} → IsCall ms k a → IsCall ms k m → a ≡ m
@@ -40,16 +54,19 @@ module _ {L S O : Type 0} (call : L → S → O) (number : O → ℕ) (state : O
   Chain s [] = Unit {0}
   Chain s (m ∷ ms) = MadeOn s m × Chain (state (m .gave)) ms
 
-  chain-of : Keeps → (s : S) (calls : List L) → Chain s (acceptedCalls call number state s calls)
+  abbrev calls-from : S → List L → List (Made L O)
+  calls-from s calls = acceptedCalls call number state s calls
+
+  chain-of : Keeps → (s : S) (calls : List L) → Chain s (calls-from s calls)
   unfolding Chain acceptedCalls
   chain-of keeps s [] = tt
   chain-of keeps s (l ∷ ls) = of (eqb (number (call l s)) 0) refl (chain-of keeps (state (call l s)) ls)
     where
-      of : (b : Bool) → eqb (number (call l s)) 0 ≡ b → Chain (state (call l s)) (acceptedCalls call number state (state (call l s)) ls)
-          → Chain s (choose b (record { got = l; gave = call l s } ∷ acceptedCalls call number state (state (call l s)) ls) (acceptedCalls call number state (state (call l s)) ls))
+      of : (b : Bool) → eqb (number (call l s)) 0 ≡ b → Chain (state (call l s)) (calls-from (state (call l s)) ls)
+          → Chain s (choose b (record { got = l; gave = call l s } ∷ calls-from (state (call l s)) ls) (calls-from (state (call l s)) ls))
       of true e later = ((refl, eqb-true _ _ e), later)
       of false e later =
-          subst (λ (z : S). Chain z (acceptedCalls call number state (state (call l s)) ls)) (keeps l s (eqb-false _ _ e)) later
+          subst (λ (z : S). Chain z (calls-from (state (call l s)) ls)) (keeps l s (eqb-false _ _ e)) later
 
   first-in : (s : S) (ms : List (Made L O)) → Chain s ms → {m : Made L O} → IsCall ms 0 m → MadeOn s m
   unfolding Chain
@@ -64,9 +81,9 @@ module _ {L S O : Type 0} (call : L → S → O) (number : O → ℕ) (state : O
 
   -- the first is on the state that the list begins with, a later one on the state that the one before left
   module _ (keeps : Keeps) (s : S) (calls : List L) where
-    pub first-made : {m : Made L O} → IsCall (acceptedCalls call number state s calls) 0 m → MadeOn s m
-    first-made = first-in s (acceptedCalls call number state s calls) (chain-of keeps s calls)
+    pub first-made : {m : Made L O} → IsCall (calls-from s calls) 0 m → MadeOn s m
+    first-made = first-in s (calls-from s calls) (chain-of keeps s calls)
 
-    pub next-made : (k : ℕ) {a m : Made L O} → IsCall (acceptedCalls call number state s calls) k a
-        → IsCall (acceptedCalls call number state s calls) (suc k) m → MadeOn (state (a .gave)) m
-    next-made k = next-in k s (acceptedCalls call number state s calls) (chain-of keeps s calls)
+    pub next-made : (k : ℕ) {a m : Made L O} → IsCall (calls-from s calls) k a
+        → IsCall (calls-from s calls) (suc k) m → MadeOn (state (a .gave)) m
+    next-made k = next-in k s (calls-from s calls) (chain-of keeps s calls)

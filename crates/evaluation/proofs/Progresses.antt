@@ -4,7 +4,7 @@ use Prim.Native.Nat.{ℕ, zero, suc, _+_, _-_, _≤_, _<_}
 use mathlib.Core.Bool.{true}
 use mathlib.Core.List.{List, [], _∷_}
 use mathlib.Core.Path.{_≡_, refl, sym, ap, _∙_, subst}
-use borrow.Author.Tests.{eq-eqb, ne-eqb}
+use borrow.Author.Tests.{ne-eqb}
 use native.Mathlib.Omega.{arith}
 use lib.ListN.{length, drop}
 use Rattle.answer.specs.Outcome.{byNumber, answered}
@@ -16,10 +16,11 @@ use Rattle.circuit.specs.Value.{atWires}
 use Rattle.number.proofs.Places.{either}
 use Rattle.number.specs.Reading.{Reading, Whole, Refused, afterReading}
 use Rattle.evaluation.proofs.Bits.{xor-bit, share-bit}
+use Rattle.evaluation.proofs.AndGates.{and-inside, and-after, and-before}
 use Rattle.evaluation.proofs.Chains.{accepted-state, accepted-waits, accepted-ends, ends-written, Took, share-bits, triple-bits, far-met, state-met, took, took-state, took-gave, took-on, step-refused, first-step, next-step}
 use Rattle.evaluation.proofs.Calls.{call-before}
 use Rattle.circuit_run.proofs.Numbers.{state-phase, state-and}
-use Rattle.evaluation.proofs.Reaches.{Standing, waiting, finished, standing, from-start, and-inside, and-after, and-before, run-fresh, run-waits, run-ends, WireBits, set-bits, run-bits, zeros-bits, append-bits}
+use Rattle.evaluation.proofs.Reaches.{Standing, waiting, finished, standing, from-start, run-fresh, run-waits, run-ends, WireBits, set-bits, run-bits, zeros-bits, append-bits}
 use Rattle.evaluation.specs.Progress.{OnCircuit, GivesBits, withFar, farLent, Progress}
 use Rattle.evaluation.specs.Runs.{fresh, StepMade, runOf, IsStep, writtenBy}
 use Rattle.circuit_run.specs.Step.{StepLent, StepOutcome, gateAt, andsBefore, freshWires, advance, maskedFirst, maskedSecond, waitingShare, withAnd, stepTests, stepRun, withOutputs, acceptedStep, refusedStep, step}

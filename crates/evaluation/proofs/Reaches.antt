@@ -1,19 +1,20 @@
 -- Where a run stops: at the next AND or at the end. Assumes nothing.
-use Prim.Native.Nat.{ℕ, zero, suc, _+_, _≤_, _<_}
-use mathlib.Core.Bool.{Bool, true, false, true≢false}
+use Prim.Native.Nat.{ℕ, zero, suc, _+_, _-_, _≤_, _<_}
+use mathlib.Core.Bool.{Bool, true, false}
 use mathlib.Core.List.{List, [], _∷_, _++_}
 use mathlib.Core.Path.{_≡_, refl, sym, ap, _∙_}
 use borrow.Author.Tests.{eq-eqb, ne-eqb}
 use native.Mathlib.Nat.{add-zero}
 use native.Mathlib.Omega.{arith}
 use lib.Bits.{bitXor}
-use lib.ListN.{length, getD, take, drop, set, replicate, length-drop, take-append-drop, List·getD-eq-default}
-use lib.Seq.{take-add, getD-drop, drop-cons}
+use lib.ListN.{length, getD, take, drop, set, replicate, length-append, length-drop, length-replicate, take-append-drop, List·getD-append}
+use lib.Seq.{take-add, getD-drop}
 use Rattle.algebra.specs.Choice.{choose}
 use Rattle.circuit.specs.Content.{Gate, Xor, And, Not, Circuit, isAnd, andsIn}
-use Rattle.number.proofs.Places.{split, choose-yes, choose-no}
+use Rattle.number.proofs.Places.{choose-yes, choose-no}
 use Rattle.evaluation.proofs.Bits.{xor-bit, flipped-bit}
-use Rattle.circuit.proofs.Ands.{ands-append, ands-more, ands-split}
+use Rattle.circuit.proofs.Ands.{ands-append}
+use Rattle.circuit.specs.Admitted.{mostWires}
 use Rattle.circuit_run.specs.Step.{StepLent, gateAt, andsBefore, flipped, freshWires, runOn, advance, withAnd, stepRun}
 use Rattle.circuit_run.specs.declared.Run.{Run}
 
@@ -58,23 +59,6 @@ standing role c i wires h = of (reach role (c .inputs) (drop i (c .gates)) i wir
 pub from-start : {c : Circuit} {i n : ℕ} {r : Run} → Standing c i n r → Standing c 0 n r
 from-start (waiting p l h a e) = waiting p (omega arith) h a e
 from-start (finished p q h) = finished p q h
-
--- ---- an AND of a circuit
-
-module _ (c : Circuit) (i : ℕ) (a : isAnd (gateAt c i) ≡ true) where
-  pub and-inside : i < length (c .gates)
-  and-inside =
-      split i (length (c .gates)) (λ h. h)
-      (λ h. absurd (true≢false (sym a ∙ ap isAnd (List·getD-eq-default (c .gates) (Not 0) h))))
-
-  pub and-here : drop i (c .gates) ≡ gateAt c i ∷ drop (suc i) (c .gates)
-  and-here = drop-cons (c .gates) i (Not 0) and-inside
-
-  pub and-after : andsBefore c (i + 1) ≡ andsBefore c i + 1
-  and-after = ands-more (c .gates) i and-here ∙ ap (λ (b : Bool). andsBefore c i + choose {A = ℕ} b 1 0) a
-
-  pub and-before : andsBefore c i < andsIn (c .gates)
-  and-before = omega (arith, ands-split (c .gates) i and-here, ap (λ (b : Bool). choose {A = ℕ} b 1 0) a)
 
 -- ---- the state that an accepted step leaves
 
@@ -124,3 +108,14 @@ pub append-bits : (xs ys : List ℕ) → WireBits xs → WireBits ys → WireBit
 append-bits [] ys h g w = g w
 append-bits (x ∷ xs) ys h g zero = h 0
 append-bits (x ∷ xs) ys h g (suc w) = append-bits xs ys (λ v. h (suc v)) g w
+
+-- ---- fresh wires
+
+pub fresh-length : (shares : List ℕ) → length shares ≤ mostWires → length (freshWires shares) ≡ mostWires
+unfolding freshWires
+fresh-length shares h =
+    length-append shares (replicate (mostWires - length shares) 0) ∙ omega (arith, length-replicate {A = ℕ} (mostWires - length shares) 0)
+
+pub fresh-at : (shares : List ℕ) (w : ℕ) → w < length shares → getD (freshWires shares) w 0 ≡ getD shares w 0
+unfolding freshWires
+fresh-at shares w h = List·getD-append shares (replicate (mostWires - length shares) 0) 0 w h

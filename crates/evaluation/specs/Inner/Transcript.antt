@@ -1,14 +1,15 @@
 -- Inner: no promise cites this file. An end's run of a circuit without its schedule: the shares of all wires and the bits sent, by the
 -- far bits that each AND gets. A finished run is a transcript, in steps (document 02, 9) and in rounds (circuits in rounds) alike.
-use Prim.Native.Nat.{ℕ, _-_, _≤_}
+use Prim.Native.Nat.{ℕ, suc, _-_, _≤_}
 use mathlib.Core.Bool.{true}
-use mathlib.Core.List.{List}
+use mathlib.Core.List.{List, map}
 use mathlib.Core.Path.{_≡_}
 use lib.Bits.{bitXor}
 use lib.ListN.{length, getD}
 use Rattle.circuit.specs.Content.{Gate, Xor, And, Not, Circuit, isAnd}
 use Rattle.circuit.specs.Value.{overGates, atWires}
 use Rattle.circuit_run.specs.Step.{gateAt, flipped, andsBefore, tripleFirst, tripleSecond, tripleThird, maskedFirst, maskedSecond, andShare}
+use Rattle.evaluation.specs.Runs.{StepMade}
 
 -- two bits for each AND, by how many ANDs come before it
 abbrev pub BitsByAnd : Type 0
@@ -47,3 +48,10 @@ pub record Transcript (role : ℕ) (c : Circuit) (shares triples : List ℕ) (fa
   pub triple-bits : (w : ℕ) → getD triples w 0 ≤ 1
   pub written : outputs ≡ atWires (wireShares role c triples far shares) (c .outputs)
   pub sends : (i : ℕ) → isAnd (gateAt c i) ≡ true → sent (andsBefore c i) ≡ sentBits role c triples far shares i
+
+-- in steps the AND with j ANDs before it is opened by accepted step j, and gets the far bits of accepted step j + 1
+abbrev pub sentInSteps : List StepMade → BitsByAnd
+sentInSteps steps j = getD (map (λ (m : StepMade). (m .gave .firstBit, m .gave .secondBit)) steps) j (0, 0)
+
+abbrev pub farInSteps : List StepMade → BitsByAnd
+farInSteps steps j = getD (map (λ (m : StepMade). (m .got .farFirst, m .got .farSecond)) steps) (suc j) (0, 0)
