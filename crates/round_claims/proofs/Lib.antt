@@ -1,0 +1,1 @@
+-- The statements about runs of a circuit in rounds.
