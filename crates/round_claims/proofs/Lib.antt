@@ -1,1 +1,2 @@
 -- The statements about runs of a circuit in rounds.
+mod Rounds

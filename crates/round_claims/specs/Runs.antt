@@ -2,42 +2,30 @@
 -- Refused rounds may stand anywhere among them.
 use Prim.Native.Nat.{ℕ, _+_, _<_}
 use mathlib.Core.Bool.{true}
-use mathlib.Core.List.{List, [], _∷_}
-use mathlib.Core.Option.{some}
+use mathlib.Core.List.{List}
 use mathlib.Core.Path.{_≡_}
-use lib.Dec.{eqb}
-use lib.ListN.{length, getD, take, getElem?, replicate}
-use Rattle.algebra.specs.Choice.{choose}
-use Rattle.answer.specs.Numbers.{accepted}
+use lib.ListN.{length, getD, take, replicate}
 use Rattle.circuit.specs.Admitted.{mostWires}
 use Rattle.circuit.specs.Content.{Circuit}
 use Rattle.circuit_round.specs.Round.{RoundLent, RoundOutcome, waits, isKnown, stateWith, round}
 use Rattle.circuit_round.specs.declared.RoundState.{RoundState}
+use Rattle.evaluation.specs.Calls.{Made, acceptedCalls, IsCall}
 
 -- a fresh state is all zero
 unfoldable pub freshState : RoundState
 freshState = stateWith (replicate mostWires 0)
 
 -- a round: what it got, and what it gave
-pub record RoundMade : Type 0 where
-  pub got : RoundLent
-  pub gave : RoundOutcome
-
--- the accepted rounds among rounds that get these in turn, from a state on
-unfoldable pub acceptedRounds : RoundState → List RoundLent → List RoundMade
-acceptedRounds s [] = []
-acceptedRounds s (l ∷ ls) =
-    choose (eqb (round l s .number) accepted)
-    (record { got = l; gave = round l s } ∷ acceptedRounds (round l s .state) ls)
-    (acceptedRounds (round l s .state) ls)
+abbrev pub RoundMade : Type 0
+RoundMade = Made RoundLent RoundOutcome
 
 -- the accepted rounds of a run
 abbrev pub roundsOf : List RoundLent → List RoundMade
-roundsOf calls = acceptedRounds freshState calls
+roundsOf calls = acceptedCalls round (λ o. o .number) (λ o. o .state) freshState calls
 
 -- m is accepted round k, from 0
 abbrev pub IsRound : List RoundMade → ℕ → RoundMade → Type 0
-IsRound made k m = getElem? made k ≡ some m
+IsRound made k m = IsCall made k m
 
 -- the outputs that a round wrote, and the bits to send
 abbrev pub outputsBy : RoundOutcome → List ℕ
