@@ -1,10 +1,10 @@
 -- An AND of a circuit by its gate: how many ANDs come before it, and its wires. Assumes nothing.
-use Prim.Native.Nat.{ℕ, suc, _+_, _-_, _≤_, _<_}
+use Prim.Native.Nat.{ℕ, zero, suc, _+_, _-_, _≤_, _<_}
 use mathlib.Core.Bool.{Bool, true, true≢false}
-use mathlib.Core.List.{List, _∷_}
-use mathlib.Core.Path.{_≡_, sym, ap, _∙_}
+use mathlib.Core.List.{List, [], _∷_}
+use mathlib.Core.Path.{_≡_, refl, sym, ap, _∙_}
 use native.Mathlib.Omega.{arith}
-use lib.ListN.{length, take, drop, List·getD-eq-default}
+use lib.ListN.{length, getD, take, drop, List·getD-eq-default}
 use lib.Seq.{take-add, drop-cons}
 use Rattle.algebra.specs.Choice.{choose}
 use Rattle.circuit.proofs.Ands.{ands-append, ands-more, ands-split}
@@ -12,6 +12,7 @@ use Rattle.circuit.specs.Admitted.{GateBelow}
 use Rattle.circuit.specs.Content.{Gate, Xor, And, Not, Circuit, isAnd, andsIn}
 use Rattle.circuit_run.specs.Step.{gateAt, andsBefore, firstWire, secondWire}
 use Rattle.number.proofs.Places.{split}
+use Rattle.evaluation.specs.Inner.Transcript.{andGate}
 
 module _ (c : Circuit) (i : ℕ) (a : isAnd (gateAt c i) ≡ true) where
   pub and-inside : i < length (c .gates)
@@ -53,3 +54,15 @@ unfolding GateBelow
 and-below (Xor a b) n e h = absurd (true≢false (sym e))
 and-below (And a b) n e h = h
 and-below (Not a) n e h = absurd (true≢false (sym e))
+
+-- the gate of an AND by how many come before it
+pub gate-of : (gs : List Gate) (i : ℕ) → isAnd (getD gs i (Not 0)) ≡ true → andGate gs (andsIn (take i gs)) ≡ i
+unfolding andsIn andGate
+gate-of [] i e = absurd (true≢false (sym e))
+gate-of (Xor a b ∷ gs) zero e = absurd (true≢false (sym e))
+gate-of (Xor a b ∷ gs) (suc i) e = ap suc (ap (andGate gs) {x = 0 + andsIn (take i gs)} {y = andsIn (take i gs)} (omega arith) ∙ gate-of gs i e)
+gate-of (And a b ∷ gs) zero e = refl
+gate-of (And a b ∷ gs) (suc i) e =
+    ap (andGate (And a b ∷ gs)) {x = 1 + andsIn (take i gs)} {y = suc (andsIn (take i gs))} (omega arith) ∙ ap suc (gate-of gs i e)
+gate-of (Not a ∷ gs) zero e = absurd (true≢false (sym e))
+gate-of (Not a ∷ gs) (suc i) e = ap suc (ap (andGate gs) {x = 0 + andsIn (take i gs)} {y = andsIn (take i gs)} (omega arith) ∙ gate-of gs i e)

@@ -5,3 +5,4 @@ pub mod Progress
 pub mod Acceptance
 pub mod Evaluation
 pub mod Same
+pub mod Inner

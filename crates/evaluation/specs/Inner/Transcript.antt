@@ -1,8 +1,8 @@
 -- Inner: no promise cites this file. An end's run of a circuit without its schedule: the shares of all wires and the bits sent, by the
 -- far bits that each AND gets. A finished run is a transcript, in steps (document 02, 9) and in rounds (circuits in rounds) alike.
-use Prim.Native.Nat.{ℕ, suc, _-_, _≤_}
+use Prim.Native.Nat.{ℕ, zero, suc, _-_, _≤_}
 use mathlib.Core.Bool.{true}
-use mathlib.Core.List.{List, map}
+use mathlib.Core.List.{List, [], _∷_, map}
 use mathlib.Core.Path.{_≡_}
 use lib.Bits.{bitXor}
 use lib.ListN.{length, getD}
@@ -14,6 +14,14 @@ use Rattle.evaluation.specs.Runs.{StepMade}
 -- two bits for each AND, by how many ANDs come before it
 abbrev pub BitsByAnd : Type 0
 BitsByAnd = ℕ → ℕ × ℕ
+
+-- the gate of the AND with j ANDs before it
+unfoldable pub andGate : List Gate → ℕ → ℕ
+andGate [] j = 0
+andGate (Xor a b ∷ gs) j = suc (andGate gs j)
+andGate (And a b ∷ gs) zero = 0
+andGate (And a b ∷ gs) (suc j) = suc (andGate gs j)
+andGate (Not a ∷ gs) j = suc (andGate gs j)
 
 -- the share of the AND at gate i, its masked bits combined with far bits
 unfoldable pub opened : ℕ → Circuit → List ℕ → List ℕ → ℕ → ℕ × ℕ → ℕ
