@@ -1,2 +1,9 @@
 -- The statements about runs of a circuit in rounds.
+pub mod Accepts
+pub mod Progresses
+mod Bytes
+mod Counts
+mod Gives
+mod Levels
 mod Rounds
+mod Stages
