@@ -214,7 +214,7 @@ in-advance circuit c read calls calls′ stays stays′ k m m′ e e′ =
 
 -- ---- a finished run
 
-finished-outputs : {c : Circuit} {l : RoundLent} {s : RoundState} (t : Took c l s) → Finished (round l s)
+pub finished-outputs : {c : Circuit} {l : RoundLent} {s : RoundState} (t : Took c l s) → Finished (round l s)
     → outputsBy (round l s) ≡ atWires (sharesIn (wiresAfter c l (s .wires))) (c .outputs)
 finished-outputs {c} {l} {s} t e = ap outputsBy (t .is) ∙ outputs-are c l (wiresAfter c l (s .wires)) (subst Finished (t .is) e)
 

@@ -69,7 +69,7 @@ module _ (P Q : ℕ → Type 0) (p-high : (x : ℕ) → P x → 2 ≤ x) (q-high
   pair {f} {g} {a} {b} {m} {x} {y} (unknown k n z) s =
       not-both (ap (λ (r : Bool). r && isKnown y) (low x (omega arith))) (omega (arith, greater-from a b))
 
-is-known : {P : ℕ → Type 0} {f : Bool} {a m x : ℕ} → Stage P f a m x → a < m → P x
+pub is-known : {P : ℕ → Type 0} {f : Bool} {a m x : ℕ} → Stage P f a m x → a < m → P x
 is-known (known h p) k = p
 is-known (opened t e z) k = absurd (omega arith)
 is-known (unknown h n z) k = absurd (omega arith)
