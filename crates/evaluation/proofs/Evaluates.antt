@@ -259,6 +259,6 @@ evaluation circuit c read calls₁ calls₂ shares₁ triples₁ shares₂ tripl
     joined (admitted circuit c read)
     (of-steps circuit c read 1 shares₁ triples₁ calls₁ own₁ k₁ m₁ e₁ two₁)
     (of-steps circuit c read 2 shares₂ triples₂ calls₂ own₂ k₂ m₂ e₂ two₂)
-    (received circuit c read calls₁ calls₂ on₁ (ends .to-1) k₁ k₂ m₁ m₂ e₁ e₂ late₁ late₂)
-    (received circuit c read calls₂ calls₁ on₂ (ends .to-2) k₂ k₁ m₂ m₁ e₂ e₁ late₂ late₁)
+    (λ i a. received circuit c read calls₁ calls₂ on₁ (ends .to-1) k₁ k₂ m₁ m₂ e₁ e₂ late₁ late₂ (andsBefore c i) (and-before c i a))
+    (λ i a. received circuit c read calls₂ calls₁ on₂ (ends .to-2) k₂ k₁ m₂ m₁ e₂ e₁ late₂ late₁ (andsBefore c i) (and-before c i a))
     matching

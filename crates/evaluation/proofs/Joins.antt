@@ -51,7 +51,8 @@ combined-outputs n one two values (w ∷ ws) agree ok =
 
 module _ {c : Circuit} {shares₁ triples₁ shares₂ triples₂ : List ℕ} {far₁ sent₁ far₂ sent₂ : BitsByAnd} {outputs₁ outputs₂ : List ℕ}
     (ok : AdmittedCircuit c) (one : Transcript 1 c shares₁ triples₁ far₁ sent₁ outputs₁) (two : Transcript 2 c shares₂ triples₂ far₂ sent₂ outputs₂)
-    (to-1 : (j : ℕ) → j < andsIn (c .gates) → far₁ j ≡ sent₂ j) (to-2 : (j : ℕ) → j < andsIn (c .gates) → far₂ j ≡ sent₁ j)
+    (to-1 : (i : ℕ) → isAnd (gateAt c i) ≡ true → far₁ (andsBefore c i) ≡ sent₂ (andsBefore c i))
+    (to-2 : (i : ℕ) → isAnd (gateAt c i) ≡ true → far₂ (andsBefore c i) ≡ sent₁ (andsBefore c i))
     (matching : Matching (andsIn (c .gates)) triples₁ triples₂) where
   abbrev W₁ : List ℕ
   W₁ = wireShares 1 c triples₁ far₁ shares₁
@@ -79,10 +80,10 @@ module _ {c : Circuit} {shares₁ triples₁ shares₂ triples₂ : List ℕ} {f
   module _ (i : ℕ) (h : i < length (c .gates)) (agree : (w : ℕ) → w < c .inputs + i → AgreeAt W₁ W₂ values w) where
     -- an AND's far bits are the far end's masked bits
     far-1 : isAnd (gateAt c i) ≡ true → far₁ (andsBefore c i) ≡ (maskedFirst c triples₂ W₂ i, maskedSecond c triples₂ W₂ i)
-    far-1 a = to-1 (andsBefore c i) (and-before c i a) ∙ two .sends i a
+    far-1 a = to-1 i a ∙ two .sends i a
 
     far-2 : isAnd (gateAt c i) ≡ true → far₂ (andsBefore c i) ≡ (maskedFirst c triples₁ W₁ i, maskedSecond c triples₁ W₁ i)
-    far-2 a = to-2 (andsBefore c i) (and-before c i a) ∙ one .sends i a
+    far-2 a = to-2 i a ∙ one .sends i a
 
     of : (g : Gate) → gateAt c i ≡ g → GateBelow (c .inputs + i) g
         → (shareAt 1 c triples₁ far₁ i g W₁ ≤ 1) × (shareAt 2 c triples₂ far₂ i g W₂ ≤ 1)

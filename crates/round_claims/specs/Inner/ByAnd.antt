@@ -17,14 +17,25 @@ use Rattle.round_claims.specs.Same.{levelAt, placeAt}
 abbrev pub pairAt : List ℕ → ℕ → ℕ × ℕ
 pairAt bytes p = (getD bytes p 0, getD bytes (p + 1) 0)
 
+-- what accepted round k got, and what it sent
+abbrev pub farOfRound : List RoundMade → ℕ → List ℕ
+farOfRound made k = getD (map (λ (m : RoundMade). m .got .far) made) k []
+
+abbrev pub sentByRound : List RoundMade → ℕ → List ℕ
+sentByRound made k = getD (map (λ (m : RoundMade). bitsBy (m .gave)) made) k []
+
 -- the AND at gate i gets its far bits in the accepted round of its level, and is opened by the one before
+abbrev pub farAtGate : Circuit → List RoundMade → ℕ → ℕ × ℕ
+farAtGate c made i = pairAt (farOfRound made (levelAt c i)) (placeAt c i)
+
+abbrev pub sentAtGate : Circuit → List RoundMade → ℕ → ℕ × ℕ
+sentAtGate c made i = pairAt (sentByRound made (levelAt c i - 1)) (placeAt c i)
+
 abbrev pub farInRounds : Circuit → List RoundMade → BitsByAnd
-farInRounds c made j =
-    pairAt (getD (map (λ (m : RoundMade). m .got .far) made) (levelAt c (andGate (c .gates) j)) []) (placeAt c (andGate (c .gates) j))
+farInRounds c made j = farAtGate c made (andGate (c .gates) j)
 
 abbrev pub sentInRounds : Circuit → List RoundMade → BitsByAnd
-sentInRounds c made j =
-    pairAt (getD (map (λ (m : RoundMade). bitsBy (m .gave)) made) (levelAt c (andGate (c .gates) j) - 1) []) (placeAt c (andGate (c .gates) j))
+sentInRounds c made j = sentAtGate c made (andGate (c .gates) j)
 
 -- far bits are those that the accepted rounds got
 abbrev pub FarGot : Circuit → List RoundMade → BitsByAnd → Type 0
