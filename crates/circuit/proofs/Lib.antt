@@ -2,6 +2,7 @@
 pub mod Ands
 pub mod Exact
 pub mod Folds
+pub mod Levels
 pub mod Lists
 pub mod Refusals
 pub mod Second

@@ -8,7 +8,7 @@ use Rattle.circuit.specs.Reading.{readCircuit}
 use Rattle.circuit_round.specs.Round.{RoundLent, waitingIn, round}
 use Rattle.circuit_round.specs.declared.RoundState.{RoundState}
 use Rattle.round_claims.proofs.Progresses.{counted}
-use Rattle.round_claims.proofs.Rounds.{takes, took, share-bits, triple-bits, took-state}
+use Rattle.round_claims.proofs.Rounds.{takes, took, took-state}
 use Rattle.round_claims.specs.Acceptance.{RoundAcceptance}
 
 goes-on : (l l′ : RoundLent) (s : RoundState) → round l s .number ≡ 0 → l′ .circuit ≡ l .circuit → l′ .role ≡ l .role → l′ .shares ≡ l .shares

@@ -1,20 +1,18 @@
 -- The byte of each wire after an accepted round, by the byte before it and the bytes of the wires below it. Assumes nothing.
-use Prim.Native.Nat.{ℕ, zero, suc, _+_, _-_, _%_, _≤_, _<_}
-use mathlib.Core.Bool.{Bool, true, false, _&&_}
+use Prim.Native.Nat.{ℕ, zero, suc, _+_, _-_, _<_}
+use mathlib.Core.Bool.{Bool}
 use mathlib.Core.List.{List, [], _∷_, _++_}
-use mathlib.Core.Path.{_≡_, refl, sym, ap, ap₂, _∙_, subst}
-use native.Mathlib.Nat.{add-zero}
+use mathlib.Core.Path.{_≡_, refl, sym, ap, _∙_, subst}
 use native.Mathlib.Omega.{arith}
-use lib.Bits.{bitXor}
 use lib.ListN.{length, getD, take, drop, length-append, List·getD-append, List·getD-map}
-use lib.Seq.{getD-append-add, getD-drop, getD-take, take-append-le, length-take-le}
+use lib.Seq.{getD-append-add, getD-drop, getD-take, length-take-le}
 use Rattle.algebra.specs.Choice.{choose}
 use Rattle.circuit.proofs.Folds.{fold-length, fold-keeps, fold-holds, below-at}
 use Rattle.circuit.specs.Admitted.{GateBelow, GatesBelow}
 use Rattle.circuit.specs.Content.{Gate, Xor, And, Not, Circuit}
 use Rattle.circuit.specs.Value.{overGates}
 use Rattle.circuit_round.specs.Round.{RoundLent, waits, isKnown, shareOf, knownAs, sharesIn, waitingBefore, inputBytes, ready, openedShare, computed, gateByte, wiresAfter}
-use Rattle.circuit_run.specs.Step.{gateAt, maskedFirst, maskedSecond, flipped}
+use Rattle.circuit_run.specs.Step.{gateAt, maskedFirst, maskedSecond}
 
 -- ---- inputs
 

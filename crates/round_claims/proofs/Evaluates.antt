@@ -6,6 +6,7 @@ use mathlib.Core.Path.{_≡_, sym, ap, _∙_, subst}
 use native.Mathlib.Omega.{arith}
 use lib.ListN.{length, getD}
 use Rattle.circuit.proofs.Exact.{admitted}
+use Rattle.circuit.proofs.Levels.{level-gate, greatest-from}
 use Rattle.circuit.specs.Admitted.{GatesBelow}
 use Rattle.circuit.specs.Content.{Gate, Xor, And, Not, Circuit, isAnd}
 use Rattle.circuit.specs.Levels.{gateLevel, levels, levelOf}
@@ -21,7 +22,6 @@ use Rattle.evaluation.specs.Inner.Transcript.{BitsByAnd, wireShares, Transcript
 use Rattle.number.specs.Reading.{Whole}
 use Rattle.round_claims.proofs.Bytes.{share-at}
 use Rattle.round_claims.proofs.Gives.{outputs-are}
-use Rattle.round_claims.proofs.Levels.{level-gate, greatest-from}
 use Rattle.round_claims.proofs.Progresses.{progress}
 use Rattle.round_claims.proofs.Rounds.{share-bits, triple-bits, one-each, took-bytes}
 use Rattle.round_claims.proofs.Stages.{took-some}

@@ -7,6 +7,5 @@ pub mod Transcripts
 mod Bytes
 mod Counts
 mod Gives
-mod Levels
 mod Rounds
 mod Stages

@@ -1,38 +1,37 @@
 -- Progress of a run in rounds: what an accepted round does on any state, and where a run from the fresh state stands after each accepted
 -- round. Assumes nothing.
-use Prim.Native.Nat.{ℕ, zero, suc, _+_, _-_, _*_, _≤_, _<_}
+use Prim.Native.Nat.{ℕ, suc, _+_, _-_, _*_, _≤_, _<_}
 use mathlib.Core.Bool.{Bool, true, false, _&&_, true≢false}
 use mathlib.Core.List.{List}
 use mathlib.Core.Logic.{_↔_}
 use mathlib.Core.Path.{_≡_, refl, sym, ap, ap₂, _∙_, subst}
-use borrow.Author.Tests.{eq-eqb, ne-eqb, eqb-true, le-leb, lt-leb, leb-true}
-use native.Mathlib.Nat.{add-zero}
+use borrow.Author.Tests.{eq-eqb, ne-eqb, eqb-true, leb-true}
 use native.Mathlib.Omega.{arith}
-use lib.Dec.{eqb, leb}
-use lib.ListN.{length, getD, take, drop, replicate, length-drop, getD-replicate, List·getD-eq-default, length-replicate}
-use lib.Seq.{ext-getD, getD-drop, getD-take, take-length, length-take-le}
+use lib.Dec.{eqb}
+use lib.ListN.{length, getD, length-drop}
+use lib.Seq.{ext-getD}
 use Rattle.algebra.specs.Choice.{choose}
 use Rattle.circuit.proofs.Exact.{admitted}
 use Rattle.circuit.proofs.Folds.{by-gates, below-at}
-use Rattle.circuit.specs.Admitted.{mostWires, GateBelow, GatesBelow}
+use Rattle.circuit.proofs.Levels.{levels-length, greatest-from, greatest-below}
+use Rattle.circuit.specs.Admitted.{GateBelow, GatesBelow}
 use Rattle.circuit.specs.Content.{Gate, Xor, And, Not, Circuit, isAnd}
-use Rattle.circuit.specs.Levels.{gateLevel, levels, levelOf, rounds, andsOf, andsAtLevel}
+use Rattle.circuit.specs.Levels.{levels, levelOf}
 use Rattle.circuit.specs.Reading.{readCircuit}
 use Rattle.circuit.specs.Value.{atWires}
-use Rattle.circuit_round.specs.Round.{RoundLent, RoundOutcome, waits, isKnown, knownAs, stateWith, sharesIn, waiting, waitingBefore, waitingIn, ready, computed, wiresAfter, acceptedRound, round}
+use Rattle.circuit_round.specs.Round.{RoundLent, RoundOutcome, waits, isKnown, knownAs, stateWith, sharesIn, waitingBefore, waitingIn, ready, computed, wiresAfter, round}
 use Rattle.circuit_round.specs.declared.RoundState.{RoundState}
 use Rattle.circuit_run.specs.Step.{gateAt}
 use Rattle.evaluation.proofs.AndGates.{and-inside}
 use Rattle.number.proofs.Places.{split, either, choose-yes, choose-no}
 use Rattle.number.specs.Reading.{Whole}
 use Rattle.round_claims.proofs.Bytes.{outside, after-length, at-input, at-gate}
-use Rattle.round_claims.proofs.Counts.{wait-none, none-waits, wait-ands}
+use Rattle.round_claims.proofs.Counts.{wait-none, none-waits}
 use Rattle.round_claims.proofs.Gives.{count, outputs-are, writes}
-use Rattle.round_claims.proofs.Levels.{levels-length, level-gate, greatest-from, greatest-below}
-use Rattle.round_claims.proofs.Rounds.{Took, triple-bits, one-each, took-state, took-bytes, took-on, took, round-refused, first-round, next-round}
+use Rattle.round_claims.proofs.Rounds.{Took, triple-bits, one-each, took-state, took-bytes, took-on, took, round-refused}
 use Rattle.round_claims.proofs.Stages.{Stage, known, opened, unknown, Staged, low, high, fresh-byte, took-some, staged, waiting-is, waiting-all}
 use Rattle.round_claims.specs.Progress.{RoundsOn, isAndWire, Writes, Moves, StandsAt, RoundProgress}
-use Rattle.round_claims.specs.Runs.{freshState, RoundMade, roundsOf, IsRound, outputsBy, bitsBy, Finished, IsWire, byteOf, Known, Waits}
+use Rattle.round_claims.specs.Runs.{freshState, RoundMade, roundsOf, IsRound, outputsBy, Finished, IsWire, byteOf, Known, Waits}
 
 -- ---- an accepted round on any state
 

@@ -11,6 +11,7 @@ use lib.ListN.{length, getD, take}
 use lib.Seq.{getD-take}
 use Rattle.algebra.specs.Choice.{choose}
 use Rattle.circuit.proofs.Exact.{admitted}
+use Rattle.circuit.proofs.Levels.{greatest-from}
 use Rattle.circuit.specs.Content.{Circuit, isAnd, andsIn}
 use Rattle.circuit.specs.Levels.{levels}
 use Rattle.circuit_round.specs.Round.{RoundLent, knownAs}
@@ -27,7 +28,6 @@ use Rattle.evaluation.specs.Runs.{StepMade, runOf, IsStep, writtenBy}
 use Rattle.number.proofs.Places.{split, choose-yes, choose-no}
 use Rattle.triples.specs.Triple.{Triple}
 use Rattle.round_claims.proofs.Evaluates.{levels-passed, far-got, wrote-shares}
-use Rattle.round_claims.proofs.Levels.{greatest-from}
 use Rattle.round_claims.proofs.Progresses.{progress}
 use Rattle.round_claims.proofs.Stages.{and-wire}
 use Rattle.round_claims.proofs.Transcripts.{of-rounds}

@@ -1,7 +1,7 @@
 -- A run in rounds goes by levels: after m accepted rounds a wire is known exactly if its level is below m, and waits exactly if it is
 -- an AND of level m. What holds of known bytes is a parameter: that they are known, or that they stand for a transcript's shares.
 -- Assumes nothing.
-use Prim.Native.Nat.{ℕ, zero, suc, _+_, _-_, _%_, _≤_, _<_}
+use Prim.Native.Nat.{ℕ, zero, suc, _+_, _-_, _≤_, _<_}
 use mathlib.Core.Bool.{Bool, true, false, _&&_, true≢false}
 use mathlib.Core.List.{List}
 use mathlib.Core.Path.{_≡_, refl, sym, ap, ap₂, _∙_, subst}
@@ -14,11 +14,12 @@ use lib.Seq.{getD-drop, getD-take, take-length, length-take-le}
 use Rattle.algebra.specs.Choice.{choose}
 use Rattle.circuit.proofs.Exact.{admitted}
 use Rattle.circuit.proofs.Folds.{by-gates, below-at}
+use Rattle.circuit.proofs.Levels.{greater-below, greater-from, level-input, level-gate}
 use Rattle.circuit.specs.Admitted.{mostWires, GateBelow, GatesBelow}
 use Rattle.circuit.specs.Content.{Gate, Xor, And, Not, Circuit, isAnd}
 use Rattle.circuit.specs.Levels.{greater, gateLevel, levels, levelOf, andsOf, andsAtLevel}
 use Rattle.circuit.specs.Reading.{readCircuit}
-use Rattle.circuit_round.specs.Round.{RoundLent, RoundOutcome, waits, isKnown, shareOf, knownAs, sharesIn, waiting, waitingBefore, waitingIn, ready, openedShare, computed, wiresAfter, round}
+use Rattle.circuit_round.specs.Round.{RoundLent, RoundOutcome, waits, isKnown, shareOf, knownAs, waiting, waitingBefore, waitingIn, ready, openedShare, computed, wiresAfter, round}
 use Rattle.circuit_round.specs.declared.RoundState.{RoundState}
 use Rattle.circuit_run.specs.Step.{gateAt, flipped}
 use Rattle.evaluation.proofs.Calls.{call-before}
@@ -26,7 +27,6 @@ use Rattle.number.proofs.Places.{split, choose-yes, choose-no}
 use Rattle.number.specs.Reading.{Whole}
 use Rattle.round_claims.proofs.Bytes.{share-at, at-input, at-gate}
 use Rattle.round_claims.proofs.Counts.{wait-ands}
-use Rattle.round_claims.proofs.Levels.{greater-below, greater-from, level-input, level-gate}
 use Rattle.round_claims.proofs.Rounds.{Took, one-each, took-bytes, took-on, first-round, next-round}
 use Rattle.round_claims.specs.Progress.{RoundsOn, isAndWire}
 use Rattle.round_claims.specs.Runs.{freshState, RoundMade, roundsOf, IsRound, IsWire}

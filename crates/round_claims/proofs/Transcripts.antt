@@ -11,11 +11,12 @@ use lib.Bits.{bitXor}
 use lib.ListN.{length, getD, take, drop}
 use Rattle.circuit.proofs.Exact.{admitted}
 use Rattle.circuit.proofs.Folds.{below-at}
+use Rattle.circuit.proofs.Levels.{and-raised}
 use Rattle.circuit.specs.Admitted.{GatesBelow}
 use Rattle.circuit.specs.Content.{Gate, Xor, And, Not, Circuit, isAnd}
-use Rattle.circuit.specs.Levels.{gateLevel, levels, levelOf, andsOf}
+use Rattle.circuit.specs.Levels.{levels, levelOf, andsOf}
 use Rattle.circuit.specs.Reading.{readCircuit}
-use Rattle.circuit_round.specs.Round.{RoundLent, RoundOutcome, shareOf, knownAs, sharesIn, waiting, waits, waitingBefore, openedShare, wiresAfter, bitsToSend, round}
+use Rattle.circuit_round.specs.Round.{RoundLent, RoundOutcome, shareOf, knownAs, sharesIn, waiting, waits, waitingBefore, openedShare, wiresAfter, bitsToSend}
 use Rattle.circuit_round.specs.declared.RoundState.{RoundState}
 use Rattle.circuit_run.specs.Step.{gateAt, andsBefore, firstWire, secondWire, tripleFirst, tripleSecond, flipped, maskedFirst, maskedSecond}
 use Rattle.evaluation.proofs.AndGates.{and-inside, and-below}
@@ -26,25 +27,23 @@ use Rattle.number.specs.Reading.{Whole}
 use Rattle.round_claims.proofs.Bytes.{share-at}
 use Rattle.round_claims.proofs.Counts.{sent-at}
 use Rattle.round_claims.proofs.Gives.{bits-are}
-use Rattle.round_claims.proofs.Levels.{greater-from, level-gate}
 use Rattle.round_claims.proofs.Rounds.{Took, share-bits, triple-bits, far-bits, one-each, took-bytes}
 use Rattle.round_claims.proofs.Stages.{Staged, Closed, is-known, and-wire, took-some, staged, waiting-is, waiting-ands}
 use Rattle.round_claims.specs.Evaluation.{UnalteredRounds}
 use Rattle.round_claims.specs.Inner.ByAnd.{pairAt, FarGot, ByFar}
-use Rattle.round_claims.specs.Progress.{RoundsOn, isAndWire}
+use Rattle.round_claims.specs.Progress.{RoundsOn}
 use Rattle.round_claims.specs.Runs.{RoundMade, roundsOf, IsRound, bitsBy, IsWire, byteOf}
 use Rattle.round_claims.specs.Same.{levelAt, placeAt}
 
 -- the wires of an AND have lower levels
 and-lower : (c : Circuit) → GatesBelow (c .inputs) (c .gates) → (i : ℕ) → isAnd (gateAt c i) ≡ true
     → (levelOf c (firstWire (gateAt c i)) < levelAt c i) × (levelOf c (secondWire (gateAt c i)) < levelAt c i)
-unfolding gateLevel
-and-lower c ok i a = of (gateAt c i) a (level-gate c ok i (and-inside c i a))
+and-lower c ok i a = of (gateAt c i) refl a
   where
-    of : {x : ℕ} (g : Gate) → isAnd g ≡ true → x ≡ gateLevel g (levels c) → (levelOf c (firstWire g) < x) × (levelOf c (secondWire g) < x)
-    of (Xor p q) f z = absurd (true≢false (sym f))
-    of (And p q) f z = let r = greater-from (levelOf c p) (levelOf c q) in (omega (arith, r .0), omega (arith, r .1))
-    of (Not p) f z = absurd (true≢false (sym f))
+    of : (g : Gate) → gateAt c i ≡ g → isAnd g ≡ true → (levelOf c (firstWire g) < levelAt c i) × (levelOf c (secondWire g) < levelAt c i)
+    of (Xor p q) e f = absurd (true≢false (sym f))
+    of (And p q) e f = and-raised c ok i p q (and-inside c i a) e
+    of (Not p) e f = absurd (true≢false (sym f))
 
 -- the share of an AND in a round is the transcript's, and a bit
 module _ (c : Circuit) (i a b : ℕ) (g : gateAt c i ≡ And a b) (role : ℕ) (triples : List ℕ) where

@@ -1,16 +1,15 @@
 -- The levels of a circuit's wires: an input's is 0, a gate's follows from its wires', and the depth is the greatest. Assumes nothing.
 use Prim.Native.Nat.{ℕ, zero, suc, _+_, _≤_, _<_}
 use mathlib.Core.List.{List, [], _∷_}
-use mathlib.Core.Path.{_≡_, refl, sym, ap, ap₂, _∙_, subst}
+use mathlib.Core.Path.{_≡_, ap, _∙_, subst}
 use borrow.Author.Tests.{le-leb, lt-leb}
 use native.Mathlib.Omega.{arith}
 use lib.ListN.{length, getD, take, replicate, length-replicate, getD-replicate}
 use lib.Seq.{getD-take}
 use Rattle.circuit.proofs.Folds.{fold-length, fold-keeps, fold-holds, below-at}
 use Rattle.circuit.specs.Admitted.{GateBelow, GatesBelow}
 use Rattle.circuit.specs.Content.{Gate, Xor, And, Not, Circuit}
 use Rattle.circuit.specs.Levels.{greater, gateLevel, levels, levelOf, greatest}
-use Rattle.circuit_run.specs.Step.{gateAt}
 use Rattle.number.proofs.Places.{split, choose-yes, choose-no}
 
 -- ---- the greater, and the greatest
@@ -44,8 +43,8 @@ greatest-below (n ∷ ns) m all =
 -- a gate's level depends on the wires below it alone
 level-below : (g : Gate) (n : ℕ) (xs ys : List ℕ) → GateBelow n g → ((w : ℕ) → w < n → getD xs w 0 ≡ getD ys w 0) → gateLevel g xs ≡ gateLevel g ys
 unfolding GateBelow gateLevel
-level-below (Xor a b) n xs ys ok same = ap₂ greater (same a (ok .0)) (same b (ok .1))
-level-below (And a b) n xs ys ok same = ap₂ (λ (x y : ℕ). 1 + greater x y) (same a (ok .0)) (same b (ok .1))
+level-below (Xor a b) n xs ys ok same = rw (same a (ok .0), same b (ok .1))
+level-below (And a b) n xs ys ok same = rw (same a (ok .0), same b (ok .1))
 level-below (Not a) n xs ys ok same = same a ok
 
 module _ (c : Circuit) where
@@ -60,10 +59,19 @@ module _ (c : Circuit) where
       fold-keeps gateLevel (c .gates) (replicate (c .inputs) 0) w (omega (arith, length-replicate {A = ℕ} (c .inputs) 0))
       ∙ getD-replicate (c .inputs) w 0 0 h
 
-  pub level-gate : GatesBelow (c .inputs) (c .gates) → (i : ℕ) → i < length (c .gates) → levelOf c (c .inputs + i) ≡ gateLevel (gateAt c i) (levels c)
+  pub level-gate : GatesBelow (c .inputs) (c .gates) → (i : ℕ) → i < length (c .gates) → levelOf c (c .inputs + i) ≡ gateLevel (getD (c .gates) i (Not 0)) (levels c)
   unfolding levels
   level-gate ok i h =
-      subst (λ (n : ℕ). getD (levels c) (n + i) 0 ≡ gateLevel (gateAt c i) (take (n + i) (levels c))) (length-replicate {A = ℕ} (c .inputs) 0)
+      subst (λ (n : ℕ). getD (levels c) (n + i) 0 ≡ gateLevel (getD (c .gates) i (Not 0)) (take (n + i) (levels c))) (length-replicate {A = ℕ} (c .inputs) 0)
       (fold-holds gateLevel (c .gates) (replicate (c .inputs) 0) i h)
-      ∙ level-below (gateAt c i) (c .inputs + i) (take (c .inputs + i) (levels c)) (levels c) (below-at (c .gates) (c .inputs) i ok h)
+      ∙ level-below (getD (c .gates) i (Not 0)) (c .inputs + i) (take (c .inputs + i) (levels c)) (levels c) (below-at (c .gates) (c .inputs) i ok h)
       (λ v k. getD-take (c .inputs + i) (levels c) v 0 k)
+
+  -- an AND's level is above its wires'
+  pub and-raised : GatesBelow (c .inputs) (c .gates) → (i a b : ℕ) → i < length (c .gates) → getD (c .gates) i (Not 0) ≡ And a b
+      → (levelOf c a < levelOf c (c .inputs + i)) × (levelOf c b < levelOf c (c .inputs + i))
+  unfolding gateLevel
+  and-raised ok i a b h e =
+      let is : levelOf c (c .inputs + i) ≡ gateLevel (And a b) (levels c) = level-gate ok i h ∙ ap (λ (g : Gate). gateLevel g (levels c)) e in
+      let r = greater-from (levelOf c a) (levelOf c b) in
+      (omega (arith, is, r .0), omega (arith, is, r .1))
