@@ -5,3 +5,4 @@ pub mod Messages
 pub mod Triples
 pub mod Gathered
 pub mod CircuitRuns
+pub mod RoundRuns
