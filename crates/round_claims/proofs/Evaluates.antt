@@ -1,15 +1,15 @@
 -- A finished run in rounds is a transcript, so what two runs have together is what two transcripts have. Assumes nothing.
 use Prim.Native.Nat.{ℕ, suc, _+_, _-_, _≤_}
-use mathlib.Core.Bool.{true, true≢false}
+use mathlib.Core.Bool.{true}
 use mathlib.Core.List.{List, []}
 use mathlib.Core.Path.{_≡_, sym, ap, _∙_, subst}
 use native.Mathlib.Omega.{arith}
 use lib.ListN.{length, getD}
 use Rattle.circuit.proofs.Exact.{admitted}
-use Rattle.circuit.proofs.Levels.{level-gate, greatest-from}
+use Rattle.circuit.proofs.Levels.{greatest-from}
 use Rattle.circuit.specs.Admitted.{GatesBelow}
-use Rattle.circuit.specs.Content.{Gate, Xor, And, Not, Circuit, isAnd}
-use Rattle.circuit.specs.Levels.{gateLevel, levels, levelOf}
+use Rattle.circuit.specs.Content.{Circuit, isAnd}
+use Rattle.circuit.specs.Levels.{levels, levelOf}
 use Rattle.circuit.specs.Reading.{readCircuit}
 use Rattle.circuit.specs.Value.{atWires}
 use Rattle.circuit_round.specs.Round.{RoundLent, RoundOutcome, shareOf, sharesIn, wiresAfter}
@@ -24,7 +24,7 @@ use Rattle.round_claims.proofs.Bytes.{share-at}
 use Rattle.round_claims.proofs.Gives.{outputs-are}
 use Rattle.round_claims.proofs.Progresses.{progress}
 use Rattle.round_claims.proofs.Rounds.{share-bits, triple-bits, one-each, took-bytes}
-use Rattle.round_claims.proofs.Stages.{took-some}
+use Rattle.round_claims.proofs.Stages.{and-wire, and-level, took-some}
 use Rattle.round_claims.proofs.Transcripts.{of-rounds}
 use Rattle.round_claims.specs.Evaluation.{UnalteredRounds, ReceivesRounds, RoundEvaluation}
 use Rattle.round_claims.specs.Inner.ByAnd.{pairAt, farAtGate, sentAtGate, farInRounds, sentInRounds, FarGot, ByFar}
@@ -33,14 +33,8 @@ use Rattle.round_claims.specs.Runs.{RoundMade, roundsOf, IsRound, output
 use Rattle.round_claims.specs.Same.{levelAt, placeAt}
 
 -- the level of an AND is 1 or more
-pub and-level : (c : Circuit) → GatesBelow (c .inputs) (c .gates) → (i : ℕ) → isAnd (gateAt c i) ≡ true → 1 ≤ levelAt c i
-unfolding gateLevel
-and-level c ok i a = of (gateAt c i) a (level-gate c ok i (and-inside c i a))
-  where
-    of : {n : ℕ} (g : Gate) → isAnd g ≡ true → n ≡ gateLevel g (levels c) → 1 ≤ n
-    of (Xor x y) e z = absurd (true≢false (sym e))
-    of (And x y) e z = omega arith
-    of (Not x) e z = absurd (true≢false (sym e))
+level-some : (c : Circuit) → GatesBelow (c .inputs) (c .gates) → (i : ℕ) → isAnd (gateAt c i) ≡ true → 1 ≤ levelAt c i
+level-some c ok i a = omega (arith, and-level c ok (c .inputs + i) (omega (arith, and-inside c i a)) (and-wire c i ∙ a))
 
 -- ---- a finished round
 
@@ -97,7 +91,7 @@ module _ (circuit : List ℕ) (c : Circuit) (read : readCircuit circuit ≡ Whol
           triple-bits = λ w. subst (λ (l : List ℕ). getD l w 0 ≤ 1) (o .own-triples) (triple-bits t w);
           written = wrote-shares (farInRounds c (roundsOf calls)) by;
           sends = λ i a.
-              let some = and-level c (admitted circuit c read .gates) i a in
+              let some = level-some c (admitted circuit c read .gates) i a in
               let passed = levels-passed circuit c read calls on-circuit k m e finished (c .inputs + i) in
               let b = call-at k (levelAt c i - 1) (roundsOf calls) e (omega arith) in
               ap (sentAtGate c (roundsOf calls)) (gate-of (c .gates) i a)
@@ -113,7 +107,7 @@ received : (c : Circuit) (ok : GatesBelow (c .inputs) (c .gates)) (calls far : L
     → ((w : ℕ) → levelOf c w ≤ k) → ((w : ℕ) → levelOf c w ≤ n)
     → (i : ℕ) → isAnd (gateAt c i) ≡ true → farInRounds c (roundsOf calls) (andsBefore c i) ≡ sentInRounds c (roundsOf far) (andsBefore c i)
 received c ok calls far receives k n m f e g late₁ late₂ i a =
-    let some = and-level c ok i a in
+    let some = level-some c ok i a in
     let x = call-at k (suc (levelAt c i - 1)) (roundsOf calls) e (omega (arith, late₁ (c .inputs + i))) in
     let y = call-at n (levelAt c i - 1) (roundsOf far) g (omega (arith, late₂ (c .inputs + i))) in
     let same : suc (levelAt c i - 1) ≡ levelAt c i = omega arith in

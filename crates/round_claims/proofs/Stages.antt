@@ -215,7 +215,7 @@ module _ (P : ℕ → ℕ → Type 0) (high-at : (w x : ℕ) → P w x → 2 ≤
 
 -- ---- the fresh state
 
-and-level : (c : Circuit) → GatesBelow (c .inputs) (c .gates) → (w : ℕ) → IsWire c w → isAndWire c w ≡ true → 0 < levelOf c w
+pub and-level : (c : Circuit) → GatesBelow (c .inputs) (c .gates) → (w : ℕ) → IsWire c w → isAndWire c w ≡ true → 0 < levelOf c w
 unfolding gateLevel
 and-level c ok w h e =
     split w (c .inputs)
