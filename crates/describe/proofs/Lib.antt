@@ -1,3 +1,4 @@
 -- What the call returns, and that its sizes are those that the ends' calls use.
+mod Blocks
 mod Returns
 pub mod Sizing

@@ -2,27 +2,29 @@
 use mathlib.Core.Bool.{true, false}
 use mathlib.Core.List.{List}
 use mathlib.Core.Path.{_≡_, refl, sym, ap, _∙_}
-use Prim.Native.Nat.{ℕ, _^_, _≤_, _<_}
+use Prim.Native.Nat.{ℕ, _-_, _^_, _≤_, _<_}
 use native.Mathlib.Omega.{arith}
 use borrow.Author.Tests.{lt-ltb, le-ltb, eq-eqb, ne-eqb}
 use lib.Dec.{eqb}
 use lib.ListN.{length, getD}
 use Rattle.field.specs.Kind.{elementWords}
-use Rattle.number.specs.Reading.{Reading, Whole, Refused, Step, tested, readByte}
+use Rattle.number.specs.Reading.{Reading, Whole, Refused, Step, tested, readByte, afterReading}
+use Rattle.number.proofs.Records.{read-refused, read-whole}
 use Rattle.number.proofs.Places.{either}
 use Rattle.record.specs.Content.{Head, NoisePart, ScalarPart}
-use Rattle.record.specs.Reading.{readHead, readNoise, readScalar}
+use Rattle.record.specs.Reading.{blockAt, readHead, readNoise, readScalar}
 use Rattle.record.specs.Answer.{headOf, opened, frontOf, recordFault}
 use Rattle.record.specs.declared.Front.{Front}
 use Rattle.record.specs.declared.Opened.{Opened}
 use Rattle.record.specs.declared.Opened.the-variants.{Accepted, Fault}
-use Rattle.record.proofs.Callers.{Ranges, head-ranges, noise-refused, noise-opened, scalar-refused, scalar-opened}
+use Rattle.record.proofs.Callers.{head-ranges, noise-refused, noise-opened, scalar-refused, scalar-opened}
 use Rattle.describe.specs.declared.Described.{Described}
 use Rattle.describe.specs.Describe.{head, refused, said, byEnd, description, describe}
-use Rattle.describe.specs.Inner.Answers.{frontHead}
+use Rattle.rows.proofs.Sizes.{head-sizes}
 
--- the head of its numbers, N and the words of an element
-pub with-sizes : (end : ℕ) (f : Front) {n w : ℕ} → n ≡ 2 ^ f .depth → w ≡ elementWords (f .field)
+-- the head of its numbers, N, the words of an element, the label and the code key
+pub with-sizes : (end : ℕ) (s : List ℕ) (f : Front) {n w : ℕ} {label key : List ℕ} → n ≡ 2 ^ f .depth → w ≡ elementWords (f .field)
+    → label ≡ blockAt s (f .body - 16) → key ≡ blockAt s (f .body - 32)
     → record {
       number = 0;
       end = end;
@@ -34,21 +36,29 @@ pub with-sizes : (end : ℕ) (f : Front) {n w : ℕ} → n ≡ 2 ^ f .depth → 
       outputs = f .outputs;
       leaves = n;
       «element_words» = w;
+      label = label;
+      «code_key» = key;
     }
-    ≡ frontHead end f
-with-sizes end f e g = rw (e, g)
+    ≡ head end (headOf s f)
+with-sizes end s f e g l k = rw (e, g, l, k)
 
--- ---- what a record of either end was read as
+-- what a head that was read says of its numbers, and that its code key and its label stand before the body
+record Reads (s : List ℕ) (f : Front) : Type 0 where
+  pub depth : f .depth ≤ 16
+  pub field : f .field < 256
+  pub key : 32 ≤ f .body
+  pub room : f .body ≤ length s
 
-said-refused : {A : Type 0} (end : ℕ) (headIn : A → Head) {x : Reading A} {k : ℕ} → x ≡ Refused k → refused k ≡ said end headIn x
-said-refused end headIn e = rw e
-
-said-whole : {A : Type 0} (end : ℕ) (headIn : A → Head) {x : Reading A} {p : A} {h : Head} → x ≡ Whole p → headIn p ≡ h → head end h ≡ said end headIn x
-said-whole end headIn e g = rw (e, ← g)
-
--- a head's depth and field in their ranges
-in-range : {h : Head} → Ranges h → (h .depth ≤ 16) × (h .field < 256)
-in-range {h} r = (r .depth-most, either (h .field) 1 (λ e. omega arith) (λ n. let e = r .field n in omega arith))
+head-reads : (end : ℕ) (s : List ℕ) (f : Front) → readHead end s ≡ Whole (headOf s f, f .body) → Reads s f
+head-reads end s f e =
+    let r = head-ranges end s e in
+    let z = head-sizes end s e in
+    record {
+      depth = z .depth;
+      field = either (f .field) 1 (λ e. omega arith) (λ n. let e = r .field n in omega arith);
+      key = z .key;
+      room = z .room;
+    }
 
 -- ---- the noise record
 
@@ -56,27 +66,29 @@ module _ (s : List ℕ) {r : Opened} (opens : opened s r ≡ frontOf (readNoise 
   pub noise-fault : {j k : ℕ} → r ≡ Fault j → k ≡ recordFault r → {a : Described} → a ≡ refused k → a ≡ said 1 (λ P. P .head) (readNoise s)
   noise-fault {j} {k} e q g =
       let y : Refused j ≡ frontOf (readNoise s) (readHead 1 s) = rw e at opens in
-      let z : k ≡ j = q ∙ ap recordFault e in
-      g ∙ said-refused 1 (λ P. P .head) (noise-refused s (sym y) ∙ ap (λ (n : ℕ). Refused n) (sym z))
+      read-refused _ _ _ _ j (noise-refused s (sym y)) (g ∙ ap refused (q ∙ ap recordFault e))
 
   module _ {f : Front} (e : r ≡ Accepted f) where
-    noise-range : (f .depth ≤ 16) × (f .field < 256)
-    noise-range =
+    noise-front : (p : NoisePart) × (readNoise s ≡ Whole p) × (p .head ≡ headOf s f) × Reads s f
+    noise-front =
         let y : Whole (headOf s f, f .body) ≡ frontOf (readNoise s) (readHead 1 s) = rw e at opens in
         let o = noise-opened s (sym y) in
-        in-range (head-ranges 1 s (o .2 .head))
+        (o .0, o .2 .whole, o .2 .same, head-reads 1 s f (o .2 .head))
 
     pub noise-depth : f .depth ≤ 16
-    noise-depth = noise-range .0
+    noise-depth = noise-front .3 .depth
 
     pub noise-field : f .field < 256
-    noise-field = noise-range .1
+    noise-field = noise-front .3 .field
 
-    pub noise-accepted : {a : Described} → a ≡ frontHead 1 f → a ≡ said 1 (λ P. P .head) (readNoise s)
-    noise-accepted g =
-        let y : Whole (headOf s f, f .body) ≡ frontOf (readNoise s) (readHead 1 s) = rw e at opens in
-        let o = noise-opened s (sym y) in
-        g ∙ said-whole 1 (λ P. P .head) (o .2 .whole) (o .2 .same)
+    pub noise-key : 32 ≤ f .body
+    noise-key = noise-front .3 .key
+
+    pub noise-room : f .body ≤ length s
+    noise-room = noise-front .3 .room
+
+    pub noise-accepted : {a : Described} → a ≡ head 1 (headOf s f) → a ≡ said 1 (λ P. P .head) (readNoise s)
+    noise-accepted g = let o = noise-front in read-whole _ _ _ _ (o .0) (o .1) (g ∙ ap (head 1) (sym (o .2)))
 
 -- ---- the scalar record
 
@@ -84,44 +96,46 @@ module _ (s : List ℕ) {r : Opened} (opens : opened s r ≡ frontOf (readScalar
   pub scalar-fault : {j k : ℕ} → r ≡ Fault j → k ≡ recordFault r → {a : Described} → a ≡ refused k → a ≡ said 2 (λ P. P .head) (readScalar s)
   scalar-fault {j} {k} e q g =
       let y : Refused j ≡ frontOf (readScalar s) (readHead 2 s) = rw e at opens in
-      let z : k ≡ j = q ∙ ap recordFault e in
-      g ∙ said-refused 2 (λ P. P .head) (scalar-refused s (sym y) ∙ ap (λ (n : ℕ). Refused n) (sym z))
+      read-refused _ _ _ _ j (scalar-refused s (sym y)) (g ∙ ap refused (q ∙ ap recordFault e))
 
   module _ {f : Front} (e : r ≡ Accepted f) where
-    scalar-range : (f .depth ≤ 16) × (f .field < 256)
-    scalar-range =
+    scalar-front : (p : ScalarPart) × (readScalar s ≡ Whole p) × (p .head ≡ headOf s f) × Reads s f
+    scalar-front =
         let y : Whole (headOf s f, f .body) ≡ frontOf (readScalar s) (readHead 2 s) = rw e at opens in
         let o = scalar-opened s (sym y) in
-        in-range (head-ranges 2 s (o .1 .head))
+        (o .0, o .1 .whole, o .1 .same, head-reads 2 s f (o .1 .head))
 
     pub scalar-depth : f .depth ≤ 16
-    scalar-depth = scalar-range .0
+    scalar-depth = scalar-front .3 .depth
 
     pub scalar-field : f .field < 256
-    scalar-field = scalar-range .1
+    scalar-field = scalar-front .3 .field
 
-    pub scalar-accepted : {a : Described} → a ≡ frontHead 2 f → a ≡ said 2 (λ P. P .head) (readScalar s)
-    scalar-accepted g =
-        let y : Whole (headOf s f, f .body) ≡ frontOf (readScalar s) (readHead 2 s) = rw e at opens in
-        let o = scalar-opened s (sym y) in
-        g ∙ said-whole 2 (λ P. P .head) (o .1 .whole) (o .1 .same)
+    pub scalar-key : 32 ≤ f .body
+    scalar-key = scalar-front .3 .key
+
+    pub scalar-room : f .body ≤ length s
+    scalar-room = scalar-front .3 .room
+
+    pub scalar-accepted : {a : Described} → a ≡ head 2 (headOf s f) → a ≡ said 2 (λ P. P .head) (readScalar s)
+    scalar-accepted g = let o = scalar-front in read-whole _ _ _ _ (o .0) (o .1) (g ∙ ap (head 2) (sym (o .2)))
 
 -- ---- the end byte
 
 module _ (s : List ℕ) where
   pub empty-said : length s ≤ 0 → {a : Described} → a ≡ refused 10 → description a s ≡ describe s
-  unfolding describe tested readByte
+  unfolding describe tested readByte afterReading
   empty-said h g = rw (le-ltb 0 (length s) h) (rw g)
 
   module _ (some : 0 < length s) where
     pub noise-said : getD s 0 0 ≡ 1 → {a : Described} → a ≡ said 1 (λ P. P .head) (readNoise s) → description a s ≡ describe s
-    unfolding describe tested readByte
+    unfolding describe tested readByte afterReading
     noise-said e g = rw (lt-ltb 0 (length s) some, e) (rw g)
 
     pub scalar-said : getD s 0 0 ≡ 2 → {a : Described} → a ≡ said 2 (λ P. P .head) (readScalar s) → description a s ≡ describe s
-    unfolding describe tested readByte
+    unfolding describe tested readByte afterReading
     scalar-said e g = rw (lt-ltb 0 (length s) some, e) (rw g)
 
     pub neither-said : (getD s 0 0 ≡ 1 → ⊥) → (getD s 0 0 ≡ 2 → ⊥) → {a : Described} → a ≡ refused 9 → description a s ≡ describe s
-    unfolding describe tested readByte
+    unfolding describe tested readByte afterReading
     neither-said m n g = rw (lt-ltb 0 (length s) some, ne-eqb (getD s 0 0) 1 m, ne-eqb (getD s 0 0) 2 n) (rw g)

@@ -1,6 +1,7 @@
 -- What the description of an accepted record says is what its end's calls use. Assumes nothing.
 use mathlib.Core.Bool.{Bool, true, false, _||_, not}
 use mathlib.Core.List.{List}
+use mathlib.Core.Logic.{_↔_}
 use mathlib.Core.Path.{_≡_, refl, sym, ap, _∙_}
 use Prim.Native.Nat.{ℕ, _+_, _*_}
 use native.Mathlib.Omega.{arith}
@@ -8,7 +9,7 @@ use lib.Dec.{eqb, ltb}
 use lib.ListN.{length}
 use Rattle.algebra.specs.Choice.{choose}
 use Rattle.answer.specs.Numbers.{accepted, badLength, windowPastEnd, notElement, wrongEnd, bufferShort}
-use Rattle.number.specs.Reading.{Reading, Whole, Refused, Step, tested, readByte}
+use Rattle.number.specs.Reading.{Reading, Whole, Refused, Step, tested, readByte, afterReading}
 use Rattle.record.specs.Content.{Head, NoisePart, ScalarPart}
 use Rattle.record.specs.Reading.{readNoise, readScalar}
 use Rattle.rows.specs.Head.{fieldOf, places}
@@ -22,7 +23,7 @@ use Rattle.scalar_end.specs.Online as scalarOnline
 use Rattle.scalar_end.proofs.Laws as scalarLaws
 use Rattle.describe.specs.declared.Described.{Described}
 use Rattle.describe.specs.Describe.{head, refused, said, byEnd, describe}
-use Rattle.describe.specs.Sizing.{Sizing, answerFor, byLengths}
+use Rattle.describe.specs.Sizing.{Sizing, answerFor, byLengths, withoutEnd}
 
 -- ---- an end that is told is that of a record read whole
 
@@ -30,6 +31,7 @@ module _ {A : Type 0} (end : ℕ) (headIn : A → Head) where
   -- what is said of a reading tells its end only where it is whole
   said-end : (x : Reading A) {e : ℕ} → (e ≡ 0 → ⊥) → said end headIn x .end ≡ e
       → (p : A) × (x ≡ Whole p) × (end ≡ e) × (said end headIn x ≡ head end (headIn p))
+  unfolding afterReading
   said-end (Whole p) n q = (p, refl, q, refl)
   said-end (Refused k) n q = absurd (n (sym q))
 
@@ -39,6 +41,7 @@ module _ (s : List ℕ) where
   told b = choose b (said 1 (λ P. P .head) (readNoise s)) (said 2 (λ P. P .head) (readScalar s))
 
   noise-end : (x : Step ℕ) → byEnd s x .end ≡ 1 → (P : NoisePart) × (readNoise s ≡ Whole P) × (byEnd s x ≡ head 1 (P .head))
+  unfolding afterReading
   noise-end (Refused k) e = absurd (omega (arith, e))
   noise-end (Whole r) e = by (eqb (r .0) 1) e
     where
@@ -47,6 +50,7 @@ module _ (s : List ℕ) where
       by false e = let o = said-end 2 (λ P. P .head) (readScalar s) (λ z. omega (arith, z)) e in absurd (omega (arith, o .2))
 
   scalar-end : (x : Step ℕ) → byEnd s x .end ≡ 2 → (P : ScalarPart) × (readScalar s ≡ Whole P) × (byEnd s x ≡ head 2 (P .head))
+  unfolding afterReading
   scalar-end (Refused k) e = absurd (omega (arith, e))
   scalar-end (Whole r) e = by (eqb (r .0) 1) e
     where
@@ -62,14 +66,53 @@ module _ (s : List ℕ) where
   unfolding describe
   scalar-told e = scalar-end (tested (readByte s 0) (λ end. eqb end 1 || eqb end 2) wrongEnd) e
 
+-- ---- two answers
+
+-- the head that an answer tells
+abbrev headTold : Described → Head
+headTold D =
+    record {
+      field = D .field;
+      depth = D .depth;
+      branchBits = D .«branch_bits»;
+      trees = D .trees;
+      terms = D .terms;
+      outputs = D .outputs;
+      codeKey = D .«code_key»;
+      label = D .label;
+    }
+
+same-told : (s u : List ℕ) → answerFor s .end ≡ 1 → answerFor u .end ≡ 2 → (P : NoisePart) (Q : ScalarPart) → readNoise s ≡ Whole P
+    → readScalar u ≡ Whole Q → P .head ≡ Q .head ↔ withoutEnd (answerFor s) ≡ withoutEnd (answerFor u)
+same-told s u a b P Q e g =
+    let o = noise-told s a in
+    let q = scalar-told u b in
+    let p : o .0 .head ≡ P .head = ap headRead (sym (o .1) ∙ e) in
+    let r : q .0 .head ≡ Q .head = ap headRead′ (sym (q .1) ∙ g) in
+    let x : answerFor s ≡ head 1 (P .head) = o .2 ∙ ap (head 1) p in
+    let y : answerFor u ≡ head 2 (Q .head) = q .2 ∙ ap (head 2) r in (
+      λ h. ap withoutEnd x ∙ ap (λ (k : Head). withoutEnd (head 1 k)) h ∙ sym (ap withoutEnd y),
+      λ h. ap headTold (sym (ap withoutEnd x) ∙ h ∙ ap withoutEnd y),
+    )
+  where
+    headRead : Reading NoisePart → Head
+    headRead (Whole p) = p .head
+    headRead (Refused k) = P .head
+
+    headRead′ : Reading ScalarPart → Head
+    headRead′ (Whole p) = p .head
+    headRead′ (Refused k) = Q .head
+
 -- an answer that tells neither end is that of a refused record
 module _ {A : Type 0} (end : ℕ) (headIn : A → Head) where
   said-none : (x : Reading A) → (said end headIn x .end ≡ end → ⊥) → said end headIn x ≡ refused (said end headIn x .number)
+  unfolding afterReading
   said-none (Whole p) n = absurd (n refl)
   said-none (Refused k) n = refl
 
 module _ (s : List ℕ) where
   none : (x : Step ℕ) → (byEnd s x .end ≡ 1 → ⊥) → (byEnd s x .end ≡ 2 → ⊥) → byEnd s x ≡ refused (byEnd s x .number)
+  unfolding afterReading
   none (Refused k) m n = refl
   none (Whole r) m n = by (eqb (r .0) 1) m n
     where
@@ -167,6 +210,7 @@ module _ (h : Head) (first count : ℕ) where
 pub sizing : Sizing
 sizing =
     record {
+      same = same-told;
       neither = neither-told;
       noise-offline = λ s e noise v. let o = noise-told s e in rw (noiseLaws.offline-whole s noise v (o .1), o .2) (noise-room (o .0) s noise v);
       scalar-offline = λ s e w delta. let o = scalar-told s e in rw (scalarLaws.offline-whole s w delta (o .1), o .2) (scalar-room (o .0) s w delta);

@@ -4,16 +4,18 @@ use mathlib.Core.Bool.{_||_}
 use mathlib.Core.List.{List}
 use Prim.Native.Nat.{ℕ}
 use lib.Dec.{eqb}
+use lib.ListN.{replicate}
 use Rattle.answer.specs.Numbers.{accepted, wrongEnd}
 use Rattle.algebra.specs.Choice.{choose}
 use Rattle.field.specs.Kind.{elementWords}
-use Rattle.number.specs.Reading.{Reading, Whole, Refused, Step, tested, readByte}
-use Rattle.record.specs.Content.{Head, NoisePart, ScalarPart}
+use Rattle.number.specs.Reading.{Reading, Step, tested, readByte, afterReading}
+use Rattle.record.specs.Content.{Head}
 use Rattle.record.specs.Reading.{readNoise, readScalar}
 use Rattle.rows.specs.Head.{places}
 use Rattle.describe.specs.declared.Described.{Described}
 
--- the head of an accepted record of an end: its field and sizes, N, and the words of an element
+-- the head of an accepted record of an end: its field and sizes, N, the words of an element, and the 16 bytes of its label and of its
+-- code key (circuits in rounds)
 abbrev pub head : ℕ → Head → Described
 head end h =
     record {
@@ -27,6 +29,8 @@ head end h =
       outputs = h .outputs;
       leaves = places h;
       «element_words» = elementWords (h .field);
+      label = h .label;
+      «code_key» = h .codeKey;
     }
 
 -- a refused record: its number and zeros
@@ -43,6 +47,8 @@ refused k =
       outputs = 0;
       leaves = 0;
       «element_words» = 0;
+      label = replicate 16 0;
+      «code_key» = replicate 16 0;
     }
 
 -- the answer, and the record that is lent
@@ -55,13 +61,13 @@ description answer source = record { answer = answer; source = source }
 
 -- the answer for what a record of an end is read as
 abbrev pub said : {A : Type 0} → ℕ → (A → Head) → Reading A → Described
-said end headOf (Whole part) = head end (headOf part)
-said end headOf (Refused k) = refused k
+said end headIn r = afterReading r refused (λ part. head end (headIn part))
 
 -- the answer by the end byte: that of the noise record, or that of the scalar record
 abbrev pub byEnd : List ℕ → Step ℕ → Described
-byEnd s (Whole r) = choose (eqb (r .0) 1) (said 1 (λ P. P .head) (readNoise s)) (said 2 (λ P. P .head) (readScalar s))
-byEnd s (Refused k) = refused k
+byEnd s r =
+    afterReading r refused
+    (λ r. choose (eqb (r .0) 1) (said 1 (λ P. P .head) (readNoise s)) (said 2 (λ P. P .head) (readScalar s)))
 
 -- the call: the end byte, 9 if it is neither end's, then the record by the tests of its end
 unfoldable pub describe : List ℕ → Description

@@ -1,14 +1,19 @@
--- What the description of an accepted record says is what that end's calls use: with N leaves and W words an element, the
+-- What the description of an accepted record says: two answers tell whether the records are of the same dealing (document 02, 8), and
+-- the sizes are what that end's calls use: with N leaves and W words an element, the
 -- offline call has room exactly with N and N × W words (13), the online call takes exactly such vectors (3) and windows up to n
 -- (7), and writes c words and c × W words (13).
 use mathlib.Core.Bool.{Bool, _||_, not}
 use mathlib.Core.List.{List}
+use mathlib.Core.Logic.{_↔_}
 use mathlib.Core.Path.{_≡_}
 use Prim.Native.Nat.{ℕ, _+_, _*_}
 use lib.Dec.{eqb, ltb}
 use lib.ListN.{length}
 use Rattle.algebra.specs.Choice.{choose}
 use Rattle.answer.specs.Numbers.{accepted, badLength, windowPastEnd, notElement, bufferShort}
+use Rattle.number.specs.Reading.{Whole}
+use Rattle.record.specs.Content.{NoisePart, ScalarPart}
+use Rattle.record.specs.Reading.{readNoise, readScalar}
 use Rattle.noise_end.specs.Offline as noiseOffline
 use Rattle.noise_end.specs.Online as noiseOnline
 use Rattle.scalar_end.specs.Offline as scalarOffline
@@ -43,7 +48,28 @@ scalarByLengths D l first count =
     byLengths (not (eqb (length (l .w)) (vectorWords D))) (ltb (D .outputs) (first + count))
     (ltb (length (l .wOut)) (windowWords D count))
 
+-- an answer without its end
+abbrev pub withoutEnd : Described → Described
+withoutEnd D =
+    record {
+      number = D .number;
+      end = 0;
+      field = D .field;
+      depth = D .depth;
+      «branch_bits» = D .«branch_bits»;
+      trees = D .trees;
+      terms = D .terms;
+      outputs = D .outputs;
+      leaves = D .leaves;
+      «element_words» = D .«element_words»;
+      label = D .label;
+      «code_key» = D .«code_key»;
+    }
+
 pub record Sizing : Type 0 where
+  -- two accepted records are of the same dealing, their heads equal, exactly if their answers are alike but for the end
+  pub same : (s u : List ℕ) → answerFor s .end ≡ 1 → answerFor u .end ≡ 2 → (P : NoisePart) (Q : ScalarPart) → readNoise s ≡ Whole P
+      → readScalar u ≡ Whole Q → P .head ≡ Q .head ↔ withoutEnd (answerFor s) ≡ withoutEnd (answerFor u)
   -- an answer that tells neither end is a refused record's: its number and zeros
   pub neither : (s : List ℕ) → (answerFor s .end ≡ 1 → ⊥) → (answerFor s .end ≡ 2 → ⊥) → answerFor s ≡ refused (answerFor s .number)
   -- the offline calls: 13 unless there is room for N words of noise and N elements, at the scalar end for N elements and two words

@@ -1,9 +1,10 @@
-// What a record's head says, so that an end that holds only bytes can size its buffers.
+// What a record's head says, so that an end that holds only bytes can size its buffers and tell which dealing it is of.
 ghost use mathlib.Core.Path.{_≡_};
-ghost use Prim.Native.Nat.{_≤_, _<_};
-ghost use Rattle.record.specs.Reading.{readNoise, readScalar};
-ghost use Rattle.describe.specs.Describe.{refused, said, description, describe};
-ghost use Rattle.describe.specs.Inner.Answers.{frontHead};
+ghost use Prim.Native.Nat.{_+_, _≤_, _<_};
+ghost use lib.ListN.{length};
+ghost use Rattle.record.specs.Answer.{headOf};
+ghost use Rattle.record.specs.Reading.{blockAt, readNoise, readScalar};
+ghost use Rattle.describe.specs.Describe.{head, refused, said, description, describe};
 use answer::RECORD_ENDS;
 use answer::WRONG_END;
 use record::Front;
@@ -14,8 +15,8 @@ use record::read_scalar;
 use rows::element_width;
 use rows::fault_of;
 
-// The answer: the number; the end, the field and the sizes of the record; N, and the words of an element. A refused record
-// has zeros beside its number.
+// The answer: the number; the end, the field and the sizes of the record; N, and the words of an element; the label and the code
+// key. A refused record has zeros beside its number.
 #[repr(C)]
 pub struct Described {
     pub number: u32,
@@ -28,6 +29,8 @@ pub struct Described {
     pub outputs: usize,
     pub leaves: usize,
     pub element_words: usize,
+    pub label: [u8; 16],
+    pub code_key: [u8; 16],
 }
 
 // The answer for a refused record.
@@ -45,13 +48,29 @@ fn refusal(number: u32) -> Described
         outputs: 0,
         leaves: 0,
         element_words: 0,
+        label: [0u8; 16],
+        code_key: [0u8; 16],
     }
 }
 
+// The 16 bytes at a place.
+fn block_at(source: &[u8], at: usize) -> [u8; 16]
+    requires { ⌜ at + 16 ≤ length (now source) ⌝ }
+    ensures { λ r. ⌜ r ≡ blockAt (now (source .entry)) at ⌝ }
+{
+    let mut block = [0u8; 16];
+    let mut i: usize = 0;
+    while i < 16 {
+        block[i] = source[at + i];
+        i += 1;
+    }
+    block
+}
+
 // The answer for an accepted record of an end.
-fn head(end: u8, front: Front) -> Described
-    requires { ⌜ (front .depth ≤ 16) × (front .field < 256) ⌝ }
-    ensures { λ r. ⌜ r ≡ frontHead end front ⌝ }
+fn accepted(end: u8, source: &[u8], front: Front) -> Described
+    requires { ⌜ (front .depth ≤ 16) × (front .field < 256) × (32 ≤ front .body) × (front .body ≤ length (now source)) ⌝ }
+    ensures { λ r. ⌜ r ≡ head end (headOf (now (source .entry)) front) ⌝ }
 {
     Described {
         number: 0,
@@ -64,6 +83,8 @@ fn head(end: u8, front: Front) -> Described
         outputs: front.outputs,
         leaves: leaves(front.depth),
         element_words: element_width(front.field),
+        label: block_at(source, front.body - 16),
+        code_key: block_at(source, front.body - 32),
     }
 }
 
@@ -75,7 +96,7 @@ fn noise_head(source: &[u8]) -> Described
     let Opened::Accepted(front) = r else {
         return refusal(fault_of(r));
     };
-    head(1, front)
+    accepted(1, source, front)
 }
 
 // The answer for a scalar record.
@@ -86,7 +107,7 @@ fn scalar_head(source: &[u8]) -> Described
     let Opened::Accepted(front) = r else {
         return refusal(fault_of(r));
     };
-    head(2, front)
+    accepted(2, source, front)
 }
 
 // The head of a record that its end would accept, or that record's number. The end byte says whose tests apply.

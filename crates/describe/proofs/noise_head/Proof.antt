@@ -1,6 +1,6 @@
 -- `describe::noise_head` meets its contract: the number of the record's fault, or the head that was read. Assumes nothing.
 use borrow.Author.Needs.{needs}
-use Rattle.describe.proofs.Returns.{noise-fault, noise-depth, noise-field, noise-accepted}
+use Rattle.describe.proofs.Returns.{noise-fault, noise-depth, noise-field, noise-key, noise-room, noise-accepted}
 use Rattle.describe.proofs.noise_head.Statement.{statement}
 use Rattle.describe.proofs.noise_head.Tie as tie
 
@@ -14,6 +14,6 @@ noise-head-spec =
     (λ c κs. search needs)  -- fault-of-requires
     (λ c κs. search needs)  -- refusal-requires
     (λ c. search noise-fault)  -- returns
-    (λ c κs. (search noise-depth, search noise-field))  -- head-requires
+    (λ c κs. (search noise-depth, search noise-field, search noise-key, search noise-room))  -- accepted-requires
     (λ c. search noise-accepted)  -- returns-2
     )

@@ -1,6 +1,6 @@
 -- `describe::scalar_head` meets its contract: the number of the record's fault, or the head that was read. Assumes nothing.
 use borrow.Author.Needs.{needs}
-use Rattle.describe.proofs.Returns.{scalar-fault, scalar-depth, scalar-field, scalar-accepted}
+use Rattle.describe.proofs.Returns.{scalar-fault, scalar-depth, scalar-field, scalar-key, scalar-room, scalar-accepted}
 use Rattle.describe.proofs.scalar_head.Statement.{statement}
 use Rattle.describe.proofs.scalar_head.Tie as tie
 
@@ -14,6 +14,6 @@ scalar-head-spec =
     (λ c κs. search needs)  -- fault-of-requires
     (λ c κs. search needs)  -- refusal-requires
     (λ c. search scalar-fault)  -- returns
-    (λ c κs. (search scalar-depth, search scalar-field))  -- head-requires
+    (λ c κs. (search scalar-depth, search scalar-field, search scalar-key, search scalar-room))  -- accepted-requires
     (λ c. search scalar-accepted)  -- returns-2
     )

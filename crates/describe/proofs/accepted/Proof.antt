@@ -1,0 +1,20 @@
+-- `describe::accepted` meets its contract: the head's numbers, the leaves, the words of an element, the label and the code key.
+-- Assumes nothing.
+use borrow.Author.Needs.{needs}
+use Rattle.describe.proofs.Returns.{with-sizes}
+use Rattle.describe.proofs.accepted.Statement.{statement}
+use Rattle.describe.proofs.accepted.Tie as tie
+
+pub accepted-spec : {M : Type 1} → statement M
+accepted-spec =
+    tie.close
+    (tie.spec
+    (λ c. search needs)  -- cast-t4
+    (λ c κs. search needs)  -- leaves-requires
+    (λ c κs. search needs)  -- element-width-requires
+    (λ c. search needs)  -- sub-block-at
+    (λ c κs. search needs)  -- block-at-requires
+    (λ c. search needs)  -- sub-block-at-2
+    (λ c κs. search needs)  -- block-at-requires-2
+    (λ c. search with-sizes)  -- returns
+    )
