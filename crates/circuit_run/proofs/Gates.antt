@@ -32,7 +32,7 @@ use Rattle.circuit_run.specs.declared.waiting.Spot.{Spot}
 
 -- ---- kinds
 
-kind-range : (g : Gate) → (1 ≤ kindNumber g) × (kindNumber g ≤ 3)
+pub kind-range : (g : Gate) → (1 ≤ kindNumber g) × (kindNumber g ≤ 3)
 kind-range (Xor a b) = (omega arith, omega arith)
 kind-range (And a b) = (omega arith, omega arith)
 kind-range (Not a) = (omega arith, omega arith)
@@ -50,13 +50,13 @@ and-small (Xor a b) = omega arith
 and-small (And a b) = omega arith
 and-small (Not a) = omega arith
 
-by-1 : (kind a b : ℕ) → kind ≡ 1 → gateBy kind a b ≡ Xor a b
+pub by-1 : (kind a b : ℕ) → kind ≡ 1 → gateBy kind a b ≡ Xor a b
 by-1 kind a b e = simp e
 
-by-2 : (kind a b : ℕ) → kind ≡ 2 → gateBy kind a b ≡ And a b
+pub by-2 : (kind a b : ℕ) → kind ≡ 2 → gateBy kind a b ≡ And a b
 by-2 kind a b e = simp e
 
-by-3 : (kind a b : ℕ) → kind ≡ 3 → gateBy kind a b ≡ Not a
+pub by-3 : (kind a b : ℕ) → kind ≡ 3 → gateBy kind a b ≡ Not a
 by-3 kind a b e = simp e
 
 -- ---- the gate at a place
@@ -77,25 +77,25 @@ left-start {s} {f} o =
     }
 
 module _ {s : List ℕ} {inputs i at : ℕ} (left : Left s inputs i at) (more : i < length (gatesOf s)) where
-  first : FirstGate (length (gatesOf s) - (i + 1)) (inputs + i) s at (drop i (gatesOf s)) (left .end)
+  pub first : FirstGate (length (gatesOf s) - (i + 1)) (inputs + i) s at (drop i (gatesOf s)) (left .end)
   first =
       first-gate (length (gatesOf s) - (i + 1)) (inputs + i) s at
       (ap (λ (n : ℕ). readGates n (inputs + i) s at) {x = suc (length (gatesOf s) - (i + 1))} {y = length (gatesOf s) - i} (omega arith) ∙ left .read)
 
-  whole-gate : isWhole (readGate (inputs + i) s at) ≡ true
+  pub whole-gate : isWhole (readGate (inputs + i) s at) ≡ true
   whole-gate = ap isWhole (first .first)
 
   module _ (kind a b : ℕ) {next : ℕ} (read : Whole (gateBy kind a b, next) ≡ readGate (inputs + i) s at) where
     same : _≡_ {A = Gate × ℕ} (gateBy kind a b, next) (first .gate, first .next)
     same = whole-is (read ∙ first .first)
 
-    here : drop i (gatesOf s) ≡ gateBy kind a b ∷ first .later
+    pub here : drop i (gatesOf s) ≡ gateBy kind a b ∷ first .later
     here = first .all ∙ ap (λ (z : Gate × ℕ). z .0 ∷ first .later) (sym same)
 
-    gate-here : gateAt (content s) i ≡ gateBy kind a b
+    pub gate-here : gateAt (content s) i ≡ gateBy kind a b
     gate-here = head-at (gatesOf s) i here (Not 0)
 
-    left-next : Left s inputs (i + 1) next
+    pub left-next : Left s inputs (i + 1) next
     left-next =
         record {
           below = omega arith;

@@ -1,6 +1,6 @@
 -- The laws of `circuit_run`.
 pub mod Numbers
-mod Gates
+pub mod Gates
 mod Leaves
 mod Proceeds
 mod Steps

@@ -1,0 +1,3 @@
+-- The laws of the description of a circuit.
+mod Levels
+mod Returns

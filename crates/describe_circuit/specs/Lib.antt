@@ -1,0 +1,3 @@
+-- The call that describes a circuit (circuits in rounds).
+pub mod Describe
+pub mod Inner

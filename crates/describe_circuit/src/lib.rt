@@ -1,0 +1,103 @@
+// What a circuit is, so that a run's triples, messages and buffers are known before it starts.
+ghost use mathlib.Core.Path.{_≡_};
+ghost use Prim.Native.Nat.{_≤_};
+ghost use Rattle.circuit.specs.Answer.{content, HasFront};
+ghost use Rattle.circuit.specs.Levels.{greater, depth};
+ghost use Rattle.describe_circuit.specs.Describe.{refused, descriptionOf, describeCircuit};
+ghost use Rattle.describe_circuit.specs.Inner.Levels.{levelBy};
+use circuit::Front;
+use circuit::Opened;
+use circuit::known_gate;
+use circuit::read_circuit;
+use circuit::refusal_of;
+
+// The answer: the number, and how many inputs, gates, outputs, ANDs and rounds the circuit has. A refused circuit has zeros beside
+// its number.
+#[repr(C)]
+pub struct DescribedCircuit {
+    pub number: u32,
+    pub inputs: usize,
+    pub gates: usize,
+    pub outputs: usize,
+    pub ands: usize,
+    pub rounds: usize,
+}
+
+// The answer for a refused circuit.
+fn refusal(number: u32) -> DescribedCircuit
+    ensures { λ r. ⌜ r ≡ refused number ⌝ }
+{
+    DescribedCircuit {
+        number: number,
+        inputs: 0,
+        gates: 0,
+        outputs: 0,
+        ands: 0,
+        rounds: 0,
+    }
+}
+
+// The greater of two levels.
+fn greater_of(a: u16, b: u16) -> u16
+    ensures { λ r. ⌜ r ≡ greater a b ⌝ }
+{
+    if a <= b { b } else { a }
+}
+
+// The level of a gate of a kind, from those of its wires.
+fn level_of(kind: usize, first: u16, second: u16) -> u16
+    requires { ⌜ (first ≤ 4096) × (second ≤ 4096) ⌝ }
+    ensures { λ r. ⌜ r ≡ levelBy kind first second ⌝ }
+{
+    if kind == 3 {
+        return first;
+    }
+    let most = greater_of(first, second);
+    if kind == 2 {
+        return 1 + most;
+    }
+    most
+}
+
+// The greatest level of any wire.
+fn depth_of(source: &[u8], front: Front) -> usize
+    requires { ⌜ HasFront (now source) front ⌝ }
+    ensures { λ r. ⌜ (r ≡ depth (content (now (source .entry)))) × (r ≤ 4096) ⌝ }
+{
+    let inputs = front.inputs;
+    let gates = front.gates;
+    let mut levels = [0u16; 4096];
+    let mut most: u16 = 0;
+    let mut at = front.body;
+    let mut i: usize = 0;
+    while i < gates {
+        let wire = inputs + i;
+        let g = known_gate(source, at, wire);
+        let first = g.first;
+        let second = g.second;
+        let level = level_of(g.kind, levels[first], levels[second]);
+        levels[wire] = level;
+        most = greater_of(most, level);
+        at = g.next;
+        i += 1;
+    }
+    most as usize
+}
+
+// What a circuit is, or the number that it is refused with.
+pub fn describe_circuit(source: &[u8]) -> DescribedCircuit
+    ensures { λ r. ⌜ descriptionOf r (now (source .exit)) ≡ describeCircuit (now (source .entry)) ⌝ }
+{
+    let opened = read_circuit(source);
+    let Opened::Accepted(front) = opened else {
+        return refusal(refusal_of(opened));
+    };
+    DescribedCircuit {
+        number: 0,
+        inputs: front.inputs,
+        gates: front.gates,
+        outputs: front.outputs,
+        ands: front.ands,
+        rounds: depth_of(source, front) + 1,
+    }
+}
