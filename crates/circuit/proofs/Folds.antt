@@ -2,7 +2,7 @@
 -- Assumes nothing.
 use Prim.Native.Nat.{ℕ, zero, suc, _+_, _<_}
 use mathlib.Core.List.{List, [], _∷_, _++_}
-use mathlib.Core.Path.{_≡_, sym, ap, _∙_, subst}
+use mathlib.Core.Path.{_≡_, refl, sym, ap, _∙_, subst}
 use native.Mathlib.Nat.{add-zero}
 use native.Mathlib.Omega.{arith}
 use lib.ListN.{length, getD, take, length-append}
@@ -17,6 +17,13 @@ module _ (make : Gate → List ℕ → ℕ) where
   unfolding overGates
   fold-length [] wires = sym (add-zero (length wires))
   fold-length (g ∷ gs) wires = omega (arith, fold-length gs (wires ++ (make g wires ∷ [])), length-append wires (make g wires ∷ []))
+
+  -- a gate more
+  pub fold-last : (gs : List Gate) (g : Gate) (wires : List ℕ)
+      → overGates make (gs ++ (g ∷ [])) wires ≡ overGates make gs wires ++ (make g (overGates make gs wires) ∷ [])
+  unfolding overGates
+  fold-last [] g wires = refl
+  fold-last (x ∷ gs) g wires = fold-last gs g (wires ++ (make x wires ∷ []))
 
   -- the wires given are in front
   pub fold-front : (gs : List Gate) (wires : List ℕ) → take (length wires) (overGates make gs wires) ≡ wires

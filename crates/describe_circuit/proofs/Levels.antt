@@ -12,7 +12,7 @@ use lib.Seq.{take-add, take-length, set-at, length-take-le}
 use mir.Syntax.{w16, w64}
 use mir.Val.{Fits}
 use Rattle.algebra.specs.Choice.{choose}
-use Rattle.circuit.proofs.Ands.{head-at, tail-at}
+use Rattle.circuit.proofs.Folds.{fold-length, fold-last}
 use Rattle.circuit.specs.Answer.{content, HasFront}
 use Rattle.circuit.specs.Content.{Gate, Xor, And, Not, Circuit}
 use Rattle.circuit.specs.Inner.Fronts.{gateBy}
@@ -108,17 +108,6 @@ level-most kind a b limit p q =
 
 -- ---- gate by gate
 
-over-last : (make : Gate → List ℕ → ℕ) (gs : List Gate) (g : Gate) (wires : List ℕ)
-    → overGates make (gs ++ (g ∷ [])) wires ≡ overGates make gs wires ++ (make g (overGates make gs wires) ∷ [])
-unfolding overGates
-over-last make [] g wires = refl
-over-last make (x ∷ gs) g wires = over-last make gs g (wires ++ (make x wires ∷ []))
-
-over-length : (make : Gate → List ℕ → ℕ) (gs : List Gate) (wires : List ℕ) → length (overGates make gs wires) ≡ length wires + length gs
-unfolding overGates
-over-length make [] wires = sym (add-zero (length wires))
-over-length make (g ∷ gs) wires = omega (arith, over-length make gs (wires ++ (make g wires ∷ [])), length-append wires (make g wires ∷ []))
-
 -- the loop: the gates from here are left to read, the levels of the wires before stand in front, their greatest is known
 pub record DepthTurn (s : List ℕ) (inputs : ℕ) (array : List ℕ) (most at i : ℕ) : Type 0 where
   pub left : Left s inputs i at
@@ -166,7 +155,7 @@ module _ {s : List ℕ} {f : Front} (o : HasFront s f) {array : List ℕ} {most 
   upto : length (levelsTo c i) ≡ f .inputs + i
   unfolding levelsTo
   upto =
-      over-length gateLevel (take i (c .gates)) (replicate (c .inputs) 0)
+      fold-length gateLevel (take i (c .gates)) (replicate (c .inputs) 0)
       ∙ ap₂ (λ (n m : ℕ). n + m) (length-replicate (c .inputs) 0 ∙ sym (o .inputs)) (length-take-le i (c .gates) (turn .left .below))
 
   module _ (more : i < f .gates) where
@@ -205,7 +194,7 @@ module _ {s : List ℕ} {f : Front} (o : HasFront s f) {array : List ℕ} {most 
     one-more g h =
         ap (λ (l : List Gate). overGates gateLevel l (replicate (c .inputs) 0))
         (take-add i 1 (c .gates) ∙ ap (λ (l : List Gate). take i (c .gates) ++ take 1 l) h)
-        ∙ over-last gateLevel (take i (c .gates)) g (replicate (c .inputs) 0)
+        ∙ fold-last gateLevel (take i (c .gates)) g (replicate (c .inputs) 0)
 
     pub depth-next : (kind a b : ℕ) {next level most′ : ℕ} → Whole (gateBy kind a b, next) ≡ readGate (f .inputs + i) s at → kind ≡ kindNumber (gateBy kind a b)
         → a < f .inputs + i → b < f .inputs + i → level ≡ levelBy kind (getD array a 0) (getD array b 0) → most′ ≡ greater most level
