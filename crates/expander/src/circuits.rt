@@ -1,8 +1,10 @@
-// Evaluating a circuit. The step meets the contract of the call that it passes on to.
+// Evaluating and describing a circuit. Each call meets the contract of the call that it passes on to.
 ghost use mathlib.Core.Path.{_≡_};
 ghost use Rattle.circuit_run.specs.Step.{lentWith, stepped, step};
+ghost use Rattle.describe_circuit.specs.Describe.{descriptionOf, describeCircuit};
 use circuit_run::Run;
 use circuit_run::Stepped;
+use describe_circuit::DescribedCircuit;
 
 // One step of an end's run of a circuit, on the state that the step before left.
 #[no_mangle]
@@ -29,4 +31,12 @@ pub extern "C" fn expander_circuit_step(
         far_second,
         state,
     )
+}
+
+// What a circuit is: its inputs, gates, outputs, ANDs and rounds, or the number that it is refused with.
+#[no_mangle]
+pub extern "C" fn expander_describe_circuit(circuit: &[u8]) -> DescribedCircuit
+    ensures { λ r. ⌜ descriptionOf r (now (circuit .exit)) ≡ describeCircuit (now (circuit .entry)) ⌝ }
+{
+    describe_circuit::describe_circuit(circuit)
 }
