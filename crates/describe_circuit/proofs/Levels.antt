@@ -96,8 +96,8 @@ module _ (kind a b : ℕ) where
     pub level-other : (kind ≡ 2 → ⊥) → most ≡ levelBy kind a b
     level-other k = rw (ne-eqb kind 3 n, ne-eqb kind 2 k, e)
 
-pub level-fits : (a b : ℕ) {most : ℕ} → most ≡ greater a b → a ≤ 4096 → b ≤ 4096 → Fits w16 (1 + most)
-level-fits a b e p q = record { fits = omega (arith, e, greater-most a b 4096 p q) }
+pub level-fits : (a b : ℕ) {more most : ℕ} → more ≤ 1 → most ≡ greater a b → a ≤ 4096 → b ≤ 4096 → Fits w16 (more + most)
+level-fits a b h e p q = record { fits = omega (arith, e, greater-most a b 4096 p q) }
 
 level-most : (kind a b limit : ℕ) → a ≤ limit → b ≤ limit → levelBy kind a b ≤ limit + 1
 level-most kind a b limit p q =

@@ -10,7 +10,7 @@ level-of-spec =
     (tie.spec
     (λ c. search level-not)  -- returns
     (λ c κs. search needs)  -- greater-of-requires
-    (λ c. search level-fits)  -- add-result
+    (λ c. search (level-fits, needs))  -- add-result
     (λ c. search level-and)  -- returns-2
     (λ c. search level-other)  -- returns-3
     )
