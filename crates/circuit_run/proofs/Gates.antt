@@ -37,7 +37,7 @@ kind-range (Xor a b) = (omega arith, omega arith)
 kind-range (And a b) = (omega arith, omega arith)
 kind-range (Not a) = (omega arith, omega arith)
 
-kind-and : (g : Gate) → eqb (kindNumber g) 2 ≡ isAnd g
+pub kind-and : (g : Gate) → eqb (kindNumber g) 2 ≡ isAnd g
 kind-and (Xor a b) = refl
 kind-and (And a b) = refl
 kind-and (Not a) = refl

@@ -1,7 +1,8 @@
 -- The laws of `circuit_run`.
+pub mod Bits
 pub mod Numbers
 pub mod Gates
 mod Leaves
 mod Proceeds
-mod Steps
-mod Wires
+pub mod Steps
+pub mod Wires

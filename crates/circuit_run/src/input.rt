@@ -35,7 +35,7 @@ fn are_far_bits(waits: bool, first: u8, second: u8) -> bool
 }
 
 // Whether the role is 1 or 2.
-fn is_role(role: u8) -> bool
+pub fn is_role(role: u8) -> bool
     ensures { λ r. ⌜ r ≡ isRole role ⌝ }
 {
     if role == 1 {

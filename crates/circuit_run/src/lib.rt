@@ -15,6 +15,9 @@ use circuit::Opened;
 use circuit::read_circuit;
 use circuit::refusal_of;
 use input::Asked;
+pub use input::is_role;
+pub use running::and_share;
+pub use running::flip;
 
 // An end's run: 0 fresh, 1 waits for the far bits of the AND at `gate`, 2 finished; this end's shares of the wires passed.
 #[repr(C)]

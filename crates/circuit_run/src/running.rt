@@ -24,7 +24,7 @@ pub struct Reached {
 }
 
 // NOT at one end.
-fn flip(role: u8, x: u8) -> u8
+pub fn flip(role: u8, x: u8) -> u8
     ensures { λ r. ⌜ r ≡ flipped role x ⌝ }
 {
     if role == 1 { x ^ 1 } else { x }
@@ -78,7 +78,7 @@ fn run_on(source: &[u8], front: Front, role: u8, from: Place, wires: &mut [u8; 4
 }
 
 // The share of an AND, from the combined bits and a triple.
-fn and_share(role: u8, d: u8, e: u8, first: u8, second: u8, third: u8) -> u8
+pub fn and_share(role: u8, d: u8, e: u8, first: u8, second: u8, third: u8) -> u8
     ensures { λ r. ⌜ r ≡ andShare role d e first second third ⌝ }
 {
     let sum = third ^ (d & second) ^ (e & first);

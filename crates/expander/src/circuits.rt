@@ -1,7 +1,10 @@
 // Evaluating and describing a circuit. Each call meets the contract of the call that it passes on to.
 ghost use mathlib.Core.Path.{_≡_};
+ghost use Rattle.circuit_round.specs.Round.{roundWith, rounded, round};
 ghost use Rattle.circuit_run.specs.Step.{lentWith, stepped, step};
 ghost use Rattle.describe_circuit.specs.Describe.{descriptionOf, describeCircuit};
+use circuit_round::RoundState;
+use circuit_round::Rounded;
 use circuit_run::Run;
 use circuit_run::Stepped;
 use describe_circuit::DescribedCircuit;
@@ -29,6 +32,36 @@ pub extern "C" fn expander_circuit_step(
         output,
         far_first,
         far_second,
+        state,
+    )
+}
+
+// One round of an end's run of a circuit, on the state that the round before left.
+#[no_mangle]
+pub extern "C" fn expander_circuit_round(
+    role: u8,
+    circuit: &[u8],
+    shares: &[u8],
+    triples: &[u8],
+    output: &mut [u8],
+    far_bits: &[u8],
+    bits_out: &mut [u8],
+    state: RoundState,
+) -> Rounded
+    ensures { λ r. ⌜ rounded r
+        (roundWith role (now (circuit .exit)) (now (shares .exit)) (now (triples .exit)) (now (output .exit)) (now («far_bits» .exit)) (now («bits_out» .exit)))
+        ≡ round
+        (roundWith role (now (circuit .entry)) (now (shares .entry)) (now (triples .entry))
+        (now (output .entry)) (now («far_bits» .entry)) (now («bits_out» .entry))) state ⌝ }
+{
+    circuit_round::round_run(
+        role,
+        circuit,
+        shares,
+        triples,
+        output,
+        far_bits,
+        bits_out,
         state,
     )
 }
