@@ -9,9 +9,9 @@
  * choosing over such pads: the noise end sends correction bits, the scalar end answers with both
  * messages masked, and the noise end opens the one that it wants. Two dealings with the roles
  * exchanged give AND triples: bits of which each end holds a share, to be combined by exclusive or.
- * With them both ends run a circuit on bits that neither of them knows. A stock divides a dealing's
- * outputs among callers, so that no index is used twice; what is left of it can pass to another
- * dealing.
+ * With them both ends run a circuit on bits that neither of them knows, in steps, one AND each, or
+ * in rounds, each of all ANDs that are ready. A stock divides a dealing's outputs among callers, so
+ * that no index is used twice; what is left of it can pass to another dealing.
  *
  * Sizes
  *   d  depth of a tree, 1 to 16; N, the number of its leaves, is 2^d
@@ -70,7 +70,9 @@
  *              A stock hands each index out once, if every call gets the stock that the call before
  *              returned and no two dealings have the same label.
  *              A triple: the bits sent for two ANDs under one triple give the exclusive or of the
- *              shares of both ANDs' wires.
+ *              shares of both ANDs' wires. It serves one AND of one run, and not that run made
+ *              again: on other far bits, what is sent for a later AND can differ by a bit of the
+ *              triple, and so give it away.
  *   Time       The cipher looks bytes up in tables, so how long a call takes, and what it leaves in
  *              caches, depends on keys and data.
  *   Sizes      None is recommended here; the limits below say what the calls admit. The papers
@@ -93,8 +95,8 @@ extern "C" {
 
 /* The version of this header and of the library that goes with it: as a text, and as a number that
  * rises, 10000 major + 100 minor + patch. */
-#define EXPANDER_VERSION "1.0.0"
-#define EXPANDER_VERSION_NUMBER 10000
+#define EXPANDER_VERSION "2.0.0"
+#define EXPANDER_VERSION_NUMBER 20000
 
 /* Fields. */
 #define EXPANDER_BINARY 1
@@ -204,6 +206,8 @@ struct expander_described {
     size_t outputs;
     size_t leaves;
     size_t element_words;
+    uint8_t label[16];
+    uint8_t code_key[16];
 };
 
 /* A number, and the signed amount that an element stands for. */
@@ -279,6 +283,33 @@ struct expander_stepped {
     struct expander_run state;
 };
 
+/* One end's run of a circuit in rounds, a byte a wire: 0 while the wire's share is not known, 1 for an
+ * AND that is opened and waits for the far bits, 2 + share once the share is known. A fresh one is all
+ * 0. Its owner passes it to each round as the accepted round before returned it. No contents are
+ * refused: a byte from 2 on is a known share, and a share is read off as its byte modulo 2. */
+struct expander_round_state {
+    uint8_t wires[EXPANDER_WIRES_MAX];
+};
+
+/* A number, what was written to the output buffer and to the buffer of bits to send, and the run
+ * after the round. */
+struct expander_rounded {
+    uint32_t number;
+    size_t written;
+    size_t bits_written;
+    struct expander_round_state state;
+};
+
+/* A number, and what a circuit holds; ands are the gates of kind AND, rounds the rounds of a run. */
+struct expander_described_circuit {
+    uint32_t number;
+    size_t inputs;
+    size_t gates;
+    size_t outputs;
+    size_t ands;
+    size_t rounds;
+};
+
 /** Make a noise record and a scalar record of one dealing.
  *
  *  The caller draws roots, positions, values, delta and code_key at random, chooses a label that no
@@ -327,11 +358,13 @@ struct expander_two_lengths expander_deal(
     uint8_t *noise_record, size_t noise_record_len,
     uint8_t *scalar_record, size_t scalar_record_len);
 
-/** Say what a record is: its end, field and sizes, and with them how long the vectors and outputs of
- *  its end are. The whole record is read and tested, as its end's calls do it.
+/** Say what a record is: its end, field and sizes, with them how long the vectors and outputs of its
+ *  end are, and its label and code key. The whole record is read and tested, as its end's calls do
+ *  it. Two records are of one dealing if all that is said of them but the end is equal.
  *
  *  Returns:  a number, and the head: end (EXPANDER_NOISE_END or EXPANDER_SCALAR_END), field, depth,
- *            branch_bits, trees, terms, outputs, and from these leaves (N) and element_words (W).
+ *            branch_bits, trees, terms, outputs, from these leaves (N) and element_words (W), and
+ *            label and code_key, 16 bytes each as the record has them.
  *             0: accepted: expander_noise_offline or expander_scalar_offline, by the end, accepts
  *                this record in buffers of leaves and element_words * leaves, or
  *                element_words * leaves and 2
@@ -781,6 +814,103 @@ struct expander_stepped expander_circuit_step(
     uint8_t *output, size_t output_len,
     uint8_t far_first, uint8_t far_second,
     struct expander_run state);
+
+/** Run one end's shares of a circuit as far as they are known, and open every AND whose wires are:
+ *  a round. It is a run of its own kind, made by both ends alike: where one makes steps and the
+ *  other rounds, each can wait for the other for ever.
+ *
+ *  A round takes the wires in order. A known wire stays. Else an input takes its share; an AND that
+ *  waits takes its far bits and is known; an exclusive or or NOT is known if its wires are, and is 0
+ *  if not; any other AND is opened, and waits, if its wires are known, and is 0 if not. Then for each
+ *  AND that was opened, in the order of the gates, two bits are written to bits_out: the share of its
+ *  first wire exclusive-or the first bit of its triple, and so of the second. AND j of the circuit,
+ *  counted from 0, uses triple j whenever it is opened, as in steps.
+ *
+ *  A run begins with a fresh state, all 0, and no far bits. While bits are written they are sent to
+ *  the other end, and the next round takes the state returned and the bits that the other end's round
+ *  wrote, which are as many. Once none are written the run is finished, every wire is known, and the
+ *  output holds this end's shares of the outputs; a further round, with no far bits, writes them
+ *  again. Every round of a run gets the same role, circuit, shares and triples. Its triples serve no
+ *  other run, and not this one made again (Safe use, above).
+ *
+ *  expander_describe_circuit says how many rounds a run takes; messages each way are one fewer. A
+ *  round writes as many bits whatever shares, triples and far bits are, so a run on bytes that are
+ *  all 0 tells in advance how many. Where each AND needs the one before, as in a sum or comparison
+ *  that ripples from bit to bit, a run takes as many rounds as steps; built as a tree, few.
+ *
+ *  Returns:  a number, the bytes written to output (of a finished run, the number of outputs; else
+ *            0), the bytes written to bits_out (two for each AND opened; of a finished run, 0, and
+ *            else above 0), and the state after the round.
+ *             0: accepted
+ *            Reading circuit from front to back, each number first read whole and then tested:
+ *            10: circuit ends before a number or inside it
+ *            11: the number is not in its shortest form, or its third byte has the top bit set
+ *            17: the number of inputs is 0 or above 4096; inputs and gates together are above 4096;
+ *                the number of outputs is 0 or above 4096; a kind is not 1, 2 or 3; a gate's wire
+ *                is not before the gate; an output wire is none of the wires
+ *            and at the end:
+ *            12: bytes follow the circuit
+ *             3: shares_len is not the number of inputs, triples_len is no multiple of 3, or
+ *                far_bits_len is not two for each gate whose byte in the state is 1
+ *            13: output_len is below the number of outputs, or bits_out_len below two for each AND of
+ *                the circuit, however many are opened
+ *             8: a share, a triple's bit (in unused triples too) or a far bit is above 1
+ *            18: there are fewer triples than ANDs
+ *             9: role is not 1 or 2
+ *  In:       role:     one end takes 1, the other 2, as in expander_circuit_step
+ *            circuit:  the circuit as expander_circuit_step has it, of exactly circuit_len bytes, the
+ *                      same at both ends
+ *            shares:   this end's share of each input, one byte 0 or 1; shares_len is the number of
+ *                      inputs
+ *            triples:  this end's triples as expander_triples wrote them, of the same outputs at both
+ *                      ends; triples_len is 3 times their number, at least 3 for each AND
+ *            far_bits: the bits that the other end's round before wrote, one byte 0 or 1 each, two for
+ *                      each gate whose byte is 1, in the order of the gates (of these an AND takes its
+ *                      two; any other gate, which no round leaves so, passes over them); far_bits_len
+ *                      is 0 for a fresh run and for a finished one
+ *            state:    the state as the accepted round before returned it, at first all 0; bytes past
+ *                      the circuit's wires stay
+ *  Out:      output:   of a finished run, this end's share of each output, one byte 0 or 1
+ *            bits_out: else, the bits to send, one byte 0 or 1 each; twice EXPANDER_WIRES_MAX bytes
+ *                      are always enough
+ *  Refused:  both output buffers are as they were, and the state is as it was.
+ *  Overlap:  output and bits_out overlap neither each other nor circuit, shares, triples or far_bits.
+ */
+struct expander_rounded expander_circuit_round(
+    uint8_t role,
+    const uint8_t *circuit, size_t circuit_len,
+    const uint8_t *shares, size_t shares_len,
+    const uint8_t *triples, size_t triples_len,
+    uint8_t *output, size_t output_len,
+    const uint8_t *far_bits, size_t far_bits_len,
+    uint8_t *bits_out, size_t bits_out_len,
+    struct expander_round_state state);
+
+/** Say what a circuit is, so that a run's triples, messages and buffers are known before it starts:
+ *  its sizes, its ANDs, and the rounds that a run of it takes. The whole circuit is read and tested,
+ *  as expander_circuit_step and expander_circuit_round do it.
+ *
+ *  The level of an input is 0; of an exclusive or, the greater of its wires' levels; of a NOT, its
+ *  wire's; of an AND, one more than the greater of its wires'. A run takes one round more than the
+ *  greatest level of any wire, also of one that no output needs; without ANDs, one round.
+ *
+ *  Returns:  a number, inputs, gates, outputs, ands (a run takes that many triples, and one step
+ *            more; bits_out of a round takes twice as many bytes) and rounds.
+ *             0: accepted
+ *            Reading circuit from front to back, each number first read whole and then tested:
+ *            10: circuit ends before a number or inside it
+ *            11: the number is not in its shortest form, or its third byte has the top bit set
+ *            17: the number of inputs is 0 or above 4096; inputs and gates together are above 4096;
+ *                the number of outputs is 0 or above 4096; a kind is not 1, 2 or 3; a gate's wire
+ *                is not before the gate; an output wire is none of the wires
+ *            and at the end:
+ *            12: bytes follow the circuit
+ *  In:       circuit: a circuit as expander_circuit_step has it, of exactly circuit_len bytes
+ *  Out:      none.
+ *  Refused:  all but the number is 0.
+ *  Overlap:  none.
+ */
+struct expander_described_circuit expander_describe_circuit(const uint8_t *circuit, size_t circuit_len);
 
 /** Open a stock: give each caller a share of a dealing's outputs, as consecutive blocks of indices
  *  from 0 in caller order.
