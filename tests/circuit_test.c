@@ -1,12 +1,9 @@
 /* The call of circuits held to the plain implementation, through expander.h (lend.h). */
+#include "circuits.h"
 #include "lend.h"
-#include "pairing.h"
-#include "plain_circuit.h"
 
 #include <string.h>
 
-enum { WIRES = EXPANDER_WIRES_MAX, OUTPUTS = EXPANDER_CIRCUIT_OUTPUTS_MAX };
-enum { XOR = EXPANDER_GATE_XOR, AND = EXPANDER_GATE_AND, NOT = EXPANDER_GATE_NOT };
 enum { FRESH = EXPANDER_RUN_FRESH, WAITS = EXPANDER_RUN_WAITS, FINISHED = EXPANDER_RUN_FINISHED };
 enum { CIRCUIT_STEP, CALLS };
 
@@ -72,103 +69,7 @@ static stepped try_step(const struct asked *a, size_t room, const run *state, ui
     return mine;
 }
 
-/* ---- Circuits ---- */
-
-/* A circuit as it was made, and its bytes; where each number begins, for faults. */
-static struct made {
-    struct plain_circuit c;
-    uint32_t ands;
-    uint8_t bytes[3 * (3 + 4 * WIRES) + 8];
-    size_t len, numbers, begins[3 + 4 * WIRES];
-} made;
-
-static void put(uint32_t number)
-{
-    made.begins[made.numbers++] = made.len;
-    made.len += plain_write_number(made.bytes + made.len, number);
-}
-
-static void write_circuit(void)
-{
-    const struct plain_circuit *c = &made.c;
-    made.len = made.numbers = made.ands = 0;
-    put(c->inputs);
-    put(c->gates);
-    put(c->outputs);
-    for (uint32_t g = 0; g < c->gates; g++) {
-        put(c->gate[g].kind);
-        put(c->gate[g].a);
-        if (c->gate[g].kind != NOT)
-            put(c->gate[g].b);
-        made.ands += c->gate[g].kind == AND;
-    }
-    for (uint32_t k = 0; k < c->outputs; k++)
-        put(c->output[k]);
-}
-
-/* A wire below `bound`: the first, the last, a late one, or any. */
-static uint32_t some_wire(uint32_t bound)
-{
-    switch (random_below(6)) {
-    case 0:
-        return 0;
-    case 1:
-        return bound - 1;
-    case 2:
-    case 3:
-        return bound - 1 - (uint32_t)random_below(bound < 8 ? bound : 8);
-    default:
-        return (uint32_t)random_below(bound);
-    }
-}
-
-/* Make a circuit of these sizes; of a hundred gates so many are ANDs. */
-static void make_circuit(uint32_t inputs, uint32_t gates, uint32_t outputs, size_t percent)
-{
-    static struct plain_circuit back;
-    struct plain_circuit *c = &made.c;
-    c->inputs = inputs;
-    c->gates = gates;
-    c->outputs = outputs;
-    for (uint32_t g = 0; g < gates; g++) {
-        struct plain_gate *gate = &c->gate[g];
-        gate->kind = random_below(100) < percent ? AND : random_below(3) ? XOR : NOT;
-        gate->a = some_wire(inputs + g);
-        gate->b = gate->kind == NOT ? 0 : some_wire(inputs + g);
-    }
-    for (uint32_t k = 0; k < outputs; k++)
-        c->output[k] = some_wire(inputs + gates);
-    write_circuit();
-    EXPECT(plain_read_circuit(&back, made.bytes, made.len) == 0);
-    EXPECT(back.inputs == inputs && back.gates == gates && back.outputs == outputs
-           && memcmp(back.gate, c->gate, gates * sizeof *c->gate) == 0
-           && memcmp(back.output, c->output, outputs * sizeof *c->output) == 0);
-}
-
-static void random_bits(uint8_t *bits, size_t count)
-{
-    for (size_t k = 0; k < count; k++)
-        bits[k] = random_word() & 1;
-}
-
 /* ---- Runs by both ends ---- */
-
-/* Both ends' triples of two dealings with the roles exchanged. End 0 is the first's noise end. */
-static uint8_t triples[2][3 * PAIRING_MOST];
-
-static void make_triples(void)
-{
-    static struct pairing pairings[2];
-    for (int k = 0; k < 2; k++)
-        make_pairing(&pairings[k], PAIRING_MOST);
-    for (int end = 0; end < 2; end++) {
-        const struct pairing *noise = &pairings[end], *scalar = &pairings[1 - end];
-        struct expander_one_length r = expander_triples(
-            noise->choices, PAIRING_MOST, noise->noise_pads, 16 * PAIRING_MOST,
-            scalar->scalar_pads, 32 * PAIRING_MOST, triples[end], sizeof triples[end]);
-        EXPECT(r.number == 0 && r.written == sizeof triples[end]);
-    }
-}
 
 /* A refused step in the middle of a run, on the run's own state: it changes nothing. */
 static void refused_step(const struct asked *a, const run *state)
@@ -316,8 +217,7 @@ static void every_bit(void)
 
 /* ---- Faults in the circuit ---- */
 
-static uint8_t raw[sizeof made.bytes + 16], bits[WIRES + 3 * WIRES], finished_bits[OUTPUTS];
-static size_t raw_len;
+static uint8_t bits[WIRES + 3 * WIRES], finished_bits[OUTPUTS];
 
 /* Lend a circuit on a fresh state, with as many shares as it was made with. */
 static uint32_t try_raw(void)
@@ -325,144 +225,6 @@ static uint32_t try_raw(void)
     const struct asked a = {(uint8_t)(1 + random_below(2)), 0, 1, raw, bits, bits + WIRES, raw_len,
                             made.c.inputs, 3 * (size_t)made.ands};
     return try_step(&a, made.c.outputs, &fresh, finished_bits).number;
-}
-
-/* The circuit with number k in another form: longer than its shortest, without an end, or as
- * another number. */
-enum form { AS_IT_IS, LONGER, ENDLESS, OTHER };
-
-static void put_raw(size_t k, enum form form, uint32_t other)
-{
-    size_t from = made.begins[k];
-    size_t to = k + 1 < made.numbers ? made.begins[k + 1] : made.len;
-    size_t n = to - from;
-    memcpy(raw + raw_len, made.bytes + from, n);
-    if (form == OTHER)
-        n = plain_write_number(raw + raw_len, other);
-    if (form == LONGER) { /* no number of a circuit takes three bytes */
-        raw[raw_len + n - 1] |= 0x80;
-        raw[raw_len + n++] = 0;
-    }
-    if (form == ENDLESS) {
-        for (; n < 3; n++)
-            raw[raw_len + n] = 0;
-        raw[raw_len] |= 0x80;
-        raw[raw_len + 1] |= 0x80;
-        raw[raw_len + 2] |= 0x80;
-    }
-    raw_len += n;
-}
-
-/* A number at k that is not admitted there: one past its range, at either end, or far past it. */
-static uint32_t not_admitted(size_t k)
-{
-    const struct plain_circuit *c = &made.c;
-    size_t at = 3;
-    uint32_t far = 2097151;
-    if (k == 0)
-        return (uint32_t[]){0, 4097, far}[random_below(3)];
-    if (k == 1)
-        return (uint32_t[]){4097 - c->inputs, 4096, far}[c->inputs == 1 ? 0 : random_below(3)];
-    if (k == 2)
-        return (uint32_t[]){0, 4097, far}[random_below(3)];
-    for (uint32_t g = 0; g < c->gates; g++) {
-        size_t wires = c->gate[g].kind == NOT ? 1 : 2;
-        if (k == at)
-            return (uint32_t[]){0, 4, far}[random_below(3)];
-        if (k <= at + wires)
-            return (uint32_t[]){c->inputs + g, c->inputs + g + 1, far}[random_below(3)];
-        at += 1 + wires;
-    }
-    return (uint32_t[]){c->inputs + c->gates, c->inputs + c->gates + 1, far}[random_below(3)];
-}
-
-/* Write the circuit with two faults at numbers i and j of it. */
-static void write_raw(size_t i, enum form form, size_t j, enum form other)
-{
-    raw_len = 0;
-    for (size_t k = 0; k < made.numbers; k++) {
-        enum form at = k == i ? form : k == j ? other : AS_IT_IS;
-        put_raw(k, at, at == OTHER ? not_admitted(k) : 0);
-    }
-}
-
-static uint32_t number_of(enum form form)
-{
-    return form == AS_IT_IS ? 0 : form == OTHER ? 17 : 11;
-}
-
-/* A circuit cut short, with bytes after it, and with each two faults in it, in both orders. */
-static void damaged_circuits(void)
-{
-    memcpy(raw, made.bytes, made.len);
-    for (raw_len = 0; raw_len < made.len; raw_len++)
-        EXPECT(try_raw() == 10);
-    for (size_t more = 1; more <= 3; more++) {
-        raw[made.len + more - 1] = (uint8_t)random_word();
-        raw_len = made.len + more;
-        EXPECT(try_raw() == 12);
-    }
-    for (size_t i = 0; i < made.numbers; i++)
-        for (enum form form = LONGER; form <= OTHER; form++) {
-            write_raw(i, form, i, AS_IT_IS);
-            EXPECT(try_raw() == number_of(form));
-            raw[raw_len++] = 0; /* and bytes after it */
-            EXPECT(try_raw() == number_of(form));
-            for (enum form other = LONGER; other <= OTHER; other++) {
-                size_t j = random_below(made.numbers);
-                if (j == i)
-                    continue;
-                write_raw(i, form, j, other);
-                EXPECT(try_raw() == number_of(i < j ? form : other));
-            }
-            write_raw(i, form, i, AS_IT_IS); /* cut before the fault, inside it, after it */
-            raw_len = made.begins[i] + random_below(raw_len - made.begins[i] + 1);
-            try_raw();
-            raw_len = made.begins[i];
-            EXPECT(try_raw() == 10);
-        }
-    for (int round = 0; round < 60; round++) { /* any bytes changed */
-        memcpy(raw, made.bytes, made.len);
-        raw_len = made.len - random_extra(2);
-        raw_len += random_extra(2);
-        for (size_t k = 1 + random_below(3); k > 0; k--) {
-            size_t at = random_below(made.len);
-            raw[at] = (uint8_t)(random_below(2) ? random_below(8) : random_word());
-        }
-        try_raw();
-    }
-}
-
-/* Sizes at their bounds: inputs, gates and outputs, on both sides. */
-static void sizes(void)
-{
-    const struct {
-        uint32_t inputs, gates, outputs, number;
-    } tries[] = {{4096, 0, 1, 0}, {4096, 1, 1, 17}, {4097, 0, 1, 17}, {0, 0, 1, 17}, {0, 5, 1, 17},
-                 {1, 4095, 1, 0}, {1, 4096, 1, 17}, {2000, 2096, 1, 0}, {2000, 2097, 1, 17},
-                 {1, 0, 0, 17}, {1, 0, 4096, 0}, {1, 0, 4097, 17}, {128, 16384, 1, 17},
-                 {16384, 0, 1, 17}, {3, 2097151, 1, 17}, {2097151, 2097151, 1, 17},
-                 {1, 1, 16384, 17}};
-    for (size_t k = 0; k < sizeof tries / sizeof *tries; k++) {
-        uint32_t gates = tries[k].gates <= WIRES ? tries[k].gates : 0;
-        struct plain_circuit *c = &made.c;
-        c->inputs = tries[k].inputs;
-        c->gates = gates;
-        c->outputs = tries[k].outputs <= OUTPUTS ? tries[k].outputs : 0;
-        for (uint32_t g = 0; g < gates; g++)
-            c->gate[g] = (struct plain_gate){NOT, 0, 0};
-        memset(c->output, 0, sizeof c->output);
-        write_circuit();
-        raw_len = 0;
-        put_raw(0, AS_IT_IS, 0);
-        put_raw(1, OTHER, tries[k].gates);
-        put_raw(2, OTHER, tries[k].outputs);
-        for (size_t j = 3; j < made.numbers; j++)
-            put_raw(j, AS_IT_IS, 0);
-        if (c->inputs > WIRES)
-            c->inputs = WIRES;
-        EXPECT(try_raw() == tries[k].number);
-    }
 }
 
 /* ---- Faults beside the circuit ---- */
@@ -593,9 +355,9 @@ int main(void)
         uint32_t inputs = 1 + (uint32_t)random_below(round < 30 ? 5 : 300);
         uint32_t gates = (uint32_t)random_below(9);
         make_circuit(inputs, gates, 1 + (uint32_t)random_below(4), 40);
-        damaged_circuits();
+        damaged_circuits(try_raw, 0);
     }
-    sizes();
+    sizes_at_bounds(try_raw);
     refusals();
     any_states();
     return finish();

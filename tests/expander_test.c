@@ -82,14 +82,18 @@ static struct plain_described try_describe(const uint8_t *record, size_t len)
     same = mine.number == plain.number && mine.end == plain.end && mine.field == plain.field
         && mine.depth == plain.depth && mine.branch_bits == plain.branch_bits
         && mine.trees == plain.trees && mine.terms == plain.terms && mine.outputs == plain.outputs
-        && mine.leaves == plain.leaves && mine.element_words == plain.element_words;
+        && mine.leaves == plain.leaves && mine.element_words == plain.element_words
+        && memcmp(mine.label, plain.label, 16) == 0 && memcmp(mine.code_key, plain.code_key, 16) == 0;
     if (!same)
         complain("returned %u, end %u, field %u, %zu %zu %zu %zu %zu, %zu, %zu; the plain "
-                 "implementation %u, end %u, field %u, %zu %zu %zu %zu %zu, %zu, %zu",
+                 "implementation %u, end %u, field %u, %zu %zu %zu %zu %zu, %zu, %zu; label %s, code "
+                 "key %s",
                  mine.number, mine.end, mine.field, mine.depth, mine.branch_bits, mine.trees,
                  mine.terms, mine.outputs, mine.leaves, mine.element_words, plain.number, plain.end,
                  plain.field, plain.depth, plain.branch_bits, plain.trees, plain.terms,
-                 plain.outputs, plain.leaves, plain.element_words);
+                 plain.outputs, plain.leaves, plain.element_words,
+                 memcmp(mine.label, plain.label, 16) == 0 ? "equal" : "not equal",
+                 memcmp(mine.code_key, plain.code_key, 16) == 0 ? "equal" : "not equal");
     settle_lent(DESCRIBE, same, plain.number, 1, 0, 0, 0);
     return plain;
 }
@@ -231,11 +235,26 @@ static result deal(void)
     return r;
 }
 
-/* The record of this end of x is described as what x is. */
+/* Where the code key begins in the records of x, right after the numbers of its head; the label
+ * follows. */
+static size_t code_key_at(void)
+{
+    const size_t sizes[] = {x.depth, x.branch_bits, x.trees, x.terms, x.outputs};
+    size_t at = 2;
+    for (size_t k = 0; k < sizeof sizes / sizeof *sizes; k++)
+        at += sizes[k] < 128 ? 1 : sizes[k] < 16384 ? 2 : 3;
+    return at;
+}
+
+/* The record of this end of x is described as what x is, with code key and label as they stand in
+ * it. */
 static void described(int end)
 {
-    struct plain_described d = end == 1 ? try_describe(noise_record, noise_record_len)
-                                        : try_describe(scalar_record, scalar_record_len);
+    const uint8_t *record = end == 1 ? noise_record : scalar_record;
+    struct plain_described d = try_describe(record, end == 1 ? noise_record_len : scalar_record_len);
+    EXPECT(memcmp(d.code_key, record + code_key_at(), 16) == 0);
+    EXPECT(memcmp(d.label, record + code_key_at() + 16, 16) == 0);
+    EXPECT(memcmp(d.code_key, x.code_key, 16) == 0 && memcmp(d.label, x.label, 16) == 0);
     EXPECT(d.number == 0 && d.end == (unsigned)end && d.field == x.field && d.depth == x.depth);
     EXPECT(d.branch_bits == x.branch_bits && d.trees == x.trees && d.terms == x.terms);
     EXPECT(d.outputs == x.outputs && d.leaves == leaves && d.element_words == width);
@@ -792,6 +811,14 @@ static void damaged_records(void)
         }
         EXPECT(try_record(3 - end, copy, len).number == 9);
         described(end);
+        for (size_t k = 0; k < 32; k++) { /* each byte of code key and label for itself */
+            uint8_t *byte = &copy[code_key_at() + k], was = *byte;
+            struct plain_described d;
+            *byte ^= (uint8_t)(1 + random_below(255));
+            d = try_describe(copy, len);
+            EXPECT(d.number == 0 && (k < 16 ? d.code_key : d.label)[k % 16] == *byte);
+            *byte = was;
+        }
         for (unsigned byte = 0; byte < 256; byte++)
             if (byte != 1 && byte != 2) {
                 copy[0] = (uint8_t)byte;

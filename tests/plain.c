@@ -525,7 +525,7 @@ uint32_t plain_read_scalar_record(const uint8_t *source, size_t source_len, stru
 
 struct plain_described plain_describe(const uint8_t *source, size_t source_len)
 {
-    struct plain_described d = {0, 0, 0, 0, 0, 0, 0, 0, 0, 0};
+    struct plain_described d = {0, 0, 0, 0, 0, 0, 0, 0, 0, 0, {0}, {0}};
     struct plain_record r;
     if (source_len == 0)
         d.number = 10;
@@ -546,6 +546,8 @@ struct plain_described plain_describe(const uint8_t *source, size_t source_len)
     d.outputs = r.outputs;
     d.leaves = (size_t)1 << r.shape.depth;
     d.element_words = plain_width(r.field);
+    memcpy(d.label, r.label, 16);
+    memcpy(d.code_key, r.code_key, 16);
     return d;
 }
 

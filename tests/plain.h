@@ -29,6 +29,7 @@ struct plain_described {
     uint32_t number;
     unsigned end, field;
     size_t depth, branch_bits, trees, terms, outputs, leaves, element_words;
+    uint8_t label[16], code_key[16];
 };
 
 /* A tree's levels take g bits of a path each, the highest first. */

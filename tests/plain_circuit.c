@@ -84,7 +84,12 @@ static uint32_t ands_before(const struct plain_circuit *c, uint32_t gate)
     return ands;
 }
 
-static int any_above_1(const uint8_t *bits, size_t count)
+uint32_t plain_ands(const struct plain_circuit *c)
+{
+    return ands_before(c, c->gates);
+}
+
+int plain_any_above_1(const uint8_t *bits, size_t count)
 {
     for (size_t k = 0; k < count; k++)
         if (bits[k] > 1)
@@ -99,9 +104,8 @@ static const uint8_t *triple_of(const struct plain_circuit *c, uint32_t gate,
     return triples + 3 * ands_before(c, gate);
 }
 
-/* The share of an AND from its wires' shares, its triple and the far bits. */
-static uint8_t and_share(uint8_t role, uint8_t a, uint8_t b, const uint8_t triple[3],
-                         uint8_t far_first, uint8_t far_second)
+uint8_t plain_and_share(uint8_t role, uint8_t a, uint8_t b, const uint8_t triple[3],
+                        uint8_t far_first, uint8_t far_second)
 {
     uint8_t d = a ^ triple[0] ^ far_first, e = b ^ triple[1] ^ far_second;
     uint8_t share = triple[2] ^ (d & triple[1]) ^ (e & triple[0]);
@@ -136,10 +140,10 @@ struct expander_stepped plain_circuit_step(
         r.number = 3;
     else if (output_len < c.outputs)
         r.number = 13;
-    else if (any_above_1(shares, shares_len) || any_above_1(triples, triples_len)
+    else if (plain_any_above_1(shares, shares_len) || plain_any_above_1(triples, triples_len)
              || (state.phase == WAITS && (far_first > 1 || far_second > 1)))
         r.number = 8;
-    else if (triples_len / 3 < ands_before(&c, c.gates))
+    else if (triples_len / 3 < plain_ands(&c))
         r.number = 18;
     else if (state.phase > FINISHED
              || (state.phase == WAITS && (state.gate >= c.gates || c.gate[state.gate].kind != AND)))
@@ -159,8 +163,8 @@ struct expander_stepped plain_circuit_step(
     } else {
         g = state.gate;
         gate = &c.gate[g];
-        wires[c.inputs + g] = and_share(role, wires[gate->a], wires[gate->b],
-                                        triple_of(&c, g, triples), far_first, far_second);
+        wires[c.inputs + g] = plain_and_share(role, wires[gate->a], wires[gate->b],
+                                              triple_of(&c, g, triples), far_first, far_second);
         g++;
     }
     for (; g < c.gates && c.gate[g].kind != AND; g++) {

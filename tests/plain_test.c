@@ -159,17 +159,19 @@ static block element(uint64_t x)
     return b;
 }
 
-/* The record is one of this end and field, with d, g, t, l, n being 3, 1, 3, 2, 4; cut or longer it
- * is refused, and so is one of no end. */
+/* The record is one of this end and field, with d, g, t, l, n being 3, 1, 3, 2, 4, so that its code
+ * key begins at 7 and its label at 23; cut or longer it is refused, and so is one of no end. */
 static int describes(const uint8_t *record, size_t len, unsigned end, unsigned field)
 {
     static const uint8_t no_end[] = {0, 1, 1};
-    struct plain_described d = plain_describe(record, len);
+    static const uint8_t zeros[16];
+    struct plain_described d = plain_describe(record, len), cut = plain_describe(record, len - 1);
     return d.number == 0 && d.end == end && d.field == field && d.depth == 3 && d.branch_bits == 1
         && d.trees == 3 && d.terms == 2 && d.outputs == 4 && d.leaves == 8
         && d.element_words == (field == 1 ? 2 : 1)
-        && plain_describe(record, 0).number == 10 && plain_describe(record, len - 1).number == 10
-        && plain_describe(record, len - 1).leaves == 0
+        && memcmp(d.code_key, record + 7, 16) == 0 && memcmp(d.label, record + 23, 16) == 0
+        && plain_describe(record, 0).number == 10 && cut.number == 10 && cut.leaves == 0
+        && memcmp(cut.label, zeros, 16) == 0 && memcmp(cut.code_key, zeros, 16) == 0
         && plain_describe(record, len + 1).number == 12
         && plain_describe(no_end, sizeof no_end).number == 9;
 }
