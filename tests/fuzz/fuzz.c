@@ -14,6 +14,7 @@
 #include "plain_circuit.h"
 #include "plain_direct.h"
 #include "plain_messages.h"
+#include "plain_round.h"
 #include "plain_stock.h"
 #include "plain_triples.h"
 
@@ -433,11 +434,11 @@ static void deal(void)
 /* The number at a place of an accepted record; the place moves past it. */
 static size_t number_at(const uint8_t *source, size_t *place)
 {
-    size_t x = 0;
+    size_t number = 0;
     for (int shift = 0;; shift += 7) {
-        x |= (size_t)(source[*place] & 0x7f) << shift;
+        number |= (size_t)(source[*place] & 0x7f) << shift;
         if (source[(*place)++] < 0x80)
-            return x;
+            return number;
     }
 }
 
@@ -465,6 +466,8 @@ static struct expander_described described(const uint8_t *source, size_t len)
     r.outputs = number_at(source, &place);
     r.leaves = (size_t)1 << r.depth;
     r.element_words = r.field == EXPANDER_BINARY ? 2 : 1;
+    memcpy(r.code_key, source + place, 16);
+    memcpy(r.label, source + place + 16, 16);
     return r;
 }
 
@@ -478,7 +481,8 @@ static void describe(void)
     settle(a.number == b.number && a.end == b.end && a.field == b.field && a.depth == b.depth
                && a.branch_bits == b.branch_bits && a.trees == b.trees && a.terms == b.terms
                && a.outputs == b.outputs && a.leaves == b.leaves
-               && a.element_words == b.element_words,
+               && a.element_words == b.element_words && memcmp(a.label, b.label, 16) == 0
+               && memcmp(a.code_key, b.code_key, 16) == 0,
            a.number, 1, 0, 0, 0);
 }
 
@@ -935,13 +939,53 @@ static void put(size_t number)
     circuit_len += plain_write_number(circuit + circuit_len, (uint32_t)number);
 }
 
-static void circuit_step(void)
+/* What a step and a round are lent: a circuit with so many inputs, gates, outputs and ANDs, and an
+ * end's role, shares and triples; now and then damaged. */
+static size_t inputs, gates, outputs, ands;
+static uint8_t role, shares[128], some_triples[3 * 64];
+
+static void bits_of(uint8_t *to, size_t count)
 {
-    static struct expander_stepped a, b;
-    static uint8_t shares[128], some_triples[3 * 64];
-    size_t inputs = 1 + byte() % 64, gates = byte() % 48, outputs = 1 + byte() % 32, ands = 0;
-    size_t shares_len, triples_len, output_len, at;
-    uint8_t role = (uint8_t)(1 + byte() % 2), steps = (uint8_t)(1 + byte() % 64), kind;
+    spun(to, count);
+    for (size_t k = 0; k < count; k++)
+        to[k] &= 1;
+}
+
+static void spoil_circuit(void)
+{
+    size_t at;
+    switch (byte() % 8) {
+    case 0:
+        role = byte();
+        break;
+    case 1:
+        at = below(inputs);
+        shares[at] = byte();
+        break;
+    case 2:
+        at = below(3 * ands + 1);
+        some_triples[at] = byte();
+        break;
+    case 3:
+        circuit_len = below(circuit_len + 1);
+        break;
+    case 4:
+        circuit[circuit_len++] = byte();
+        break;
+    default:
+        at = below(circuit_len + 1);
+        circuit[at] = byte();
+    }
+}
+
+static void make_circuit(void)
+{
+    uint8_t kind;
+    inputs = 1 + byte() % 64;
+    gates = byte() % 48;
+    outputs = 1 + byte() % 32;
+    ands = 0;
+    role = (uint8_t)(1 + byte() % 2);
     circuit_len = 0;
     put(inputs);
     put(gates);
@@ -956,36 +1000,19 @@ static void circuit_step(void)
     }
     for (size_t k = 0; k < outputs; k++)
         put(below(inputs + gates));
-    spun(shares, sizeof shares);
-    spun(some_triples, sizeof some_triples);
-    for (size_t k = 0; k < sizeof shares; k++)
-        shares[k] &= 1;
-    for (size_t k = 0; k < sizeof some_triples; k++)
-        some_triples[k] &= 1;
+    bits_of(shares, sizeof shares);
+    bits_of(some_triples, sizeof some_triples);
     kind = byte();
     for (int changes = kind % 8 >= 6 ? 1 + kind % 2 : 0; changes > 0; changes--)
-        switch (byte() % 8) {
-        case 0:
-            role = byte();
-            break;
-        case 1:
-            at = below(inputs);
-            shares[at] = byte();
-            break;
-        case 2:
-            at = below(3 * ands + 1);
-            some_triples[at] = byte();
-            break;
-        case 3:
-            circuit_len = below(circuit_len + 1);
-            break;
-        case 4:
-            circuit[circuit_len++] = byte();
-            break;
-        default:
-            at = below(circuit_len + 1);
-            circuit[at] = byte();
-        }
+        spoil_circuit();
+}
+
+static void circuit_step(void)
+{
+    static struct expander_stepped a, b;
+    size_t shares_len, triples_len, output_len;
+    uint8_t steps = (uint8_t)(1 + byte() % 64);
+    make_circuit();
     shares_len = length(inputs) % sizeof shares;
     triples_len = length(3 * ands) % sizeof some_triples;
     output_len = room(outputs);
@@ -1019,6 +1046,66 @@ static void circuit_step(void)
     }
 }
 
+static void circuit_round(void)
+{
+    static struct expander_rounded a, b;
+    static uint8_t far_bits[256];
+    size_t shares_len, triples_len, far_len, output_len, bits_len;
+    uint8_t rounds = (uint8_t)(1 + byte() % 64);
+    make_circuit();
+    shares_len = length(inputs) % sizeof shares;
+    triples_len = length(3 * ands) % sizeof some_triples;
+    output_len = room(outputs);
+    bits_len = room(2 * ands);
+    memset(&a, 0, sizeof a);
+    for (; rounds > 0; rounds--) {
+        uint8_t way = byte();
+        if (way >= 240) { /* a state that no round left, of any bytes or of small ones */
+            spun(a.state.wires, inputs + gates);
+            for (size_t k = 0; way >= 248 && k < inputs + gates; k++)
+                a.state.wires[k] &= 3;
+        }
+        far_len = 0;
+        for (size_t k = inputs; k < inputs + gates; k++)
+            far_len += a.state.wires[k] == 1 ? 2 : 0;
+        bits_of(far_bits, sizeof far_bits);
+        if (way % 16 == 13 && far_len > 0)
+            far_bits[below(far_len)] = byte();
+        if (way % 16 == 14)
+            far_len = length(far_len);
+        lend(0, circuit, circuit_len, 1);
+        lend(1, shares, shares_len, 1);
+        lend(2, some_triples, triples_len, 1);
+        lend(3, far_bits, far_len, 1);
+        lend(4, NULL, output_len, 1);
+        lend(5, NULL, bits_len, 1);
+        b = expander_circuit_round(role, LIBRARY(0, uint8_t), circuit_len, LIBRARY(1, uint8_t),
+                                   shares_len, LIBRARY(2, uint8_t), triples_len, LIBRARY(4, uint8_t),
+                                   output_len, LIBRARY(3, uint8_t), far_len, LIBRARY(5, uint8_t),
+                                   bits_len, a.state);
+        a = plain_circuit_round(role, PLAIN(0, uint8_t), circuit_len, PLAIN(1, uint8_t), shares_len,
+                                PLAIN(2, uint8_t), triples_len, PLAIN(4, uint8_t), output_len,
+                                PLAIN(3, uint8_t), far_len, PLAIN(5, uint8_t), bits_len, a.state);
+        settle(a.number == b.number && a.written == b.written && a.bits_written == b.bits_written
+                   && memcmp(a.state.wires, b.state.wires, sizeof a.state.wires) == 0,
+               a.number, 4, 2, a.written, a.bits_written);
+        if (a.number != 0 || a.bits_written == 0)
+            rounds = rounds < 2 ? rounds : 2;
+    }
+}
+
+static void describe_circuit(void)
+{
+    struct expander_described_circuit a, b;
+    make_circuit();
+    lend(0, circuit, circuit_len, 1);
+    a = plain_describe_circuit(PLAIN(0, uint8_t), circuit_len);
+    b = expander_describe_circuit(LIBRARY(0, uint8_t), circuit_len);
+    settle(a.number == b.number && a.inputs == b.inputs && a.gates == b.gates
+               && a.outputs == b.outputs && a.ands == b.ands && a.rounds == b.rounds,
+           a.number, 1, 0, 0, 0);
+}
+
 /* ---- */
 
 static const struct job {
@@ -1040,7 +1127,9 @@ static const struct job {
             {"triples", triples},
             {"open_stock", stock},
             {"read_amount", amounts},
-            {"circuit_step", circuit_step}};
+            {"circuit_step", circuit_step},
+            {"circuit_round", circuit_round},
+            {"describe_circuit", describe_circuit}};
 
 int LLVMFuzzerTestOneInput(const uint8_t *data, size_t data_len);
 
