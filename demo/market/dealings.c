@@ -5,23 +5,9 @@
 
 enum { NOISE_END = 1, SCALAR_END = 2 }; /* the end byte of a record */
 
-/* The longest head of a record without its end byte: the field, five sizes of up to three bytes,
- * code key, label. */
-enum { HEAD_MAX = 1 + 5 * 3 + 16 + 16 };
-
-/* The bytes that a number takes in a record. */
-static size_t number_bytes(size_t number)
-{
-    return number < 1u << 7 ? 1 : number < 1u << 14 ? 2 : 3;
-}
-
-/* The bytes of a record's head without its end byte. The label is the last 16 of them. */
-static size_t head_bytes(const struct expander_described *sizes)
-{
-    return 1 + number_bytes(sizes->depth) + number_bytes(sizes->branch_bits)
-        + number_bytes(sizes->trees) + number_bytes(sizes->terms) + number_bytes(sizes->outputs)
-        + 16 + 16;
-}
+/* What both records of a dealing have equal: the field, five sizes of two bytes each, code key and
+ * label. */
+enum { COMMON_BYTES = 1 + 5 * 2 + 16 + 16 };
 
 static void receive_part(struct channel *dealer, struct part *part, unsigned end)
 {
@@ -39,7 +25,7 @@ static void receive_part(struct channel *dealer, struct part *part, unsigned end
              end == NOISE_END ? "scalar" : "noise", end == NOISE_END ? "noise" : "scalar");
     if (part->sizes.field != EXPANDER_BINARY)
         stop("the dealing is not of the binary field");
-    memcpy(part->label.bytes, part->record + 1 + head_bytes(&part->sizes) - 16, 16);
+    memcpy(part->label.bytes, part->sizes.label, 16);
 }
 
 void receive_dealings(struct channel *dealer, struct dealings *dealings)
@@ -48,21 +34,32 @@ void receive_dealings(struct channel *dealer, struct dealings *dealings)
     receive_part(dealer, &dealings->as_scalar, SCALAR_END);
 }
 
-/* A dealing's two records have equal heads but for the end byte: field, sizes, code key, label. All
- * of that is known to both ends, so it may be sent. */
+static void write_common(const struct expander_described *sizes, uint8_t bytes[COMMON_BYTES])
+{
+    const size_t five[] = {sizes->depth, sizes->branch_bits, sizes->trees, sizes->terms,
+                           sizes->outputs};
+    bytes[0] = sizes->field;
+    for (size_t k = 0; k < 5; k++) {
+        bytes[1 + 2 * k] = (uint8_t)five[k];
+        bytes[2 + 2 * k] = (uint8_t)(five[k] >> 8);
+    }
+    memcpy(bytes + 11, sizes->code_key, 16);
+    memcpy(bytes + 27, sizes->label, 16);
+}
+
+/* Two records that have all of that equal are of one dealing. Both ends know it, so it may be sent. */
 void compare_dealings(struct channel *far, const struct dealings *dealings)
 {
-    const struct part *noise = &dealings->as_noise, *scalar = &dealings->as_scalar;
-    uint8_t own_noise[HEAD_MAX] = {0}, own_scalar[HEAD_MAX] = {0};
-    uint8_t far_noise[HEAD_MAX], far_scalar[HEAD_MAX];
-    memcpy(own_noise, noise->record + 1, head_bytes(&noise->sizes));
-    memcpy(own_scalar, scalar->record + 1, head_bytes(&scalar->sizes));
-    transmit(far, own_noise, HEAD_MAX);
-    transmit(far, own_scalar, HEAD_MAX);
-    receive(far, far_noise, HEAD_MAX);
-    receive(far, far_scalar, HEAD_MAX);
-    if (memcmp(own_noise, far_scalar, HEAD_MAX) != 0
-        || memcmp(own_scalar, far_noise, HEAD_MAX) != 0)
+    uint8_t own_noise[COMMON_BYTES], own_scalar[COMMON_BYTES];
+    uint8_t far_noise[COMMON_BYTES], far_scalar[COMMON_BYTES];
+    write_common(&dealings->as_noise.sizes, own_noise);
+    write_common(&dealings->as_scalar.sizes, own_scalar);
+    transmit(far, own_noise, COMMON_BYTES);
+    transmit(far, own_scalar, COMMON_BYTES);
+    receive(far, far_noise, COMMON_BYTES);
+    receive(far, far_scalar, COMMON_BYTES);
+    if (memcmp(own_noise, far_scalar, COMMON_BYTES) != 0
+        || memcmp(own_scalar, far_noise, COMMON_BYTES) != 0)
         stop("a record is of another dealing than %s's", far->far_name);
 }
 

@@ -1,4 +1,4 @@
-/* A builder of circuits for expander_circuit_step: wires are made one after the other, each from
+/* A builder of circuits for the library: wires are made one after the other, each from
  * wires made before, and the whole is then written as the bytes that both ends give the library.
  */
 #ifndef MARKET_GATES_H
@@ -26,8 +26,8 @@ enum { CIRCUIT_BYTES_MAX = 9 + 5 * EXPANDER_WIRES_MAX + 2 * EXPANDER_CIRCUIT_OUT
 /* A circuit of inputs alone: they are the wires 0 to inputs - 1. */
 void begin_circuit(struct circuit *circuit, unsigned inputs);
 
-/* The wire of a further gate. Exclusive or and NOT cost nothing to run; an AND costs a triple and a
- * step. */
+/* The wire of a further gate. Exclusive or and NOT cost nothing to run; an AND costs a triple and two
+ * bytes each way, and one that needs another's wire comes a round later. */
 wire xor_gate(struct circuit *circuit, wire left, wire right);
 wire and_gate(struct circuit *circuit, wire left, wire right);
 wire not_gate(struct circuit *circuit, wire of);

@@ -21,6 +21,7 @@ struct house {
     struct circuit circuit;
     uint8_t circuit_bytes[CIRCUIT_BYTES_MAX];
     size_t circuit_len;
+    struct expander_described_circuit sizes; /* of the circuit */
     unsigned ands[TASKS];
 };
 
@@ -35,6 +36,8 @@ static void set_up(struct house *house, unsigned role, int far_fd, unsigned seco
     house->far = (struct channel){far_fd, house_names[house->other], seconds, 0, 0};
     build_clearing(&house->circuit, house->ands);
     house->circuit_len = write_circuit(&house->circuit, house->circuit_bytes);
+    house->sizes = expander_describe_circuit(house->circuit_bytes, house->circuit_len);
+    expect_accepted(house->sizes.number, "the circuit is");
 }
 
 /* Takes the season's records, expands them, and puts the stock on them: a fresh one in the first
@@ -92,26 +95,29 @@ static void share_inputs(struct house *house, const struct bids *bids,
     receive(&house->far, shares + other, OWN_INPUTS);
 }
 
-/* Runs the circuit to its end and returns the number of steps. After each step but the last both
- * houses send each other the step's two bits. */
+/* Runs the circuit to its end and returns the number of rounds. After each round but the last both
+ * houses send each other the round's bits, one as many as the other. */
 static unsigned run_circuit(struct house *house, const uint8_t shares[CLEARING_INPUTS],
                             const uint8_t *triples, uint8_t output[CLEARING_OUTPUTS])
 {
-    struct expander_run state = {EXPANDER_RUN_FRESH, 0, {0}};
-    uint8_t bits[2], far_bits[2] = {0, 0};
-    for (unsigned steps = 1;; steps++) {
-        struct expander_stepped stepped = expander_circuit_step(
+    struct expander_round_state state = {{0}};
+    size_t room = 2 * house->sizes.ands, written = 0;
+    uint8_t *bits = allocate(room, 1), *far_bits = allocate(room, 1);
+    unsigned rounds = 0;
+    do {
+        struct expander_rounded rounded = expander_circuit_round(
             house->role, house->circuit_bytes, house->circuit_len, shares, CLEARING_INPUTS, triples,
-            3 * house->circuit.ands, output, CLEARING_OUTPUTS, far_bits[0], far_bits[1], state);
-        expect_accepted(stepped.number, "a step of the circuit is");
-        state = stepped.state;
-        if (state.phase == EXPANDER_RUN_FINISHED)
-            return steps;
-        bits[0] = stepped.first_bit;
-        bits[1] = stepped.second_bit;
-        transmit(&house->far, bits, 2);
-        receive(&house->far, far_bits, 2);
-    }
+            3 * house->sizes.ands, output, CLEARING_OUTPUTS, far_bits, written, bits, room, state);
+        expect_accepted(rounded.number, "a round of the circuit is");
+        state = rounded.state;
+        written = rounded.bits_written;
+        rounds++;
+        transmit(&house->far, bits, written);
+        receive(&house->far, far_bits, written);
+    } while (written > 0);
+    free(bits);
+    free(far_bits);
+    return rounds;
 }
 
 /* The houses show each other their shares of the outputs, and of nothing else. */
@@ -132,12 +138,12 @@ static void hold_auction(struct house *house, struct dealings *dealings, const s
                          struct report *report)
 {
     uint8_t shares[CLEARING_INPUTS], output[CLEARING_OUTPUTS];
-    uint8_t *triples = allocate(3 * house->circuit.ands, 1);
+    uint8_t *triples = allocate(3 * house->sizes.ands, 1);
     double start;
     draw_all_triples(house, dealings, triples, report);
     start = milliseconds();
     share_inputs(house, bids, shares);
-    report->steps = run_circuit(house, shares, triples, output);
+    report->rounds = run_circuit(house, shares, triples, output);
     report->found = open_outputs(house, output);
     report->ms[CIRCUIT] = milliseconds() - start;
     free(triples);

@@ -242,9 +242,9 @@ static void show_results(const struct report reports[HOUSES], const struct clear
     for (unsigned house = 0; house < HOUSES; house++) {
         const struct report *report = &reports[house];
         show_found(house_names[house], &report->found);
-        printf("   %u triples, %u steps, %u bytes out, %u in\n",
+        printf("   %u triples, %u rounds, %u bytes out, %u in\n",
                report->drawn[SUMS] + report->drawn[COMPARISON] + report->drawn[CHOICE],
-               report->steps, report->sent, report->received);
+               report->rounds, report->sent, report->received);
     }
     show_found("plain", plain);
     printf("   from both bid files, without the houses\n\n");

@@ -13,7 +13,7 @@ enum phase { OFFLINE, ONLINE, PADS, TRIPLES, CIRCUIT, PHASES };
 struct report {
     struct clearing found;
     unsigned drawn[TASKS], left[TASKS]; /* triples, by caller of the stock */
-    unsigned steps, sent, received;     /* circuit steps; bytes to and from the other house */
+    unsigned rounds, sent, received;    /* of the circuit; bytes to and from the other house */
     double ms[PHASES];
 };
 
