@@ -1,9 +1,11 @@
-/* The deepest stack of each call that is not timed, by the library and by the plain implementation. */
+/* The deepest stack of each call that is not timed, by the library and by the plain implementation.
+ * Ends with status 1 if a call does not stay below its limit. */
 #include "dealing.h"
 #include "expander.h"
 #include "plain.h"
 #include "plain_amounts.h"
 #include "plain_messages.h"
+#include "plain_round.h"
 #include "plain_stock.h"
 #include "plain_triples.h"
 #include "stack.h"
@@ -21,12 +23,34 @@ static const uint32_t shares[CALLERS] = {1, 2, 3, 4, 5, 6, 7, 8};
 static const struct expander_label first_label = {{1}}, second_label = {{2}};
 static struct expander_stock stock;
 
+/* A circuit of the most wires: one input, and ANDs each after the one before. */
+static uint8_t circuit[3 * 3 * EXPANDER_WIRES_MAX];
+static size_t circuit_len;
+
 static void accepted(uint32_t number)
 {
     if (number != 0) {
         fprintf(stderr, "stacks: a call was refused with %u\n", number);
         exit(1);
     }
+}
+
+static void put(size_t number)
+{
+    circuit_len += plain_write_number(circuit + circuit_len, (uint32_t)number);
+}
+
+static void make_circuit(void)
+{
+    put(1);
+    put(EXPANDER_WIRES_MAX - 1);
+    put(1);
+    for (size_t g = 0; g < EXPANDER_WIRES_MAX - 1; g++) {
+        put(EXPANDER_GATE_AND);
+        put(g);
+        put(g);
+    }
+    put(EXPANDER_WIRES_MAX - 1);
 }
 
 static void make(void)
@@ -40,6 +64,7 @@ static void make(void)
                    16, x.label, 16, record, sizeof record, other_record, sizeof other_record);
     accepted(r.number);
     record_len = r.first;
+    make_circuit();
     stock = plain_open_stock(first_label, EXPANDER_OUTPUTS_MAX, shares, CALLERS).stock;
 }
 
@@ -62,6 +87,7 @@ static void make(void)
 #define PASS_STOCK(prefix) \
     prefix##_pass_stock(stock, second_label, EXPANDER_OUTPUTS_MAX).number
 #define READ_AMOUNT(prefix) prefix##_read_amount(EXPANDER_MODULUS - 1).number
+#define DESCRIBE_CIRCUIT(prefix) prefix##_describe_circuit(circuit, circuit_len).number
 #define WRITE_AMOUNT(prefix) prefix##_write_amount(-EXPANDER_AMOUNT_MAX).number
 
 #define CALL(name, CALL_OF) \
@@ -81,29 +107,40 @@ CALL(preview, PREVIEW)
 CALL(pass_stock, PASS_STOCK)
 CALL(read_amount, READ_AMOUNT)
 CALL(write_amount, WRITE_AMOUNT)
+CALL(describe_circuit, DESCRIBE_CIRCUIT)
 
 static const struct job {
     const char *name;
     void (*call)(int who);
-} jobs[] = {{"describe", describe},
-            {"correction_bits", correction_bits},
-            {"mask_messages", mask_messages},
-            {"unmask_messages", unmask_messages},
-            {"triples", triples},
-            {"open_stock", open_stock},
-            {"draw", draw},
-            {"preview", preview},
-            {"pass_stock", pass_stock},
-            {"read_amount", read_amount},
-            {"write_amount", write_amount}};
+    size_t limit; /* 0 for none */
+} jobs[] = {{"describe", describe, 0},
+            {"correction_bits", correction_bits, 0},
+            {"mask_messages", mask_messages, 0},
+            {"unmask_messages", unmask_messages, 0},
+            {"triples", triples, 0},
+            {"open_stock", open_stock, 0},
+            {"draw", draw, 0},
+            {"preview", preview, 0},
+            {"pass_stock", pass_stock, 0},
+            {"read_amount", read_amount, 0},
+            {"write_amount", write_amount, 0},
+            {"describe_circuit", describe_circuit, 32 * 1024}};
 
 int main(void)
 {
     size_t empty = stack_touched(NULL, 0);
+    int above = 0;
     make();
-    printf("%-15s %8s %8s   deepest stack, bytes, of the other calls\n", "call", "library", "plain");
-    for (size_t k = 0; k < sizeof jobs / sizeof *jobs; k++)
-        printf("%-15s %8zu %8zu\n", jobs[k].name, stack_touched(jobs[k].call, 0) - empty,
-               stack_touched(jobs[k].call, 1) - empty);
-    return 0;
+    printf("%-16s %8s %8s   deepest stack, bytes, of the other calls\n", "call", "library", "plain");
+    for (size_t k = 0; k < sizeof jobs / sizeof *jobs; k++) {
+        size_t library = stack_touched(jobs[k].call, 0) - empty;
+        printf("%-16s %8zu %8zu", jobs[k].name, library, stack_touched(jobs[k].call, 1) - empty);
+        if (jobs[k].limit > 0)
+            printf("   below %zu", jobs[k].limit);
+        putchar('\n');
+        above |= jobs[k].limit > 0 && library >= jobs[k].limit;
+    }
+    if (above)
+        fprintf(stderr, "stacks: the stack of a call is not below its limit\n");
+    return above;
 }
