@@ -248,6 +248,77 @@ static void print_dealing(unsigned field)
         print_pads(u_out, v_out, w_out);
 }
 
+/* ---- A circuit in rounds ---- */
+
+enum { INPUTS = 3, GATES = 5, RESULTS = 2, ANDS = 3, ENDS = 2 };
+
+static const uint8_t circuit[] = {
+    INPUTS, GATES, RESULTS,
+    EXPANDER_GATE_AND, 0, 1, /* 3 */
+    EXPANDER_GATE_NOT, 3,    /* 4 */
+    EXPANDER_GATE_AND, 4, 2, /* 5 */
+    EXPANDER_GATE_XOR, 0, 2, /* 6 */
+    EXPANDER_GATE_AND, 6, 1, /* 7 */
+    5, 7,                    /* the outputs */
+};
+static const uint8_t shares[ENDS][INPUTS] = {{1, 0, 1}, {0, 1, 1}};
+static const uint8_t triples[ENDS][3 * ANDS] = {{1, 0, 1, 0, 1, 1, 1, 1, 0},
+                                                {0, 1, 0, 1, 1, 1, 1, 0, 0}};
+
+static void bits_line(const char *before, const uint8_t *bits, size_t count)
+{
+    printf("%s", before);
+    for (size_t k = 0; k < count; k++)
+        printf(" %u", bits[k]);
+}
+
+/* A round of both ends, on the bits that the other's round before wrote; how many each writes. */
+static size_t print_round(size_t round, struct expander_rounded last[ENDS],
+                          uint8_t bits[ENDS][2 * ANDS], uint8_t results[ENDS][RESULTS])
+{
+    uint8_t far_bits[ENDS][2 * ANDS];
+    for (int end = 0; end < ENDS; end++)
+        memcpy(far_bits[end], bits[1 - end], sizeof far_bits[end]);
+    for (int end = 0; end < ENDS; end++) {
+        last[end] = expander_circuit_round(
+            (uint8_t)(end + 1), circuit, sizeof circuit, shares[end], INPUTS, triples[end],
+            3 * ANDS, results[end], RESULTS, far_bits[end], last[end].bits_written, bits[end],
+            2 * ANDS, last[end].state);
+        accepted(last[end].number);
+        printf("    round %zu  role %d", round, end + 1);
+        bits_line("  state", last[end].state.wires, INPUTS + GATES);
+        if (last[end].bits_written > 0)
+            bits_line("  sends", bits[end], last[end].bits_written);
+        else
+            bits_line("  outputs", results[end], RESULTS);
+        putchar('\n');
+    }
+    return last[0].bits_written;
+}
+
+static void print_rounds(void)
+{
+    static struct expander_rounded last[ENDS]; /* zero at first: fresh states, no bits */
+    uint8_t bits[ENDS][2 * ANDS] = {{0}}, results[ENDS][RESULTS];
+    struct expander_described_circuit d = expander_describe_circuit(circuit, sizeof circuit);
+    accepted(d.number);
+    printf("\n### A circuit in rounds\n\n    circuit  ");
+    hex(circuit, sizeof circuit);
+    printf("\n    inputs %zu, gates %zu, outputs %zu, ANDs %zu, rounds %zu\n", d.inputs, d.gates,
+           d.outputs, d.ands, d.rounds);
+    for (int end = 0; end < ENDS; end++) {
+        printf("    role %d", end + 1);
+        bits_line("  shares", shares[end], INPUTS);
+        bits_line("  triples", triples[end], 3 * ANDS);
+        putchar('\n');
+    }
+    putchar('\n');
+    for (size_t round = 0; print_round(round, last, bits, results) > 0; round++)
+        ;
+    printf("\nWires 3, 5 and 7 are the ANDs, of levels 1, 2 and 1. So the first round opens wires 3 and "
+           "7, with triples 0 and 2, and the second wire 5, with triple 1.\n");
+}
+
 int main(void)
 {
     rising(code_key, 16, 0x00);
@@ -258,5 +329,6 @@ int main(void)
     print_trees();
     print_dealing(EXPANDER_BINARY);
     print_dealing(EXPANDER_PRIME);
+    print_rounds();
     return 0;
 }
