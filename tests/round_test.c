@@ -644,6 +644,44 @@ static void refusals(void)
 
 /* ---- States that no round left ---- */
 
+/* Some worked out by hand, of a circuit of two ANDs with an exclusive or and a NOT between them: far
+ * bits of gates that are no ANDs are passed over, and the share of a wire that is not known is its
+ * byte modulo 2. */
+static void odd_states(void)
+{
+    static const struct {
+        uint8_t before[5], far_bits[6];
+        size_t far_len;
+        uint8_t after[5];
+        size_t bits;
+    } odd[] = {
+        {{2, 200, 1, 1, 1}, {0, 0, 0, 0, 1, 0}, 6, {2, 200, 2, 2, 3}, 0},
+        {{2, 0, 1, 0, 1}, {1, 0, 0, 0}, 4, {2, 1, 0, 2, 3}, 2},
+        {{1, 77, 255, 9, 0}, {0}, 0, {2, 77, 255, 9, 1}, 2},
+    };
+    static const uint8_t share[1] = {0}, two_triples[6] = {0, 0, 0, 0, 1, 0};
+    static state now;
+    struct asked a;
+    made.c.inputs = made.c.outputs = 1;
+    made.c.gates = 4;
+    made.c.gate[0] = (struct plain_gate){AND, 0, 0};
+    made.c.gate[1] = (struct plain_gate){XOR, 1, 0};
+    made.c.gate[2] = (struct plain_gate){NOT, 0, 0};
+    made.c.gate[3] = (struct plain_gate){AND, 1, 0};
+    made.c.output[0] = 4;
+    write_circuit();
+    a = ask(EXPANDER_ROLE_SCALAR, share, two_triples);
+    for (size_t k = 0; k < sizeof odd / sizeof *odd; k++) {
+        rounded r;
+        memcpy(now.wires, odd[k].before, sizeof odd[k].before);
+        a.far_bits = odd[k].far_bits;
+        a.far_bits_len = odd[k].far_len;
+        r = try_round(&a, &now, NULL, NULL);
+        EXPECT(r.number == 0 && r.bits_written == odd[k].bits);
+        EXPECT(memcmp(r.state.wires, odd[k].after, sizeof odd[k].after) == 0);
+    }
+}
+
 /* Rounds from any state, each on the state that the one before left: any bytes in the wires, few of
  * them known or most, on any far bits. */
 static void any_state(void)
@@ -700,6 +738,7 @@ int main(void)
     most_ands();
     damaged();
     refusals();
+    odd_states();
     any_states();
     return finish();
 }
