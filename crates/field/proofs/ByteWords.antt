@@ -6,8 +6,9 @@ use native.Mathlib.Omega.{arith}
 use native.Mathlib.Nat.{mod-one, mod-eq-of-lt, pow-suc, one-le-pow}
 use native.Mathlib.Numerals.{towards-suc}
 use lib.Arith.{mod-mul}
-use lib.ListN.{length, getD, take, drop}
-use lib.Seq.{drop-cons}
+use lib.Bits.{bitXor, xor-mod, xor-shr}
+use lib.ListN.{length, getD, take, drop, length-drop}
+use lib.Seq.{drop-cons, getD-drop, getD-take, length-take-le}
 use Rattle.field.specs.Bytes.{leNumber, leBytes, wordAt, lowOf, highOf}
 
 pub length-leBytes : (n x : ℕ) → length (leBytes n x) ≡ n
@@ -76,6 +77,31 @@ wordAt-take l at h = ap leNumber (simp towards-suc eight)
           drop-cons l (suc (suc (suc (suc (suc (suc at)))))) 0 (omega arith),
           drop-cons l (suc (suc (suc (suc (suc (suc (suc at))))))) 0 (omega arith),
         )
+
+-- byte k of the word whose eight bytes begin at a place
+pub word-byte : (l : List ℕ) (at : ℕ) → ((k : ℕ) → getD l k 0 < 256) → at + 8 ≤ length l → (k : ℕ) → k < 8
+    → getD (leBytes 8 (wordAt l at)) k 0 ≡ getD l (at + k) 0
+word-byte l at bytes room k h =
+    let size : length (take 8 (drop at l)) ≡ 8 = length-take-le 8 (drop at l) (simp length-drop (omega arith)) in
+    let byte : (k : ℕ) → k < 8 → getD (take 8 (drop at l)) k 0 ≡ getD l (at + k) 0 =
+    λ k h. getD-take 8 (drop at l) k 0 h ∙ getD-drop at l k 0 in
+    let all : leBytes 8 (leNumber (take 8 (drop at l))) ≡ take 8 (drop at l) =
+    rw size at (leBytes-leNumber (take 8 (drop at l)) (λ k j. rw (byte k (omega arith)) (bytes (at + k)))) in
+    rw (wordAt-take l at room, all) (byte k h)
+
+-- ---- exclusive or
+-- the bytes of an exclusive or are the exclusive ors of the bytes
+pub leBytes-xor : (n x y k : ℕ) → getD (leBytes n (bitXor x y)) k 0 ≡ bitXor (getD (leBytes n x) k 0) (getD (leBytes n y) k 0)
+unfolding leBytes
+leBytes-xor zero x y k = refl
+leBytes-xor (suc n) x y zero = xor-mod x y 8
+leBytes-xor (suc n) x y (suc k) = rw (xor-shr x y 8) (leBytes-xor n (x / 256) (y / 256) k)
+
+-- and those of two words, each read from its place
+pub word-xor : (l r : List ℕ) (i j : ℕ) → ((k : ℕ) → getD l k 0 < 256) → ((k : ℕ) → getD r k 0 < 256) → i + 8 ≤ length l → j + 8 ≤ length r
+    → (k : ℕ) → k < 8 → getD (leBytes 8 (bitXor (wordAt l i) (wordAt r j))) k 0 ≡ bitXor (getD l (i + k) 0) (getD r (j + k) 0)
+word-xor l r i j left right lroom rroom k h =
+    leBytes-xor 8 (wordAt l i) (wordAt r j) k ∙ rw (word-byte l i left lroom k h, word-byte r j right rroom k h)
 
 -- ---- words and columns
 -- the words of columns are words

@@ -1,17 +1,15 @@
--- What the loops write: a bit more, a byte of a block more, an answer as its two blocks; and the bits that the tests ask for.
+-- What the loops write: a bit more, an answer as its two blocks; and the bits that the tests ask for.
 use mathlib.Core.Path.{_≡_, refl, ap, _∙_}
-use mathlib.Core.List.{List, [], _∷_}
+use mathlib.Core.List.{List}
 use Prim.Native.Nat.{ℕ, _+_, _-_, _*_, _≤_, _<_}
 use native.Mathlib.Omega.{arith}
-use native.Mathlib.Nat.{mul-one}
-use native.Mathlib.Numerals.{add-one}
 use lib.Bits.{bitXor}
 use lib.ListN.{length, getD, set}
 use lib.Seq.{sets}
 use Rattle.algebra.specs.Coding.{flat, over}
 use Rattle.algebra.specs.Inner.Put.{withValue}
 use Rattle.algebra.proofs.Written.{Wide, sets-append, flat-length, front-more}
-use Rattle.messages.specs.Bytes.{Sixteen, byte, sixteen, thirtyTwo, oneOfTwo, masked}
+use Rattle.messages.specs.Bytes.{byte, sixteen, thirtyTwo, oneOfTwo, masked}
 use Rattle.messages.specs.Calls.{maskTests, unmaskTests, correctionBit, answerOf}
 use Rattle.answer.specs.Tests.{AllMet}
 
@@ -34,22 +32,6 @@ pub bits-more : (choices wanted b l : List ℕ) (k count : ℕ) → k < count �
 unfolding withValue
 bits-more choices wanted b l k count h room e =
     front-more byte wide-byte (correctionBit choices wanted) b k k l _ (omega arith) (omega arith) e refl
-
--- ---- one block
-
-module _ (f : Sixteen) (b : List ℕ) (to : ℕ) where
-  pub block-none : b ≡ sets b to (flat byte 0 f)
-  unfolding flat
-  block-none = refl
-
-  pub block-more : (l : List ℕ) (i : ℕ) → l ≡ sets b to (flat byte i f) → set l (to + i) (f i) ≡ sets b to (flat byte (i + 1) f)
-  unfolding flat
-  block-more l i e =
-      rw (e, add-one, sets-append b to (flat byte i f) (f i ∷ []), flat-length byte wide-byte i f, mul-one i)
-
-  pub block-all : (l : List ℕ) (i : ℕ) → i ≤ 16 → 16 ≤ i → l ≡ sets b to (flat byte i f) → l ≡ withValue sixteen b to f
-  unfolding withValue
-  block-all l i h m e = let s : 16 ≡ i = omega arith in rw s e
 
 -- ---- the scalar end's answers
 

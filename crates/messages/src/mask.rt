@@ -7,6 +7,8 @@ ghost use Rattle.algebra.specs.Inner.Put.{withValue};
 ghost use Rattle.messages.specs.Bytes.{byte, sixteen, thirtyTwo, masked};
 ghost use Rattle.messages.specs.Calls.{correctionTests, maskTests, unmaskTests, correctionBit, answerOf, openedOf};
 ghost use Rattle.answer.specs.Tests.{AllMet};
+use pads::block_at;
+use pads::put_block;
 
 // Writes choice exclusive-or wanted bit of each output.
 pub fn write_bits(count: usize, choices: &[u8], wanted: &[u8], bits_out: &mut [u8])
@@ -21,17 +23,15 @@ pub fn write_bits(count: usize, choices: &[u8], wanted: &[u8], bits_out: &mut [u
     }
 }
 
-// Writes from a place on the exclusive or of 16 bytes from a place of each of two slices.
+// Writes from a place on the exclusive or of 16 bytes from a place of each of two slices, as blocks of two words.
 fn mask_block(from: &[u8], at: usize, by: &[u8], start: usize, out: &mut [u8], to: usize)
     requires { ⌜ (at + 16 ≤ length (now from)) × (start + 16 ≤ length (now by)) × (to + 16 ≤ length (now out)) ⌝ }
     ensures { λ _. ⌜ now (out .exit)
         ≡ withValue sixteen (now (out .entry)) to (masked (sixteen .read (now (from .entry)) at) (sixteen .read (now (by .entry)) start)) ⌝ }
 {
-    let mut i: usize = 0;
-    while i < 16 {
-        out[to + i] = from[at + i] ^ by[start + i];
-        i += 1;
-    }
+    let a = block_at(from, at);
+    let b = block_at(by, start);
+    put_block(out, to, a.add(b));
 }
 
 // Writes both masked messages of output k.

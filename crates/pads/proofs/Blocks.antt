@@ -2,21 +2,25 @@
 -- the results of a pad's first step are read back.
 use mathlib.Core.Path.{_≡_, refl, sym, ap, _∙_}
 use mathlib.Core.List.{List, _++_, append-assoc}
-use Prim.Native.Nat.{ℕ, _+_, _<_}
+use Prim.Native.Nat.{ℕ, _+_, _-_, _≤_, _<_}
+use native.Mathlib.Decide.{decLt}
 use native.Mathlib.Nat.{add-zero, add-assoc}
+use native.Mathlib.Omega.{arith}
+use lib.Bits.{bitXor}
 use lib.Dec.{lit<}
-use lib.ListN.{drop}
-use lib.Seq.{getD-drop, drop-at, drop-drop}
+use lib.ListN.{length, getD, drop, List·getD-append}
+use lib.Seq.{getD-drop, getD-append-add, drop-at, drop-drop}
 use Rattle.algebra.specs.Inner.Put.{withValue}
 use Rattle.algebra.proofs.Written.{Wide, Placed, Back, sets-append}
 use Rattle.aes128.specs.Cipher.{aes}
 use Rattle.aes128.specs.Inner.Sizes.{IsState}
 use Rattle.aes128.proofs.Sizes.{four-bytes, four-words, state-bytes, aes-is}
 use Rattle.field.specs.declared.block.Block.{Block}
+use Rattle.field.specs.Binary.{blockAdd}
 use Rattle.field.specs.Bytes.{leBytes, wordAt}
 use Rattle.field.specs.Inner.Written.{withWord}
 use Rattle.field.proofs.BinaryField.{block-eq}
-use Rattle.field.proofs.ByteWords.{leNumber-leBytes-word, lowOf-below, highOf-below}
+use Rattle.field.proofs.ByteWords.{length-leBytes, leNumber-leBytes-word, word-xor, lowOf-below, highOf-below}
 use Rattle.pads.specs.Bytes.{MessagePair, blockBytes, messageBytes}
 use Rattle.pads.specs.Pad.{padKey, state, underPadKey}
 
@@ -66,6 +70,25 @@ back-messages m back0 back1 rest =
     (placed-block (w0 ++ (w1 ++ rest)) 16
     ∙ ap (λ (l : List ℕ). blockBytes .read l 0) (drop-at w0 (w1 ++ rest) 16 (wide-block (m .message0)))
     ∙ back1 rest))
+
+-- the bytes of a sum of two blocks, each read from its place, are the exclusive ors of their bytes
+pub block-xor : (l r : List ℕ) (i j : ℕ) → ((k : ℕ) → getD l k 0 < 256) → ((k : ℕ) → getD r k 0 < 256) → i + 16 ≤ length l → j + 16 ≤ length r
+    → (k : ℕ) → k < 16 → getD (blockBytes .words (blockAdd (blockBytes .read l i) (blockBytes .read r j))) k 0 ≡ bitXor (getD l (i + k) 0) (getD r (j + k) 0)
+block-xor l r i j left right lroom rroom k h =
+    let low = leBytes 8 (bitXor (wordAt l i) (wordAt r j)) in
+    let high = leBytes 8 (bitXor (wordAt l (i + 8)) (wordAt r (j + 8))) in
+    let eight : length low ≡ 8 = length-leBytes 8 (bitXor (wordAt l i) (wordAt r j)) in
+    elim (decLt k 8) [
+      | yes s ↦ List·getD-append low high 0 k (omega arith) ∙ word-xor l r i j left right (omega arith) (omega arith) k s
+      | no s ↦
+          let m = k - 8 in
+          let place : k ≡ length low + m = omega arith in
+          let there : (n : ℕ) → n + 8 + m ≡ n + k = λ n. omega arith in
+          ap (λ (n : ℕ). getD (low ++ high) n 0) place
+          ∙ getD-append-add low high m 0
+          ∙ word-xor l r (i + 8) (j + 8) left right (omega arith) (omega arith) m (omega arith)
+          ∙ rw (there i, there j)
+    ]
 
 -- the pads' key is four columns of four bytes
 pad-key-is : IsState padKey

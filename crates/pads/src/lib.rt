@@ -8,7 +8,8 @@ mod number;
 mod rule;
 mod write;
 
-use bytes::block_at;
+pub use bytes::block_at;
+pub use bytes::put_block;
 use number::noise_number;
 use number::scalar_number;
 use rule::pad_keys;
