@@ -88,5 +88,6 @@ module _ {s : List ℕ} {f : Front} (o : HasFront s f) where
   fresh-returns a r shares triples wires {before} {after} {reached} free e st =
       subst (λ (x : Run). Stops s f x reached after)
       (ap (λ (l : List ℕ). runOn (a .role) (f .inputs) (drop 0 (gatesOf s)) 0 l) e
-      ∙ sym (choose-no {A = Run} (runOn (a .role) (f .inputs) (drop (r .gate + 1) (gatesOf s)) (r .gate + 1) (givenAnd a r (f .inputs + r .gate) triples wires)) _ free))
+      ∙ sym (choose-no {A = Run}
+      (runOn (a .role) (f .inputs) (drop (r .gate + 1) (gatesOf s)) (r .gate + 1) (givenAnd a r (f .inputs + r .gate) triples wires)) _ free))
       st

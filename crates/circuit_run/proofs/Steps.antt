@@ -29,7 +29,8 @@ use Rattle.circuit_run.proofs.Gates.{gatesOf}
 use Rattle.circuit_run.proofs.Numbers.{state-phase}
 use Rattle.circuit_run.specs.Inner.Places.{Spots, Tested, Checks, Stops, givenAnd, proceeded, steppedWith, acceptedOn}
 use Rattle.circuit_run.specs.Inner.Tests.{askedTests}
-use Rattle.circuit_run.specs.Step.{StepLent, lentWith, StepOutcome, stepOutcome, stepped, runWith, stepTests, gateAt, freshWires, runOn, maskedFirst, maskedSecond, waitingShare, withAnd, stepRun, withOutputs, acceptedStep, refusedStep, step}
+use Rattle.circuit_run.specs.Step.{StepLent, lentWith, StepOutcome, stepOutcome, stepped, runWith, stepTests, gateAt, freshWires, runOn}
+use Rattle.circuit_run.specs.Step.{maskedFirst, maskedSecond, waitingShare, withAnd, stepRun, withOutputs, acceptedStep, refusedStep, step}
 use Rattle.circuit_run.specs.declared.Run.{Run}
 use Rattle.circuit_run.specs.declared.Stepped.{Stepped}
 use Rattle.circuit_run.specs.declared.checking.Checked.{Checked}
@@ -168,7 +169,8 @@ module _ {s : List ℕ} {f : Front} {a : Asked} {r : Spot} {shares triples : Lis
 -- ---- the tests together
 
 module _ {s : List ℕ} {f : Front} (o : HasFront s f) {a : Asked} (phase : ℕ) (asks : a .waits ≡ eqb phase 1) {gate : ℕ} {r : Spot}
-    (spots : Spots s f phase gate r) (shares triples : List ℕ) (space : ℕ) {n : ℕ} (number : n ≡ firstFault (askedTests f (r .admitted) a shares triples space)) where
+    (spots : Spots s f phase gate r) (shares triples : List ℕ) (space : ℕ) {n : ℕ}
+    (number : n ≡ firstFault (askedTests f (r .admitted) a shares triples space)) where
   pub checks : Checks s f a phase gate shares triples space (record { number = n; spot = r })
   checks =
       record {
@@ -206,7 +208,8 @@ module _ (role : ℕ) {s : List ℕ} {shares triples : List ℕ} (output : List 
   number-is : r .number ≡ firstFault (stepTests (content s) lent state)
   number-is = ch .number ∙ rw (o .inputs, o .outputs, o .ands)
 
-  step-by : (x : StepOutcome) → x ≡ answered (stepTests (content s) lent state) (refusedStep lent state) (acceptedOn (content s) lent state) → x ≡ step lent state
+  step-by : (x : StepOutcome) → x ≡ answered (stepTests (content s) lent state) (refusedStep lent state) (acceptedOn (content s) lent state)
+      → x ≡ step lent state
   unfolding step acceptedOn
   step-by x e = read-whole (readCircuit s) (refusedStep lent state) _ x (content s) (o .whole) e
 
@@ -214,6 +217,7 @@ module _ (role : ℕ) {s : List ℕ} {shares triples : List ℕ} (output : List 
       → stepped answer (lentWith role s shares triples output far1 far2) ≡ step (lentWith role s shares triples output far1 far2) state
   step-refused h w = step-by _ (refused-with _ _ _ _ (r .number) number-is (ne-eqb (r .number) 0 h) (ap (λ (x : Stepped). stepped x lent) w))
 
-  pub step-accepted : r .number ≡ 0 → {answer : Stepped} {after : StepLent} → stepped answer after ≡ acceptedOn (content s) (lentWith role s shares triples output far1 far2) state
+  pub step-accepted : r .number ≡ 0 → {answer : Stepped} {after : StepLent}
+      → stepped answer after ≡ acceptedOn (content s) (lentWith role s shares triples output far1 far2) state
       → stepped answer after ≡ step (lentWith role s shares triples output far1 far2) state
   step-accepted none w = step-by _ (accepted-with _ _ _ _ (r .number) number-is none w)

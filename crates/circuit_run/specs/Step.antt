@@ -185,7 +185,8 @@ stepRun c l s =
 -- the shares of the output wires, in front of what stood in the output buffer
 unfoldable pub withOutputs : Circuit → StepLent → Run → StepLent
 withOutputs c l s =
-    lentWith (l .role) (l .circuit) (l .shares) (l .triples) (atWires (s .wires) (c .outputs) ++ drop (length (c .outputs)) (l .output)) (l .farFirst) (l .farSecond)
+    lentWith (l .role) (l .circuit) (l .shares) (l .triples) (atWires (s .wires) (c .outputs) ++ drop (length (c .outputs)) (l .output))
+    (l .farFirst) (l .farSecond)
 
 -- an accepted step: one that waits gives the two bits to send, a finished one writes the outputs
 unfoldable pub acceptedStep : Circuit → StepLent → Run → StepOutcome

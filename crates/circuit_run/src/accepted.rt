@@ -44,9 +44,12 @@ pub fn accepted_step(
     state: Run,
 ) -> Stepped
     requires { ⌜ Tested (now circuit) front asked spot (now shares) (now triples) (length (now output)) (state .phase) (state .gate) ⌝ }
-    ensures { λ r. ⌜ stepped r (lentWith (asked .role) (now (circuit .exit)) (now (shares .exit)) (now (triples .exit)) (now (output .exit)) (asked .«far_first») (asked .«far_second»))
+    ensures { λ r. ⌜ stepped r
+        (lentWith (asked .role) (now (circuit .exit)) (now (shares .exit)) (now (triples .exit)) (now (output .exit))
+        (asked .«far_first») (asked .«far_second»))
         ≡ acceptedOn (content (now (circuit .entry)))
-        (lentWith (asked .role) (now (circuit .entry)) (now (shares .entry)) (now (triples .entry)) (now (output .entry)) (asked .«far_first») (asked .«far_second»)) state ⌝ }
+        (lentWith (asked .role) (now (circuit .entry)) (now (shares .entry)) (now (triples .entry)) (now (output .entry))
+        (asked .«far_first») (asked .«far_second»)) state ⌝ }
 {
     if state.phase == 2 {
         return finish(circuit, front, output, state);

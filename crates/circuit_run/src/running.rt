@@ -43,7 +43,9 @@ fn local_share(role: u8, kind: usize, x: u8, y: u8) -> u8
 // Runs from a place to the next AND or to the end.
 fn run_on(source: &[u8], front: Front, role: u8, from: Place, wires: &mut [u8; 4096]) -> Reached
     requires { ⌜ HasFront (now source) front × Stands (now source) front from ⌝ }
-    ensures { λ r. ⌜ Stops (now (source .entry)) front (runOn role (front .inputs) (drop (from .gate) (content (now (source .entry)) .gates)) (from .gate) (now (wires .entry))) r (now (wires .exit)) ⌝ }
+    ensures { λ r. ⌜ Stops (now (source .entry)) front
+        (runOn role (front .inputs) (drop (from .gate) (content (now (source .entry)) .gates)) (from .gate) (now (wires .entry)))
+        r (now (wires .exit)) ⌝ }
 {
     let inputs = front.inputs;
     let gates = front.gates;
@@ -126,7 +128,9 @@ pub fn proceed(
     wires: &mut [u8; 4096],
 ) -> Reached
     requires { ⌜ HasFront (now source) front × CanProceed (now source) front asked spot (now shares) (now triples) ⌝ }
-    ensures { λ r. ⌜ Stops (now (source .entry)) front (proceeded (now (source .entry)) front asked spot (now (shares .entry)) (now (triples .entry)) (now (wires .entry))) r (now (wires .exit)) ⌝ }
+    ensures { λ r. ⌜ Stops (now (source .entry)) front
+        (proceeded (now (source .entry)) front asked spot (now (shares .entry)) (now (triples .entry)) (now (wires .entry)))
+        r (now (wires .exit)) ⌝ }
 {
     if asked.waits {
         give_and(asked, spot, front.inputs + spot.gate, triples, wires);
@@ -150,7 +154,8 @@ pub fn proceed(
 // Writes the shares of the output wires.
 pub fn write_outputs(source: &[u8], front: Front, wires: &[u8; 4096], output: &mut [u8])
     requires { ⌜ HasFront (now source) front × (front .outputs ≤ length (now output)) ⌝ }
-    ensures { λ _. ⌜ now (output .exit) ≡ atWires (now (wires .entry)) (content (now (source .entry)) .outputs) ++ drop (front .outputs) (now (output .entry)) ⌝ }
+    ensures { λ _. ⌜ now (output .exit)
+        ≡ atWires (now (wires .entry)) (content (now (source .entry)) .outputs) ++ drop (front .outputs) (now (output .entry)) ⌝ }
 {
     let outputs = front.outputs;
     let limit = front.inputs + front.gates;

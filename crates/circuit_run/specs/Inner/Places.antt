@@ -13,7 +13,8 @@ use Rattle.circuit.specs.Answer.{content, HasFront}
 use Rattle.circuit.specs.Reading.{readGates}
 use Rattle.circuit.specs.declared.Front.{Front}
 use Rattle.number.specs.Reading.{Whole}
-use Rattle.circuit_run.specs.Step.{gateAt, andsBefore, firstWire, secondWire, tripleFirst, tripleSecond, tripleThird, stateAdmitted, flipped, andShare, freshWires, runOn, runWith, StepLent, StepOutcome, stepRun, acceptedStep}
+use Rattle.circuit_run.specs.Step.{gateAt, andsBefore, firstWire, secondWire, tripleFirst, tripleSecond, tripleThird, stateAdmitted, flipped}
+use Rattle.circuit_run.specs.Step.{andShare, freshWires, runOn, runWith, StepLent, StepOutcome, stepRun, acceptedStep}
 use Rattle.circuit_run.specs.Inner.Tests.{askedTests}
 use Rattle.circuit_run.specs.declared.checking.Checked.{Checked}
 use Rattle.circuit_run.specs.declared.input.Asked.{Asked}

@@ -1,5 +1,6 @@
 -- `circuit_run::running::proceed` meets its contract: one law for each need. Assumes nothing.
-use Rattle.circuit_run.proofs.Proceeds.{and-wire, and-first, and-second, and-triple, and-room, gate-after, ands-after, and-after, and-returns, fresh-start, fresh-returns}
+use Rattle.circuit_run.proofs.Proceeds.{and-wire, and-first, and-second, and-triple, and-room, gate-after, ands-after, and-after, and-returns}
+use Rattle.circuit_run.proofs.Proceeds.{fresh-start, fresh-returns}
 use borrow.Author.Needs.{needs}
 use Rattle.circuit_run.proofs.running.proceed.Statement.{statement}
 use Rattle.circuit_run.proofs.running.proceed.Tie as tie

@@ -2,7 +2,8 @@
 -- was there. The measure is the wires left. Assumes nothing.
 use Prim.Native.Nat.{_-_}
 use native.Mathlib.Omega.{arith}
-use Rattle.circuit_run.proofs.Wires.{OutputTurn, output-start, limit-fits, output-length, output-room, output-known, output-wire, output-next, output-done}
+use Rattle.circuit_run.proofs.Wires.{OutputTurn, output-start, limit-fits, output-length, output-room, output-known, output-wire, output-next}
+use Rattle.circuit_run.proofs.Wires.{output-done}
 use Rattle.circuit_run.proofs.running.write_outputs.Statement.{statement}
 use Rattle.circuit_run.proofs.running.write_outputs.Tie as tie
 
