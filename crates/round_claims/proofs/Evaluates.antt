@@ -12,7 +12,7 @@ use Rattle.circuit.specs.Content.{Circuit, isAnd}
 use Rattle.circuit.specs.Levels.{levels, levelOf}
 use Rattle.circuit.specs.Reading.{readCircuit}
 use Rattle.circuit.specs.Value.{atWires}
-use Rattle.circuit_round.specs.Round.{RoundLent, RoundOutcome, shareOf, sharesIn, wiresAfter}
+use Rattle.circuit_round.specs.Round.{RoundLent, RoundOutcome, shareOf, sharesIn}
 use Rattle.circuit_run.specs.Step.{gateAt, andsBefore}
 use Rattle.evaluation.proofs.AndGates.{and-inside, gate-of}
 use Rattle.evaluation.proofs.Calls.{call-at, made-at}
@@ -21,8 +21,7 @@ use Rattle.evaluation.proofs.Transcripts.{outputs-same}
 use Rattle.evaluation.specs.Inner.Transcript.{BitsByAnd, wireShares, Transcript}
 use Rattle.number.specs.Reading.{Whole}
 use Rattle.round_claims.proofs.Bytes.{share-at}
-use Rattle.round_claims.proofs.Gives.{outputs-are}
-use Rattle.round_claims.proofs.Progresses.{progress}
+use Rattle.round_claims.proofs.Progresses.{finished-outputs, progress}
 use Rattle.round_claims.proofs.Rounds.{share-bits, triple-bits, one-each, took-bytes}
 use Rattle.round_claims.proofs.Stages.{and-wire, and-level, took-some}
 use Rattle.round_claims.proofs.Transcripts.{of-rounds}
@@ -48,8 +47,7 @@ module _ (circuit : List ℕ) (c : Circuit) (read : readCircuit circuit ≡ Whol
   pub wrote : outputsBy (m .gave) ≡ atWires (sharesIn (m .gave .state .wires)) (c .outputs)
   wrote =
       let t = took-some circuit c read calls stays k m e in
-      ap outputsBy (t .1 ∙ t .2 .is)
-      ∙ outputs-are c (m .got) (wiresAfter c (m .got) (t .0 .wires)) (subst Finished (t .1 ∙ t .2 .is) finished)
+      ap outputsBy (t .1) ∙ finished-outputs (t .2) (subst Finished (t .1) finished)
       ∙ ap (λ (b : List ℕ). atWires (sharesIn b) (c .outputs)) (sym (ap (λ (o : RoundOutcome). o .state .wires) (t .1) ∙ took-bytes (t .2)))
 
 -- ---- a run is a transcript
