@@ -36,7 +36,11 @@ pub greatest-below : (ns : List ℕ) (m : ℕ) → ((w : ℕ) → w < length ns 
 unfolding greatest
 greatest-below [] m all = omega arith
 greatest-below (n ∷ ns) m all =
-    omega (arith, greater-below n (greatest ns) (suc m) (omega (arith, all 0 (omega arith))) (omega (arith, greatest-below ns m (λ w h. all (suc w) (omega arith)))))
+    omega (
+      arith,
+      greater-below n (greatest ns) (suc m) (omega (arith, all 0 (omega arith)))
+          (omega (arith, greatest-below ns m (λ w h. all (suc w) (omega arith)))),
+    )
 
 -- ---- the levels of a circuit
 
@@ -59,7 +63,8 @@ module _ (c : Circuit) where
       fold-keeps gateLevel (c .gates) (replicate (c .inputs) 0) w (omega (arith, length-replicate {A = ℕ} (c .inputs) 0))
       ∙ getD-replicate (c .inputs) w 0 0 h
 
-  pub level-gate : GatesBelow (c .inputs) (c .gates) → (i : ℕ) → i < length (c .gates) → levelOf c (c .inputs + i) ≡ gateLevel (getD (c .gates) i (Not 0)) (levels c)
+  pub level-gate : GatesBelow (c .inputs) (c .gates) → (i : ℕ) → i < length (c .gates)
+      → levelOf c (c .inputs + i) ≡ gateLevel (getD (c .gates) i (Not 0)) (levels c)
   unfolding levels
   level-gate ok i h =
       subst (λ (n : ℕ). getD (levels c) (n + i) 0 ≡ gateLevel (getD (c .gates) i (Not 0)) (take (n + i) (levels c))) (length-replicate {A = ℕ} (c .inputs) 0)

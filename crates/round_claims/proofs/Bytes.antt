@@ -11,7 +11,8 @@ use Rattle.circuit.proofs.Folds.{fold-length, fold-keeps, fold-holds, below-at}
 use Rattle.circuit.specs.Admitted.{GateBelow, GatesBelow}
 use Rattle.circuit.specs.Content.{Gate, Xor, And, Not, Circuit}
 use Rattle.circuit.specs.Value.{overGates}
-use Rattle.circuit_round.specs.Round.{RoundLent, waits, isKnown, shareOf, knownAs, sharesIn, waitingBefore, inputBytes, ready, openedShare, computed, gateByte, wiresAfter}
+use Rattle.circuit_round.specs.Round.{RoundLent, waits, isKnown, shareOf, knownAs, sharesIn}
+use Rattle.circuit_round.specs.Round.{waitingBefore, inputBytes, ready, openedShare, computed, gateByte, wiresAfter}
 use Rattle.circuit_run.specs.Step.{gateAt, maskedFirst, maskedSecond}
 
 -- ---- inputs

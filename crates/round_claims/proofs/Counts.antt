@@ -113,7 +113,8 @@ module _ (c : Circuit) (triples bytes : List ℕ) where
       let same : i + 1 + j ≡ i + suc j = omega arith in
       of (waits (getD bytes (c .inputs + i) 0)) (waiting (take j (drop (c .inputs + (i + 1)) bytes)))
       (wait-at j (c .inputs + i) bytes
-      ∙ ap (λ (n : ℕ). one-if (waits (getD bytes (c .inputs + i) 0)) + waiting (take j (drop n bytes))) {x = c .inputs + i + 1} {y = c .inputs + (i + 1)} (omega arith))
+      ∙ ap (λ (n : ℕ). one-if (waits (getD bytes (c .inputs + i) 0)) + waiting (take j (drop n bytes)))
+      {x = c .inputs + i + 1} {y = c .inputs + (i + 1)} (omega arith))
       (later .0 ∙ ap (maskedFirst c triples (sharesIn bytes)) same) (later .1 ∙ ap (maskedSecond c triples (sharesIn bytes)) same)
     where
       of : (b : Bool) (p : ℕ) {q x y : ℕ} → q ≡ one-if b + p → getD (bitsFrom (i + 1) gs) (2 * p) 0 ≡ x → getD (bitsFrom (i + 1) gs) (2 * p + 1) 0 ≡ y

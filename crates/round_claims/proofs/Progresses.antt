@@ -19,7 +19,8 @@ use Rattle.circuit.specs.Content.{Gate, Xor, And, Not, Circuit, isAnd}
 use Rattle.circuit.specs.Levels.{levels, levelOf}
 use Rattle.circuit.specs.Reading.{readCircuit}
 use Rattle.circuit.specs.Value.{atWires}
-use Rattle.circuit_round.specs.Round.{RoundLent, RoundOutcome, waits, isKnown, knownAs, stateWith, sharesIn, waitingBefore, waitingIn, ready, computed, wiresAfter, round}
+use Rattle.circuit_round.specs.Round.{RoundLent, RoundOutcome, waits, isKnown, knownAs, stateWith}
+use Rattle.circuit_round.specs.Round.{sharesIn, waitingBefore, waitingIn, ready, computed, wiresAfter, round}
 use Rattle.circuit_round.specs.declared.RoundState.{RoundState}
 use Rattle.circuit_run.specs.Step.{gateAt}
 use Rattle.evaluation.proofs.AndGates.{and-inside}
@@ -86,17 +87,22 @@ module _ {c : Circuit} {l : RoundLent} {s : RoundState} (t : Took c l s) where
       where
         of : (b : Bool) → isKnown (getD before w 0) ≡ b → isKnown (getD after w 0) ≡ true
         of true e = ap isKnown (keeps w e) ∙ e
-        of false e = ap isKnown (at-input c l before (one-each t) below w h ∙ choose-no (getD before w 0) _ e) ∙ high (knownAs (getD (l .shares) w 0)) (omega arith)
+        of false e =
+            ap isKnown (at-input c l before (one-each t) below w h ∙ choose-no (getD before w 0) _ e)
+            ∙ high (knownAs (getD (l .shares) w 0)) (omega arith)
 
-    gate-known : (i : ℕ) → i < length (c .gates) → ((w : ℕ) → w < c .inputs + i → isKnown (getD after w 0) ≡ true) → isKnown (getD after (c .inputs + i) 0) ≡ true
+    gate-known : (i : ℕ) → i < length (c .gates) → ((w : ℕ) → w < c .inputs + i → isKnown (getD after w 0) ≡ true)
+        → isKnown (getD after (c .inputs + i) 0) ≡ true
     unfolding computed ready GateBelow
     gate-known i h lower = of (isKnown (getD before w 0)) refl
       where
         w : ℕ
         w = c .inputs + i
 
-        made : (waited : Bool) (g : Gate) → GateBelow w g → getD after w 0 ≡ computed c l i (waitingBefore c before i) waited g after → isKnown (getD after w 0) ≡ true
-        made waited (Xor a b) ok is = high (getD after w 0) (omega (arith, is ∙ choose-yes _ 0 (ap₂ (λ (p q : Bool). p && q) (lower a (ok .0)) (lower b (ok .1)))))
+        made : (waited : Bool) (g : Gate) → GateBelow w g → getD after w 0 ≡ computed c l i (waitingBefore c before i) waited g after
+            → isKnown (getD after w 0) ≡ true
+        made waited (Xor a b) ok is =
+            high (getD after w 0) (omega (arith, is ∙ choose-yes _ 0 (ap₂ (λ (p q : Bool). p && q) (lower a (ok .0)) (lower b (ok .1)))))
         made true (And a b) ok is = high (getD after w 0) (omega (arith, is))
         made false (And a b) ok is =
             let e : getD after w 0 ≡ 1 = is ∙ choose-yes 1 0 (ap₂ (λ (p q : Bool). p && q) (lower a (ok .0)) (lower b (ok .1))) in

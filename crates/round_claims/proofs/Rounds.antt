@@ -16,7 +16,8 @@ use Rattle.answer.specs.Tests.{firstFault, AllMet}
 use Rattle.circuit.proofs.Refusals.{refused-numbered}
 use Rattle.circuit.specs.Content.{Circuit}
 use Rattle.circuit.specs.Reading.{readCircuit}
-use Rattle.circuit_round.specs.Round.{RoundLent, RoundOutcome, roundOutcome, stateWith, waitingIn, roundTests, wiresAfter, bitsToSend, withBits, withOutputs, acceptedRound, refusedRound, round}
+use Rattle.circuit_round.specs.Round.{RoundLent, RoundOutcome, roundOutcome, stateWith, waitingIn, roundTests}
+use Rattle.circuit_round.specs.Round.{wiresAfter, bitsToSend, withBits, withOutputs, acceptedRound, refusedRound, round}
 use Rattle.circuit_round.specs.declared.RoundState.{RoundState}
 use Rattle.number.proofs.Places.{choose-yes, choose-no}
 use Rattle.number.proofs.Records.{read-refused, read-whole}
@@ -73,7 +74,8 @@ module _ {c : Circuit} (l : RoundLent) (s : RoundState) (f : readCircuit (l .cir
   number-is : round l s .number ≡ firstFault (roundTests c l (s .wires))
   number-is =
       ap (λ (o : RoundOutcome). o .number) (sym read-on)
-      ∙ number-of (λ (o : RoundOutcome). o .number) (refusedRound l s) _ (λ n. refl) (accepted-number c l (wiresAfter c l (s .wires))) (roundTests c l (s .wires))
+      ∙ number-of (λ (o : RoundOutcome). o .number) (refusedRound l s) _ (λ n. refl) (accepted-number c l (wiresAfter c l (s .wires)))
+      (roundTests c l (s .wires))
 
   -- accepted exactly if every test is met
   pub takes : AllMet (roundTests c l (s .wires)) ↔ round l s .number ≡ 0
@@ -114,7 +116,8 @@ took-on {c} l s f e =
       read = f;
       met = takes l s f .1 e;
       is =
-          sym (accepted-with (roundTests c l (s .wires)) (refusedRound l s) (acceptedRound c l (wiresAfter c l (s .wires))) _ (round l s .number) (number-is l s f) e refl
+          sym (accepted-with (roundTests c l (s .wires)) (refusedRound l s) (acceptedRound c l (wiresAfter c l (s .wires))) _ (round l s .number)
+          (number-is l s f) e refl
           ∙ read-on l s f);
     }
 

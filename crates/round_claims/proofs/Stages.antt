@@ -19,7 +19,8 @@ use Rattle.circuit.specs.Admitted.{mostWires, GateBelow, GatesBelow}
 use Rattle.circuit.specs.Content.{Gate, Xor, And, Not, Circuit, isAnd}
 use Rattle.circuit.specs.Levels.{greater, gateLevel, levels, levelOf, andsOf, andsAtLevel}
 use Rattle.circuit.specs.Reading.{readCircuit}
-use Rattle.circuit_round.specs.Round.{RoundLent, RoundOutcome, waits, isKnown, shareOf, knownAs, waiting, waitingBefore, waitingIn, ready, openedShare, computed, wiresAfter, round}
+use Rattle.circuit_round.specs.Round.{RoundLent, RoundOutcome, waits, isKnown, shareOf, knownAs, waiting}
+use Rattle.circuit_round.specs.Round.{waitingBefore, waitingIn, ready, openedShare, computed, wiresAfter, round}
 use Rattle.circuit_round.specs.declared.RoundState.{RoundState}
 use Rattle.circuit_run.specs.Step.{gateAt, flipped}
 use Rattle.evaluation.proofs.Calls.{call-before}
@@ -110,69 +111,71 @@ module _ (P : ℕ → ℕ → Type 0) (high-at : (w x : ℕ) → P w x → 2 ≤
 
   -- a gate that was not known
   module _ (i : ℕ) (h : i < length (c .gates)) (lower : (v : ℕ) → v < c .inputs + i → Here v) where
-    abbrev w : ℕ
-    w = c .inputs + i
+    abbrev wire : ℕ
+    wire = c .inputs + i
 
-    abbrev before-w : ℕ
-    before-w = getD before w 0
+    abbrev before-wire : ℕ
+    before-wire = getD before wire 0
 
     abbrev step : Bool → Gate → ℕ
     step waited g = computed c l i (waitingBefore c before i) waited g after
 
-    no-and : {A : Type 0} (g : Gate) → gateAt c i ≡ g → isAnd g ≡ false → isAndWire c w ≡ true → A
+    no-and : {A : Type 0} (g : Gate) → gateAt c i ≡ g → isAnd g ≡ false → isAndWire c wire ≡ true → A
     no-and g e f t = absurd (true≢false (sym t ∙ and-wire c i ∙ ap isAnd e ∙ f))
 
-    level-is : (g : Gate) → gateAt c i ≡ g → levelOf c w ≡ gateLevel g (levels c)
+    level-is : (g : Gate) → gateAt c i ≡ g → levelOf c wire ≡ gateLevel g (levels c)
     level-is g e = level-gate c ok i h ∙ ap (λ (k : Gate). gateLevel k (levels c)) e
 
-    waited : (g : Gate) → gateAt c i ≡ g → GateBelow w g → isAndWire c w ≡ true → levelOf c w ≡ m → getD after w 0 ≡ step true g → Here w
+    waited : (g : Gate) → gateAt c i ≡ g → GateBelow wire g → isAndWire c wire ≡ true → levelOf c wire ≡ m → getD after wire 0 ≡ step true g → Here wire
     unfolding computed GateBelow gateLevel
     waited (Xor a b) e below t lev is = no-and (Xor a b) e refl t
     waited (And a b) e below t lev is =
         let from = greater-from (levelOf c a) (levelOf c b) in
-        let top : levelOf c w ≡ 1 + greater (levelOf c a) (levelOf c b) = level-is (And a b) e in
+        let top : levelOf c wire ≡ 1 + greater (levelOf c a) (levelOf c b) = level-is (And a b) e in
         known (omega arith)
-        (subst (P w) (sym is)
+        (subst (P wire) (sym is)
         (closed .in-and i a b h e lev (is-known (lower a (below .0)) (omega (arith, top, from))) (is-known (lower b (below .1)) (omega (arith, top, from)))))
     waited (Not a) e below t lev is = no-and (Not a) e refl t
 
-    fresh : (g : Gate) → gateAt c i ≡ g → GateBelow w g → m ≤ levelOf c w → (isAndWire c w ≡ true → m < levelOf c w) → getD after w 0 ≡ step false g → Here w
+    fresh : (g : Gate) → gateAt c i ≡ g → GateBelow wire g → m ≤ levelOf c wire → (isAndWire c wire ≡ true → m < levelOf c wire) → getD after wire 0 ≡ step false g → Here wire
     unfolding computed ready GateBelow gateLevel
     fresh (Xor a b) e below k n is = of (pair (P a) (P b) (high-at a) (high-at b) (lower a (below .0)) (lower b (below .1)))
       where
-        of : Pair (P a) (P b) (greater (levelOf c a) (levelOf c b)) (suc m) (getD after a 0) (getD after b 0) → Here w
+        of : Pair (P a) (P b) (greater (levelOf c a) (levelOf c b)) (suc m) (getD after a 0) (getD after b 0) → Here wire
         of (both r lev p q) =
             known (omega (arith, level-is (Xor a b) e))
-            (subst (P w) (sym (is ∙ choose-yes _ 0 r ∙ ap₂ (λ (x y : ℕ). knownAs (bitXor x y)) (share-at after a) (share-at after b))) (closed .in-xor i a b _ _ h e p q))
+            (subst (P wire) (sym (is ∙ choose-yes _ 0 r ∙ ap₂ (λ (x y : ℕ). knownAs (bitXor x y)) (share-at after a) (share-at after b)))
+            (closed .in-xor i a b _ _ h e p q))
         of (not-both r lev) = unknown (omega (arith, level-is (Xor a b) e)) (no-and (Xor a b) e refl) (is ∙ choose-no _ 0 r)
     fresh (And a b) e below k n is = of (pair (P a) (P b) (high-at a) (high-at b) (lower a (below .0)) (lower b (below .1)))
       where
-        and : isAndWire c w ≡ true
+        and : isAndWire c wire ≡ true
         and = and-wire c i ∙ ap isAnd e
 
-        of : Pair (P a) (P b) (greater (levelOf c a) (levelOf c b)) (suc m) (getD after a 0) (getD after b 0) → Here w
+        of : Pair (P a) (P b) (greater (levelOf c a) (levelOf c b)) (suc m) (getD after a 0) (getD after b 0) → Here wire
         of (both r lev p q) = opened and (omega (arith, level-is (And a b) e, n and)) (is ∙ choose-yes 1 0 r)
         of (not-both r lev) = unknown (omega (arith, level-is (And a b) e)) (λ t. omega (arith, level-is (And a b) e)) (is ∙ choose-no 1 0 r)
     fresh (Not a) e below k n is = of (lower a below)
       where
-        of : Here a → Here w
+        of : Here a → Here wire
         of (known lev p) =
             known (omega (arith, level-is (Not a) e))
-            (subst (P w) (sym (is ∙ choose-yes _ 0 (high _ (high-at a _ p)) ∙ ap (λ (x : ℕ). knownAs (flipped (l .role) x)) (share-at after a))) (closed .in-not i a _ h e p))
+            (subst (P wire) (sym (is ∙ choose-yes _ 0 (high _ (high-at a _ p)) ∙ ap (λ (x : ℕ). knownAs (flipped (l .role) x)) (share-at after a)))
+            (closed .in-not i a _ h e p))
         of (opened t lev z) =
             unknown (omega (arith, level-is (Not a) e)) (no-and (Not a) e refl) (is ∙ choose-no _ 0 (low (getD after a 0) (omega arith)))
         of (unknown lev t z) =
             unknown (omega (arith, level-is (Not a) e)) (no-and (Not a) e refl) (is ∙ choose-no _ 0 (low (getD after a 0) (omega arith)))
 
     -- its byte, by the byte before
-    at : getD after w 0 ≡ choose (isKnown before-w) before-w (step (waits before-w) (gateAt c i))
+    at : getD after wire 0 ≡ choose (isKnown before-wire) before-wire (step (waits before-wire) (gateAt c i))
     at = at-gate c l before one ok i h
 
-    by : (b : ℕ) → before-w ≡ b → getD after w 0 ≡ choose (isKnown b) b (step (waits b) (gateAt c i))
+    by : (b : ℕ) → before-wire ≡ b → getD after wire 0 ≡ choose (isKnown b) b (step (waits b) (gateAt c i))
     by b e = at ∙ ap (λ (x : ℕ). choose (isKnown x) x (step (waits x) (gateAt c i))) e
 
-    stage-gate : Stage (P w) (isAndWire c w) (levelOf c w) m before-w → Here w
-    stage-gate (known k p) = known (omega arith) (subst (P w) (sym (at ∙ choose-yes before-w _ (high _ (high-at w _ p)))) p)
+    stage-gate : Stage (P wire) (isAndWire c wire) (levelOf c wire) m before-wire → Here wire
+    stage-gate (known k p) = known (omega arith) (subst (P wire) (sym (at ∙ choose-yes before-wire _ (high _ (high-at wire _ p)))) p)
     stage-gate (opened t e z) = waited (gateAt c i) refl (below-at (c .gates) (c .inputs) i ok h) t e (by 1 z)
     stage-gate (unknown k n z) = fresh (gateAt c i) refl (below-at (c .gates) (c .inputs) i ok h) k n (by 0 z)
 

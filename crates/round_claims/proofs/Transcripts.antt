@@ -139,7 +139,8 @@ module _ (circuit : List ℕ) (c : Circuit) (read : readCircuit circuit ≡ Whol
             arith,
             is,
             opened-bit c i a b g role triples S (far (andsBefore c i)) triple-bit (p .1) (q .1)
-                (omega (arith, ap (λ (f : ℕ × ℕ). f .0) bits, far-bits t (2 * place))) (omega (arith, ap (λ (f : ℕ × ℕ). f .1) bits, far-bits t (2 * place + 1))),
+                (omega (arith, ap (λ (f : ℕ × ℕ). f .0) bits, far-bits t (2 * place)))
+                (omega (arith, ap (λ (f : ℕ × ℕ). f .1) bits, far-bits t (2 * place + 1))),
           ),
         )
 
@@ -185,9 +186,11 @@ module _ (circuit : List ℕ) (c : Circuit) (read : readCircuit circuit ≡ Whol
         ∙ ap (pairAt (bitsToSend c triples bytes)) (sym place)
         ∙ ap₂ (λ (x y : ℕ). (x, y))
         (at .0 ∙ ap (maskedFirst c triples (sharesIn bytes)) (zero-add i)
-        ∙ ap (λ (x : ℕ). bitXor x (tripleFirst triples (andsBefore c i))) (share-is (firstWire (gateAt c i)) (omega (arith, wires .0, h)) (omega (arith, low .0, lev))))
+        ∙ ap (λ (x : ℕ). bitXor x (tripleFirst triples (andsBefore c i)))
+        (share-is (firstWire (gateAt c i)) (omega (arith, wires .0, h)) (omega (arith, low .0, lev))))
         (at .1 ∙ ap (maskedSecond c triples (sharesIn bytes)) (zero-add i)
-        ∙ ap (λ (x : ℕ). bitXor x (tripleSecond triples (andsBefore c i))) (share-is (secondWire (gateAt c i)) (omega (arith, wires .1, h)) (omega (arith, low .1, lev))))
+        ∙ ap (λ (x : ℕ). bitXor x (tripleSecond triples (andsBefore c i)))
+        (share-is (secondWire (gateAt c i)) (omega (arith, wires .1, h)) (omega (arith, low .1, lev))))
 
   pub of-rounds : ByFar role c shares triples far (roundsOf calls)
   of-rounds = record { has = has; sends = sends }
