@@ -7,7 +7,7 @@ use Prim.Native.Nat.{ℕ, zero, suc}
 use lib.Dec.{eqb, eqb·suc-zero}
 use borrow.Author.Tests.{ne-eqb}
 use Rattle.answer.specs.Tests.{Test, firstFault, AllMet}
-use Rattle.answer.specs.Outcome.{byNumber, answered, Outcome, refusedNone, refusedOne, wrote}
+use Rattle.answer.specs.Outcome.{byNumber, answered, Outcome, TwoWritten, refusedNone, refusedOne, refusedTwo, wrote}
 use Rattle.answer.specs.Inner.Numbered.{numbered}
 use Rattle.answer.proofs.Faults.{all-met, admitted-by, no-fault}
 
@@ -47,7 +47,7 @@ refused-is : {Written Lent : Type 0} (zeros : Written) (lent : Lent) (tests : Li
     → record { number = n; written = zeros; lent = lent } ≡ answered tests (λ k. record { number = k; written = zeros; lent = lent }) acceptance
 refused-is zeros lent tests acceptance n e h = refused-with tests _ acceptance _ n e h refl
 
--- as both kinds of answers have it
+-- as the three kinds of answers have it
 module _ {Lent : Type 0} (lent : Lent) (tests : List Test) (n : ℕ) (e : n ≡ firstFault tests) (h : eqb n 0 ≡ false) where
   pub refused-none : (acceptance : Outcome (Unit {0}) Lent) → record { number = n; written = tt; lent = lent } ≡ answered tests (refusedNone lent) acceptance
   refused-none acceptance = refused-is tt lent tests acceptance n e h
@@ -55,8 +55,12 @@ module _ {Lent : Type 0} (lent : Lent) (tests : List Test) (n : ℕ) (e : n ≡ 
   pub refused-one : (acceptance : Outcome ℕ Lent) → record { number = n; written = 0; lent = lent } ≡ answered tests (refusedOne lent) acceptance
   refused-one acceptance = refused-is 0 lent tests acceptance n e h
 
+  pub refused-two : (acceptance : Outcome TwoWritten Lent)
+      → record { number = n; written = record { first = 0; second = 0 }; lent = lent } ≡ answered tests (refusedTwo lent) acceptance
+  refused-two acceptance = refused-is (record { first = 0; second = 0 }) lent tests acceptance n e h
+
 -- closes each refused return
-pub ruleset refused = (refused-none, refused-one, ne-eqb)
+pub ruleset refused = (refused-none, refused-one, refused-two, ne-eqb)
 
 -- ---- accepted exactly if all tests are met
 

@@ -4,6 +4,7 @@ use mathlib.Core.List.{List}
 use Prim.Native.Nat.{ℕ, zero, suc}
 use Rattle.answer.specs.Numbers.{accepted}
 use Rattle.answer.specs.declared.OneLength.{OneLength}
+use Rattle.answer.specs.declared.TwoLengths.{TwoLengths}
 use Rattle.answer.specs.Tests.{Test, firstFault}
 
 -- by a number: what a refused call gives, or what an accepted one, of number 0, gives
@@ -15,29 +16,40 @@ byNumber (suc n) refusal acceptance = refusal (suc n)
 unfoldable pub answered : {O : Type 0} → List Test → (ℕ → O) → O → O
 answered tests refusal acceptance = byNumber (firstFault tests) refusal acceptance
 
--- ---- calls that answer by a number, or by a number and a length
+-- ---- calls that answer by a number and lengths
 
--- the number, the length written where there is one, and all that is lent
+-- the number, what was written to each output buffer, and all that is lent
 pub record Outcome (Written Lent : Type 0) : Type 0 where
   pub number : ℕ
   pub written : Written
   pub lent : Lent
 
+-- the lengths written to two output buffers
+pub record TwoWritten : Type 0 where
+  pub first : ℕ
+  pub second : ℕ
+
 -- what a returned number, and all that is lent at exit, say
 abbrev pub outcomeNone : {Lent : Type 0} → ℕ → Lent → Outcome (Unit {0}) Lent
 outcomeNone number lent = record { number = number; written = tt; lent = lent }
 
--- the same of an answer with a length
+-- the same of an answer with one length, and of one with two
 abbrev pub outcomeOne : {Lent : Type 0} → OneLength → Lent → Outcome ℕ Lent
 outcomeOne r lent = record { number = r .number; written = r .written; lent = lent }
 
--- a refused call: its number, zero for the length, and all that is lent as it was
+abbrev pub outcomeTwo : {Lent : Type 0} → TwoLengths → Lent → Outcome TwoWritten Lent
+outcomeTwo r lent = record { number = r .number; written = record { first = r .«first_written»; second = r .«second_written» }; lent = lent }
+
+-- a refused call: its number, zero for each length, and all that is lent as it was
 abbrev pub refusedNone : {Lent : Type 0} → Lent → ℕ → Outcome (Unit {0}) Lent
 refusedNone lent n = record { number = n; written = tt; lent = lent }
 
 abbrev pub refusedOne : {Lent : Type 0} → Lent → ℕ → Outcome ℕ Lent
 refusedOne lent n = record { number = n; written = 0; lent = lent }
 
--- an accepted call: 0, its length, and all that is lent as it leaves it
+abbrev pub refusedTwo : {Lent : Type 0} → Lent → ℕ → Outcome TwoWritten Lent
+refusedTwo lent n = record { number = n; written = record { first = 0; second = 0 }; lent = lent }
+
+-- an accepted call: 0, its lengths, and all that is lent as it leaves it
 abbrev pub wrote : {Written Lent : Type 0} → Written → Lent → Outcome Written Lent
 wrote written lent = record { number = accepted; written = written; lent = lent }
