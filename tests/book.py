@@ -73,7 +73,7 @@ blocks = re.search(r"(?s)## A block in four forms\n(.*?)\n## ", book.notation)[1
 names = {d.name for d in book.shown}
 for line in re.findall(r"(?m)^\| [^|]* \| [^|]* \| (.*) \|$", blocks.split("| by |")[1]):
     faults += [f"docs/NOTATION.md names {w}, and there is no such definition" for w in re.findall(r"`([^`. ]+)`", line) if w not in names]
-for name in re.findall(r"`(\w+) = ", book.notation) + ["Lists", "Claim", "deal", "dealt", "inputWith", "Setting"]:
+for name in re.findall(r"`(\w+) = ", book.notation) + ["Lists", "Claim", "deal", "outcomeTwo", "lentDeal", "inputWith", "Setting"]:
     if name not in names:
         faults.append(f"docs/NOTATION.md reads {name} aloud, and there is no such definition")
 squeezed = lambda text: " ".join(text.split())

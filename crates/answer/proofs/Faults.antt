@@ -65,6 +65,14 @@ module _ (a b most : ℕ) (e : most ≡ b) where
   pub above-given : most < a → isMet (a atMost b) ≡ false
   above-given h = above a b (omega arith)
 
+-- by a function that gives what has to be at most that
+module _ (a b given : ℕ) (e : given ≡ a) where
+  pub given-at-most : given ≤ b → isMet (a atMost b) ≡ true
+  given-at-most h = at-most a b (omega arith)
+
+  pub given-above : b < given → isMet (a atMost b) ≡ false
+  given-above h = above a b (omega arith)
+
 module _ (limit : ℕ) (bytes : List ℕ) (t : Bool) where
   pub none-so : t ≡ anyAbove limit bytes → t ≡ false → isMet (allAtMost limit bytes) ≡ true
   unfolding isMet
@@ -135,7 +143,7 @@ meets (allAtMost limit bytes) s = rw (above-none limit bytes (λ k h. s k))
 meets (holds t) s = s
 
 -- a fault's number is not 0
-passed : (t : Bool) (n rest : ℕ) → choose t rest (suc n) ≡ 0 → (t ≡ true) × (rest ≡ 0)
+pub passed : (t : Bool) (n rest : ℕ) → choose t rest (suc n) ≡ 0 → (t ≡ true) × (rest ≡ 0)
 passed true n rest e = (refl, e)
 passed false n rest e = absurd (omega arith)
 

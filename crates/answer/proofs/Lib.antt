@@ -2,4 +2,5 @@
 pub mod Above
 pub mod Products
 pub mod Faults
+pub mod Joined
 pub mod Answers

@@ -64,7 +64,7 @@ pub acceptance : Acceptance
 acceptance =
     record {
       dealing = λ I a b. (
-        (λ h. ap (λ d. d .number) (dealing.deal-accepted I a b (record { admitted = h .0; noise-room = h .1; scalar-room = h .2 }))),
+        (λ h. dealing.deal-accepted I a b (record { admitted = h .0; noise-room = h .1; scalar-room = h .2 })),
         (λ z. let A = dealing.deal-number I a b z in (A .admitted, A .noise-room, A .scalar-room)),
       );
       noise-offline = λ I M a b z noise v h k. noiseLaws.offline-accepts _ noise v (dealing.noise-reads I a b z M) h k .number;

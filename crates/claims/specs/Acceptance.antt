@@ -7,7 +7,7 @@ use mathlib.Core.Logic.{_↔_}
 use Prim.Native.Nat.{ℕ, _+_, _*_, _^_, _≤_}
 use lib.ListN.{length, take}
 use Rattle.dealing.specs.Admitted.{Admitted, InMemory}
-use Rattle.dealing.specs.Deal.{deal}
+use Rattle.dealing.specs.Deal.{deal, noiseRecordOf, scalarRecordOf}
 use Rattle.dealing.specs.Input.{Input}
 use Rattle.dealing.specs.Parts.{noisePart, scalarPart}
 use Rattle.dealing.specs.Vectors.{field}
@@ -24,10 +24,10 @@ pub record Acceptance : Type 0 where
   -- each end's offline call on its own record, with room for the vectors
   pub noise-offline : (I : Input) → InMemory I → (a b : List ℕ) → deal I a b .number ≡ 0 → (noise v : List ℕ)
       → 2 ^ I .depth ≤ length noise → 2 ^ I .depth * field I .elements .width ≤ length v
-      → noiseOffline.offline (take (deal I a b .firstWritten) (deal I a b .noiseRecord)) noise v .number ≡ 0
+      → noiseOffline.offline (noiseRecordOf (deal I a b)) noise v .number ≡ 0
   pub scalar-offline : (I : Input) → InMemory I → (a b : List ℕ) → deal I a b .number ≡ 0 → (w delta : List ℕ)
       → 2 ^ I .depth * field I .elements .width ≤ length w → 2 ≤ length delta
-      → scalarOffline.offline (take (deal I a b .secondWritten) (deal I a b .scalarRecord)) w delta .number ≡ 0
+      → scalarOffline.offline (scalarRecordOf (deal I a b)) w delta .number ≡ 0
   -- a window within n, with room for its outputs
   pub noise-window : (S : Setting) (c : NoiseCall) → c .first + c .count ≤ S .input .outputs
       → c .count ≤ length (c .uOut) → c .count * field (S .input) .elements .width ≤ length (c .vOut)

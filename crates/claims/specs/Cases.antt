@@ -70,7 +70,7 @@ smallDealing field =
 
 -- the number, and the lengths of both records
 abbrev dealtLengths : Dealt → List ℕ
-dealtLengths d = d .number ∷ d .firstWritten ∷ d .secondWritten ∷ []
+dealtLengths d = d .number ∷ d .written .first ∷ d .written .second ∷ []
 
 -- the starred cases, in document 01's order; records have the 16 bytes of the label (document 02, 8) and the byte of g (document
 -- 02, 10) besides

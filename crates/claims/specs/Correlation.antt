@@ -9,7 +9,7 @@ use Rattle.algebra.specs.Expansion.{Correlated}
 use Rattle.algebra.specs.Field.{NoiseValue, Value}
 use Rattle.answer.specs.Numbers.{accepted, windowPastEnd, bufferShort}
 use Rattle.dealing.specs.Admitted.{InMemory}
-use Rattle.dealing.specs.Deal.{Dealt, deal}
+use Rattle.dealing.specs.Deal.{Dealt, deal, noiseRecordOf, scalarRecordOf}
 use Rattle.dealing.specs.Input.{Input}
 use Rattle.dealing.specs.Vectors.{head, field, delta, u, v, w}
 use Rattle.field.specs.Bytes.{wordAt}
@@ -40,16 +40,12 @@ pub record Setting : Type 0 where
   pub noiseBuffer : List ℕ
   pub vBuffer : List ℕ
   pub noiseAccepted :
-      noiseOffline.offline
-      (take (deal input noiseRecord scalarRecord .firstWritten) (deal input noiseRecord scalarRecord .noiseRecord)) noiseBuffer vBuffer .number
-      ≡ 0
+      noiseOffline.offline (noiseRecordOf (deal input noiseRecord scalarRecord)) noiseBuffer vBuffer .number ≡ 0
   -- the buffers lent to the scalar end's offline call
   pub wBuffer : List ℕ
   pub deltaBuffer : List ℕ
   pub scalarAccepted :
-      scalarOffline.offline
-      (take (deal input noiseRecord scalarRecord .secondWritten) (deal input noiseRecord scalarRecord .scalarRecord)) wBuffer deltaBuffer .number
-      ≡ 0
+      scalarOffline.offline (scalarRecordOf (deal input noiseRecord scalarRecord)) wBuffer deltaBuffer .number ≡ 0
 
 -- what the dealing left
 abbrev pub dealing : Setting → Dealt
@@ -57,10 +53,10 @@ dealing S = deal (S .input) (S .noiseRecord) (S .scalarRecord)
 
 -- each end's own record: the front of its buffer, of the returned length
 abbrev pub noiseSource : Setting → List ℕ
-noiseSource S = take (dealing S .firstWritten) (dealing S .noiseRecord)
+noiseSource S = noiseRecordOf (dealing S)
 
 abbrev pub scalarSource : Setting → List ℕ
-scalarSource S = take (dealing S .secondWritten) (dealing S .scalarRecord)
+scalarSource S = scalarRecordOf (dealing S)
 
 -- ---- the noise end's list of calls
 

@@ -4,7 +4,7 @@ use mathlib.Core.List.{List}
 use Prim.Native.Nat.{ℕ, _^_, _≤_}
 use lib.ListN.{take}
 use Rattle.dealing.specs.Admitted.{InMemory}
-use Rattle.dealing.specs.Deal.{deal}
+use Rattle.dealing.specs.Deal.{deal, noiseRecordOf, scalarRecordOf}
 use Rattle.dealing.specs.Input.{Input}
 use Rattle.pairing.specs.AllHeld.{AllHeld}
 
@@ -12,4 +12,4 @@ use Rattle.pairing.specs.AllHeld.{AllHeld}
 abbrev pub Held : Type 0
 Held =
     (I : Input) → InMemory I → (a b : List ℕ) → deal I a b .number ≡ 0 → 2 ^ I .depth ≤ 1024
-    → AllHeld (take (deal I a b .firstWritten) (deal I a b .noiseRecord)) (take (deal I a b .secondWritten) (deal I a b .scalarRecord)) (I .outputs)
+    → AllHeld (noiseRecordOf (deal I a b)) (scalarRecordOf (deal I a b)) (I .outputs)

@@ -5,7 +5,7 @@ use mathlib.Core.List.{List}
 use Prim.Native.Nat.{ℕ}
 use lib.ListN.{take}
 use Rattle.dealing.specs.Admitted.{InMemory}
-use Rattle.dealing.specs.Deal.{deal}
+use Rattle.dealing.specs.Deal.{deal, noiseRecordOf, scalarRecordOf}
 use Rattle.dealing.specs.Input.{Input}
 use Rattle.dealing.specs.Parts.{noisePart, scalarPart}
 use Rattle.number.specs.Reading.{Whole, Bytes}
@@ -17,9 +17,9 @@ use Rattle.record.specs.Writing.{writeNoise, writeScalar}
 pub record Records : Type 0 where
   -- what an accepted dealing wrote, the front of each buffer of the returned length, reads back
   pub noise-back : (I : Input) → InMemory I → (a b : List ℕ) → deal I a b .number ≡ 0
-      → readNoise (take (deal I a b .firstWritten) (deal I a b .noiseRecord)) ≡ Whole (noisePart I)
+      → readNoise (noiseRecordOf (deal I a b)) ≡ Whole (noisePart I)
   pub scalar-back : (I : Input) → InMemory I → (a b : List ℕ) → deal I a b .number ≡ 0
-      → readScalar (take (deal I a b .secondWritten) (deal I a b .scalarRecord)) ≡ Whole (scalarPart I)
+      → readScalar (scalarRecordOf (deal I a b)) ≡ Whole (scalarPart I)
   -- bytes that read as a content are its writing, and the content is admitted
   pub noise-one : (s : List ℕ) → Bytes s → (p : NoisePart) → readNoise s ≡ Whole p → AdmittedNoise p × (s ≡ writeNoise p)
   pub scalar-one : (s : List ℕ) → Bytes s → (p : ScalarPart) → readScalar s ≡ Whole p → AdmittedScalar p × (s ≡ writeScalar p)

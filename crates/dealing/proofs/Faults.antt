@@ -1,7 +1,6 @@
--- A dealing has no fault exactly where document 01 admits its input.
+-- The tests of a dealing's input are met exactly where document 01 admits it.
 use mathlib.Core.Path.{_≡_, refl, sym}
 use mathlib.Core.Bool.{Bool, true, _&&_, _||_, not, true≢false}
-use mathlib.Core.List.{List, [], _∷_}
 use mathlib.Core.Logic.{_⊎_, inl, inr, ⊎-elim}
 use Prim.Native.Nat.{ℕ, zero, suc, _-_, _*_, _%_, _^_, _≤_, _<_}
 use native.Mathlib.Omega.{arith}
@@ -10,13 +9,15 @@ use borrow.Author.Tests.{ltb-true, leb-true, eqb-true, lt-ltb, le-leb, eq-eqb, n
 use lib.Dec.{leb, ltb, eqb}
 use lib.ListN.{length, getD}
 use Rattle.dealing.proofs.Positions.{positions-rising, positions-below, positions-are}
-use Rattle.algebra.proofs.Tests.{and-left, and-right, and-both, or-cases, passed, passes}
+use Rattle.algebra.proofs.Every.{every-at, every-all}
+use Rattle.algebra.proofs.Tests.{and-left, and-right, and-both, or-cases}
+use Rattle.answer.specs.Tests.{AllMet}
 use Rattle.field.specs.Bytes.{wordAt}
 use Rattle.field.specs.Prime.{modulus}
 use Rattle.record.specs.Admitted.{isField, isSize, isBranch, mostTrees, mostTerms, mostOutputs, isNoise, isScalar}
 use Rattle.record.specs.Content.{elementOf}
 use Rattle.dealing.specs.Admitted.{Admitted, DeltaAdmitted, NoiseAdmitted}
-use Rattle.dealing.specs.Input.{Input, sizesAdmitted, lengthsAdmitted, positionsAdmitted, everyNoise, deltaAdmitted, fault}
+use Rattle.dealing.specs.Input.{Input, deltaAdmitted, sizeTests, lengthTests, contentTests}
 
 -- ---- single tests
 
@@ -54,17 +55,6 @@ pub noise-is : (f y : ℕ) → (f ≡ 1) ⊎ (f ≡ 2) → NoiseAdmitted f y →
 noise-is f y h A =
     ⊎-elim (λ a. rw a (eq-eqb y 1 (A .binary a))) (λ b. rw b (size-is (modulus - 1) y (A .prime b .0) (A .prime b .1))) h
 
-every-says : (f : ℕ) (l : List ℕ) → everyNoise f l ≡ true → (i : ℕ) → i < length l → NoiseAdmitted f (getD l i 0)
-unfolding everyNoise
-every-says f [] e i h = absurd (not-suc-le-zero h)
-every-says f (y ∷ l) e zero h = noise-says f y (and-left (isNoise f y) (everyNoise f l) e)
-every-says f (y ∷ l) e (suc i) h = every-says f l (and-right (isNoise f y) (everyNoise f l) e) i (le-of-suc-le-suc h)
-
-every-is : (f : ℕ) (l : List ℕ) → (f ≡ 1) ⊎ (f ≡ 2) → ((i : ℕ) → i < length l → NoiseAdmitted f (getD l i 0)) → everyNoise f l ≡ true
-unfolding everyNoise
-every-is f [] h A = refl
-every-is f (y ∷ l) h A = and-both (noise-is f y h (A 0 (omega arith))) (every-is f l h (λ i k. A (suc i) (omega arith)))
-
 -- ---- Δ
 
 -- the test of Δ over its two words
@@ -80,8 +70,11 @@ delta-prime : (low high : ℕ) → deltaTest 2 low high ≡ true → (0 < low) �
 delta-prime low high e =
     let t : (ltb low modulus && not (eqb low 0)) ≡ true = and-left (ltb low modulus && not (eqb low 0)) (eqb high 0) e in
     let n : not (eqb low 0) ≡ true = and-right (ltb low modulus) (not (eqb low 0)) t in
-    let positive : 0 < low = positive-of low n in
-    (positive, ltb-true low modulus (and-left (ltb low modulus) (not (eqb low 0)) t), eqb-true high 0 (and-right (ltb low modulus && not (eqb low 0)) (eqb high 0) e))
+    let positive : 0 < low = positive-of low n in (
+      positive,
+      ltb-true low modulus (and-left (ltb low modulus) (not (eqb low 0)) t),
+      eqb-true high 0 (and-right (ltb low modulus && not (eqb low 0)) (eqb high 0) e),
+    )
   where
     positive-of : (x : ℕ) → not (eqb x 0) ≡ true → 0 < x
     positive-of zero n = absurd (true≢false (sym n))
@@ -112,78 +105,51 @@ delta-is I h A =
     (λ f. rw f (delta-prime-is (wordAt (I .delta) 0) (wordAt (I .delta) 8) (A .prime f .0) (A .prime f .1) (A .prime f .2)))
     h
 
--- ---- the first fault
+-- ---- the tests of an input
 
--- no fault: the input is admitted
-pub fault-none : (I : Input) → fault I ≡ 0 → Admitted I
-unfolding fault sizesAdmitted lengthsAdmitted
-fault-none I e =
-    let a = passed (isField (I .field)) 0 _ e in
-    let b = passed (sizesAdmitted (I .depth) (I .branchBits) (I .trees) (I .terms) (I .outputs)) 1 _ (a .1) in
-    let c = passed (lengthsAdmitted (I .trees) (I .roots) (I .positions) (I .values) (I .delta) (I .codeKey) (I .label)) 2 _ (b .1) in
-    let d = passed (positionsAdmitted (2 ^ I .depth) (I .trees) (I .positions)) 3 _ (c .1) in
-    let f = passed (everyNoise (I .field) (I .values)) 4 _ (d .1) in
-    let g = passed (deltaAdmitted (I .field) (I .delta)) 5 0 (f .1) in
-    let depth = isSize 16 (I .depth) in
-    let branch = isBranch (I .depth) (I .branchBits) in
-    let trees = isSize (mostTrees (I .depth)) (I .trees) in
-    let terms = isSize (mostTerms (I .depth)) (I .terms) in
-    let outputs = isSize (mostOutputs (I .depth)) (I .outputs) in
-    let s4 = and-left (depth && branch && trees && terms) outputs (b .0) in
-    let s3 = and-left (depth && branch && trees) terms s4 in
-    let s2 = and-left (depth && branch) trees s3 in
-    let roots = eqb (length (I .roots)) (16 * I .trees) in
-    let positions = eqb (length (I .positions)) (I .trees) in
-    let values = eqb (length (I .values)) (I .trees) in
-    let delta = eqb (length (I .delta)) 16 in
-    let key = eqb (length (I .codeKey)) 16 in
-    let label = eqb (length (I .label)) 16 in
-    let l5 = and-left (roots && positions && values && delta && key) label (c .0) in
-    let l4 = and-left (roots && positions && values && delta) key l5 in
-    let l3 = and-left (roots && positions && values) delta l4 in
-    let l2 = and-left (roots && positions) values l3 in
-    let count : length (I .positions) ≡ I .trees = eqb-true _ _ (and-right roots positions l2) in
-    let counted : length (I .values) ≡ I .trees = eqb-true _ _ (and-right (roots && positions) values l3) in
-    let t = size-says (mostTrees (I .depth)) (I .trees) (and-right (depth && branch) trees s3) in
-    let l = size-says (mostTerms (I .depth)) (I .terms) (and-right (depth && branch && trees) terms s4) in
-    record {
-      field = field-says (I .field) (a .0);
-      depth = size-says 16 (I .depth) (and-left depth branch s2);
-      branch = branch-says (I .depth) (I .branchBits) (and-right depth branch s2);
-      trees = (t .0, omega (arith, t .1), omega (arith, t .1));
-      terms = (l .0, omega (arith, l .1), omega (arith, l .1));
-      outputs = size-says (mostOutputs (I .depth)) (I .outputs) (and-right (depth && branch && trees && terms) outputs (b .0));
-      roots = eqb-true _ _ (and-left roots positions l2);
-      positions = count;
-      values = counted;
-      delta = eqb-true _ _ (and-right (roots && positions && values) delta l4);
-      codeKey = eqb-true _ _ (and-right (roots && positions && values && delta) key l5);
-      label = eqb-true _ _ (and-right (roots && positions && values && delta && key) label (c .0));
-      rising = positions-rising (2 ^ I .depth) (I .trees) (I .positions) (d .0);
-      below = positions-below (2 ^ I .depth) (I .trees) (I .positions) (d .0);
-      noise = λ i h. every-says (I .field) (I .values) (f .0) i (omega arith);
-      scalar = delta-says I (g .0);
-    }
+module _ (I : Input) where
+  -- all of them met: the input is admitted
+  pub admitted : AllMet (sizeTests I) → AllMet (lengthTests I) → AllMet (contentTests I) → Admitted I
+  admitted s l c =
+      let trees = size-says (mostTrees (I .depth)) (I .trees) (search s) in
+      let terms = size-says (mostTerms (I .depth)) (I .terms) (search s) in
+      record {
+        field = field-says (I .field) (search s);
+        depth = size-says 16 (I .depth) (search s);
+        branch = branch-says (I .depth) (I .branchBits) (search s);
+        trees = (trees .0, omega (arith, trees .1), omega (arith, trees .1));
+        terms = (terms .0, omega (arith, terms .1), omega (arith, terms .1));
+        outputs = size-says (mostOutputs (I .depth)) (I .outputs) (search s);
+        roots = search l;
+        positions = search l;
+        values = search l;
+        delta = search l;
+        codeKey = search l;
+        label = search l;
+        rising = positions-rising (2 ^ I .depth) (I .trees) (I .positions) (search c);
+        below = positions-below (2 ^ I .depth) (I .trees) (I .positions) (search c);
+        noise = λ i h. noise-says (I .field) _ (every-at (λ i. isNoise (I .field) (getD (I .values) i 0)) i (I .trees) (search c) h);
+        scalar = delta-says I (search c);
+      }
 
--- admitted input has no fault
-pub admitted-none : (I : Input) → Admitted I → fault I ≡ 0
-unfolding fault sizesAdmitted lengthsAdmitted
-admitted-none I A =
-    let count = A .positions in
-    let counted = A .values in
-    passes 1 (field-is (I .field) (A .field))
-    (passes 2
-    (and-both (and-both (and-both (and-both
-    (size-is 16 (I .depth) (A .depth .0) (A .depth .1))
-    (branch-is (I .depth) (I .branchBits) (A .branch)))
-    (size-is (mostTrees (I .depth)) (I .trees) (A .trees .0) (omega (arith, A .trees .1, A .trees .2))))
-    (size-is (mostTerms (I .depth)) (I .terms) (A .terms .0) (omega (arith, A .terms .1, A .terms .2))))
-    (size-is (mostOutputs (I .depth)) (I .outputs) (A .outputs .0) (A .outputs .1)))
-    (passes 3
-    (and-both (and-both (and-both (and-both (and-both
-    (eq-eqb _ _ (A .roots)) (eq-eqb _ _ (A .positions))) (eq-eqb _ _ (A .values))) (eq-eqb _ _ (A .delta))) (eq-eqb _ _ (A .codeKey)))
-    (eq-eqb _ _ (A .label)))
-    (passes 4
-    (positions-are (2 ^ I .depth) (I .trees) (I .positions) (A .rising) (A .below))
-    (passes 5 (every-is (I .field) (I .values) (A .field) (λ i h. A .noise i (omega arith)))
-    (passes 6 (delta-is I (A .field) (A .scalar)) refl)))))
+  -- and of admitted input all are met
+  module _ (A : Admitted I) where
+    pub sizes-met : AllMet (sizeTests I)
+    sizes-met =
+        let f = field-is (I .field) (A .field) in
+        let d = size-is 16 (I .depth) (A .depth .0) (A .depth .1) in
+        let g = branch-is (I .depth) (I .branchBits) (A .branch) in
+        let t = size-is (mostTrees (I .depth)) (I .trees) (A .trees .0) (omega (arith, A .trees .1, A .trees .2)) in
+        let l = size-is (mostTerms (I .depth)) (I .terms) (A .terms .0) (omega (arith, A .terms .1, A .terms .2)) in
+        let n = size-is (mostOutputs (I .depth)) (I .outputs) (A .outputs .0) (A .outputs .1) in
+        record { all = search depth 12 }
+
+    pub lengths-met : AllMet (lengthTests I)
+    lengths-met = record { all = search depth 12 }
+
+    pub content-met : AllMet (contentTests I)
+    content-met =
+        let p = positions-are (2 ^ I .depth) (I .trees) (I .positions) (A .rising) (A .below) in
+        let y = every-all (λ i. isNoise (I .field) (getD (I .values) i 0)) (I .trees) (λ i h. noise-is (I .field) _ (A .field) (A .noise i h)) in
+        let d = delta-is I (A .field) (A .scalar) in
+        record { all = search depth 12 }

@@ -50,7 +50,8 @@ module _ (I : Input) (A : Admitted I) where
       sym
       (length-append (writeHead 1 (head I)) (writeTrees (I .field) 0 (listed (I .trees) (noiseTree I)))
       ∙ ap₂ (λ a b. a + b) (length-head 1 (head I) (A .codeKey) (A .label) ∙ sym e)
-      (trees-length (I .field) (frontFor I body) (I .trees) 0 (noiseTree I) (λ i h b. tree-length I i b body) ∙ ap (treesLength (frontFor I body) 0) positions-listed))
+      (trees-length (I .field) (frontFor I body) (I .trees) 0 (noiseTree I) (λ i h b. tree-length I i b body)
+      ∙ ap (treesLength (frontFor I body) 0) positions-listed))
 
 -- ---- the scalar record
 

@@ -7,5 +7,4 @@ mod Tests
 mod Written
 mod Turns
 mod Lengths
-mod Calls
 mod Deals

@@ -109,7 +109,8 @@ pub record ElementAdmitted (k : ℕ) (e : List ℕ) : Type 0 where
   pub element : isElement k e ≡ true
 
 -- a block scaled has words
-scale-words : (y : ℕ) (low high : ℕ) → SixtyFourBits low → SixtyFourBits high → SixtyFourBits (blockScale y (block low high) .low) × SixtyFourBits (blockScale y (block low high) .high)
+scale-words : (y : ℕ) (low high : ℕ) → SixtyFourBits low → SixtyFourBits high
+    → SixtyFourBits (blockScale y (block low high) .low) × SixtyFourBits (blockScale y (block low high) .high)
 unfolding blockScale
 scale-words zero low high a b = (lit< tt, lit< tt)
 scale-words (suc zero) low high a b = (a, b)
@@ -125,7 +126,8 @@ difference-admitted a b =
 -- a correction is such
 correction-admitted : (k : ℕ) → (k ≡ 1) ⊎ (k ≡ 2) → (low high : ℕ) → SixtyFourBits low → SixtyFourBits high → (s : List (List ℕ)) → IsState s
     → (y : NoiseValue (kindOf k .field))
-    → ElementAdmitted k (kindOf k .field .elements .words (correction (kindOf k .field .scaled) (kindOf k .field .elements .read (elementOf k low high) 0) (kindOf k .leaf s) y))
+    → ElementAdmitted k
+    (kindOf k .field .elements .words (correction (kindOf k .field .scaled) (kindOf k .field .elements .read (elementOf k low high) 0) (kindOf k .leaf s) y))
 unfolding correction Each
 correction-admitted zero h low high a b s is y = absurd (⊎-elim (λ e. omega arith) (λ e. omega arith) h)
 correction-admitted (suc zero) h low high a b s is y =

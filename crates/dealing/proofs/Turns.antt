@@ -157,9 +157,11 @@ module _ (f : Front) (roots positions values delta b : List ℕ) where
 
 -- ---- the head and the trees
 
-module _ (f : Front) (roots positions values delta key label : List ℕ) (out : List ℕ) (P : NoisePlaced f (inputFrom f roots positions values delta key label) (length out)) where
+module _ (f : Front) (roots positions values delta key label : List ℕ) (out : List ℕ)
+    (P : NoisePlaced f (inputFrom f roots positions values delta key label) (length out)) where
   -- the trees do not look at the code key and the label
-  noise-bytes : writeNoise (noisePart (inputFrom f roots positions values delta key label)) ≡ writeHead 1 (headFrom f key label) ++ treesBytes f roots positions values delta
+  noise-bytes : writeNoise (noisePart (inputFrom f roots positions values delta key label))
+      ≡ writeHead 1 (headFrom f key label) ++ treesBytes f roots positions values delta
   unfolding writeNoise noiseTree
   noise-bytes = refl
 

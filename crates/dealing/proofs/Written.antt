@@ -167,14 +167,16 @@ module _ (t : Planned) (root : List (List ℕ)) (delta : List ℕ) where
       ∙ ap (λ n. n * 16) (length-siblings (2 ^ t .«branch_bits») child (pow-pos (t .«branch_bits»)) (t .depth / t .«branch_bits») root (t .position))
       ∙ mul-comm (siblingCount (t .depth) (t .«branch_bits»)) 16
 
-  pub tree-long : length (writeTree (t .field) (t .base) (treeOf t root delta)) ≡ frontLength (t .base) (t .position) + 16 * siblingCount (t .depth) (t .«branch_bits»)
+  pub tree-long : length (writeTree (t .field) (t .base) (treeOf t root delta))
+      ≡ frontLength (t .base) (t .position) + 16 * siblingCount (t .depth) (t .«branch_bits»)
   tree-long = ap length tree-bytes ∙ length-append before beside ∙ ap₂ (λ a b. a + b) before-long beside-long
 
 -- a noise value alone is read as among the others
 read-value : (k : ℕ) (values : List ℕ) (i : ℕ) → kindOf k .field .noiseValues .read (getD values i 0 ∷ []) 0 ≡ kindOf k .field .noiseValues .read values i
 read-value k values i = of (eqb k 1)
   where
-    of : (b : Bool) → choose b binaryKind primeKind .field .noiseValues .read (getD values i 0 ∷ []) 0 ≡ choose b binaryKind primeKind .field .noiseValues .read values i
+    of : (b : Bool) → choose b binaryKind primeKind .field .noiseValues .read (getD values i 0 ∷ []) 0
+        ≡ choose b binaryKind primeKind .field .noiseValues .read values i
     of true = refl
     of false = refl
 
@@ -192,12 +194,14 @@ own-tree I i base at =
 pub tree-length : (I : Input) (i base body : ℕ) → length (writeTree (I .field) base (noiseTree I i)) ≡ treeLength (frontFor I body) base (position I i)
 unfolding treeLength
 tree-length I i base body =
-    ap (λ t. length (writeTree (I .field) base t)) (sym (own-tree I i base 0)) ∙ tree-long (planned (frontFor I 0) (I .positions) (I .values) i base 0) (root I i) (I .delta)
+    ap (λ t. length (writeTree (I .field) base t)) (sym (own-tree I i base 0))
+    ∙ tree-long (planned (frontFor I 0) (I .positions) (I .values) i base 0) (root I i) (I .delta)
 
 -- ---- a tree at its place
 
 module _ (t : Planned) (leaf : List (List ℕ)) (delta words : List ℕ) (corrected : words ≡ correctionWords (t .field) leaf (t .value) delta) where
-  pub planned-room : {out : List ℕ} → Room out (t .at) (plannedBytes t leaf delta) → Room out (t .at) (frontBytes (t .field) (t .position - t .base) (t .value) words)
+  pub planned-room : {out : List ℕ} → Room out (t .at) (plannedBytes t leaf delta)
+      → Room out (t .at) (frontBytes (t .field) (t .position - t .base) (t .value) words)
   unfolding plannedBytes
   planned-room r = rw corrected r
 
@@ -247,7 +251,8 @@ module _ (t : Planned) (root : List (List ℕ)) (delta : List ℕ) {out : List �
 
     pub front-room : Room out₁ (t .at) (plannedBytes t s delta)
     front-room =
-        record { fits = omega (arith, tree-end, front, ap length same, before-long t root delta, ap length stored, length-sets out (t .at + f) (beside t root delta)) }
+        let kept = length-sets out (t .at + f) (beside t root delta) in
+        record { fits = omega (arith, tree-end, front, ap length same, before-long t root delta, ap length stored, kept) }
 
     pub tree-wrote : {n next : ℕ} {out₂ : List ℕ} → (n ≡ siblingCount (t .depth) (t .«branch_bits»)) × (n ≤ 112)
         → Wrote out₁ (t .at) (plannedBytes t s delta) next out₂

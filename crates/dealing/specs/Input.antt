@@ -1,12 +1,12 @@
--- A dealing's input and its first fault (document 01, 'Sizes', 'Dealing', 'Numbers of the calls'), with a label (document 02, 8) and
+-- A dealing's input and its tests (document 01, 'Sizes', 'Dealing', 'Numbers of the calls'), with a label (document 02, 8) and
 -- branch bits (document 02, 10).
-use mathlib.Core.Bool.{Bool, true, _&&_, _||_, not}
+use mathlib.Core.Bool.{Bool, _&&_, _||_}
 use mathlib.Core.List.{List, [], _∷_}
 use Prim.Native.Nat.{ℕ, _*_, _^_}
 use lib.Dec.{ltb, eqb}
 use lib.ListN.{length, getD}
-use Rattle.answer.specs.Numbers.{accepted, badField, badSize, badLength, badPosition, badNoise, badDelta}
-use Rattle.algebra.specs.Choice.{choose}
+use Rattle.answer.specs.Numbers.{badField, badSize, badLength, badPosition, badNoise, badDelta}
+use Rattle.answer.specs.Tests.{Test, _is_, holds, _or_}
 use Rattle.algebra.specs.Every.{every}
 use Rattle.algebra.specs.Expansion.{rising}
 use Rattle.field.specs.Bytes.{wordAt}
@@ -47,26 +47,6 @@ inputWith field depth branchBits trees terms outputs roots positions values delt
       label = label;
     }
 
--- d is 1 to 16, g 1, 2 or 3 and a divisor of d (document 02, 10), t 1 to the smaller of 64 and N = 2^d, ℓ 1 to the smaller of
--- 32 and N (document 02, 7), n 1 to N / 2
-unfoldable pub sizesAdmitted : ℕ → ℕ → ℕ → ℕ → ℕ → Bool
-sizesAdmitted depth branchBits trees terms outputs =
-    isSize 16 depth
-    && isBranch depth branchBits
-    && isSize (mostTrees depth) trees
-    && isSize (mostTerms depth) terms
-    && isSize (mostOutputs depth) outputs
-
--- every input slice has exactly the length that the sizes call for
-unfoldable pub lengthsAdmitted : ℕ → List ℕ → List ℕ → List ℕ → List ℕ → List ℕ → List ℕ → Bool
-lengthsAdmitted trees roots positions values delta codeKey label =
-    eqb (length roots) (16 * trees)
-    && eqb (length positions) trees
-    && eqb (length values) trees
-    && eqb (length delta) 16
-    && eqb (length codeKey) 16
-    && eqb (length label) 16
-
 -- the position of tree i
 abbrev pub position : Input → ℕ → ℕ
 position I i = getD (I .positions) i 0
@@ -75,10 +55,9 @@ position I i = getD (I .positions) i 0
 unfoldable pub positionsAdmitted : ℕ → ℕ → List ℕ → Bool
 positionsAdmitted N t positions = rising t (λ i. getD positions i 0) && every t (λ i. ltb (getD positions i 0) N)
 
--- every noise value is admitted
-unfoldable pub everyNoise : ℕ → List ℕ → Bool
-everyNoise field [] = true
-everyNoise field (y ∷ values) = isNoise field y && everyNoise field values
+-- the noise values of t trees are admitted
+abbrev pub everyNoise : ℕ → ℕ → List ℕ → Bool
+everyNoise field t values = every t (λ i. isNoise field (getD values i 0))
 
 -- Δ as its words; field 2 uses the first eight bytes
 abbrev pub wordsOf : ℕ → List ℕ → List ℕ
@@ -92,12 +71,35 @@ deltaWords I = wordsOf (I .field) (I .delta)
 unfoldable pub deltaAdmitted : ℕ → List ℕ → Bool
 deltaAdmitted field delta = isScalar field (wordsOf field delta) && (eqb field 1 || eqb (wordAt delta 8) 0)
 
--- the number of the first fault, in the order 1, 2, 3, 4, 5, 6; 0 where there is none
-unfoldable pub fault : Input → ℕ
-fault I =
-    choose (not (isField (I .field))) badField
-    (choose (not (sizesAdmitted (I .depth) (I .branchBits) (I .trees) (I .terms) (I .outputs))) badSize
-    (choose (not (lengthsAdmitted (I .trees) (I .roots) (I .positions) (I .values) (I .delta) (I .codeKey) (I .label))) badLength
-    (choose (not (positionsAdmitted (2 ^ I .depth) (I .trees) (I .positions))) badPosition
-    (choose (not (everyNoise (I .field) (I .values))) badNoise
-    (choose (not (deltaAdmitted (I .field) (I .delta))) badDelta accepted)))))
+-- ---- the tests of an input, in the order 1, 2, 3, 4, 5, 6
+
+-- the field; d is 1 to 16, g 1, 2 or 3 and a divisor of d (document 02, 10), t 1 to the smaller of 64 and N = 2^d, ℓ 1 to the
+-- smaller of 32 and N (document 02, 7), n 1 to N / 2
+abbrev pub sizeTests : Input → List Test
+sizeTests I =
+    holds (isField (I .field)) or badField
+    ∷ holds (isSize 16 (I .depth)) or badSize
+    ∷ holds (isBranch (I .depth) (I .branchBits)) or badSize
+    ∷ holds (isSize (mostTrees (I .depth)) (I .trees)) or badSize
+    ∷ holds (isSize (mostTerms (I .depth)) (I .terms)) or badSize
+    ∷ holds (isSize (mostOutputs (I .depth)) (I .outputs)) or badSize
+    ∷ []
+
+-- every input slice has exactly the length that the sizes call for
+abbrev pub lengthTests : Input → List Test
+lengthTests I =
+    length (I .roots) is 16 * I .trees or badLength
+    ∷ length (I .positions) is I .trees or badLength
+    ∷ length (I .values) is I .trees or badLength
+    ∷ length (I .delta) is 16 or badLength
+    ∷ length (I .codeKey) is 16 or badLength
+    ∷ length (I .label) is 16 or badLength
+    ∷ []
+
+-- all positions, then all noise values, then Δ
+abbrev pub contentTests : Input → List Test
+contentTests I =
+    holds (positionsAdmitted (2 ^ I .depth) (I .trees) (I .positions)) or badPosition
+    ∷ holds (everyNoise (I .field) (I .trees) (I .values)) or badNoise
+    ∷ holds (deltaAdmitted (I .field) (I .delta)) or badDelta
+    ∷ []

@@ -2,16 +2,18 @@
 ghost use mathlib.Core.Path.{_≡_};
 ghost use Prim.Native.Nat.{_^_, _≤_, min};
 ghost use lib.ListN.{length};
-ghost use Rattle.record.specs.Admitted.{isField, isSize, isBranch, isNoise};
-ghost use Rattle.dealing.specs.Inner.Positions.{countsAdmitted, risingFrom, contentFault};
-ghost use Rattle.dealing.specs.Inner.Steps.{inputFrom};
-ghost use Rattle.dealing.specs.Input.{sizesAdmitted, lengthsAdmitted, everyNoise, deltaAdmitted, fault};
+ghost use mathlib.Core.List.{[]};
+ghost use Rattle.answer.specs.Tests.{firstFault};
+ghost use Rattle.record.specs.Admitted.{isField, isSize, isBranch, mostOutputs, isNoise};
+ghost use Rattle.dealing.specs.Inner.Steps.{inputFrom, Lengths};
+ghost use Rattle.dealing.specs.Input.{positionsAdmitted, everyNoise, deltaAdmitted, sizeTests, lengthTests, contentTests};
 use answer::BAD_DELTA;
 use answer::BAD_FIELD;
 use answer::BAD_LENGTH;
 use answer::BAD_NOISE;
 use answer::BAD_POSITION;
 use answer::BAD_SIZE;
+use answer::is_times;
 use field::Prime;
 use field::word_at;
 use record::Front;
@@ -48,63 +50,79 @@ fn is_branch(depth: usize, branch_bits: usize) -> bool
     depth % branch_bits == 0
 }
 
-// Whether t, ℓ and n are in their ranges.
-fn counts_admitted(depth: usize, trees: usize, terms: usize, outputs: usize) -> bool
+// Whether a count is 1 to the smaller of a limit and N.
+fn is_count(limit: usize, depth: usize, count: usize) -> bool
     requires { ⌜ depth ≤ 16 ⌝ }
-    ensures { λ r. ⌜ r ≡ countsAdmitted depth trees terms outputs ⌝ }
+    ensures { λ r. ⌜ r ≡ isSize (min limit (2 ^ depth)) count ⌝ }
 {
-    let all = leaves(depth);
-    if !is_size(smaller(64, all), trees) {
-        return false;
-    }
-    if !is_size(smaller(32, all), terms) {
-        return false;
-    }
-    is_size(all / 2, outputs)
+    is_size(smaller(limit, leaves(depth)), count)
 }
 
-// Whether d, g, t, ℓ and n are in their ranges.
-fn sizes_admitted(front: Front) -> bool
-    ensures { λ r. ⌜ r ≡ sizesAdmitted (front .depth) (front .«branch_bits») (front .trees) (front .terms) (front .outputs) ⌝ }
+// Whether n is 1 to N / 2.
+fn is_outputs(depth: usize, outputs: usize) -> bool
+    requires { ⌜ depth ≤ 16 ⌝ }
+    ensures { λ r. ⌜ r ≡ isSize (mostOutputs depth) outputs ⌝ }
 {
+    is_size(leaves(depth) / 2, outputs)
+}
+
+// The number of the first fault of field, d, g, t, ℓ and n, or 0 where there is none.
+pub fn sizes_number(front: Front) -> u32
+    ensures { λ r. ⌜ r ≡ firstFault (sizeTests (inputFrom front [] [] [] [] [] [])) ⌝ }
+{
+    if !is_field(front.field) {
+        return BAD_FIELD;
+    }
     if !is_size(16, front.depth) {
-        return false;
+        return BAD_SIZE;
     }
     if !is_branch(front.depth, front.branch_bits) {
-        return false;
+        return BAD_SIZE;
     }
-    counts_admitted(front.depth, front.trees, front.terms, front.outputs)
+    if !is_count(64, front.depth, front.trees) {
+        return BAD_SIZE;
+    }
+    if !is_count(32, front.depth, front.terms) {
+        return BAD_SIZE;
+    }
+    if !is_outputs(front.depth, front.outputs) {
+        return BAD_SIZE;
+    }
+    0
 }
 
-// Whether every slice has the length that the sizes call for.
-fn lengths_admitted(
-    trees: usize,
+// The number of the first slice that has not the length that the sizes call for, or 0 where there is none.
+pub fn lengths_number(
+    front: Front,
     roots: &[u8],
     positions: &[u32],
     values: &[u64],
     delta: &[u8],
     code_key: &[u8],
     label: &[u8],
-) -> bool
-    requires { ⌜ trees ≤ 64 ⌝ }
-    ensures { λ r. ⌜ r ≡ lengthsAdmitted trees (now (roots .entry)) (now (positions .entry)) (now (values .entry)) (now (delta .entry)) (now («code_key» .entry)) (now (label .entry)) ⌝ }
+) -> u32
+    ensures { λ r. ⌜ r ≡ firstFault (lengthTests (inputFrom front (now (roots .entry)) (now (positions .entry)) (now (values .entry))
+        (now (delta .entry)) (now («code_key» .entry)) (now (label .entry)))) ⌝ }
 {
-    if roots.len() != 16 * trees {
-        return false;
+    if !is_times(roots.len(), 16, front.trees) {
+        return BAD_LENGTH;
     }
-    if positions.len() != trees {
-        return false;
+    if positions.len() != front.trees {
+        return BAD_LENGTH;
     }
-    if values.len() != trees {
-        return false;
+    if values.len() != front.trees {
+        return BAD_LENGTH;
     }
     if delta.len() != 16 {
-        return false;
+        return BAD_LENGTH;
     }
     if code_key.len() != 16 {
-        return false;
+        return BAD_LENGTH;
     }
-    label.len() == 16
+    if label.len() != 16 {
+        return BAD_LENGTH;
+    }
+    0
 }
 
 // The number in a wider type.
@@ -115,12 +133,14 @@ pub fn wide(x: u32) -> usize
 }
 
 // Whether the positions are strictly rising and below N.
-fn rising(all: usize, positions: &[u32]) -> bool
-    ensures { λ r. ⌜ r ≡ risingFrom all 0 (now (positions .entry)) ⌝ }
+fn rising(depth: usize, trees: usize, positions: &[u32]) -> bool
+    requires { ⌜ (depth ≤ 16) × (length (now positions) ≡ trees) ⌝ }
+    ensures { λ r. ⌜ r ≡ positionsAdmitted (2 ^ depth) trees (now (positions .entry)) ⌝ }
 {
+    let all = leaves(depth);
     let mut base: usize = 0;
     let mut i: usize = 0;
-    while i < positions.len() {
+    while i < trees {
         let position = wide(positions[i]);
         if position < base {
             return false;
@@ -145,11 +165,12 @@ fn is_noise(field: usize, value: u64) -> bool
 }
 
 // Whether every noise value is admitted.
-fn every_noise(field: usize, values: &[u64]) -> bool
-    ensures { λ r. ⌜ r ≡ everyNoise field (now (values .entry)) ⌝ }
+fn every_noise(field: usize, trees: usize, values: &[u64]) -> bool
+    requires { ⌜ length (now values) ≡ trees ⌝ }
+    ensures { λ r. ⌜ r ≡ everyNoise field trees (now (values .entry)) ⌝ }
 {
     let mut i: usize = 0;
-    while i < values.len() {
+    while i < trees {
         if !is_noise(field, values[i]) {
             return false;
         }
@@ -181,50 +202,18 @@ fn delta_admitted(field: usize, delta: &[u8]) -> bool
 }
 
 // The number of the first fault of positions, noise values and Δ, or 0 where there is none.
-fn content_fault(field: usize, depth: usize, positions: &[u32], values: &[u64], delta: &[u8]) -> u32
-    requires { ⌜ (depth ≤ 16) × (length (now delta) ≡ 16) ⌝ }
-    ensures { λ r. ⌜ r ≡ contentFault field (2 ^ depth) (now (positions .entry)) (now (values .entry)) (now (delta .entry)) ⌝ }
+pub fn content_number(front: Front, positions: &[u32], values: &[u64], delta: &[u8]) -> u32
+    requires { ⌜ Lengths front (length (now positions)) (length (now values)) (length (now delta)) ⌝ }
+    ensures { λ r. ⌜ r ≡ firstFault (contentTests (inputFrom front [] (now (positions .entry)) (now (values .entry)) (now (delta .entry)) [] [])) ⌝ }
 {
-    if !rising(leaves(depth), positions) {
+    if !rising(front.depth, front.trees, positions) {
         return BAD_POSITION;
     }
-    if !every_noise(field, values) {
+    if !every_noise(front.field, front.trees, values) {
         return BAD_NOISE;
     }
-    if !delta_admitted(field, delta) {
+    if !delta_admitted(front.field, delta) {
         return BAD_DELTA;
     }
     0
-}
-
-// The number of the first fault, or 0 where there is none.
-pub fn fault(
-    front: Front,
-    roots: &[u8],
-    positions: &[u32],
-    values: &[u64],
-    delta: &[u8],
-    code_key: &[u8],
-    label: &[u8],
-) -> u32
-    ensures { λ r. ⌜ r ≡ fault (inputFrom front (now (roots .entry)) (now (positions .entry)) (now (values .entry)) (now (delta .entry)) (now («code_key» .entry)) (now (label .entry))) ⌝ }
-{
-    if !is_field(front.field) {
-        return BAD_FIELD;
-    }
-    if !sizes_admitted(front) {
-        return BAD_SIZE;
-    }
-    if !lengths_admitted(
-        front.trees,
-        roots,
-        positions,
-        values,
-        delta,
-        code_key,
-        label,
-    ) {
-        return BAD_LENGTH;
-    }
-    content_fault(front.field, front.depth, positions, values, delta)
 }

@@ -11,8 +11,7 @@ ghost use Rattle.number.specs.Inner.Written.{Room, Wrote};
 ghost use Rattle.record.specs.Content.{elementOf};
 ghost use Rattle.record.specs.Writing.{writeTree, writeNoise};
 ghost use Rattle.dealing.specs.Parts.{noisePart};
-ghost use Rattle.dealing.specs.Inner.Steps.{TablesAndKeys, inputFrom, correctionWords, planned, plannedBytes, treeOf, treesBytes, Placed, TreesPlaced, NoisePlaced, NoiseReady, writtenIf};
-use crate::Call;
+ghost use Rattle.dealing.specs.Inner.Steps.{TablesAndKeys, inputFrom, correctionWords, planned, plannedBytes, treeOf, treesBytes, Placed, TreesPlaced, NoisePlaced};
 use crate::input::wide;
 use field::Block;
 use field::Prime;
@@ -108,7 +107,8 @@ fn plan(
 
 // Writes a tree up to its siblings at its place, the correction from the leaf at its position.
 fn write_planned(leaf: [[u8; 4]; 4], tree: Planned, delta: &[u8], out: &mut [u8]) -> usize
-    requires { ⌜ (tree .base ≤ tree .position) × (tree .position < 65536) × (length (now delta) ≡ 16) × (Room (now out) (tree .at) (plannedBytes tree leaf (now delta))) ⌝ }
+    requires { ⌜ (tree .base ≤ tree .position) × (tree .position < 65536) × (length (now delta) ≡ 16)
+        × (Room (now out) (tree .at) (plannedBytes tree leaf (now delta))) ⌝ }
     ensures { λ r. ⌜ Wrote (now (out .entry)) (tree .at) (plannedBytes tree leaf (now (delta .entry))) r (now (out .exit)) ⌝ }
 {
     let c = correction_words(tree.field, leaf, tree.value, delta);
@@ -152,7 +152,8 @@ fn write_trees(
     delta: &[u8],
 ) -> usize
     requires { ⌜ TreesPlaced front (now roots) (now positions) (now values) (now delta) (now out) ⌝ }
-    ensures { λ r. ⌜ Wrote (now (out .entry)) (front .body) (treesBytes front (now (roots .entry)) (now (positions .entry)) (now (values .entry)) (now (delta .entry))) r (now (out .exit)) ⌝ }
+    ensures { λ r. ⌜ Wrote (now (out .entry)) (front .body)
+        (treesBytes front (now (roots .entry)) (now (positions .entry)) (now (values .entry)) (now (delta .entry))) r (now (out .exit)) ⌝ }
 {
     let sb = table();
     let mut tables = [0u64; 1536];
@@ -172,7 +173,7 @@ fn write_trees(
 }
 
 // Writes the noise record at the buffer's front; its length.
-fn write_noise(
+pub fn write_noise(
     out: &mut [u8],
     front: Front,
     code_key: &[u8],
@@ -182,38 +183,12 @@ fn write_noise(
     values: &[u64],
     delta: &[u8],
 ) -> usize
-    requires { ⌜ NoisePlaced front (inputFrom front (now roots) (now positions) (now values) (now delta) (now «code_key») (now label)) (length (now out)) ⌝ }
-    ensures { λ r. ⌜ Wrote (now (out .entry)) 0 (writeNoise (noisePart (inputFrom front (now (roots .entry)) (now (positions .entry)) (now (values .entry)) (now (delta .entry)) (now («code_key» .entry)) (now (label .entry))))) r (now (out .exit)) ⌝ }
+    requires { ⌜ NoisePlaced front (inputFrom front (now roots) (now positions) (now values) (now delta) (now «code_key») (now label))
+        (length (now out)) ⌝ }
+    ensures { λ r. ⌜ Wrote (now (out .entry)) 0
+        (writeNoise (noisePart (inputFrom front (now (roots .entry)) (now (positions .entry)) (now (values .entry)) (now (delta .entry))
+        (now («code_key» .entry)) (now (label .entry))))) r (now (out .exit)) ⌝ }
 {
     write_head(out, 1, front, code_key, label);
     write_trees(out, front, roots, positions, values, delta)
-}
-
-// Writes the noise record at the buffer's front, if the answer's number is 0.
-pub fn write_noise_part(
-    out: &mut [u8],
-    call: Call,
-    code_key: &[u8],
-    label: &[u8],
-    roots: &[u8],
-    positions: &[u32],
-    values: &[u64],
-    delta: &[u8],
-)
-    requires { ⌜ NoiseReady (call .answer) (call .front) (inputFrom (call .front) (now roots) (now positions) (now values) (now delta) (now «code_key») (now label)) (length (now out)) ⌝ }
-    ensures { λ _. ⌜ now (out .exit) ≡ writtenIf (call .answer .number) (writeNoise (noisePart (inputFrom (call .front) (now (roots .entry)) (now (positions .entry)) (now (values .entry)) (now (delta .entry)) (now («code_key» .entry)) (now (label .entry))))) (now (out .entry)) ⌝ }
-{
-    if call.answer.number != 0 {
-        return;
-    }
-    write_noise(
-        out,
-        call.front,
-        code_key,
-        label,
-        roots,
-        positions,
-        values,
-        delta,
-    );
 }

@@ -1,30 +1,30 @@
 // The scalar record.
 ghost use mathlib.Core.Path.{_≡_};
 ghost use lib.ListN.{length};
+ghost use Rattle.number.specs.Inner.Written.{Wrote};
 ghost use Rattle.record.specs.Inner.Heads.{scalarWith};
 ghost use Rattle.record.specs.Writing.{writeScalar};
 ghost use Rattle.dealing.specs.Input.{wordsOf};
-ghost use Rattle.dealing.specs.Inner.Steps.{ScalarReady, writtenIf};
-use crate::Call;
+ghost use Rattle.dealing.specs.Inner.Steps.{ScalarPlaced};
 use field::word_at;
+use record::Front;
 use record::write_scalar;
 
-// Writes the scalar record at the buffer's front, if the answer's number is 0.
+// Writes the scalar record at the buffer's front; its length.
 pub fn write_scalar_part(
     out: &mut [u8],
-    call: Call,
+    front: Front,
     code_key: &[u8],
     label: &[u8],
     delta: &[u8],
     roots: &[u8],
-)
-    requires { ⌜ ScalarReady (call .answer) (call .front) (now «code_key») (now label) (now delta) (now roots) (length (now out)) ⌝ }
-    ensures { λ _. ⌜ now (out .exit) ≡ writtenIf (call .answer .number) (writeScalar (scalarWith (call .front) (now («code_key» .entry)) (now (label .entry)) (wordsOf (call .front .field) (now (delta .entry))) (now (roots .entry)))) (now (out .entry)) ⌝ }
+) -> usize
+    requires { ⌜ ScalarPlaced front (now «code_key») (now label) (now delta) (now roots) (length (now out)) ⌝ }
+    ensures { λ r. ⌜ Wrote (now (out .entry)) 0
+        (writeScalar (scalarWith front (now («code_key» .entry)) (now (label .entry)) (wordsOf (front .field) (now (delta .entry))) (now (roots .entry))))
+        r (now (out .exit)) ⌝ }
 {
-    if call.answer.number != 0 {
-        return;
-    }
     let low = word_at(delta, 0);
     let high = word_at(delta, 8);
-    write_scalar(out, call.front, code_key, label, low, high, roots);
+    write_scalar(out, front, code_key, label, low, high, roots)
 }

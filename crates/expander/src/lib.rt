@@ -1,10 +1,10 @@
 // The public calls under their exported names. Each meets the contract of the call that it passes on to.
 ghost use mathlib.Core.Path.{_≡_};
-ghost use Rattle.dealing.specs.Deal.{deal, dealt};
+ghost use Rattle.dealing.specs.Deal.{deal, lentDeal};
 ghost use Rattle.dealing.specs.Input.{inputWith};
 ghost use Rattle.noise_end.specs.Offline as noiseOffline;
 ghost use Rattle.noise_end.specs.Online as noiseOnline;
-ghost use Rattle.answer.specs.Outcome.{outcomeNone};
+ghost use Rattle.answer.specs.Outcome.{outcomeNone, outcomeTwo};
 ghost use Rattle.pads.specs.Calls.{lentNoise, lentScalar, noisePads, scalarPads};
 ghost use Rattle.scalar_end.specs.Offline as scalarOffline;
 ghost use Rattle.scalar_end.specs.Online as scalarOnline;
@@ -38,11 +38,13 @@ pub extern "C" fn expander_deal(
     noise_record: &mut [u8],
     scalar_record: &mut [u8],
 ) -> TwoLengths
-    ensures { λ r. ⌜ dealt r
-        (inputWith field depth «branch_bits» trees terms outputs (now (roots .exit)) (now (positions .exit)) (now (values .exit)) (now (delta .exit)) (now («code_key» .exit)) (now (label .exit)))
-        (now («noise_record» .exit)) (now («scalar_record» .exit))
+    ensures { λ r. ⌜ outcomeTwo r (lentDeal
+        (inputWith field depth «branch_bits» trees terms outputs (now (roots .exit)) (now (positions .exit)) (now (values .exit))
+        (now (delta .exit)) (now («code_key» .exit)) (now (label .exit)))
+        (now («noise_record» .exit)) (now («scalar_record» .exit)))
         ≡ deal
-        (inputWith field depth «branch_bits» trees terms outputs (now (roots .entry)) (now (positions .entry)) (now (values .entry)) (now (delta .entry)) (now («code_key» .entry)) (now (label .entry)))
+        (inputWith field depth «branch_bits» trees terms outputs (now (roots .entry)) (now (positions .entry)) (now (values .entry))
+        (now (delta .entry)) (now («code_key» .entry)) (now (label .entry)))
         (now («noise_record» .entry)) (now («scalar_record» .entry)) ⌝ }
 {
     dealing::deal(

@@ -1,20 +1,18 @@
 -- Inner: no promise cites this file. What is written of a dealing's trees, and when it can be written at a place.
 use mathlib.Core.Path.{_≡_}
 use mathlib.Core.List.{List, [], _∷_, map}
-use mathlib.Core.Bool.{_||_}
 use Prim.Native.Nat.{ℕ, _-_, _*_, _/_, _^_, _≤_, _<_}
-use lib.Dec.{ltb, eqb}
 use lib.ListN.{length, getD}
-use Rattle.algebra.specs.Choice.{choose}
 use Rattle.algebra.specs.Expansion.{Rising, correction}
-use Rattle.answer.specs.declared.TwoLengths.{TwoLengths}
+use Rattle.answer.specs.Numbers.{bufferShort}
+use Rattle.answer.specs.Tests.{Test, _atMost_, _or_}
 use Rattle.field.specs.Kind.{kindOf}
 use Rattle.number.specs.Inner.Written.{Room}
 use Rattle.record.specs.Content.{NoiseTree}
 use Rattle.record.specs.Writing.{writeTree, writeTrees, writeNoise, writeScalar}
 use Rattle.record.specs.Inner.Heads.{scalarWith}
 use Rattle.record.specs.Inner.Rising.{RisesFrom}
-use Rattle.record.specs.Inner.Lengths.{Writable, frontBytes, headLength, noiseLength, scalarLength}
+use Rattle.record.specs.Inner.Lengths.{Writable, frontBytes, noiseLength, scalarLength}
 use Rattle.record.specs.declared.Front.{Front}
 use Rattle.sbox.specs.Inner.Tables.{RoundTables}
 use Rattle.tree.specs.Child.{child}
@@ -23,8 +21,7 @@ use Rattle.tree.specs.Columns.{columnsBytes}
 use Rattle.tree.specs.KeySchedules.{OfChildKeys}
 use Rattle.tree.specs.Tree.{siblings, listed, leafAt}
 use Rattle.dealing.specs.Admitted.{Admitted}
-use Rattle.dealing.specs.Deal.{front}
-use Rattle.dealing.specs.Input.{Input, inputWith, wordsOf, fault}
+use Rattle.dealing.specs.Input.{Input, inputWith, wordsOf}
 use Rattle.dealing.specs.Parts.{noiseTree, noisePart}
 use Rattle.dealing.specs.declared.noise.Planned.{Planned}
 
@@ -51,16 +48,17 @@ frontFor I body =
       body = body;
     }
 
--- the answer of a refused call
-abbrev pub refusal : ℕ → TwoLengths
-refusal k = record { number = k; «first_written» = 0; «second_written» = 0 }
+-- the lengths that the tests of positions, noise values and Δ ask for
+pub record Lengths (f : Front) (positions values delta : ℕ) : Type 0 where
+  pub depth : f .depth ≤ 16
+  pub position-count : positions ≡ f .trees
+  pub value-count : values ≡ f .trees
+  pub delta-bytes : delta ≡ 16
 
--- the answer of a call whose input has this first fault, whose records take so many bytes, and whose buffers have these lengths
-unfoldable pub answerFor : ℕ → ℕ → ℕ → ℕ → ℕ → TwoLengths
-answerFor number noise scalar noiseRoom scalarRoom =
-    choose (eqb number 0)
-    (choose (ltb noiseRoom noise || ltb scalarRoom scalar) (refusal 13) (record { number = 0; «first_written» = noise; «second_written» = scalar }))
-    (refusal number)
+-- the tests of room for both records, from the head's numbers and the positions
+abbrev pub measuredTests : Front → List ℕ → ℕ → ℕ → List Test
+measuredTests f positions noiseRoom scalarRoom =
+    noiseLength f positions atMost noiseRoom or bufferShort ∷ scalarLength f atMost scalarRoom or bufferShort ∷ []
 
 -- the noise record of an admitted input can be written at the front of a buffer of this length
 pub record NoisePlaced (f : Front) (I : Input) (n : ℕ) : Type 0 where
@@ -76,24 +74,6 @@ pub record ScalarPlaced (f : Front) (codeKey label delta roots : List ℕ) (n : 
   pub delta-bytes : length delta ≡ 16
   pub root-bytes : length roots ≡ 16 * f .trees
   pub room : length (writeScalar (scalarWith f codeKey label (wordsOf (f .field) delta) roots)) ≤ n
-
--- the same after an answer with number 0
-pub record NoiseReady (r : TwoLengths) (f : Front) (I : Input) (n : ℕ) : Type 0 where
-  pub placed : r .number ≡ 0 → NoisePlaced f I n
-
-pub record ScalarReady (r : TwoLengths) (f : Front) (codeKey label delta roots : List ℕ) (n : ℕ) : Type 0 where
-  pub placed : r .number ≡ 0 → ScalarPlaced f codeKey label delta roots n
-
--- a buffer after a call's answer: bytes over its front where the number is 0
-unfoldable pub writtenIf : ℕ → List ℕ → List ℕ → List ℕ
-writtenIf number bytes buffer = choose (eqb number 0) (front bytes buffer) buffer
-
--- the answer to an input, for buffers of these lengths; the head's numbers say where its body begins
-pub record Answered (f : Front) (I : Input) (noiseRoom scalarRoom : ℕ) (r : TwoLengths) : Type 0 where
-  pub begins : f .body ≡ headLength (I .depth) (I .branchBits) (I .trees) (I .terms) (I .outputs)
-  pub answer : r ≡ answerFor (fault I) (noiseLength f (I .positions)) (scalarLength f) noiseRoom scalarRoom
-  pub noise : NoiseReady r f I noiseRoom
-  pub scalar : ScalarReady r f (I .codeKey) (I .label) (I .delta) (I .roots) scalarRoom
 
 -- the numbers of a head that can be written, and positions of so many trees at most that rise
 pub record Measured (f : Front) (positions : List ℕ) : Type 0 where

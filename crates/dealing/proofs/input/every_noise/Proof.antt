@@ -1,18 +1,22 @@
--- `dealing::input::every_noise` meets its contract. The loop's invariant: what is left of the values decides; the measure is what is left of them. Assumes nothing.
-use mathlib.Core.Path.{refl}
-use Prim.Native.Nat.{_-_}
-use lib.ListN.{length}
+-- `dealing::input::every_noise` meets its contract. The loop's invariant: the first i values are admitted; the measure is what is left of
+-- them. Assumes nothing.
+use mathlib.Core.Path.{_≡_}
+use mathlib.Core.Bool.{true}
+use Prim.Native.Nat.{_-_, _≤_}
+use native.Mathlib.Omega.{arith}
 use borrow.Author.Needs.{needs}
 use borrow.Author.Tests.{not-true, not-false}
-use Rattle.dealing.proofs.Tests.{NoiseLeft, noise-refused, noise-next, noise-done}
+use Rattle.algebra.proofs.Every.{every-none}
+use Rattle.dealing.specs.Input.{everyNoise}
+use Rattle.dealing.proofs.Tests.{noise-refused, noise-next, noise-done}
 use Rattle.dealing.proofs.input.every_noise.Statement.{statement}
 use Rattle.dealing.proofs.input.every_noise.Tie as tie
 
 abbrev Inv-loop : tie.InvT-loop
-Inv-loop field values i₀ i = NoiseLeft field values i
+Inv-loop field trees values i₀ i = (everyNoise field i values ≡ true) × (i ≤ trees)
 
 abbrev μ-loop : tie.MeasureT-loop
-μ-loop field values i₀ i = length values - i
+μ-loop field trees values i₀ i = trees - i
 
 pub every-noise-spec : {M : Type 1} → statement M
 every-noise-spec =
@@ -20,13 +24,13 @@ every-noise-spec =
     (tie.spec
     Inv-loop
     μ-loop
-    (λ c. refl)  -- loop-holds
+    (λ c. (every-none _, omega arith))  -- loop-holds
     (λ c. search needs)  -- mul-is-noise
     (λ c. search needs)  -- shared-slice-read-is-noise
     (λ c κs. search needs)  -- is-noise-requires
     (λ c. search (noise-refused, not-true))  -- returns
     (λ c. search needs)  -- add-i
     (λ c. search needs)  -- loop-less
-    (λ c. search (noise-next, not-false))  -- loop-again
+    (λ c. (search (noise-next, not-false), omega arith))  -- loop-again
     (λ c. search noise-done)  -- returns-2
     )

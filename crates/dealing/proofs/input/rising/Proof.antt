@@ -1,17 +1,16 @@
--- `dealing::input::rising` meets its contract. The loop's invariant: what is left of the positions decides; the measure is what is left of them. Assumes nothing.
-use mathlib.Core.Path.{refl}
-use Prim.Native.Nat.{_-_}
-use lib.ListN.{length}
+-- `dealing::input::rising` meets its contract. The loop's invariant: the first i positions rise and are below N; the measure is what is
+-- left of them. Assumes nothing.
+use Prim.Native.Nat.{_-_, _^_}
 use borrow.Author.Needs.{needs}
-use Rattle.dealing.proofs.Tests.{Left, rising-low, rising-high, rising-next, rising-done}
+use Rattle.dealing.proofs.Positions.{Risen, rising-start, rising-low, rising-high, rising-next, rising-done}
 use Rattle.dealing.proofs.input.rising.Statement.{statement}
 use Rattle.dealing.proofs.input.rising.Tie as tie
 
 abbrev Inv-loop : tie.InvT-loop
-Inv-loop all positions base₀ i₀ base i = Left all positions base i
+Inv-loop depth trees positions all base₀ i₀ base i = Risen (2 ^ depth) trees positions base i
 
 abbrev μ-loop : tie.MeasureT-loop
-μ-loop all positions base₀ i₀ base i = length positions - i
+μ-loop depth trees positions all base₀ i₀ base i = trees - i
 
 pub rising-spec : {M : Type 1} → statement M
 rising-spec =
@@ -19,7 +18,8 @@ rising-spec =
     (tie.spec
     Inv-loop
     μ-loop
-    (λ c. refl)  -- loop-holds
+    (λ c κs. search needs)  -- leaves-requires
+    (λ c. search rising-start)  -- loop-holds
     (λ c. search needs)  -- mul-wide
     (λ c. search needs)  -- shared-slice-read-wide
     (λ c κs. search needs)  -- wide-requires

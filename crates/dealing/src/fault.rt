@@ -1,0 +1,65 @@
+// The number that the call returns, by document 01's tests and in their order.
+ghost use mathlib.Core.Path.{_≡_};
+ghost use Rattle.answer.specs.Tests.{firstFault};
+ghost use Rattle.record.specs.Inner.Lengths.{headLength};
+ghost use Rattle.dealing.specs.Deal.{dealTests};
+ghost use Rattle.dealing.specs.Inner.Steps.{inputFrom, Measured, measuredTests};
+use crate::input::content_number;
+use crate::input::lengths_number;
+use crate::input::sizes_number;
+use answer::BUFFER_SHORT;
+use record::Front;
+use record::noise_length;
+use record::scalar_length;
+
+// The lengths of both buffers.
+pub struct Rooms {
+    pub noise: usize,
+    pub scalar: usize,
+}
+
+// 13 where a record has no room in its buffer, else 0.
+fn rooms_number(front: Front, rooms: Rooms, positions: &[u32]) -> u32
+    requires { ⌜ Measured front (now positions) ⌝ }
+    ensures { λ r. ⌜ r ≡ firstFault (measuredTests front (now (positions .entry)) (rooms .noise) (rooms .scalar)) ⌝ }
+{
+    let noise_bytes = noise_length(front, positions);
+    if rooms.noise < noise_bytes {
+        return BUFFER_SHORT;
+    }
+    let scalar_bytes = scalar_length(front);
+    if rooms.scalar < scalar_bytes {
+        return BUFFER_SHORT;
+    }
+    0
+}
+
+// The number for an input and buffers of these lengths.
+pub fn deal_number(
+    front: Front,
+    rooms: Rooms,
+    roots: &[u8],
+    positions: &[u32],
+    values: &[u64],
+    delta: &[u8],
+    code_key: &[u8],
+    label: &[u8],
+) -> u32
+    requires { ⌜ front .body ≡ headLength (front .depth) (front .«branch_bits») (front .trees) (front .terms) (front .outputs) ⌝ }
+    ensures { λ r. ⌜ r ≡ firstFault (dealTests (inputFrom front (now (roots .entry)) (now (positions .entry)) (now (values .entry))
+        (now (delta .entry)) (now («code_key» .entry)) (now (label .entry))) (rooms .noise) (rooms .scalar)) ⌝ }
+{
+    let sizes = sizes_number(front);
+    if sizes != 0 {
+        return sizes;
+    }
+    let lengths = lengths_number(front, roots, positions, values, delta, code_key, label);
+    if lengths != 0 {
+        return lengths;
+    }
+    let content = content_number(front, positions, values, delta);
+    if content != 0 {
+        return content;
+    }
+    rooms_number(front, rooms, positions)
+}
