@@ -1,10 +1,14 @@
 -- The expansion for the bench is the online call on the record's offline vectors, at both ends.
 use mathlib.Core.Path.{_≡_, refl, sym, ap, ap₂, _∙_}
-use mathlib.Core.Bool.{Bool, true, false}
-use mathlib.Core.List.{List, _++_}
+use mathlib.Core.Bool.{Bool, true, false, not, _||_}
+use mathlib.Core.List.{List, [], _∷_, _++_}
 use Prim.Native.Nat.{ℕ, suc, _+_, _*_, _≤_, _<_}
 use native.Mathlib.Omega.{arith}
-use lib.ListN.{take, drop}
+use lib.Dec.{ltb, leb}
+use lib.ListN.{length, take, drop}
+use borrow.Author.Tests.{ltb-true, ltb-false, le-leb, lt-leb}
+use Rattle.answer.specs.Outcome.{TwoWritten, byNumber, answered, refusedOne, refusedTwo, wrote}
+use Rattle.answer.specs.Tests.{_atMost_, _or_, firstFault, isMet}
 use Rattle.algebra.specs.Choice.{choose}
 use Rattle.algebra.specs.Coding.{CodingLaws, at, flat, over}
 use Rattle.algebra.specs.Field.{NoiseValue, Value}
@@ -40,6 +44,38 @@ row-same : (h : Head) → h .terms ≤ places h → (x : ℕ) (S : Scaled (field
 row-same h full x S L f g e =
     row-output h full x S g (accumulate (S .group) f) e
     ∙ common-facts (fieldOf h .ring) S (kindLaws (h .field) .field .ring) L .matrix (places h) (row h x) (row-within h full x) f
+
+-- the tests 7 and 13 of the expansion, one after the other
+at-most-is : (a b : ℕ) → leb a b ≡ not (ltb b a)
+at-most-is a b = decide (ltb b a) refl
+  where
+    decide : (t : Bool) → ltb b a ≡ t → leb a b ≡ not t
+    decide true e = lt-leb a b (ltb-true b a e)
+    decide false e = le-leb a b (ltb-false b a e)
+
+module _ {O : Type 0} (refusal : ℕ → O) (acceptance : O) where
+  by-three : (past u v : Bool)
+      → byNumber (choose (not past) (choose (not u) (choose (not v) 0 13) 13) 7) refusal acceptance
+      ≡ choose past (refusal 7) (choose (u || v) (refusal 13) acceptance)
+  unfolding byNumber
+  by-three true u v = refl
+  by-three false true v = refl
+  by-three false false true = refl
+  by-three false false false = refl
+
+  -- with two buffers, and with one
+  three-tests : (end to uRoom count vRoom words : ℕ)
+      → answered (to atMost end or 7 ∷ count atMost uRoom or 13 ∷ words atMost vRoom or 13 ∷ []) refusal acceptance
+      ≡ choose (ltb end to) (refusal 7) (choose (ltb uRoom count || ltb vRoom words) (refusal 13) acceptance)
+  unfolding answered firstFault isMet
+  three-tests end to uRoom count vRoom words =
+      rw (at-most-is to end, at-most-is count uRoom, at-most-is words vRoom) (by-three (ltb end to) (ltb uRoom count) (ltb vRoom words))
+
+  two-tests : (end to room words : ℕ)
+      → answered (to atMost end or 7 ∷ words atMost room or 13 ∷ []) refusal acceptance
+      ≡ choose (ltb end to) (refusal 7) (choose (ltb room words) (refusal 13) acceptance)
+  unfolding answered firstFault isMet
+  two-tests end to room words = rw (at-most-is to end, at-most-is words room) (by-three (ltb end to) false (ltb room words))
 
 -- neither 3 nor 8
 neither : (past short : Bool) → (_≡_ {A = ℕ} (choose past 7 (choose short 13 0)) 3 → ⊥) × (_≡_ {A = ℕ} (choose past 7 (choose short 13 0)) 8 → ⊥)
@@ -102,7 +138,7 @@ module _ (E : NoiseExpanded) (first count : ℕ) (uOut vOut : List ℕ) where
       ∙ at-flat (fieldOf (part .head) .elements) (kindLaws (part .head .field) .field .elements) (places (part .head)) (accumulate (fieldOf (part .head) .scaled .group) (v0 part)) j l)
 
   abbrev here : noise.Lent
-  here = record { source = E .source; uOut = uOut; vOut = vOut }
+  here = noise.lentWith (E .source) uOut vOut
 
   abbrev seenLent : noiseOnline.Lent → noise.Lent
   seenLent l = record { source = l .source; uOut = l .uOut; vOut = l .vOut }
@@ -121,16 +157,18 @@ module _ (E : NoiseExpanded) (first count : ℕ) (uOut vOut : List ℕ) where
   pub noise-same : noise.direct here first count ≡ noiseSeen (noiseOnlineCall E first count uOut vOut)
   unfolding noise.window
   noise-same =
-      let last : noise.Outcome = record { number = 0; firstWritten = count; secondWritten = count * fieldOf (part .head) .elements .width; lent = noise.filled part here first count } in
+      let words = count * fieldOf (part .head) .elements .width in
       let there : noiseOnline.Outcome =
-      record { number = 0; firstWritten = count; secondWritten = count * fieldOf (part .head) .elements .width; lent = noiseOnline.filled (part .head) lent first count } in
+      record { number = 0; firstWritten = count; secondWritten = words; lent = noiseOnline.filled (part .head) lent first count } in
+      let past = pastEnd (part .head) first count in
       let short = noiseOnline.tooShort (part .head) count uOut vOut in
       noise-whole here first count (E .read)
-      ∙ ap (λ (l : noise.Lent). choose (pastEnd (part .head) first count) (noise.refusal 7 here) (choose short (noise.refusal 13 here)
-      (record { number = 0; firstWritten = count; secondWritten = count * fieldOf (part .head) .elements .width; lent = l }))) filled-same
+      ∙ three-tests (refusedTwo here) _ (part .head .outputs) (first + count) (length uOut) count (length vOut) words
+      ∙ ap (λ (l : noise.Lent). choose past (refusedTwo here 7) (choose short (refusedTwo here 13) (wrote {Written = TwoWritten} (record { first = count; second = words }) l)))
+      filled-same
       ∙ sym (ap noiseSeen listed
-      ∙ choose-map noiseSeen (pastEnd (part .head) first count) (noiseOnline.refusal 7 lent) (choose short (noiseOnline.refusal 13 lent) there)
-      ∙ ap (choose (pastEnd (part .head) first count) (noise.refusal 7 here)) (choose-map noiseSeen short (noiseOnline.refusal 13 lent) there))
+      ∙ choose-map noiseSeen past (noiseOnline.refusal 7 lent) (choose short (noiseOnline.refusal 13 lent) there)
+      ∙ ap (choose past (refusedTwo here 7)) (choose-map noiseSeen short (noiseOnline.refusal 13 lent) there))
 
   numbers : noiseOnlineCall E first count uOut vOut .number ≡ choose (pastEnd (part .head) first count) 7 (choose (noiseOnline.tooShort (part .head) count uOut vOut) 13 0)
   numbers =
@@ -175,7 +213,7 @@ module _ (D : ScalarExpanded) (first count : ℕ) (wOut : List ℕ) where
       ∙ at-flat (fieldOf (whole .head) .elements) (kindLaws (whole .head .field) .field .elements) (places (whole .head)) (accumulate (fieldOf (whole .head) .scaled .group) (w0 whole)) j l)
 
   abbrev here-w : scalar.Lent
-  here-w = record { source = D .source; wOut = wOut }
+  here-w = scalar.lentWith (D .source) wOut
 
   filled-w : scalar.filled whole here-w first count
       ≡ record { source = D .source; wOut = scalarOnline.filled (whole .head) lent-w first count .wOut }
@@ -189,14 +227,16 @@ module _ (D : ScalarExpanded) (first count : ℕ) (wOut : List ℕ) where
   pub scalar-same : scalar.direct here-w first count ≡ scalarSeen (scalarOnlineCall D first count wOut)
   unfolding scalar.window scalarOnline.filled
   scalar-same =
-      let there : scalarOnline.Outcome = record { number = 0; written = count * fieldOf (whole .head) .elements .width; lent = scalarOnline.filled (whole .head) lent-w first count } in
+      let words = count * fieldOf (whole .head) .elements .width in
+      let there : scalarOnline.Outcome = record { number = 0; written = words; lent = scalarOnline.filled (whole .head) lent-w first count } in
+      let past = pastEnd (whole .head) first count in
       let short = scalarOnline.tooShort (whole .head) count wOut in
       scalar-whole here-w first count (D .read)
-      ∙ ap (λ (l : scalar.Lent). choose (pastEnd (whole .head) first count) (scalar.refusal 7 here-w) (choose short (scalar.refusal 13 here-w)
-      (record { number = 0; written = count * fieldOf (whole .head) .elements .width; lent = l }))) filled-w
+      ∙ two-tests (refusedOne here-w) _ (whole .head .outputs) (first + count) (length wOut) words
+      ∙ ap (λ (l : scalar.Lent). choose past (refusedOne here-w 7) (choose short (refusedOne here-w 13) (wrote words l))) filled-w
       ∙ sym (ap scalarSeen listed-w
-      ∙ choose-map scalarSeen (pastEnd (whole .head) first count) (scalarOnline.refusal 7 lent-w) (choose short (scalarOnline.refusal 13 lent-w) there)
-      ∙ ap (choose (pastEnd (whole .head) first count) (scalar.refusal 7 here-w)) (choose-map scalarSeen short (scalarOnline.refusal 13 lent-w) there))
+      ∙ choose-map scalarSeen past (scalarOnline.refusal 7 lent-w) (choose short (scalarOnline.refusal 13 lent-w) there)
+      ∙ ap (choose past (refusedOne here-w 7)) (choose-map scalarSeen short (scalarOnline.refusal 13 lent-w) there))
 
   numbers-w : scalarOnlineCall D first count wOut .number ≡ choose (pastEnd (whole .head) first count) 7 (choose (scalarOnline.tooShort (whole .head) count wOut) 13 0)
   numbers-w =

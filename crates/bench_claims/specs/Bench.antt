@@ -5,6 +5,7 @@ use mathlib.Core.Path.{_≡_}
 use Prim.Native.Nat.{ℕ}
 use lib.ListN.{take}
 use Rattle.answer.specs.Numbers.{accepted, badLength, notElement}
+use Rattle.answer.specs.Outcome.{Outcome, TwoWritten}
 use Rattle.number.specs.Reading.{Whole}
 use Rattle.record.specs.Content.{NoisePart, ScalarPart}
 use Rattle.record.specs.Reading.{readNoise, readScalar}
@@ -58,25 +59,23 @@ scalarOnlineCall D first count wOut =
     scalarOnline.online (record { source = D .source; w = take (scalarAfter D .firstWritten) (scalarAfter D .w); wOut = wOut }) first count
 
 -- what such a call returns, and leaves in the record and in the output buffers
-abbrev pub noiseSeen : noiseOnline.Outcome → noise.Outcome
+abbrev pub noiseSeen : noiseOnline.Outcome → Outcome TwoWritten noise.Lent
 noiseSeen o =
     record {
       number = o .number;
-      firstWritten = o .firstWritten;
-      secondWritten = o .secondWritten;
-      lent = record { source = o .lent .source; uOut = o .lent .uOut; vOut = o .lent .vOut };
+      written = record { first = o .firstWritten; second = o .secondWritten };
+      lent = noise.lentWith (o .lent .source) (o .lent .uOut) (o .lent .vOut);
     }
 
-abbrev pub scalarSeen : scalarOnline.Outcome → scalar.Outcome
-scalarSeen o =
-    record { number = o .number; written = o .written; lent = record { source = o .lent .source; wOut = o .lent .wOut } }
+abbrev pub scalarSeen : scalarOnline.Outcome → Outcome ℕ scalar.Lent
+scalarSeen o = record { number = o .number; written = o .written; lent = scalar.lentWith (o .lent .source) (o .lent .wOut) }
 
 pub record Bench : Type 0 where
   -- for every accepted record, window and output buffers the expansion is the online call, refusals by 7 and 13 too
   pub noise-same : (E : NoiseExpanded) (first count : ℕ) (uOut vOut : List ℕ)
-      → noise.direct (record { source = E .source; uOut = uOut; vOut = vOut }) first count ≡ noiseSeen (noiseOnlineCall E first count uOut vOut)
+      → noise.direct (noise.lentWith (E .source) uOut vOut) first count ≡ noiseSeen (noiseOnlineCall E first count uOut vOut)
   pub scalar-same : (D : ScalarExpanded) (first count : ℕ) (wOut : List ℕ)
-      → scalar.direct (record { source = D .source; wOut = wOut }) first count ≡ scalarSeen (scalarOnlineCall D first count wOut)
+      → scalar.direct (scalar.lentWith (D .source) wOut) first count ≡ scalarSeen (scalarOnlineCall D first count wOut)
   -- on those vectors the online call refuses neither by 3 nor by 8
   pub noise-vectors : (E : NoiseExpanded) (first count : ℕ) (uOut vOut : List ℕ)
       → (noiseOnlineCall E first count uOut vOut .number ≡ badLength → ⊥) × (noiseOnlineCall E first count uOut vOut .number ≡ notElement → ⊥)

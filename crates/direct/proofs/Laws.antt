@@ -1,24 +1,19 @@
--- Laws of the two calls: on an accepted record the window, on a refused one the record's number.
-use mathlib.Core.Path.{_≡_}
+-- Laws of the two calls: on an accepted record the window.
+use mathlib.Core.Path.{_≡_, refl, sym}
 use Prim.Native.Nat.{ℕ}
-use Rattle.number.specs.Reading.{Whole, Refused}
+use Rattle.number.specs.Reading.{Whole}
+use Rattle.number.proofs.Records.{read-whole}
 use Rattle.record.specs.Content.{NoisePart, ScalarPart}
 use Rattle.record.specs.Reading.{readNoise, readScalar}
 use Rattle.direct.specs.Noise as noise
 use Rattle.direct.specs.Scalar as scalar
 
-pub noise-whole : (l : noise.Lent) {P : NoisePart} (first count : ℕ) → readNoise (l .source) ≡ Whole P → noise.direct l first count ≡ noise.window P l first count
+pub noise-whole : (l : noise.Lent) {P : NoisePart} (first count : ℕ) → readNoise (l .source) ≡ Whole P
+    → noise.direct l first count ≡ noise.window P l first count
 unfolding noise.direct
-noise-whole l first count e = rw e
+noise-whole l {P} first count e = sym (read-whole _ _ _ _ P e refl)
 
-pub noise-refused : (l : noise.Lent) {k : ℕ} (first count : ℕ) → readNoise (l .source) ≡ Refused k → noise.direct l first count ≡ noise.refusal k l
-unfolding noise.direct
-noise-refused l first count e = rw e
-
-pub scalar-whole : (l : scalar.Lent) {P : ScalarPart} (first count : ℕ) → readScalar (l .source) ≡ Whole P → scalar.direct l first count ≡ scalar.window P l first count
+pub scalar-whole : (l : scalar.Lent) {P : ScalarPart} (first count : ℕ) → readScalar (l .source) ≡ Whole P
+    → scalar.direct l first count ≡ scalar.window P l first count
 unfolding scalar.direct
-scalar-whole l first count e = rw e
-
-pub scalar-refused : (l : scalar.Lent) {k : ℕ} (first count : ℕ) → readScalar (l .source) ≡ Refused k → scalar.direct l first count ≡ scalar.refusal k l
-unfolding scalar.direct
-scalar-refused l first count e = rw e
+scalar-whole l {P} first count e = sym (read-whole _ _ _ _ P e refl)

@@ -81,7 +81,8 @@ module _ (s : List ℕ) (f : Front) (keys : List (List ℕ)) (a b : Start) (j : 
       ∙ walked-leaf (f .«branch_bits») keys (both .own) (r .left) (columnsAt s (r .at)) j
 
   pub two-walked-are : {m n : List (List ℕ)} → m ≡ columnsAt s (a .at) → n ≡ columnsAt s (b .at) → {leaves : List (List (List ℕ))}
-      → leaves ≡ leafAt (2 ^ f .«branch_bits») (childBy (keysFor keys)) (a .left) m j ∷ leafAt (2 ^ f .«branch_bits») (childBy (keysFor keys)) (b .left) n j ∷ []
+      → leaves ≡ leafAt (2 ^ f .«branch_bits») (childBy (keysFor keys)) (a .left) m j
+      ∷ leafAt (2 ^ f .«branch_bits») (childBy (keysFor keys)) (b .left) n j ∷ []
       → (c d e : Element) → elementIn (f .field) e ≡ kindOf (f .field) .field .scaled .group .add (elementIn (f .field) c) (elementIn (f .field) d)
       → elementIn (f .field) c ≡ kindOf (f .field) .leaf (getD leaves 0 []) → elementIn (f .field) d ≡ kindOf (f .field) .leaf (getD leaves 1 [])
       → elementIn (f .field) e ≡ twoLeaves s f a b j
@@ -125,7 +126,11 @@ module _ (vector : ℕ) (s : List ℕ) (f : Front) (j : ℕ) where
   laws = kindLaws (f .field) .field .scaled .group
 
   pub partly-none : Partly vector s f j 0 (record { low = 0; high = 0 })
-  partly-none = record { within = omega arith; sum = element-zero (f .field) ∙ sym (sum-none (kindOf (f .field) .field .scaled .group) (λ k. leafOf vector s f k j)) }
+  partly-none =
+      record {
+        within = omega arith;
+        sum = element-zero (f .field) ∙ sym (sum-none (kindOf (f .field) .field .scaled .group) (λ k. leafOf vector s f k j));
+      }
 
   module _ {i : ℕ} {total : Element} (p : Partly vector s f j i total) where
     pub partly-two : i + 1 < f .trees → (both : Element) {next : Element}
@@ -183,7 +188,8 @@ module _ (table : List ℕ) (j : ℕ) where
 
 module _ (s : List ℕ) (f : Front) (table : List ℕ) where
   noise-words : (n : ℕ) → TreesIn s f table n → (j : ℕ)
-      → noiseIn (f .field) (noiseWord table n j) ≡ noise (kindOf (f .field) .field .ring) n (λ i. noiseEnd.tree (contentOf s f) i .position) (noiseEnd.value (contentOf s f)) j
+      → noiseIn (f .field) (noiseWord table n j)
+      ≡ noise (kindOf (f .field) .field .ring) n (λ i. noiseEnd.tree (contentOf s f) i .position) (noiseEnd.value (contentOf s f)) j
   unfolding noiseWord noise
   noise-words zero trees j = noise-zero (f .field)
   noise-words (suc n) trees j =

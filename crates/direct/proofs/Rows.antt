@@ -54,7 +54,8 @@ module _ (field : ℕ) (rows : List ℕ) (j k : ℕ) {r : ℕ} where
       let K = kindOf field in
       ap (noiseIn field) q ∙ noise-sum-is field (getD rows k 0) (getD rows (64 + k) 0)
       ∙ ap (K .field .ring .group .add (noiseIn field (getD rows k 0)))
-      (sym (choose-true (leb j (getD rows (32 + k) 0)) (noiseIn field (getD rows (64 + k) 0)) (K .field .ring .group .zero) (le-leb j (getD rows (32 + k) 0) h)))
+      (sym (choose-true (leb j (getD rows (32 + k) 0)) (noiseIn field (getD rows (64 + k) 0)) (K .field .ring .group .zero)
+      (le-leb j (getD rows (32 + k) 0) h)))
 
   pub entry-without : getD rows (32 + k) 0 < j → r ≡ noiseSum field (getD rows k 0) 0 → noiseIn field r ≡ entryIn field rows j k
   unfolding entryIn
@@ -63,7 +64,8 @@ module _ (field : ℕ) (rows : List ℕ) (j k : ℕ) {r : ℕ} where
       ap (noiseIn field) q ∙ noise-sum-is field (getD rows k 0) 0
       ∙ ap (K .field .ring .group .add (noiseIn field (getD rows k 0)))
       (noise-zero field
-      ∙ sym (choose-false (leb j (getD rows (32 + k) 0)) (noiseIn field (getD rows (64 + k) 0)) (K .field .ring .group .zero) (lt-leb j (getD rows (32 + k) 0) h)))
+      ∙ sym (choose-false (leb j (getD rows (32 + k) 0)) (noiseIn field (getD rows (64 + k) 0)) (K .field .ring .group .zero)
+      (lt-leb j (getD rows (32 + k) 0) h)))
 
 -- ---- terms
 
@@ -90,18 +92,21 @@ module _ (code : List (List (List ℕ))) (b : Batch) (i : ℕ) (before : List �
       record { places = λ k h. absurd (omega arith); coefficients = λ k h. absurd (omega arith); sums = λ k h. refl; size = size }
 
   pub terms-more : {k : ℕ} {rows : List ℕ} → HasTerms code b i k before rows → IsBatch b → k < b .count → {p : ℕ} (c : ℕ)
-      → p ≡ rowIn code (b .vector .front) (b .first + k) .place i → noiseIn (b .vector .front .field) c ≡ rowIn code (b .vector .front) (b .first + k) .coefficient i
+      → p ≡ rowIn code (b .vector .front) (b .first + k) .place i
+      → noiseIn (b .vector .front .field) c ≡ rowIn code (b .vector .front) (b .first + k) .coefficient i
       → HasTerms code b i (k + 1) before (set (set rows (32 + k) p) (64 + k) c)
   terms-more {k} {rows} t small few {p} c pe ce =
       record {
         places = λ m h. place m h (eqb m k) refl;
         coefficients = λ m h. coefficient m h (eqb m k) refl;
         sums = λ m h.
-            getD-set-other (set rows (32 + k) p) (64 + k) m c 0 (λ q. omega (arith, small .few)) ∙ getD-set-other rows (32 + k) m p 0 (λ q. omega (arith, small .few)) ∙ t .sums m h;
+            getD-set-other (set rows (32 + k) p) (64 + k) m c 0 (λ q. omega (arith, small .few))
+            ∙ getD-set-other rows (32 + k) m p 0 (λ q. omega (arith, small .few)) ∙ t .sums m h;
         size = simp length-set (t .size);
       }
     where
-      place : (m : ℕ) → m < k + 1 → (s : Bool) → eqb m k ≡ s → getD (set (set rows (32 + k) p) (64 + k) c) (32 + m) 0 ≡ rowIn code (b .vector .front) (b .first + m) .place i
+      place : (m : ℕ) → m < k + 1 → (s : Bool) → eqb m k ≡ s
+          → getD (set (set rows (32 + k) p) (64 + k) c) (32 + m) 0 ≡ rowIn code (b .vector .front) (b .first + m) .place i
       place m h true q =
           rw (eqb-true m k q)
           (getD-set-other (set rows (32 + k) p) (64 + k) (32 + k) c 0 (λ q. omega (arith, small .few))
@@ -112,7 +117,8 @@ module _ (code : List (List (List ℕ))) (b : Batch) (i : ℕ) (before : List �
           ∙ getD-set-other rows (32 + k) (32 + m) p 0 (λ q. omega (arith, small .few)) ∙ t .places m n
 
       coefficient : (m : ℕ) → m < k + 1 → (s : Bool) → eqb m k ≡ s
-          → noiseIn (b .vector .front .field) (getD (set (set rows (32 + k) p) (64 + k) c) (64 + m) 0) ≡ rowIn code (b .vector .front) (b .first + m) .coefficient i
+          → noiseIn (b .vector .front .field) (getD (set (set rows (32 + k) p) (64 + k) c) (64 + m) 0)
+          ≡ rowIn code (b .vector .front) (b .first + m) .coefficient i
       coefficient m h true q =
           rw (eqb-true m k q)
           (ap (noiseIn (b .vector .front .field)) (getD-set-same (set rows (32 + k) p) (64 + k) c 0 (simp length-set (omega (arith, t .size, small .few))))
@@ -120,7 +126,8 @@ module _ (code : List (List (List ℕ))) (b : Batch) (i : ℕ) (before : List �
       coefficient m h false q =
           let n : m < k = omega (arith, eqb-false m k q) in
           ap (noiseIn (b .vector .front .field))
-          (getD-set-other (set rows (32 + k) p) (64 + k) (64 + m) c 0 (λ q. omega (arith, small .few)) ∙ getD-set-other rows (32 + k) (64 + m) p 0 (λ q. omega (arith, small .few)))
+          (getD-set-other (set rows (32 + k) p) (64 + k) (64 + m) c 0 (λ q. omega (arith, small .few))
+          ∙ getD-set-other rows (32 + k) (64 + m) p 0 (λ q. omega (arith, small .few)))
           ∙ t .coefficients m n
 
   pub terms-all : {k n : ℕ} {rows : List ℕ} → HasTerms code b i k before rows → k ≤ n → n ≤ k → HasTerms code b i n before rows
@@ -144,7 +151,8 @@ module _ (field : ℕ) (b : List ℕ) where
       ap (λ (i : ℕ). getD v i 0) (sym (mul-one m)) ∙ ap (λ (x : List ℕ). getD x (m * 1) 0) e
       ∙ at-over-past (binary .noiseValues) (binaryLaws .noiseValues) k carried b m h (omega arith) ∙ ap (λ (i : ℕ). getD b i 0) (mul-one m)
 
-  pub passed-more : length b ≡ 96 → {v : List ℕ} {k count : ℕ} → Passed v k → k < count → count ≤ 32 → {x : ℕ} → x ≡ noiseSum field (getD v k 0) (getD v (64 + k) 0) → Passed (set v k x) (k + 1)
+  pub passed-more : length b ≡ 96 → {v : List ℕ} {k count : ℕ} → Passed v k → k < count → count ≤ 32 → {x : ℕ}
+      → x ≡ noiseSum field (getD v k 0) (getD v (64 + k) 0) → Passed (set v k x) (k + 1)
   passed-more size {v} {k} p few most {x} e =
       let w = p .written in
       record {

@@ -3,7 +3,7 @@ use mathlib.Core.Path.{_≡_, refl, sym, ap, ap₂, subst, _∙_}
 use mathlib.Core.Bool.{Bool, true, false}
 use mathlib.Core.List.{List, [], _∷_, _++_, append-assoc}
 use Prim.Native.Nat.{ℕ, zero, suc, _+_, _-_, _*_, _/_, _^_, _≤_, _<_}
-use native.Mathlib.Nat.{le-antisymm, mul-one, mul-le-mul, mul-le-mul-right, suc-mul, add-mul, zero-mul}
+use native.Mathlib.Nat.{mul-one, mul-le-mul, mul-le-mul-right, suc-mul, add-mul, zero-mul}
 use native.Mathlib.Omega.{arith}
 use lib.Dec.{eqb, leb}
 use lib.ListN.{length, getD, take, drop, length-drop, replicate, getD-replicate, length-replicate}
@@ -18,7 +18,8 @@ use Rattle.algebra.specs.Coding.{Coding, CodingLaws, at, flat, over}
 use Rattle.algebra.specs.Field.{Field, FieldLaws, NoiseValue, Value}
 use Rattle.algebra.specs.Row.{Row, entry, rowTimes}
 use Rattle.algebra.specs.Sum.{sum}
-use Rattle.algebra.proofs.Coding.{flat-cong, length-flat, at-flat, at-over, over-none, flat-add, take-over, drop-over-add, length-over}
+use Rattle.algebra.proofs.Coding.{flat-cong, length-flat, at-flat, at-over, flat-add, take-over, drop-over-add, length-over}
+use Rattle.algebra.proofs.Written.{front-none, front-all}
 use Rattle.algebra.proofs.Falling.{fromTop, top-none, top-more}
 use Rattle.algebra.proofs.Sum.{sum-none}
 use Rattle.code.specs.Strips.{ReadsStrips}
@@ -45,7 +46,8 @@ use Rattle.direct.proofs.ByStrips.{strip-entry, strips-times}
 -- ---- a strip, one place a turn
 
 -- the places of a strip of so many from a place on, but the lowest `left`, are added
-pub record Stripped (vector field count : ℕ) (rows : List ℕ) (value : ℕ → Value (fieldFor vector field)) (b : List ℕ) (start size left : ℕ) (v : List ℕ) : Type 0 where
+pub record Stripped (vector field count : ℕ) (rows : List ℕ) (value : ℕ → Value (fieldFor vector field)) (b : List ℕ) (start size left : ℕ)
+    (v : List ℕ) : Type 0 where
   pub within : left ≤ size
   pub words : v ≡ stripAdded vector field count rows value (start + size) (size - left) b
 
@@ -73,10 +75,12 @@ module _ (vector field count : ℕ) (rows : List ℕ) (value : ℕ → Value (fi
               ∙ ap (λ (n : ℕ). stripAdded vector field count rows value (start + size) n b) {x = suc (size - left)} {y = size - (left - 1)} (omega arith);
         }
 
-    pub stripped-all : left ≤ 0 → (number strip : ℕ) → size ≡ strip → start ≡ number * size → v ≡ stripAdded vector field count rows value ((number + 1) * strip) strip b
+    pub stripped-all : left ≤ 0 → (number strip : ℕ) → size ≡ strip → start ≡ number * size
+        → v ≡ stripAdded vector field count rows value ((number + 1) * strip) strip b
     stripped-all h number strip se ne =
         e .words
-        ∙ ap (λ (j : ℕ). stripAdded vector field count rows value j (size - left) b) {x = start + size} {y = (number + 1) * strip} (rw (ne, se) (one-more number strip))
+        ∙ ap (λ (j : ℕ). stripAdded vector field count rows value j (size - left) b) {x = start + size} {y = (number + 1) * strip}
+        (rw (ne, se) (one-more number strip))
         ∙ ap (λ (n : ℕ). stripAdded vector field count rows value ((number + 1) * strip) n b) {x = size - left} {y = strip} (omega arith)
       where
         one-more : (n m : ℕ) → n * m + m ≡ (n + 1) * m
@@ -101,7 +105,8 @@ stripsOf f = f .terms * stripOf f
 pub record Down (vector : ℕ) (s : List ℕ) (code : List (List (List ℕ))) (f : Front) (first count i : ℕ) (rows out : List ℕ) : Type 0 where
   pub shape : IsCode f
   pub within : i ≤ f .terms
-  pub sums : (k : ℕ) → k < count → noiseIn (f .field) (getD rows k 0) ≡ fromTop (kindOf (f .field) .field .ring .group) (rowIn code f (first + k) .coefficient) (f .terms) i
+  pub sums : (k : ℕ) → k < count
+      → noiseIn (f .field) (getD rows k 0) ≡ fromTop (kindOf (f .field) .field .ring .group) (rowIn code f (first + k) .coefficient) (f .terms) i
   pub size : length rows ≡ 96
   pub outputs : out ≡ flat (fieldFor vector (f .field) .elements) count
       (λ k. fromTop (fieldFor vector (f .field) .scaled .group) (partOf vector s code f (first + k)) (stripsOf f) (i * stripOf f))
@@ -131,7 +136,8 @@ module _ (vector : ℕ) (s : List ℕ) (code : List (List (List ℕ))) (f : Fron
       let o : _ ≡ flat (F .elements) count (summedTo first (stripsOf f)) =
       trees-none F laws count (λ m k. F .scaled .group .zero) (zero-values (eqb vector 1) (f .field)) oe size
       ∙ flat-cong (F .elements) (laws .elements) count _ (summedTo first (stripsOf f))
-      (λ k h. sum-none (F .scaled .group) (λ m. F .scaled .group .zero) ∙ sym (top-none (F .scaled .group) (partOf vector s code f (first + k)) (stripsOf f))) in
+      (λ k h. sum-none (F .scaled .group) (λ m. F .scaled .group .zero)
+      ∙ sym (top-none (F .scaled .group) (partOf vector s code f (first + k)) (stripsOf f))) in
       record {
         shape = ok;
         within = omega arith;
@@ -164,14 +170,17 @@ module _ (vector : ℕ) (s : List ℕ) (code : List (List (List ℕ))) (f : Fron
         ∙ sym (strip-entry (kindLaws (f .field) .field .ring .group) (2 ^ f .depth) (f .terms) row (reads (b .first + k)) i j below low high)
       where
         coefficient : (k : ℕ) → k < b .count → noiseIn (f .field) (getD rows (64 + k) 0) ≡ rowIn code f (b .first + k) .coefficient i
-        coefficient k h = subst (λ (g : Front). noiseIn (g .field) (getD rows (64 + k) 0) ≡ rowIn code g (b .first + k) .coefficient i) same (t .coefficients k h)
+        coefficient k h =
+            subst (λ (g : Front). noiseIn (g .field) (getD rows (64 + k) 0) ≡ rowIn code g (b .first + k) .coefficient i) same (t .coefficients k h)
 
     strip-summed : (n : ℕ) → n ≤ stripOf f
         → stripAdded vector (f .field) (b .count) rows (valuesOf vector s f) (suc i * stripOf f) n out
         ≡ flat (fieldFor vector (f .field) .elements) (b .count) (summedTo (b .first) (suc i * stripOf f - n))
     unfolding stripAdded placeAdded added partOf
     strip-summed zero h =
-        d .outputs ∙ ap (λ (j : ℕ). flat (fieldFor vector (f .field) .elements) (b .count) (summedTo (b .first) j)) {x = suc i * stripOf f} {y = suc i * stripOf f - 0} (omega arith)
+        d .outputs
+        ∙ ap (λ (j : ℕ). flat (fieldFor vector (f .field) .elements) (b .count) (summedTo (b .first) j)) {x = suc i * stripOf f} {y = suc i * stripOf f - 0}
+        (omega arith)
     strip-summed (suc n) h =
         let F = fieldFor vector (f .field) in
         let top = suc i * stripOf f in
@@ -245,7 +254,8 @@ strip-top s table keys t n ok e =
     let sizes = ok .walking .standing .sizes in
     rw e (omega (arith, strip-end (2 ^ f .depth) (f .terms) (sizes .full) (t .number) (ok .below), strips-within (2 ^ f .depth) (f .terms) (sizes .full)))
 
-module _ (s table : List ℕ) (keys : List (List ℕ)) (t : Strip) (n : ℕ) (ok : IsStrip s table keys t n) {size : ℕ} (e : size ≡ stripOf (t .batch .vector .front)) where
+module _ (s table : List ℕ) (keys : List (List ℕ)) (t : Strip) (n : ℕ) (ok : IsStrip s table keys t n) {size : ℕ}
+    (e : size ≡ stripOf (t .batch .vector .front)) where
   pub strip-most : t .number * size + size ≤ 65536
   strip-most = omega (arith, strip-top s table keys t n ok e, pow-mono {i = t .batch .vector .front .depth} {j = 16} (ok .walking .standing .sizes .depth))
 
@@ -261,7 +271,8 @@ module _ (s : List ℕ) (code : List (List (List ℕ))) (b : Batch) {table : Lis
   batch-code = let z = w .standing .sizes in record { depth = z .depth; some = z .some; full = z .full; few = z .terms }
 
   pub batch-none : {n : ℕ} → n ≡ b .count * fieldFor (b .vector .number) (b .vector .front .field) .elements .width → {rows out : List ℕ}
-      → rows ≡ replicate 96 0 → out ≡ replicate n 0 → Down (b .vector .number) s code (b .vector .front) (b .first) (b .count) (b .vector .front .terms) rows out
+      → rows ≡ replicate 96 0 → out ≡ replicate n 0
+      → Down (b .vector .number) s code (b .vector .front) (b .first) (b .count) (b .vector .front .terms) rows out
   batch-none {n} size re oe = down-none (b .vector .number) s code (b .vector .front) batch-code (b .first) (b .count) n (small .few) size re oe
 
   module _ {i : ℕ} {before out : List ℕ} (d : Down (b .vector .number) s code (b .vector .front) (b .first) (b .count) i before out) where
@@ -308,24 +319,31 @@ module _ (vector field : ℕ) where
 
 -- ---- a window, one batch a turn
 
+-- the field of a batch's vector, and its output k
+abbrev batchField : Batch → Field
+batchField b = fieldFor (b .vector .number) (b .vector .front .field)
+
+abbrev batchOutput : List ℕ → List (List (List ℕ)) → (b : Batch) → ℕ → Value (batchField b)
+batchOutput s code b k = outputOf (b .vector .number) s code (b .vector .front) (b .first + k)
+
 -- the window's first `done` outputs are written
 pub record Windowed (s : List ℕ) (code : List (List (List ℕ))) (b : Batch) (before : List ℕ) (done : ℕ) (v : List ℕ) : Type 0 where
-  pub room : b .count * fieldFor (b .vector .number) (b .vector .front .field) .elements .width ≤ length before
+  pub room : b .count * batchField b .elements .width ≤ length before
   pub within : done ≤ b .count
-  pub words : v ≡ over (fieldFor (b .vector .number) (b .vector .front .field) .elements) done (λ k. outputOf (b .vector .number) s code (b .vector .front) (b .first + k)) before
+  pub words : v ≡ over (batchField b .elements) done (batchOutput s code b) before
   pub size : length v ≡ length before
 
 module _ (s : List ℕ) (code : List (List (List ℕ))) (b : Batch) (before : List ℕ) where
-  coding : CodingLaws (fieldFor (b .vector .number) (b .vector .front .field) .elements)
+  coding : CodingLaws (batchField b .elements)
   coding = vector-laws (eqb (b .vector .number) 1) (b .vector .front .field) .elements
 
-  abbrev out-at : ℕ → Value (fieldFor (b .vector .number) (b .vector .front .field))
-  out-at k = outputOf (b .vector .number) s code (b .vector .front) (b .first + k)
+  abbrev out-at : ℕ → Value (batchField b)
+  out-at = batchOutput s code b
 
-  pub windowed-none : b .count * fieldFor (b .vector .number) (b .vector .front .field) .elements .width ≤ length before → Windowed s code b before 0 before
-  windowed-none room = record { room = room; within = omega arith; words = sym (over-none (fieldFor (b .vector .number) (b .vector .front .field) .elements) coding out-at before); size = refl }
+  pub windowed-none : b .count * batchField b .elements .width ≤ length before → Windowed s code b before 0 before
+  windowed-none room = record { room = room; within = omega arith; words = front-none (batchField b .elements) out-at before; size = refl }
 
-  module _ {done : ℕ} {v : List ℕ} (d : Windowed s code b before done v) {width : ℕ} (we : width ≡ fieldFor (b .vector .number) (b .vector .front .field) .elements .width)
+  module _ {done : ℕ} {v : List ℕ} (d : Windowed s code b before done v) {width : ℕ} (we : width ≡ batchField b .elements .width)
       (count : ℕ) (some : 1 ≤ count) (fits : count ≤ b .count - done) where
     few : done + count ≤ b .count
     few = omega (arith, d .within)
@@ -364,20 +382,21 @@ module _ (s : List ℕ) (code : List (List (List ℕ))) (b : Batch) (before : Li
 
     -- the part that is lent has the batch's words
     pub part-whole : length (midOf (done * width) (done * width + count * width - done * width) v)
-        ≡ count * fieldFor (b .vector .number) (b .vector .front .field) .elements .width
+        ≡ count * batchField b .elements .width
     part-whole =
         length-take-le (done * width + count * width - done * width) (drop (done * width) v) (rw length-drop (omega (arith, part-room)))
         ∙ rw (← we) (omega arith)
 
     pub windowed-more : {ys : List ℕ}
-        → ys ≡ flat (fieldFor (b .vector .number) (b .vector .front .field) .elements) count (λ k. outputOf (b .vector .number) s code (b .vector .front) (b .first + done + k))
+        → ys ≡ flat (batchField b .elements) count (λ k. outputOf (b .vector .number) s code (b .vector .front) (b .first + done + k))
         → Windowed s code b before (done + count) (putMid (done * width) (done * width + count * width - done * width) v ys)
     unfolding over
     windowed-more {ys} e =
-        let W = fieldFor (b .vector .number) (b .vector .front .field) in
+        let W = batchField b in
         let n : done * width + count * width - done * width ≡ count * width = omega arith in
         let y : ys ≡ flat (W .elements) count (λ k. out-at (done + k)) =
-        e ∙ flat-cong (W .elements) coding count _ _ (λ k h. ap (outputOf (b .vector .number) s code (b .vector .front)) {x = b .first + done + k} {y = b .first + (done + k)} (omega arith)) in
+        e ∙ flat-cong (W .elements) coding count _ _
+        (λ k h. ap (outputOf (b .vector .number) s code (b .vector .front)) {x = b .first + done + k} {y = b .first + (done + k)} (omega arith)) in
         let front : take (done * width) v ≡ flat (W .elements) done out-at =
         rw we (ap (take (done * W .elements .width)) (d .words) ∙ take-over (W .elements) coding done out-at before) in
         let past : drop (count * width) (drop (done * width) v) ≡ drop ((done + count) * width) before =
@@ -391,25 +410,25 @@ module _ (s : List ℕ) (code : List (List (List ℕ))) (b : Batch) (before : Li
           within = few;
           words = words;
           size = ap length words ∙ length-over (W .elements) coding (done + count) out-at before
-              (let m : (done + count) * W .elements .width ≤ b .count * W .elements .width = mul-le-mul-right (W .elements .width) few in omega (arith, d .room));
+              (let m : (done + count) * W .elements .width ≤ b .count * W .elements .width = mul-le-mul-right (W .elements .width) few in
+              omega (arith, d .room));
         }
       where
-        after-over : drop ((done + count) * fieldFor (b .vector .number) (b .vector .front .field) .elements .width)
-            (over (fieldFor (b .vector .number) (b .vector .front .field) .elements) done out-at before)
-            ≡ drop ((done + count) * fieldFor (b .vector .number) (b .vector .front .field) .elements .width) before
+        after-over : drop ((done + count) * batchField b .elements .width)
+            (over (batchField b .elements) done out-at before)
+            ≡ drop ((done + count) * batchField b .elements .width) before
         after-over =
-            let W = fieldFor (b .vector .number) (b .vector .front .field) in
+            let W = batchField b in
             rw (add-mul done count (W .elements .width)) (drop-over-add (W .elements) coding done out-at before (count * W .elements .width))
 
-        written : flat (fieldFor (b .vector .number) (b .vector .front .field) .elements) done out-at
-            ++ (flat (fieldFor (b .vector .number) (b .vector .front .field) .elements) count (λ k. out-at (done + k)) ++ drop ((done + count) * width) before)
-            ≡ over (fieldFor (b .vector .number) (b .vector .front .field) .elements) (done + count) out-at before
+        written : flat (batchField b .elements) done out-at
+            ++ (flat (batchField b .elements) count (λ k. out-at (done + k)) ++ drop ((done + count) * width) before)
+            ≡ over (batchField b .elements) (done + count) out-at before
         written =
-            let W = fieldFor (b .vector .number) (b .vector .front .field) in
+            let W = batchField b in
             sym (append-assoc (flat (W .elements) done out-at) (flat (W .elements) count (λ k. out-at (done + k))) (drop ((done + count) * width) before))
             ∙ ap₂ (λ (x : List ℕ) (n : ℕ). x ++ drop ((done + count) * n) before) (sym (flat-add (W .elements) coding done count out-at)) we
 
   pub windowed-all : {done : ℕ} {v : List ℕ} → Windowed s code b before done v → b .count ≤ done
-      → v ≡ over (fieldFor (b .vector .number) (b .vector .front .field) .elements) (b .count) out-at before
-  windowed-all {done} d h =
-      d .words ∙ ap (λ (n : ℕ). over (fieldFor (b .vector .number) (b .vector .front .field) .elements) n out-at before) (le-antisymm {n = done} {m = b .count} (d .within) h)
+      → v ≡ over (batchField b .elements) (b .count) out-at before
+  windowed-all {done} {v} d h = front-all (batchField b .elements) out-at before done (b .count) v (d .within) h (d .words)

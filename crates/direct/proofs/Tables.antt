@@ -49,11 +49,14 @@ module _ (table : List ℕ) (i : ℕ) (t : Tree) where
       (getD-set-other put4 (5 * i + 4) (5 * i) (t .siblings) 0 (λ e. omega arith) ∙ getD-set-other put3 (5 * i + 3) (5 * i) (t .high) 0 (λ e. omega arith)
       ∙ getD-set-other put2 (5 * i + 2) (5 * i) (t .low) 0 (λ e. omega arith) ∙ getD-set-other put1 (5 * i + 1) (5 * i) (t .value) 0 (λ e. omega arith)
       ∙ getD-set-same table (5 * i) (t .position) 0 (omega arith))
-      (getD-set-other put4 (5 * i + 4) (5 * i + 1) (t .siblings) 0 (λ e. omega arith) ∙ getD-set-other put3 (5 * i + 3) (5 * i + 1) (t .high) 0 (λ e. omega arith)
+      (getD-set-other put4 (5 * i + 4) (5 * i + 1) (t .siblings) 0 (λ e. omega arith) ∙ getD-set-other put3 (5 * i + 3) (5 * i + 1) (t .high) 0
+      (λ e. omega arith)
       ∙ getD-set-other put2 (5 * i + 2) (5 * i + 1) (t .low) 0 (λ e. omega arith) ∙ getD-set-same put1 (5 * i + 1) (t .value) 0 (simp length-set (omega arith)))
-      (getD-set-other put4 (5 * i + 4) (5 * i + 2) (t .siblings) 0 (λ e. omega arith) ∙ getD-set-other put3 (5 * i + 3) (5 * i + 2) (t .high) 0 (λ e. omega arith)
+      (getD-set-other put4 (5 * i + 4) (5 * i + 2) (t .siblings) 0 (λ e. omega arith) ∙ getD-set-other put3 (5 * i + 3) (5 * i + 2) (t .high) 0
+      (λ e. omega arith)
       ∙ getD-set-same put2 (5 * i + 2) (t .low) 0 (simp length-set (omega arith)))
-      (getD-set-other put4 (5 * i + 4) (5 * i + 3) (t .siblings) 0 (λ e. omega arith) ∙ getD-set-same put3 (5 * i + 3) (t .high) 0 (simp length-set (omega arith)))
+      (getD-set-other put4 (5 * i + 4) (5 * i + 3) (t .siblings) 0 (λ e. omega arith) ∙ getD-set-same put3 (5 * i + 3) (t .high) 0
+      (simp length-set (omega arith)))
       (getD-set-same put4 (5 * i + 4) (t .siblings) 0 (simp length-set (omega arith)))
 
   word-other : (m : ℕ) → (m ≡ 5 * i → ⊥) → (m ≡ 5 * i + 1 → ⊥) → (m ≡ 5 * i + 2 → ⊥) → (m ≡ 5 * i + 3 → ⊥) → (m ≡ 5 * i + 4 → ⊥)
@@ -66,7 +69,8 @@ module _ (table : List ℕ) (i : ℕ) (t : Tree) where
   put-tree-other : (k : ℕ) → (k ≡ i → ⊥) → treeAt (treePut table i t) k ≡ treeAt table k
   put-tree-other k h =
       tree-eq (word (5 * k) (apart (5 * k) 0 (omega arith) (omega arith))) (word (5 * k + 1) (apart (5 * k + 1) 1 (omega arith) refl))
-      (word (5 * k + 2) (apart (5 * k + 2) 2 (omega arith) refl)) (word (5 * k + 3) (apart (5 * k + 3) 3 (omega arith) refl)) (word (5 * k + 4) (apart (5 * k + 4) 4 (omega arith) refl))
+      (word (5 * k + 2) (apart (5 * k + 2) 2 (omega arith) refl)) (word (5 * k + 3) (apart (5 * k + 3) 3 (omega arith) refl))
+      (word (5 * k + 4) (apart (5 * k + 4) 4 (omega arith) refl))
     where
       apart : (m a : ℕ) → a < 5 → m ≡ 5 * k + a → (b : ℕ) → b < 5 → m ≡ 5 * i + b → ⊥
       apart m a ha e b hb q = h (omega arith)

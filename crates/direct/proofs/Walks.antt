@@ -59,7 +59,8 @@ pub two-eq : {a b x y : List (List ℕ)} → a ≡ x → b ≡ y → a ∷ b ∷
 two-eq p q = ap₂ (λ (u v : List (List ℕ)). u ∷ v ∷ []) p q
 
 -- a child of a node, by its block
-module _ (keys : List (List ℕ)) (c : ℕ) (s : List (List ℕ)) (b next : Block) (h : IsState s) (e : b ≡ blockOf s) (q : nodeOf next ≡ childBy (keysFor keys) c (nodeOf b)) where
+module _ (keys : List (List ℕ)) (c : ℕ) (s : List (List ℕ)) (b next : Block) (h : IsState s) (e : b ≡ blockOf s)
+    (q : nodeOf next ≡ childBy (keysFor keys) c (nodeOf b)) where
   pub child-node : {r : List (List ℕ)} → r ≡ nodeOf next → r ≡ childBy (keysFor keys) c s
   child-node p = p ∙ q ∙ ap (childBy (keysFor keys) c) (node-of-columns s h e)
 
@@ -86,7 +87,8 @@ module _ (keys : List (List ℕ)) (k j : ℕ) where
     second-down y n = level-down (ap (λ (l : List (List (List ℕ))). getD l 1 []) n)
 
   -- no level is left
-  pub both-down : (levels : ℕ) → levels ≤ 0 → {a b x y : List (List ℕ)} → leafAt k (childBy (keysFor keys)) levels x j ≡ a → leafAt k (childBy (keysFor keys)) levels y j ≡ b
+  pub both-down : (levels : ℕ) → levels ≤ 0 → {a b x y : List (List ℕ)} → leafAt k (childBy (keysFor keys)) levels x j ≡ a
+      → leafAt k (childBy (keysFor keys)) levels y j ≡ b
       → x ∷ y ∷ [] ≡ a ∷ b ∷ []
   both-down levels h {a} {b} {x} {y} p q =
       let z : levels ≡ 0 = omega arith in
@@ -95,7 +97,8 @@ module _ (keys : List (List ℕ)) (k j : ℕ) where
       (sym (leaf-none k (childBy (keysFor keys)) y j) ∙ ap (λ (n : ℕ). leafAt k (childBy (keysFor keys)) n y j) (sym z) ∙ q)
 
   -- each down to where both have as many levels left, then both
-  pub two-down : (stop : ℕ) (x y : List (List ℕ)) {r : List (List (List ℕ))} → r ≡ leafAt k (childBy (keysFor keys)) stop x j ∷ leafAt k (childBy (keysFor keys)) stop y j ∷ []
+  pub two-down : (stop : ℕ) (x y : List (List ℕ)) {r : List (List (List ℕ))}
+      → r ≡ leafAt k (childBy (keysFor keys)) stop x j ∷ leafAt k (childBy (keysFor keys)) stop y j ∷ []
       → {a b : List (List ℕ)} → leafAt k (childBy (keysFor keys)) stop x j ≡ a → leafAt k (childBy (keysFor keys)) stop y j ≡ b → r ≡ a ∷ b ∷ []
   two-down stop x y q p o = q ∙ ap₂ (λ (u v : List (List ℕ)). u ∷ v ∷ []) p o
 

@@ -68,7 +68,8 @@ module _ (field : ℕ) (h : field ≡ 1 → ⊥) where
   unfolding elementIn
   sum-2 a b {p} q =
       other (λ t. kindBy t .field .elements .read (p .word ∷ 0 ∷ []) 0
-      ≡ kindBy t .field .scaled .group .add (kindBy t .field .elements .read (a .low ∷ a .high ∷ []) 0) (kindBy t .field .elements .read (b .low ∷ b .high ∷ []) 0)) q
+      ≡ kindBy t .field .scaled .group .add (kindBy t .field .elements .read (a .low ∷ a .high ∷ []) 0)
+      (kindBy t .field .elements .read (b .low ∷ b .high ∷ []) 0)) q
 
   pub coefficient-2 : (word : ℕ) {p : Prime} → p ≡ primeReduce word → noiseIn field (p .word) ≡ kindOf field .coefficient word
   coefficient-2 word {p} q = other (λ t. kindBy t .field .noiseValues .read (p .word ∷ []) 0 ≡ kindBy t .coefficient word) q
@@ -165,9 +166,11 @@ module _ (vector field k entry : ℕ) (value : Element) (out : List ℕ) where
     where
       of : (b : Bool) → next ≡ addedBy b
       of true = other field h (λ t. next ≡ put (kindBy t .field .noiseValues) out k (kindBy t .field .ring .group .add (at (kindBy t .field .noiseValues) out k)
-          (kindBy t .field .ring .mul (kindBy t .field .noiseValues .read (entry ∷ []) 0) (kindBy t .field .noiseValues .read (value .low ∷ value .high ∷ []) 0)))) q
+          (kindBy t .field .ring .mul (kindBy t .field .noiseValues .read (entry ∷ []) 0)
+          (kindBy t .field .noiseValues .read (value .low ∷ value .high ∷ []) 0)))) q
       of false = other field h (λ t. next ≡ put (kindBy t .field .elements) out k (kindBy t .field .scaled .group .add (at (kindBy t .field .elements) out k)
-          (kindBy t .field .scaled .scale (kindBy t .field .noiseValues .read (entry ∷ []) 0) (kindBy t .field .elements .read (value .low ∷ value .high ∷ []) 0)))) q
+          (kindBy t .field .scaled .scale (kindBy t .field .noiseValues .read (entry ∷ []) 0)
+          (kindBy t .field .elements .read (value .low ∷ value .high ∷ []) 0)))) q
 
   pub output-bit : {next : List ℕ} → field ≡ 1 → vector ≡ 1
       → next ≡ put (binary .noiseValues) out k (bitAdd (at (binary .noiseValues) out k) (bitMul entry (value .low)))

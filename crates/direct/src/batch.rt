@@ -45,7 +45,8 @@ fn add_strip(
     requires { ⌜ RoundTables (now tables) ⌝ }
     requires { ⌜ IsStrip (now source) (now table) (now keys) strip (length (now out)) ⌝ }
     ensures { λ _. ⌜ now (out .exit) ≡ stripAdded (strip .batch .vector .number) (strip .batch .vector .front .field) (strip .batch .count) (now (rows .entry))
-        (valuesOf (strip .batch .vector .number) (now (source .entry)) (strip .batch .vector .front)) ((strip .number + 1) * stripOf (strip .batch .vector .front)) (stripOf (strip .batch .vector .front)) (now (out .entry)) ⌝ }
+        (valuesOf (strip .batch .vector .number) (now (source .entry)) (strip .batch .vector .front))
+        ((strip .number + 1) * stripOf (strip .batch .vector .front)) (stripOf (strip .batch .vector .front)) (now (out .entry)) ⌝ }
 {
     let batch = strip.batch;
     let size = strip_size(batch.vector.front);
@@ -120,7 +121,8 @@ pub fn write_outputs(
     requires { ⌜ Walking (window .vector .number) (now source) (window .vector .front) (now table) (now keys) × (window .first + window .count ≤ 32768)
         × (window .count * fieldFor (window .vector .number) (window .vector .front .field) .elements .width ≤ length (now out)) ⌝ }
     ensures { λ _. ⌜ now (out .exit) ≡ over (fieldFor (window .vector .number) (window .vector .front .field) .elements) (window .count)
-        (λ k. outputOf (window .vector .number) (now (source .entry)) (roundKeys (now (code .entry))) (window .vector .front) (window .first + k)) (now (out .entry)) ⌝ }
+        (λ k. outputOf (window .vector .number) (now (source .entry)) (roundKeys (now (code .entry))) (window .vector .front) (window .first + k))
+        (now (out .entry)) ⌝ }
 {
     let vector = window.vector;
     let width = value_width(vector.number, vector.front.field);

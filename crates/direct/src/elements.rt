@@ -85,7 +85,8 @@ pub fn noise_sum(field: usize, a: u64, b: u64) -> u64
 // Adds entry × bit to bit k of the outputs.
 fn add_bit(k: usize, entry: u64, bit: u64, out: &mut [u64])
     requires { ⌜ k < length (now out) ⌝ }
-    ensures { λ _. ⌜ now (out .exit) ≡ put (binary .noiseValues) (now (out .entry)) k (bitAdd (at (binary .noiseValues) (now (out .entry)) k) (bitMul entry bit)) ⌝ }
+    ensures { λ _. ⌜ now (out .exit) ≡ put (binary .noiseValues) (now (out .entry)) k
+        (bitAdd (at (binary .noiseValues) (now (out .entry)) k) (bitMul entry bit)) ⌝ }
 {
     let product = (entry % 2) * (bit % 2);
     out[k] = add_bits(out[k], product);
@@ -94,7 +95,8 @@ fn add_bit(k: usize, entry: u64, bit: u64, out: &mut [u64])
 // Adds entry × block to block k of the outputs.
 fn add_block(k: usize, entry: u64, element: Element, out: &mut [u64])
     requires { ⌜ k * 2 + 2 ≤ length (now out) ⌝ }
-    ensures { λ _. ⌜ now (out .exit) ≡ put (binary .elements) (now (out .entry)) k (blockAdd (at (binary .elements) (now (out .entry)) k) (blockScale entry (block (element .low) (element .high)))) ⌝ }
+    ensures { λ _. ⌜ now (out .exit) ≡ put (binary .elements) (now (out .entry)) k
+        (blockAdd (at (binary .elements) (now (out .entry)) k) (blockScale entry (block (element .low) (element .high)))) ⌝ }
 {
     let low = k * 2;
     let old = Block {
@@ -111,7 +113,8 @@ fn add_block(k: usize, entry: u64, element: Element, out: &mut [u64])
 // Adds entry × element to element k of the outputs in field 2.
 fn add_prime(k: usize, entry: u64, word: u64, out: &mut [u64])
     requires { ⌜ k < length (now out) ⌝ }
-    ensures { λ _. ⌜ now (out .exit) ≡ put (primes .elements) (now (out .entry)) k (primeAdd (at (primes .elements) (now (out .entry)) k) (primeMul (prime entry) (prime word))) ⌝ }
+    ensures { λ _. ⌜ now (out .exit) ≡ put (primes .elements) (now (out .entry)) k
+        (primeAdd (at (primes .elements) (now (out .entry)) k) (primeMul (prime entry) (prime word))) ⌝ }
 {
     let total = Prime::add_product(out[k], entry, word);
     let sum = Prime::reduce(total);

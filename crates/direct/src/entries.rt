@@ -34,7 +34,8 @@ pub struct Pending {
 fn pending_term(tables: &[u64; 1536], code: &[u64; 40], front: Front, x: usize, i: usize) -> Pending
     requires { ⌜ RoundTables (now tables) ⌝ }
     requires { ⌜ IsCode front × (i < front .terms) ⌝ }
-    ensures { λ r. ⌜ (r .place ≡ rowIn (roundKeys (now (code .entry))) front x .place i) × (noiseIn (front .field) (r .coefficient) ≡ rowIn (roundKeys (now (code .entry))) front x .coefficient i) ⌝ }
+    ensures { λ r. ⌜ (r .place ≡ rowIn (roundKeys (now (code .entry))) front x .place i)
+        × (noiseIn (front .field) (r .coefficient) ≡ rowIn (roundKeys (now (code .entry))) front x .coefficient i) ⌝ }
 {
     let window = Window { first: x, count: 1 };
     let rows = window_rows(front, window);

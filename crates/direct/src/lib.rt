@@ -1,6 +1,7 @@
 // The expansion for the bench: a window's outputs as rows of the code matrix times μ, v0 or w0, each leaf walked from its root or
 // sibling alone, with no accumulated vector and no buffer of N. A refused call writes nothing.
 ghost use mathlib.Core.Path.{_≡_};
+ghost use Rattle.answer.specs.Outcome.{outcomeOne, outcomeTwo};
 ghost use Rattle.direct.specs.Noise as noise;
 ghost use Rattle.direct.specs.Scalar as scalar;
 
@@ -31,8 +32,8 @@ pub fn noise_direct(
     u_out: &mut [u64],
     v_out: &mut [u64],
 ) -> TwoLengths
-    ensures { λ r. ⌜ noise.outcome r (record { source = now (source .exit); uOut = now («u_out» .exit); vOut = now («v_out» .exit) })
-        ≡ noise.direct (record { source = now (source .entry); uOut = now («u_out» .entry); vOut = now («v_out» .entry) }) first count ⌝ }
+    ensures { λ r. ⌜ outcomeTwo r (noise.lentWith (now (source .exit)) (now («u_out» .exit)) (now («v_out» .exit)))
+        ≡ noise.direct (noise.lentWith (now (source .entry)) (now («u_out» .entry)) (now («v_out» .entry))) first count ⌝ }
 {
     let r = read_noise(source);
     let Opened::Accepted(front) = r else {
@@ -47,8 +48,8 @@ pub fn noise_direct(
 
 // Writes the window's outputs: w to the front of w_out.
 pub fn scalar_direct(source: &[u8], first: usize, count: usize, w_out: &mut [u64]) -> OneLength
-    ensures { λ r. ⌜ scalar.outcome r (record { source = now (source .exit); wOut = now («w_out» .exit) })
-        ≡ scalar.direct (record { source = now (source .entry); wOut = now («w_out» .entry) }) first count ⌝ }
+    ensures { λ r. ⌜ outcomeOne r (scalar.lentWith (now (source .exit)) (now («w_out» .exit)))
+        ≡ scalar.direct (scalar.lentWith (now (source .entry)) (now («w_out» .entry))) first count ⌝ }
 {
     let r = read_scalar(source);
     let Opened::Accepted(front) = r else {

@@ -96,7 +96,8 @@ fn two_leaves(
     j: usize,
 ) -> Element
     requires { ⌜ RoundTables (now tables) ⌝ }
-    requires { ⌜ Walking (vector .number) (now source) (vector .front) (now table) (now keys) × (i + 1 < vector .front .trees) × (j < 2 ^ vector .front .depth) ⌝ }
+    requires { ⌜ Walking (vector .number) (now source) (vector .front) (now table) (now keys) × (i + 1 < vector .front .trees)
+        × (j < 2 ^ vector .front .depth) ⌝ }
     ensures { λ r. ⌜ elementIn (vector .front .field) r
         ≡ kindOf (vector .front .field) .field .scaled .group .add (leafOf (vector .number) (now (source .entry)) (vector .front) i j)
         (leafOf (vector .number) (now (source .entry)) (vector .front) (i + 1) j) ⌝ }
@@ -124,7 +125,8 @@ fn leaves_sum(
     requires { ⌜ RoundTables (now tables) ⌝ }
     requires { ⌜ Walking (vector .number) (now source) (vector .front) (now table) (now keys) × (j < 2 ^ vector .front .depth) ⌝ }
     ensures { λ r. ⌜ elementIn (vector .front .field) r
-        ≡ sum (kindOf (vector .front .field) .field .scaled .group) (vector .front .trees) (λ i. leafOf (vector .number) (now (source .entry)) (vector .front) i j) ⌝ }
+        ≡ sum (kindOf (vector .front .field) .field .scaled .group) (vector .front .trees)
+        (λ i. leafOf (vector .number) (now (source .entry)) (vector .front) i j) ⌝ }
 {
     let field = vector.front.field;
     let trees = vector.front.trees;

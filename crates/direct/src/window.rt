@@ -1,6 +1,11 @@
 // A call on an accepted record: the tests 7 and 13, and the outputs written.
 ghost use mathlib.Core.Path.{_≡_};
-ghost use Prim.Native.Nat.{_+_, _≤_};
+ghost use mathlib.Core.List.{[]};
+ghost use Prim.Native.Nat.{_+_, _*_, _≤_};
+ghost use Rattle.answer.specs.Outcome.{outcomeOne, outcomeTwo};
+ghost use Rattle.answer.specs.Tests.{firstFault};
+ghost use Rattle.field.specs.Kind.{elementWords};
+ghost use Rattle.record.specs.Inner.Heads.{headFrom};
 ghost use Rattle.algebra.specs.Coding.{over};
 ghost use Rattle.sbox.specs.Inner.Tables.{RoundTables};
 ghost use Rattle.aes128.specs.Inner.Words.{roundKeys};
@@ -11,7 +16,7 @@ ghost use Rattle.noise_end.specs.Inner.Ready as noiseReady;
 ghost use Rattle.scalar_end.specs.Inner.Ready as scalarReady;
 ghost use Rattle.direct.specs.Noise as noise;
 ghost use Rattle.direct.specs.Scalar as scalar;
-ghost use Rattle.direct.specs.Inner.Calls.{windowNumber, NoiseFits, ScalarFits};
+ghost use Rattle.direct.specs.Inner.Calls.{NoiseFits, ScalarFits};
 use crate::batch::write_outputs;
 use crate::entries::Batch;
 use crate::table::tree_table;
@@ -19,21 +24,51 @@ use crate::values::Vector;
 use answer::BUFFER_SHORT;
 use answer::OneLength;
 use answer::TwoLengths;
+use answer::WINDOW_PAST_END;
+use answer::is_past;
 use code::Window;
 use record::Front;
-use record::leaves;
 use rows::code_keys;
 use rows::element_width;
-use rows::lengths_number;
 use tree::child_keys;
 
-// The number of the tests 7 and 13, from the room for a window's elements.
-fn window_number(front: Front, window: Window, room: usize) -> u32
-    requires { ⌜ (front .depth ≤ 16) × (front .outputs ≤ 32768) ⌝ }
-    ensures { λ r. ⌜ r ≡ windowNumber front window room ⌝ }
+// The words of a window's elements.
+fn words_for(front: Front, window: Window) -> usize
+    requires { ⌜ window .first + window .count ≤ 32768 ⌝ }
+    ensures { λ r. ⌜ r ≡ window .count * elementWords (front .field) ⌝ }
 {
-    let vector = leaves(front.depth) * element_width(front.field);
-    lengths_number(front, vector, window, room)
+    window.count * element_width(front.field)
+}
+
+// The number of the tests after a noise record, for buffers of these lengths.
+fn noise_number(front: Front, window: Window, u_room: usize, v_room: usize) -> u32
+    requires { ⌜ front .outputs ≤ 32768 ⌝ }
+    ensures { λ r. ⌜ r ≡ firstFault (noise.directTests (headFrom front [] []) (window .first) (window .count) «u_room» «v_room») ⌝ }
+{
+    if is_past(window.first, window.count, front.outputs) {
+        return WINDOW_PAST_END;
+    }
+    if u_room < window.count {
+        return BUFFER_SHORT;
+    }
+    if v_room < words_for(front, window) {
+        return BUFFER_SHORT;
+    }
+    0
+}
+
+// The number of the tests after a scalar record, for a buffer of this length.
+fn scalar_number(front: Front, window: Window, room: usize) -> u32
+    requires { ⌜ front .outputs ≤ 32768 ⌝ }
+    ensures { λ r. ⌜ r ≡ firstFault (scalar.directTests (headFrom front [] []) (window .first) (window .count) room) ⌝ }
+{
+    if is_past(window.first, window.count, front.outputs) {
+        return WINDOW_PAST_END;
+    }
+    if room < words_for(front, window) {
+        return BUFFER_SHORT;
+    }
+    0
 }
 
 // So many rows of a record's code from an index on.
@@ -56,8 +91,10 @@ fn write_tabled(
 )
     requires { ⌜ RoundTables (now tables) ⌝ }
     requires { ⌜ BothFit (now source) rows (now table) (now keys) (length (now «u_out»)) (length (now «v_out»)) ⌝ }
-    ensures { λ _. ⌜ (now («u_out» .exit) ≡ over (fieldFor 1 (rows .front .field) .elements) (rows .count) (λ k. outputOf 1 (now (source .entry)) (roundKeys (now (code .entry))) (rows .front) (rows .first + k)) (now («u_out» .entry)))
-        × (now («v_out» .exit) ≡ over (fieldFor 2 (rows .front .field) .elements) (rows .count) (λ k. outputOf 2 (now (source .entry)) (roundKeys (now (code .entry))) (rows .front) (rows .first + k)) (now («v_out» .entry))) ⌝ }
+    ensures { λ _. ⌜ (now («u_out» .exit) ≡ over (fieldFor 1 (rows .front .field) .elements) (rows .count)
+        (λ k. outputOf 1 (now (source .entry)) (roundKeys (now (code .entry))) (rows .front) (rows .first + k)) (now («u_out» .entry)))
+        × (now («v_out» .exit) ≡ over (fieldFor 2 (rows .front .field) .elements) (rows .count)
+        (λ k. outputOf 2 (now (source .entry)) (roundKeys (now (code .entry))) (rows .front) (rows .first + k)) (now («v_out» .entry))) ⌝ }
 {
     let front = rows.front;
     let mu = Batch {
@@ -78,8 +115,9 @@ fn write_tabled(
 fn write_both(source: &[u8], front: Front, window: Window, u_out: &mut [u64], v_out: &mut [u64])
     requires { ⌜ noiseReady.Ready (now source) front ⌝ }
     requires { ⌜ NoiseFits front window (length (now «u_out»)) (length (now «v_out»)) ⌝ }
-    ensures { λ _. ⌜ record { source = now (source .exit); uOut = now («u_out» .exit); vOut = now («v_out» .exit) }
-        ≡ noise.filled (noiseReady.contentOf (now (source .entry)) front) (record { source = now (source .entry); uOut = now («u_out» .entry); vOut = now («v_out» .entry) }) (window .first) (window .count) ⌝ }
+    ensures { λ _. ⌜ noise.lentWith (now (source .exit)) (now («u_out» .exit)) (now («v_out» .exit))
+        ≡ noise.filled (noiseReady.contentOf (now (source .entry)) front)
+        (noise.lentWith (now (source .entry)) (now («u_out» .entry)) (now («v_out» .entry))) (window .first) (window .count) ⌝ }
 {
     let sb = sbox::table();
     let mut tables = [0u64; 1536];
@@ -104,20 +142,14 @@ pub fn write_noise(
     v_out: &mut [u64],
 ) -> TwoLengths
     requires { ⌜ noiseReady.Ready (now source) front ⌝ }
-    ensures { λ r. ⌜ noise.outcome r (record { source = now (source .exit); uOut = now («u_out» .exit); vOut = now («v_out» .exit) })
-        ≡ noise.window (noiseReady.contentOf (now (source .entry)) front) (record { source = now (source .entry); uOut = now («u_out» .entry); vOut = now («v_out» .entry) }) (window .first) (window .count) ⌝ }
+    ensures { λ r. ⌜ outcomeTwo r (noise.lentWith (now (source .exit)) (now («u_out» .exit)) (now («v_out» .exit)))
+        ≡ noise.window (noiseReady.contentOf (now (source .entry)) front)
+        (noise.lentWith (now (source .entry)) (now («u_out» .entry)) (now («v_out» .entry))) (window .first) (window .count) ⌝ }
 {
-    let number = window_number(front, window, v_out.len());
+    let number = noise_number(front, window, u_out.len(), v_out.len());
     if number != 0 {
         return TwoLengths {
             number: number,
-            first_written: 0,
-            second_written: 0,
-        };
-    }
-    if u_out.len() < window.count {
-        return TwoLengths {
-            number: BUFFER_SHORT,
             first_written: 0,
             second_written: 0,
         };
@@ -126,7 +158,7 @@ pub fn write_noise(
     TwoLengths {
         number: 0,
         first_written: window.count,
-        second_written: window.count * element_width(front.field),
+        second_written: words_for(front, window),
     }
 }
 
@@ -134,8 +166,9 @@ pub fn write_noise(
 fn write_w(source: &[u8], front: Front, window: Window, w_out: &mut [u64])
     requires { ⌜ scalarReady.Ready (now source) front ⌝ }
     requires { ⌜ ScalarFits front window (length (now «w_out»)) ⌝ }
-    ensures { λ _. ⌜ record { source = now (source .exit); wOut = now («w_out» .exit) }
-        ≡ scalar.filled (scalarReady.contentOf (now (source .entry)) front) (record { source = now (source .entry); wOut = now («w_out» .entry) }) (window .first) (window .count) ⌝ }
+    ensures { λ _. ⌜ scalar.lentWith (now (source .exit)) (now («w_out» .exit))
+        ≡ scalar.filled (scalarReady.contentOf (now (source .entry)) front)
+        (scalar.lentWith (now (source .entry)) (now («w_out» .entry))) (window .first) (window .count) ⌝ }
 {
     let sb = sbox::table();
     let mut tables = [0u64; 1536];
@@ -154,10 +187,11 @@ fn write_w(source: &[u8], front: Front, window: Window, w_out: &mut [u64])
 // The scalar end's call on a record that was accepted.
 pub fn write_scalar(source: &[u8], front: Front, window: Window, w_out: &mut [u64]) -> OneLength
     requires { ⌜ scalarReady.Ready (now source) front ⌝ }
-    ensures { λ r. ⌜ scalar.outcome r (record { source = now (source .exit); wOut = now («w_out» .exit) })
-        ≡ scalar.window (scalarReady.contentOf (now (source .entry)) front) (record { source = now (source .entry); wOut = now («w_out» .entry) }) (window .first) (window .count) ⌝ }
+    ensures { λ r. ⌜ outcomeOne r (scalar.lentWith (now (source .exit)) (now («w_out» .exit)))
+        ≡ scalar.window (scalarReady.contentOf (now (source .entry)) front)
+        (scalar.lentWith (now (source .entry)) (now («w_out» .entry))) (window .first) (window .count) ⌝ }
 {
-    let number = window_number(front, window, w_out.len());
+    let number = scalar_number(front, window, w_out.len());
     if number != 0 {
         return OneLength {
             number: number,
@@ -167,6 +201,6 @@ pub fn write_scalar(source: &[u8], front: Front, window: Window, w_out: &mut [u6
     write_w(source, front, window, w_out);
     OneLength {
         number: 0,
-        written: window.count * element_width(front.field),
+        written: words_for(front, window),
     }
 }

@@ -1,5 +1,6 @@
 // The expansion for the bench under its exported names. Each meets the contract of the call that it passes on to.
 ghost use mathlib.Core.Path.{_≡_};
+ghost use Rattle.answer.specs.Outcome.{outcomeOne, outcomeTwo};
 ghost use Rattle.direct.specs.Noise as noise;
 ghost use Rattle.direct.specs.Scalar as scalar;
 use answer::OneLength;
@@ -14,8 +15,8 @@ pub extern "C" fn expander_noise_direct(
     u_out: &mut [u64],
     v_out: &mut [u64],
 ) -> TwoLengths
-    ensures { λ r. ⌜ noise.outcome r (record { source = now (source .exit); uOut = now («u_out» .exit); vOut = now («v_out» .exit) })
-        ≡ noise.direct (record { source = now (source .entry); uOut = now («u_out» .entry); vOut = now («v_out» .entry) }) first count ⌝ }
+    ensures { λ r. ⌜ outcomeTwo r (noise.lentWith (now (source .exit)) (now («u_out» .exit)) (now («v_out» .exit)))
+        ≡ noise.direct (noise.lentWith (now (source .entry)) (now («u_out» .entry)) (now («v_out» .entry))) first count ⌝ }
 {
     direct::noise_direct(source, first, count, u_out, v_out)
 }
@@ -28,8 +29,8 @@ pub extern "C" fn expander_scalar_direct(
     count: usize,
     w_out: &mut [u64],
 ) -> OneLength
-    ensures { λ r. ⌜ scalar.outcome r (record { source = now (source .exit); wOut = now («w_out» .exit) })
-        ≡ scalar.direct (record { source = now (source .entry); wOut = now («w_out» .entry) }) first count ⌝ }
+    ensures { λ r. ⌜ outcomeOne r (scalar.lentWith (now (source .exit)) (now («w_out» .exit)))
+        ≡ scalar.direct (scalar.lentWith (now (source .entry)) (now («w_out» .entry))) first count ⌝ }
 {
     direct::scalar_direct(source, first, count, w_out)
 }

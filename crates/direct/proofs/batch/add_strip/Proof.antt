@@ -1,4 +1,5 @@
--- `direct::batch::add_strip` meets its contract. The loop's invariant: the places of the strip but the lowest `left` are added; the measure is the places left. Assumes nothing.
+-- `direct::batch::add_strip` meets its contract. The loop's invariant: the places of the strip but the lowest `left` are added; the measure
+-- is the places left. Assumes nothing.
 use mathlib.Core.Path.{_≡_}
 use Prim.Native.Nat.{_+_, _^_, _≤_}
 use native.Mathlib.Omega.{arith}
@@ -10,7 +11,10 @@ use Rattle.direct.proofs.batch.add_strip.Statement.{statement}
 use Rattle.direct.proofs.batch.add_strip.Tie as tie
 
 abbrev Inv-loop : tie.InvT-loop
-Inv-loop tables keys source table rows out₀ batch size start left₀ out left = Stripped (batch .vector .number) (batch .vector .front .field) (batch .count) rows (valuesOf (batch .vector .number) source (batch .vector .front)) out₀ start size left out × (start + size ≤ 2 ^ batch .vector .front .depth) × (start + size ≤ 65536) × (length out ≡ length out₀)
+Inv-loop tables keys source table rows out₀ batch size start left₀ out left =
+    Stripped (batch .vector .number) (batch .vector .front .field) (batch .count) rows (valuesOf (batch .vector .number) source
+    (batch .vector .front)) out₀ start size left out
+    × (start + size ≤ 2 ^ batch .vector .front .depth) × (start + size ≤ 65536) × (length out ≡ length out₀)
 
 abbrev μ-loop : tie.MeasureT-loop
 μ-loop tables keys source table rows out₀ batch size start left₀ out left = left

@@ -7,7 +7,8 @@ use Rattle.direct.proofs.batch.write_batch.Statement.{statement}
 use Rattle.direct.proofs.batch.write_batch.Tie as tie
 
 abbrev Inv-loop : tie.InvT-loop
-Inv-loop tables keys code source table batch out₀ rows₀ i₀ out rows i = Down (batch .vector .number) source (roundKeys code) (batch .vector .front) (batch .first) (batch .count) i rows out
+Inv-loop tables keys code source table batch out₀ rows₀ i₀ out rows i =
+    Down (batch .vector .number) source (roundKeys code) (batch .vector .front) (batch .first) (batch .count) i rows out
 
 abbrev μ-loop : tie.MeasureT-loop
 μ-loop tables keys code source table batch out₀ rows₀ i₀ out rows i = i

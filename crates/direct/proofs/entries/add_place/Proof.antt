@@ -1,4 +1,5 @@
--- `direct::entries::add_place` meets its contract. The loop's invariant: the outputs before `k` are added to, the others as they were; the measure is what is left of the rows. Assumes nothing.
+-- `direct::entries::add_place` meets its contract. The loop's invariant: the outputs before `k` are added to, the others as they were; the
+-- measure is what is left of the rows. Assumes nothing.
 use Prim.Native.Nat.{_≤_, _-_}
 use Rattle.direct.proofs.Rows.{Summed, summed-none, summed-room, summed-more, summed-all}
 use borrow.Author.Needs.{needs}
@@ -6,7 +7,8 @@ use Rattle.direct.proofs.entries.add_place.Statement.{statement}
 use Rattle.direct.proofs.entries.add_place.Tie as tie
 
 abbrev Inv-loop : tie.InvT-loop
-Inv-loop batch rows j value out₀ vector field k₀ out k = (k ≤ batch .count) × Summed (batch .vector .number) (batch .vector .front .field) rows j value out₀ out k
+Inv-loop batch rows j value out₀ vector field k₀ out k =
+    (k ≤ batch .count) × Summed (batch .vector .number) (batch .vector .front .field) rows j value out₀ out k
 
 abbrev μ-loop : tie.MeasureT-loop
 μ-loop batch rows j value out₀ vector field k₀ out k = batch .count - k

@@ -1,4 +1,5 @@
--- `direct::entries::make_terms` meets its contract. The loop's invariant: the terms of the rows before `k` are made; the measure is what is left of the rows. Assumes nothing.
+-- `direct::entries::make_terms` meets its contract. The loop's invariant: the terms of the rows before `k` are made; the measure is what is
+-- left of the rows. Assumes nothing.
 use Rattle.aes128.specs.Inner.Words.{roundKeys}
 use Prim.Native.Nat.{_≤_, _-_}
 use Rattle.direct.specs.Inner.Rows.{HasTerms}

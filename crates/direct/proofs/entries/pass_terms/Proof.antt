@@ -1,4 +1,5 @@
--- `direct::entries::pass_terms` meets its contract. The loop's invariant: the sums of the rows before `k` are carried on; the measure is what is left of the rows. Assumes nothing.
+-- `direct::entries::pass_terms` meets its contract. The loop's invariant: the sums of the rows before `k` are carried on; the measure is
+-- what is left of the rows. Assumes nothing.
 use Prim.Native.Nat.{_≤_, _-_}
 use Rattle.direct.proofs.Rows.{Passed, passed-none, passed-more, passed-all}
 use borrow.Author.Needs.{needs}

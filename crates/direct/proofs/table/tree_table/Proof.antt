@@ -1,4 +1,5 @@
--- `direct::table::tree_table` meets its contract. The loop's invariant: the trees before `i` stand in the table, and those from `i` on are what is left of the record; the measure is what is left of the trees. Assumes nothing.
+-- `direct::table::tree_table` meets its contract. The loop's invariant: the trees before `i` stand in the table, and those from `i` on are
+-- what is left of the record; the measure is what is left of the trees. Assumes nothing.
 use Prim.Native.Nat.{_-_}
 use Rattle.direct.proofs.Tables.{Tabled, tabled-none, tabled-asks, tabled-more, tabled-all}
 use borrow.Author.Needs.{needs}

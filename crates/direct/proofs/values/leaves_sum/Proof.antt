@@ -1,4 +1,5 @@
--- `direct::values::leaves_sum` meets its contract. The loop's invariant: the sum of the trees before `i`; the measure is what is left of the trees. Assumes nothing.
+-- `direct::values::leaves_sum` meets its contract. The loop's invariant: the sum of the trees before `i`; the measure is what is left of
+-- the trees. Assumes nothing.
 use Prim.Native.Nat.{_-_}
 use Rattle.direct.proofs.Leaves.{Partly, partly-none, partly-two, partly-last, partly-all}
 use native.Mathlib.Omega.{arith}
@@ -24,9 +25,11 @@ leaves-sum-spec =
     (λ c κs. search needs)  -- element-sum-requires
     (λ c. search needs)  -- add-i
     (λ c. search needs)  -- loop-less
-    (λ c. partly-two _ _ _ _ (c .before .before .before .loop .inv) (c .before .before .loop-test .taken) _ (c .before .two-leaves .ensures) (c .element-sum .ensures))  -- loop-again
+    (λ c. partly-two _ _ _ _ (c .before .before .before .loop .inv) (c .before .before .loop-test .taken)
+    _ (c .before .two-leaves .ensures) (c .element-sum .ensures))  -- loop-again
     (λ c κs. search needs)  -- leaf-of-requires
     (λ c κs. search needs)  -- element-sum-requires-2
-    (λ c. partly-last _ _ _ _ _ _ _ (c .before .leaf-of .ensures) (c .element-sum2 .ensures) (c .before .before .before .before .loop .inv) (omega arith) (omega arith))  -- returns
+    (λ c. partly-last _ _ _ _ _ _ _ (c .before .leaf-of .ensures) (c .element-sum2 .ensures)
+    (c .before .before .before .before .loop .inv) (omega arith) (omega arith))  -- returns
     (λ c. partly-all _ _ _ _ (c .before .before .loop .inv) (omega arith))  -- returns-2
     )

@@ -1,4 +1,5 @@
--- `direct::values::noise_at` meets its contract. The loop's invariant: the noise value that the trees before `i` give; the measure is what is left of the trees. Assumes nothing.
+-- `direct::values::noise_at` meets its contract. The loop's invariant: the noise value that the trees before `i` give; the measure is what
+-- is left of the trees. Assumes nothing.
 use mathlib.Core.Path.{_≡_}
 use Prim.Native.Nat.{_≤_, _-_}
 use Rattle.direct.specs.Inner.Trees.{noiseWord}

@@ -1,4 +1,5 @@
--- `direct::walk::walk_both` meets its contract. The loop's invariant: the leaves below both nodes are those below the first two; the measure is the levels left. Assumes nothing.
+-- `direct::walk::walk_both` meets its contract. The loop's invariant: the leaves below both nodes are those below the first two; the
+-- measure is the levels left. Assumes nothing.
 use mathlib.Core.Path.{_≡_}
 use Prim.Native.Nat.{_^_, _≤_}
 use Rattle.tree.specs.Child.{childBy}
@@ -11,7 +12,9 @@ use Rattle.direct.proofs.walk.walk_both.Statement.{statement}
 use Rattle.direct.proofs.walk.walk_both.Tie as tie
 
 abbrev Inv-loop : tie.InvT-loop
-Inv-loop tables keys branch-bits left j x₀ y₀ levels₀ x y levels = (levels ≤ left) × (leafAt (2 ^ branch-bits) (childBy (keysFor keys)) levels x j ≡ leafAt (2 ^ branch-bits) (childBy (keysFor keys)) left x₀ j) × (leafAt (2 ^ branch-bits) (childBy (keysFor keys)) levels y j ≡ leafAt (2 ^ branch-bits) (childBy (keysFor keys)) left y₀ j)
+Inv-loop tables keys branch-bits left j x₀ y₀ levels₀ x y levels =
+    (levels ≤ left) × (leafAt (2 ^ branch-bits) (childBy (keysFor keys)) levels x j ≡ leafAt (2 ^ branch-bits) (childBy (keysFor keys)) left x₀ j)
+    × (leafAt (2 ^ branch-bits) (childBy (keysFor keys)) levels y j ≡ leafAt (2 ^ branch-bits) (childBy (keysFor keys)) left y₀ j)
 
 abbrev μ-loop : tie.MeasureT-loop
 μ-loop tables keys branch-bits left j x₀ y₀ levels₀ x y levels = levels

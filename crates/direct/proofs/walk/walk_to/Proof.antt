@@ -1,4 +1,5 @@
--- `direct::walk::walk_to` meets its contract. The loop's invariant: the leaf below the node is the one below the first; the measure is the levels left. Assumes nothing.
+-- `direct::walk::walk_to` meets its contract. The loop's invariant: the leaf below the node is the one below the first; the measure is the
+-- levels left. Assumes nothing.
 use mathlib.Core.Path.{_≡_}
 use Prim.Native.Nat.{_^_, _≤_}
 use Rattle.tree.specs.Child.{childBy}
@@ -11,7 +12,9 @@ use Rattle.direct.proofs.walk.walk_to.Statement.{statement}
 use Rattle.direct.proofs.walk.walk_to.Tie as tie
 
 abbrev Inv-loop : tie.InvT-loop
-Inv-loop tables keys branch-bits left stop j node₀ levels₀ node levels = (stop ≤ levels) × (levels ≤ left) × (leafAt (2 ^ branch-bits) (childBy (keysFor keys)) levels node j ≡ leafAt (2 ^ branch-bits) (childBy (keysFor keys)) left node₀ j)
+Inv-loop tables keys branch-bits left stop j node₀ levels₀ node levels =
+    (stop ≤ levels) × (levels ≤ left)
+    × (leafAt (2 ^ branch-bits) (childBy (keysFor keys)) levels node j ≡ leafAt (2 ^ branch-bits) (childBy (keysFor keys)) left node₀ j)
 
 abbrev μ-loop : tie.MeasureT-loop
 μ-loop tables keys branch-bits left stop j node₀ levels₀ node levels = levels

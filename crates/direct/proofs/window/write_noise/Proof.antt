@@ -1,20 +1,24 @@
--- `direct::window::write_noise` meets its contract: one law for each return. Assumes nothing.
-use Rattle.direct.proofs.Calls.{noise-failed, short-u, noise-fits, words-fit, noise-written}
+-- `direct::window::write_noise` meets its contract: refused by its number, or accepted with the window written. Assumes nothing.
 use borrow.Author.Needs.{needs}
+use Rattle.answer.proofs.Answers.{refused}
+use Rattle.direct.specs.Noise as noise
+use Rattle.direct.proofs.Calls.{noise-within, noise-fits, noise-written}
 use Rattle.direct.proofs.window.write_noise.Statement.{statement}
 use Rattle.direct.proofs.window.write_noise.Tie as tie
+
+refusal : tie.Need-returns
+unfolding noise.window
+refusal c = search refused
 
 pub write-noise-spec : {M : Type 1} → statement M
 write-noise-spec =
     tie.close
     (tie.spec
-    (λ c κs. search needs)  -- window-number-requires
-    (λ c. search noise-failed)  -- returns
-    (λ c. search short-u)  -- returns-2
+    (λ c κs. search needs)  -- noise-number-requires
+    refusal
     (λ c κs. (search needs, search noise-fits))  -- write-both-requires
-    (λ c κs. search needs)  -- element-width-requires
-    (λ c. search words-fit)  -- mul-t14
+    (λ c κs. search noise-within)  -- words-for-requires
     (λ c. search needs)  -- same-length
     (λ c. search needs)  -- same-length-2
-    (λ c. search noise-written)  -- returns-3
+    (λ c. search noise-written)  -- returns-2
     )

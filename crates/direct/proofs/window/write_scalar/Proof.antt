@@ -1,18 +1,23 @@
--- `direct::window::write_scalar` meets its contract: one law for each return. Assumes nothing.
-use Rattle.direct.proofs.Calls.{scalar-failed, scalar-fits, words-fit, scalar-written}
+-- `direct::window::write_scalar` meets its contract: refused by its number, or accepted with the window written. Assumes nothing.
 use borrow.Author.Needs.{needs}
+use Rattle.answer.proofs.Answers.{refused}
+use Rattle.direct.specs.Scalar as scalar
+use Rattle.direct.proofs.Calls.{scalar-within, scalar-fits, scalar-written}
 use Rattle.direct.proofs.window.write_scalar.Statement.{statement}
 use Rattle.direct.proofs.window.write_scalar.Tie as tie
+
+refusal : tie.Need-returns
+unfolding scalar.window
+refusal c = search refused
 
 pub write-scalar-spec : {M : Type 1} → statement M
 write-scalar-spec =
     tie.close
     (tie.spec
-    (λ c κs. search needs)  -- window-number-requires
-    (λ c. search scalar-failed)  -- returns
+    (λ c κs. search needs)  -- scalar-number-requires
+    refusal
     (λ c κs. (search needs, search scalar-fits))  -- write-w-requires
-    (λ c κs. search needs)  -- element-width-requires
-    (λ c. search words-fit)  -- mul-t11
+    (λ c κs. search scalar-within)  -- words-for-requires
     (λ c. search needs)  -- same-length
     (λ c. search scalar-written)  -- returns-2
     )
