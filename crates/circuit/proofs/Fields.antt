@@ -1,11 +1,11 @@
 -- Each return of the functions that read a number, a wire or a gate gives what the definition says there. Assumes nothing.
 use Prim.Native.Nat.{ℕ, _≤_, _<_}
-use mathlib.Core.Bool.{Bool, true, false, _&&_, true≢false}
 use mathlib.Core.List.{List}
 use mathlib.Core.Path.{_≡_, refl, sym, ap, _∙_}
 use borrow.Author.Tests.{lt-ltb, le-ltb, le-leb, lt-leb, eq-eqb, ne-eqb, leb-true, ltb-true}
 use native.Mathlib.Omega.{arith}
-use lib.Dec.{ltb, eqb}
+use lib.Dec.{leb, ltb, eqb}
+use Rattle.algebra.proofs.Tests.{and-left, and-right}
 use Rattle.number.proofs.Places.{either, whole-is, then-whole, tested-whole, choose-yes, choose-no}
 use Rattle.number.specs.Number.{readNumber}
 use Rattle.number.specs.Answer.{numberRead}
@@ -52,17 +52,12 @@ module _ (s : List ℕ) (at : ℕ) {r : Number} (read : numberRead r ≡ readNum
 
 -- ---- what passed a test
 
-and-both : (a b : Bool) → a && b ≡ true → (a ≡ true) × (b ≡ true)
-and-both true b e = (refl, e)
-and-both false b e = absurd (true≢false (sym e))
-
 pub within-parts : (least most : ℕ) (s : List ℕ) (at : ℕ) {n next : ℕ} → readWithin least most s at ≡ Whole (n, next)
     → (readNumber s at ≡ Whole (n, next)) × (least ≤ n) × (n ≤ most)
 unfolding readWithin
-within-parts least most s at e =
+within-parts least most s at {n} e =
     let t = tested-whole (readNumber s at) (λ m. within least most m) 17 e in
-    let b = and-both _ _ (t .1) in
-    (t .0, leb-true _ _ (b .0), leb-true _ _ (b .1))
+    (t .0, leb-true _ _ (and-left (leb least n) (leb n most) (t .1)), leb-true _ _ (and-right (leb least n) (leb n most) (t .1)))
 
 pub wire-parts : (limit : ℕ) (s : List ℕ) (at : ℕ) {w next : ℕ} → readWire limit s at ≡ Whole (w, next)
     → (readNumber s at ≡ Whole (w, next)) × (w < limit)
