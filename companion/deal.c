@@ -1,0 +1,128 @@
+#include "inner.h"
+
+#include <errno.h>
+#include <stdlib.h>
+#include <string.h>
+#include <sys/random.h>
+
+void companion_wipe(void *memory, size_t len)
+{
+    void *(*volatile set)(void *, int, size_t) = memset; /* volatile: the compiler cannot know what is called, and drop it */
+    set(memory, 0, len);
+}
+
+void *companion_take(size_t len)
+{
+    return calloc(len > 0 ? len : 1, 1);
+}
+
+void companion_give_back(void *memory, size_t len)
+{
+    if (memory != NULL)
+        companion_wipe(memory, len);
+    free(memory);
+}
+
+struct companion_status companion_random(void *bytes, size_t len)
+{
+    for (size_t done = 0; done < len;) {
+        ssize_t got = getrandom((uint8_t *)bytes + done, len - done, 0);
+        if (got > 0)
+            done += (size_t)got;
+        else if (got == 0 || errno != EINTR)
+            return companion_failed_at(COMPANION_NO_RANDOM, "getrandom", got < 0 ? errno : 0);
+    }
+    return companion_done();
+}
+
+/* What a dealing draws. */
+struct drawn {
+    uint8_t roots[16 * EXPANDER_TREES_MAX], code_key[16];
+    uint32_t positions[EXPANDER_TREES_MAX];
+    uint64_t values[EXPANDER_TREES_MAX], delta[2];
+};
+
+/* Uniform from 1 to p - 1: 61 bits, drawn again where they are 0 or p. */
+static struct companion_status draw_value(uint64_t *value)
+{
+    struct companion_status status;
+    do {
+        status = companion_random(value, sizeof *value);
+        *value &= EXPANDER_MODULUS;
+    } while (status.number == 0 && (*value == 0 || *value == EXPANDER_MODULUS));
+    return status;
+}
+
+/* A further place among count rising ones, uniform among those that are not there: N is a power of two, and a place that
+ * is there is drawn again. */
+static struct companion_status draw_position(uint32_t leaves, uint32_t *positions, size_t count)
+{
+    for (;;) {
+        uint32_t place = 0;
+        size_t at = 0;
+        struct companion_status status = companion_random(&place, sizeof place);
+        place &= leaves - 1;
+        while (at < count && positions[at] < place)
+            at++;
+        if (status.number == 0 && at < count && positions[at] == place)
+            continue;
+        memmove(positions + at + 1, positions + at, (count - at) * sizeof *positions);
+        positions[at] = place;
+        return status;
+    }
+}
+
+static struct companion_status draw(const struct companion_sizes *sizes, struct drawn *drawn)
+{
+    struct companion_status status = companion_random(drawn->roots, sizeof drawn->roots);
+    NEXT(status, companion_random(drawn->code_key, sizeof drawn->code_key));
+    for (size_t k = 0; k < sizes->trees; k++) {
+        drawn->values[k] = 1;
+        NEXT(status, draw_position((uint32_t)1 << sizes->depth, drawn->positions, k));
+        if (sizes->field == EXPANDER_PRIME)
+            NEXT(status, draw_value(&drawn->values[k]));
+    }
+    if (sizes->field == EXPANDER_PRIME)
+        NEXT(status, draw_value(&drawn->delta[0]));
+    while (status.number == 0 && drawn->delta[0] == 0 && drawn->delta[1] == 0)
+        status = companion_random(drawn->delta, sizeof drawn->delta);
+    return status;
+}
+
+struct expander_label companion_label(uint64_t number)
+{
+    struct expander_label label = {{0}};
+    memcpy(label.bytes, &number, sizeof number);
+    return label;
+}
+
+/* The dealing on what was drawn. With trees = 0 nothing has its length, and only field and sizes are tested before that. */
+static struct expander_two_lengths deal(const struct companion_sizes *sizes, const struct drawn *drawn, size_t trees,
+                                        const struct expander_label *label, struct companion_dealt *dealt)
+{
+    return expander_deal(sizes->field, sizes->depth, sizes->branch_bits, sizes->trees, sizes->terms, sizes->outputs,
+                         drawn->roots, 16 * trees, drawn->positions, trees, drawn->values, trees,
+                         (const uint8_t *)drawn->delta, 16, drawn->code_key, 16, label->bytes, 16, dealt->noise,
+                         sizeof dealt->noise, dealt->scalar, sizeof dealt->scalar);
+}
+
+struct companion_status companion_deal(const struct companion_sizes *sizes, struct expander_label label,
+                                       struct companion_dealt *dealt)
+{
+    struct drawn drawn;
+    struct companion_status status;
+    struct expander_two_lengths made;
+    memset(&drawn, 0, sizeof drawn);
+    memset(dealt, 0, sizeof *dealt);
+    made = deal(sizes, &drawn, 0, &label, dealt);
+    status = companion_refused("expander_deal", made.number == EXPANDER_BAD_LENGTH ? 0 : made.number);
+    NEXT(status, draw(sizes, &drawn));
+    if (status.number == 0) {
+        made = deal(sizes, &drawn, sizes->trees, &label, dealt);
+        status = companion_refused("expander_deal", made.number);
+        dealt->noise_len = made.first_written;
+        dealt->scalar_len = made.second_written;
+    }
+    companion_wipe(&drawn, sizeof drawn);
+    return status;
+}

@@ -1,0 +1,36 @@
+/* What the companion's files share; not installed. */
+#ifndef COMPANION_INNER_H
+#define COMPANION_INNER_H
+
+#include "expander_companion.h"
+
+#pragma GCC visibility push(hidden) /* these are not for users of the shared object */
+
+/* Statuses: done, refused by a call of the expander (or, with 0, accepted), failed by a test here, failed by the system. */
+struct companion_status companion_done(void);
+struct companion_status companion_refused(const char *call, uint32_t number);
+struct companion_status companion_failed(uint32_t number);
+struct companion_status companion_failed_at(uint32_t number, const char *call, int system);
+
+/* The next step, unless one before it failed. */
+#define NEXT(status, call) ((status).number == COMPANION_DONE ? (void)((status) = (call)) : (void)0)
+
+/* Memory of len bytes, all 0 and never none; and back, wiped. */
+void *companion_take(size_t len);
+void companion_give_back(void *memory, size_t len);
+
+/* What an exchange begins with, so that ends at different calls notice it. */
+enum { COMPANION_TAG_HEAD = 1001, COMPANION_TAG_CHECK, COMPANION_TAG_DRAW, COMPANION_TAG_RUN };
+
+/* Random bytes from the system. */
+struct companion_status companion_random(void *bytes, size_t len);
+
+/* Sends own and receives as much as is due from the far end. */
+struct companion_status companion_exchange(const struct companion_link *link, const void *own, size_t own_len, void *far,
+                                           size_t far_len);
+
+/* A running sum of 64 bits (FNV-1a): it finds mistakes, not lies. It begins as any number. */
+uint64_t companion_sum_of(uint64_t sum, const void *bytes, size_t len);
+#pragma GCC visibility pop
+
+#endif

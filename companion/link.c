@@ -1,0 +1,169 @@
+#define _POSIX_C_SOURCE 200809L
+#include "inner.h"
+
+#include <errno.h>
+#include <poll.h>
+#include <string.h>
+#include <sys/socket.h>
+#include <unistd.h>
+
+/* Waits until the socket can be read (POLLIN) or written (POLLOUT), or is closed. */
+static int ready(const struct companion_socket *socket, short event)
+{
+    struct pollfd polled = {socket->fd, event, 0};
+    int count = poll(&polled, 1, socket->milliseconds);
+    if (count == 0)
+        errno = ETIMEDOUT;
+    return count > 0;
+}
+
+ptrdiff_t companion_socket_send(void *context, const uint8_t *bytes, size_t len)
+{
+    enum { PIECE = 512 }; /* a pipe that poll calls ready takes this much without waiting */
+    struct companion_socket *socket = context;
+    ssize_t put;
+    do {
+        put = ready(socket, POLLOUT) ? send(socket->fd, bytes, len, MSG_NOSIGNAL | MSG_DONTWAIT) : -1;
+        if (put < 0 && errno == ENOTSOCK)
+            put = write(socket->fd, bytes, len < PIECE ? len : PIECE);
+    } while (put < 0 && (errno == EINTR || errno == EAGAIN));
+    socket->sent += put > 0 ? (size_t)put : 0;
+    return put < 0 && (errno == EPIPE || errno == ECONNRESET) ? 0 : put;
+}
+
+ptrdiff_t companion_socket_receive(void *context, uint8_t *bytes, size_t len)
+{
+    struct companion_socket *socket = context;
+    ssize_t got;
+    do
+        got = ready(socket, POLLIN) ? read(socket->fd, bytes, len) : -1;
+    while (got < 0 && (errno == EINTR || errno == EAGAIN));
+    socket->received += got > 0 ? (size_t)got : 0;
+    return got < 0 && errno == ECONNRESET ? 0 : got;
+}
+
+/* Sends all of out or, where that is NULL, receives all of in. */
+static struct companion_status move(const struct companion_link *link, const uint8_t *out, uint8_t *in, size_t len)
+{
+    for (size_t done = 0; done < len;) {
+        size_t rest = len - done;
+        ptrdiff_t count;
+        errno = 0;
+        count = out != NULL ? link->send(link->context, out + done, rest) : link->receive(link->context, in + done, rest);
+        if (count <= 0 || (size_t)count > rest)
+            return companion_failed_at(count == 0 ? COMPANION_CLOSED : COMPANION_NOT_MOVED, out != NULL ? "send" : "receive",
+                                       count < 0 ? errno : 0);
+        done += (size_t)count;
+    }
+    return companion_done();
+}
+
+struct companion_status companion_send(const struct companion_link *link, const void *bytes, size_t len)
+{
+    return move(link, bytes, NULL, len);
+}
+
+struct companion_status companion_receive(const struct companion_link *link, void *bytes, size_t len)
+{
+    return move(link, NULL, bytes, len);
+}
+
+/* In turns of one piece each way, so that a long one does not fill the link. */
+struct companion_status companion_exchange(const struct companion_link *link, const void *own, size_t own_len, void *far,
+                                           size_t far_len)
+{
+    enum { PIECE = 4096 };
+    struct companion_status status = companion_done();
+    for (size_t at = 0; at < own_len || at < far_len; at += PIECE) {
+        if (at < own_len)
+            NEXT(status, companion_send(link, (const uint8_t *)own + at, own_len - at < PIECE ? own_len - at : PIECE));
+        if (at < far_len)
+            NEXT(status, companion_receive(link, (uint8_t *)far + at, far_len - at < PIECE ? far_len - at : PIECE));
+    }
+    return status;
+}
+
+uint64_t companion_sum_of(uint64_t sum, const void *bytes, size_t len)
+{
+    for (size_t k = 0; k < len; k++)
+        sum = (sum ^ ((const uint8_t *)bytes)[k]) * 0x100000001b3u;
+    return sum;
+}
+
+/* What both ends of a dealing know. */
+struct head {
+    uint64_t tag, end, said[6];
+    uint8_t code_key[16], label[16];
+};
+
+static struct head head_of(const struct companion_end *end)
+{
+    const struct expander_described *h = &end->head;
+    struct head head = {COMPANION_TAG_HEAD, h->end, {h->field, h->depth, h->branch_bits, h->trees, h->terms, h->outputs}, {0}, {0}};
+    memcpy(head.code_key, h->code_key, sizeof head.code_key);
+    memcpy(head.label, h->label, sizeof head.label);
+    return head;
+}
+
+/* Exchanges the heads of one end, or of two; of these the far end sends the other dealing's first. */
+static struct companion_status compare(const struct companion_link *link, const struct head *own, size_t count)
+{
+    struct head far[2];
+    struct companion_status status = companion_exchange(link, own, count * sizeof *own, far, count * sizeof *far);
+    for (size_t k = 0; k < count && status.number == 0; k++) {
+        const struct head *other = &far[count - 1 - k];
+        if (other->tag != COMPANION_TAG_HEAD)
+            status = companion_failed(COMPANION_OUT_OF_STEP);
+        else if (own[k].end + other->end != EXPANDER_NOISE_END + EXPANDER_SCALAR_END
+                 || memcmp(own[k].said, other->said, sizeof *own - offsetof(struct head, said)) != 0)
+            status = companion_failed(COMPANION_OTHER_DEALING);
+    }
+    return status;
+}
+
+struct companion_status companion_compare(const struct companion_link *link, const struct companion_end *end)
+{
+    struct head own = head_of(end);
+    return compare(link, &own, 1);
+}
+
+struct companion_status companion_compare_pair(const struct companion_link *link, struct companion_pair *pair)
+{
+    struct head own[2] = {head_of(&pair->noise), head_of(&pair->scalar)};
+    struct companion_status status = compare(link, own, 2);
+    pair->compared = status.number == 0;
+    return status;
+}
+
+/* Whether count triples of both ends hold: bits, and the third ones combined the AND of the others. */
+static uint32_t judge(const uint8_t *own, const uint8_t *far, size_t count)
+{
+    uint32_t number = COMPANION_DONE;
+    for (size_t k = 0; k < 3 * count; k += 3) {
+        if (far[k] > 1 || far[k + 1] > 1 || far[k + 2] > 1)
+            return COMPANION_NOT_BITS;
+        if ((own[k + 2] ^ far[k + 2]) != ((own[k] ^ far[k]) & (own[k + 1] ^ far[k + 1])))
+            number = COMPANION_NOT_PAIRED;
+    }
+    return number;
+}
+
+struct companion_status companion_check(const struct companion_link *link, const struct companion_pair *pair, size_t first,
+                                        size_t count)
+{
+    struct companion_triples own = {0, NULL, 0};
+    uint64_t asked[2] = {COMPANION_TAG_CHECK, 0}, far_asked[2];
+    uint8_t *far = NULL;
+    struct companion_status status = companion_add_triples(pair, first, count, &own);
+    asked[1] = own.windows;
+    if (status.number == 0 && (far = companion_take(3 * count)) == NULL)
+        status = companion_failed(COMPANION_NO_MEMORY);
+    NEXT(status, companion_exchange(link, asked, sizeof asked, far_asked, sizeof far_asked));
+    if (status.number == 0 && memcmp(asked, far_asked, sizeof asked) != 0)
+        status = companion_failed(COMPANION_OUT_OF_STEP);
+    NEXT(status, companion_exchange(link, own.bytes, 3 * count, far, 3 * count));
+    NEXT(status, companion_failed(judge(own.bytes, far, count)));
+    companion_give_back(far, 3 * count);
+    companion_free_triples(&own);
+    return status;
+}

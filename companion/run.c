@@ -1,0 +1,123 @@
+#include "inner.h"
+
+#include <string.h>
+
+/* All that a run holds, in one piece of memory. */
+struct run {
+    const struct companion_link *link;
+    const struct companion_circuit *circuit;
+    size_t role, len;
+    uint8_t bytes[COMPANION_CIRCUIT_MAX], shares[EXPANDER_WIRES_MAX], output[EXPANDER_CIRCUIT_OUTPUTS_MAX];
+    uint8_t bits[2 * EXPANDER_WIRES_MAX], far[2 * EXPANDER_WIRES_MAX];
+    struct expander_rounded last;
+};
+
+/* What both ends compare: circuit, who gives and gets how many bits, windows of the triples. */
+static struct companion_status compare(struct run *run, uint64_t windows)
+{
+    const struct companion_circuit *c = run->circuit;
+    uint64_t own[5] = {COMPANION_TAG_RUN, run->role, companion_sum_of(0, run->bytes, run->len), 0, windows}, far[5];
+    struct companion_status status;
+    own[3] = companion_sum_of(own[3], c->input_width, c->input_words * sizeof *c->input_width);
+    own[3] = companion_sum_of(own[3], c->input_role, c->input_words);
+    own[3] = companion_sum_of(own[3], c->output_width, c->output_words * sizeof *c->output_width);
+    own[3] = companion_sum_of(own[3], c->output_role, c->output_words);
+    status = companion_exchange(run->link, own, sizeof own, far, sizeof far);
+    NEXT(status, companion_failed(far[0] != own[0] || far[1] + own[1] != COMPANION_BOTH ? COMPANION_OUT_OF_STEP
+                                  : far[2] != own[2] ? COMPANION_OTHER_CIRCUIT
+                                  : far[3] != own[3] ? COMPANION_OTHER_SHARES
+                                  : far[4] != own[4] ? COMPANION_OTHER_WINDOWS : COMPANION_DONE));
+    return status;
+}
+
+/* Of each of its own bits an end keeps the masked one and sends the mask; neither alone says anything of the bit. */
+static struct companion_status share(struct run *run, const uint8_t *own)
+{
+    const struct companion_circuit *c = run->circuit;
+    size_t sent = 0, due = 0, wire = 0;
+    struct companion_status status = companion_random(run->bits, c->inputs);
+    for (size_t word = 0; word < c->input_words; word++)
+        for (size_t k = 0; k < c->input_width[word]; k++, wire++) {
+            if (c->input_role[word] != run->role) {
+                due++;
+                continue;
+            }
+            if (own[sent] > 1)
+                NEXT(status, companion_failed(COMPANION_NOT_BITS));
+            run->bits[sent] &= 1;
+            run->shares[wire] = own[sent] ^ run->bits[sent];
+            sent++;
+        }
+    NEXT(status, companion_exchange(run->link, run->bits, sent, run->far, due));
+    for (size_t word = 0, at = wire = 0; word < c->input_words; word++)
+        for (size_t k = 0; k < c->input_width[word]; k++, wire++)
+            if (c->input_role[word] != run->role)
+                run->shares[wire] = run->far[at++];
+    return status;
+}
+
+static struct companion_status go(struct run *run, const struct companion_triples *triples, size_t *rounds)
+{
+    struct companion_status status;
+    const uint8_t *bytes = triples->bytes != NULL ? triples->bytes : run->bytes; /* some pointer, where there are none */
+    size_t due = 0;
+    do {
+        run->last = expander_circuit_round((uint8_t)run->role, run->bytes, run->len, run->shares, run->circuit->inputs,
+                                           bytes, 3 * triples->count, run->output, sizeof run->output, run->far, due,
+                                           run->bits, sizeof run->bits, run->last.state);
+        status = companion_refused("expander_circuit_round", run->last.number);
+        *rounds += status.number == 0;
+        due = run->last.bits_written;
+        NEXT(status, companion_exchange(run->link, run->bits, due, run->far, due));
+    } while (status.number == 0 && due > 0);
+    return status;
+}
+
+/* Each end sends its shares of the outputs that the other one is to have. */
+static struct companion_status open_outputs(struct run *run, uint8_t *outputs)
+{
+    const struct companion_circuit *c = run->circuit;
+    size_t sent = 0, due = 0, bit = 0;
+    struct companion_status status;
+    for (size_t word = 0; word < c->output_words; word++)
+        for (size_t k = 0; k < c->output_width[word]; k++, bit++) {
+            if (c->output_role[word] & (COMPANION_BOTH - run->role))
+                run->bits[sent++] = run->output[bit];
+            due += (c->output_role[word] & run->role) != 0;
+        }
+    status = companion_exchange(run->link, run->bits, sent, run->far, due);
+    for (size_t k = 0; k < due; k++)
+        if (run->far[k] > 1)
+            NEXT(status, companion_failed(COMPANION_NOT_BITS));
+    for (size_t word = 0, at = bit = 0; word < c->output_words && status.number == 0; word++)
+        for (size_t k = 0; k < c->output_width[word]; k++, bit++)
+            outputs[bit] = c->output_role[word] & run->role ? run->output[bit] ^ run->far[at++] : 0;
+    return status;
+}
+
+struct companion_status companion_run(const struct companion_link *link, uint8_t role, const struct companion_circuit *circuit,
+                                      const uint8_t *own, struct companion_triples *triples, uint8_t *outputs, size_t *rounds)
+{
+    struct companion_status status = companion_failed(COMPANION_NO_MEMORY);
+    struct expander_described_circuit counts;
+    struct run *run = companion_take(sizeof *run);
+    size_t made = 0;
+    if (run != NULL) {
+        run->link = link;
+        run->circuit = circuit;
+        run->role = role;
+        status = companion_count(circuit, &counts);
+        if (triples->count < counts.ands)
+            NEXT(status, companion_refused("expander_circuit_round", EXPANDER_TOO_FEW_TRIPLES));
+        NEXT(status, companion_write(circuit, run->bytes, sizeof run->bytes, &run->len));
+        NEXT(status, compare(run, triples->windows));
+        NEXT(status, share(run, own));
+        NEXT(status, go(run, triples, &made));
+        NEXT(status, open_outputs(run, outputs));
+    }
+    if (rounds != NULL)
+        *rounds = made;
+    companion_give_back(run, sizeof *run);
+    companion_free_triples(triples);
+    return status;
+}

@@ -1,0 +1,153 @@
+#define _POSIX_C_SOURCE 200809L
+#include "inner.h"
+
+#include <stdio.h>
+#include <string.h>
+
+struct companion_status companion_done(void)
+{
+    return companion_failed_at(COMPANION_DONE, "", 0);
+}
+
+struct companion_status companion_failed(uint32_t number)
+{
+    return companion_failed_at(number, "", 0);
+}
+
+struct companion_status companion_refused(const char *call, uint32_t number)
+{
+    return companion_failed_at(number, number == COMPANION_DONE ? "" : call, 0);
+}
+
+struct companion_status companion_failed_at(uint32_t number, const char *call, int system)
+{
+    struct companion_status status = {number, call, 0, system};
+    return status;
+}
+
+/* What the expander's calls test. Calls are named by what follows expander_ in them, each between blanks; a row with none
+ * is for all calls that are left. Of rows that fit, the first counts. */
+static const struct { uint32_t number; const char *calls, *text; } tests[] = {
+    {0, "", "done"},
+    {1, " deal ", "field is not 1 or 2"},
+    {1, "", "the record's field byte is not 1 or 2"},
+    {2, " deal ", "depth, branch_bits, trees, terms or outputs is outside its range, or depth is no multiple of branch_bits"},
+    {2, " open_stock ", "the number of callers is not 1 to 8, or outputs is not 1 to 32768"},
+    {2, " pass_stock ", "outputs is not 1 to 32768"},
+    {2, "", "d, g, t, l or n of the record is outside its range, or d is no multiple of g"},
+    {3, " deal ", "roots, positions, values, delta, code_key or label does not have its length"},
+    {3, " noise_online ", "noise or v is not as long as the record says"},
+    {3, " scalar_online ", "w is not as long as the record says"},
+    {3, " noise_pads ", "v is not 16 bytes an output, or choices not 1"},
+    {3, " scalar_pads ", "w is not 16 bytes an output, or delta not 16 bytes"},
+    {3, " correction_bits mask_messages unmask_messages ", "count is above 4096, or an input does not have its length for it"},
+    {3, " triples ", "pads are not 16 bytes a choice, or messages not 32"},
+    {3, " circuit_step ", "shares are not one an input, or triples not three bytes each"},
+    {3, "", "shares are not one an input, triples not three bytes each, or far bits not two for each AND that waits"},
+    {4, " deal ", "a position is not above the one before, or is N or more"},
+    {4, "", "a position of the record is N or more"},
+    {5, " deal ", "a noise value is not 1 (field 1), or not 1 to p - 1 (field 2)"},
+    {5, "", "a noise value of the record is 0, or p or more"},
+    {6, " deal ", "delta is zero or, in field 2, p or more, or its last eight bytes are not 00"},
+    {6, " scalar_pads ", "delta is zero"},
+    {6, "", "the record's Delta is zero, or p or more"},
+    {7, " noise_pads scalar_pads ", "first + count is above 32768"},
+    {7, "", "first + count is above the dealing's n"},
+    {8, " noise_pads triples ", "a choice is above 1"},
+    {8, " correction_bits ", "a choice or a wanted bit is above 1"},
+    {8, " mask_messages ", "a correction bit is above 1"},
+    {8, " unmask_messages ", "a wanted bit is above 1"},
+    {8, " circuit_step circuit_round ", "a share, a triple's bit or a far bit is above 1"},
+    {8, " read_amount ", "element is p or more"},
+    {8, " noise_online scalar_online ", "a correction of the record, or a word at a place that the window's rows use, is no element"},
+    {8, "", "a correction of the record is p or more"},
+    {9, " circuit_step circuit_round ", "role is not 1 or 2"},
+    {9, " describe ", "the record's end byte is not 1 or 2"},
+    {9, "", "the record is the other end's: its end byte"},
+    {10, " circuit_step circuit_round describe_circuit ", "the circuit ends before a number, or inside it"},
+    {10, "", "the record ends before a field, or inside it"},
+    {11, "", "a number that was read is not in its shortest form, or has more than three bytes"},
+    {12, " circuit_step circuit_round describe_circuit ", "bytes follow the circuit"},
+    {12, "", "bytes follow the record"},
+    {13, " circuit_round ", "output is shorter than the outputs, or bits_out than two bytes an AND"},
+    {13, "", "an output buffer is shorter than what is to be written"},
+    {14, "", "caller is not below the stock's number of callers"},
+    {15, "", "the caller's remaining share is below count"},
+    {16, " pass_stock ", "what the callers have left sums to more than outputs"},
+    {16, "", "the shares sum to more than outputs"},
+    {17, " circuit_step ", "a size, kind or wire of the circuit is not admitted, or the state waits at no AND"},
+    {17, "", "a size, kind or wire of the circuit is not admitted"},
+    {18, "", "there are fewer triples than ANDs"},
+    {19, "", "amount is below -(2^60 - 1) or above 2^60 - 1"},
+    {20, "", "label is not above the one in use"},
+    {21, "", "label is not the one in use"},
+    {COMPANION_NO_MEMORY, "", "the system gives no memory"},
+    {COMPANION_NO_RANDOM, "", "the system gives no random bytes"},
+    {COMPANION_CLOSED, "", "the far end closed the link"},
+    {COMPANION_NOT_MOVED, "", "the link failed, or its time was over"},
+    {COMPANION_OUT_OF_STEP, "", "the far end makes another call, or asks for another count, window or role"},
+    {COMPANION_OTHER_DEALING, "", "the far end's record is of another dealing: field, sizes, code key or label differ, or the end"},
+    {COMPANION_NOT_PAIRED, "", "a sacrificed triple does not hold: the ends' records were not dealt together"},
+    {COMPANION_NOT_COMPARED, "", "the pair's heads were not compared with the far end's"},
+    {COMPANION_WRONG_RECORD, "", "a noise record and a scalar record of field 1 are due, in this order"},
+    {COMPANION_SAME_LABEL, "", "both dealings of the pair have one label"},
+    {COMPANION_OTHER_CIRCUIT, "", "the far end runs another circuit"},
+    {COMPANION_OTHER_SHARES, "", "the far end has other words of inputs or outputs, or gives them other roles"},
+    {COMPANION_OTHER_WINDOWS, "", "the far end's triples are of other windows"},
+    {COMPANION_NOT_BITS, "", "an input, or a byte that the far end sent, is no bit"},
+    {COMPANION_FILE, "", "the system refused the stock's file"},
+    {COMPANION_FILE_THERE, "", "a stock is to be created where there is a file"},
+    {COMPANION_FILE_DAMAGED, "", "the file is no stock's, or not whole: its mark, length or sum"},
+    {COMPANION_FILE_IN_USE, "", "the stock is open elsewhere"},
+    {COMPANION_WIRES, "", "the circuit has more wires than EXPANDER_WIRES_MAX, 4096"},
+    {COMPANION_OUTPUTS, "", "the circuit has more outputs than EXPANDER_CIRCUIT_OUTPUTS_MAX, 4096"},
+    {COMPANION_BAD_WIRE, "", "a gate or output reads a wire that is not made"},
+    {COMPANION_BAD_WORD, "", "a word's width is 0 or too large, or its role is not admitted"},
+    {COMPANION_LATE_INPUT, "", "an input comes after a gate"},
+    {COMPANION_NO_ROOM, "", "the buffer is shorter than what is to be written"},
+    {COMPANION_TEXT_NUMBER, "", "a number is due, of digits alone, at most 999999999, and for EQ 0 or 1"},
+    {COMPANION_TEXT_VALUES, "", "values are due: at least one, each of a width of at least 1, and together no more than the wires"},
+    {COMPANION_TEXT_GATE, "", "a gate is none of XOR, AND, INV, EQ, EQW and MAND"},
+    {COMPANION_TEXT_COUNTS, "", "a gate's numbers of wires do not fit its name"},
+    {COMPANION_TEXT_WIRE, "", "a wire's number is not below the number of wires"},
+    {COMPANION_TEXT_EARLY, "", "a gate reads a wire that nothing before it makes"},
+    {COMPANION_TEXT_TWICE, "", "a gate makes a wire that is made already"},
+    {COMPANION_TEXT_ENDS, "", "the text ends before its last gate"},
+    {COMPANION_TEXT_AFTER, "", "something follows where the line, or the text, is to end"},
+    {COMPANION_TEXT_UNMADE, "", "no gate makes an output wire"},
+};
+
+const char *companion_meaning(const char *call, uint32_t number)
+{
+    static const char prefix[] = "expander_";
+    size_t skip = strncmp(call, prefix, sizeof prefix - 1) == 0 ? sizeof prefix - 1 : 0, len = strlen(call + skip);
+    for (size_t k = 0; k < sizeof tests / sizeof *tests; k++) {
+        const char *at = tests[k].calls;
+        if (tests[k].number != number)
+            continue;
+        if (*at == '\0')
+            return tests[k].text;
+        while (len > 0 && (at = strstr(at, call + skip)) != NULL)
+            if (at[-1] == ' ' && at[len] == ' ')
+                return tests[k].text;
+            else
+                at++;
+    }
+    return "no such number";
+}
+
+void companion_text(struct companion_status status, char *text, size_t text_len)
+{
+    char reason[100] = "";
+    const char *meaning = companion_meaning(status.call, status.number);
+    int named = status.number != COMPANION_DONE && status.call[0] != '\0';
+    if (status.system != 0 && strerror_r(status.system, reason, sizeof reason) != 0)
+        reason[0] = '\0';
+    if (status.line > 0)
+        snprintf(text, text_len, "line %zu: %s", status.line, meaning);
+    else if (status.number != COMPANION_DONE && status.number < COMPANION_NO_MEMORY)
+        snprintf(text, text_len, "%s refused with %u: %s", status.call, (unsigned)status.number, meaning);
+    else
+        snprintf(text, text_len, "%s%s%s%s%s", meaning, named ? ": " : "", named ? status.call : "",
+                 reason[0] != '\0' ? ": " : "", reason);
+}

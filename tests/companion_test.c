@@ -1,0 +1,1553 @@
+/* Tests of the companion, under the sanitizers and with the system's calls wrapped (tests/companion says which): every call of
+ * the system can be made to fail, to move less than was asked, or to be interrupted, and what is freed must have been wiped.
+ *
+ *   companion_test SECTION [COUNT]    sections are listed at the end
+ */
+#define _DEFAULT_SOURCE
+#include "expander_companion.h"
+
+#include <errno.h>
+#include <fcntl.h>
+#include <malloc.h>
+#include <pthread.h>
+#include <signal.h>
+#include <stdarg.h>
+#include <stdio.h>
+#include <stdlib.h>
+#include <string.h>
+#include <sys/resource.h>
+#include <sys/socket.h>
+#include <sys/stat.h>
+#include <sys/wait.h>
+#include <unistd.h>
+
+#define CHECK(true, ...) ((true) ? (void)checks++ : complain(__LINE__, __VA_ARGS__))
+
+static size_t checks;
+
+static void complain(int line, const char *format, ...)
+{
+    va_list arguments;
+    fprintf(stderr, "companion_test: line %d: ", line);
+    va_start(arguments, format);
+    vfprintf(stderr, format, arguments);
+    va_end(arguments);
+    fprintf(stderr, "\n");
+    exit(1);
+}
+
+static const char *said(struct companion_status status)
+{
+    static __thread char text[300];
+    companion_text(status, text, sizeof text);
+    return text;
+}
+
+/* Expects a number, and in any case a text. */
+#define EXPECT(wanted, call) expect(__LINE__, wanted, call)
+static void expect(int line, uint32_t wanted, struct companion_status status)
+{
+    if (status.number != wanted || strlen(said(status)) < 4 || strstr(said(status), "no such") != NULL)
+        complain(line, "status %u where %u is due: %s", (unsigned)status.number, (unsigned)wanted, said(status));
+    checks++;
+}
+
+/* A small generator of this test's own: the same draws in every run. */
+static __thread uint64_t seed = 1;
+static uint64_t draw(uint64_t below)
+{
+    seed = seed * 6364136223846793005u + 1442695040888963407u;
+    return (seed >> 33) % below;
+}
+
+/* ---- The system's calls, wrapped ---- */
+
+/* How this thread's calls go: all well; the one that comes as number `at` fails; each moves one byte; each is interrupted
+ * half of the times; the process kills itself before, or after, the one that comes as number `at`. */
+enum mode { WELL, FAILS, SHORT, INTERRUPTED, DIES_BEFORE, DIES_AFTER };
+static __thread enum mode mode;
+static __thread size_t at, calls;
+static __thread int zeros; /* so many draws give zeros */
+
+/* Counts a call. Returns 0 where it goes on, or the errno with which it fails. */
+static int counted(int error)
+{
+    size_t number = calls++;
+    if (mode == DIES_BEFORE && number == at)
+        raise(SIGKILL);
+    if (mode == INTERRUPTED && draw(2) == 0)
+        return EINTR;
+    return mode == FAILS && number == at ? error : 0;
+}
+
+static long ended(long result)
+{
+    if (mode == DIES_AFTER && calls == at + 1)
+        raise(SIGKILL);
+    return result;
+}
+
+#define WRAPPED(name, error, failure, ...) \
+    do { \
+        int fault_ = counted(error); \
+        if (fault_ != 0) { \
+            errno = fault_; \
+            return failure; \
+        } \
+        return (__typeof__(__real_##name(__VA_ARGS__)))ended((long)__real_##name(__VA_ARGS__)); \
+    } while (0)
+
+void *__real_calloc(size_t count, size_t size);
+void *__wrap_calloc(size_t count, size_t size);
+void *__wrap_calloc(size_t count, size_t size)
+{
+    if (mode == INTERRUPTED)
+        return __real_calloc(count, size);
+    if (counted(ENOMEM) != 0)
+        return NULL;
+    return __real_calloc(count, size);
+}
+
+void __real_free(void *memory);
+void __wrap_free(void *memory);
+void __wrap_free(void *memory)
+{
+    size_t len = memory == NULL ? 0 : malloc_usable_size(memory);
+    for (size_t k = 0; k < len; k++)
+        if (((uint8_t *)memory)[k] != 0)
+            complain(__LINE__, "byte %zu of %zu is freed and not wiped", k, len);
+    checks += memory != NULL;
+    __real_free(memory);
+}
+
+ssize_t __real_getrandom(void *bytes, size_t len, unsigned flags);
+ssize_t __wrap_getrandom(void *bytes, size_t len, unsigned flags);
+ssize_t __wrap_getrandom(void *bytes, size_t len, unsigned flags)
+{
+    if (zeros > 0 && zeros-- > 0) {
+        memset(bytes, 0, len);
+        return (ssize_t)len;
+    }
+    WRAPPED(getrandom, ENOSYS, -1, bytes, mode == SHORT && len > 1 ? 1 : len, flags);
+}
+
+ssize_t __real_read(int fd, void *bytes, size_t len);
+ssize_t __wrap_read(int fd, void *bytes, size_t len);
+ssize_t __wrap_read(int fd, void *bytes, size_t len)
+{
+    WRAPPED(read, EIO, -1, fd, bytes, mode == SHORT ? 1 : len);
+}
+
+ssize_t __real_write(int fd, const void *bytes, size_t len);
+ssize_t __wrap_write(int fd, const void *bytes, size_t len);
+ssize_t __wrap_write(int fd, const void *bytes, size_t len)
+{
+    WRAPPED(write, ENOSPC, -1, fd, bytes, mode == SHORT ? 1 : len);
+}
+
+ssize_t __real_send(int fd, const void *bytes, size_t len, int flags);
+ssize_t __wrap_send(int fd, const void *bytes, size_t len, int flags);
+ssize_t __wrap_send(int fd, const void *bytes, size_t len, int flags)
+{
+    WRAPPED(send, ECONNRESET, -1, fd, bytes, mode == SHORT ? 1 : len, flags);
+}
+
+struct pollfd;
+int __real_poll(struct pollfd *polled, unsigned long count, int milliseconds);
+int __wrap_poll(struct pollfd *polled, unsigned long count, int milliseconds);
+int __wrap_poll(struct pollfd *polled, unsigned long count, int milliseconds)
+{
+    WRAPPED(poll, ENOMEM, -1, polled, count, milliseconds);
+}
+
+int __real_open(const char *path, int flags, ...);
+int __wrap_open(const char *path, int flags, ...);
+int __wrap_open(const char *path, int flags, ...)
+{
+    if (mode == INTERRUPTED)
+        return __real_open(path, flags, 0600);
+    WRAPPED(open, EACCES, -1, path, flags, 0600);
+}
+
+int __real_close(int fd);
+int __wrap_close(int fd);
+int __wrap_close(int fd)
+{
+    int fault = mode == INTERRUPTED ? 0 : counted(EIO), result = __real_close(fd);
+    errno = fault != 0 ? fault : errno;
+    return (int)ended(fault != 0 ? -1 : result);
+}
+
+#define WRAP_FILE_CALL(name, type) \
+    int __real_##name type; \
+    int __wrap_##name type;
+WRAP_FILE_CALL(fsync, (int fd))
+WRAP_FILE_CALL(rename, (const char *from, const char *to))
+WRAP_FILE_CALL(flock, (int fd, int operation))
+
+int __wrap_fsync(int fd)
+{
+    if (mode == INTERRUPTED)
+        return __real_fsync(fd);
+    WRAPPED(fsync, EIO, -1, fd);
+}
+
+int __wrap_rename(const char *from, const char *to)
+{
+    if (mode == INTERRUPTED)
+        return __real_rename(from, to);
+    WRAPPED(rename, EROFS, -1, from, to);
+}
+
+int __wrap_flock(int fd, int operation)
+{
+    if (mode == INTERRUPTED)
+        return __real_flock(fd, operation);
+    WRAPPED(flock, ENOLCK, -1, fd, operation);
+}
+
+/* ---- Two ends in two threads ---- */
+
+struct side {
+    struct companion_link link;
+    struct companion_socket socket;
+    struct companion_pair pair;
+    uint8_t noise[EXPANDER_NOISE_RECORD_MAX], scalar[EXPANDER_SCALAR_RECORD_MAX];
+    size_t noise_len, scalar_len;
+    void *with; /* what a test gives its end */
+    struct companion_status status;
+    enum mode mode; /* of its thread */
+    size_t at, calls;
+    void (*run)(struct side *side);
+};
+
+static void *run_side(void *context)
+{
+    struct side *side = context;
+    mode = side->mode;
+    at = side->at;
+    calls = 0;
+    side->run(side);
+    side->calls = calls;
+    mode = WELL;
+    shutdown(side->socket.fd, SHUT_RDWR); /* the far end does not wait for what does not come */
+    return NULL;
+}
+
+static void connect_sides(struct side sides[2])
+{
+    int fds[2];
+    if (socketpair(AF_UNIX, SOCK_STREAM, 0, fds) != 0)
+        complain(__LINE__, "no socket pair");
+    for (int k = 0; k < 2; k++) {
+        sides[k].socket.fd = fds[k];
+        sides[k].socket.milliseconds = 20000;
+        sides[k].socket.sent = sides[k].socket.received = 0;
+        sides[k].link.send = companion_socket_send;
+        sides[k].link.receive = companion_socket_receive;
+        sides[k].link.context = &sides[k].socket;
+    }
+}
+
+/* Runs the first side in a thread of its own and the second here. */
+static void run_both(struct side sides[2])
+{
+    pthread_t thread;
+    connect_sides(sides);
+    if (pthread_create(&thread, NULL, run_side, &sides[0]) != 0)
+        complain(__LINE__, "no thread");
+    run_side(&sides[1]);
+    pthread_join(thread, NULL);
+    __real_close(sides[0].socket.fd);
+    __real_close(sides[1].socket.fd);
+}
+
+static const struct companion_sizes small = {EXPANDER_BINARY, 8, 1, 4, 8, 128};
+
+/* Two dealings with the roles exchanged, labels 2 k + 1 and 2 k + 2; the first side is the first one's noise end. */
+static void deal_sides(const struct companion_sizes *sizes, uint64_t k, struct side sides[2])
+{
+    for (int side = 0; side < 2; side++) {
+        static struct companion_dealt dealt;
+        EXPECT(0, companion_deal(sizes, companion_label(2 * k + 1 + (uint64_t)side), &dealt));
+        memcpy(sides[side].noise, dealt.noise, dealt.noise_len);
+        memcpy(sides[1 - side].scalar, dealt.scalar, dealt.scalar_len);
+        sides[side].noise_len = dealt.noise_len;
+        sides[1 - side].scalar_len = dealt.scalar_len;
+        companion_wipe(&dealt, sizeof dealt);
+        CHECK(dealt.noise[0] == 0 && dealt.noise_len == 0, "not wiped");
+    }
+}
+
+static struct companion_status open_side(struct side *side)
+{
+    return companion_open_pair(side->noise, side->noise_len, side->scalar, side->scalar_len, &side->pair);
+}
+
+/* ---- Dealing and ends ---- */
+
+static struct companion_sizes random_sizes(void)
+{
+    struct companion_sizes sizes;
+    sizes.field = (uint8_t)(1 + draw(2));
+    sizes.depth = 1 + draw(9);
+    do
+        sizes.branch_bits = 1 + draw(3);
+    while (sizes.depth % sizes.branch_bits != 0);
+    sizes.trees = 1 + draw(sizes.depth > 5 ? 64 : (uint64_t)1 << sizes.depth);
+    sizes.terms = 1 + draw(sizes.depth > 4 ? 32 : (uint64_t)1 << sizes.depth);
+    sizes.outputs = 1 + draw((uint64_t)1 << (sizes.depth - 1));
+    return sizes;
+}
+
+/* (a b + c) mod p by additions alone. */
+static uint64_t times_plus(uint64_t a, uint64_t b, uint64_t c)
+{
+    for (; b > 0; b >>= 1) {
+        if (b & 1)
+            c = (c + a) % EXPANDER_MODULUS;
+        a = 2 * a % EXPANDER_MODULUS;
+    }
+    return c;
+}
+
+static void try_window(const struct companion_end *noise, const struct companion_end *scalar, size_t first, size_t count)
+{
+    struct companion_window n, s;
+    size_t width = noise->head.element_words;
+    EXPECT(0, companion_expand(noise, first, count, &n));
+    EXPECT(0, companion_expand(scalar, first, count, &s));
+    CHECK((n.pads != NULL) == (noise->head.field == 1) && s.u == NULL && s.choices == NULL, "members of a window");
+    for (size_t k = 0; k < count; k++) {
+        if (noise->head.field == EXPANDER_PRIME) {
+            CHECK(s.elements[k] == times_plus(scalar->delta[0], n.u[k], n.elements[k]), "w = Delta u + v");
+            continue;
+        }
+        for (size_t word = 0; word < width; word++)
+            CHECK(s.elements[2 * k + word] == (n.elements[2 * k + word] ^ (n.u[k] ? scalar->delta[word] : 0)), "w = Delta u + v");
+        CHECK(n.choices[k] == n.u[k] && memcmp(n.pads + 16 * k, s.pads + 32 * k + 16 * n.choices[k], 16) == 0, "pads");
+    }
+    companion_free_window(&n);
+    companion_free_window(&s);
+    companion_free_window(&s);
+}
+
+static void try_dealing(const struct companion_sizes *sizes)
+{
+    static struct companion_dealt dealt;
+    struct companion_end noise, scalar, none;
+    size_t n = sizes->outputs, first = draw(n + 1);
+    EXPECT(0, companion_deal(sizes, companion_label(draw(1000)), &dealt));
+    EXPECT(0, companion_open(dealt.noise, dealt.noise_len, &noise));
+    EXPECT(0, companion_open(dealt.scalar, dealt.scalar_len, &scalar));
+    EXPECT(10, companion_open(dealt.scalar, dealt.scalar_len - 1, &none));
+    CHECK(none.record == NULL && none.head.number == 0, "what is not opened is all 0");
+    CHECK(noise.head.depth == sizes->depth && noise.head.outputs == n && scalar.head.trees == sizes->trees, "heads");
+    try_window(&noise, &scalar, 0, n);
+    try_window(&noise, &scalar, first, draw(n - first + 1));
+    EXPECT(7, companion_expand(&noise, 1, n, &(struct companion_window){0, 0, 0, 0, 0, 0}));
+    EXPECT(7, companion_expand(&scalar, SIZE_MAX, SIZE_MAX, &(struct companion_window){0, 0, 0, 0, 0, 0}));
+    companion_close(&noise);
+    companion_close(&scalar);
+    companion_close(&scalar);
+}
+
+/* Each place is as often in a choice as it should be, and so is each pair of places. */
+static void try_positions(size_t count)
+{
+    enum { PLACES = 8, TREES = 3 };
+    static struct companion_dealt dealt;
+    const struct companion_sizes sizes = {EXPANDER_BINARY, 3, 1, TREES, 1, 4};
+    double seen[PLACES][PLACES] = {{0}}, due, spread;
+    for (size_t k = 0; k < count; k++) {
+        struct companion_end end;
+        int noise[PLACES];
+        EXPECT(0, companion_deal(&sizes, companion_label(k), &dealt));
+        EXPECT(0, companion_open(dealt.noise, dealt.noise_len, &end));
+        for (size_t place = 0; place < PLACES; place++)
+            noise[place] = (int)(end.noise[place] ^ (place > 0 ? end.noise[place - 1] : 0));
+        for (size_t a = 0; a < PLACES; a++)
+            for (size_t b = 0; b <= a; b++)
+                seen[a][b] += noise[a] & noise[b];
+        companion_close(&end);
+    }
+    for (size_t a = 0; a < PLACES; a++)
+        for (size_t b = 0; b <= a; b++) {
+            double chance = a == b ? 3.0 / 8 : 3.0 / 28, off;
+            due = chance * (double)count;
+            spread = due * (1 - chance);
+            off = seen[a][b] - due;
+            CHECK(off * off < 30 * spread, "places %zu and %zu: %.0f times where %.0f are due", a, b, seen[a][b], due);
+        }
+}
+
+static void dealing(size_t count)
+{
+    static struct companion_dealt dealt;
+    static const struct companion_sizes bad[] = {
+        {0, 4, 1, 2, 2, 4}, {3, 4, 1, 2, 2, 4}, {1, 0, 1, 1, 1, 1}, {1, 17, 1, 2, 2, 4}, {1, 64, 1, 2, 2, 4}, {1, 4, 3, 2, 2, 4},
+        {1, 4, 0, 2, 2, 4}, {1, 4, 1, 0, 2, 4}, {1, 4, 1, 17, 2, 4}, {1, 8, 1, 65, 2, 4}, {2, 4, 1, 2, 17, 4}, {2, 4, 1, 2, 2, 9},
+        {1, SIZE_MAX, 1, SIZE_MAX, 2, 4}, {1, 4, 1, 2, 2, SIZE_MAX}};
+    for (size_t k = 0; k < count; k++) {
+        struct companion_sizes sizes = random_sizes();
+        try_dealing(&sizes);
+    }
+    for (size_t k = 0; k < sizeof bad / sizeof *bad; k++) {
+        EXPECT(k < 2 ? 1 : 2, companion_deal(&bad[k], companion_label(1), &dealt));
+        CHECK(dealt.noise_len == 0 && dealt.noise[0] == 0, "nothing is dealt");
+    }
+    for (int field = 1; field <= 2; field++) { /* zeros are drawn for roots, code key, a place, values and Delta, and more */
+        struct companion_sizes sizes = {(uint8_t)field, 4, 1, 1, 2, 4};
+        for (zeros = 1; zeros < 9;) {
+            int left = zeros;
+            EXPECT(0, companion_deal(&sizes, companion_label(1), &dealt));
+            zeros = left + 1;
+        }
+        zeros = 0;
+    }
+    try_positions(20 * count);
+    printf("dealing: %zu dealings of random sizes, %zu more for the places\n", count, 20 * count);
+}
+
+/* ---- Pairs: comparing, checking ---- */
+
+static void compare_and_check(struct side *side)
+{
+    size_t *count = side->with;
+    side->status = open_side(side);
+    if (side->status.number == 0)
+        side->status = companion_compare_pair(&side->link, &side->pair);
+    if (side->status.number == 0)
+        side->status = companion_check(&side->link, &side->pair, 0, *count);
+    companion_close_pair(&side->pair);
+}
+
+/* Deals with the raw call: what is drawn differs from dealing to dealing, but for the code key and the label. */
+static void deal_raw(const struct companion_sizes *sizes, uint8_t label, struct companion_dealt *dealt)
+{
+    uint8_t roots[16 * 64], delta[16], head[16] = {7}, label_bytes[16] = {label};
+    uint32_t positions[64];
+    uint64_t values[64];
+    struct expander_two_lengths made;
+    for (size_t k = 0; k < sizeof roots; k++)
+        roots[k] = (uint8_t)draw(256);
+    for (size_t k = 0; k < sizeof delta; k++)
+        delta[k] = (uint8_t)(1 + draw(255));
+    for (size_t k = 0; k < sizes->trees; k++) {
+        uint32_t part = (uint32_t)(((size_t)1 << sizes->depth) / sizes->trees);
+        positions[k] = (uint32_t)k * part + (uint32_t)draw(part);
+        values[k] = 1;
+    }
+    made = expander_deal(1, sizes->depth, sizes->branch_bits, sizes->trees, sizes->terms, sizes->outputs, roots, 16 * sizes->trees,
+                         positions, sizes->trees, values, sizes->trees, delta, 16, head, 16, label_bytes, 16, dealt->noise,
+                         sizeof dealt->noise, dealt->scalar, sizeof dealt->scalar);
+    CHECK(made.number == 0, "a dealing is refused");
+    dealt->noise_len = made.first_written;
+    dealt->scalar_len = made.second_written;
+}
+
+/* Records for both sides: mixed & 1 takes the first dealing's scalar record from another one with the same head, mixed & 2 the
+ * second one's; mixed & 4 alters the first dealing's Delta, so that half of the outputs fit. */
+static void mixed_sides(unsigned mixed, struct side sides[2])
+{
+    for (int k = 0; k < 2; k++) {
+        static struct companion_dealt dealt, other;
+        deal_raw(&small, (uint8_t)(k + 1), &dealt);
+        deal_raw(&small, (uint8_t)(k + 1), &other);
+        if (mixed >> k & 1)
+            dealt = (memcpy(other.noise, dealt.noise, dealt.noise_len), other);
+        if (k == 0 && mixed & 4)
+            dealt.scalar[2 + 1 + 1 + 1 + 1 + 2 + 32 + 5] ^= 1;
+        memcpy(sides[k].noise, dealt.noise, dealt.noise_len);
+        memcpy(sides[1 - k].scalar, dealt.scalar, dealt.scalar_len);
+        sides[k].noise_len = dealt.noise_len;
+        sides[1 - k].scalar_len = dealt.scalar_len;
+    }
+}
+
+/* How many of `pairs` pass a check of `count` triples; both ends must find the same. */
+static size_t passed(unsigned mixed, size_t pairs, size_t count)
+{
+    static struct side sides[2];
+    size_t result = 0;
+    sides[0].run = sides[1].run = compare_and_check;
+    sides[0].with = sides[1].with = &count;
+    for (size_t k = 0; k < pairs; k++) {
+        mixed_sides(mixed, sides);
+        run_both(sides);
+        CHECK(sides[0].status.number == sides[1].status.number, "ends differ: %s", said(sides[0].status));
+        CHECK(sides[0].status.number == 0 || sides[0].status.number == COMPANION_NOT_PAIRED, "%s", said(sides[0].status));
+        result += sides[0].status.number == 0;
+    }
+    return result;
+}
+
+/* Within five standard deviations of what the header says. */
+static void near(size_t pass, size_t pairs, double chance, const char *what)
+{
+    double off = (double)pass - chance * (double)pairs;
+    CHECK(off * off < 25 * (double)pairs * chance * (1 - chance) + 1, "%s: %zu of %zu pass", what, pass, pairs);
+}
+
+static void pairing(size_t count)
+{
+    size_t alone, second, both, half, part = count / 2;
+    CHECK(passed(0, 20, 40) == 20, "pairs that were dealt together fail");
+    CHECK(passed(1 + 2 * 0, count / 3, 40) + passed(2, count / 3, 40) + passed(3, count - 2 * (count / 3), 40) == 0, "mixed pairs pass");
+    near(alone = passed(1, part, 1), part, 0.5, "first mixed");
+    near(second = passed(2, part, 2), part, 0.25, "second mixed");
+    near(both = passed(3, part, 3), part, 0.125, "both mixed");
+    near(half = passed(4, part, 4), part, 0.31640625, "half of the outputs fit"); /* (3 / 4)^4 */
+    printf("pairing: of %zu mixed pairs none passes a check of 40 triples; of %zu each, %zu pass with 1 triple, %zu with 2, %zu with 3;"
+           " %zu with 4 where half of the outputs fit\n", count, part, alone, second, both, half);
+}
+
+/* What a side is given for a comparison that must fail. */
+static void compare_only(struct side *side)
+{
+    side->status = open_side(side);
+    if (side->status.number == 0)
+        side->status = companion_compare_pair(&side->link, &side->pair);
+    companion_close_pair(&side->pair);
+}
+
+static void heads(size_t count)
+{
+    static struct side sides[2], others[2];
+    struct companion_sizes sizes = small;
+    (void)count;
+    sides[0].run = sides[1].run = compare_only;
+    for (int k = 0; k < 6; k++) {
+        static const size_t changed[] = {0, 0, 9, 8, 3, 120};
+        uint32_t due = k == 0 ? 0 : COMPANION_OTHER_DEALING;
+        deal_sides(&small, 1, sides);
+        sizes = small;
+        *(k == 3 ? &sizes.depth : k == 4 ? &sizes.trees : &sizes.outputs) = k >= 3 ? changed[k] : small.outputs;
+        deal_sides(&sizes, k == 2 ? 5 : 1, others); /* other code keys; another label; other sizes */
+        if (k > 0) {
+            memcpy(sides[1].noise, others[1].noise, sizeof sides[1].noise);
+            sides[1].noise_len = others[1].noise_len;
+        }
+        if (k > 1) {
+            memcpy(sides[1].scalar, others[1].scalar, sizeof sides[1].scalar);
+            sides[1].scalar_len = others[1].scalar_len;
+        }
+        run_both(sides);
+        EXPECT(due, sides[0].status);
+        EXPECT(due, sides[1].status);
+    }
+    deal_sides(&small, 1, sides); /* both are the same end */
+    memcpy(&sides[1], &sides[0], sizeof sides[0]);
+    run_both(sides);
+    EXPECT(COMPANION_OTHER_DEALING, sides[0].status);
+    deal_sides(&small, 1, sides);
+    EXPECT(COMPANION_WRONG_RECORD, companion_open_pair(sides[0].scalar, sides[0].scalar_len, sides[0].noise, sides[0].noise_len, &sides[0].pair));
+    EXPECT(COMPANION_SAME_LABEL, companion_open_pair(sides[0].noise, sides[0].noise_len, sides[1].scalar, sides[1].scalar_len, &sides[0].pair));
+    EXPECT(10, companion_open_pair(sides[0].noise, sides[0].noise_len, sides[0].scalar, 0, &sides[0].pair));
+    EXPECT(0, open_side(&sides[0]));
+    EXPECT(COMPANION_NOT_COMPARED, companion_add_triples(&sides[0].pair, 0, 1, &(struct companion_triples){0, NULL, 0}));
+    companion_close_pair(&sides[0].pair);
+    printf("heads: equal ones, and 8 kinds that do not fit\n");
+}
+
+/* ---- Circuits ---- */
+
+enum { WIDTH_MAX = 80, BITS_MAX = 2 * WIDTH_MAX };
+
+static void random_bits(uint8_t *bits, size_t count)
+{
+    for (size_t k = 0; k < count; k++)
+        bits[k] = (uint8_t)draw(2);
+}
+
+/* Sums and orders of numbers in bits, as one does them by hand. */
+static void plain_sum(const uint8_t *a, const uint8_t *b, size_t width, uint8_t *sum)
+{
+    unsigned carry = 0;
+    for (size_t k = 0; k < width; k++) {
+        carry += (unsigned)a[k] + b[k];
+        sum[k] = carry & 1;
+        carry >>= 1;
+    }
+    sum[width] = (uint8_t)carry;
+}
+
+static int plain_order(const uint8_t *a, const uint8_t *b, size_t width)
+{
+    for (size_t k = width; k-- > 0;)
+        if (a[k] != b[k])
+            return a[k] < b[k] ? -1 : 1;
+    return 0;
+}
+
+static size_t log2_up(size_t n)
+{
+    size_t bits = 0;
+    while ((size_t)1 << bits < n)
+        bits++;
+    return bits;
+}
+
+/* A circuit with one subject, and inputs of two words; values are in `bits`. */
+static struct companion_circuit built;
+
+static void begin_words(size_t width, companion_wire *a, companion_wire *b)
+{
+    memset(&built, 0, sizeof built);
+    companion_input(&built, COMPANION_ROLE_1, a, width);
+    companion_input(&built, COMPANION_ROLE_2, b, width);
+}
+
+static void count_is(size_t ands, size_t rounds, const char *what)
+{
+    struct expander_described_circuit counts;
+    EXPECT(0, companion_count(&built, &counts));
+    CHECK(counts.ands == ands && counts.rounds == rounds, "%s: %zu ANDs and %zu rounds where %zu and %zu are due", what, counts.ands,
+          counts.rounds, ands, rounds);
+}
+
+static void try_words(int form, size_t width)
+{
+    companion_wire a[WIDTH_MAX], b[WIDTH_MAX], out[WIDTH_MAX + 1], less, equal;
+    uint8_t bits[BITS_MAX], got[WIDTH_MAX + 1], due[WIDTH_MAX + 1];
+    size_t flat_rounds = 2 + log2_up(width);
+    begin_words(width, a, b);
+    companion_sum(&built, form, a, b, width, out);
+    companion_output(&built, COMPANION_BOTH, out, width + 1);
+    if (form == COMPANION_RIPPLE)
+        count_is(width, width + 1, "ripple sum");
+    else
+        CHECK(companion_count(&built, &(struct expander_described_circuit){0, 0, 0, 0, 0, 0}).number == 0, "flat sum");
+    for (int turn = 0; turn < 8; turn++) {
+        random_bits(bits, 2 * width);
+        memset(bits, turn == 0, turn < 2 ? width : 0);
+        plain_sum(bits, bits + width, width, due);
+        EXPECT(0, companion_evaluate(&built, bits, got));
+        CHECK(memcmp(got, due, width + 1) == 0, "a sum of width %zu", width);
+    }
+
+    begin_words(width, a, b);
+    companion_difference(&built, form, a, b, width, out);
+    companion_output(&built, COMPANION_BOTH, out, width + 1);
+    for (int turn = 0; turn < 8; turn++) {
+        random_bits(bits, 2 * width);
+        if (turn == 0)
+            memcpy(bits, bits + width, width);
+        EXPECT(0, companion_evaluate(&built, bits, got));
+        plain_sum(got, bits + width, width, due); /* difference + b is a */
+        CHECK(memcmp(due, bits, width) == 0 && got[width] == (plain_order(bits, bits + width, width) < 0), "a difference of width %zu", width);
+    }
+
+    begin_words(width, a, b);
+    less = companion_less(&built, form, a, b, width);
+    companion_output(&built, COMPANION_BOTH, &less, 1);
+    if (form == COMPANION_RIPPLE)
+        count_is(width, width + 1, "ripple less");
+    else {
+        struct expander_described_circuit counts;
+        EXPECT(0, companion_count(&built, &counts));
+        CHECK(counts.rounds == flat_rounds && counts.ands <= 3 * width, "flat less: %zu rounds, %zu ANDs", counts.rounds, counts.ands);
+    }
+    equal = companion_equal(&built, a, b, width);
+    companion_output(&built, COMPANION_BOTH, &equal, 1);
+    companion_select(&built, less, a, b, width, out);
+    companion_output(&built, COMPANION_BOTH, out, width);
+    for (int turn = 0; turn < 8; turn++) {
+        int order;
+        random_bits(bits, 2 * width);
+        if (turn < 2)
+            memcpy(bits, bits + width, width);
+        bits[0] = turn == 1 ? bits[0] ^ 1 : bits[0];
+        order = plain_order(bits, bits + width, width);
+        EXPECT(0, companion_evaluate(&built, bits, got));
+        CHECK(got[0] == (order < 0) && got[1] == (order == 0), "an order of width %zu", width);
+        EXPECT(0, companion_evaluate(&built, bits, got)); /* the lesser one */
+        CHECK(memcmp(got + 2, order < 0 ? bits : bits + width, width - 1) == 0, "a selection of width %zu", width);
+    }
+}
+
+static void try_least(int form, size_t n, size_t width)
+{
+    companion_wire words[256], least[16], number[8];
+    uint8_t bits[256], got[24];
+    size_t best = 0, len = log2_up(n);
+    memset(&built, 0, sizeof built);
+    for (size_t k = 0; k < n; k++)
+        companion_input(&built, (uint8_t)(1 + k % 2), words + k * width, width);
+    companion_least(&built, form, words, n, width, least, number);
+    companion_output(&built, COMPANION_BOTH, least, width);
+    if (len > 0)
+        companion_output(&built, COMPANION_BOTH, number, len);
+    for (int turn = 0; turn < 6; turn++) {
+        random_bits(bits, n * width);
+        for (size_t k = best = 0; k < n; k++)
+            if (plain_order(bits + k * width, bits + best * width, width) < 0)
+                best = k;
+        EXPECT(0, companion_evaluate(&built, bits, got));
+        CHECK(memcmp(got, bits + best * width, width) == 0 && companion_from_bits(got + width, len) == best, "the least of %zu", n);
+    }
+    if (n == 8 && width == 8)
+        printf("circuits: the least of 8 words of 8 bits has %s form: ", form == COMPANION_FLAT ? "flat" : "ripple");
+    if (n == 8 && width == 8) {
+        struct expander_described_circuit counts;
+        EXPECT(0, companion_count(&built, &counts));
+        printf("%zu ANDs, %zu rounds\n", counts.ands, counts.rounds);
+    }
+}
+
+/* A random circuit, with some of every gate and words of random widths. */
+static void random_circuit(struct companion_circuit *circuit, size_t gates)
+{
+    companion_wire word[64];
+    memset(circuit, 0, sizeof *circuit);
+    for (size_t k = 1 + draw(4); k > 0; k--)
+        companion_input(circuit, (uint8_t)(1 + draw(2)), word, 1 + draw(12));
+    while (circuit->gates < gates) {
+        uint64_t made = circuit->inputs + circuit->gates, kind = draw(16);
+        companion_wire a = (companion_wire)draw(made), b = (companion_wire)draw(made);
+        if (kind == 0)
+            companion_bit(circuit, (unsigned)draw(2));
+        if (kind < 6)
+            companion_and(circuit, a, b);
+        else if (kind < 12)
+            companion_xor(circuit, a, b);
+        else
+            companion_not(circuit, a);
+    }
+    for (size_t k = 1 + draw(4); k > 0; k--) {
+        size_t width = 1 + draw(12);
+        for (size_t bit = 0; bit < width; bit++)
+            word[bit] = (companion_wire)draw(circuit->inputs + circuit->gates);
+        companion_output(circuit, (uint8_t)(1 + draw(3)), word, width);
+    }
+    CHECK(circuit->fault == 0, "a random circuit has a fault");
+}
+
+static void try_faults_of_building(void)
+{
+    companion_wire word[8], many[4096], sum[4097];
+    static uint8_t bytes[COMPANION_CIRCUIT_MAX];
+    size_t written;
+    struct { uint32_t due; int kind; } cases[] = {
+        {COMPANION_BAD_WORD, 0}, {COMPANION_BAD_WORD, 1}, {COMPANION_LATE_INPUT, 2}, {COMPANION_WIRES, 3}, {COMPANION_WIRES, 4},
+        {COMPANION_OUTPUTS, 5}, {COMPANION_BAD_WIRE, 6}, {COMPANION_BAD_WIRE, 7}, {COMPANION_BAD_WORD, 8}, {COMPANION_BAD_WORD, 9},
+        {COMPANION_BAD_WORD, 10}, {COMPANION_BAD_WIRE, 11}, {COMPANION_BAD_WORD, 12}};
+    memset(many, 0, sizeof many);
+    for (size_t k = 0; k < sizeof cases / sizeof *cases; k++) {
+        memset(&built, 0, sizeof built);
+        if (cases[k].kind != 11)
+            companion_input(&built, COMPANION_ROLE_1, word, 8);
+        switch (cases[k].kind) {
+        case 0: companion_input(&built, COMPANION_ROLE_1, word, 0); break;
+        case 1: companion_input(&built, COMPANION_BOTH, word, 1); break;
+        case 2: companion_input(&built, COMPANION_ROLE_2, word, (companion_xor(&built, 0, 1), 1)); break;
+        case 3: companion_input(&built, COMPANION_ROLE_2, many, 4089 - 8 + 8); break;
+        case 4: while (built.fault == 0) companion_and(&built, 0, 1); break;
+        case 5: companion_output(&built, COMPANION_BOTH, many, 4096); companion_output(&built, COMPANION_BOTH, word, 1); break;
+        case 6: companion_and(&built, 8, 0); break;
+        case 7: word[3] = 9; companion_output(&built, COMPANION_BOTH, word, 8); break;
+        case 8: companion_output(&built, 4, word, 8); break;
+        case 9: companion_sum(&built, COMPANION_FLAT, word, word, 0, sum); break;
+        case 10: companion_least(&built, COMPANION_FLAT, word, 0, 1, sum, sum + 1); break;
+        case 11: companion_bit(&built, 1); break;
+        default: companion_least(&built, COMPANION_FLAT, many, 4096, 1, sum, sum + 100); break;
+        }
+        CHECK(built.fault == cases[k].due, "kind %d: fault %u", cases[k].kind, (unsigned)built.fault);
+        EXPECT(cases[k].due, companion_write(&built, bytes, sizeof bytes, &written));
+        EXPECT(cases[k].due, companion_evaluate(&built, bytes, bytes));
+        CHECK(companion_and(&built, 0, 0) == 0 && written == 0, "after a fault nothing is made");
+    }
+    memset(&built, 0, sizeof built);
+    companion_input(&built, COMPANION_ROLE_1, word, 8);
+    EXPECT(17, companion_count(&built, &(struct expander_described_circuit){0, 0, 0, 0, 0, 0})); /* no outputs */
+    companion_output(&built, COMPANION_BOTH, word, 8);
+    EXPECT(COMPANION_NO_ROOM, companion_write(&built, bytes, 10, &written));
+    EXPECT(0, companion_write(&built, bytes, 11, &written));
+    memset(bytes, 2, 8);
+    EXPECT(COMPANION_NOT_BITS, companion_evaluate(&built, bytes, bytes + 8));
+}
+
+/* A gate that a constant settles costs nothing. */
+static void try_constants(void)
+{
+    companion_wire a[16], c[16], sum[17], less;
+    uint8_t bits[16], got[18];
+    memset(&built, 0, sizeof built);
+    companion_input(&built, COMPANION_ROLE_1, a, 16);
+    companion_constant(&built, 1000, c, 16);
+    companion_sum(&built, COMPANION_FLAT, a, c, 16, sum);
+    less = companion_less(&built, COMPANION_RIPPLE, a, c, 16);
+    companion_output(&built, COMPANION_BOTH, sum, 17);
+    companion_output(&built, COMPANION_BOTH, &less, 1);
+    for (int turn = 0; turn < 50; turn++) {
+        uint64_t value = turn == 0 ? 1000 : turn == 1 ? 999 : draw(turn % 2 ? 65536 : 2000);
+        companion_to_bits(value, bits, 16);
+        EXPECT(0, companion_evaluate(&built, bits, got));
+        CHECK(companion_from_bits(got, 17) == value + 1000 && got[17] == (value < 1000), "sums with a constant");
+    }
+    CHECK(companion_and(&built, c[0], a[1]) == c[0] && companion_xor(&built, c[0], a[1]) == a[1], "constants fold");
+}
+
+static void circuits(size_t count)
+{
+    for (size_t width = 1; width <= WIDTH_MAX - 10; width++)
+        for (int form = COMPANION_RIPPLE; form <= COMPANION_FLAT; form++)
+            try_words(form, width);
+    for (size_t n = 1; n <= 17; n++)
+        for (int form = COMPANION_RIPPLE; form <= COMPANION_FLAT; form++)
+            try_least(form, n, n == 8 ? 8 : 1 + draw(10));
+    for (size_t width = 8; width <= 64; width *= 2) {
+        companion_wire a[64], b[64], out[65];
+        struct expander_described_circuit counts;
+        begin_words(width, a, b);
+        companion_sum(&built, COMPANION_FLAT, a, b, width, out);
+        companion_output(&built, COMPANION_BOTH, out, width + 1);
+        EXPECT(0, companion_count(&built, &counts));
+        CHECK(counts.rounds == 2 + log2_up(width), "a flat sum of %zu bits has %zu rounds", width, counts.rounds);
+        printf("circuits: a flat sum of %zu bits has %zu ANDs and %zu rounds; ripple, %zu and %zu\n", width, counts.ands, counts.rounds,
+               width, width + 1);
+    }
+    try_faults_of_building();
+    try_constants();
+    (void)count;
+}
+
+/* ---- Bristol Fashion ---- */
+
+static char *read_file(const char *path, size_t *len)
+{
+    int fd = __real_open(path, O_RDONLY);
+    char *text = malloc(1 << 20);
+    ssize_t got;
+    *len = 0;
+    if (fd < 0 || text == NULL)
+        complain(__LINE__, "cannot read %s", path);
+    while ((got = __real_read(fd, text + *len, (1 << 20) - *len)) > 0)
+        *len += (size_t)got;
+    __real_close(fd);
+    return text;
+}
+
+/* A text with random wire numbers, MAND, EQ and EQW among its gates, beside the circuit that it stands for. */
+static size_t random_text(char *text, size_t room, uint8_t *inputs, size_t gates, uint8_t *values, size_t *outputs)
+{
+    enum { IN = 8 };
+    size_t wires = IN, number[600], shuffled[600], out = 4 + draw(8), len = 0, lines = 0;
+    char body[32768];
+    size_t body_len = 0;
+    random_bits(inputs, IN);
+    memcpy(values, inputs, IN);
+    for (size_t k = 0; k < IN; k++)
+        number[k] = k;
+    while (wires < IN + gates) { /* wires by the order in which they are made; their numbers come later */
+        size_t a = draw(wires), b = draw(wires), kind = draw(7);
+        int many = kind == 6 ? 1 + (int)draw(3) : 1;
+        lines++;
+        body_len += (size_t)snprintf(body + body_len, sizeof body - body_len, "%s", "");
+        for (int k = 0; k < many; k++) {
+            size_t x = k == 0 ? a : draw(wires - (size_t)k), y = k == 0 ? b : draw(wires - (size_t)k);
+            uint8_t left = values[x], right = values[y];
+            values[wires] = (uint8_t)(kind == 0 ? left ^ right : kind == 1 || kind == 6 ? left & right : kind == 2 ? left ^ 1
+                                      : kind == 3 ? (int)(a & 1) : left);
+            /* %..: wires are put in by their numbers below */
+            if (kind == 6)
+                body_len += (size_t)snprintf(body + body_len, sizeof body - body_len, "%s@%zu &%zu =%zu", k ? " " : "M", x, y, wires);
+            else if (kind == 3)
+                body_len += (size_t)snprintf(body + body_len, sizeof body - body_len, "E%zu =%zu", a & 1, wires);
+            else
+                body_len += (size_t)snprintf(body + body_len, sizeof body - body_len, "%c@%zu &%zu =%zu", "XAI.WW."[kind], x, y, wires);
+            wires++;
+        }
+        body_len += (size_t)snprintf(body + body_len, sizeof body - body_len, "\n");
+    }
+    /* The last `out` numbers are outputs; inputs keep theirs; all others are shuffled. */
+    for (size_t k = IN; k < wires; k++)
+        shuffled[k] = k;
+    for (size_t k = wires - 1; k > IN; k--) {
+        size_t j = IN + draw(k - IN + 1), kept = shuffled[k];
+        shuffled[k] = shuffled[j];
+        shuffled[j] = kept;
+    }
+    for (size_t k = IN; k < wires; k++)
+        number[k] = shuffled[k];
+    len = (size_t)snprintf(text, room, "%zu %zu\n2 3 5\n1 %zu\n\n", lines, wires, out);
+    for (char *line = body, *end; (end = strchr(line, '\n')) != NULL; line = end + 1) {
+        size_t x[4], y[4], z[4], n = 0;
+        *end = '\0';
+        if (line[0] == 'E') {
+            sscanf(line, "E%zu =%zu", &x[0], &z[0]);
+            len += (size_t)snprintf(text + len, room - len, "1 1 %zu %zu EQ\n", x[0], number[z[0]]);
+            continue;
+        }
+        for (char *at_ = line + 1; sscanf(at_, " @%zu &%zu =%zu", &x[n], &y[n], &z[n]) == 3; n++)
+            if ((at_ = strchr(at_ + 2, '@')) == NULL) {
+                n++;
+                break;
+            }
+        if (line[0] == 'M') {
+            len += (size_t)snprintf(text + len, room - len, "%zu %zu", 2 * n, n);
+            for (size_t k = 0; k < n; k++)
+                len += (size_t)snprintf(text + len, room - len, " %zu", number[x[k]]);
+            for (size_t k = 0; k < n; k++)
+                len += (size_t)snprintf(text + len, room - len, " %zu", number[y[k]]);
+            for (size_t k = 0; k < n; k++)
+                len += (size_t)snprintf(text + len, room - len, " %zu", number[z[k]]);
+            len += (size_t)snprintf(text + len, room - len, " MAND\n");
+        } else if (line[0] == 'X' || line[0] == 'A')
+            len += (size_t)snprintf(text + len, room - len, "2 1 %zu %zu %zu %s\n", number[x[0]], number[y[0]], number[z[0]],
+                                    line[0] == 'X' ? "XOR" : "AND");
+        else
+            len += (size_t)snprintf(text + len, room - len, "1 1 %zu %zu %s\n", number[x[0]], number[z[0]], line[0] == 'I' ? "INV" : "EQW");
+    }
+    /* values by number, of the outputs alone */
+    {
+        uint8_t by_number[600];
+        for (size_t k = 0; k < wires; k++)
+            by_number[number[k]] = values[k];
+        memcpy(values, by_number + wires - out, out);
+    }
+    *outputs = out;
+    return len;
+}
+
+static void try_text(size_t gates)
+{
+    static char text[65536], again[COMPANION_BRISTOL_MAX];
+    static struct companion_circuit read, second;
+    uint8_t inputs[8], values[600], got[600];
+    size_t outputs, written, len = random_text(text, sizeof text, inputs, gates, values, &outputs);
+    struct companion_status status = companion_read_bristol(text, len, &read);
+    CHECK(status.number == 0, "%s in\n%.2000s", said(status), text);
+    CHECK(read.inputs == 8 && read.outputs == outputs && read.input_role[0] == 1 && read.input_role[1] == 2, "sizes of a text");
+    EXPECT(0, companion_evaluate(&read, inputs, got));
+    CHECK(memcmp(got, values, outputs) == 0, "a text is another circuit:\n%.3000s", text);
+    EXPECT(0, companion_write_bristol(&read, again, sizeof again, &written));
+    EXPECT(0, companion_read_bristol(again, written, &second));
+    EXPECT(0, companion_evaluate(&second, inputs, got));
+    CHECK(memcmp(got, values, outputs) == 0 && second.gates == read.gates, "a text written is another circuit");
+    EXPECT(COMPANION_NO_ROOM, companion_write_bristol(&read, again, draw(written), &written));
+    status = companion_read_bristol(text, draw(len), &second); /* cut off: read whole only if no gate is missing */
+    CHECK(status.number >= COMPANION_WIRES || strcmp(said(status), "done") == 0, "%s", said(status));
+}
+
+/* Files of a folder: those named NUMBER-LINE-.. must be refused with that number at that line. */
+static void try_corpus(const char *folder)
+{
+    char command[4096], path[2048];
+    FILE *list;
+    size_t files = 0;
+    snprintf(command, sizeof command, "ls '%s'", folder);
+    list = popen(command, "r");
+    while (list != NULL && fscanf(list, "%1000s", command) == 1) {
+        unsigned number = 0, line = 0;
+        size_t len;
+        char *text;
+        struct companion_status status;
+        snprintf(path, sizeof path, "%s/%.1000s", folder, command);
+        CHECK(sscanf(command, "%u-%u-", &number, &line) == 2, "no number and line: %s", command);
+        text = read_file(path, &len);
+        status = companion_read_bristol(text, len, &built);
+        CHECK(status.number == number && status.line == line, "%s: %u, %s", command, (unsigned)status.number, said(status));
+        CHECK(number == 0 || built.inputs == 0, "what is not read is all 0");
+        __real_free(text);
+        files++;
+    }
+    CHECK(list != NULL && pclose(list) == 0 && files > 30, "only %zu files in %s", files, folder);
+    printf("bristol: %zu files of the corpus give their number and line\n", files);
+}
+
+static void bristol(size_t count)
+{
+    static char text[COMPANION_BRISTOL_MAX];
+    static struct companion_circuit circuit, read;
+    struct companion_status status;
+    size_t written;
+    uint8_t inputs[64], got[64], due[64];
+    for (size_t k = 0; k < count; k++)
+        try_text(12 + draw(200));
+    for (size_t k = 0; k < count; k++) { /* outputs anywhere, also inputs and twice the same */
+        random_circuit(&circuit, 1 + draw(300));
+        EXPECT(0, companion_write_bristol(&circuit, text, sizeof text, &written));
+        EXPECT(0, companion_read_bristol(text, written, &read));
+        random_bits(inputs, circuit.inputs);
+        EXPECT(0, companion_evaluate(&circuit, inputs, due));
+        EXPECT(0, companion_evaluate(&read, inputs, got));
+        CHECK(memcmp(due, got, circuit.outputs) == 0 && read.input_words == circuit.input_words, "a circuit written and read");
+    }
+    while (circuit.fault == 0 && circuit.inputs + circuit.gates < EXPANDER_WIRES_MAX) /* the largest */
+        companion_and(&circuit, (companion_wire)draw(circuit.inputs + circuit.gates), 0);
+    EXPECT(0, companion_write_bristol(&circuit, text, sizeof text, &written));
+    EXPECT(0, companion_read_bristol(text, written, &read));
+    CHECK(read.gates == circuit.gates, "the largest circuit");
+    written = (size_t)snprintf(text, sizeof text, "4096 4097\n1 1\n1 1\n\n");
+    for (size_t k = 0; k < EXPANDER_WIRES_MAX; k++) /* one wire more than that */
+        written += (size_t)snprintf(text + written, sizeof text - written, "1 1 %zu %zu INV\n", k, k + 1);
+    status = companion_read_bristol(text, written, &read);
+    CHECK(status.number == COMPANION_WIRES && status.line == 4100 && strstr(said(status), "EXPANDER_WIRES_MAX") != NULL, "%s", said(status));
+    try_corpus("tests/bristol");
+    printf("bristol: %zu random texts and %zu random circuits, written and read back\n", count, count);
+}
+
+/* ---- Joint runs ---- */
+
+struct joint {
+    struct companion_circuit circuit;
+    uint8_t own[4096], outputs[4096];
+    size_t own_count, rounds, first, count;
+};
+
+static void run_jointly(struct side *side)
+{
+    struct joint *joint = side->with;
+    struct companion_triples triples = {0, NULL, 0};
+    size_t half = joint->count / 2;
+    side->status = open_side(side);
+    if (side->status.number == 0)
+        side->status = companion_compare_pair(&side->link, &side->pair);
+    if (side->status.number == 0)
+        side->status = companion_check(&side->link, &side->pair, 0, 2);
+    if (side->status.number == 0)
+        side->status = companion_add_triples(&side->pair, joint->first, half, &triples);
+    if (side->status.number == 0)
+        side->status = companion_add_triples(&side->pair, joint->first + half, joint->count - half, &triples);
+    if (side->status.number == 0)
+        side->status = companion_run(&side->link, side->pair.role, &joint->circuit, joint->own, &triples, joint->outputs, &joint->rounds);
+    CHECK(side->status.number != 0 || (triples.bytes == NULL && triples.count == 0), "triples are spent");
+    companion_free_triples(&triples);
+    companion_close_pair(&side->pair);
+}
+
+/* Gives each end its inputs of a run of this circuit, and says what comes out. */
+static void prepare(struct joint joints[2], struct side sides[2], const struct companion_circuit *circuit, uint8_t *due)
+{
+    uint8_t inputs[4096];
+    struct expander_described_circuit counts;
+    size_t wire = 0;
+    random_bits(inputs, circuit->inputs);
+    EXPECT(0, companion_evaluate(circuit, inputs, due));
+    EXPECT(0, companion_count(circuit, &counts));
+    for (int k = 0; k < 2; k++) {
+        joints[k].circuit = *circuit;
+        joints[k].own_count = 0;
+        joints[k].first = 2;
+        joints[k].count = counts.ands;
+        sides[k].with = &joints[k];
+        sides[k].run = run_jointly;
+    }
+    for (size_t word = 0; word < circuit->input_words; word++)
+        for (size_t k = 0; k < circuit->input_width[word]; k++, wire++) {
+            struct joint *owner = &joints[circuit->input_role[word] - 1];
+            owner->own[owner->own_count++] = inputs[wire];
+        }
+}
+
+static void outputs_are(const struct joint joints[2], const uint8_t *due)
+{
+    for (int side = 0; side < 2; side++) {
+        const struct companion_circuit *c = &joints[side].circuit;
+        size_t bit = 0;
+        for (size_t word = 0; word < c->output_words; word++)
+            for (size_t k = 0; k < c->output_width[word]; k++, bit++)
+                CHECK(joints[side].outputs[bit] == (c->output_role[word] >> side & 1 ? due[bit] : 0), "output %zu of role %d", bit, side + 1);
+    }
+}
+
+static const struct companion_sizes larger = {EXPANDER_BINARY, 10, 2, 4, 8, 512};
+static struct joint joints[2];
+static struct side sides[2];
+
+static void runs(size_t count)
+{
+    static struct companion_circuit circuit;
+    static uint8_t due[4096];
+    struct expander_described_circuit counts;
+    for (size_t k = 0; k < count; k++) {
+        random_circuit(&circuit, 1 + draw(400));
+        prepare(joints, sides, &circuit, due);
+        deal_sides(&larger, k, sides);
+        run_both(sides);
+        EXPECT(0, sides[0].status);
+        EXPECT(0, sides[1].status);
+        outputs_are(joints, due);
+        EXPECT(0, companion_count(&circuit, &counts));
+        CHECK(joints[0].rounds == counts.rounds && joints[1].rounds == counts.rounds, "rounds");
+        CHECK(sides[0].socket.sent == sides[1].socket.received, "bytes");
+    }
+    for (int fault = 0; fault < 9; fault++) { /* the second side differs */
+        static const uint32_t dues[] = {COMPANION_OTHER_CIRCUIT, COMPANION_OTHER_SHARES, COMPANION_OTHER_SHARES, COMPANION_OTHER_WINDOWS,
+                                        COMPANION_OTHER_WINDOWS, COMPANION_NOT_BITS, EXPANDER_TOO_FEW_TRIPLES, COMPANION_BAD_WIRE,
+                                        EXPANDER_WINDOW_PAST_END};
+        do
+            random_circuit(&circuit, 60);
+        while (companion_count(&circuit, &counts).number == 0 && (counts.ands < 4 || circuit.output_width[0] < 2));
+        prepare(joints, sides, &circuit, due);
+        deal_sides(&larger, 1, sides);
+        switch (fault) {
+        case 0: joints[1].circuit.gate[30].kind = joints[1].circuit.gate[30].kind == 1 ? 2 : 1; joints[1].count++; joints[0].count++; break;
+        case 1: joints[1].circuit.output_role[0] ^= COMPANION_BOTH; joints[1].circuit.output_role[0] |= joints[1].circuit.output_role[0] == 0; break;
+        case 2: joints[1].circuit.output_width[0]--; joints[1].circuit.output_width[joints[1].circuit.output_words++] = 1; break;
+        case 3: joints[1].first++; break;
+        case 4: joints[1].count++; break;
+        case 5: memset(joints[1].own, 2, sizeof joints[1].own); break;
+        case 6: joints[1].count = counts.ands - 1; break;
+        case 7: companion_and(&joints[1].circuit, 4095, 0); break;
+        default: joints[1].first = larger.outputs; break;
+        }
+        run_both(sides);
+        if (fault == 5 && joints[1].own_count == 0)
+            continue;
+        EXPECT(dues[fault], sides[1].status);
+        EXPECT(fault < 5 ? dues[fault] : COMPANION_CLOSED, sides[0].status);
+    }
+    printf("runs: %zu random circuits as the plain evaluation has them, and 9 ways in which ends differ\n", count);
+}
+
+/* ---- The stock ---- */
+
+static char folder[64], path[100];
+
+static void fresh_folder(void)
+{
+    snprintf(folder, sizeof folder, "%s/stock-XXXXXX", getenv("TMPDIR") != NULL && strlen(getenv("TMPDIR")) < 40 ? getenv("TMPDIR") : "/tmp");
+    if (mkdtemp(folder) == NULL)
+        complain(__LINE__, "no folder");
+    snprintf(path, sizeof path, "%s/stock", folder);
+}
+
+static void remove_folder(void)
+{
+    char name[128];
+    static const char *const endings[] = {"", ".new", ".lock"};
+    for (int k = 0; k < 3; k++) {
+        snprintf(name, sizeof name, "%s%s", path, endings[k]);
+        remove(name);
+    }
+    CHECK(rmdir(folder) == 0, "%s holds more than a stock", folder);
+}
+
+static void change_byte(size_t place, long len)
+{
+    FILE *file = fopen(path, "r+b");
+    int byte;
+    CHECK(file != NULL, "no file");
+    fseek(file, (long)place, SEEK_SET);
+    byte = fgetc(file);
+    fseek(file, (long)place, SEEK_SET);
+    fputc(byte ^ 1, file);
+    fclose(file);
+    CHECK(len < 0 || truncate(path, len) == 0, "truncate");
+}
+
+static const uint32_t stock_shares[3] = {100, 50, 0};
+
+static void step_together(struct side *side)
+{
+    size_t *first = side->with;
+    struct companion_stock stock;
+    side->status = companion_create_stock(NULL, companion_label(1), 200, stock_shares, 3, &stock);
+    if (*first > 0) /* this one is ahead */
+        side->status = companion_draw(&stock, NULL, companion_label(1), 0, *first, first);
+    side->status = companion_draw(&stock, &side->link, companion_label(1), 0, 10, first);
+    companion_close_stock(&stock);
+}
+
+static void stock(size_t count)
+{
+    struct companion_stock a, b;
+    struct expander_label one = companion_label(1), two = companion_label(2);
+    size_t first = 7, positions[2], len;
+    struct stat about;
+    struct rlimit limit, none;
+    (void)count;
+    fresh_folder();
+    EXPECT(COMPANION_FILE, companion_open_stock(path, one, &a));
+    EXPECT(16, companion_create_stock(path, one, 149, stock_shares, 3, &a));
+    EXPECT(2, companion_create_stock(path, one, 149, stock_shares, 0, &a));
+    EXPECT(0, companion_create_stock(path, one, 200, stock_shares, 3, &a));
+    EXPECT(COMPANION_FILE_IN_USE, companion_open_stock(path, one, &b));
+    EXPECT(COMPANION_FILE_IN_USE, companion_create_stock(path, one, 200, stock_shares, 3, &b));
+    EXPECT(0, companion_draw(&a, NULL, one, 0, 30, &first));
+    CHECK(first == 0, "the first draw");
+    EXPECT(0, companion_draw(&a, NULL, one, 1, 20, &first));
+    CHECK(first == 100, "the second caller's");
+    EXPECT(15, companion_draw(&a, NULL, one, 0, 71, &first));
+    EXPECT(14, companion_draw(&a, NULL, one, 3, 1, &first));
+    EXPECT(21, companion_draw(&a, NULL, two, 0, 1, &first));
+    companion_close_stock(&a);
+    companion_close_stock(&a);
+    EXPECT(COMPANION_FILE_THERE, companion_create_stock(path, one, 200, stock_shares, 3, &a));
+    EXPECT(21, companion_open_stock(path, two, &a));
+    EXPECT(0, companion_open_stock(path, one, &a));
+    EXPECT(0, companion_draw(&a, NULL, one, 0, 5, &first));
+    CHECK(first == 30, "what was drawn stays drawn");
+    EXPECT(20, companion_pass(&a, one, 200));
+    EXPECT(16, companion_pass(&a, two, 94));
+    EXPECT(0, companion_pass(&a, two, 95));
+    companion_close_stock(&a);
+    EXPECT(21, companion_open_stock(path, one, &a));
+    EXPECT(0, companion_open_stock(path, two, &a));
+    EXPECT(0, companion_draw(&a, NULL, two, 0, 65, &first));
+    CHECK(first == 0, "a fresh dealing's indices");
+
+    /* A disk with no room: the kernel itself writes 40 bytes and then refuses. */
+    signal(SIGXFSZ, SIG_IGN);
+    getrlimit(RLIMIT_FSIZE, &none);
+    limit = none;
+    limit.rlim_cur = 40;
+    setrlimit(RLIMIT_FSIZE, &limit);
+    EXPECT(COMPANION_FILE, companion_draw(&a, NULL, two, 1, 30, &first));
+    setrlimit(RLIMIT_FSIZE, &none);
+    EXPECT(0, companion_draw(&a, NULL, two, 1, 30, &first));
+    CHECK(first == 65, "what was not saved was not drawn");
+    companion_close_stock(&a);
+
+    CHECK(stat(path, &about) == 0 && (about.st_mode & 077) == 0, "others may read the file");
+    len = (size_t)about.st_size;
+    for (size_t place = 0; place < len; place++) {
+        change_byte(place, -1);
+        EXPECT(COMPANION_FILE_DAMAGED, companion_open_stock(path, two, &a));
+        change_byte(place, -1);
+    }
+    EXPECT(0, companion_open_stock(path, two, &a));
+    companion_close_stock(&a);
+    CHECK(truncate(path, (long)len + 1) == 0, "truncate");
+    EXPECT(COMPANION_FILE_DAMAGED, companion_open_stock(path, two, &a));
+    for (long cut = (long)len - 1; cut >= 0; cut -= 7) {
+        CHECK(truncate(path, cut) == 0, "truncate");
+        EXPECT(COMPANION_FILE_DAMAGED, companion_open_stock(path, two, &a));
+    }
+    remove_folder();
+    EXPECT(COMPANION_FILE, companion_create_stock("/nowhere/at/all", one, 200, stock_shares, 3, &a));
+
+    for (size_t ahead = 0; ahead <= 60; ahead += 20) { /* ends that crashed at different times */
+        memset(sides, 0, sizeof sides);
+        positions[0] = ahead;
+        positions[1] = ahead / 2;
+        sides[0].with = &positions[0];
+        sides[1].with = &positions[1];
+        sides[0].run = sides[1].run = step_together;
+        run_both(sides);
+        EXPECT(0, sides[0].status);
+        EXPECT(0, sides[1].status);
+        CHECK(positions[0] == ahead && positions[1] == ahead, "ends draw %zu and %zu", positions[0], positions[1]);
+    }
+    printf("stock: %zu bytes a file; each byte changed, and each cut, is noticed\n", len);
+}
+
+/* ---- Faults ---- */
+
+/* All that one end does, from the dealing to the outputs, with a stock in a file. */
+static struct companion_circuit fault_circuit;
+static void whole_season(struct side *side)
+{
+    struct companion_stock stock;
+    struct companion_triples triples = {0, NULL, 0};
+    struct companion_dealt *dealt = __real_calloc(1, sizeof *dealt);
+    struct expander_label label = companion_label(9);
+    struct companion_window window;
+    uint8_t own[8] = {1, 0, 1, 1, 0, 1, 0, 0}, outputs[16];
+    size_t first = 0;
+    uint32_t shares[1] = {100};
+    char name[100];
+    snprintf(name, sizeof name, "%s", side->with == NULL ? "" : (char *)side->with);
+    side->status = companion_deal(&small, label, dealt);
+    __real_free(dealt);
+    if (side->status.number == 0)
+        side->status = open_side(side);
+    if (side->status.number != 0)
+        return;
+    label = side->pair.label;
+    side->status = companion_create_stock(name[0] == '\0' ? NULL : name, label, side->pair.outputs, shares, 1, &stock);
+    if (side->status.number == 0 && name[0] != '\0') {
+        companion_close_stock(&stock);
+        side->status = companion_open_stock(name, label, &stock);
+    }
+    if (side->status.number == 0) {
+        side->status = companion_expand(&side->pair.noise, 0, 4, &window);
+        companion_free_window(&window);
+    }
+    if (side->status.number == 0)
+        side->status = companion_compare(&side->link, side->pair.role == 1 ? &side->pair.noise : &side->pair.scalar);
+    if (side->status.number == 0)
+        side->status = companion_compare_pair(&side->link, &side->pair);
+    if (side->status.number == 0)
+        side->status = companion_draw(&stock, &side->link, label, 0, 8, &first);
+    if (side->status.number == 0)
+        side->status = companion_check(&side->link, &side->pair, first, 8);
+    for (int turn = 0; turn < 2; turn++) {
+        if (side->status.number == 0)
+            side->status = companion_draw(&stock, &side->link, label, 0, 20, &first);
+        if (side->status.number == 0)
+            side->status = companion_add_triples(&side->pair, first, 20, &triples);
+    }
+    if (side->status.number == 0)
+        side->status = companion_run(&side->link, side->pair.role, &fault_circuit, own, &triples, outputs, NULL);
+    if (side->status.number == 0)
+        CHECK(companion_from_bits(outputs, 9) == 2 * 45, "the sum is %u", (unsigned)companion_from_bits(outputs, 9));
+    if (side->status.number == 0)
+        side->status = companion_pass(&stock, companion_label(10), 100);
+    companion_free_triples(&triples);
+    companion_close_stock(&stock);
+    companion_close_pair(&side->pair);
+}
+
+static void run_season(enum mode how, size_t place)
+{
+    fresh_folder();
+    for (int k = 0; k < 2; k++) {
+        sides[k].run = whole_season;
+        sides[k].with = k == 1 ? path : NULL;
+        sides[k].mode = k == 1 ? how : WELL;
+        sides[k].at = place;
+    }
+    deal_sides(&small, 1, sides);
+    run_both(sides);
+    sides[1].mode = WELL;
+    remove_folder();
+}
+
+/* A link that ends after so many bytes, or fails, or moves too much. */
+struct limited {
+    struct companion_socket *socket;
+    size_t left;
+    int how; /* 0 closed, 1 fails, 2 moves more than it was asked */
+};
+static ptrdiff_t limited_send(void *context, const uint8_t *bytes, size_t len)
+{
+    struct limited *limited = context;
+    if (limited->left == 0)
+        return limited->how == 0 ? 0 : limited->how == 1 ? -1 : (ptrdiff_t)len + 1;
+    len = len < limited->left ? len : limited->left;
+    limited->left -= len;
+    return companion_socket_send(limited->socket, bytes, len);
+}
+static ptrdiff_t limited_receive(void *context, uint8_t *bytes, size_t len)
+{
+    struct limited *limited = context;
+    if (limited->left == 0)
+        return limited->how == 0 ? 0 : limited->how == 1 ? -1 : (ptrdiff_t)len + 1;
+    len = len < limited->left ? len : limited->left;
+    limited->left -= len;
+    return companion_socket_receive(limited->socket, bytes, len);
+}
+static struct limited limits;
+static void limited_season(struct side *side)
+{
+    limits.socket = &side->socket;
+    side->link.send = limited_send;
+    side->link.receive = limited_receive;
+    side->link.context = &limits;
+    whole_season(side);
+}
+
+static void faults(size_t count)
+{
+    companion_wire a[8], b[8], sum[9];
+    size_t places = 0, silent = 0, total;
+    static size_t kinds[COMPANION_TEXT_UNMADE + 1];
+    memset(&fault_circuit, 0, sizeof fault_circuit);
+    companion_input(&fault_circuit, COMPANION_ROLE_1, a, 8);
+    companion_input(&fault_circuit, COMPANION_ROLE_2, b, 8);
+    companion_sum(&fault_circuit, COMPANION_FLAT, a, b, 8, sum);
+    companion_output(&fault_circuit, COMPANION_BOTH, sum, 9);
+
+    run_season(WELL, 0);
+    EXPECT(0, sides[0].status);
+    EXPECT(0, sides[1].status);
+    total = sides[1].calls;
+    for (int how = SHORT; how <= INTERRUPTED; how++) {
+        run_season((enum mode)how, 0);
+        EXPECT(0, sides[1].status);
+    }
+    /* Each call in turn. Where one fails whose failure does no harm (the closing of what was read) all goes on. */
+    for (size_t place = 0; place < total; place++) {
+        run_season(FAILS, place);
+        kinds[sides[1].status.number]++;
+        CHECK(strlen(said(sides[1].status)) > 3, "no text");
+        CHECK(sides[1].status.number == 0 || sides[0].status.number == 0 || sides[0].status.number == COMPANION_CLOSED
+              || sides[0].status.number == COMPANION_NOT_MOVED, "the far end: %s", said(sides[0].status));
+        silent += sides[1].status.number == 0;
+        places++;
+    }
+    CHECK(kinds[COMPANION_NO_MEMORY] > 3 && kinds[COMPANION_NO_RANDOM] > 3 && kinds[COMPANION_FILE] > 10, "kinds of faults");
+    CHECK(silent < 12, "%zu failures of the system are not told", silent);
+    printf("faults: each of %zu calls of the system fails in turn (memory %zu, random bytes %zu, files %zu, links %zu, harmless %zu);"
+           " short and interrupted ones do not\n", places, kinds[COMPANION_NO_MEMORY], kinds[COMPANION_NO_RANDOM], kinds[COMPANION_FILE],
+           kinds[COMPANION_CLOSED] + kinds[COMPANION_NOT_MOVED], silent);
+
+    run_season(WELL, 0);
+    total = sides[1].socket.sent + sides[1].socket.received;
+    for (size_t left = places = 0; left < total; left += 1 + (count == 0 ? draw(20) : 0), places++)
+        for (int how = 0; how < 3; how++) {
+            limits.left = left;
+            limits.how = how;
+            fresh_folder();
+            memset(&sides[0].pair, 0, sizeof sides[0].pair);
+            sides[0].run = whole_season;
+            sides[1].run = limited_season;
+            sides[1].with = path;
+            sides[0].with = NULL;
+            deal_sides(&small, 1, sides);
+            run_both(sides);
+            remove_folder();
+            EXPECT(how == 0 ? COMPANION_CLOSED : COMPANION_NOT_MOVED, sides[1].status);
+            if (sides[0].status.number != 0)
+                EXPECT(COMPANION_CLOSED, sides[0].status);
+        }
+    printf("faults: the link ends, fails or moves too much at each of %zu places of %zu bytes\n", places, total);
+}
+
+/* A far end that is silent: the wait ends. */
+static void silence(size_t count)
+{
+    uint8_t byte, many[65536];
+    int fds[2];
+    struct companion_socket quiet;
+    struct companion_link link = {companion_socket_send, companion_socket_receive, &quiet};
+    (void)count;
+    memset(many, 0, sizeof many);
+    memset(&quiet, 0, sizeof quiet);
+    for (int kind = 0; kind < 2; kind++) {
+        struct companion_status status;
+        if (kind == 0 ? socketpair(AF_UNIX, SOCK_STREAM, 0, fds) : pipe(fds))
+            complain(__LINE__, "no socket pair, or no pipe");
+        quiet.milliseconds = 50;
+        quiet.fd = fds[0];
+        EXPECT(COMPANION_NOT_MOVED, status = companion_receive(&link, &byte, 1));
+        CHECK(status.system == ETIMEDOUT, "errno");
+        quiet.fd = fds[1];
+        do
+            status = companion_send(&link, many, sizeof many);
+        while (status.number == 0);
+        EXPECT(COMPANION_NOT_MOVED, status);
+        CHECK(status.system == ETIMEDOUT, "errno");
+        __real_close(fds[0]);
+        signal(SIGPIPE, kind == 0 ? SIG_DFL : SIG_IGN);
+        EXPECT(COMPANION_CLOSED, companion_send(&link, many, 1));
+        __real_close(fds[1]);
+    }
+    printf("silence: a far end that does nothing ends the wait, and one that is closed raises no signal\n");
+}
+
+/* ---- Crashes ---- */
+
+/* A process that draws until it is killed, and says by the pipe what it was handed out. */
+static void draw_and_die(int to, enum mode how, size_t place, uint64_t turn)
+{
+    struct companion_stock stock;
+    struct companion_status status;
+    seed = turn;
+    mode = WELL;
+    status = companion_open_stock(path, companion_label(1), &stock);
+    if (status.number == COMPANION_FILE)
+        status = companion_create_stock(path, companion_label(1), EXPANDER_OUTPUTS_MAX,
+                                        (const uint32_t[2]){EXPANDER_OUTPUTS_MAX / 2, EXPANDER_OUTPUTS_MAX / 2}, 2, &stock);
+    if (status.number != 0)
+        _exit(2);
+    calls = 0;
+    at = place;
+    mode = how;
+    for (;;) {
+        size_t drawn[2] = {0, 1 + draw(3)};
+        status = companion_draw(&stock, NULL, companion_label(1), draw(2), drawn[1], &drawn[0]);
+        if (status.number != 0)
+            _exit(status.number == EXPANDER_SHARE_SPENT ? 3 : 4);
+        if (__real_write(to, drawn, sizeof drawn) != sizeof drawn)
+            _exit(5);
+    }
+}
+
+/* Kills before and after each call of the system that saving makes; a crash of the machine may also lose the rename, until
+ * the folder is synced: then the file before it is put back. */
+static void crashes(size_t count)
+{
+    enum { STEPS = 8 }; /* open, write, sync, close, rename, open, sync, close */
+    static uint8_t used[EXPANDER_OUTPUTS_MAX];
+    char before[128], command[300];
+    size_t handed = 0, put_back = 0, runs_made = 0;
+    fresh_folder();
+    snprintf(before, sizeof before, "%s.before", path);
+    for (size_t turn = 0; turn < count; turn++) {
+        enum mode how = turn % 2 == 0 ? DIES_BEFORE : DIES_AFTER;
+        size_t place = turn / 2 % (2 * STEPS), step = place % STEPS, drawn[2], seen = 0;
+        int fds[2], status;
+        pid_t id;
+        if (pipe(fds) != 0)
+            complain(__LINE__, "no pipe");
+        snprintf(command, sizeof command, "cp -p '%s' '%s' 2>/dev/null", path, before);
+        if (turn % 7 == 0 && place < STEPS && system(command) != 0 && turn > 0)
+            complain(__LINE__, "no copy");
+        fflush(stdout);
+        id = fork();
+        if (id == 0)
+            draw_and_die(fds[1], how, place, turn + 1);
+        __real_close(fds[1]);
+        while (__real_read(fds[0], drawn, sizeof drawn) == sizeof drawn) {
+            for (size_t k = drawn[0]; k < drawn[0] + drawn[1]; k++) {
+                CHECK(!used[k], "index %zu is handed out twice, in run %zu", k, turn);
+                used[k] = 1;
+                handed++;
+            }
+            seen++;
+        }
+        __real_close(fds[0]);
+        waitpid(id, &status, 0);
+        CHECK(WIFSIGNALED(status) && WTERMSIG(status) == SIGKILL, "run %zu ended by itself, status %d", turn, status);
+        CHECK(seen == place / STEPS, "run %zu was handed %zu windows", turn, seen);
+        /* Renamed and not synced: the machine may come up with the file as it was before this run. */
+        if (turn % 7 == 0 && turn > 0 && place < STEPS && (how == DIES_BEFORE ? step >= 5 && step <= 6 : step >= 4 && step <= 5)) {
+            CHECK(rename(before, path) == 0, "nothing to put back");
+            put_back++;
+        }
+        runs_made++;
+    }
+    remove(before);
+    remove_folder();
+    printf("crashes: %zu runs killed before and after each of the %d calls of saving, %zu indices handed out, none twice;"
+           " %zu times the rename was lost\n", runs_made, STEPS, handed, put_back);
+}
+
+/* ---- Texts ---- */
+
+static void texts(size_t count)
+{
+    static const char *const names[] = {
+        "deal", "describe", "noise_offline", "scalar_offline", "noise_online", "scalar_online", "noise_direct", "scalar_direct",
+        "noise_pads", "scalar_pads", "read_amount", "write_amount", "correction_bits", "mask_messages", "unmask_messages", "triples",
+        "open_stock", "draw", "preview", "pass_stock", "circuit_step", "circuit_round", "describe_circuit"};
+    char name[64], tiny[5];
+    struct companion_status status = {2, "expander_deal", 0, 0};
+    (void)count;
+    for (size_t k = 0; k < sizeof names / sizeof *names; k++)
+        for (uint32_t number = 0; number <= EXPANDER_LABEL_NOT_IN_USE; number++) {
+            snprintf(name, sizeof name, "expander_%s", names[k]);
+            CHECK(strcmp(companion_meaning(name, number), "no such number") != 0, "%s %u", name, (unsigned)number);
+        }
+    for (uint32_t number = COMPANION_NO_MEMORY; number <= COMPANION_TEXT_UNMADE; number++)
+        CHECK(strcmp(companion_meaning("", number), "no such number") != 0, "%u", (unsigned)number);
+    CHECK(strcmp(companion_meaning("", 22), "no such number") == 0 && strcmp(companion_meaning("", 134), "no such number") == 0, "22");
+    CHECK(strcmp(companion_meaning("expander_draw", 15), companion_meaning("draw", 15)) == 0, "names");
+    CHECK(strstr(companion_meaning("expander_scalar_pads", 3), "delta") != NULL && strstr(companion_meaning("expander_pads", 3), "delta") == NULL, "names");
+    companion_text(status, tiny, sizeof tiny);
+    CHECK(strcmp(tiny, "expa") == 0, "a short text");
+    CHECK(strcmp(said(status), "expander_deal refused with 2: depth, branch_bits, trees, terms or outputs is outside its range, or depth is no "
+                               "multiple of branch_bits") == 0, "%s", said(status));
+    for (uint32_t number = 0; number <= COMPANION_TEXT_UNMADE; number++) {
+        status.number = number;
+        status.system = ENAMETOOLONG;
+        CHECK(strlen(said(status)) < 299, "a text is too long");
+    }
+    printf("texts: every number of every call has one\n");
+}
+
+int main(int argc, char **argv)
+{
+    static const struct { const char *name; void (*run)(size_t count); size_t count; } sections[] = {
+        {"dealing", dealing, 300}, {"heads", heads, 0}, {"pairing", pairing, 1000}, {"circuits", circuits, 0}, {"bristol", bristol, 300},
+        {"runs", runs, 150}, {"stock", stock, 0}, {"faults", faults, 0}, {"silence", silence, 0}, {"crashes", crashes, 1000}, {"texts", texts, 0}};
+    for (size_t k = 0; k < sizeof sections / sizeof *sections; k++)
+        if (argc == 1 || strcmp(argv[1], sections[k].name) == 0)
+            sections[k].run(argc > 2 ? (size_t)strtoul(argv[2], NULL, 10) : sections[k].count);
+    printf("%zu checks\n", checks);
+    return 0;
+}
