@@ -1,122 +1,105 @@
 #include "clearing.h"
 
-const char *const task_names[TASKS] = {"sums", "comparison", "choice"};
+const char *const caller_names[CALLERS] = {"sums", "comparison", "choice", "check"};
 
-/* A sum of both houses' quantities, lowest bit first. */
+/* A quantity of a house, and a sum of both houses', lowest bit first. */
+struct quantity {
+    companion_wire bit[QUANTITY_BITS];
+};
 struct total {
-    wire bit[TOTAL_BITS];
+    companion_wire bit[TOTAL_BITS];
 };
 
-wire input_wire(unsigned house, unsigned side, unsigned level, unsigned bit)
-{
-    return ((house * SIDES + side) * LEVELS + level) * QUANTITY_BITS + bit;
-}
-
-/* What both houses buy, or sell, at a level. With a carry c, a bit of the sum is a ^ b ^ c, and the
- * next carry is c where a and b differ and a where they are equal: ((a ^ c) & (b ^ c)) ^ c. */
-static struct total add_houses(struct circuit *circuit, enum side side, unsigned level)
-{
-    struct total sum;
-    wire a = input_wire(0, side, level, 0), b = input_wire(1, side, level, 0), carry;
-    sum.bit[0] = xor_gate(circuit, a, b);
-    carry = and_gate(circuit, a, b);
-    for (unsigned k = 1; k < QUANTITY_BITS; k++) {
-        wire a_or_carry, b_or_carry;
-        a = input_wire(0, side, level, k);
-        b = input_wire(1, side, level, k);
-        a_or_carry = xor_gate(circuit, a, carry);
-        b_or_carry = xor_gate(circuit, b, carry);
-        sum.bit[k] = xor_gate(circuit, a_or_carry, b);
-        carry = xor_gate(circuit, and_gate(circuit, a_or_carry, b_or_carry), carry);
-    }
-    sum.bit[QUANTITY_BITS] = carry;
-    return sum;
-}
-
-/* Whether a is at least b. From the lowest bit up, b is above a so far where b has a bit that a has
- * not, or, where the bits are equal, where it was above a before. */
-static wire at_least(struct circuit *circuit, const struct total *a, const struct total *b)
-{
-    wire above = and_gate(circuit, b->bit[0], not_gate(circuit, a->bit[0]));
-    for (unsigned k = 1; k < TOTAL_BITS; k++) {
-        wire left = xor_gate(circuit, b->bit[k], above);
-        wire right = xor_gate(circuit, not_gate(circuit, a->bit[k]), above);
-        above = xor_gate(circuit, and_gate(circuit, left, right), above);
-    }
-    return not_gate(circuit, above);
-}
-
 /* Marks the lowest level at which supply meets demand: it does there, and at no level below. */
-static void mark_lowest(struct circuit *circuit, const wire meets[LEVELS], wire lowest[LEVELS])
+static void mark_lowest(struct companion_circuit *circuit, const companion_wire meets[LEVELS],
+                        companion_wire lowest[LEVELS])
 {
-    wire none_below = not_gate(circuit, meets[0]);
+    companion_wire none_below = companion_not(circuit, meets[0]);
     lowest[0] = meets[0];
     for (unsigned level = 1; level < LEVELS; level++) {
-        lowest[level] = and_gate(circuit, meets[level], none_below);
-        none_below = xor_gate(circuit, none_below, lowest[level]);
+        lowest[level] = companion_and(circuit, meets[level], none_below);
+        none_below = companion_xor(circuit, none_below, lowest[level]);
     }
 }
 
 /* The number of the marked level. At most one level is marked, so exclusive or gathers its bits. */
-static void output_level(struct circuit *circuit, const wire lowest[LEVELS])
+static void output_level(struct companion_circuit *circuit, const companion_wire lowest[LEVELS])
 {
+    companion_wire number[LEVEL_BITS];
     for (unsigned bit = 0; bit < LEVEL_BITS; bit++) {
         unsigned level = (1u << bit) - 1; /* the lowest whose number has the bit */
-        wire gathered = lowest[level];
+        number[bit] = lowest[level];
         for (level++; level < LEVELS; level++)
             if ((level + 1) >> bit & 1)
-                gathered = xor_gate(circuit, gathered, lowest[level]);
-        add_output(circuit, gathered);
+                number[bit] = companion_xor(circuit, number[bit], lowest[level]);
     }
+    companion_output(circuit, COMPANION_BOTH, number, LEVEL_BITS);
 }
 
 /* Demand at the marked level, which is what is traded there: supply is no less. */
-static void output_quantity(struct circuit *circuit, const wire lowest[LEVELS],
+static void output_quantity(struct companion_circuit *circuit, const companion_wire lowest[LEVELS],
                             const struct total demand[LEVELS])
 {
+    struct total traded;
     for (unsigned bit = 0; bit < TOTAL_BITS; bit++) {
-        wire gathered = and_gate(circuit, lowest[0], demand[0].bit[bit]);
+        traded.bit[bit] = companion_and(circuit, lowest[0], demand[0].bit[bit]);
         for (unsigned level = 1; level < LEVELS; level++)
-            gathered = xor_gate(circuit, gathered,
-                                and_gate(circuit, lowest[level], demand[level].bit[bit]));
-        add_output(circuit, gathered);
+            traded.bit[bit] =
+                companion_xor(circuit, traded.bit[bit],
+                              companion_and(circuit, lowest[level], demand[level].bit[bit]));
     }
+    companion_output(circuit, COMPANION_BOTH, traded.bit, TOTAL_BITS);
 }
 
-void build_clearing(struct circuit *circuit, unsigned ands[TASKS])
+static unsigned count_ands(const struct companion_circuit *circuit)
 {
-    struct total demand[LEVELS], supply[LEVELS];
-    wire meets[LEVELS], lowest[LEVELS];
-    begin_circuit(circuit, CLEARING_INPUTS);
+    unsigned ands = 0;
+    for (size_t k = 0; k < circuit->gates; k++)
+        ands += circuit->gate[k].kind == EXPANDER_GATE_AND;
+    return ands;
+}
 
-    for (unsigned level = 0; level < LEVELS; level++) {
-        demand[level] = add_houses(circuit, BUY, level);
-        supply[level] = add_houses(circuit, SELL, level);
-    }
-    ands[SUMS] = circuit->ands;
+/* Ripple forms: a triple is dearer here than a round. */
+void build_clearing(struct companion_circuit *circuit, unsigned ands[TASKS])
+{
+    struct quantity given[HOUSES][SIDES][LEVELS];
+    struct total total[SIDES][LEVELS];
+    companion_wire meets[LEVELS], lowest[LEVELS];
+    for (unsigned house = 0; house < HOUSES; house++)
+        for (unsigned side = 0; side < SIDES; side++)
+            for (unsigned level = 0; level < LEVELS; level++)
+                companion_input(circuit, (uint8_t)(COMPANION_ROLE_1 + house),
+                                given[house][side][level].bit, QUANTITY_BITS);
 
     for (unsigned level = 0; level < LEVELS; level++)
-        meets[level] = at_least(circuit, &supply[level], &demand[level]);
-    ands[COMPARISON] = circuit->ands - ands[SUMS];
+        for (unsigned side = 0; side < SIDES; side++)
+            companion_sum(circuit, COMPANION_RIPPLE, given[0][side][level].bit,
+                          given[1][side][level].bit, QUANTITY_BITS, total[side][level].bit);
+    ands[SUMS] = count_ands(circuit);
+
+    for (unsigned level = 0; level < LEVELS; level++)
+        meets[level] = companion_not(
+            circuit, companion_less(circuit, COMPANION_RIPPLE, total[SELL][level].bit,
+                                    total[BUY][level].bit, TOTAL_BITS));
+    ands[COMPARISON] = count_ands(circuit) - ands[SUMS];
 
     mark_lowest(circuit, meets, lowest);
     output_level(circuit, lowest);
-    output_quantity(circuit, lowest, demand);
-    ands[CHOICE] = circuit->ands - ands[SUMS] - ands[COMPARISON];
+    output_quantity(circuit, lowest, total[BUY]);
+    ands[CHOICE] = count_ands(circuit) - ands[SUMS] - ands[COMPARISON];
 }
 
-static unsigned number_of(const uint8_t *bits, unsigned count)
+void write_bids(const struct bids *bids, uint8_t inputs[HOUSE_INPUTS])
 {
-    unsigned number = 0;
-    for (unsigned k = 0; k < count; k++)
-        number |= (unsigned)bits[k] << k;
-    return number;
+    for (unsigned side = 0; side < SIDES; side++)
+        for (unsigned level = 0; level < LEVELS; level++, inputs += QUANTITY_BITS)
+            companion_to_bits(bids->quantity[side][level], inputs, QUANTITY_BITS);
 }
 
 struct clearing read_clearing(const uint8_t output[CLEARING_OUTPUTS])
 {
     struct clearing found;
-    found.level = number_of(output, LEVEL_BITS);
-    found.quantity = number_of(output + LEVEL_BITS, TOTAL_BITS);
+    found.level = (unsigned)companion_from_bits(output, LEVEL_BITS);
+    found.quantity = (unsigned)companion_from_bits(output + LEVEL_BITS, TOTAL_BITS);
     return found;
 }

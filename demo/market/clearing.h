@@ -6,17 +6,18 @@
 
 #include "bids.h"
 #include "common.h"
-#include "gates.h"
 
 /* The circuit's three parts, in the order of its gates. Each is a task of the evaluator, and draws
- * the triples for its ANDs as a caller of its own. */
-enum task { SUMS, COMPARISON, CHOICE, TASKS };
-extern const char *const task_names[TASKS];
+ * the triples for its ANDs as a caller of its own. A fourth caller draws those that are opened to
+ * see whether the houses' records were dealt together. */
+enum task { SUMS, COMPARISON, CHOICE, TASKS, CHECK = TASKS, CALLERS };
+extern const char *const caller_names[CALLERS];
 
 enum {
     TOTAL_BITS = QUANTITY_BITS + 1, /* both houses' quantities together */
+    CHECKED = 40,                   /* triples: others pass with chance 2^-40 */
     LEVEL_BITS = 4,                 /* 1 to 8, and 0 for no level */
-    CLEARING_INPUTS = HOUSES * SIDES * LEVELS * QUANTITY_BITS,
+    HOUSE_INPUTS = SIDES * LEVELS * QUANTITY_BITS,
     CLEARING_OUTPUTS = LEVEL_BITS + TOTAL_BITS
 };
 
@@ -25,13 +26,11 @@ struct clearing {
     unsigned level, quantity;
 };
 
-/* The input wire of a bit of a quantity, bits counted from the lowest. */
-wire input_wire(unsigned house, unsigned side, unsigned level, unsigned bit);
-
 /* Builds the circuit, and says how many ANDs each task has in it. */
-void build_clearing(struct circuit *circuit, unsigned ands[TASKS]);
+void build_clearing(struct companion_circuit *circuit, unsigned ands[TASKS]);
 
-/* What the circuit's output bits say. */
+/* A house's bids as its input bits, and what the circuit's output bits say. */
+void write_bids(const struct bids *bids, uint8_t inputs[HOUSE_INPUTS]);
 struct clearing read_clearing(const uint8_t output[CLEARING_OUTPUTS]);
 
 #endif

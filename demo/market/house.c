@@ -6,158 +6,106 @@
  * how long the house waits for another process. Each bid file is a season's. The dealers' records
  * come on standard input; a report of each auction goes to standard output.
  */
-#include "dealings.h"
+#include "report.h"
 
-#include <stdlib.h>
+#include <string.h>
 #include <unistd.h>
 
-enum { SEASONS_MAX = 8 };
+enum { SEASONS_MAX = 8, RECORD_MAX = 65535 };
 
 struct house {
     uint8_t role;               /* in the circuit */
-    unsigned own, other;        /* this house and the other one, as in house_names */
     unsigned seasons;
     struct channel dealer, far; /* far is the other house */
-    struct circuit circuit;
-    uint8_t circuit_bytes[CIRCUIT_BYTES_MAX];
-    size_t circuit_len;
-    struct expander_described_circuit sizes; /* of the circuit */
-    unsigned ands[TASKS];
+    struct companion_circuit circuit;
+    unsigned ands[CALLERS];     /* by caller of the stock, what a season takes */
+    struct companion_pair pair; /* its part in the season's two dealings */
+    struct companion_stock stock;
 };
 
-static void set_up(struct house *house, unsigned role, int far_fd, unsigned seconds,
-                   unsigned seasons)
+static size_t receive_record(struct channel *dealer, uint8_t record[RECORD_MAX])
 {
-    house->role = (uint8_t)role;
-    house->own = role == EXPANDER_ROLE_NOISE ? 0 : 1; /* North is the first dealing's noise end */
-    house->other = 1 - house->own;
-    house->seasons = seasons;
-    house->dealer = (struct channel){STDIN_FILENO, "the dealer", seconds, 0, 0};
-    house->far = (struct channel){far_fd, house_names[house->other], seconds, 0, 0};
-    build_clearing(&house->circuit, house->ands);
-    house->circuit_len = write_circuit(&house->circuit, house->circuit_bytes);
-    house->sizes = expander_describe_circuit(house->circuit_bytes, house->circuit_len);
-    expect_accepted(house->sizes.number, "the circuit is");
+    uint8_t len[2];
+    expect_done(dealer, companion_receive(&dealer->link, len, sizeof len));
+    expect_done(dealer, companion_receive(&dealer->link, record, (size_t)(len[0] | len[1] << 8)));
+    return (size_t)(len[0] | len[1] << 8);
 }
 
-/* Takes the season's records, expands them, and puts the stock on them: a fresh one in the first
- * season, with enough for every season, and later what the season before left. */
-static void take_dealings(struct house *house, struct dealings *dealings,
-                          const struct dealings *before, struct report *report)
+/* What a caller takes in a season. Both houses draw in the same order, so they draw the same. */
+static size_t draw(struct house *house, unsigned caller, struct report *report)
 {
-    double start;
-    receive_dealings(&house->dealer, dealings);
-    compare_dealings(&house->far, dealings);
-    start = milliseconds();
-    expand_dealings(dealings);
+    const struct expander_stock *stock = &house->stock.stock;
+    size_t first;
+    expect_done(&house->far, companion_draw(&house->stock, NULL, house->pair.label, caller,
+                                            house->ands[caller], &first));
+    report->drawn[caller] = house->ands[caller];
+    report->left[caller] = stock->end[caller] - stock->next[caller];
+    return first;
+}
+
+/* Takes the season's records, expands them, compares them with the other house's, and puts the
+ * stock on them: a fresh one in the first season, with enough for every season, and later what the
+ * season before left. Last, the houses open some triples, to see whether all was dealt together. */
+static void take_dealings(struct house *house, unsigned season, struct report *report)
+{
+    static uint8_t noise[RECORD_MAX], scalar[RECORD_MAX];
+    struct companion_pair *pair = &house->pair;
+    size_t noise_len = receive_record(&house->dealer, noise);
+    size_t scalar_len = receive_record(&house->dealer, scalar), first;
+    double start = milliseconds();
+    expect_done(&house->dealer, companion_open_pair(noise, noise_len, scalar, scalar_len, pair));
     report->ms[OFFLINE] = milliseconds() - start;
-    if (before == NULL) {
-        uint32_t shares[TASKS];
-        for (unsigned task = 0; task < TASKS; task++)
-            shares[task] = house->ands[task] * house->seasons;
-        open_stocks(dealings, shares);
+    companion_wipe(noise, sizeof noise);
+    companion_wipe(scalar, sizeof scalar);
+    expect_done(&house->far, companion_compare_pair(&house->far.link, pair));
+    if (pair->role != house->role)
+        stop("the records are %s's", house->far.far_name);
+    if (season == 0) {
+        uint32_t shares[CALLERS];
+        for (unsigned caller = 0; caller < CALLERS; caller++)
+            shares[caller] = house->ands[caller] * house->seasons;
+        expect_done(&house->dealer, companion_create_stock(NULL, pair->label, pair->outputs, shares,
+                                                           CALLERS, &house->stock));
     } else {
-        pass_stocks(dealings, before);
+        expect_done(&house->dealer, companion_pass(&house->stock, pair->label, pair->outputs));
     }
+    first = draw(house, CHECK, report);
+    expect_done(&house->far, companion_check(&house->far.link, pair, first, CHECKED));
 }
 
-/* Draws each task's triples in turn: the tasks' ANDs follow each other in the circuit. */
-static void draw_all_triples(const struct house *house, struct dealings *dealings, uint8_t *triples,
-                             struct report *report)
+/* Draws each task's triples in turn, since the tasks' ANDs follow each other in the circuit, and
+ * runs it. */
+static void hold_auction(struct house *house, const struct bids *bids, struct report *report)
 {
+    uint8_t own[HOUSE_INPUTS], output[CLEARING_OUTPUTS];
+    struct companion_triples triples = {0, NULL, 0};
+    size_t rounds;
+    double start = milliseconds();
     for (unsigned task = 0; task < TASKS; task++) {
-        draw_triples(dealings, task, house->ands[task], triples, report);
-        triples += 3 * house->ands[task];
-        report->drawn[task] = house->ands[task];
-        report->left[task] = left_in_stock(dealings, task);
+        size_t first = draw(house, task, report);
+        expect_done(&house->far,
+                    companion_add_triples(&house->pair, first, house->ands[task], &triples));
     }
-}
-
-/* Shares the inputs: of each of its own bits a house sends a random mask and keeps the masked bit,
- * so that neither share alone says anything of the bit. */
-static void share_inputs(struct house *house, const struct bids *bids,
-                         uint8_t shares[CLEARING_INPUTS])
-{
-    enum { OWN_INPUTS = CLEARING_INPUTS / HOUSES };
-    uint8_t masks[OWN_INPUTS];
-    wire own = input_wire(house->own, 0, 0, 0), other = input_wire(house->other, 0, 0, 0);
-    random_bytes(masks, sizeof masks);
-    for (unsigned k = 0; k < OWN_INPUTS; k++)
-        masks[k] &= 1;
-    for (unsigned side = 0; side < SIDES; side++)
-        for (unsigned level = 0; level < LEVELS; level++)
-            for (unsigned bit = 0; bit < QUANTITY_BITS; bit++) {
-                wire input = input_wire(house->own, side, level, bit);
-                unsigned value = bids->quantity[side][level] >> bit & 1;
-                shares[input] = (uint8_t)(value ^ masks[input - own]);
-            }
-    transmit(&house->far, masks, OWN_INPUTS);
-    receive(&house->far, shares + other, OWN_INPUTS);
-}
-
-/* Runs the circuit to its end and returns the number of rounds. After each round but the last both
- * houses send each other the round's bits, one as many as the other. */
-static unsigned run_circuit(struct house *house, const uint8_t shares[CLEARING_INPUTS],
-                            const uint8_t *triples, uint8_t output[CLEARING_OUTPUTS])
-{
-    struct expander_round_state state = {{0}};
-    size_t room = 2 * house->sizes.ands, written = 0;
-    uint8_t *bits = allocate(room, 1), *far_bits = allocate(room, 1);
-    unsigned rounds = 0;
-    do {
-        struct expander_rounded rounded = expander_circuit_round(
-            house->role, house->circuit_bytes, house->circuit_len, shares, CLEARING_INPUTS, triples,
-            3 * house->sizes.ands, output, CLEARING_OUTPUTS, far_bits, written, bits, room, state);
-        expect_accepted(rounded.number, "a round of the circuit is");
-        state = rounded.state;
-        written = rounded.bits_written;
-        rounds++;
-        transmit(&house->far, bits, written);
-        receive(&house->far, far_bits, written);
-    } while (written > 0);
-    free(bits);
-    free(far_bits);
-    return rounds;
-}
-
-/* The houses show each other their shares of the outputs, and of nothing else. */
-static struct clearing open_outputs(struct house *house, uint8_t output[CLEARING_OUTPUTS])
-{
-    uint8_t far_output[CLEARING_OUTPUTS];
-    transmit(&house->far, output, CLEARING_OUTPUTS);
-    receive(&house->far, far_output, CLEARING_OUTPUTS);
-    for (unsigned k = 0; k < CLEARING_OUTPUTS; k++) {
-        if (far_output[k] > 1)
-            stop("%s sent a share of the result that is no bit", house->far.far_name);
-        output[k] ^= far_output[k];
-    }
-    return read_clearing(output);
-}
-
-static void hold_auction(struct house *house, struct dealings *dealings, const struct bids *bids,
-                         struct report *report)
-{
-    uint8_t shares[CLEARING_INPUTS], output[CLEARING_OUTPUTS];
-    uint8_t *triples = allocate(3 * house->sizes.ands, 1);
-    double start;
-    draw_all_triples(house, dealings, triples, report);
+    report->ms[TRIPLES] = milliseconds() - start;
     start = milliseconds();
-    share_inputs(house, bids, shares);
-    report->rounds = run_circuit(house, shares, triples, output);
-    report->found = open_outputs(house, output);
+    write_bids(bids, own);
+    expect_done(&house->far, companion_run(&house->far.link, house->role, &house->circuit, own,
+                                           &triples, output, &rounds));
+    report->rounds = (unsigned)rounds;
+    report->found = read_clearing(output);
     report->ms[CIRCUIT] = milliseconds() - start;
-    free(triples);
 }
 
-static void run_season(struct house *house, struct dealings *dealings,
-                       const struct dealings *before, const struct bids *bids)
+static void run_season(struct house *house, unsigned season, const struct bids *bids)
 {
-    struct report report = {{0, 0}, {0}, {0}, 0, 0, 0, {0}};
-    house->far.sent = house->far.received = 0;
-    take_dealings(house, dealings, before, &report);
-    hold_auction(house, dealings, bids, &report);
-    report.sent = (unsigned)house->far.sent;
-    report.received = (unsigned)house->far.received;
+    struct report report;
+    memset(&report, 0, sizeof report);
+    house->far.socket.sent = house->far.socket.received = 0;
+    take_dealings(house, season, &report);
+    hold_auction(house, bids, &report);
+    companion_close_pair(&house->pair);
+    report.sent = (unsigned)house->far.socket.sent;
+    report.received = (unsigned)house->far.socket.received;
     print_report(&report);
 }
 
@@ -165,24 +113,24 @@ int main(int argc, char **argv)
 {
     static struct house house;
     struct bids bids[SEASONS_MAX];
-    struct dealings dealings[SEASONS_MAX] = {{{0}, {0}}};
-    unsigned role, seasons;
     begin("house");
     if (argc < 5 || argc > 4 + SEASONS_MAX)
         stop("usage: house ROLE FAR SECONDS BIDS...");
-    role = number_argument(argv[1], HOUSES);
-    if (role == 0)
+    house.role = (uint8_t)number_argument(argv[1], HOUSES);
+    if (house.role == 0)
         stop("a house's role is 1 or 2");
-    begin(house_names[role - 1]);
-    seasons = (unsigned)argc - 4;
-    set_up(&house, role, (int)number_argument(argv[2], 1023), number_argument(argv[3], 3600),
-           seasons);
+    begin(house_names[house.role - 1]);
+    house.seasons = (unsigned)argc - 4;
+    open_channel(&house.dealer, STDIN_FILENO, "the dealer", number_argument(argv[3], 3600));
+    open_channel(&house.far, (int)number_argument(argv[2], 1023), house_names[HOUSES - house.role],
+                 number_argument(argv[3], 3600));
+    build_clearing(&house.circuit, house.ands);
+    house.ands[CHECK] = CHECKED;
 
-    for (unsigned k = 0; k < seasons; k++)
+    for (unsigned k = 0; k < house.seasons; k++)
         read_bids(argv[4 + k], &bids[k]);
-    for (unsigned k = 0; k < seasons; k++)
-        run_season(&house, &dealings[k], k == 0 ? NULL : &dealings[k - 1], &bids[k]);
-    for (unsigned k = 0; k < seasons; k++)
-        free_dealings(&dealings[k]);
+    for (unsigned k = 0; k < house.seasons; k++)
+        run_season(&house, k, &bids[k]);
+    companion_close_stock(&house.stock);
     return 0;
 }

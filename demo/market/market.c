@@ -179,12 +179,13 @@ static int ended_well(const struct market *market, pid_t id)
 /* Reads the line that a house prints of an auction. Returns whether it came. */
 static int read_report(struct market *market, unsigned house, struct report *report)
 {
-    struct channel channel = {market->reports[house].from, house_names[house],
-                              market->harness_seconds, 0, 0};
+    struct channel channel;
     char line[512];
     size_t len = 0;
+    open_channel(&channel, market->reports[house].from, house_names[house],
+                 market->harness_seconds);
     do
-        if (try_receive(&channel, line + len, 1) != TRANSFER_DONE)
+        if (companion_receive(&channel.link, line + len, 1).number != COMPANION_DONE)
             return 0;
     while (line[len++] != '\n' && len < sizeof line - 1);
     line[len] = '\0';
@@ -252,26 +253,28 @@ static void show_results(const struct report reports[HOUSES], const struct clear
 
 static void show_times(const struct report *report, const char *name)
 {
-    printf("  %-12s %7.1f %7.2f %7.2f %7.3f %7.1f  ", name, report->ms[OFFLINE], report->ms[ONLINE],
-           report->ms[PADS], report->ms[TRIPLES], report->ms[CIRCUIT]);
+    printf("  %-12s %7.1f %7.2f %7.1f  ", name, report->ms[OFFLINE], report->ms[TRIPLES],
+           report->ms[CIRCUIT]);
 }
 
-static void show_caller(const struct report *report, enum task task)
+static void show_caller(const struct report *report, unsigned caller)
 {
-    printf("%-10s %6u %6u\n", task_names[task], report->drawn[task], report->left[task]);
+    printf("%-10s %6u %6u\n", caller_names[caller], report->drawn[caller], report->left[caller]);
 }
 
 /* Each house's times, and beside them what each caller drew from the stock and has left. */
 static void show_times_and_stock(const struct report reports[HOUSES])
 {
-    printf("  %-12s %7s %7s %7s %7s %7s  %-10s %6s %6s\n", "milliseconds", "offline", "online",
-           "pads", "triples", "circuit", "caller", "drew", "left");
+    printf("  %-12s %7s %7s %7s  %-10s %6s %6s\n", "milliseconds", "offline", "triples", "circuit",
+           "caller", "drew", "left");
     show_times(&reports[0], house_names[0]);
     show_caller(&reports[0], SUMS);
     show_times(&reports[1], house_names[1]);
     show_caller(&reports[0], COMPARISON);
-    printf("%*s", 56, "");
-    show_caller(&reports[0], CHOICE);
+    for (unsigned caller = CHOICE; caller < CALLERS; caller++) {
+        printf("%*s", 40, "");
+        show_caller(&reports[0], caller);
+    }
     printf("\n");
 }
 

@@ -2,11 +2,11 @@
 
 void print_report(const struct report *r)
 {
-    printf("level %u quantity %u drawn %u %u %u left %u %u %u rounds %u sent %u received %u"
-           " ms %.3f %.3f %.3f %.3f %.3f\n",
+    printf("level %u quantity %u drawn %u %u %u %u left %u %u %u %u rounds %u sent %u received %u"
+           " ms %.3f %.3f %.3f\n",
            r->found.level, r->found.quantity, r->drawn[SUMS], r->drawn[COMPARISON],
-           r->drawn[CHOICE], r->left[SUMS], r->left[COMPARISON], r->left[CHOICE], r->rounds,
-           r->sent, r->received, r->ms[OFFLINE], r->ms[ONLINE], r->ms[PADS], r->ms[TRIPLES],
+           r->drawn[CHOICE], r->drawn[CHECK], r->left[SUMS], r->left[COMPARISON], r->left[CHOICE],
+           r->left[CHECK], r->rounds, r->sent, r->received, r->ms[OFFLINE], r->ms[TRIPLES],
            r->ms[CIRCUIT]);
     fflush(stdout);
 }
@@ -14,10 +14,10 @@ void print_report(const struct report *r)
 int parse_report(const char *line, struct report *r)
 {
     return sscanf(line,
-                  "level %u quantity %u drawn %u %u %u left %u %u %u rounds %u sent %u received %u"
-                  " ms %lf %lf %lf %lf %lf",
+                  "level %u quantity %u drawn %u %u %u %u left %u %u %u %u rounds %u sent %u"
+                  " received %u ms %lf %lf %lf",
                   &r->found.level, &r->found.quantity, &r->drawn[SUMS], &r->drawn[COMPARISON],
-                  &r->drawn[CHOICE], &r->left[SUMS], &r->left[COMPARISON], &r->left[CHOICE],
-                  &r->rounds, &r->sent, &r->received, &r->ms[OFFLINE], &r->ms[ONLINE], &r->ms[PADS],
-                  &r->ms[TRIPLES], &r->ms[CIRCUIT]) == 16;
+                  &r->drawn[CHOICE], &r->drawn[CHECK], &r->left[SUMS], &r->left[COMPARISON],
+                  &r->left[CHOICE], &r->left[CHECK], &r->rounds, &r->sent, &r->received,
+                  &r->ms[OFFLINE], &r->ms[TRIPLES], &r->ms[CIRCUIT]) == 16;
 }

@@ -6,14 +6,14 @@
 
 #include <stdio.h>
 
-/* The phases whose time is told. CIRCUIT has the sharing of inputs and the opening of outputs in
- * it, so it has the waiting for the other house. */
-enum phase { OFFLINE, ONLINE, PADS, TRIPLES, CIRCUIT, PHASES };
+/* The phases whose time is told. TRIPLES goes from the draws to triples. CIRCUIT has the sharing of
+ * inputs and the opening of outputs in it, so it has the waiting for the other house. */
+enum phase { OFFLINE, TRIPLES, CIRCUIT, PHASES };
 
 struct report {
     struct clearing found;
-    unsigned drawn[TASKS], left[TASKS]; /* triples, by caller of the stock */
-    unsigned rounds, sent, received;    /* of the circuit; bytes to and from the other house */
+    unsigned drawn[CALLERS], left[CALLERS]; /* triples, by caller of the stock */
+    unsigned rounds, sent, received;        /* of the circuit; bytes to and from the other house */
     double ms[PHASES];
 };
 
