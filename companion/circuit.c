@@ -13,24 +13,22 @@ void companion_input(struct companion_circuit *c, uint8_t role, companion_wire *
 {
     if (width == 0 || (role != COMPANION_ROLE_1 && role != COMPANION_ROLE_2))
         fault(c, COMPANION_BAD_WORD);
-    else if (c->gates > 0)
-        fault(c, COMPANION_LATE_INPUT);
-    else if (width > EXPANDER_WIRES_MAX - c->inputs)
-        fault(c, COMPANION_WIRES);
-    for (size_t k = 0; k < width; k++)
-        word[k] = c->fault == 0 ? (companion_wire)(c->inputs + k) : 0;
+    if (c->gates > 0 || width > EXPANDER_WIRES_MAX - c->inputs)
+        fault(c, c->gates > 0 ? COMPANION_LATE_INPUT : COMPANION_WIRES);
+    memset(word, 0, width * sizeof *word);
     if (c->fault != 0)
         return;
+    for (size_t k = 0; k < width; k++)
+        word[k] = (companion_wire)c->inputs++;
     c->input_role[c->input_words] = role;
     c->input_width[c->input_words++] = (uint16_t)width;
-    c->inputs += width;
 }
 
 void companion_output(struct companion_circuit *c, uint8_t role, const companion_wire *word, size_t width)
 {
     if (width == 0 || role < COMPANION_ROLE_1 || role > COMPANION_BOTH)
         fault(c, COMPANION_BAD_WORD);
-    else if (width > EXPANDER_CIRCUIT_OUTPUTS_MAX - c->outputs)
+    if (width > EXPANDER_CIRCUIT_OUTPUTS_MAX - c->outputs)
         fault(c, COMPANION_OUTPUTS);
     for (size_t k = 0; c->fault == 0 && k < width; k++)
         if (word[k] >= c->inputs + c->gates)

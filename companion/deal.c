@@ -57,19 +57,18 @@ static struct companion_status draw_value(uint64_t *value)
  * is there is drawn again. */
 static struct companion_status draw_position(uint32_t leaves, uint32_t *positions, size_t count)
 {
-    for (;;) {
-        uint32_t place = 0;
-        size_t at = 0;
-        struct companion_status status = companion_random(&place, sizeof place);
+    struct companion_status status;
+    uint32_t place = 0;
+    size_t at;
+    do {
+        status = companion_random(&place, sizeof place);
         place &= leaves - 1;
-        while (at < count && positions[at] < place)
+        for (at = 0; at < count && positions[at] < place;)
             at++;
-        if (status.number == 0 && at < count && positions[at] == place)
-            continue;
-        memmove(positions + at + 1, positions + at, (count - at) * sizeof *positions);
-        positions[at] = place;
-        return status;
-    }
+    } while (status.number == 0 && at < count && positions[at] == place);
+    memmove(positions + at + 1, positions + at, (count - at) * sizeof *positions);
+    positions[at] = place;
+    return status;
 }
 
 static struct companion_status draw(const struct companion_sizes *sizes, struct drawn *drawn)
@@ -96,29 +95,24 @@ struct expander_label companion_label(uint64_t number)
     return label;
 }
 
-/* The dealing on what was drawn. With trees = 0 nothing has its length, and only field and sizes are tested before that. */
-static struct expander_two_lengths deal(const struct companion_sizes *sizes, const struct drawn *drawn, size_t trees,
-                                        const struct expander_label *label, struct companion_dealt *dealt)
-{
-    return expander_deal(sizes->field, sizes->depth, sizes->branch_bits, sizes->trees, sizes->terms, sizes->outputs,
-                         drawn->roots, 16 * trees, drawn->positions, trees, drawn->values, trees,
-                         (const uint8_t *)drawn->delta, 16, drawn->code_key, 16, label->bytes, 16, dealt->noise,
-                         sizeof dealt->noise, dealt->scalar, sizeof dealt->scalar);
-}
-
 struct companion_status companion_deal(const struct companion_sizes *sizes, struct expander_label label,
                                        struct companion_dealt *dealt)
 {
     struct drawn drawn;
-    struct companion_status status;
+    struct companion_status status = companion_done();
     struct expander_two_lengths made;
+    size_t trees = sizes->depth <= EXPANDER_DEPTH_MAX && sizes->trees <= EXPANDER_TREES_MAX ? sizes->trees : 0;
+    if (trees > (size_t)1 << (trees > 0 ? sizes->depth : 0))
+        trees = 0; /* nothing is drawn where there is no room for it, and the expander refuses the sizes */
     memset(&drawn, 0, sizeof drawn);
     memset(dealt, 0, sizeof *dealt);
-    made = deal(sizes, &drawn, 0, &label, dealt);
-    status = companion_refused("expander_deal", made.number == EXPANDER_BAD_LENGTH ? 0 : made.number);
-    NEXT(status, draw(sizes, &drawn));
+    if (trees > 0)
+        status = draw(sizes, &drawn);
     if (status.number == 0) {
-        made = deal(sizes, &drawn, sizes->trees, &label, dealt);
+        made = expander_deal(sizes->field, sizes->depth, sizes->branch_bits, sizes->trees, sizes->terms, sizes->outputs,
+                             drawn.roots, 16 * trees, drawn.positions, trees, drawn.values, trees,
+                             (const uint8_t *)drawn.delta, 16, drawn.code_key, 16, label.bytes, 16, dealt->noise,
+                             sizeof dealt->noise, dealt->scalar, sizeof dealt->scalar);
         status = companion_refused("expander_deal", made.number);
         dealt->noise_len = made.first_written;
         dealt->scalar_len = made.second_written;

@@ -6,11 +6,11 @@
 
 #pragma GCC visibility push(hidden) /* these are not for users of the shared object */
 
-/* Statuses: done, refused by a call of the expander (or, with 0, accepted), failed by a test here, failed by the system. */
-struct companion_status companion_done(void);
-struct companion_status companion_refused(const char *call, uint32_t number);
-struct companion_status companion_failed(uint32_t number);
+/* A status; of a call of the expander (0: it accepted); of a test here (0: it is met); of nothing amiss. */
 struct companion_status companion_failed_at(uint32_t number, const char *call, int system);
+#define companion_refused(call, number) companion_failed_at(number, call, 0)
+#define companion_failed(number) companion_failed_at(number, "", 0)
+#define companion_done() companion_failed_at(COMPANION_DONE, "", 0)
 
 /* The next step, unless one before it failed. */
 #define NEXT(status, call) ((status).number == COMPANION_DONE ? (void)((status) = (call)) : (void)0)

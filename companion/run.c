@@ -24,8 +24,7 @@ static struct companion_status compare(struct run *run, uint64_t windows)
     own[3] = companion_sum_of(own[3], c->output_role, c->output_words);
     status = companion_exchange(run->link, own, sizeof own, far, sizeof far);
     NEXT(status, companion_failed(far[0] != own[0] || far[1] + own[1] != COMPANION_BOTH ? COMPANION_OUT_OF_STEP
-                                  : far[2] != own[2] ? COMPANION_OTHER_CIRCUIT
-                                  : far[3] != own[3] ? COMPANION_OTHER_SHARES
+                                  : far[2] != own[2] ? COMPANION_OTHER_CIRCUIT : far[3] != own[3] ? COMPANION_OTHER_SHARES
                                   : far[4] != own[4] ? COMPANION_OTHER_WINDOWS : COMPANION_DONE));
     return status;
 }
@@ -38,15 +37,13 @@ static struct companion_status share(struct run *run, const uint8_t *own)
     struct companion_status status = companion_random(run->bits, c->inputs);
     for (size_t word = 0; word < c->input_words; word++)
         for (size_t k = 0; k < c->input_width[word]; k++, wire++) {
-            if (c->input_role[word] != run->role) {
-                due++;
-                continue;
-            }
-            if (own[sent] > 1)
+            int mine = c->input_role[word] == run->role;
+            if (mine && own[sent] > 1)
                 NEXT(status, companion_failed(COMPANION_NOT_BITS));
-            run->bits[sent] &= 1;
-            run->shares[wire] = own[sent] ^ run->bits[sent];
-            sent++;
+            if (mine)
+                run->shares[wire] = own[sent] ^ (run->bits[sent] &= 1);
+            sent += mine ? 1 : 0;
+            due += mine ? 0 : 1;
         }
     NEXT(status, companion_exchange(run->link, run->bits, sent, run->far, due));
     for (size_t word = 0, at = wire = 0; word < c->input_words; word++)

@@ -24,10 +24,7 @@ static char *name_of(const struct companion_stock *stock, size_t which)
     return stock->path + which * (strlen(stock->path) + ENDING);
 }
 
-static struct companion_status failed(const char *call)
-{
-    return companion_failed_at(COMPANION_FILE, call, errno);
-}
+#define failed(call) companion_failed_at(COMPANION_FILE, call, errno)
 
 /* Ends with a sync, if all went well so far, and a close. */
 static struct companion_status sync_and_close(struct companion_status status, int fd)

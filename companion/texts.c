@@ -4,24 +4,9 @@
 #include <stdio.h>
 #include <string.h>
 
-struct companion_status companion_done(void)
-{
-    return companion_failed_at(COMPANION_DONE, "", 0);
-}
-
-struct companion_status companion_failed(uint32_t number)
-{
-    return companion_failed_at(number, "", 0);
-}
-
-struct companion_status companion_refused(const char *call, uint32_t number)
-{
-    return companion_failed_at(number, number == COMPANION_DONE ? "" : call, 0);
-}
-
 struct companion_status companion_failed_at(uint32_t number, const char *call, int system)
 {
-    struct companion_status status = {number, call, 0, system};
+    struct companion_status status = {number, number == COMPANION_DONE ? "" : call, 0, system};
     return status;
 }
 
@@ -119,19 +104,15 @@ static const struct { uint32_t number; const char *calls, *text; } tests[] = {
 
 const char *companion_meaning(const char *call, uint32_t number)
 {
-    static const char prefix[] = "expander_";
-    size_t skip = strncmp(call, prefix, sizeof prefix - 1) == 0 ? sizeof prefix - 1 : 0, len = strlen(call + skip);
+    size_t skip = strncmp(call, "expander_", 9) == 0 ? 9 : 0, len = strlen(call + skip);
     for (size_t k = 0; k < sizeof tests / sizeof *tests; k++) {
         const char *at = tests[k].calls;
         if (tests[k].number != number)
             continue;
-        if (*at == '\0')
+        while (*at != '\0' && (len == 0 || strncmp(at + 1, call + skip, len) != 0 || at[1 + len] != ' '))
+            at += 1 + strcspn(at + 1, " ");
+        if (tests[k].calls[0] == '\0' || *at != '\0')
             return tests[k].text;
-        while (len > 0 && (at = strstr(at, call + skip)) != NULL)
-            if (at[-1] == ' ' && at[len] == ' ')
-                return tests[k].text;
-            else
-                at++;
     }
     return "no such number";
 }
