@@ -68,6 +68,7 @@ enum mode { WELL, FAILS, SHORT, INTERRUPTED, DIES_BEFORE, DIES_AFTER };
 static __thread enum mode mode;
 static __thread size_t at, calls;
 static __thread int zeros; /* so many draws give zeros */
+static __thread const char *failed_call = ""; /* the one that was made to fail */
 
 /* Counts a call. Returns 0 where it goes on, or the errno with which it fails. */
 static int counted(int error)
@@ -91,6 +92,7 @@ static long ended(long result)
     do { \
         int fault_ = counted(error); \
         if (fault_ != 0) { \
+            failed_call = #name; \
             errno = fault_; \
             return failure; \
         } \
@@ -103,8 +105,10 @@ void *__wrap_calloc(size_t count, size_t size)
 {
     if (mode == INTERRUPTED)
         return __real_calloc(count, size);
-    if (counted(ENOMEM) != 0)
+    if (counted(ENOMEM) != 0) {
+        failed_call = "calloc";
         return NULL;
+    }
     return __real_calloc(count, size);
 }
 
@@ -174,7 +178,10 @@ int __wrap_close(int fd);
 int __wrap_close(int fd)
 {
     int fault = mode == INTERRUPTED ? 0 : counted(EIO), result = __real_close(fd);
-    errno = fault != 0 ? fault : errno;
+    if (fault != 0) {
+        failed_call = "close";
+        errno = fault;
+    }
     return (int)ended(fault != 0 ? -1 : result);
 }
 
@@ -206,6 +213,36 @@ int __wrap_flock(int fd, int operation)
     WRAPPED(flock, ENOLCK, -1, fd, operation);
 }
 
+/* Calls of the expander that accept whatever the companion lends them, and so are made to refuse. */
+#define WRAP_REFUSAL(type, name, zero, parameters, arguments) \
+    type __real_##name parameters; \
+    type __wrap_##name parameters; \
+    type __wrap_##name parameters \
+    { \
+        type refused = zero; \
+        if (mode != FAILS || counted(1) == 0) \
+            return __real_##name arguments; \
+        failed_call = #name; \
+        *(uint32_t *)&refused = EXPANDER_BUFFER_SHORT; \
+        return refused; \
+    }
+#define TWO {0, 0, 0}
+#define ONE {0, 0}
+typedef struct expander_two_lengths two_lengths;
+typedef struct expander_one_length one_length;
+WRAP_REFUSAL(two_lengths, expander_noise_offline, TWO,
+             (const uint8_t *a, size_t b, uint64_t *c, size_t d, uint64_t *e, size_t f), (a, b, c, d, e, f))
+WRAP_REFUSAL(two_lengths, expander_scalar_offline, TWO,
+             (const uint8_t *a, size_t b, uint64_t *c, size_t d, uint64_t *e, size_t f), (a, b, c, d, e, f))
+WRAP_REFUSAL(one_length, expander_scalar_online, ONE,
+             (const uint8_t *a, size_t b, const uint64_t *c, size_t d, size_t e, size_t f, uint64_t *g, size_t h), (a, b, c, d, e, f, g, h))
+WRAP_REFUSAL(uint32_t, expander_noise_pads, 0,
+             (size_t a, size_t b, const uint8_t *c, size_t d, const uint8_t *e, size_t f, uint8_t *g, size_t h), (a, b, c, d, e, f, g, h))
+WRAP_REFUSAL(uint32_t, expander_scalar_pads, 0,
+             (size_t a, size_t b, const uint8_t *c, size_t d, const uint8_t *e, size_t f, uint8_t *g, size_t h), (a, b, c, d, e, f, g, h))
+WRAP_REFUSAL(one_length, expander_triples, ONE,
+             (const uint8_t *a, size_t b, const uint8_t *c, size_t d, const uint8_t *e, size_t f, uint8_t *g, size_t h), (a, b, c, d, e, f, g, h))
+
 /* ---- Two ends in two threads ---- */
 
 struct side {
@@ -218,6 +255,7 @@ struct side {
     struct companion_status status;
     enum mode mode; /* of its thread */
     size_t at, calls;
+    const char *failed_call;
     void (*run)(struct side *side);
 };
 
@@ -227,8 +265,10 @@ static void *run_side(void *context)
     mode = side->mode;
     at = side->at;
     calls = 0;
+    failed_call = "";
     side->run(side);
     side->calls = calls;
+    side->failed_call = failed_call;
     mode = WELL;
     shutdown(side->socket.fd, SHUT_RDWR); /* the far end does not wait for what does not come */
     return NULL;
@@ -381,6 +421,31 @@ static void try_positions(size_t count)
         }
 }
 
+/* Each bit of Delta and of a noise value is 1 as often as not. */
+static void try_values(size_t count)
+{
+    static struct companion_dealt dealt;
+    const struct companion_sizes sizes = {EXPANDER_PRIME, 1, 1, 1, 1, 1};
+    double seen[2][61] = {{0}};
+    for (size_t k = 0; k < count; k++) {
+        struct companion_end noise, scalar;
+        EXPECT(0, companion_deal(&sizes, companion_label(k), &dealt));
+        EXPECT(0, companion_open(dealt.noise, dealt.noise_len, &noise));
+        EXPECT(0, companion_open(dealt.scalar, dealt.scalar_len, &scalar));
+        CHECK(scalar.delta[1] == 0 && scalar.delta[0] < EXPANDER_MODULUS, "Delta of field 2");
+        for (size_t bit = 0; bit < 61; bit++) {
+            seen[0][bit] += (double)(noise.noise[1] >> bit & 1);
+            seen[1][bit] += (double)(scalar.delta[0] >> bit & 1);
+        }
+        companion_close(&noise);
+        companion_close(&scalar);
+    }
+    for (size_t k = 0; k < 2 * 61; k++) {
+        double off = seen[k / 61][k % 61] - (double)count / 2;
+        CHECK(off * off < 30 * (double)count / 4, "bit %zu is 1 in %.0f of %zu", k % 61, seen[k / 61][k % 61], count);
+    }
+}
+
 static void dealing(size_t count)
 {
     static struct companion_dealt dealt;
@@ -406,7 +471,8 @@ static void dealing(size_t count)
         zeros = 0;
     }
     try_positions(20 * count);
-    printf("dealing: %zu dealings of random sizes, %zu more for the places\n", count, 20 * count);
+    try_values(4 * count);
+    printf("dealing: %zu dealings of random sizes, %zu more for the places, %zu for the values\n", count, 20 * count, 4 * count);
 }
 
 /* ---- Pairs: comparing, checking ---- */
@@ -536,6 +602,14 @@ static void heads(size_t count)
         EXPECT(due, sides[0].status);
         EXPECT(due, sides[1].status);
     }
+    for (size_t k = 0; k < 4; k++) { /* in the label, or the code key, of one record alone */
+        size_t place = (k % 2 == 0 ? 1 + 1 + 4 + 2 : 1 + 1 + 4 + 2 + 16) + draw(16);
+        mixed_sides(0, sides);
+        (k < 2 ? sides[1].noise : sides[1].scalar)[place] ^= 0x40;
+        run_both(sides);
+        EXPECT(COMPANION_OTHER_DEALING, sides[0].status);
+        EXPECT(COMPANION_OTHER_DEALING, sides[1].status);
+    }
     deal_sides(&small, 1, sides); /* both are the same end */
     memcpy(&sides[1], &sides[0], sizeof sides[0]);
     run_both(sides);
@@ -547,7 +621,7 @@ static void heads(size_t count)
     EXPECT(0, open_side(&sides[0]));
     EXPECT(COMPANION_NOT_COMPARED, companion_add_triples(&sides[0].pair, 0, 1, &(struct companion_triples){0, NULL, 0}));
     companion_close_pair(&sides[0].pair);
-    printf("heads: equal ones, and 8 kinds that do not fit\n");
+    printf("heads: equal ones, and 12 kinds that do not fit\n");
 }
 
 /* ---- Circuits ---- */
@@ -1056,6 +1130,53 @@ static const struct companion_sizes larger = {EXPANDER_BINARY, 10, 2, 4, 8, 512}
 static struct joint joints[2];
 static struct side sides[2];
 
+/* A link that keeps what is sent. */
+static struct { uint8_t bytes[65536]; size_t len; } tapped;
+static ptrdiff_t tap_send(void *context, const uint8_t *bytes, size_t len)
+{
+    ptrdiff_t put = companion_socket_send(context, bytes, len);
+    for (ptrdiff_t k = 0; k < put && tapped.len < sizeof tapped.bytes; k++)
+        tapped.bytes[tapped.len++] = bytes[k];
+    return put;
+}
+static void run_tapped(struct side *side)
+{
+    side->link.send = tap_send;
+    tapped.len = 0;
+    run_jointly(side);
+}
+
+/* Of its own inputs an end sends masks, which are random bits: as many 1 as 0, and others for the same inputs. */
+static void try_masks(void)
+{
+    enum { BITS = 64, BEFORE = 192 + 16 + 3 * 2 + 40, TURNS = 20 };
+    static uint8_t masks[TURNS][BITS], due[4096];
+    static struct companion_circuit circuit;
+    companion_wire a[BITS], b[BITS], less;
+    size_t ones = 0;
+    memset(&circuit, 0, sizeof circuit);
+    companion_input(&circuit, COMPANION_ROLE_1, a, BITS);
+    companion_input(&circuit, COMPANION_ROLE_2, b, BITS);
+    less = companion_less(&circuit, COMPANION_FLAT, a, b, BITS);
+    companion_output(&circuit, COMPANION_BOTH, &less, 1);
+    prepare(joints, sides, &circuit, due);
+    sides[1].run = run_tapped;
+    for (size_t turn = 0; turn < TURNS; turn++) {
+        deal_sides(&larger, turn, sides);
+        run_both(sides);
+        EXPECT(0, sides[0].status);
+        EXPECT(0, sides[1].status);
+        memcpy(masks[turn], tapped.bytes + BEFORE, BITS);
+        for (size_t k = 0; k < BITS; k++) {
+            CHECK(masks[turn][k] <= 1, "a mask is no bit");
+            ones += masks[turn][k];
+        }
+        for (size_t k = 0; k < turn; k++)
+            CHECK(memcmp(masks[k], masks[turn], BITS) != 0, "the same masks twice");
+    }
+    CHECK(ones > TURNS * BITS / 2 - 120 && ones < TURNS * BITS / 2 + 120, "%zu of %d masks are 1", ones, TURNS * BITS);
+}
+
 static void runs(size_t count)
 {
     static struct companion_circuit circuit;
@@ -1073,6 +1194,7 @@ static void runs(size_t count)
         CHECK(joints[0].rounds == counts.rounds && joints[1].rounds == counts.rounds, "rounds");
         CHECK(sides[0].socket.sent == sides[1].socket.received, "bytes");
     }
+    try_masks();
     for (int fault = 0; fault < 9; fault++) { /* the second side differs */
         static const uint32_t dues[] = {COMPANION_OTHER_CIRCUIT, COMPANION_OTHER_SHARES, COMPANION_OTHER_SHARES, COMPANION_OTHER_WINDOWS,
                                         COMPANION_OTHER_WINDOWS, COMPANION_NOT_BITS, EXPANDER_TOO_FEW_TRIPLES, COMPANION_BAD_WIRE,
@@ -1343,7 +1465,7 @@ static void limited_season(struct side *side)
 static void faults(size_t count)
 {
     companion_wire a[8], b[8], sum[9];
-    size_t places = 0, silent = 0, total;
+    size_t places = 0, silent = 0, refused = 0, total;
     static size_t kinds[COMPANION_TEXT_UNMADE + 1];
     memset(&fault_circuit, 0, sizeof fault_circuit);
     companion_input(&fault_circuit, COMPANION_ROLE_1, a, 8);
@@ -1353,6 +1475,8 @@ static void faults(size_t count)
 
     run_season(WELL, 0);
     EXPECT(0, sides[0].status);
+    EXPECT(0, sides[1].status);
+    run_season(FAILS, SIZE_MAX); /* none fails; those of the expander are counted too */
     EXPECT(0, sides[1].status);
     total = sides[1].calls;
     for (int how = SHORT; how <= INTERRUPTED; how++) {
@@ -1367,13 +1491,15 @@ static void faults(size_t count)
         CHECK(sides[1].status.number == 0 || sides[0].status.number == 0 || sides[0].status.number == COMPANION_CLOSED
               || sides[0].status.number == COMPANION_NOT_MOVED, "the far end: %s", said(sides[0].status));
         silent += sides[1].status.number == 0;
+        refused += strncmp(sides[1].failed_call, "expander_", 9) == 0;
+        CHECK(sides[1].status.number != 0 || strcmp(sides[1].failed_call, "close") == 0, "the failure of %s is not told", sides[1].failed_call);
         places++;
     }
     CHECK(kinds[COMPANION_NO_MEMORY] > 3 && kinds[COMPANION_NO_RANDOM] > 3 && kinds[COMPANION_FILE] > 10, "kinds of faults");
-    CHECK(silent < 12, "%zu failures of the system are not told", silent);
-    printf("faults: each of %zu calls of the system fails in turn (memory %zu, random bytes %zu, files %zu, links %zu, harmless %zu);"
-           " short and interrupted ones do not\n", places, kinds[COMPANION_NO_MEMORY], kinds[COMPANION_NO_RANDOM], kinds[COMPANION_FILE],
-           kinds[COMPANION_CLOSED] + kinds[COMPANION_NOT_MOVED], silent);
+    CHECK(refused > 6, "only %zu calls of the expander were made to refuse", refused);
+    printf("faults: each of %zu calls fails in turn (memory %zu, random bytes %zu, files %zu, links %zu, the expander %zu, a close that does"
+           " no harm %zu); short and interrupted ones do not\n", places, kinds[COMPANION_NO_MEMORY], kinds[COMPANION_NO_RANDOM], kinds[COMPANION_FILE],
+           kinds[COMPANION_CLOSED] + kinds[COMPANION_NOT_MOVED], refused, silent);
 
     run_season(WELL, 0);
     total = sides[1].socket.sent + sides[1].socket.received;
