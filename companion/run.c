@@ -38,6 +38,8 @@ static struct companion_status share(struct run *run, const uint8_t *own)
     for (size_t word = 0; word < c->input_words; word++)
         for (size_t k = 0; k < c->input_width[word]; k++, wire++) {
             int mine = c->input_role[word] == run->role;
+            if (c->input_role[word] != COMPANION_ROLE_1 && c->input_role[word] != COMPANION_ROLE_2)
+                NEXT(status, companion_failed(COMPANION_BAD_WORD));
             if (mine && own[sent] > 1)
                 NEXT(status, companion_failed(COMPANION_NOT_BITS));
             if (mine)

@@ -1,28 +1,37 @@
-/* Companion of the correlation expander: what a program writes around the calls of expander.h. Dealing at random, ends and
- * pairs of ends, whether records were dealt together, a stock on disk, circuits, also in Bristol Fashion, and joint runs over
- * a link of the caller's. For x86-64 Linux.
+/* Companion of the correlation expander: what a program writes around the calls of expander.h.
+ * Dealing at random, ends and pairs of ends, whether records were dealt together, a stock on disk,
+ * circuits, also in Bristol Fashion, and joint runs over a link of the caller's. For x86-64 Linux.
  *
  * NOT PROVED. The calls of expander.h are proved; this is plain C99 above them, tested and no more.
  *
  * Rules for every call
- *   Status   A call that can fail returns a status. Its number is 0 if all is done, one of expander.h (1 to 21) if a call of
- *            the expander refused, and from 100 on one of those below. companion_text says it in a sentence.
- *   Failed   What the call was to open, fill or make is closed: all 0, and nothing to free. Lent buffers may hold part of a
- *            result, which is not to be used.
- *   Memory   What is allocated is wiped and freed when it is closed, and on every path of a call that fails. Closing what is
- *            all 0, or closed, does nothing. Members of structs are to be read and not written, but where that is said.
- *   State    There is none but the caller's structs: no call exits, prints or keeps anything. Calls on different structs may
- *            run at the same time. A call takes at most 96 KiB of stack; what crosses to the expander by value, and what its
- *            calls leave on the stack, is not wiped.
- *   Links    Both ends make the same calls in the same order. Each sends first and then receives, so a link is to hold 8,192
- *            bytes of one end before the other reads.
+ *   Status    A call that can fail returns a status. Its number is 0 if all is done, one of
+ *             expander.h (1 to 21) if a call of the expander refused, and from 100 on one of those
+ *             below. companion_text says it in a sentence.
+ *   Failed    What the call was to open, fill or make is closed: all 0, and nothing to free. Lent
+ *             buffers may hold part of a result, which is not to be used. Where a call's comment has
+ *             no row of this name, there is no more to say.
+ *   Memory    What is allocated is wiped and freed when it is closed, and on every path of a call
+ *             that fails. Closing what is all 0, or closed, does nothing. Structs are the caller's;
+ *             their members are to be read and not written, but where that is said. Pointers are not
+ *             NULL, but where that is said.
+ *   State     There is none but the caller's structs: no call exits, prints or keeps anything. Calls
+ *             on different structs may run at the same time.
+ *   Stack     A call takes at most 96 KiB. What crosses to the expander by value, and what its calls
+ *             leave on the stack, is not wiped.
+ *   Links     Both ends make the same calls in the same order. Each sends first and then receives, so
+ *             a link is to hold 8,192 bytes of one end before the other reads. Every call that is lent
+ *             a link may also return COMPANION_CLOSED and COMPANION_NOT_MOVED.
  *
- * Safe use: all that expander.h says under this name, and
- *   Honest   Both ends are taken to keep to the steps. What is compared finds mistakes, not lies: what an end alters within
- *            what is admitted goes unnoticed. Who is at a link's other end, and who reads it, is for the caller to settle.
- *   Sizes    None is recommended. In field 1 whoever knows the code key finds two outputs whose u lean to being equal: by
- *            2^-26 (n = 32,768) to 2^-55 (n = 64, N = 2^10) at t = 64 and l = 32, the largest, and by 2^-17 to 2^-23 at
- *            l = 16, n = 1,024, N = 2^12. Smaller t and l are worse by far. docs/SIZES.md says what known attacks cost.
+ * Safe use
+ *   All that expander.h says under this name holds here too. Further:
+ *   Honest    Both ends are taken to keep to the steps. What is compared finds mistakes, not lies:
+ *             what an end alters within what is admitted goes unnoticed. Who is at a link's other
+ *             end, and who reads it, is for the caller to settle.
+ *   Sizes     None is recommended. In field 1 whoever knows the code key finds two outputs whose u
+ *             lean to being equal: by 2^-26 (n = 32,768) to 2^-55 (n = 64, N = 2^10) at t = 64 and
+ *             l = 32, the largest, and by 2^-17 to 2^-23 at l = 16, n = 1,024, N = 2^12. Smaller t
+ *             and l are worse by far. docs/SIZES.md says what known attacks cost.
  */
 #ifndef EXPANDER_COMPANION_H
 #define EXPANDER_COMPANION_H
@@ -33,22 +42,23 @@
 extern "C" {
 #endif
 
+/* Numbers of the companion's own. */
 #define COMPANION_DONE 0u
 #define COMPANION_NO_MEMORY 100u     /* the system gives no memory */
 #define COMPANION_NO_RANDOM 101u     /* getrandom fails */
 #define COMPANION_CLOSED 102u        /* send or receive moved nothing: the far end is closed */
 #define COMPANION_NOT_MOVED 103u     /* send or receive failed, or its time was over */
-#define COMPANION_OUT_OF_STEP 104u   /* the far end makes another call, or with another count, window or role */
+#define COMPANION_OUT_OF_STEP 104u   /* the far end makes another call, or asks for something else */
 #define COMPANION_OTHER_DEALING 105u /* heads of the ends' records differ, or both are of one end */
 #define COMPANION_NOT_PAIRED 106u    /* a sacrificed triple does not hold */
 #define COMPANION_NOT_COMPARED 107u  /* the pair's heads were not compared yet */
 #define COMPANION_WRONG_RECORD 108u  /* not a noise record and a scalar record of field 1 */
 #define COMPANION_SAME_LABEL 109u    /* both records of a pair have one label */
 #define COMPANION_OTHER_CIRCUIT 110u /* the far end runs another circuit */
-#define COMPANION_OTHER_SHARES 111u  /* the far end has other words of inputs or outputs, or other roles for them */
+#define COMPANION_OTHER_SHARES 111u  /* the far end has other words of inputs or outputs, or roles */
 #define COMPANION_OTHER_WINDOWS 112u /* the far end's triples are of other windows */
 #define COMPANION_NOT_BITS 113u      /* an input, or a byte of the far end, is above 1 */
-#define COMPANION_FILE 114u          /* the system refuses to open, lock, read, write, sync, close or rename */
+#define COMPANION_FILE 114u          /* the system refuses to open, lock, read, write, sync, rename */
 #define COMPANION_FILE_THERE 115u    /* a stock is to be created where a file is */
 #define COMPANION_FILE_DAMAGED 116u  /* no stock's file, or not whole */
 #define COMPANION_FILE_IN_USE 117u   /* the stock is open elsewhere */
@@ -58,7 +68,8 @@ extern "C" {
 #define COMPANION_BAD_WORD 121u      /* a width of 0 or too large, or a role that is not admitted */
 #define COMPANION_LATE_INPUT 122u    /* an input after a gate */
 #define COMPANION_NO_ROOM 123u       /* the lent buffer is too short */
-#define COMPANION_TEXT_NUMBER 124u   /* of a Bristol text, from here on: no number where one is due */
+/* Of a Bristol text. */
+#define COMPANION_TEXT_NUMBER 124u   /* no number where one is due */
 #define COMPANION_TEXT_VALUES 125u   /* no values, a width of 0, or more bits than wires */
 #define COMPANION_TEXT_GATE 126u     /* no name of a gate */
 #define COMPANION_TEXT_COUNTS 127u   /* numbers of wires that do not fit the gate's name */
@@ -69,7 +80,23 @@ extern "C" {
 #define COMPANION_TEXT_AFTER 132u    /* something follows where the line, or the text, is to end */
 #define COMPANION_TEXT_UNMADE 133u   /* no gate makes an output wire */
 
-/* A number; the call of the expander or of the system that refused, or ""; the line of a Bristol text, or 0; errno, or 0. */
+/* Who gives an input (one of the two), and to whom an output is opened. Role 1 is the noise end of a
+ * pair's first dealing, as in expander.h. */
+#define COMPANION_ROLE_1 1
+#define COMPANION_ROLE_2 2
+#define COMPANION_BOTH 3
+
+/* Forms of sums and comparisons: ripple has the fewest ANDs, and as many rounds as bits; flat, by
+ * prefixes, has about log2 of that many rounds, and more ANDs. */
+#define COMPANION_RIPPLE 0
+#define COMPANION_FLAT 1
+
+/* Bytes that are enough for any circuit, and characters for any Bristol text that is written. */
+#define COMPANION_CIRCUIT_MAX (9 + 5 * EXPANDER_WIRES_MAX + 2 * EXPANDER_CIRCUIT_OUTPUTS_MAX)
+#define COMPANION_BRISTOL_MAX (64 + 32 * EXPANDER_WIRES_MAX + 32 * EXPANDER_CIRCUIT_OUTPUTS_MAX)
+
+/* A number; the call of the expander or of the system that refused, or ""; the line of a Bristol
+ * text, or 0; what errno was, or 0. */
 struct companion_status {
     uint32_t number;
     const char *call;
@@ -77,239 +104,419 @@ struct companion_status {
     int system;
 };
 
-/** Say in a sentence what a status means, naming the call and what was tested: a C string, cut off where it is longer than
- *  the text_len bytes lent, at least 1. 300 are always enough. */
-void companion_text(struct companion_status status, char *text, size_t text_len);
-
-/** What a call of expander.h, by its name ("expander_deal"), tests for a number; from 100 on the call does not count. */
-const char *companion_meaning(const char *call, uint32_t number);
-
-/** Write zeros that the compiler does not leave out. */
-void companion_wipe(void *memory, size_t len);
-
-/* d, g, t, l and n of expander.h; and both records of a dealing, which their owner wipes. */
+/* The field, and d, g, t, l and n of expander.h. */
 struct companion_sizes {
     uint8_t field;
     size_t depth, branch_bits, trees, terms, outputs;
 };
+
+/* Both records of a dealing. Its owner wipes it: companion_wipe(&dealt, sizeof dealt). */
 struct companion_dealt {
     size_t noise_len, scalar_len;
     uint8_t noise[EXPANDER_NOISE_RECORD_MAX], scalar[EXPANDER_SCALAR_RECORD_MAX];
 };
-
-/** Deal, all drawn by getrandom: roots, code key, positions as a uniform choice of t of the N places, values uniform (1 in
- *  field 1, 1 to p - 1 in field 2), Delta uniform and not zero. The label is the caller's, another for each dealing, and
- *  higher from season to season.  Fails: 1, 2; _NO_RANDOM. */
-struct companion_status companion_deal(const struct companion_sizes *sizes, struct expander_label label,
-                                       struct companion_dealt *dealt);
-struct expander_label companion_label(uint64_t number);
 
 /* One end of a dealing: what its record says, a copy of the record, and what offline makes of it. */
 struct companion_end {
     struct expander_described head;
     size_t record_len, held;
     uint8_t *record;
-    uint64_t *noise;    /* accumulated noise, N words; noise end alone, else NULL */
-    uint64_t *elements; /* accumulated v or w, W N words */
-    uint64_t delta[2];  /* scalar end alone */
+    uint64_t *noise;    /* accumulated noise, N words, at the noise end; else NULL */
+    uint64_t *elements; /* accumulated v, at the noise end, or w; W N words */
+    uint64_t delta[2];  /* at the scalar end; else 0 */
 };
 
-/* A window's outputs: u, and choices (u as bytes), at the noise end, else NULL; elements, v or w; choices and pads in field 1,
- * else NULL; pads have 16 bytes an output at the noise end, 32 at the scalar end. */
+/* A window's outputs. */
 struct companion_window {
     size_t count, held;
-    uint64_t *u, *elements;
-    uint8_t *choices, *pads;
+    uint64_t *u;        /* at the noise end, a word an output; else NULL */
+    uint64_t *elements; /* v, at the noise end, or w; W words an output */
+    uint8_t *choices;   /* at the noise end in field 1, u as a byte an output; else NULL */
+    uint8_t *pads;      /* in field 1, 16 bytes an output at the noise end, 32 at the other; else NULL */
 };
 
-/** Open a record of either end: describe it, find room, expand it offline.  Fails: as expander_describe; _NO_MEMORY. */
-struct companion_status companion_open(const uint8_t *record, size_t record_len, struct companion_end *end);
-void companion_close(struct companion_end *end);
-
-/** Give the outputs first to first + count - 1, and in field 1 their pads.  Fails: 7; _NO_MEMORY. */
-struct companion_status companion_expand(const struct companion_end *end, size_t first, size_t count,
-                                         struct companion_window *window);
-void companion_free_window(struct companion_window *window);
-
-/* An end's part in two dealings of field 1 with the roles exchanged. The dealing with the lower label is the first, and its
- * noise end has role 1. Both go by one window, and one stock: its label is the first one's, its n the smaller of both. */
+/* An end's part in two dealings of field 1 with the roles exchanged. The dealing with the lower label
+ * is the first, and its noise end has role 1. Both dealings go by one window, and by one stock, whose
+ * label is the first one's and whose n is the smaller of both. */
 struct companion_pair {
     struct companion_end noise, scalar;
-    struct expander_label label;
-    size_t outputs;
-    uint8_t role, compared;
+    struct expander_label label; /* the first dealing's */
+    size_t outputs;              /* the smaller n */
+    uint8_t role;                /* 1 or 2 */
+    uint8_t compared;            /* 1 once companion_compare_pair is done */
 };
 
-/* AND triples of windows, three bytes each, for one run; windows is a sum of labels, first indices and counts. */
+/* AND triples of windows of a pair, three bytes each, for one run; all 0 at first. windows is a sum of
+ * labels, first indices and counts, which a run compares. */
 struct companion_triples {
     size_t count;
     uint8_t *bytes;
     uint64_t windows;
 };
 
-/** Open this end's noise record of one dealing and scalar record of the other.
- *  Fails: as companion_open; _WRONG_RECORD, _SAME_LABEL. */
-struct companion_status companion_open_pair(const uint8_t *noise, size_t noise_len, const uint8_t *scalar, size_t scalar_len,
-                                            struct companion_pair *pair);
-void companion_close_pair(struct companion_pair *pair);
-
-/** Add the triples of a window to those that are there (all 0 at first), which stay where it fails.
- *  Fails: _NOT_COMPARED; 7; _NO_MEMORY. */
-struct companion_status companion_add_triples(const struct companion_pair *pair, size_t first, size_t count,
-                                              struct companion_triples *triples);
-void companion_free_triples(struct companion_triples *triples);
-
-/* How an end reaches the other: two functions of the caller's, as write and read. Each moves 1 to len bytes and returns how
- * many, 0 if the far end is closed, and below 0, with errno if it has one, where it fails or where the time is over that the
- * caller gives it. Where it moves fewer it is called again for the rest. */
+/* How an end reaches the other: two functions of the caller's, as write and read. Each moves 1 to len
+ * bytes and returns how many; 0 if the far end is closed; and below 0, with errno if it has one, where
+ * it fails or where the time is over that the caller gives it. Where it moves fewer than len it is
+ * called again for the rest. The context is the caller's, and is passed to both. */
 struct companion_link {
     ptrdiff_t (*send)(void *context, const uint8_t *bytes, size_t len);
     ptrdiff_t (*receive)(void *context, uint8_t *bytes, size_t len);
     void *context;
 };
 
-/* The context of the two functions below: an open socket or pipe, how long to wait for a move (-1: without end), and the bytes
- * moved so far. A write to a closed pipe, not to a closed socket, raises SIGPIPE. The owner may write all of it. */
+/* A context for companion_socket_send and companion_socket_receive: an open socket or pipe, how long
+ * to wait for a move (-1: without end), and the bytes moved so far. Its owner may write all of it. */
 struct companion_socket {
     int fd, milliseconds;
     size_t sent, received;
 };
-ptrdiff_t companion_socket_send(void *socket, const uint8_t *bytes, size_t len);
-ptrdiff_t companion_socket_receive(void *socket, uint8_t *bytes, size_t len);
 
-/** Send, or receive, all of len bytes.  Fails, as does every call that is lent a link: _CLOSED, _NOT_MOVED. */
-struct companion_status companion_send(const struct companion_link *link, const void *bytes, size_t len);
-struct companion_status companion_receive(const struct companion_link *link, void *bytes, size_t len);
-
-/** Same dealing: exchange the heads of records (field, sizes, code key, label) and compare, of one dealing with an end here
- *  and one there, or of both dealings of a pair, of which nothing is used before. Records with equal heads need not have been
- *  dealt together: that is companion_check's.  Fails: _OTHER_DEALING, _OUT_OF_STEP. */
-struct companion_status companion_compare(const struct companion_link *link, const struct companion_end *end);
-struct companion_status companion_compare_pair(const struct companion_link *link, struct companion_pair *pair);
-
-/** Dealt together: open the triples of a window, which then serve nothing else, and test whether they hold. Records that fit at
- *  no output, as those of two dealings under one head, pass with chance 2^-count; records that fit at a share s of the outputs,
- *  as one that was altered in part, with chance ((1 + s) / 2)^count. Both take pads' bits as random. Not found out: an end that
- *  lies in this call; what does not fit at outputs outside the window. Both ends know u of the window afterwards.
- *  Fails: _NOT_PAIRED, _OUT_OF_STEP, _NOT_BITS; as companion_add_triples. */
-struct companion_status companion_check(const struct companion_link *link, const struct companion_pair *pair, size_t first,
-                                        size_t count);
-
-/* A stock in a file or, with path NULL, in memory alone. */
+/* A stock that is kept in a file or, where path is NULL, in memory alone. */
 struct companion_stock {
     struct expander_stock stock;
     char *path;
     int lock;
 };
 
-/** Create a stock and its file (none, with path NULL), or open that of a file, which is to have the label. While it is open
- *  PATH.lock is locked; PATH.new is the next file until it is whole. A draw or passage is saved (written, synced, renamed, the
- *  folder synced) before its window is given, so that the file is never older than what was handed out. A crash costs the draw
- *  that was being saved: its indices may be spent and used by nobody. NOT PREVENTED: a file that is restored from a backup
- *  hands indices out again.  Fails: 2, 16 (create); 21, 14 (open); _FILE.., _NO_MEMORY. */
-struct companion_status companion_create_stock(const char *path, struct expander_label label, size_t outputs,
-                                               const uint32_t *shares, size_t shares_len, struct companion_stock *stock);
-struct companion_status companion_open_stock(const char *path, struct expander_label label, struct companion_stock *stock);
-void companion_close_stock(struct companion_stock *stock);
-
-/** Draw the caller's next count indices. With a link (else NULL) the far end draws too: both say where they stand, and the one
- *  behind, after a crash, first spends what the other has spent. The stock is as it was where it fails, but where the folder's
- *  sync did, the indices are spent.  Fails: 21, 14, 15; _FILE; _OUT_OF_STEP, _OTHER_DEALING. */
-struct companion_status companion_draw(struct companion_stock *stock, const struct companion_link *link,
-                                       struct expander_label label, size_t caller, size_t count, size_t *first);
-
-/** Pass what is left to a fresh dealing, or pair, of a higher label; the stock likewise.  Fails: 2, 20, 16; _FILE. */
-struct companion_status companion_pass(struct companion_stock *stock, struct expander_label label, size_t outputs);
-
-/* A wire: inputs first, then gates. A word is wires, lowest bit first. */
+/* A wire of a circuit: inputs first, then gates. A word is wires, lowest bit first. */
 typedef uint16_t companion_wire;
 
-/* Who gives an input (one of them), and to whom an output is opened. */
-#define COMPANION_ROLE_1 1
-#define COMPANION_ROLE_2 2
-#define COMPANION_BOTH 3
-
-/* Forms: RIPPLE has the fewest ANDs, and as many rounds as bits; FLAT (prefix) has about log2 of them. */
-#define COMPANION_RIPPLE 0
-#define COMPANION_FLAT 1
-
-/* A circuit that is being built, all 0 at first; 57 KB. After the first fault nothing more is made: fault holds its number,
- * wires are 0, and what takes the circuit fails with it. Roles may be written once all is made. */
+/* A circuit that is being built, all 0 at first; 57 KB. After the first fault nothing more is made:
+ * fault holds its number, wires that are returned are 0, and calls that take the circuit fail with it.
+ * Roles may be written once all is made. */
 struct companion_circuit {
     uint32_t fault;
     size_t inputs, gates, outputs, input_words, output_words;
     companion_wire zero, one; /* the constants, once made */
-    struct { uint8_t kind; companion_wire left, right; } gate[EXPANDER_WIRES_MAX];
+    struct {
+        uint8_t kind; /* as in expander.h; a NOT has the same wire twice */
+        companion_wire left, right;
+    } gate[EXPANDER_WIRES_MAX];
     companion_wire output[EXPANDER_CIRCUIT_OUTPUTS_MAX];
     uint16_t input_width[EXPANDER_WIRES_MAX], output_width[EXPANDER_CIRCUIT_OUTPUTS_MAX];
     uint8_t input_role[EXPANDER_WIRES_MAX], output_role[EXPANDER_CIRCUIT_OUTPUTS_MAX];
 };
 
-/* Enough for the bytes of any circuit, and for the characters of any Bristol text that is written. */
-#define COMPANION_CIRCUIT_MAX (9 + 5 * EXPANDER_WIRES_MAX + 2 * EXPANDER_CIRCUIT_OUTPUTS_MAX)
-#define COMPANION_BRISTOL_MAX (64 + 32 * EXPANDER_WIRES_MAX + 32 * EXPANDER_CIRCUIT_OUTPUTS_MAX)
+/** Say in a sentence what a status means, naming the call and what was tested.
+ *
+ *  In:       status
+ *  Out:      text: a C string, cut off where it is longer; text_len is at least 1, and 300 are always
+ *                  enough
+ */
+void companion_text(struct companion_status status, char *text, size_t text_len);
 
-/** A word of inputs, before any gate; a word of outputs.  Faults: _BAD_WORD, _LATE_INPUT, _WIRES, _OUTPUTS, _BAD_WIRE. */
-void companion_input(struct companion_circuit *circuit, uint8_t role, companion_wire *word, size_t width);
-void companion_output(struct companion_circuit *circuit, uint8_t role, const companion_wire *word, size_t width);
+/** Say what a call of expander.h tests for a number, or what a number of the companion's own means.
+ *
+ *  Returns:  a text that stays
+ *  In:       call:   the call's name, "expander_deal"; from 100 on it does not count
+ *            number: 0 to 21, or 100 to 133
+ */
+const char *companion_meaning(const char *call, uint32_t number);
 
-/** Gates, and constants (once there is an input). Where a constant settles a gate none is made.  Faults: _WIRES, _BAD_WIRE. */
-companion_wire companion_xor(struct companion_circuit *circuit, companion_wire left, companion_wire right);
-companion_wire companion_and(struct companion_circuit *circuit, companion_wire left, companion_wire right);
+/** Write zeros that the compiler does not leave out. */
+void companion_wipe(void *memory, size_t len);
+
+/** Deal. All is drawn by getrandom: roots and code key; positions as a uniform choice of t of the N
+ *  places; values 1 in field 1, uniform from 1 to p - 1 in field 2; Delta uniform and not zero.
+ *
+ *  Returns:  0; 1 (field), 2 (a size); COMPANION_NO_RANDOM
+ *  In:       sizes
+ *            label: the caller's, another for each dealing, and higher from season to season
+ *  Out:      dealt: both records, each for its end alone
+ */
+struct companion_status companion_deal(
+    const struct companion_sizes *sizes, struct expander_label label, struct companion_dealt *dealt);
+
+/** The label that stands for a number. */
+struct expander_label companion_label(uint64_t number);
+
+/** Open a record of either end: describe it, find room, expand it offline.
+ *
+ *  Returns:  0; the number of expander_describe; COMPANION_NO_MEMORY
+ *  In:       record: of exactly record_len bytes; it is copied
+ *  Out:      end:    closed by companion_close
+ */
+struct companion_status companion_open(
+    const uint8_t *record, size_t record_len, struct companion_end *end);
+void companion_close(struct companion_end *end);
+
+/** Give the outputs first to first + count - 1 of an end, and in field 1 choices and pads.
+ *
+ *  Returns:  0; 7 (first + count is above n); COMPANION_NO_MEMORY
+ *  In:       end, first, count
+ *  Out:      window: closed by companion_free_window
+ */
+struct companion_status companion_expand(
+    const struct companion_end *end, size_t first, size_t count, struct companion_window *window);
+void companion_free_window(struct companion_window *window);
+
+/** Open both records of an end whose roles are exchanged in two dealings of field 1.
+ *
+ *  Returns:  0; as companion_open; COMPANION_WRONG_RECORD, COMPANION_SAME_LABEL
+ *  In:       noise:  the noise record of one dealing, of exactly noise_len bytes
+ *            scalar: the scalar record of the other, of exactly scalar_len bytes
+ *  Out:      pair:   closed by companion_close_pair
+ */
+struct companion_status companion_open_pair(
+    const uint8_t *noise, size_t noise_len, const uint8_t *scalar, size_t scalar_len,
+    struct companion_pair *pair);
+void companion_close_pair(struct companion_pair *pair);
+
+/** Add the triples of a window of a pair to those that are there.
+ *
+ *  Returns:  0; COMPANION_NOT_COMPARED; 7 (first + count is above a dealing's n);
+ *            COMPANION_NO_MEMORY
+ *  In:       pair, first, count: the window in both dealings, the same at both ends
+ *  Out:      triples: all 0 at first; spent by companion_run, or closed by companion_free_triples
+ *  Failed:   triples are as they were.
+ */
+struct companion_status companion_add_triples(
+    const struct companion_pair *pair, size_t first, size_t count,
+    struct companion_triples *triples);
+void companion_free_triples(struct companion_triples *triples);
+
+/** The two functions of a link over a socket or pipe, whose context is a struct companion_socket. A
+ *  write to a closed socket raises no signal; one to a closed pipe raises SIGPIPE, if the program has
+ *  not turned that off. Where the time is over errno is ETIMEDOUT. */
+ptrdiff_t companion_socket_send(void *socket, const uint8_t *bytes, size_t len);
+ptrdiff_t companion_socket_receive(void *socket, uint8_t *bytes, size_t len);
+
+/** Send, or receive, all of len bytes.
+ *
+ *  Returns:  0; COMPANION_CLOSED, COMPANION_NOT_MOVED
+ */
+struct companion_status companion_send(
+    const struct companion_link *link, const void *bytes, size_t len);
+struct companion_status companion_receive(
+    const struct companion_link *link, void *bytes, size_t len);
+
+/** Same dealing: exchange the heads of records (field, sizes, code key, label), which both ends know,
+ *  and compare them: of one dealing with an end here and an end there, or of both dealings of a pair,
+ *  of which no triples are made before. Records with equal heads need not have been dealt together:
+ *  that is companion_check's.
+ *
+ *  Returns:  0; COMPANION_OTHER_DEALING, COMPANION_OUT_OF_STEP
+ *  In:       link
+ *            end, or pair, whose member compared says afterwards whether it is done
+ */
+struct companion_status companion_compare(
+    const struct companion_link *link, const struct companion_end *end);
+struct companion_status companion_compare_pair(
+    const struct companion_link *link, struct companion_pair *pair);
+
+/** Dealt together: open the triples of a window, which then serve nothing else, and test whether they
+ *  hold.
+ *
+ *  Found out: records that fit at no output, as those of two dealings under one head, pass with chance
+ *  2^-count. Records that fit at a share s of the outputs, as one that was altered in part, pass with
+ *  chance ((1 + s) / 2)^count. Both take pads' bits as random.
+ *  Not found out: an end that lies in this call; what does not fit at outputs outside the window.
+ *  Both ends know u and the triples of the window afterwards.
+ *
+ *  Returns:  0; COMPANION_NOT_PAIRED; COMPANION_OUT_OF_STEP (the far end checks another window);
+ *            COMPANION_NOT_BITS; as companion_add_triples
+ *  In:       link, pair, first, count
+ */
+struct companion_status companion_check(
+    const struct companion_link *link, const struct companion_pair *pair, size_t first,
+    size_t count);
+
+/** Create a stock and its file, or open the stock of a file.
+ *
+ *  A draw or a passage is saved (written, synced, renamed, the folder synced) before its window is
+ *  given, so the file is never older than what was handed out. PATH.new is the next file until it is
+ *  whole. PATH.lock is locked while the stock is open, and stays. A crash costs the draw that was being
+ *  saved: its indices may be spent and used by nobody.
+ *  NOT PREVENTED: a file that is restored from a backup, or reached by another name, hands indices out
+ *  again.
+ *
+ *  Returns:  0; COMPANION_NO_MEMORY; COMPANION_FILE, COMPANION_FILE_IN_USE
+ *            create: 2, 16 (as expander_open_stock); COMPANION_FILE_THERE
+ *            open:   21 (the file's stock has another label), 14 (it has no callers);
+ *                    COMPANION_FILE_DAMAGED
+ *  In:       path:   the file's; where it is NULL, create keeps the stock in memory alone
+ *            label:  of the dealing, or of a pair its label
+ *            outputs, shares: as expander_open_stock has them
+ *  Out:      stock:  closed by companion_close_stock
+ */
+struct companion_status companion_create_stock(
+    const char *path, struct expander_label label, size_t outputs, const uint32_t *shares,
+    size_t shares_len, struct companion_stock *stock);
+struct companion_status companion_open_stock(
+    const char *path, struct expander_label label, struct companion_stock *stock);
+void companion_close_stock(struct companion_stock *stock);
+
+/** Draw a caller's next count indices. With a link the far end draws too: both say where they stand,
+ *  and the one that is behind, after a crash, first spends what the other has spent.
+ *
+ *  Returns:  0; 21, 14, 15 (as expander_draw); COMPANION_FILE; with a link COMPANION_OUT_OF_STEP (the
+ *            far end draws for another caller, or another count), COMPANION_OTHER_DEALING
+ *  In:       link:  or NULL
+ *            label, caller, count: as expander_draw has them
+ *  Out:      stock: after the draw, as its file
+ *            first: the window's first index
+ *  Failed:   the stock is as it was; but where the folder's sync failed the indices are spent.
+ */
+struct companion_status companion_draw(
+    struct companion_stock *stock, const struct companion_link *link, struct expander_label label,
+    size_t caller, size_t count, size_t *first);
+
+/** Pass what is left of a stock to a fresh dealing, or pair, of a higher label.
+ *
+ *  Returns:  0; 2, 20, 16 (as expander_pass_stock); COMPANION_FILE
+ *  In:       label, outputs: of the fresh dealing, or pair
+ *  Out:      stock: after the passage, as its file
+ *  Failed:   the stock is as it was; but where the folder's sync failed it has passed.
+ */
+struct companion_status companion_pass(
+    struct companion_stock *stock, struct expander_label label, size_t outputs);
+
+/** Add a word of inputs, before any gate, or a word of outputs.
+ *
+ *  Faults:   COMPANION_BAD_WORD; COMPANION_LATE_INPUT, COMPANION_WIRES (input); COMPANION_OUTPUTS,
+ *            COMPANION_BAD_WIRE (output)
+ *  In:       role:  who gives it, 1 or 2; to whom it is opened, 1, 2 or COMPANION_BOTH
+ *            width: at least 1
+ *  Out:      word:  of an input, its wires
+ */
+void companion_input(
+    struct companion_circuit *circuit, uint8_t role, companion_wire *word, size_t width);
+void companion_output(
+    struct companion_circuit *circuit, uint8_t role, const companion_wire *word, size_t width);
+
+/** Add a gate, or, once there is an input, give the wire of a constant. Where a constant settles a
+ *  gate none is made. An exclusive or, a NOT and a constant cost nothing to run, an AND a triple.
+ *
+ *  Returns:  the wire
+ *  Faults:   COMPANION_WIRES, COMPANION_BAD_WIRE
+ */
+companion_wire companion_xor(
+    struct companion_circuit *circuit, companion_wire left, companion_wire right);
+companion_wire companion_and(
+    struct companion_circuit *circuit, companion_wire left, companion_wire right);
 companion_wire companion_not(struct companion_circuit *circuit, companion_wire of);
 companion_wire companion_bit(struct companion_circuit *circuit, unsigned bit);
 
-/** Words of width bits. A constant's bits from 64 on are 0. A sum has width + 1 bits, the last the carry; so has a difference,
- *  the last being 1 where a is below b. They overlap neither operand. ANDs: ripple, width; flat, about 3 width (less) and
- *  width (1 + log2 width) (sum, difference); equal, width - 1 in few rounds either way; select, width in one round.
- *  Faults: _BAD_WORD, and as gates. */
-void companion_constant(struct companion_circuit *circuit, uint64_t value, companion_wire *word, size_t width);
-void companion_sum(struct companion_circuit *circuit, int form, const companion_wire *a, const companion_wire *b, size_t width,
-                   companion_wire *sum);
-void companion_difference(struct companion_circuit *circuit, int form, const companion_wire *a, const companion_wire *b,
-                          size_t width, companion_wire *difference);
-companion_wire companion_less(struct companion_circuit *circuit, int form, const companion_wire *a, const companion_wire *b,
-                              size_t width);
-companion_wire companion_equal(struct companion_circuit *circuit, const companion_wire *a, const companion_wire *b, size_t width);
+/** Add what computes on words of width bits, 1 to EXPANDER_WIRES_MAX.
+ *
+ *  ANDs and rounds of a word of w bits alone, the rounds without the last, which opens none:
+ *    sum, difference  ripple w and w; flat about w log2 w and 1 + log2 w
+ *    less             ripple w and w; flat at most 3 w and 1 + log2 w
+ *    equal            w - 1 and log2 w
+ *    select           w and 1
+ *
+ *  Returns:  of less and equal, the wire that is 1 where a is below b, or equal to it; words are read
+ *            as numbers from 0 on
+ *  Faults:   COMPANION_BAD_WORD, COMPANION_WIRES, COMPANION_BAD_WIRE
+ *  In:       form:       COMPANION_RIPPLE or COMPANION_FLAT
+ *            value:      of a constant; its bits from 64 on are 0
+ *            bit, then, otherwise: of select
+ *  Out:      word:       the constant, width wires
+ *            sum:        width + 1 wires, the last the carry
+ *            difference: width + 1 wires, the last 1 where a is below b
+ *            result:     then where bit is 1, otherwise where it is 0; it may be either of the two
+ *  Overlap:  sum and difference overlap neither a nor b.
+ */
+void companion_constant(
+    struct companion_circuit *circuit, uint64_t value, companion_wire *word, size_t width);
+void companion_sum(
+    struct companion_circuit *circuit, int form, const companion_wire *a, const companion_wire *b,
+    size_t width, companion_wire *sum);
+void companion_difference(
+    struct companion_circuit *circuit, int form, const companion_wire *a, const companion_wire *b,
+    size_t width, companion_wire *difference);
+companion_wire companion_less(
+    struct companion_circuit *circuit, int form, const companion_wire *a, const companion_wire *b,
+    size_t width);
+companion_wire companion_equal(
+    struct companion_circuit *circuit, const companion_wire *a, const companion_wire *b,
+    size_t width);
+void companion_select(
+    struct companion_circuit *circuit, companion_wire bit, const companion_wire *then,
+    const companion_wire *otherwise, size_t width, companion_wire *result);
 
-/** Where bit is 1, then; else otherwise. The result may be either of them. */
-void companion_select(struct companion_circuit *circuit, companion_wire bit, const companion_wire *then,
-                      const companion_wire *otherwise, size_t width, companion_wire *result);
+/** Add what gives the least of n words and its number. Words are compared in pairs, and then the
+ *  lesser ones.
+ *
+ *  Faults:   COMPANION_BAD_WORD (also where n (width + bits of number) is above 8,192),
+ *            COMPANION_WIRES, COMPANION_BAD_WIRE
+ *  In:       words:  n words of width bits, one after the other
+ *  Out:      least:  width wires
+ *            number: its number from 0, the lowest of equals, in as many wires as n - 1 has bits
+ *  Overlap:  least and number overlap neither each other nor words.
+ */
+void companion_least(
+    struct companion_circuit *circuit, int form, const companion_wire *words, size_t n,
+    size_t width, companion_wire *least, companion_wire *number);
 
-/** The least of n words, which follow each other, and its number from 0, the lowest of equals, in as many bits as n - 1 takes.
- *  Words are compared in pairs, then the lesser ones. n (width + bits) is at most 8,192. */
-void companion_least(struct companion_circuit *circuit, int form, const companion_wire *words, size_t n, size_t width,
-                     companion_wire *least, companion_wire *number);
+/** Write a circuit's bytes, as expander_circuit_round takes them.
+ *
+ *  Returns:  0; the fault; COMPANION_NO_ROOM
+ *  Out:      bytes:   COMPANION_CIRCUIT_MAX are always enough
+ *            written: how many
+ */
+struct companion_status companion_write(
+    const struct companion_circuit *circuit, uint8_t *bytes, size_t len, size_t *written);
 
-/** The circuit's bytes, for expander_circuit_round.  Fails: the fault; _NO_ROOM. */
-struct companion_status companion_write(const struct companion_circuit *circuit, uint8_t *bytes, size_t len, size_t *written);
+/** Count a circuit's inputs, gates, outputs, ANDs and rounds, by expander_describe_circuit.
+ *
+ *  Returns:  0; the fault; 17 (no inputs, or no outputs)
+ */
+struct companion_status companion_count(
+    const struct companion_circuit *circuit, struct expander_described_circuit *counts);
 
-/** Inputs, gates, outputs, ANDs and rounds, by expander_describe_circuit.  Fails: the fault; 17. */
-struct companion_status companion_count(const struct companion_circuit *circuit, struct expander_described_circuit *counts);
+/** Evaluate a circuit plainly.
+ *
+ *  Returns:  0; the fault; COMPANION_NOT_BITS
+ *  In:       inputs:  a byte 0 or 1 for each input
+ *  Out:      outputs: a byte 0 or 1 for each output
+ */
+struct companion_status companion_evaluate(
+    const struct companion_circuit *circuit, const uint8_t *inputs, uint8_t *outputs);
 
-/** Evaluate plainly: a byte 0 or 1 for each input, and for each output.  Fails: the fault; _NOT_BITS. */
-struct companion_status companion_evaluate(const struct companion_circuit *circuit, const uint8_t *inputs, uint8_t *outputs);
-
-/** A number as bits, lowest first, one byte each, those from 64 on 0; and the number of up to 64 bits. */
+/** Write a number as width bits, lowest first, one byte each, those from 64 on 0; and read back the
+ *  number of up to 64 bits. */
 void companion_to_bits(uint64_t number, uint8_t *bits, size_t width);
 uint64_t companion_from_bits(const uint8_t *bits, size_t width);
 
-/** Read a circuit in Bristol Fashion: XOR, AND, INV, EQ, EQW, MAND; gates in order, wire numbers in any. The first input value
- *  is role 1's and the others role 2's; outputs are opened to both.  Fails, with the line: _TEXT_.., _WIRES, _OUTPUTS. */
-struct companion_status companion_read_bristol(const char *text, size_t text_len, struct companion_circuit *circuit);
+/** Read a circuit in Bristol Fashion: XOR, AND, INV, EQ, EQW, MAND; gates in order, wire numbers in
+ *  any. The first input value is role 1's and all others role 2's; outputs are opened to both.
+ *
+ *  Returns:  0; with the line COMPANION_TEXT_.., COMPANION_WIRES, COMPANION_OUTPUTS
+ *  In:       text: of text_len characters
+ *  Out:      circuit
+ */
+struct companion_status companion_read_bristol(
+    const char *text, size_t text_len, struct companion_circuit *circuit);
 
-/** Write one. Where the outputs are not the last wires EQW makes them so.  Fails: the fault; _NO_ROOM. */
-struct companion_status companion_write_bristol(const struct companion_circuit *circuit, char *text, size_t len, size_t *written);
+/** Write a circuit in Bristol Fashion. Where its outputs are not the last wires EQW makes them so.
+ *
+ *  Returns:  0; the fault; COMPANION_NO_ROOM
+ *  Out:      text:    a C string; COMPANION_BRISTOL_MAX characters are always enough
+ *            written: its length
+ */
+struct companion_status companion_write_bristol(
+    const struct companion_circuit *circuit, char *text, size_t len, size_t *written);
 
-/** Run a circuit jointly. Both ends compare circuit, words of inputs and outputs, and windows of the triples; share their
- *  inputs under random masks; run in rounds; open the outputs.
- *  Fails: the fault; 17, 18; _OUT_OF_STEP, _OTHER_CIRCUIT, _OTHER_SHARES, _OTHER_WINDOWS; _NOT_BITS, 8; _NO_RANDOM, _NO_MEMORY.
- *  In:    role: that of the pair; own: this end's input bits in the circuit's order, a byte each
- *         triples: at least one an AND; spent, wiped and freed, also where the run fails
- *  Out:   outputs: a byte for each output of the circuit, 0 where it is not opened to this end
- *         rounds: how many were made; may be NULL */
-struct companion_status companion_run(const struct companion_link *link, uint8_t role, const struct companion_circuit *circuit,
-                                      const uint8_t *own, struct companion_triples *triples, uint8_t *outputs, size_t *rounds);
+/** Run a circuit jointly. Both ends compare circuit, words of inputs and outputs with their roles, and
+ *  windows of the triples; share their inputs under random masks; run in rounds; open the outputs.
+ *
+ *  Returns:  0; the fault; 17 (no inputs or outputs), 18 (fewer triples than ANDs)
+ *            COMPANION_OUT_OF_STEP, COMPANION_OTHER_CIRCUIT, COMPANION_OTHER_SHARES,
+ *            COMPANION_OTHER_WINDOWS: the far end differs
+ *            COMPANION_NOT_BITS: an input, or the far end's share of an output; 8: another byte of the
+ *            far end's
+ *            COMPANION_BAD_WORD: the role of an input is not 1 or 2; 9: this end's role is not
+ *            COMPANION_NO_RANDOM, COMPANION_NO_MEMORY
+ *  In:       role:    the pair's
+ *            own:     this end's input bits in the circuit's order, a byte 0 or 1 each; NULL if none
+ *  Out:      triples: spent: wiped and freed, also where the run fails
+ *            outputs: a byte for each output of the circuit, 0 where it is not opened to this end
+ *            rounds:  how many were made; may be NULL
+ */
+struct companion_status companion_run(
+    const struct companion_link *link, uint8_t role, const struct companion_circuit *circuit,
+    const uint8_t *own, struct companion_triples *triples, uint8_t *outputs, size_t *rounds);
 
 #ifdef __cplusplus
 }

@@ -1221,6 +1221,14 @@ static void runs(size_t count)
         EXPECT(dues[fault], sides[1].status);
         EXPECT(fault < 5 ? dues[fault] : COMPANION_CLOSED, sides[0].status);
     }
+    for (uint8_t role = 0; role <= COMPANION_BOTH; role += COMPANION_BOTH) { /* an input that no end, or either, gives */
+        prepare(joints, sides, &circuit, due);
+        deal_sides(&larger, 1, sides);
+        joints[0].circuit.input_role[0] = joints[1].circuit.input_role[0] = role;
+        run_both(sides);
+        EXPECT(COMPANION_BAD_WORD, sides[0].status);
+        EXPECT(COMPANION_BAD_WORD, sides[1].status);
+    }
     printf("runs: %zu random circuits as the plain evaluation has them, and 9 ways in which ends differ\n", count);
 }
 
