@@ -10,8 +10,7 @@ use mir.Syntax.{w8}
 use mir.Val.{Fits}
 use Rattle.circuit_run.proofs.Bits.{xor-bit, flipped-bit, share-bit}
 use Rattle.circuit_run.specs.Step.{flipped, andShare}
-use Rattle.circuit_round.specs.Inner.Gates.{inputByte, AndHas, openedBy, andByteBy, localByteBy, byteBy}
-use Rattle.circuit_round.specs.Inner.Passes.{placeAfter, putBits}
+use Rattle.circuit_round.specs.Inner.Gates.{inputByte, AndHas, openedBy, andByteBy, localByteBy, byteBy, placeAfter, putBits}
 use Rattle.circuit_round.specs.Inner.Tests.{waitOf}
 
 -- ---- bytes

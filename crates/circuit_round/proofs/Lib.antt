@@ -3,6 +3,7 @@ mod Leaves
 pub mod Waiting
 pub mod Inputs
 pub mod Gates
+pub mod Opened
 mod Passes
-mod Openings
+mod Outputs
 mod Rounds

@@ -1,7 +1,7 @@
 -- Each return of `round_run` gives what the definition says there. Assumes nothing.
 use Prim.Native.Nat.{ℕ, _+_, _*_, _≤_}
 use mathlib.Core.Bool.{Bool}
-use mathlib.Core.List.{List, _++_}
+use mathlib.Core.List.{List, [], _∷_, _++_}
 use mathlib.Core.Path.{_≡_, refl, sym, ap, _∙_, subst}
 use borrow.Author.Tests.{eq-eqb, ne-eqb}
 use native.Mathlib.Omega.{arith}
@@ -23,13 +23,17 @@ use Rattle.number.proofs.Places.{choose-yes, choose-no}
 use Rattle.number.proofs.Records.{read-refused, read-whole}
 use Rattle.circuit_round.proofs.Gates.{gates-same}
 use Rattle.circuit_round.proofs.Inputs.{inputs-length}
-use Rattle.circuit_round.specs.Inner.Passes.{CanPass, Passes, passedOn, CanOpen, Tested, acceptedOn, roundedWith}
+use Rattle.circuit_round.specs.Inner.Passes.{CanPass, Passes, passedOn, Tested, acceptedOn, roundedWith}
 use Rattle.circuit_round.specs.Inner.Tests.{askedTests}
 use Rattle.circuit_round.specs.Round.{RoundLent, roundWith, RoundOutcome, roundOutcome, rounded, sharesIn, stateWith, waiting, waitingIn, roundTests, inputBytes, gateByte, wiresAfter, bitsToSend, withBits, withOutputs, acceptedRound, refusedRound, round}
 use Rattle.circuit_round.specs.declared.RoundState.{RoundState}
 use Rattle.circuit_round.specs.declared.Rounded.{Rounded}
 
 -- ---- a round that has passed every test
+
+empty : (l : List ℕ) → length l ≡ 0 → l ≡ []
+empty [] e = refl
+empty (x ∷ l) e = absurd (omega arith)
 
 module _ {s : List ℕ} {f : Front} {shares triples : List ℕ} (output : List ℕ) {far : List ℕ} (bits : List ℕ) {before : List ℕ}
     (t : Tested s f shares triples (length output) far (length bits) before) where
@@ -51,19 +55,20 @@ module _ {s : List ℕ} {f : Front} {shares triples : List ℕ} (output : List �
     same : drop (c .inputs) taken ≡ drop (c .inputs) before
     same = subst (λ (n : ℕ). drop n taken ≡ drop n before) (t .opens .inputs) back
 
-    pub can-pass : CanPass s f triples far taken
+    pub can-pass : CanPass s f triples far (length bits) taken
     can-pass =
         record {
           enough = t .enough;
           places = t .places ∙ ap (λ (d : List ℕ). 2 * waiting (take (length (c .gates)) d)) (sym same);
           tripleBits = t .tripleBits;
           farBits = t .farBits;
+          room = t .bits;
           long =
               ap length e ∙ length-append (inputBytes shares before) (drop (length shares) before)
               ∙ omega (arith, size, t .inputs, length-drop (length shares) before, t .long, t .opens .most);
         }
 
-    module _ {role q : ℕ} {wires : List ℕ} (p : Passes s f role triples far taken q wires) where
+    module _ {role q : ℕ} {bits′ wires : List ℕ} (p : Passes s f role triples far bits taken q bits′ wires) where
       abbrev l : RoundLent
       l = roundWith role s shares triples output far bits
 
@@ -82,36 +87,37 @@ module _ {s : List ℕ} {f : Front} {shares triples : List ℕ} (output : List �
           (rest ∙ ap (λ (k : ℕ). drop k before) n)
 
       pub round-finishes : q ≡ 0 → {x : List ℕ} → x ≡ atWires (sharesIn wires) (content s .outputs) ++ drop (f .outputs) output
-          → roundOutcome 0 (f .outputs) 0 (stateWith wires) (roundWith role s shares triples x far bits)
+          → roundOutcome 0 (f .outputs) 0 (stateWith wires) (roundWith role s shares triples x far bits′)
           ≡ acceptedOn (content s) (roundWith role s shares triples output far bits) before
       unfolding acceptedOn acceptedRound withOutputs
       round-finishes none {x} w =
           let o = t .opens .outputs in
-          let g : roundWith role s shares triples x far bits ≡ withOutputs c l wires =
-          ap (λ (y : List ℕ). roundWith role s shares triples y far bits) (w ∙ ap (λ (n : ℕ). atWires (sharesIn wires) (c .outputs) ++ drop n output) o) in
+          let kept : bits′ ≡ bits =
+          p .sent ∙ ap (λ (y : List ℕ). y ++ drop q bits) (empty (bitsToSend c triples wires) (sym (p .counted) ∙ none)) ∙ ap (λ (n : ℕ). drop n bits) none in
+          let g : roundWith role s shares triples x far bits′ ≡ withOutputs c l wires =
+          ap (λ (y : List ℕ). roundWith role s shares triples x far y) kept
+          ∙ ap (λ (y : List ℕ). roundWith role s shares triples y far bits)
+          (w ∙ ap (λ (n : ℕ). atWires (sharesIn wires) (c .outputs) ++ drop n output) o) in
           ap (λ (y : RoundLent). roundOutcome 0 (f .outputs) 0 (stateWith wires) y) g
           ∙ ap (λ (n : ℕ). roundOutcome 0 n 0 (stateWith wires) (withOutputs c l wires)) o
           ∙ sym (choose-yes {A = RoundOutcome} (roundOutcome 0 (length (c .outputs)) 0 (stateWith wires) (withOutputs c l wires)) _
-          (eq-eqb (waitingIn c wires) 0 (sym (p .opened) ∙ none)))
+          (eq-eqb (waitingIn c wires) 0 (omega (arith, p .waited))))
           ∙ ap (acceptedRound c l) wires-are
 
-      pub round-opens : (q ≡ 0 → ⊥) → {r : ℕ} {x : List ℕ} → r ≡ length (bitsToSend (content s) triples wires)
-          → x ≡ bitsToSend (content s) triples wires ++ drop r bits
-          → roundOutcome 0 0 r (stateWith wires) (roundWith role s shares triples output far x)
+      pub round-opens : (q ≡ 0 → ⊥)
+          → roundOutcome 0 0 q (stateWith wires) (roundWith role s shares triples output far bits′)
           ≡ acceptedOn (content s) (roundWith role s shares triples output far bits) before
       unfolding acceptedOn acceptedRound withBits
-      round-opens some {r} {x} e₁ w =
-          let g : roundWith role s shares triples output far x ≡ withBits c l wires =
-          ap (λ (y : List ℕ). roundWith role s shares triples output far y) (w ∙ ap (λ (n : ℕ). bitsToSend c triples wires ++ drop n bits) e₁) in
-          ap (λ (y : RoundLent). roundOutcome 0 0 r (stateWith wires) y) g
+      round-opens some =
+          let e₁ = p .counted in
+          let g : roundWith role s shares triples output far bits′ ≡ withBits c l wires =
+          ap (λ (y : List ℕ). roundWith role s shares triples output far y)
+          (p .sent ∙ ap (λ (n : ℕ). bitsToSend c triples wires ++ drop n bits) e₁) in
+          ap (λ (y : RoundLent). roundOutcome 0 0 q (stateWith wires) y) g
           ∙ ap (λ (n : ℕ). roundOutcome 0 0 n (stateWith wires) (withBits c l wires)) e₁
           ∙ sym (choose-no {A = RoundOutcome} _ (roundOutcome 0 0 (length (bitsToSend c triples wires)) (stateWith wires) (withBits c l wires))
-          (ne-eqb (waitingIn c wires) 0 (λ z. some (p .opened ∙ z))))
+          (ne-eqb (waitingIn c wires) 0 (λ z. some (omega (arith, p .waited)))))
           ∙ ap (acceptedRound c l) wires-are
-
-pub can-open : {s : List ℕ} {f : Front} {shares triples : List ℕ} {room : ℕ} {far : List ℕ} {space : ℕ} {before taken wires : List ℕ} {role q : ℕ}
-    → Tested s f shares triples room far space before → Passes s f role triples far taken q wires → CanOpen s f triples wires space
-can-open t p = record { enough = t .enough; room = omega (arith, p .opened, p .few, t .bits); only = p .only; long = p .long }
 
 -- ---- the call
 

@@ -6,7 +6,6 @@ ghost use Rattle.circuit_round.specs.Inner.Passes.{Tested, acceptedOn};
 ghost use Rattle.circuit_round.specs.Round.{roundWith, roundOutcome, stateWith};
 use crate::passing::pass_gates;
 use crate::passing::take_inputs;
-use crate::writing::write_bits;
 use crate::writing::write_shares;
 use circuit::Front;
 
@@ -36,15 +35,14 @@ pub fn accepted_round(
         (now (output .entry)) (now («far_bits» .entry)) (now («bits_out» .entry))) (now (wires .entry)) ⌝ }
 {
     take_inputs(shares, wires);
-    let opened = pass_gates(circuit, front, role, triples, far_bits, wires);
-    if opened == 0 {
+    let bits = pass_gates(circuit, front, role, triples, far_bits, bits_out, wires);
+    if bits == 0 {
         write_shares(circuit, front, wires, output);
         return Lengths {
             written: front.outputs,
             bits_written: 0,
         };
     }
-    let bits = write_bits(circuit, front, triples, wires, bits_out);
     Lengths {
         written: 0,
         bits_written: bits,

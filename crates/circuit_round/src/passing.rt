@@ -8,6 +8,7 @@ ghost use Rattle.circuit_round.specs.Inner.Gates.{inputByte, AndHas, ope
 ghost use Rattle.circuit_round.specs.Inner.Passes.{CanPass, Passes};
 ghost use Rattle.circuit_round.specs.Round.{inputBytes};
 use crate::input::wait_of;
+use crate::writing::put_bits;
 use circuit::Front;
 use circuit::and_of;
 use circuit::known_gate;
@@ -123,24 +124,26 @@ fn gate_byte(
     local_byte(role, kind, x, y)
 }
 
-// Passes over the gates; how many of them wait afterwards.
+// Passes over the gates and puts the bits of those that wait afterwards; how many bits they are.
 pub fn pass_gates(
     source: &[u8],
     front: Front,
     role: u8,
     triples: &[u8],
     far_bits: &[u8],
+    bits_out: &mut [u8],
     wires: &mut [u8; 4096],
 ) -> usize
-    requires { ⌜ HasFront (now source) front × CanPass (now source) front (now triples) (now «far_bits») (now wires) ⌝ }
-    ensures { λ r. ⌜ Passes (now (source .entry)) front role (now (triples .entry)) (now («far_bits» .entry)) (now (wires .entry)) r (now (wires .exit)) ⌝ }
+    requires { ⌜ HasFront (now source) front × CanPass (now source) front (now triples) (now «far_bits») (length (now «bits_out»)) (now wires) ⌝ }
+    ensures { λ r. ⌜ Passes (now (source .entry)) front role (now (triples .entry)) (now («far_bits» .entry))
+        (now («bits_out» .entry)) (now (wires .entry)) r (now («bits_out» .exit)) (now (wires .exit)) ⌝ }
 {
     let inputs = front.inputs;
     let gates = front.gates;
     let mut at = front.body;
     let mut ands: usize = 0;
     let mut passed: usize = 0;
-    let mut opened: usize = 0;
+    let mut place: usize = 0;
     let mut i: usize = 0;
     while i < gates {
         let wire = inputs + i;
@@ -148,23 +151,15 @@ pub fn pass_gates(
         let first = g.first;
         let second = g.second;
         let before = wires[wire];
-        let after = gate_byte(
-            role,
-            g.kind,
-            before,
-            wires[first],
-            wires[second],
-            triples,
-            ands,
-            far_bits,
-            passed,
-        );
+        let x = wires[first];
+        let y = wires[second];
+        let after = gate_byte(role, g.kind, before, x, y, triples, ands, far_bits, passed);
         wires[wire] = after;
+        place = put_bits(after, x, y, triples, ands, bits_out, place);
         ands += and_of(g.kind);
         passed += wait_of(before);
-        opened += wait_of(after);
         at = g.next;
         i += 1;
     }
-    opened
+    place
 }

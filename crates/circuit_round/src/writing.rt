@@ -5,15 +5,13 @@ ghost use Prim.Native.Nat.{_+_, _*_, _<_, _≤_};
 ghost use lib.ListN.{length, drop};
 ghost use Rattle.circuit.specs.Answer.{content, HasFront};
 ghost use Rattle.circuit.specs.Value.{atWires};
-ghost use Rattle.circuit_round.specs.Inner.Passes.{placeAfter, putBits, CanOpen};
-ghost use Rattle.circuit_round.specs.Round.{sharesIn, bitsToSend};
+ghost use Rattle.circuit_round.specs.Inner.Gates.{placeAfter, putBits};
+ghost use Rattle.circuit_round.specs.Round.{sharesIn};
 use circuit::Front;
-use circuit::and_of;
-use circuit::known_gate;
 use circuit::known_wire;
 
 // Puts the two bits of a gate that waits, its wires' bytes given; the place after them.
-fn put_bits(
+pub fn put_bits(
     byte: u8,
     x: u8,
     y: u8,
@@ -32,46 +30,6 @@ fn put_bits(
     bits_out[place] = x % 2 ^ triples[at];
     bits_out[place + 1] = y % 2 ^ triples[at + 1];
     place + 2
-}
-
-// Writes the bits to send, two for each gate that waits; how many they are.
-pub fn write_bits(
-    source: &[u8],
-    front: Front,
-    triples: &[u8],
-    wires: &[u8; 4096],
-    bits_out: &mut [u8],
-) -> usize
-    requires { ⌜ HasFront (now source) front × CanOpen (now source) front (now triples) (now wires) (length (now «bits_out»)) ⌝ }
-    ensures { λ r. ⌜ (r ≡ length (bitsToSend (content (now (source .entry))) (now (triples .entry)) (now (wires .entry))))
-        × (now («bits_out» .exit)
-        ≡ bitsToSend (content (now (source .entry))) (now (triples .entry)) (now (wires .entry)) ++ drop r (now («bits_out» .entry))) ⌝ }
-{
-    let inputs = front.inputs;
-    let gates = front.gates;
-    let mut at = front.body;
-    let mut ands: usize = 0;
-    let mut place: usize = 0;
-    let mut i: usize = 0;
-    while i < gates {
-        let wire = inputs + i;
-        let g = known_gate(source, at, wire);
-        let first = g.first;
-        let second = g.second;
-        place = put_bits(
-            wires[wire],
-            wires[first],
-            wires[second],
-            triples,
-            ands,
-            bits_out,
-            place,
-        );
-        ands += and_of(g.kind);
-        at = g.next;
-        i += 1;
-    }
-    place
 }
 
 // Writes the shares of the output wires.

@@ -3,7 +3,7 @@ use Prim.Native.Nat.{ℕ, _+_, _*_, _≤_, _<_}
 use mathlib.Core.List.{List}
 use lib.Bits.{bitXor}
 use lib.Dec.{eqb}
-use lib.ListN.{length, getD}
+use lib.ListN.{length, getD, set}
 use Rattle.algebra.specs.Choice.{choose}
 use Rattle.circuit_run.specs.Step.{flipped, tripleFirst, tripleSecond, tripleThird, andShare}
 use Rattle.circuit_round.specs.Round.{waits, isKnown, shareOf, knownAs}
@@ -43,3 +43,13 @@ localByteBy role kind x y =
 unfoldable pub byteBy : ℕ → ℕ → ℕ → ℕ → ℕ → List ℕ → ℕ → List ℕ → ℕ → ℕ
 byteBy role kind byte x y triples ands far passed =
     choose (isKnown byte) byte (choose (eqb kind 2) (andByteBy role byte x y triples ands far passed) (localByteBy role kind x y))
+
+-- the place after the bits of a gate, and the bits with those of a gate
+abbrev pub placeAfter : ℕ → ℕ → ℕ
+placeAfter byte place = choose (waits byte) (place + 2) place
+
+unfoldable pub putBits : ℕ → ℕ → ℕ → List ℕ → ℕ → ℕ → List ℕ → List ℕ
+putBits byte x y triples ands place bits =
+    choose (waits byte)
+    (set (set bits place (bitXor (shareOf x) (tripleFirst triples ands))) (place + 1) (bitXor (shareOf y) (tripleSecond triples ands)))
+    bits

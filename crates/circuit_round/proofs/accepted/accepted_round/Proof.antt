@@ -1,5 +1,5 @@
 -- `circuit_round::accepted::accepted_round` meets its contract: one law for each need. Assumes nothing.
-use Rattle.circuit_round.proofs.Rounds.{can-pass, can-open, round-finishes, round-opens}
+use Rattle.circuit_round.proofs.Rounds.{can-pass, round-finishes, round-opens}
 use borrow.Author.Needs.{needs}
 use Rattle.circuit_round.proofs.accepted.accepted_round.Statement.{statement}
 use Rattle.circuit_round.proofs.accepted.accepted_round.Tie as tie
@@ -12,8 +12,8 @@ accepted-round-spec =
     (λ c κs. (search needs, search can-pass))  -- pass-gates-requires
     (λ c κs. search needs)  -- write-shares-requires
     (λ c. search needs)  -- same-length
-    (λ c. search round-finishes)  -- returns
-    (λ c κs. (search needs, search (can-open, c .before .before .before .pass-gates .ensures)))  -- write-bits-requires
     (λ c. search needs)  -- same-length-2
+    (λ c. search round-finishes)  -- returns
+    (λ c. search needs)  -- same-length-3
     (λ c. search round-opens)  -- returns-2
     )
