@@ -510,7 +510,8 @@ struct companion_status companion_write_bristol(
  *            COMPANION_NO_RANDOM, COMPANION_NO_MEMORY
  *  In:       role:    the pair's
  *            own:     this end's input bits in the circuit's order, a byte 0 or 1 each; NULL if none
- *  Out:      triples: spent: wiped and freed, also where the run fails
+ *  Out:      triples: spent: wiped and freed, also where the run fails; their windows serve no other
+ *                     run, nor this one made again
  *            outputs: a byte for each output of the circuit, 0 where it is not opened to this end
  *            rounds:  how many were made; may be NULL
  */
