@@ -41,6 +41,22 @@ accepted-now tests refusal acceptance x e g = accepted-with tests refusal accept
 pub accepted-if : {O : Type 0} (tests : List Test) (refusal : ℕ → O) (acceptance : O) → AllMet tests → answered tests refusal acceptance ≡ acceptance
 accepted-if tests refusal acceptance m = sym (accepted-now tests refusal acceptance acceptance (sym (no-fault tests m)) refl)
 
+-- what holds of each refusal and of what is accepted
+pub answered-either : {O : Type 0} (Q : O → Type 0) (tests : List Test) (refusal : ℕ → O) (acceptance : O) → ((n : ℕ) → Q (refusal n)) → Q acceptance
+    → Q (answered tests refusal acceptance)
+unfolding answered byNumber
+answered-either Q tests refusal acceptance refuses accepts = by (firstFault tests)
+  where
+    by : (n : ℕ) → Q (byNumber n refusal acceptance)
+    by zero = accepts
+    by (suc n) = refuses (suc n)
+
+-- tests with the same first fault
+pub answered-same : {O : Type 0} (tests others : List Test) (refusal : ℕ → O) (acceptance : O) → firstFault tests ≡ firstFault others
+    → answered tests refusal acceptance ≡ answered others refusal acceptance
+unfolding answered
+answered-same tests others refusal acceptance e = ap (λ (n : ℕ). byNumber n refusal acceptance) e
+
 -- a number and lengths, refused
 refused-is : {Written Lent : Type 0} (zeros : Written) (lent : Lent) (tests : List Test) (acceptance : Outcome Written Lent) (n : ℕ)
     → n ≡ firstFault tests → eqb n 0 ≡ false
@@ -103,6 +119,9 @@ module _ {Written Lent : Type 0} (zeros written : Written) (lent after : Lent) (
 
   pub outcome-accepts : numbered tests ≡ true → AllMet tests ↔ call .number ≡ 0
   outcome-accepts = accepts-by (λ (o : Outcome Written Lent). o .number) _ _ (λ n. refl) refl tests
+
+  pub outcome-number : call .number ≡ firstFault tests
+  outcome-number = number-of (λ (o : Outcome Written Lent). o .number) _ _ (λ n. refl) refl tests
 
   pub outcome-is : call .number ≡ 0 → call ≡ wrote written after
   outcome-is = accepted-is (λ (o : Outcome Written Lent). o .number) _ _ (λ n. refl) refl tests

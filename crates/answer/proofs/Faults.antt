@@ -1,16 +1,17 @@
 -- The first fault of a list of tests, one by one as code has them, and what is known where there is none. `chain` closes each return of
 -- a function that gives a call's number.
 use mathlib.Core.Path.{_≡_, refl, sym, _∙_}
-use mathlib.Core.Bool.{Bool, true, false, false≢true}
-use mathlib.Core.List.{List, [], _∷_}
+use mathlib.Core.Bool.{Bool, true, false, not, false≢true}
+use mathlib.Core.List.{List, [], _∷_, _++_}
 use Prim.Native.Nat.{ℕ, zero, suc, _≤_, _<_}
 use native.Mathlib.Omega.{arith}
 use lib.Dec.{ltb, leb, eqb}
-use borrow.Author.Tests.{leb-true, ltb-true, ltb-false, eqb-true, le-leb, lt-leb, lt-ltb, le-ltb, eq-eqb, ne-eqb, not-true, not-false}
+use borrow.Author.Tests.{leb-true, ltb-true, ltb-false, eqb-true, eqb-false, le-leb, lt-leb, lt-ltb, le-ltb, eq-eqb, ne-eqb, not-true, not-false}
 use Rattle.algebra.specs.Choice.{choose}
+use Rattle.algebra.proofs.Tests.{and-left, and-right}
 use Rattle.answer.specs.Bytes.{anyAbove}
 use Rattle.answer.specs.Tests.{Ask, _is_, _atMost_, allAtMost, holds, Says, isMet, Test, _or_, firstFault, AllSaid, AllMet}
-use Rattle.answer.specs.Inner.Numbered.{numbered}
+use Rattle.answer.specs.Inner.Numbered.{numbered, apart}
 use Rattle.answer.proofs.Above.{none-above, above-none}
 
 -- ---- a test is met or not, by what the code has
@@ -57,15 +58,21 @@ module _ (a b : ℕ) where
   unfolding isMet
   not-below = le-ltb a b
 
--- by a function that gives the most
-module _ (a b most : ℕ) (e : most ≡ b) where
-  pub at-most-given : a ≤ most → isMet (a atMost b) ≡ true
+-- by a function that gives the other number
+module _ (a b given : ℕ) (e : given ≡ b) where
+  pub is-given : a ≡ given → isMet (a is b) ≡ true
+  is-given h = is-so a b (h ∙ e)
+
+  pub is-not-given : (a ≡ given → ⊥) → isMet (a is b) ≡ false
+  is-not-given h = is-not a b (λ g. h (g ∙ sym e))
+
+  pub at-most-given : a ≤ given → isMet (a atMost b) ≡ true
   at-most-given h = at-most a b (omega arith)
 
-  pub above-given : most < a → isMet (a atMost b) ≡ false
+  pub above-given : given < a → isMet (a atMost b) ≡ false
   above-given h = above a b (omega arith)
 
--- by a function that gives what has to be at most that
+-- or the one that is to be at most another
 module _ (a b given : ℕ) (e : given ≡ a) where
   pub given-at-most : given ≤ b → isMet (a atMost b) ≡ true
   given-at-most h = at-most a b (omega arith)
@@ -168,3 +175,52 @@ unfaulted (a or n ∷ tests) s = rw (meets a (s .0)) (unfaulted tests (s .1))
 
 pub no-fault : (tests : List Test) → AllMet tests → firstFault tests ≡ 0
 no-fault tests m = unfaulted tests (m .all)
+
+-- ---- tests after others
+
+-- with the others met, the first fault is theirs
+after-said : (tests more : List Test) → AllSaid tests → firstFault (tests ++ more) ≡ firstFault more
+unfolding firstFault
+after-said [] more s = refl
+after-said (a or n ∷ tests) more s = rw (meets a (s .0)) (after-said tests more (s .1))
+
+pub fault-after : (tests more : List Test) (n k : ℕ) → numbered tests ≡ true → n ≡ firstFault tests → n ≡ 0 → k ≡ firstFault more
+    → k ≡ firstFault (tests ++ more)
+fault-after tests more n k r e z g = g ∙ sym (after-said tests more (admitted-by tests n r e z .all))
+
+-- a fault before them stays the first
+pub fault-before : (tests more : List Test) (n : ℕ) → n ≡ firstFault tests → (n ≡ 0 → ⊥) → n ≡ firstFault (tests ++ more)
+unfolding firstFault
+fault-before [] more n e h = absurd (h e)
+fault-before (a or k ∷ tests) more n e h = by (isMet a) e (λ g. fault-before tests more n g h)
+  where
+    by : (t : Bool) → n ≡ choose t (firstFault tests) k → (n ≡ firstFault tests → n ≡ firstFault (tests ++ more))
+        → n ≡ choose t (firstFault (tests ++ more)) k
+    by true g later = later g
+    by false g later = g
+
+-- a last test: a number that is not its own is that of the tests before it
+pub last-not : (a : Ask) (k : ℕ) (tests : List Test) → (firstFault (tests ++ (a or k ∷ [])) ≡ k → ⊥)
+    → firstFault (tests ++ (a or k ∷ [])) ≡ firstFault tests
+unfolding firstFault
+last-not a k [] = by (isMet a)
+  where
+    by : (t : Bool) → (choose t 0 k ≡ k → ⊥) → choose t 0 k ≡ 0
+    by true h = refl
+    by false h = absurd (h refl)
+last-not a k (b or n ∷ tests) = by (isMet b) (last-not a k tests)
+  where
+    by : (t : Bool) {x y : ℕ} → ((x ≡ k → ⊥) → x ≡ y) → (choose t x n ≡ k → ⊥) → choose t x n ≡ choose t y n
+    by true later h = later h
+    by false later h = refl
+
+-- and its own, which is no other test's, says that those are met
+pub last-only : (a : Ask) (k : ℕ) (tests : List Test) → apart k tests ≡ true → firstFault (tests ++ (a or k ∷ [])) ≡ k → firstFault tests ≡ 0
+unfolding firstFault
+last-only a k [] r e = refl
+last-only a k (b or n ∷ tests) r e =
+    by (isMet b) (last-only a k tests (and-right (not (eqb n k)) (apart k tests) r)) (not-true (eqb n k) (and-left (not (eqb n k)) (apart k tests) r)) e
+  where
+    by : (t : Bool) {x y : ℕ} → (x ≡ k → y ≡ 0) → eqb n k ≡ false → choose t x n ≡ k → choose t y n ≡ 0
+    by true later other g = later g
+    by false later other g = absurd (eqb-false n k other g)

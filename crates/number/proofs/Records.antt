@@ -11,3 +11,10 @@ module _ {A O : Type 0} (r : Reading A) (refusal : ℕ → O) (answer : A → O)
   pub read-whole : (x : A) → r ≡ Whole x → y ≡ answer x → y ≡ afterReading r refusal answer
   unfolding afterReading
   read-whole x e g = rw e g
+
+-- what holds of each refusal and of each answer
+pub read-either : {A O : Type 0} (Q : O → Type 0) (r : Reading A) (refusal : ℕ → O) (answer : A → O) → ((n : ℕ) → Q (refusal n)) → ((x : A) → Q (answer x))
+    → Q (afterReading r refusal answer)
+unfolding afterReading
+read-either Q (Whole x) refusal answer refuses answers = answers x
+read-either Q (Refused n) refusal answer refuses answers = refuses n
