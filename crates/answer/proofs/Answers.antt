@@ -51,6 +51,16 @@ answered-either Q tests refusal acceptance refuses accepts = by (firstFault test
     by zero = accepts
     by (suc n) = refuses (suc n)
 
+-- what is made of a call's answer, made of its refusal and of its acceptance
+pub answered-map : {O R : Type 0} (f : O → R) (tests : List Test) (refusal : ℕ → O) (acceptance : O)
+    → f (answered tests refusal acceptance) ≡ answered tests (λ n. f (refusal n)) (f acceptance)
+unfolding answered byNumber
+answered-map {O} {R} f tests refusal acceptance = by (firstFault tests)
+  where
+    by : (n : ℕ) → f (byNumber n refusal acceptance) ≡ byNumber n (λ k. f (refusal k)) (f acceptance)
+    by zero = refl
+    by (suc n) = refl
+
 -- tests with the same first fault
 pub answered-same : {O : Type 0} (tests others : List Test) (refusal : ℕ → O) (acceptance : O) → firstFault tests ≡ firstFault others
     → answered tests refusal acceptance ≡ answered others refusal acceptance

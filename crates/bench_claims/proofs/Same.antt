@@ -1,21 +1,20 @@
 -- The expansion for the bench is the online call on the record's offline vectors, at both ends.
 use mathlib.Core.Path.{_≡_, refl, sym, ap, ap₂, _∙_}
-use mathlib.Core.Bool.{Bool, true, false, not, _||_}
-use mathlib.Core.List.{List, [], _∷_, _++_}
+use mathlib.Core.Bool.{false}
+use mathlib.Core.List.{List, _++_}
 use Prim.Native.Nat.{ℕ, suc, _+_, _*_, _≤_, _<_}
 use native.Mathlib.Omega.{arith}
-use lib.Dec.{ltb, leb}
 use lib.ListN.{length, take, drop}
-use borrow.Author.Tests.{ltb-true, ltb-false, le-leb, lt-leb}
-use Rattle.answer.specs.Outcome.{TwoWritten, byNumber, answered, refusedOne, refusedTwo, wrote}
-use Rattle.answer.specs.Tests.{_atMost_, _or_, firstFault, isMet}
-use Rattle.algebra.specs.Choice.{choose}
+use Rattle.answer.specs.Tests.{Test, holds, firstFault}
+use Rattle.answer.specs.Outcome.{Outcome, TwoWritten, answered, refusedOne, refusedTwo, wrote}
+use Rattle.answer.specs.Inner.Numbered.{apart}
+use Rattle.answer.proofs.Answers.{answered-map}
+use Rattle.answer.proofs.Faults.{fault-before, last-only}
 use Rattle.algebra.specs.Coding.{CodingLaws, at, flat, over}
 use Rattle.algebra.specs.Field.{NoiseValue, Value}
 use Rattle.algebra.specs.Group.{Element, Scaled, ScaledLaws, itself}
 use Rattle.algebra.specs.Row.{output, entry, rowTimes}
 use Rattle.algebra.specs.Sum.{accumulate}
-use Rattle.algebra.proofs.Choice.{choose-map}
 use Rattle.algebra.proofs.Coding.{at-flat, flat-cong}
 use Rattle.algebra.proofs.Common.{common-facts}
 use Rattle.algebra.proofs.Sum.{sum-element, itself-laws}
@@ -24,7 +23,6 @@ use Rattle.record.specs.Content.{Head, NoisePart, ScalarPart}
 use Rattle.record.proofs.Callers.{head-ranges}
 use Rattle.record.proofs.Parts.{noise-parts, scalar-parts}
 use Rattle.rows.specs.Head.{fieldOf, places, row}
-use Rattle.rows.specs.Window.{pastEnd}
 use Rattle.rows.proofs.Rows.{row-within, row-output}
 use Rattle.noise_end.specs.Vectors.{mu, v0}
 use Rattle.noise_end.specs.Online as noiseOnline
@@ -45,43 +43,9 @@ row-same h full x S L f g e =
     row-output h full x S g (accumulate (S .group) f) e
     ∙ common-facts (fieldOf h .ring) S (kindLaws (h .field) .field .ring) L .matrix (places h) (row h x) (row-within h full x) f
 
--- the tests 7 and 13 of the expansion, one after the other
-at-most-is : (a b : ℕ) → leb a b ≡ not (ltb b a)
-at-most-is a b = decide (ltb b a) refl
-  where
-    decide : (t : Bool) → ltb b a ≡ t → leb a b ≡ not t
-    decide true e = lt-leb a b (ltb-true b a e)
-    decide false e = le-leb a b (ltb-false b a e)
-
-module _ {O : Type 0} (refusal : ℕ → O) (acceptance : O) where
-  by-three : (past u v : Bool)
-      → byNumber (choose (not past) (choose (not u) (choose (not v) 0 13) 13) 7) refusal acceptance
-      ≡ choose past (refusal 7) (choose (u || v) (refusal 13) acceptance)
-  unfolding byNumber
-  by-three true u v = refl
-  by-three false true v = refl
-  by-three false false true = refl
-  by-three false false false = refl
-
-  -- with two buffers, and with one
-  three-tests : (end to uRoom count vRoom words : ℕ)
-      → answered (to atMost end or 7 ∷ count atMost uRoom or 13 ∷ words atMost vRoom or 13 ∷ []) refusal acceptance
-      ≡ choose (ltb end to) (refusal 7) (choose (ltb uRoom count || ltb vRoom words) (refusal 13) acceptance)
-  unfolding answered firstFault isMet
-  three-tests end to uRoom count vRoom words =
-      rw (at-most-is to end, at-most-is count uRoom, at-most-is words vRoom) (by-three (ltb end to) (ltb uRoom count) (ltb vRoom words))
-
-  two-tests : (end to room words : ℕ)
-      → answered (to atMost end or 7 ∷ words atMost room or 13 ∷ []) refusal acceptance
-      ≡ choose (ltb end to) (refusal 7) (choose (ltb room words) (refusal 13) acceptance)
-  unfolding answered firstFault isMet
-  two-tests end to room words = rw (at-most-is to end, at-most-is words room) (by-three (ltb end to) false (ltb room words))
-
--- neither 3 nor 8
-neither : (past short : Bool) → (_≡_ {A = ℕ} (choose past 7 (choose short 13 0)) 3 → ⊥) × (_≡_ {A = ℕ} (choose past 7 (choose short 13 0)) 8 → ⊥)
-neither true short = (λ e. omega arith, λ e. omega arith)
-neither false true = (λ e. omega arith, λ e. omega arith)
-neither false false = (λ e. omega arith, λ e. omega arith)
+-- a number that is no test's is not returned
+never : (k : ℕ) (tests : List Test) → apart k tests ≡ true → (k ≡ 0 → ⊥) → firstFault tests ≡ k → ⊥
+never k tests r z e = z (sym e ∙ last-only (holds false) k tests r (sym (fault-before tests _ k (sym e) z)))
 
 -- ---- the noise end
 
@@ -97,8 +61,8 @@ module _ (E : NoiseExpanded) (first count : ℕ) (uOut vOut : List ℕ) where
   lent =
       record {
         source = E .source;
-        noise = take (noiseAfter E .firstWritten) (noiseAfter E .noise);
-        v = take (noiseAfter E .secondWritten) (noiseAfter E .v);
+        noise = take (noiseAfter E .written .first) (noiseAfter E .lent .noise);
+        v = take (noiseAfter E .written .second) (noiseAfter E .lent .v);
         uOut = uOut;
         vOut = vOut;
       }
@@ -114,9 +78,7 @@ module _ (E : NoiseExpanded) (first count : ℕ) (uOut vOut : List ℕ) where
   full = head-ranges 1 (E .source) (noise-parts (E .source) (E .read) .2) .terms-leaves
 
   listed : noiseOnlineCall E first count uOut vOut
-      ≡ choose (pastEnd (part .head) first count) (noiseOnline.refusal 7 lent)
-      (choose (noiseOnline.tooShort (part .head) count uOut vOut) (noiseOnline.refusal 13 lent)
-      (record { number = 0; firstWritten = count; secondWritten = count * fieldOf (part .head) .elements .width; lent = noiseOnline.filled (part .head) lent first count }))
+      ≡ answered (noiseLaws.listedTests (part .head) lent first count) (refusedTwo lent) (noiseLaws.written (part .head) lent first count)
   listed =
       noiseLaws.online-listed lent part (accumulate (fieldOf (part .head) .ring .group) (mu part)) (accumulate (fieldOf (part .head) .scaled .group) (v0 part))
       (E .read) (accepted .noise) (accepted .v) noise-elements (accumulated-elements (part .head) (v0 part)) first count
@@ -157,28 +119,21 @@ module _ (E : NoiseExpanded) (first count : ℕ) (uOut vOut : List ℕ) where
   pub noise-same : noise.direct here first count ≡ noiseSeen (noiseOnlineCall E first count uOut vOut)
   unfolding noise.window
   noise-same =
-      let words = count * fieldOf (part .head) .elements .width in
-      let there : noiseOnline.Outcome =
-      record { number = 0; firstWritten = count; secondWritten = words; lent = noiseOnline.filled (part .head) lent first count } in
-      let past = pastEnd (part .head) first count in
-      let short = noiseOnline.tooShort (part .head) count uOut vOut in
+      let tests : List Test = noiseLaws.listedTests (part .head) lent first count in
+      let words : TwoWritten = record { first = count; second = count * fieldOf (part .head) .elements .width } in
       noise-whole here first count (E .read)
-      ∙ three-tests (refusedTwo here) _ (part .head .outputs) (first + count) (length uOut) count (length vOut) words
-      ∙ ap (λ (l : noise.Lent). choose past (refusedTwo here 7) (choose short (refusedTwo here 13) (wrote {Written = TwoWritten} (record { first = count; second = words }) l)))
-      filled-same
-      ∙ sym (ap noiseSeen listed
-      ∙ choose-map noiseSeen past (noiseOnline.refusal 7 lent) (choose short (noiseOnline.refusal 13 lent) there)
-      ∙ ap (choose past (refusedTwo here 7)) (choose-map noiseSeen short (noiseOnline.refusal 13 lent) there))
+      ∙ ap (λ (l : noise.Lent). answered tests (refusedTwo here) (wrote words l)) filled-same
+      ∙ sym (ap noiseSeen listed ∙ answered-map noiseSeen tests (refusedTwo lent) (noiseLaws.written (part .head) lent first count))
 
-  numbers : noiseOnlineCall E first count uOut vOut .number ≡ choose (pastEnd (part .head) first count) 7 (choose (noiseOnline.tooShort (part .head) count uOut vOut) 13 0)
+  numbers : noiseOnlineCall E first count uOut vOut .number ≡ firstFault (noiseLaws.listedTests (part .head) lent first count)
   numbers =
       noiseLaws.online-number lent part (accumulate (fieldOf (part .head) .ring .group) (mu part)) (accumulate (fieldOf (part .head) .scaled .group) (v0 part))
       (E .read) (accepted .noise) (accepted .v) noise-elements (accumulated-elements (part .head) (v0 part)) first count
 
   pub noise-vectors : (noiseOnlineCall E first count uOut vOut .number ≡ 3 → ⊥) × (noiseOnlineCall E first count uOut vOut .number ≡ 8 → ⊥)
   noise-vectors = (
-    λ e. neither (pastEnd (part .head) first count) (noiseOnline.tooShort (part .head) count uOut vOut) .0 (sym numbers ∙ e),
-    λ e. neither (pastEnd (part .head) first count) (noiseOnline.tooShort (part .head) count uOut vOut) .1 (sym numbers ∙ e),
+    λ e. never 3 (noiseLaws.listedTests (part .head) lent first count) refl (λ z. omega (arith, z)) (sym numbers ∙ e),
+    λ e. never 8 (noiseLaws.listedTests (part .head) lent first count) refl (λ z. omega (arith, z)) (sym numbers ∙ e),
   )
 
 -- ---- the scalar end
@@ -188,7 +143,7 @@ module _ (D : ScalarExpanded) (first count : ℕ) (wOut : List ℕ) where
   whole = D .content
 
   abbrev lent-w : scalarOnline.Lent
-  lent-w = record { source = D .source; w = take (scalarAfter D .firstWritten) (scalarAfter D .w); wOut = wOut }
+  lent-w = scalarOnline.lentWith (D .source) (take (scalarAfter D .written .first) (scalarAfter D .lent .w)) wOut
 
   accepted-w : scalarLaws.Accepted whole (D .source) (scalarAfter D)
   accepted-w = scalarLaws.offline-accepted (D .source) (D .wBuffer) (D .deltaBuffer) (D .read) (D .number)
@@ -197,9 +152,7 @@ module _ (D : ScalarExpanded) (first count : ℕ) (wOut : List ℕ) where
   full-w = head-ranges 2 (D .source) (scalar-parts (D .source) (D .read) .3) .terms-leaves
 
   listed-w : scalarOnlineCall D first count wOut
-      ≡ choose (pastEnd (whole .head) first count) (scalarOnline.refusal 7 lent-w)
-      (choose (scalarOnline.tooShort (whole .head) count wOut) (scalarOnline.refusal 13 lent-w)
-      (record { number = 0; written = count * fieldOf (whole .head) .elements .width; lent = scalarOnline.filled (whole .head) lent-w first count }))
+      ≡ answered (scalarLaws.listedTests (whole .head) lent-w first count) (refusedOne lent-w) (scalarLaws.written (whole .head) lent-w first count)
   listed-w =
       scalarLaws.online-listed lent-w whole (accumulate (fieldOf (whole .head) .scaled .group) (w0 whole)) (D .read) (accepted-w .w)
       (accumulated-elements (whole .head) (w0 whole)) first count
@@ -227,26 +180,21 @@ module _ (D : ScalarExpanded) (first count : ℕ) (wOut : List ℕ) where
   pub scalar-same : scalar.direct here-w first count ≡ scalarSeen (scalarOnlineCall D first count wOut)
   unfolding scalar.window scalarOnline.filled
   scalar-same =
-      let words = count * fieldOf (whole .head) .elements .width in
-      let there : scalarOnline.Outcome = record { number = 0; written = words; lent = scalarOnline.filled (whole .head) lent-w first count } in
-      let past = pastEnd (whole .head) first count in
-      let short = scalarOnline.tooShort (whole .head) count wOut in
+      let tests : List Test = scalarLaws.listedTests (whole .head) lent-w first count in
+      let words : ℕ = count * fieldOf (whole .head) .elements .width in
       scalar-whole here-w first count (D .read)
-      ∙ two-tests (refusedOne here-w) _ (whole .head .outputs) (first + count) (length wOut) words
-      ∙ ap (λ (l : scalar.Lent). choose past (refusedOne here-w 7) (choose short (refusedOne here-w 13) (wrote words l))) filled-w
-      ∙ sym (ap scalarSeen listed-w
-      ∙ choose-map scalarSeen past (scalarOnline.refusal 7 lent-w) (choose short (scalarOnline.refusal 13 lent-w) there)
-      ∙ ap (choose past (refusedOne here-w 7)) (choose-map scalarSeen short (scalarOnline.refusal 13 lent-w) there))
+      ∙ ap (λ (l : scalar.Lent). answered tests (refusedOne here-w) (wrote words l)) filled-w
+      ∙ sym (ap scalarSeen listed-w ∙ answered-map scalarSeen tests (refusedOne lent-w) (scalarLaws.written (whole .head) lent-w first count))
 
-  numbers-w : scalarOnlineCall D first count wOut .number ≡ choose (pastEnd (whole .head) first count) 7 (choose (scalarOnline.tooShort (whole .head) count wOut) 13 0)
+  numbers-w : scalarOnlineCall D first count wOut .number ≡ firstFault (scalarLaws.listedTests (whole .head) lent-w first count)
   numbers-w =
       scalarLaws.online-number lent-w whole (accumulate (fieldOf (whole .head) .scaled .group) (w0 whole)) (D .read) (accepted-w .w)
       (accumulated-elements (whole .head) (w0 whole)) first count
 
   pub scalar-vector : (scalarOnlineCall D first count wOut .number ≡ 3 → ⊥) × (scalarOnlineCall D first count wOut .number ≡ 8 → ⊥)
   scalar-vector = (
-    λ e. neither (pastEnd (whole .head) first count) (scalarOnline.tooShort (whole .head) count wOut) .0 (sym numbers-w ∙ e),
-    λ e. neither (pastEnd (whole .head) first count) (scalarOnline.tooShort (whole .head) count wOut) .1 (sym numbers-w ∙ e),
+    λ e. never 3 (scalarLaws.listedTests (whole .head) lent-w first count) refl (λ z. omega (arith, z)) (sym numbers-w ∙ e),
+    λ e. never 8 (scalarLaws.listedTests (whole .head) lent-w first count) refl (λ z. omega (arith, z)) (sym numbers-w ∙ e),
   )
 
 -- the statement

@@ -35,39 +35,35 @@ pub record ScalarExpanded : Type 0 where
   pub number : scalarOffline.offline source wBuffer deltaBuffer .number ≡ accepted
 
 -- what stands after each offline call
-abbrev pub noiseAfter : NoiseExpanded → noiseOffline.Expanded
+abbrev pub noiseAfter : NoiseExpanded → Outcome TwoWritten noiseOffline.OfflineLent
 noiseAfter E = noiseOffline.offline (E .source) (E .noiseBuffer) (E .vBuffer)
 
-abbrev pub scalarAfter : ScalarExpanded → scalarOffline.Expanded
+abbrev pub scalarAfter : ScalarExpanded → Outcome TwoWritten scalarOffline.OfflineLent
 scalarAfter D = scalarOffline.offline (D .source) (D .wBuffer) (D .deltaBuffer)
 
 -- the online call on the record and the words that its offline call wrote, with any output buffers
-abbrev pub noiseOnlineCall : NoiseExpanded → ℕ → ℕ → List ℕ → List ℕ → noiseOnline.Outcome
+abbrev pub noiseOnlineCall : NoiseExpanded → ℕ → ℕ → List ℕ → List ℕ → Outcome TwoWritten noiseOnline.Lent
 noiseOnlineCall E first count uOut vOut =
     noiseOnline.online
     (record {
       source = E .source;
-      noise = take (noiseAfter E .firstWritten) (noiseAfter E .noise);
-      v = take (noiseAfter E .secondWritten) (noiseAfter E .v);
+      noise = take (noiseAfter E .written .first) (noiseAfter E .lent .noise);
+      v = take (noiseAfter E .written .second) (noiseAfter E .lent .v);
       uOut = uOut;
       vOut = vOut;
     })
     first count
 
-abbrev pub scalarOnlineCall : ScalarExpanded → ℕ → ℕ → List ℕ → scalarOnline.Outcome
+abbrev pub scalarOnlineCall : ScalarExpanded → ℕ → ℕ → List ℕ → Outcome ℕ scalarOnline.Lent
 scalarOnlineCall D first count wOut =
-    scalarOnline.online (record { source = D .source; w = take (scalarAfter D .firstWritten) (scalarAfter D .w); wOut = wOut }) first count
+    scalarOnline.online (scalarOnline.lentWith (D .source) (take (scalarAfter D .written .first) (scalarAfter D .lent .w)) wOut) first count
 
 -- what such a call returns, and leaves in the record and in the output buffers
-abbrev pub noiseSeen : noiseOnline.Outcome → Outcome TwoWritten noise.Lent
+abbrev pub noiseSeen : Outcome TwoWritten noiseOnline.Lent → Outcome TwoWritten noise.Lent
 noiseSeen o =
-    record {
-      number = o .number;
-      written = record { first = o .firstWritten; second = o .secondWritten };
-      lent = noise.lentWith (o .lent .source) (o .lent .uOut) (o .lent .vOut);
-    }
+    record { number = o .number; written = o .written; lent = noise.lentWith (o .lent .source) (o .lent .uOut) (o .lent .vOut) }
 
-abbrev pub scalarSeen : scalarOnline.Outcome → Outcome ℕ scalar.Lent
+abbrev pub scalarSeen : Outcome ℕ scalarOnline.Lent → Outcome ℕ scalar.Lent
 scalarSeen o = record { number = o .number; written = o .written; lent = scalar.lentWith (o .lent .source) (o .lent .wOut) }
 
 pub record Bench : Type 0 where

@@ -1,15 +1,17 @@
 -- The inhabitants of the statements about the calls of document 01 together: records, demand 3 entire, and what is accepted.
-use mathlib.Core.Path.{_≡_, ap, _∙_}
+use mathlib.Core.Path.{_≡_, sym, ap, _∙_}
+use mathlib.Core.List.{[]}
 use Prim.Native.Nat.{_+_, _*_}
-use borrow.Author.Tests.{le-ltb}
 use lib.ListN.{length}
+use Rattle.answer.specs.Tests.{firstFault}
+use Rattle.answer.proofs.Faults.{at-most, fault-later, fault-nowhere}
 use Rattle.dealing.proofs.Laws as dealing
 use Rattle.dealing.specs.Vectors.{field}
 use Rattle.noise_end.proofs.Laws as noiseLaws
 use Rattle.record.proofs.Laws as records
 use Rattle.scalar_end.proofs.Laws as scalarLaws
 use Rattle.claims.specs.Acceptance.{Acceptance}
-use Rattle.claims.specs.Correlation.{Setting, NoiseCall, noiseStep, noiseStart, ScalarCall, scalarStep, scalarStart, Outputs, Lists, Pads, Demand3}
+use Rattle.claims.specs.Correlation.{Setting, NoiseCall, noiseStep, noiseStart, ScalarCall, scalarStep, scalarStart, listedNoiseTests, listedScalarTests, Outputs, Lists, Pads, Demand3}
 use Rattle.claims.specs.Records.{Records}
 use Rattle.claims.proofs.Lists.{claim, noise-number, scalar-number}
 use Rattle.claims.proofs.Outputs.{admitted-correlated}
@@ -48,13 +50,13 @@ demand3 = record { outputs = outputs; lists = lists; pads = pads }
 -- ---- what is accepted
 
 module _ (S : Setting) where
-  noise-listed : (c : NoiseCall) → noiseStep (noiseStart S) c .number ≡ Rattle.claims.specs.Correlation.listedNoiseNumber (S .input) c
+  noise-listed : (c : NoiseCall) → noiseStep (noiseStart S) c .number ≡ firstFault (listedNoiseTests (S .input) c)
   noise-listed =
       noise-number S (dealing.deal-number (S .input) (S .noiseRecord) (S .scalarRecord) (S .dealt) .admitted)
       (dealing.noise-reads (S .input) (S .noiseRecord) (S .scalarRecord) (S .dealt) (S .inMemory))
       (dealing.scalar-reads (S .input) (S .noiseRecord) (S .scalarRecord) (S .dealt) (S .inMemory))
 
-  scalar-listed : (c : ScalarCall) → scalarStep (scalarStart S) c .number ≡ Rattle.claims.specs.Correlation.listedScalarNumber (S .input) c
+  scalar-listed : (c : ScalarCall) → scalarStep (scalarStart S) c .number ≡ firstFault (listedScalarTests (S .input) c)
   scalar-listed =
       scalar-number S (dealing.deal-number (S .input) (S .noiseRecord) (S .scalarRecord) (S .dealt) .admitted)
       (dealing.noise-reads (S .input) (S .noiseRecord) (S .scalarRecord) (S .dealt) (S .inMemory))
@@ -71,8 +73,11 @@ acceptance =
       scalar-offline = λ I M a b z w delta h k. scalarLaws.offline-accepts _ w delta (dealing.scalar-reads I a b z M) h k .number;
       noise-window = λ S c a h k.
           noise-listed S c
-          ∙ rw (le-ltb (S .input .outputs) (c .first + c .count) a, le-ltb (length (c .uOut)) (c .count) h, le-ltb (length (c .vOut)) (c .count * field (S .input) .elements .width) k);
+          ∙ sym (fault-later _ _ _ 0 (at-most (c .first + c .count) (S .input .outputs) a)
+          (fault-later _ _ _ 0 (at-most (c .count) (length (c .uOut)) h)
+          (fault-later _ _ [] 0 (at-most (c .count * field (S .input) .elements .width) (length (c .vOut)) k) fault-nowhere)));
       scalar-window = λ S c a h.
           scalar-listed S c
-          ∙ rw (le-ltb (S .input .outputs) (c .first + c .count) a, le-ltb (length (c .wOut)) (c .count * field (S .input) .elements .width) h);
+          ∙ sym (fault-later _ _ _ 0 (at-most (c .first + c .count) (S .input .outputs) a)
+          (fault-later _ _ [] 0 (at-most (c .count * field (S .input) .elements .width) (length (c .wOut)) h) fault-nowhere));
     }

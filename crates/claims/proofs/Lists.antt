@@ -8,6 +8,8 @@ use native.Mathlib.Omega.{arith}
 use lib.ListN.{length, getD}
 use lib.Dec.{eqb}
 use Rattle.algebra.specs.Choice.{choose}
+use Rattle.answer.specs.Tests.{firstFault}
+use Rattle.answer.specs.Outcome.{Outcome, TwoWritten, answered, refusedOne, refusedTwo, wrote}
 use Rattle.algebra.proofs.Coding.{flat-cong, at-flat}
 use Rattle.algebra.proofs.Same.{accumulate-same}
 use Rattle.algebra.proofs.Sum.{sum-element}
@@ -24,7 +26,6 @@ use Rattle.record.specs.Content.{elementOf}
 use Rattle.record.specs.Reading.{readNoise, readScalar}
 use Rattle.rows.proofs.Rows.{row-within, row-output}
 use Rattle.rows.specs.Head.{places, row}
-use Rattle.rows.specs.Window.{pastEnd}
 use Rattle.dealing.specs.Admitted.{Admitted}
 use Rattle.dealing.specs.Parts.{noisePart, scalarPart}
 use Rattle.dealing.specs.Vectors as dealt
@@ -37,7 +38,7 @@ use Rattle.scalar_end.proofs.Laws as scalarLaws
 use Rattle.scalar_end.specs.Offline as scalarOffline
 use Rattle.scalar_end.specs.Online as scalarOnline
 use Rattle.scalar_end.specs.Vectors as scalarPartVectors
-use Rattle.claims.specs.Correlation.{Setting, noiseSource, scalarSource, NoiseMemory, NoiseCall, noiseStep, noiseLeft, noiseRun, noiseLast, noiseStart, listedNoiseNumber, NoiseHands, ScalarMemory, ScalarCall, scalarStep, scalarLeft, scalarRun, scalarLast, scalarStart, listedScalarNumber, ScalarHands, noiseCall, noiseOutcome, scalarCall, scalarOutcome, Claim}
+use Rattle.claims.specs.Correlation.{Setting, noiseSource, scalarSource, NoiseMemory, NoiseCall, noiseStep, noiseLeft, noiseRun, noiseLast, noiseStart, listedNoiseTests, NoiseHands, ScalarMemory, ScalarCall, scalarStep, scalarLeft, scalarRun, scalarLast, scalarStart, listedScalarTests, ScalarHands, noiseCall, noiseOutcome, scalarCall, scalarOutcome, Claim}
 use Rattle.claims.proofs.Dealt.{mu-dealt, v0-dealt, w0-dealt}
 use Rattle.claims.proofs.Outputs.{admitted-correlated}
 
@@ -45,7 +46,7 @@ use Rattle.claims.proofs.Outputs.{admitted-correlated}
 
 noise-left : (m : NoiseMemory) (c : NoiseCall) → noiseLeft (noiseStep m c) ≡ m
 noise-left m c =
-    let k = noiseLaws.online-kept (record { source = m .source; noise = m .noise; v = m .v; uOut = c .uOut; vOut = c .vOut }) (c .first) (c .count) in
+    let k = noiseLaws.online-kept (noiseOnline.lentWith (m .source) (m .noise) (m .v) (c .uOut) (c .vOut)) (c .first) (c .count) in
     λ i. record { source = k .source i; noise = k .noise i; v = k .v i }
 
 -- so the outcomes of a list are those of its calls, each on the first memory
@@ -59,7 +60,7 @@ unfolding noiseLast
 noise-end m [] = refl
 noise-end m (c ∷ calls) = ap (λ l. noiseLast l calls) (noise-left m c) ∙ noise-end m calls
 
-noise-run : (m : NoiseMemory) (calls : List NoiseCall) (o : noiseOnline.Outcome) (c : NoiseCall) (i : ℕ) → i < length calls
+noise-run : (m : NoiseMemory) (calls : List NoiseCall) (o : Outcome TwoWritten noiseOnline.Lent) (c : NoiseCall) (i : ℕ) → i < length calls
     → getD (noiseRun m calls) i o ≡ noiseStep m (getD calls i c)
 unfolding noiseRun
 noise-run m [] o c i h = absurd (not-suc-le-zero h)
@@ -69,7 +70,7 @@ noise-run m (d ∷ calls) o c (suc i) h =
 
 scalar-left : (m : ScalarMemory) (c : ScalarCall) → scalarLeft (scalarStep m c) ≡ m
 scalar-left m c =
-    let k = scalarLaws.online-kept (record { source = m .source; w = m .w; wOut = c .wOut }) (c .first) (c .count) in
+    let k = scalarLaws.online-kept (scalarOnline.lentWith (m .source) (m .w) (c .wOut)) (c .first) (c .count) in
     λ i. record { source = k .source i; w = k .w i }
 
 pub scalar-steps : (m : ScalarMemory) (calls : List ScalarCall) → scalarRun m calls ≡ map (scalarStep m) calls
@@ -82,7 +83,7 @@ unfolding scalarLast
 scalar-end m [] = refl
 scalar-end m (c ∷ calls) = ap (λ l. scalarLast l calls) (scalar-left m c) ∙ scalar-end m calls
 
-scalar-run : (m : ScalarMemory) (calls : List ScalarCall) (o : scalarOnline.Outcome) (c : ScalarCall) (i : ℕ) → i < length calls
+scalar-run : (m : ScalarMemory) (calls : List ScalarCall) (o : Outcome ℕ scalarOnline.Lent) (c : ScalarCall) (i : ℕ) → i < length calls
     → getD (scalarRun m calls) i o ≡ scalarStep m (getD calls i c)
 unfolding scalarRun
 scalar-run m [] o c i h = absurd (not-suc-le-zero h)
@@ -93,43 +94,26 @@ scalar-run m (d ∷ calls) o c (suc i) h =
 -- ---- one dealing
 
 -- what a call that is listed leaves where these are its outputs by index
-abbrev pub noiseListedBy : (S : Setting) → NoiseCall → (ℕ → NoiseValue (field (S .input))) → (ℕ → Value (field (S .input))) → noiseOnline.Outcome
+abbrev pub noiseListedBy : (S : Setting) → NoiseCall → (ℕ → NoiseValue (field (S .input))) → (ℕ → Value (field (S .input)))
+    → Outcome TwoWritten noiseOnline.Lent
 noiseListedBy S c u v =
-    let l : noiseOnline.Lent = record { source = noiseStart S .source; noise = noiseStart S .noise; v = noiseStart S .v; uOut = c .uOut; vOut = c .vOut } in
-    choose (pastEnd (head (S .input)) (c .first) (c .count)) (noiseOnline.refusal 7 l)
-    (choose (noiseOnline.tooShort (head (S .input)) (c .count) (c .uOut) (c .vOut)) (noiseOnline.refusal 13 l)
-    (record {
-      number = 0;
-      firstWritten = c .count;
-      secondWritten = c .count * field (S .input) .elements .width;
-      lent = record {
-        source = noiseStart S .source;
-        noise = noiseStart S .noise;
-        v = noiseStart S .v;
-        uOut = over (field (S .input) .noiseValues) (c .count) (λ k. u (c .first + k)) (c .uOut);
-        vOut = over (field (S .input) .elements) (c .count) (λ k. v (c .first + k)) (c .vOut);
-      };
-    }))
+    answered (listedNoiseTests (S .input) c)
+    (refusedTwo (noiseOnline.lentWith (noiseStart S .source) (noiseStart S .noise) (noiseStart S .v) (c .uOut) (c .vOut)))
+    (wrote (record { first = c .count; second = c .count * field (S .input) .elements .width })
+    (noiseOnline.lentWith (noiseStart S .source) (noiseStart S .noise) (noiseStart S .v)
+    (over (field (S .input) .noiseValues) (c .count) (λ k. u (c .first + k)) (c .uOut))
+    (over (field (S .input) .elements) (c .count) (λ k. v (c .first + k)) (c .vOut))))
 
-abbrev pub noiseListed : Setting → NoiseCall → noiseOnline.Outcome
+abbrev pub noiseListed : Setting → NoiseCall → Outcome TwoWritten noiseOnline.Lent
 noiseListed S c = noiseListedBy S c (dealt.u (S .input)) (dealt.v (S .input))
 
-abbrev pub scalarListedBy : (S : Setting) → ScalarCall → (ℕ → Value (field (S .input))) → scalarOnline.Outcome
+abbrev pub scalarListedBy : (S : Setting) → ScalarCall → (ℕ → Value (field (S .input))) → Outcome ℕ scalarOnline.Lent
 scalarListedBy S c w =
-    let l : scalarOnline.Lent = record { source = scalarStart S .source; w = scalarStart S .w; wOut = c .wOut } in
-    choose (pastEnd (head (S .input)) (c .first) (c .count)) (scalarOnline.refusal 7 l)
-    (choose (scalarOnline.tooShort (head (S .input)) (c .count) (c .wOut)) (scalarOnline.refusal 13 l)
-    (record {
-      number = 0;
-      written = c .count * field (S .input) .elements .width;
-      lent = record {
-        source = scalarStart S .source;
-        w = scalarStart S .w;
-        wOut = over (field (S .input) .elements) (c .count) (λ k. w (c .first + k)) (c .wOut);
-      };
-    }))
+    answered (listedScalarTests (S .input) c) (refusedOne (scalarOnline.lentWith (scalarStart S .source) (scalarStart S .w) (c .wOut)))
+    (wrote (c .count * field (S .input) .elements .width)
+    (scalarOnline.lentWith (scalarStart S .source) (scalarStart S .w) (over (field (S .input) .elements) (c .count) (λ k. w (c .first + k)) (c .wOut))))
 
-abbrev pub scalarListed : Setting → ScalarCall → scalarOnline.Outcome
+abbrev pub scalarListed : Setting → ScalarCall → Outcome ℕ scalarOnline.Lent
 scalarListed S c = scalarListedBy S c (dealt.w (S .input))
 
 -- Δ's words, as the scalar end's offline call writes them, read back as Δ
@@ -232,21 +216,21 @@ module _ (S : Setting) (A : Admitted (S .input))
     unfolding noiseOnline.filled
     noise-step =
         noiseLaws.online-listed
-        (record { source = noiseStart S .source; noise = noiseStart S .noise; v = noiseStart S .v; uOut = c .uOut; vOut = c .vOut })
+        (noiseOnline.lentWith (noiseStart S .source) (noiseStart S .noise) (noiseStart S .v) (c .uOut) (c .vOut))
         (noisePart (S .input)) accMu accV0 noise-start noise-words v-words accMu-element accV0-element (c .first) (c .count)
         ∙ (λ i. noiseListedBy S c (λ x. u-words x i) (λ x. v-outputs x i))
 
-    pub noise-number : noiseStep (noiseStart S) c .number ≡ listedNoiseNumber (S .input) c
+    pub noise-number : noiseStep (noiseStart S) c .number ≡ firstFault (listedNoiseTests (S .input) c)
     noise-number =
         noiseLaws.online-number
-        (record { source = noiseStart S .source; noise = noiseStart S .noise; v = noiseStart S .v; uOut = c .uOut; vOut = c .vOut })
+        (noiseOnline.lentWith (noiseStart S .source) (noiseStart S .noise) (noiseStart S .v) (c .uOut) (c .vOut))
         (noisePart (S .input)) accMu accV0 noise-start noise-words v-words accMu-element accV0-element (c .first) (c .count)
 
     noise-hands : (x : ℕ) (u′ : NoiseValue (field (S .input))) (v′ : Value (field (S .input)))
         → NoiseHands (S .input) c (noiseStep (noiseStart S) c) x u′ v′ → (u′ ≡ dealt.u (S .input) x) × (v′ ≡ dealt.v (S .input) x)
     unfolding accV0 dealt.v
     noise-hands x u′ v′ H =
-        let l : noiseOnline.Lent = record { source = noiseStart S .source; noise = noiseStart S .noise; v = noiseStart S .v; uOut = c .uOut; vOut = c .vOut } in (
+        let l : noiseOnline.Lent = noiseOnline.lentWith (noiseStart S .source) (noiseStart S .noise) (noiseStart S .v) (c .uOut) (c .vOut) in (
           H .u-word
               ∙ noiseLaws.online-u l (noisePart (S .input)) accMu accV0 noise-start noise-words v-words accMu-element accV0-element (c .first) (c .count)
               (H .accepted) (H .k) (H .within)
@@ -262,13 +246,13 @@ module _ (S : Setting) (A : Admitted (S .input))
     pub scalar-step : scalarStep (scalarStart S) c ≡ scalarListed S c
     unfolding scalarOnline.filled
     scalar-step =
-        scalarLaws.online-listed (record { source = scalarStart S .source; w = scalarStart S .w; wOut = c .wOut })
+        scalarLaws.online-listed (scalarOnline.lentWith (scalarStart S .source) (scalarStart S .w) (c .wOut))
         (scalarPart (S .input)) accW0 scalar-start w-words accW0-element (c .first) (c .count)
         ∙ (λ i. scalarListedBy S c (λ x. w-outputs x i))
 
-    pub scalar-number : scalarStep (scalarStart S) c .number ≡ listedScalarNumber (S .input) c
+    pub scalar-number : scalarStep (scalarStart S) c .number ≡ firstFault (listedScalarTests (S .input) c)
     scalar-number =
-        scalarLaws.online-number (record { source = scalarStart S .source; w = scalarStart S .w; wOut = c .wOut })
+        scalarLaws.online-number (scalarOnline.lentWith (scalarStart S .source) (scalarStart S .w) (c .wOut))
         (scalarPart (S .input)) accW0 scalar-start w-words accW0-element (c .first) (c .count)
 
     scalar-hands : (x : ℕ) (w′ : Value (field (S .input)))
@@ -276,7 +260,7 @@ module _ (S : Setting) (A : Admitted (S .input))
     unfolding accW0 dealt.w
     scalar-hands x w′ H =
         H .w-element
-        ∙ scalarLaws.online-values (record { source = scalarStart S .source; w = scalarStart S .w; wOut = c .wOut })
+        ∙ scalarLaws.online-values (scalarOnline.lentWith (scalarStart S .source) (scalarStart S .w) (c .wOut))
         (scalarPart (S .input)) accW0 scalar-start w-words accW0-element (c .first) (c .count) (H .accepted) (H .k) (H .within)
         ∙ ap (dealt.w (S .input)) (sym (H .index))
 

@@ -7,6 +7,7 @@ use lib.ListN.{take}
 use Rattle.algebra.specs.Coding.{at}
 use Rattle.algebra.specs.Expansion.{Correlated}
 use Rattle.answer.specs.Numbers.{accepted}
+use Rattle.answer.specs.Outcome.{Outcome, TwoWritten}
 use Rattle.number.specs.Reading.{Whole, Bytes}
 use Rattle.record.specs.Content.{Head, NoiseTree, NoisePart, ScalarPart}
 use Rattle.record.specs.Reading.{readNoise, readScalar}
@@ -44,24 +45,24 @@ abbrev pub scalarContent : (h : Head) → ScalarExpanded h → ScalarPart
 scalarContent h D = record { head = h; delta = D .delta; roots = D .roots }
 
 -- what stands after each call
-abbrev pub noiseAfter : (h : Head) → NoiseExpanded h → noiseOffline.Expanded
+abbrev pub noiseAfter : (h : Head) → NoiseExpanded h → Outcome TwoWritten noiseOffline.OfflineLent
 noiseAfter h E = noiseOffline.offline (E .source) (E .noiseBuffer) (E .vBuffer)
 
-abbrev pub scalarAfter : (h : Head) → ScalarExpanded h → scalarOffline.Expanded
+abbrev pub scalarAfter : (h : Head) → ScalarExpanded h → Outcome TwoWritten scalarOffline.OfflineLent
 scalarAfter h D = scalarOffline.offline (D .source) (D .wBuffer) (D .deltaBuffer)
 
 -- the words that each call wrote: the accumulated noise, the accumulated v, the accumulated w, and Δ
 abbrev pub muAfter : (h : Head) → NoiseExpanded h → List ℕ
-muAfter h E = take (noiseAfter h E .firstWritten) (noiseAfter h E .noise)
+muAfter h E = take (noiseAfter h E .written .first) (noiseAfter h E .lent .noise)
 
 abbrev pub vAfter : (h : Head) → NoiseExpanded h → List ℕ
-vAfter h E = take (noiseAfter h E .secondWritten) (noiseAfter h E .v)
+vAfter h E = take (noiseAfter h E .written .second) (noiseAfter h E .lent .v)
 
 abbrev pub wAfter : (h : Head) → ScalarExpanded h → List ℕ
-wAfter h D = take (scalarAfter h D .firstWritten) (scalarAfter h D .w)
+wAfter h D = take (scalarAfter h D .written .first) (scalarAfter h D .lent .w)
 
 abbrev pub deltaAfter : (h : Head) → ScalarExpanded h → List ℕ
-deltaAfter h D = take (scalarAfter h D .secondWritten) (scalarAfter h D .delta)
+deltaAfter h D = take (scalarAfter h D .written .second) (scalarAfter h D .lent .delta)
 
 -- w = Δu + v at place j, of those words
 abbrev pub AccumulatedAt : (h : Head) → NoiseExpanded h → ScalarExpanded h → ℕ → Type 0

@@ -3,21 +3,21 @@ use mathlib.Core.Path.{_≡_}
 use mathlib.Core.List.{List, [], _∷_}
 use Prim.Native.Nat.{ℕ, _+_, _-_, _*_, _<_}
 use lib.ListN.{length, getD, take}
-use Rattle.algebra.specs.Choice.{choose}
 use Rattle.algebra.specs.Coding.{at}
 use Rattle.algebra.specs.Expansion.{Correlated}
 use Rattle.algebra.specs.Field.{NoiseValue, Value}
-use Rattle.answer.specs.Numbers.{accepted, windowPastEnd, bufferShort}
+use Rattle.answer.specs.Numbers.{windowPastEnd, bufferShort}
+use Rattle.answer.specs.Tests.{Test, _atMost_, _or_, firstFault}
+use Rattle.answer.specs.Outcome.{Outcome, TwoWritten, refusedOne, refusedTwo}
 use Rattle.dealing.specs.Admitted.{InMemory}
 use Rattle.dealing.specs.Deal.{Dealt, deal, noiseRecordOf, scalarRecordOf}
 use Rattle.dealing.specs.Input.{Input}
-use Rattle.dealing.specs.Vectors.{head, field, delta, u, v, w}
+use Rattle.dealing.specs.Vectors.{field, delta, u, v, w}
 use Rattle.field.specs.Bytes.{wordAt}
 use Rattle.noise_end.specs.Offline as noiseOffline
 use Rattle.noise_end.specs.Online as noiseOnline
 use Rattle.pads.specs.Calls.{noisePads, scalarPads}
 use Rattle.pads.specs.Choice.{InWindow, padAt, messageAt}
-use Rattle.rows.specs.Window.{pastEnd}
 use Rattle.scalar_end.specs.Offline as scalarOffline
 use Rattle.scalar_end.specs.Online as scalarOnline
 
@@ -74,19 +74,19 @@ pub record NoiseCall : Type 0 where
   pub vOut : List ℕ
 
 -- the online call on memory
-abbrev pub noiseStep : NoiseMemory → NoiseCall → noiseOnline.Outcome
+abbrev pub noiseStep : NoiseMemory → NoiseCall → Outcome TwoWritten noiseOnline.Lent
 noiseStep m c =
     noiseOnline.online
-    (record { source = m .source; noise = m .noise; v = m .v; uOut = c .uOut; vOut = c .vOut })
+    (noiseOnline.lentWith (m .source) (m .noise) (m .v) (c .uOut) (c .vOut))
     (c .first)
     (c .count)
 
 -- the memory that a call leaves
-abbrev pub noiseLeft : noiseOnline.Outcome → NoiseMemory
+abbrev pub noiseLeft : Outcome TwoWritten noiseOnline.Lent → NoiseMemory
 noiseLeft o = record { source = o .lent .source; noise = o .lent .noise; v = o .lent .v }
 
 -- the outcome of each call of a list, every call on the memory that the call before left
-unfoldable pub noiseRun : NoiseMemory → List NoiseCall → List noiseOnline.Outcome
+unfoldable pub noiseRun : NoiseMemory → List NoiseCall → List (Outcome TwoWritten noiseOnline.Lent)
 noiseRun m [] = []
 noiseRun m (c ∷ calls) = noiseStep m c ∷ noiseRun (noiseLeft (noiseStep m c)) calls
 
@@ -96,27 +96,30 @@ noiseLast m [] = m
 noiseLast m (c ∷ calls) = noiseLast (noiseLeft (noiseStep m c)) calls
 
 -- what the noise end's offline call left
-abbrev pub noiseExpanded : Setting → noiseOffline.Expanded
+abbrev pub noiseExpanded : Setting → Outcome TwoWritten noiseOffline.OfflineLent
 noiseExpanded S = noiseOffline.offline (noiseSource S) (S .noiseBuffer) (S .vBuffer)
 
 -- the memory as the offline call left it: the record, and the fronts of the returned lengths
 abbrev pub noiseStart : Setting → NoiseMemory
 noiseStart S =
     record {
-      source = noiseExpanded S .source;
-      noise = take (noiseExpanded S .firstWritten) (noiseExpanded S .noise);
-      v = take (noiseExpanded S .secondWritten) (noiseExpanded S .v);
+      source = noiseExpanded S .lent .source;
+      noise = take (noiseExpanded S .written .first) (noiseExpanded S .lent .noise);
+      v = take (noiseExpanded S .written .second) (noiseExpanded S .lent .v);
     }
 
--- the number of a listed call: 7 if its window passes n, else 13 if an output buffer is too short for c, else 0
-abbrev pub listedNoiseNumber : Input → NoiseCall → ℕ
-listedNoiseNumber I c =
-    choose (pastEnd (head I) (c .first) (c .count)) windowPastEnd
-    (choose (noiseOnline.tooShort (head I) (c .count) (c .uOut) (c .vOut)) bufferShort accepted)
+-- the tests of a listed call: 7 if its window passes n, else 13 if an output buffer is too short for c
+abbrev pub listedNoiseTests : Input → NoiseCall → List Test
+listedNoiseTests I c =
+    (c .first + c .count) atMost I .outputs or windowPastEnd
+    ∷ c .count atMost length (c .uOut) or bufferShort
+    ∷ c .count * field I .elements .width atMost length (c .vOut) or bufferShort
+    ∷ []
 
 -- an outcome hands out u and v at index x: word k of the first output buffer and element k of the second on return, at
 -- index first + k for k below c; a refused call hands out nothing
-pub record NoiseHands (I : Input) (c : NoiseCall) (o : noiseOnline.Outcome) (x : ℕ) (u′ : NoiseValue (field I)) (v′ : Value (field I)) : Type 0 where
+pub record NoiseHands (I : Input) (c : NoiseCall) (o : Outcome TwoWritten noiseOnline.Lent) (x : ℕ) (u′ : NoiseValue (field I)) (v′ : Value (field I))
+    : Type 0 where
   pub accepted : o .number ≡ 0
   pub k : ℕ
   pub within : k < c .count
@@ -138,15 +141,15 @@ pub record ScalarCall : Type 0 where
   pub wOut : List ℕ
 
 -- the online call on memory
-abbrev pub scalarStep : ScalarMemory → ScalarCall → scalarOnline.Outcome
-scalarStep m c = scalarOnline.online (record { source = m .source; w = m .w; wOut = c .wOut }) (c .first) (c .count)
+abbrev pub scalarStep : ScalarMemory → ScalarCall → Outcome ℕ scalarOnline.Lent
+scalarStep m c = scalarOnline.online (scalarOnline.lentWith (m .source) (m .w) (c .wOut)) (c .first) (c .count)
 
 -- the memory that a call leaves
-abbrev pub scalarLeft : scalarOnline.Outcome → ScalarMemory
+abbrev pub scalarLeft : Outcome ℕ scalarOnline.Lent → ScalarMemory
 scalarLeft o = record { source = o .lent .source; w = o .lent .w }
 
 -- the outcome of each call of a list, every call on the memory that the call before left
-unfoldable pub scalarRun : ScalarMemory → List ScalarCall → List scalarOnline.Outcome
+unfoldable pub scalarRun : ScalarMemory → List ScalarCall → List (Outcome ℕ scalarOnline.Lent)
 scalarRun m [] = []
 scalarRun m (c ∷ calls) = scalarStep m c ∷ scalarRun (scalarLeft (scalarStep m c)) calls
 
@@ -156,26 +159,27 @@ scalarLast m [] = m
 scalarLast m (c ∷ calls) = scalarLast (scalarLeft (scalarStep m c)) calls
 
 -- what the scalar end's offline call left
-abbrev pub scalarExpanded : Setting → scalarOffline.Expanded
+abbrev pub scalarExpanded : Setting → Outcome TwoWritten scalarOffline.OfflineLent
 scalarExpanded S = scalarOffline.offline (scalarSource S) (S .wBuffer) (S .deltaBuffer)
 
 -- the memory as the offline call left it: the record, and the front of the returned length
 abbrev pub scalarStart : Setting → ScalarMemory
-scalarStart S = record { source = scalarExpanded S .source; w = take (scalarExpanded S .firstWritten) (scalarExpanded S .w) }
+scalarStart S = record { source = scalarExpanded S .lent .source; w = take (scalarExpanded S .written .first) (scalarExpanded S .lent .w) }
 
 -- Δ as the offline call left it
 abbrev pub scalarDelta : Setting → List ℕ
-scalarDelta S = take (scalarExpanded S .secondWritten) (scalarExpanded S .delta)
+scalarDelta S = take (scalarExpanded S .written .second) (scalarExpanded S .lent .delta)
 
--- the number of a listed call: 7, else 13, else 0, as at the noise end
-abbrev pub listedScalarNumber : Input → ScalarCall → ℕ
-listedScalarNumber I c =
-    choose (pastEnd (head I) (c .first) (c .count)) windowPastEnd
-    (choose (scalarOnline.tooShort (head I) (c .count) (c .wOut)) bufferShort accepted)
+-- the tests of a listed call: 7, else 13, as at the noise end
+abbrev pub listedScalarTests : Input → ScalarCall → List Test
+listedScalarTests I c =
+    (c .first + c .count) atMost I .outputs or windowPastEnd
+    ∷ c .count * field I .elements .width atMost length (c .wOut) or bufferShort
+    ∷ []
 
 -- an outcome hands out w at index x: element k of the output buffer on return, at index first + k for k below c; a refused
 -- call hands out nothing
-pub record ScalarHands (I : Input) (c : ScalarCall) (o : scalarOnline.Outcome) (x : ℕ) (w′ : Value (field I)) : Type 0 where
+pub record ScalarHands (I : Input) (c : ScalarCall) (o : Outcome ℕ scalarOnline.Lent) (x : ℕ) (w′ : Value (field I)) : Type 0 where
   pub accepted : o .number ≡ 0
   pub k : ℕ
   pub within : k < c .count
@@ -188,25 +192,25 @@ pub record ScalarHands (I : Input) (c : ScalarCall) (o : scalarOnline.Outcome) (
 abbrev pub noiseCall : List NoiseCall → ℕ → NoiseCall
 noiseCall calls i = getD calls i (record { first = 0; count = 0; uOut = []; vOut = [] })
 
-abbrev pub noiseOutcome : Setting → List NoiseCall → ℕ → noiseOnline.Outcome
+abbrev pub noiseOutcome : Setting → List NoiseCall → ℕ → Outcome TwoWritten noiseOnline.Lent
 noiseOutcome S calls i =
     getD (noiseRun (noiseStart S) calls) i
-    (noiseOnline.refusal bufferShort (record { source = []; noise = []; v = []; uOut = []; vOut = [] }))
+    (refusedTwo (noiseOnline.lentWith [] [] [] [] []) bufferShort)
 
 abbrev pub scalarCall : List ScalarCall → ℕ → ScalarCall
 scalarCall calls i = getD calls i (record { first = 0; count = 0; wOut = [] })
 
-abbrev pub scalarOutcome : Setting → List ScalarCall → ℕ → scalarOnline.Outcome
+abbrev pub scalarOutcome : Setting → List ScalarCall → ℕ → Outcome ℕ scalarOnline.Lent
 scalarOutcome S calls i =
-    getD (scalarRun (scalarStart S) calls) i (scalarOnline.refusal bufferShort (record { source = []; w = []; wOut = [] }))
+    getD (scalarRun (scalarStart S) calls) i (refusedOne (scalarOnline.lentWith [] [] []) bufferShort)
 
 -- what demand 3 says of two lists, one at each end, together
 pub record Claim (S : Setting) (noiseCalls : List NoiseCall) (scalarCalls : List ScalarCall) : Type 0 where
-  -- every call returns the number of a listed call
+  -- every call returns the number of the first test of a listed call that is not met, or 0
   pub noise-numbers : (i : ℕ) → i < length noiseCalls
-      → noiseOutcome S noiseCalls i .number ≡ listedNoiseNumber (S .input) (noiseCall noiseCalls i)
+      → noiseOutcome S noiseCalls i .number ≡ firstFault (listedNoiseTests (S .input) (noiseCall noiseCalls i))
   pub scalar-numbers : (i : ℕ) → i < length scalarCalls
-      → scalarOutcome S scalarCalls i .number ≡ listedScalarNumber (S .input) (scalarCall scalarCalls i)
+      → scalarOutcome S scalarCalls i .number ≡ firstFault (listedScalarTests (S .input) (scalarCall scalarCalls i))
   -- what is handed out at x is the dealing's u and v, or w, at x
   pub noise-values : (i : ℕ) → i < length noiseCalls → (x : ℕ) (u′ : NoiseValue (field (S .input))) (v′ : Value (field (S .input)))
       → NoiseHands (S .input) (noiseCall noiseCalls i) (noiseOutcome S noiseCalls i) x u′ v′

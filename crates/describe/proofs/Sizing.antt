@@ -1,20 +1,20 @@
 -- What the description of an accepted record says is what its end's calls use. Assumes nothing.
-use mathlib.Core.Bool.{Bool, true, false, _||_, not}
+use mathlib.Core.Bool.{Bool, true, false, _||_}
 use mathlib.Core.List.{List}
 use mathlib.Core.Logic.{_↔_}
 use mathlib.Core.Path.{_≡_, refl, sym, ap, _∙_}
-use Prim.Native.Nat.{ℕ, _+_, _*_}
+use Prim.Native.Nat.{ℕ}
 use native.Mathlib.Omega.{arith}
-use lib.Dec.{eqb, ltb}
-use lib.ListN.{length}
+use lib.Dec.{eqb}
 use Rattle.algebra.specs.Choice.{choose}
-use Rattle.answer.specs.Numbers.{accepted, badLength, windowPastEnd, notElement, wrongEnd, bufferShort}
+use Rattle.answer.specs.Numbers.{accepted, notElement, wrongEnd}
+use Rattle.answer.specs.Tests.{firstFault}
+use Rattle.answer.specs.Outcome.{Outcome, TwoWritten}
+use Rattle.answer.proofs.Answers.{outcome-number}
+use Rattle.answer.proofs.Faults.{last-not, last-only}
 use Rattle.number.specs.Reading.{Reading, Whole, Refused, Step, tested, readByte, afterReading}
 use Rattle.record.specs.Content.{Head, NoisePart, ScalarPart}
 use Rattle.record.specs.Reading.{readNoise, readScalar}
-use Rattle.rows.specs.Head.{fieldOf, places}
-use Rattle.rows.specs.Usable.{windowUsable}
-use Rattle.rows.specs.Window.{pastEnd}
 use Rattle.noise_end.specs.Offline as noiseOffline
 use Rattle.noise_end.specs.Online as noiseOnline
 use Rattle.noise_end.proofs.Laws as noiseLaws
@@ -23,7 +23,7 @@ use Rattle.scalar_end.specs.Online as scalarOnline
 use Rattle.scalar_end.proofs.Laws as scalarLaws
 use Rattle.describe.specs.declared.Described.{Described}
 use Rattle.describe.specs.Describe.{head, refused, said, byEnd, describe}
-use Rattle.describe.specs.Sizing.{Sizing, answerFor, byLengths, withoutEnd}
+use Rattle.describe.specs.Sizing.{Sizing, answerFor, noiseLengths, scalarLengths, withoutEnd}
 
 -- ---- an end that is told is that of a record read whole
 
@@ -124,102 +124,56 @@ neither-told : (s : List ℕ) → (answerFor s .end ≡ 1 → ⊥) → (answerFo
 unfolding describe
 neither-told s = none s (tested (readByte s 0) (λ end. eqb end 1 || eqb end 2) wrongEnd)
 
--- ---- the numbers of calls whose tests are a chain
-
-module _ {O : Type 0} (number : O → ℕ) (refuse : ℕ → O) (same : (k : ℕ) → number (refuse k) ≡ k) (done : O) (zero : number done ≡ accepted) where
-  abbrev chain : Bool → Bool → Bool → Bool → O
-  chain wrong past short unfit =
-      choose wrong (refuse badLength) (choose past (refuse windowPastEnd) (choose short (refuse bufferShort) (choose unfit (refuse notElement) done)))
-
-  by-lengths : (wrong past short unfit : Bool) → (number (chain wrong past short unfit) ≡ notElement → ⊥)
-      → number (chain wrong past short unfit) ≡ byLengths wrong past short
-  by-lengths true past short unfit n = same badLength
-  by-lengths false true short unfit n = same windowPastEnd
-  by-lengths false false true unfit n = same bufferShort
-  by-lengths false false false true n = absurd (n (same notElement))
-  by-lengths false false false false n = zero
-
-  passed : (wrong past short unfit : Bool) → number (chain wrong past short unfit) ≡ notElement → byLengths wrong past short ≡ accepted
-  passed true past short unfit e = absurd (omega (arith, e, same badLength))
-  passed false true short unfit e = absurd (omega (arith, e, same windowPastEnd))
-  passed false false true unfit e = absurd (omega (arith, e, same bufferShort))
-  passed false false false unfit e = refl
-
 -- ---- each call
 
-noise-room : (P : NoisePart) (s noise v : List ℕ)
-    → noiseOffline.expand P s noise v .number
-    ≡ choose (ltb (length noise) (places (P .head)) || ltb (length v) (noiseOffline.vWords P)) bufferShort accepted
-unfolding noiseOffline.expand
-noise-room P s noise v = by (ltb (length noise) (places (P .head)) || ltb (length v) (noiseOffline.vWords P)) refl
-  where
-    by : (b : Bool) → ltb (length noise) (places (P .head)) || ltb (length v) (noiseOffline.vWords P) ≡ b
-        → noiseOffline.expand P s noise v .number ≡ choose b bufferShort accepted
-    by true e = rw e
-    by false e = rw e
+noise-room : (P : NoisePart) (s noise v : List ℕ) → readNoise s ≡ Whole P
+    → noiseOffline.offline s noise v .number ≡ firstFault (noiseOffline.offlineTests P noise v)
+noise-room P s noise v e =
+    ap (λ (o : Outcome TwoWritten noiseOffline.OfflineLent). o .number) (noiseLaws.offline-whole s noise v e)
+    ∙ outcome-number _ _ _ _ (noiseOffline.offlineTests P noise v)
 
-scalar-room : (P : ScalarPart) (s w delta : List ℕ)
-    → scalarOffline.expand P s w delta .number ≡ choose (ltb (length w) (scalarOffline.wWords P) || ltb (length delta) 2) bufferShort accepted
-unfolding scalarOffline.expand
-scalar-room P s w delta = by (ltb (length w) (scalarOffline.wWords P) || ltb (length delta) 2) refl
-  where
-    by : (b : Bool) → ltb (length w) (scalarOffline.wWords P) || ltb (length delta) 2 ≡ b
-        → scalarOffline.expand P s w delta .number ≡ choose b bufferShort accepted
-    by true e = rw e
-    by false e = rw e
+scalar-room : (P : ScalarPart) (s w delta : List ℕ) → readScalar s ≡ Whole P
+    → scalarOffline.offline s w delta .number ≡ firstFault (scalarOffline.offlineTests P w delta)
+scalar-room P s w delta e =
+    ap (λ (o : Outcome TwoWritten scalarOffline.OfflineLent). o .number) (scalarLaws.offline-whole s w delta e)
+    ∙ outcome-number _ _ _ _ (scalarOffline.offlineTests P w delta)
 
-module _ (h : Head) (first count : ℕ) where
-  noise-window : (l : noiseOnline.Lent) → (noiseOnline.window h l first count .number ≡ notElement → ⊥)
-      → noiseOnline.window h l first count .number
-      ≡ byLengths (noiseOnline.wrongLengths h l) (pastEnd h first count) (noiseOnline.tooShort h count (l .uOut) (l .vOut))
-  unfolding noiseOnline.window noiseOnline.rowsOutcome
-  noise-window l =
-      by-lengths (λ o. o .number) (λ k. noiseOnline.refusal k l) (λ k. refl)
-      (record { number = accepted; firstWritten = count; secondWritten = count * fieldOf h .elements .width; lent = noiseOnline.filled h l first count })
-      refl (noiseOnline.wrongLengths h l) (pastEnd h first count) (noiseOnline.tooShort h count (l .uOut) (l .vOut))
-      (not (windowUsable (noiseOnline.usable (fieldOf h) l) h first count))
+-- the last test of an online call is that of the words that the rows use
+module _ (P : NoisePart) (l : noiseOnline.Lent) (first count : ℕ) (e : readNoise (l .source) ≡ Whole P) where
+  noise-number : noiseOnline.online l first count .number ≡ firstFault (noiseOnline.onlineTests (P .head) l first count)
+  noise-number =
+      ap (λ (o : Outcome TwoWritten noiseOnline.Lent). o .number) (noiseLaws.online-whole l first count e)
+      ∙ outcome-number _ _ _ _ (noiseOnline.onlineTests (P .head) l first count)
 
-  noise-passed : (l : noiseOnline.Lent) → noiseOnline.window h l first count .number ≡ notElement
-      → byLengths (noiseOnline.wrongLengths h l) (pastEnd h first count) (noiseOnline.tooShort h count (l .uOut) (l .vOut)) ≡ accepted
-  unfolding noiseOnline.window noiseOnline.rowsOutcome
-  noise-passed l =
-      passed (λ o. o .number) (λ k. noiseOnline.refusal k l) (λ k. refl)
-      (record { number = accepted; firstWritten = count; secondWritten = count * fieldOf h .elements .width; lent = noiseOnline.filled h l first count })
-      refl (noiseOnline.wrongLengths h l) (pastEnd h first count) (noiseOnline.tooShort h count (l .uOut) (l .vOut))
-      (not (windowUsable (noiseOnline.usable (fieldOf h) l) h first count))
+  noise-window : (noiseOnline.online l first count .number ≡ notElement → ⊥)
+      → noiseOnline.online l first count .number ≡ firstFault (noiseLengths (head 1 (P .head)) l first count)
+  noise-window h = noise-number ∙ last-not _ notElement (noiseLengths (head 1 (P .head)) l first count) (λ g. h (noise-number ∙ g))
 
-  scalar-window : (l : scalarOnline.Lent) → (scalarOnline.window h l first count .number ≡ notElement → ⊥)
-      → scalarOnline.window h l first count .number
-      ≡ byLengths (scalarOnline.wrongLength h l) (pastEnd h first count) (scalarOnline.tooShort h count (l .wOut))
-  unfolding scalarOnline.window scalarOnline.rowsOutcome
-  scalar-window l =
-      by-lengths (λ o. o .number) (λ k. scalarOnline.refusal k l) (λ k. refl)
-      (record { number = accepted; written = count * fieldOf h .elements .width; lent = scalarOnline.filled h l first count })
-      refl (scalarOnline.wrongLength h l) (pastEnd h first count) (scalarOnline.tooShort h count (l .wOut))
-      (not (windowUsable (scalarOnline.usable (fieldOf h) l) h first count))
+  noise-passed : noiseOnline.online l first count .number ≡ notElement → firstFault (noiseLengths (head 1 (P .head)) l first count) ≡ accepted
+  noise-passed g = last-only _ notElement (noiseLengths (head 1 (P .head)) l first count) refl (sym noise-number ∙ g)
 
-  scalar-passed : (l : scalarOnline.Lent) → scalarOnline.window h l first count .number ≡ notElement
-      → byLengths (scalarOnline.wrongLength h l) (pastEnd h first count) (scalarOnline.tooShort h count (l .wOut)) ≡ accepted
-  unfolding scalarOnline.window scalarOnline.rowsOutcome
-  scalar-passed l =
-      passed (λ o. o .number) (λ k. scalarOnline.refusal k l) (λ k. refl)
-      (record { number = accepted; written = count * fieldOf h .elements .width; lent = scalarOnline.filled h l first count })
-      refl (scalarOnline.wrongLength h l) (pastEnd h first count) (scalarOnline.tooShort h count (l .wOut))
-      (not (windowUsable (scalarOnline.usable (fieldOf h) l) h first count))
+module _ (P : ScalarPart) (l : scalarOnline.Lent) (first count : ℕ) (e : readScalar (l .source) ≡ Whole P) where
+  scalar-number : scalarOnline.online l first count .number ≡ firstFault (scalarOnline.onlineTests (P .head) l first count)
+  scalar-number =
+      ap (λ (o : Outcome ℕ scalarOnline.Lent). o .number) (scalarLaws.online-whole l first count e)
+      ∙ outcome-number _ _ _ _ (scalarOnline.onlineTests (P .head) l first count)
+
+  scalar-window : (scalarOnline.online l first count .number ≡ notElement → ⊥)
+      → scalarOnline.online l first count .number ≡ firstFault (scalarLengths (head 2 (P .head)) l first count)
+  scalar-window h = scalar-number ∙ last-not _ notElement (scalarLengths (head 2 (P .head)) l first count) (λ g. h (scalar-number ∙ g))
+
+  scalar-passed : scalarOnline.online l first count .number ≡ notElement → firstFault (scalarLengths (head 2 (P .head)) l first count) ≡ accepted
+  scalar-passed g = last-only _ notElement (scalarLengths (head 2 (P .head)) l first count) refl (sym scalar-number ∙ g)
 
 pub sizing : Sizing
 sizing =
     record {
       same = same-told;
       neither = neither-told;
-      noise-offline = λ s e noise v. let o = noise-told s e in rw (noiseLaws.offline-whole s noise v (o .1), o .2) (noise-room (o .0) s noise v);
-      scalar-offline = λ s e w delta. let o = scalar-told s e in rw (scalarLaws.offline-whole s w delta (o .1), o .2) (scalar-room (o .0) s w delta);
-      noise-online = λ l e first count.
-          let o = noise-told (l .source) e in rw (noiseLaws.online-whole l first count (o .1), o .2) (noise-window (o .0 .head) first count l);
-      noise-elements = λ l e first count.
-          let o = noise-told (l .source) e in rw (noiseLaws.online-whole l first count (o .1), o .2) (noise-passed (o .0 .head) first count l);
-      scalar-online = λ l e first count.
-          let o = scalar-told (l .source) e in rw (scalarLaws.online-whole l first count (o .1), o .2) (scalar-window (o .0 .head) first count l);
-      scalar-elements = λ l e first count.
-          let o = scalar-told (l .source) e in rw (scalarLaws.online-whole l first count (o .1), o .2) (scalar-passed (o .0 .head) first count l);
+      noise-offline = λ s e noise v. let o = noise-told s e in rw (o .2) (noise-room (o .0) s noise v (o .1));
+      scalar-offline = λ s e w delta. let o = scalar-told s e in rw (o .2) (scalar-room (o .0) s w delta (o .1));
+      noise-online = λ l e first count h. let o = noise-told (l .source) e in rw (o .2) (noise-window (o .0) l first count (o .1) h);
+      noise-elements = λ l e first count g. let o = noise-told (l .source) e in rw (o .2) (noise-passed (o .0) l first count (o .1) g);
+      scalar-online = λ l e first count h. let o = scalar-told (l .source) e in rw (o .2) (scalar-window (o .0) l first count (o .1) h);
+      scalar-elements = λ l e first count g. let o = scalar-told (l .source) e in rw (o .2) (scalar-passed (o .0) l first count (o .1) g);
     }

@@ -2,15 +2,13 @@
 -- the sizes are what that end's calls use: with N leaves and W words an element, the
 -- offline call has room exactly with N and N × W words (13), the online call takes exactly such vectors (3) and windows up to n
 -- (7), and writes c words and c × W words (13).
-use mathlib.Core.Bool.{Bool, _||_, not}
-use mathlib.Core.List.{List}
+use mathlib.Core.List.{List, [], _∷_}
 use mathlib.Core.Logic.{_↔_}
 use mathlib.Core.Path.{_≡_}
 use Prim.Native.Nat.{ℕ, _+_, _*_}
-use lib.Dec.{eqb, ltb}
 use lib.ListN.{length}
-use Rattle.algebra.specs.Choice.{choose}
 use Rattle.answer.specs.Numbers.{accepted, badLength, windowPastEnd, notElement, bufferShort}
+use Rattle.answer.specs.Tests.{Ask, Test, _is_, _atMost_, _or_, firstFault}
 use Rattle.number.specs.Reading.{Whole}
 use Rattle.record.specs.Content.{NoisePart, ScalarPart}
 use Rattle.record.specs.Reading.{readNoise, readScalar}
@@ -32,21 +30,33 @@ vectorWords D = D .leaves * D .«element_words»
 abbrev pub windowWords : Described → ℕ → ℕ
 windowWords D count = count * D .«element_words»
 
--- the number of the tests 3, 7 and 13, in this order; 0 where all are passed
-abbrev pub byLengths : Bool → Bool → Bool → ℕ
-byLengths wrong past short = choose wrong badLength (choose past windowPastEnd (choose short bufferShort accepted))
+-- a window ends by n
+abbrev pub endsWithin : Described → ℕ → ℕ → Ask
+endsWithin D first count = (first + count) atMost D .outputs
 
--- the same of an online call of the noise end, and of the scalar end, by a description
-abbrev pub noiseByLengths : Described → noiseOnline.Lent → ℕ → ℕ → ℕ
-noiseByLengths D l first count =
-    byLengths (not (eqb (length (l .noise)) (D .leaves)) || not (eqb (length (l .v)) (vectorWords D)))
-    (ltb (D .outputs) (first + count))
-    (ltb (length (l .uOut)) count || ltb (length (l .vOut)) (windowWords D count))
+-- by a description the tests of an offline call, 13, at the noise end and at the scalar end
+abbrev pub noiseRooms : Described → List ℕ → List ℕ → List Test
+noiseRooms D noise v = D .leaves atMost length noise or bufferShort ∷ vectorWords D atMost length v or bufferShort ∷ []
 
-abbrev pub scalarByLengths : Described → scalarOnline.Lent → ℕ → ℕ → ℕ
-scalarByLengths D l first count =
-    byLengths (not (eqb (length (l .w)) (vectorWords D))) (ltb (D .outputs) (first + count))
-    (ltb (length (l .wOut)) (windowWords D count))
+abbrev pub scalarRooms : Described → List ℕ → List ℕ → List Test
+scalarRooms D w delta = vectorWords D atMost length w or bufferShort ∷ 2 atMost length delta or bufferShort ∷ []
+
+-- and the tests 3, 7 and 13 of an online call
+abbrev pub noiseLengths : Described → noiseOnline.Lent → ℕ → ℕ → List Test
+noiseLengths D l first count =
+    length (l .noise) is D .leaves or badLength
+    ∷ length (l .v) is vectorWords D or badLength
+    ∷ endsWithin D first count or windowPastEnd
+    ∷ count atMost length (l .uOut) or bufferShort
+    ∷ windowWords D count atMost length (l .vOut) or bufferShort
+    ∷ []
+
+abbrev pub scalarLengths : Described → scalarOnline.Lent → ℕ → ℕ → List Test
+scalarLengths D l first count =
+    length (l .w) is vectorWords D or badLength
+    ∷ endsWithin D first count or windowPastEnd
+    ∷ windowWords D count atMost length (l .wOut) or bufferShort
+    ∷ []
 
 -- an answer without its end
 abbrev pub withoutEnd : Described → Described
@@ -75,20 +85,20 @@ pub record Sizing : Type 0 where
   -- the offline calls: 13 unless there is room for N words of noise and N elements, at the scalar end for N elements and two words
   pub noise-offline : (s : List ℕ) → answerFor s .end ≡ 1 → (noise v : List ℕ)
       → noiseOffline.offline s noise v .number
-      ≡ choose (ltb (length noise) (answerFor s .leaves) || ltb (length v) (vectorWords (answerFor s))) bufferShort accepted
+      ≡ firstFault (noiseRooms (answerFor s) noise v)
   pub scalar-offline : (s : List ℕ) → answerFor s .end ≡ 2 → (w delta : List ℕ)
       → scalarOffline.offline s w delta .number
-      ≡ choose (ltb (length w) (vectorWords (answerFor s)) || ltb (length delta) 2) bufferShort accepted
+      ≡ firstFault (scalarRooms (answerFor s) w delta)
   -- the online calls: 3, 7 and 13 by these lengths, and 8 only where those are passed
   pub noise-online : (l : noiseOnline.Lent) → answerFor (l .source) .end ≡ 1 → (first count : ℕ)
       → (noiseOnline.online l first count .number ≡ notElement → ⊥)
-      → noiseOnline.online l first count .number ≡ noiseByLengths (answerFor (l .source)) l first count
+      → noiseOnline.online l first count .number ≡ firstFault (noiseLengths (answerFor (l .source)) l first count)
   pub noise-elements : (l : noiseOnline.Lent) → answerFor (l .source) .end ≡ 1 → (first count : ℕ)
       → noiseOnline.online l first count .number ≡ notElement
-      → noiseByLengths (answerFor (l .source)) l first count ≡ accepted
+      → firstFault (noiseLengths (answerFor (l .source)) l first count) ≡ accepted
   pub scalar-online : (l : scalarOnline.Lent) → answerFor (l .source) .end ≡ 2 → (first count : ℕ)
       → (scalarOnline.online l first count .number ≡ notElement → ⊥)
-      → scalarOnline.online l first count .number ≡ scalarByLengths (answerFor (l .source)) l first count
+      → scalarOnline.online l first count .number ≡ firstFault (scalarLengths (answerFor (l .source)) l first count)
   pub scalar-elements : (l : scalarOnline.Lent) → answerFor (l .source) .end ≡ 2 → (first count : ℕ)
       → scalarOnline.online l first count .number ≡ notElement
-      → scalarByLengths (answerFor (l .source)) l first count ≡ accepted
+      → firstFault (scalarLengths (answerFor (l .source)) l first count) ≡ accepted

@@ -18,6 +18,7 @@ use Rattle.algebra.specs.Inner.Put.{put}
 use Rattle.algebra.proofs.Choice.{choose-true, choose-false}
 use Rattle.algebra.proofs.Coding.{at-over-past, length-put, over-whole}
 use Rattle.algebra.proofs.Sum.{itself-laws}
+use Rattle.algebra.proofs.Written.{front-none, front-all}
 use Rattle.code.specs.declared.Window.{Window}
 use Rattle.code.specs.Row.{rowOfBlocks}
 use Rattle.code.specs.Inner.Rows.{Shaped, termBlockBy, placeIn}
@@ -30,7 +31,7 @@ use Rattle.field.proofs.Words.{put-one}
 use Rattle.record.specs.declared.Front.{Front}
 use Rattle.rows.specs.declared.WindowRows.{WindowRows}
 use Rattle.rows.specs.Inner.Outputs.{rowsOf}
-use Rattle.rows.proofs.Windows.{Written, written-none, written-put, written-all}
+use Rattle.rows.proofs.Windows.{value-put}
 use Rattle.tree.specs.Added.{added}
 use Rattle.direct.specs.Inner.Vectors.{fieldBy, fieldFor, noiseIn, valueIn, rowIn}
 use Rattle.direct.specs.Inner.Rows.{noiseSum, entryIn, IsBatch, IsCode, HasTerms, sumsMore, placeAdded}
@@ -141,10 +142,11 @@ module _ (field : ℕ) (b : List ℕ) where
   carried k = noiseSum field (getD b k 0) (getD b (64 + k) 0)
 
   pub record Passed (v : List ℕ) (k : ℕ) : Type 0 where
-    pub written : Written (binary .noiseValues) carried b v k
+    pub words : v ≡ over (binary .noiseValues) k carried b
+    pub size : length v ≡ length b
 
   pub passed-none : Passed b 0
-  passed-none = record { written = written-none (binary .noiseValues) (binaryLaws .noiseValues) carried b }
+  passed-none = record { words = front-none (binary .noiseValues) carried b; size = refl }
 
   word-past : (v : List ℕ) (k m : ℕ) → v ≡ over (binary .noiseValues) k carried b → k ≤ m → m < length b → getD v m 0 ≡ getD b m 0
   word-past v k m e h l =
@@ -154,17 +156,16 @@ module _ (field : ℕ) (b : List ℕ) where
   pub passed-more : length b ≡ 96 → {v : List ℕ} {k count : ℕ} → Passed v k → k < count → count ≤ 32 → {x : ℕ}
       → x ≡ noiseSum field (getD v k 0) (getD v (64 + k) 0) → Passed (set v k x) (k + 1)
   passed-more size {v} {k} p few most {x} e =
-      let w = p .written in
       record {
-        written = written-put (binary .noiseValues) (binaryLaws .noiseValues) carried b w
-            (sym (put-one (λ b. b) (λ w. w) v k x (omega (arith, w .size))))
-            (e ∙ ap₂ (noiseSum field) (word-past v k k (w .words) (omega arith) (omega arith)) (word-past v k (64 + k) (w .words) (omega arith) (omega arith)))
-            (length-set v k x);
+        words = value-put (binary .noiseValues) (binaryLaws .noiseValues) carried b k (p .words)
+            (sym (put-one (λ b. b) (λ w. w) v k x (omega (arith, p .size))))
+            (e ∙ ap₂ (noiseSum field) (word-past v k k (p .words) (omega arith) (omega arith)) (word-past v k (64 + k) (p .words) (omega arith) (omega arith)));
+        size = length-set v k x ∙ p .size;
       }
 
   pub passed-all : {v : List ℕ} {k n : ℕ} → Passed v k → k ≤ n → n ≤ k → v ≡ sumsMore field n b
   unfolding sumsMore
-  passed-all p h g = written-all (binary .noiseValues) (binaryLaws .noiseValues) carried b (p .written) h g
+  passed-all {v} {k} {n} p h g = front-all (binary .noiseValues) carried b k n v h g (p .words)
 
 -- ---- a place added
 
@@ -178,23 +179,18 @@ module _ (vector field : ℕ) (rows : List ℕ) (j : ℕ) (value : Element) (b :
   coding = vector-laws (eqb vector 1) field .elements
 
   pub record Summed (v : List ℕ) (k : ℕ) : Type 0 where
-    pub written : Written (fieldFor vector field .elements) addedAt b v k
+    pub words : v ≡ over (fieldFor vector field .elements) k addedAt b
+    pub size : length v ≡ length b
 
   pub summed-none : Summed b 0
-  summed-none = record { written = written-none (fieldFor vector field .elements) coding addedAt b }
+  summed-none = record { words = front-none (fieldFor vector field .elements) addedAt b; size = refl }
 
   module _ (count : ℕ) (whole : length b ≡ count * fieldFor vector field .elements .width) {v : List ℕ} {k : ℕ} (s : Summed v k) where
-    w : Written (fieldFor vector field .elements) addedAt b v k
-    w = s .written
-
-    summed-length : length v ≡ length b
-    summed-length = w .size
-
     pub summed-room : k < count → k * fieldFor vector field .elements .width + fieldFor vector field .elements .width ≤ length v
     summed-room h =
         let W = fieldFor vector field .elements .width in
         let m : suc k * W ≤ count * W = mul-le-mul-right W h in
-        omega (arith, summed-length, suc-mul k W)
+        omega (arith, s .size, suc-mul k W)
 
     pub summed-more : k < count → (entry : ℕ) → noiseIn field entry ≡ entryIn field rows j k → {next : List ℕ}
         → next ≡ put (fieldFor vector field .elements) v k (fieldFor vector field .scaled .group .add (at (fieldFor vector field .elements) v k)
@@ -204,11 +200,14 @@ module _ (vector field : ℕ) (rows : List ℕ) (j : ℕ) (value : Element) (b :
         let F = fieldFor vector field in
         let x : F .scaled .group .add (at (F .elements) v k) (F .scaled .scale (noiseIn field entry) (valueIn vector field value)) ≡ addedAt k =
         ap₂ (λ (a : Value F) (c : NoiseValue F). F .scaled .group .add a (F .scaled .scale c (valueIn vector field value)))
-        (ap (λ (l : List ℕ). at (F .elements) l k) (w .words)
-        ∙ at-over-past (F .elements) coding k addedAt b k (omega arith) (let r = summed-room h in omega (arith, w .size))) e in
-        record { written = written-put (F .elements) coding addedAt b w q x (ap length q ∙ length-put (F .elements) coding v k _ (summed-room h)) }
+        (ap (λ (l : List ℕ). at (F .elements) l k) (s .words)
+        ∙ at-over-past (F .elements) coding k addedAt b k (omega arith) (let r = summed-room h in omega (arith, s .size))) e in
+        record {
+          words = value-put (F .elements) coding addedAt b k (s .words) q x;
+          size = ap length q ∙ length-put (F .elements) coding v k _ (summed-room h) ∙ s .size;
+        }
 
     pub summed-all : k ≤ count → count ≤ k → v ≡ placeAdded vector field count rows j (valueIn vector field value) b
     unfolding placeAdded added
     summed-all h g =
-        written-all (fieldFor vector field .elements) coding addedAt b w h g ∙ over-whole (fieldFor vector field .elements) coding count addedAt b whole
+        front-all (fieldFor vector field .elements) addedAt b k count v h g (s .words) ∙ over-whole (fieldFor vector field .elements) coding count addedAt b whole

@@ -9,6 +9,8 @@ use lib.Dec.{ltb, lit≤, lit<}
 use lib.ListN.{length, getD, replicate}
 use Rattle.algebra.proofs.Tests.{and-left, and-right}
 use Rattle.algebra.specs.Coding.{flat, over}
+use Rattle.answer.specs.Tests.{isMet, firstFault}
+use Rattle.answer.specs.Outcome.{Outcome, TwoWritten, byNumber, answered}
 use Rattle.dealing.proofs.Laws as dealing
 use Rattle.dealing.specs.Admitted.{InMemory}
 use Rattle.dealing.specs.Deal.{deal}
@@ -94,13 +96,13 @@ prime-setting = settingOf primeInput prime-memory prime-dealt 4 (lit≤ tt) (lit
 
 module _ (S : Setting) (N : Numbers) (W : Worked (S .input) N) where
   -- a call on the first memory
-  abbrev noiseOne : NoiseCall → noiseOnline.Outcome
+  abbrev noiseOne : NoiseCall → Outcome TwoWritten noiseOnline.Lent
   noiseOne c =
       lists.noiseListedBy S c
       (inWords (field (S .input) .noiseValues) (S .input .outputs) (N .us) (u (S .input)))
       (inWords (field (S .input) .elements) (S .input .outputs) (N .vs) (v (S .input)))
 
-  abbrev scalarOne : ScalarCall → scalarOnline.Outcome
+  abbrev scalarOne : ScalarCall → Outcome ℕ scalarOnline.Lent
   scalarOne c = lists.scalarListedBy S c (inWords (field (S .input) .elements) (S .input .outputs) (N .ws) (w (S .input)))
 
   noise-one : (c : NoiseCall) → noiseStep (noiseStart S) c ≡ noiseOne c
@@ -126,7 +128,7 @@ module _ (S : Setting) (N : Numbers) (W : Worked (S .input) N) where
       ap (map scalarShown) (lists.scalar-steps (scalarStart S) calls ∙ (λ i. map (λ c. scalar-one c i) calls))
 
 pub example : Example
-unfolding settingOf binary-setting prime-setting flat over
+unfolding settingOf binary-setting prime-setting flat over answered byNumber firstFault isMet
 example =
     record {
       binary =

@@ -6,6 +6,7 @@ use mathlib.Core.List.{List, [], _∷_, _++_, map}
 use Prim.Native.Nat.{ℕ, _*_}
 use lib.ListN.{replicate}
 use Rattle.answer.specs.Numbers.{accepted, windowPastEnd, bufferShort}
+use Rattle.answer.specs.Outcome.{Outcome, TwoWritten}
 use Rattle.dealing.specs.Input.{Input}
 use Rattle.claims.specs.Correlation.{Setting, NoiseCall, noiseStart, noiseRun, ScalarCall, scalarStart, scalarRun}
 use Rattle.noise_end.specs.Online as noiseOnline
@@ -27,10 +28,10 @@ abbrev pub scalarCalls : ℕ → List ScalarCall
 scalarCalls width = scalarCall width 1 2 2 ∷ scalarCall width 0 2 1 ∷ scalarCall width 0 2 3 ∷ scalarCall width 1 1 1 ∷ []
 
 -- the number, and what stands in the output buffers on return
-abbrev pub noiseShown : noiseOnline.Outcome → List ℕ
+abbrev pub noiseShown : Outcome TwoWritten noiseOnline.Lent → List ℕ
 noiseShown o = o .number ∷ (o .lent .uOut ++ o .lent .vOut)
 
-abbrev pub scalarShown : scalarOnline.Outcome → List ℕ
+abbrev pub scalarShown : Outcome ℕ scalarOnline.Lent → List ℕ
 scalarShown o = o .number ∷ o .lent .wOut
 
 -- a setting of this input, and what its lists of calls leave

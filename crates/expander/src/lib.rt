@@ -4,7 +4,7 @@ ghost use Rattle.dealing.specs.Deal.{deal, lentDeal};
 ghost use Rattle.dealing.specs.Input.{inputWith};
 ghost use Rattle.noise_end.specs.Offline as noiseOffline;
 ghost use Rattle.noise_end.specs.Online as noiseOnline;
-ghost use Rattle.answer.specs.Outcome.{outcomeNone, outcomeTwo};
+ghost use Rattle.answer.specs.Outcome.{outcomeNone, outcomeOne, outcomeTwo};
 ghost use Rattle.pads.specs.Calls.{lentNoise, lentScalar, noisePads, scalarPads};
 ghost use Rattle.scalar_end.specs.Offline as scalarOffline;
 ghost use Rattle.scalar_end.specs.Online as scalarOnline;
@@ -72,7 +72,7 @@ pub extern "C" fn expander_noise_offline(
     noise: &mut [u64],
     v: &mut [u64],
 ) -> TwoLengths
-    ensures { λ r. ⌜ noiseOffline.expanded r (now (source .exit)) (now (noise .exit)) (now (v .exit))
+    ensures { λ r. ⌜ outcomeTwo r (noiseOffline.offlineWith (now (source .exit)) (now (noise .exit)) (now (v .exit)))
         ≡ noiseOffline.offline (now (source .entry)) (now (noise .entry)) (now (v .entry)) ⌝ }
 {
     noise_end::offline(source, noise, v)
@@ -85,7 +85,7 @@ pub extern "C" fn expander_scalar_offline(
     w: &mut [u64],
     delta: &mut [u64],
 ) -> TwoLengths
-    ensures { λ r. ⌜ scalarOffline.expanded r (now (source .exit)) (now (w .exit)) (now (delta .exit))
+    ensures { λ r. ⌜ outcomeTwo r (scalarOffline.offlineWith (now (source .exit)) (now (w .exit)) (now (delta .exit)))
         ≡ scalarOffline.offline (now (source .entry)) (now (w .entry)) (now (delta .entry)) ⌝ }
 {
     scalar_end::offline(source, w, delta)
@@ -102,10 +102,9 @@ pub extern "C" fn expander_noise_online(
     u_out: &mut [u64],
     v_out: &mut [u64],
 ) -> TwoLengths
-    ensures { λ r. ⌜ noiseOnline.outcome r
-        (record { source = now (source .exit); noise = now (noise .exit); v = now (v .exit); uOut = now («u_out» .exit); vOut = now («v_out» .exit) })
-        ≡ noiseOnline.online
-        (record { source = now (source .entry); noise = now (noise .entry); v = now (v .entry); uOut = now («u_out» .entry); vOut = now («v_out» .entry) }) first count ⌝ }
+    ensures { λ r. ⌜ outcomeTwo r (noiseOnline.lentWith (now (source .exit)) (now (noise .exit)) (now (v .exit)) (now («u_out» .exit)) (now («v_out» .exit)))
+        ≡ noiseOnline.online (noiseOnline.lentWith (now (source .entry)) (now (noise .entry)) (now (v .entry)) (now («u_out» .entry)) (now («v_out» .entry)))
+        first count ⌝ }
 {
     noise_end::online(source, noise, v, first, count, u_out, v_out)
 }
@@ -119,8 +118,8 @@ pub extern "C" fn expander_scalar_online(
     count: usize,
     w_out: &mut [u64],
 ) -> OneLength
-    ensures { λ r. ⌜ scalarOnline.outcome r (record { source = now (source .exit); w = now (w .exit); wOut = now («w_out» .exit) })
-        ≡ scalarOnline.online (record { source = now (source .entry); w = now (w .entry); wOut = now («w_out» .entry) }) first count ⌝ }
+    ensures { λ r. ⌜ outcomeOne r (scalarOnline.lentWith (now (source .exit)) (now (w .exit)) (now («w_out» .exit)))
+        ≡ scalarOnline.online (scalarOnline.lentWith (now (source .entry)) (now (w .entry)) (now («w_out» .entry))) first count ⌝ }
 {
     scalar_end::online(source, w, first, count, w_out)
 }

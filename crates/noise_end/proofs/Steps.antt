@@ -1,26 +1,19 @@
--- Laws shaped like what the functions of a window are asked: the test of the noise and that of a window's rows, u at the kind of a
--- field byte, and the number of the tests 3, 7 and 13.
+-- Laws shaped like what the functions of a window are asked: the test of the noise and that of a window's rows, and u at the kind of
+-- a field byte.
 use mathlib.Core.Path.{_≡_, refl, sym, ap, ap₂, _∙_}
-use mathlib.Core.Bool.{Bool, true, false, _&&_, _||_, and-true}
+use mathlib.Core.Bool.{Bool, true, false, _&&_, and-true}
 use mathlib.Core.List.{List}
-use Prim.Native.Nat.{ℕ, zero, suc, _^_, _≤_, _<_}
-use lib.Dec.{eqb, ltb}
-use borrow.Author.Tests.{lt-ltb, le-ltb, eq-eqb, ne-eqb}
+use Prim.Native.Nat.{ℕ, zero, suc, _≤_}
 use Rattle.algebra.specs.Every.{every}
-use Rattle.code.specs.declared.Window.{Window}
 use Rattle.code.specs.Inner.Used.{usedBelow}
 use Rattle.field.specs.Binary.{binary}
 use Rattle.field.specs.Kind.{kindOf, binaryKind, primeKind, elementWords}
 use Rattle.field.specs.Prime.{primes, modulus}
 use Rattle.field.proofs.KindOf.{kind-2, words-2}
-use Rattle.record.specs.declared.Front.{Front}
 use Rattle.rows.specs.declared.WindowRows.{WindowRows}
-use Rattle.rows.specs.Inner.Numbers.{testsNumber, wrongVector, pastOutputs, shortBuffer, lengthsNumber}
 use Rattle.rows.specs.Inner.Outputs.{ofNoise, windowOver}
 use Rattle.rows.specs.Inner.Testing.{Testing, elementsUsed}
-use Rattle.rows.proofs.Numbers.{none-failed}
 use Rattle.rows.proofs.Passed.{rowPasses, passed-all, all-bits, all-primes, binary-used}
-use Rattle.noise_end.specs.Inner.Steps.{bothNumber}
 
 -- ---- the words that rows use
 
@@ -82,38 +75,3 @@ module _ (keys : List (List (List ℕ))) (r : WindowRows) (noise v : List ℕ) w
     pub used-prime : (field ≡ 1 → ⊥) → t ≡ (elementsUsed primes keys r noise && elementsUsed primes keys r v)
         → t ≡ (elementsUsed (ofNoise (kindOf field .field)) keys r noise && elementsUsed (kindOf field .field) keys r v)
     used-prime h q = rw (kind-2 field h) q
-
--- ---- the tests 3, 7 and 13 of both vectors
-
--- the first that fails of the tests of v is that of both, whatever the room for u
-either-fails : (wrong past short room : Bool) {k : ℕ} → k ≡ testsNumber wrong past short → (k ≡ 0 → ⊥) → k ≡ testsNumber wrong past (room || short)
-either-fails false false false room e z = absurd (z e)
-either-fails true past short room e z = e
-either-fails false true short room e z = e
-either-fails false false true true e z = e
-either-fails false false true false e z = e
-
-module _ (f : Front) (noise vector : ℕ) (w : Window) (uRoom room : ℕ) {size : ℕ} (se : size ≡ 2 ^ f .depth) where
-  pub wrong-noise : (noise ≡ size → ⊥) → 3 ≡ bothNumber f noise vector w uRoom room
-  unfolding bothNumber
-  wrong-noise h = sym (rw (ne-eqb noise (2 ^ f .depth) (λ e. h (e ∙ sym se))))
-
-  module _ (whole : noise ≡ size) {k : ℕ} (ke : k ≡ lengthsNumber f vector w room) where
-    right : eqb noise (2 ^ f .depth) ≡ true
-    right = eq-eqb noise (2 ^ f .depth) (whole ∙ se)
-
-    pub v-fails : (k ≡ 0 → ⊥) → k ≡ bothNumber f noise vector w uRoom room
-    unfolding bothNumber lengthsNumber
-    v-fails z = rw right (either-fails (wrongVector f vector) (pastOutputs f w) (shortBuffer f w room) (ltb uRoom (w .count)) ke z)
-
-    v-passed : k ≡ 0 → (wrongVector f vector ≡ false) × (pastOutputs f w ≡ false) × (shortBuffer f w room ≡ false)
-    unfolding lengthsNumber
-    v-passed z = none-failed (wrongVector f vector) (pastOutputs f w) (shortBuffer f w room) ke z
-
-    pub short-u : k ≡ 0 → uRoom < w .count → 13 ≡ bothNumber f noise vector w uRoom room
-    unfolding bothNumber
-    short-u z h = sym (rw (right, v-passed z .0, v-passed z .1, lt-ltb uRoom (w .count) h))
-
-    pub both-passed : k ≡ 0 → w .count ≤ uRoom → 0 ≡ bothNumber f noise vector w uRoom room
-    unfolding bothNumber
-    both-passed z h = sym (rw (right, v-passed z .0, v-passed z .1, le-ltb uRoom (w .count) h, v-passed z .2))

@@ -1,23 +1,21 @@
 -- The noise end's online call (document 01, 'Offline and online', 'Numbers of the calls': the record, then 3, 7, 13, 8):
 -- from everything lent to everything that stands on return, the record and the vectors too.
-use mathlib.Core.Bool.{Bool, _&&_, _||_, not}
-use mathlib.Core.List.{List}
+use mathlib.Core.Bool.{Bool, _&&_}
+use mathlib.Core.List.{List, [], _∷_}
 use Prim.Native.Nat.{ℕ, _+_, _*_}
-use lib.Dec.{ltb, eqb}
 use lib.ListN.{length}
-use Rattle.answer.specs.Numbers.{accepted, badLength, windowPastEnd, notElement, bufferShort}
-use Rattle.algebra.specs.Choice.{choose}
+use Rattle.answer.specs.Numbers.{badLength, windowPastEnd, notElement, bufferShort}
+use Rattle.answer.specs.Tests.{Test, _is_, _atMost_, holds, _or_}
+use Rattle.answer.specs.Outcome.{Outcome, TwoWritten, answered, refusedTwo, wrote}
 use Rattle.algebra.specs.Coding.{at, over}
 use Rattle.algebra.specs.Field.{Field, NoiseValue, Value}
 use Rattle.algebra.specs.Group.{itself}
 use Rattle.algebra.specs.Row.{output}
-use Rattle.answer.specs.declared.TwoLengths.{TwoLengths}
-use Rattle.number.specs.Reading.{Reading, Whole, Refused}
-use Rattle.record.specs.Content.{Head, NoisePart}
+use Rattle.number.specs.Reading.{afterReading}
+use Rattle.record.specs.Content.{Head}
 use Rattle.record.specs.Reading.{readNoise}
 use Rattle.rows.specs.Head.{fieldOf, places, row}
 use Rattle.rows.specs.Usable.{windowUsable}
-use Rattle.rows.specs.Window.{pastEnd}
 
 -- what is lent: the record, the accumulated vectors, and the output buffers
 pub record Lent : Type 0 where
@@ -27,20 +25,8 @@ pub record Lent : Type 0 where
   pub uOut : List ℕ
   pub vOut : List ℕ
 
--- the number, the words written to each output buffer, and all that is lent
-pub record Outcome : Type 0 where
-  pub number : ℕ
-  pub firstWritten : ℕ
-  pub secondWritten : ℕ
-  pub lent : Lent
-
--- what an answer and all that is lent at exit say
-abbrev pub outcome : TwoLengths → Lent → Outcome
-outcome r l = record { number = r .number; firstWritten = r .«first_written»; secondWritten = r .«second_written»; lent = l }
-
--- a refused call: its number, zero for each length, and all that is lent as it was
-abbrev pub refusal : ℕ → Lent → Outcome
-refusal k l = record { number = k; firstWritten = 0; secondWritten = 0; lent = l }
+abbrev pub lentWith : List ℕ → List ℕ → List ℕ → List ℕ → List ℕ → Lent
+lentWith source noise v uOut vOut = record { source = source; noise = noise; v = v; uOut = uOut; vOut = vOut }
 
 -- 8: the words at a place are elements: that of the accumulated noise (in field 1 it is 0 or 1) and those of v
 unfoldable pub usable : Field → Lent → ℕ → Bool
@@ -64,33 +50,21 @@ filled h l first count =
       vOut = over (fieldOf h .elements) count (λ k. vAt h l (first + k)) (l .vOut);
     }
 
--- 3: a vector is not exactly N words of noise, or N elements of v
-abbrev pub wrongLengths : Head → Lent → Bool
-wrongLengths h l =
-    not (eqb (length (l .noise)) (places h)) || not (eqb (length (l .v)) (places h * fieldOf h .elements .width))
+-- its tests: N words of noise and N elements of v; the window ends by n; room for c words of u and c elements of v; the words that
+-- the window's rows use are elements
+abbrev pub onlineTests : Head → Lent → ℕ → ℕ → List Test
+onlineTests h l first count =
+    length (l .noise) is places h or badLength
+    ∷ length (l .v) is places h * fieldOf h .elements .width or badLength
+    ∷ (first + count) atMost h .outputs or windowPastEnd
+    ∷ count atMost length (l .uOut) or bufferShort
+    ∷ count * fieldOf h .elements .width atMost length (l .vOut) or bufferShort
+    ∷ holds (windowUsable (usable (fieldOf h) l) h first count) or notElement
+    ∷ []
 
--- 13: an output buffer is too short for c words of u, or c elements of v
-abbrev pub tooShort : Head → ℕ → List ℕ → List ℕ → Bool
-tooShort h count uOut vOut = ltb (length uOut) count || ltb (length vOut) (count * fieldOf h .elements .width)
-
--- the test 8, and the window
-unfoldable pub rowsOutcome : Head → Lent → ℕ → ℕ → Outcome
-rowsOutcome h l first count =
-    choose (not (windowUsable (usable (fieldOf h) l) h first count)) (refusal notElement l)
-    (record { number = accepted; firstWritten = count; secondWritten = count * fieldOf h .elements .width; lent = filled h l first count })
-
--- the tests 3, 7, 13, then 8 and the window
-unfoldable pub window : Head → Lent → ℕ → ℕ → Outcome
-window h l first count =
-    choose (wrongLengths h l) (refusal badLength l)
-    (choose (pastEnd h first count) (refusal windowPastEnd l)
-    (choose (tooShort h count (l .uOut) (l .vOut)) (refusal bufferShort l)
-    (rowsOutcome h l first count)))
-
--- the call: the record's number, or the window
-unfoldable pub online : Lent → ℕ → ℕ → Outcome
-online l first count = from (readNoise (l .source))
-  where
-    from : Reading NoisePart → Outcome
-    from (Whole P) = window (P .head) l first count
-    from (Refused k) = refusal k l
+-- the call: the record's number, else that of the first test that is not met, else c words of u and c elements of v
+unfoldable pub online : Lent → ℕ → ℕ → Outcome TwoWritten Lent
+online l first count =
+    afterReading (readNoise (l .source)) (refusedTwo l)
+    (λ P. answered (onlineTests (P .head) l first count) (refusedTwo l)
+    (wrote (record { first = count; second = count * fieldOf (P .head) .elements .width }) (filled (P .head) l first count)))

@@ -11,11 +11,8 @@ ghost use Rattle.number.specs.Inner.Known.{isWhole};
 ghost use Rattle.record.specs.Content.{siblingCount};
 ghost use Rattle.record.specs.Reading.{readTree};
 ghost use Rattle.noise_end.specs.Vectors.{mu, v0};
-ghost use Rattle.noise_end.specs.Offline.{expanded, expand};
 ghost use Rattle.noise_end.specs.Inner.Ready.{Ready, TreesFit, TreeRead, TreeFits, contentOf};
 ghost use Rattle.noise_end.specs.Inner.Steps.{treeAdded};
-use answer::BUFFER_SHORT;
-use answer::TwoLengths;
 use fill::add_punctured;
 use record::Front;
 use record::Tree;
@@ -24,7 +21,6 @@ use record::leaves;
 use record::sibling_count;
 use rows::accumulate_elements;
 use rows::accumulate_noise;
-use rows::element_width;
 use rows::zero_words;
 use tree::Punctured;
 use tree::child_keys;
@@ -106,7 +102,7 @@ fn write_trees(source: &[u8], front: Front, noise: &mut [u64], v: &mut [u64])
 }
 
 // Writes the accumulated μ and v0.
-fn write_accumulated(source: &[u8], front: Front, noise: &mut [u64], v: &mut [u64])
+pub fn write_accumulated(source: &[u8], front: Front, noise: &mut [u64], v: &mut [u64])
     requires { ⌜ Ready (now source) front × (length (now noise) ≡ 2 ^ front .depth) × (length (now v) ≡ 2 ^ front .depth * elementWords (front .field)) ⌝ }
     ensures { λ _. ⌜ (now (noise .exit) ≡ flat (kindOf (front .field) .field .noiseValues) (2 ^ front .depth)
         (accumulate (kindOf (front .field) .field .ring .group) (mu (contentOf (now (source .entry)) front))))
@@ -116,33 +112,4 @@ fn write_accumulated(source: &[u8], front: Front, noise: &mut [u64], v: &mut [u6
     write_trees(source, front, noise, v);
     accumulate_elements(front.field, leaves(front.depth), v);
     accumulate_noise(front.field, noise);
-}
-
-// The offline call on a record that was accepted.
-pub fn write_vectors(source: &[u8], front: Front, noise: &mut [u64], v: &mut [u64]) -> TwoLengths
-    requires { ⌜ Ready (now source) front ⌝ }
-    ensures { λ r. ⌜ expanded r (now (source .exit)) (now (noise .exit)) (now (v .exit)) ≡ expand (contentOf (now (source .entry)) front) (now (source .entry)) (now (noise .entry)) (now (v .entry)) ⌝ }
-{
-    let size = leaves(front.depth);
-    let words = size * element_width(front.field);
-    if noise.len() < size {
-        return TwoLengths {
-            number: BUFFER_SHORT,
-            first_written: 0,
-            second_written: 0,
-        };
-    }
-    if v.len() < words {
-        return TwoLengths {
-            number: BUFFER_SHORT,
-            first_written: 0,
-            second_written: 0,
-        };
-    }
-    write_accumulated(source, front, &mut noise[..size], &mut v[..words]);
-    TwoLengths {
-        number: 0,
-        first_written: size,
-        second_written: words,
-    }
 }

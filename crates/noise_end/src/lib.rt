@@ -1,23 +1,31 @@
 // The noise end's calls: offline writes the accumulated μ and v0, online a window of u and v. A refused call writes nothing.
 ghost use mathlib.Core.Path.{_≡_};
-ghost use Rattle.noise_end.specs.Offline.{expanded, offline};
-ghost use Rattle.noise_end.specs.Online.{outcome, online};
+ghost use Rattle.noise_end.specs.Offline.{offlineWith, offline};
+ghost use Rattle.answer.specs.Outcome.{outcomeTwo};
+ghost use Rattle.noise_end.specs.Online.{lentWith, online};
 
 mod expansion;
 mod window;
 
+use answer::BUFFER_SHORT;
+use answer::NOT_ELEMENT;
 use answer::TwoLengths;
 use code::Window;
 pub use expansion::tree_at;
-use expansion::write_vectors;
+use expansion::write_accumulated;
 use record::Opened;
+use record::leaves;
 use record::read_noise;
+use rows::element_width;
 use rows::fault_of;
-use window::write_window;
+use rows::vector_words;
+use window::window_number;
+use window::write_rows;
 
 // Writes the accumulated μ to the front of noise, and the accumulated v0 to the front of v.
 pub fn offline(source: &[u8], noise: &mut [u64], v: &mut [u64]) -> TwoLengths
-    ensures { λ r. ⌜ expanded r (now (source .exit)) (now (noise .exit)) (now (v .exit)) ≡ offline (now (source .entry)) (now (noise .entry)) (now (v .entry)) ⌝ }
+    ensures { λ r. ⌜ outcomeTwo r (offlineWith (now (source .exit)) (now (noise .exit)) (now (v .exit)))
+        ≡ offline (now (source .entry)) (now (noise .entry)) (now (v .entry)) ⌝ }
 {
     let r = read_noise(source);
     let Opened::Accepted(front) = r else {
@@ -27,7 +35,28 @@ pub fn offline(source: &[u8], noise: &mut [u64], v: &mut [u64]) -> TwoLengths
             second_written: 0,
         };
     };
-    write_vectors(source, front, noise, v)
+    let size = leaves(front.depth);
+    if noise.len() < size {
+        return TwoLengths {
+            number: BUFFER_SHORT,
+            first_written: 0,
+            second_written: 0,
+        };
+    }
+    let words = vector_words(front);
+    if v.len() < words {
+        return TwoLengths {
+            number: BUFFER_SHORT,
+            first_written: 0,
+            second_written: 0,
+        };
+    }
+    write_accumulated(source, front, &mut noise[..size], &mut v[..words]);
+    TwoLengths {
+        number: 0,
+        first_written: size,
+        second_written: words,
+    }
 }
 
 // Writes the window's outputs of the accumulated vectors: u to the front of u_out, v to the front of v_out.
@@ -40,8 +69,8 @@ pub fn online(
     u_out: &mut [u64],
     v_out: &mut [u64],
 ) -> TwoLengths
-    ensures { λ r. ⌜ outcome r (record { source = now (source .exit); noise = now (noise .exit); v = now (v .exit); uOut = now («u_out» .exit); vOut = now («v_out» .exit) })
-        ≡ online (record { source = now (source .entry); noise = now (noise .entry); v = now (v .entry); uOut = now («u_out» .entry); vOut = now («v_out» .entry) }) first count ⌝ }
+    ensures { λ r. ⌜ outcomeTwo r (lentWith (now (source .exit)) (now (noise .exit)) (now (v .exit)) (now («u_out» .exit)) (now («v_out» .exit)))
+        ≡ online (lentWith (now (source .entry)) (now (noise .entry)) (now (v .entry)) (now («u_out» .entry)) (now («v_out» .entry))) first count ⌝ }
 {
     let r = read_noise(source);
     let Opened::Accepted(front) = r else {
@@ -51,13 +80,33 @@ pub fn online(
             second_written: 0,
         };
     };
-    write_window(
-        source,
+    let window = Window { first, count };
+    let number = window_number(
         front,
-        noise,
-        v,
-        Window { first, count },
-        u_out,
-        v_out,
-    )
+        noise.len(),
+        v.len(),
+        window,
+        u_out.len(),
+        v_out.len(),
+    );
+    if number != 0 {
+        return TwoLengths {
+            number: number,
+            first_written: 0,
+            second_written: 0,
+        };
+    }
+    let words = count * element_width(front.field);
+    if !write_rows(source, front, noise, v, window, u_out, v_out) {
+        return TwoLengths {
+            number: NOT_ELEMENT,
+            first_written: 0,
+            second_written: 0,
+        };
+    }
+    TwoLengths {
+        number: 0,
+        first_written: count,
+        second_written: words,
+    }
 }

@@ -8,16 +8,16 @@ ghost use Rattle.aes128.specs.Inner.Words.{roundKeys};
 ghost use Rattle.field.specs.Binary.{binary};
 ghost use Rattle.field.specs.Kind.{kindOf, binaryKind, primeKind, elementWords};
 ghost use Rattle.field.specs.Prime.{primes};
-ghost use Rattle.rows.specs.Inner.Outputs.{rowsOf, ofNoise, windowOver};
+ghost use Rattle.answer.specs.Tests.{firstFault};
+ghost use Rattle.rows.specs.Inner.Outputs.{codeKeys, rowsOf, ofNoise, windowOver};
 ghost use Rattle.rows.specs.Inner.Testing.{Testing, Fitting, elementsUsed};
 ghost use Rattle.record.specs.Answer.{headOf};
-ghost use Rattle.noise_end.specs.Online as on;
 ghost use Rattle.noise_end.specs.Inner.Ready.{Ready};
-ghost use Rattle.noise_end.specs.Inner.Steps.{bothUsed, uOver, vOver, windowsUnder, outputsUnder, bothNumber};
+ghost use Rattle.noise_end.specs.Inner.Steps.{bothUsed, uOver, vOver, WindowWritten, lengthTests};
 use answer::BAD_LENGTH;
 use answer::BUFFER_SHORT;
-use answer::NOT_ELEMENT;
-use answer::TwoLengths;
+use answer::WINDOW_PAST_END;
+use answer::is_past;
 use code::Window;
 use code::used_below;
 use record::Front;
@@ -29,8 +29,9 @@ use rows::code_keys;
 use rows::copy_front;
 use rows::element_width;
 use rows::elements_used;
-use rows::lengths_number;
+use rows::lacks_room;
 use rows::put_block;
+use rows::vector_words;
 use rows::window_rows;
 
 // Whether every word of the noise that the rows use is a noise value. In field 2 noise values are elements.
@@ -137,8 +138,8 @@ fn write_small(
 ) -> bool
     requires { ⌜ RoundTables (now tables) × (rows .window .count ≤ 32) ⌝ }
     requires { ⌜ Fitting 1 rows (length (now noise)) (length (now «u_out»)) × Fitting (elementWords (rows .field)) rows (length (now v)) (length (now «v_out»)) ⌝ }
-    ensures { λ r. ⌜ (r, now («u_out» .exit), now («v_out» .exit))
-        ≡ windowsUnder (roundKeys (now (keys .entry))) rows (now (noise .entry)) (now (v .entry)) (now («u_out» .entry)) (now («v_out» .entry)) ⌝ }
+    ensures { λ r. ⌜ WindowWritten (roundKeys (now (keys .entry))) rows (now (noise .entry)) (now (v .entry))
+        (now («u_out» .entry)) (now («v_out» .entry)) r (now («u_out» .exit)) (now («v_out» .exit)) ⌝ }
 {
     let count = rows.window.count;
     let mut u_own = [0u64; 32];
@@ -163,8 +164,8 @@ fn write_tested(
 ) -> bool
     requires { ⌜ RoundTables (now tables) ⌝ }
     requires { ⌜ Fitting 1 rows (length (now noise)) (length (now «u_out»)) × Fitting (elementWords (rows .field)) rows (length (now v)) (length (now «v_out»)) ⌝ }
-    ensures { λ r. ⌜ (r, now («u_out» .exit), now («v_out» .exit))
-        ≡ windowsUnder (roundKeys (now (keys .entry))) rows (now (noise .entry)) (now (v .entry)) (now («u_out» .entry)) (now («v_out» .entry)) ⌝ }
+    ensures { λ r. ⌜ WindowWritten (roundKeys (now (keys .entry))) rows (now (noise .entry)) (now (v .entry))
+        (now («u_out» .entry)) (now («v_out» .entry)) r (now («u_out» .exit)) (now («v_out» .exit)) ⌝ }
 {
     if rows.window.count <= 32 {
         return write_small(tables, keys, rows, noise, v, u_out, v_out);
@@ -179,38 +180,8 @@ fn write_tested(
     true
 }
 
-// The test of the words that the rows use, and the window, under the code key's round keys.
-fn write_outputs(
-    tables: &[u64; 1536],
-    keys: &[u64; 40],
-    rows: WindowRows,
-    noise: &[u64],
-    v: &[u64],
-    u_out: &mut [u64],
-    v_out: &mut [u64],
-) -> TwoLengths
-    requires { ⌜ RoundTables (now tables) ⌝ }
-    requires { ⌜ Fitting 1 rows (length (now noise)) (length (now «u_out»)) × Fitting (elementWords (rows .field)) rows (length (now v)) (length (now «v_out»)) ⌝ }
-    ensures { λ r. ⌜ (r, now («u_out» .exit), now («v_out» .exit))
-        ≡ outputsUnder (roundKeys (now (keys .entry))) rows (now (noise .entry)) (now (v .entry)) (now («u_out» .entry)) (now («v_out» .entry)) ⌝ }
-{
-    let words = rows.window.count * element_width(rows.field);
-    if !write_tested(tables, keys, rows, noise, v, u_out, v_out) {
-        return TwoLengths {
-            number: NOT_ELEMENT,
-            first_written: 0,
-            second_written: 0,
-        };
-    }
-    TwoLengths {
-        number: 0,
-        first_written: rows.window.count,
-        second_written: words,
-    }
-}
-
-// The window's rows on a record that was accepted, once its lengths and its end were tested.
-fn write_rows(
+// The same under a record's code key.
+pub fn write_rows(
     source: &[u8],
     front: Front,
     noise: &[u64],
@@ -218,22 +189,23 @@ fn write_rows(
     window: Window,
     u_out: &mut [u64],
     v_out: &mut [u64],
-) -> TwoLengths
+) -> bool
     requires { ⌜ Ready (now source) front ⌝ }
-    requires { ⌜ Fitting 1 (rowsOf front window) (length (now noise)) (length (now «u_out»)) × Fitting (elementWords (front .field)) (rowsOf front window) (length (now v)) (length (now «v_out»)) ⌝ }
-    ensures { λ r. ⌜ on.outcome r (record { source = now (source .exit); noise = now (noise .exit); v = now (v .exit); uOut = now («u_out» .exit); vOut = now («v_out» .exit) })
-        ≡ on.rowsOutcome (headOf (now (source .entry)) front) (record { source = now (source .entry); noise = now (noise .entry); v = now (v .entry); uOut = now («u_out» .entry); vOut = now («v_out» .entry) }) (window .first) (window .count) ⌝ }
+    requires { ⌜ Fitting 1 (rowsOf front window) (length (now noise)) (length (now «u_out»))
+        × Fitting (elementWords (front .field)) (rowsOf front window) (length (now v)) (length (now «v_out»)) ⌝ }
+    ensures { λ r. ⌜ WindowWritten (codeKeys (headOf (now (source .entry)) front)) (rowsOf front window) (now (noise .entry)) (now (v .entry))
+        (now («u_out» .entry)) (now («v_out» .entry)) r (now («u_out» .exit)) (now («v_out» .exit)) ⌝ }
 {
     let sb = sbox::table();
     let mut tables = [0u64; 1536];
     sbox::fill_tables(&mut tables);
     let keys = code_keys(&sb, source, front);
     let rows = window_rows(front, window);
-    write_outputs(&tables, &keys, rows, noise, v, u_out, v_out)
+    write_tested(&tables, &keys, rows, noise, v, u_out, v_out)
 }
 
 // The number of the tests 3, 7 and 13, from the lengths of the vectors and of the output buffers.
-fn both_number(
+pub fn window_number(
     front: Front,
     noise: usize,
     vector: usize,
@@ -241,50 +213,23 @@ fn both_number(
     u_room: usize,
     room: usize,
 ) -> u32
-    requires { ⌜ (front .depth ≤ 16) × (front .outputs ≤ 32768) ⌝ }
-    ensures { λ r. ⌜ r ≡ bothNumber front noise vector window «u_room» room ⌝ }
+    requires { ⌜ front .depth ≤ 16 ⌝ }
+    ensures { λ r. ⌜ r ≡ firstFault (lengthTests front noise vector window «u_room» room) ⌝ }
 {
     if noise != leaves(front.depth) {
         return BAD_LENGTH;
     }
-    let number = lengths_number(front, vector, window, room);
-    if number != 0 {
-        return number;
+    if vector != vector_words(front) {
+        return BAD_LENGTH;
+    }
+    if is_past(window.first, window.count, front.outputs) {
+        return WINDOW_PAST_END;
     }
     if u_room < window.count {
         return BUFFER_SHORT;
     }
-    0
-}
-
-// The online call on a record that was accepted.
-pub fn write_window(
-    source: &[u8],
-    front: Front,
-    noise: &[u64],
-    v: &[u64],
-    window: Window,
-    u_out: &mut [u64],
-    v_out: &mut [u64],
-) -> TwoLengths
-    requires { ⌜ Ready (now source) front ⌝ }
-    ensures { λ r. ⌜ on.outcome r (record { source = now (source .exit); noise = now (noise .exit); v = now (v .exit); uOut = now («u_out» .exit); vOut = now («v_out» .exit) })
-        ≡ on.window (headOf (now (source .entry)) front) (record { source = now (source .entry); noise = now (noise .entry); v = now (v .entry); uOut = now («u_out» .entry); vOut = now («v_out» .entry) }) (window .first) (window .count) ⌝ }
-{
-    let number = both_number(
-        front,
-        noise.len(),
-        v.len(),
-        window,
-        u_out.len(),
-        v_out.len(),
-    );
-    if number != 0 {
-        return TwoLengths {
-            number: number,
-            first_written: 0,
-            second_written: 0,
-        };
+    if lacks_room(front.field, window.count, room) {
+        return BUFFER_SHORT;
     }
-    write_rows(source, front, noise, v, window, u_out, v_out)
+    0
 }

@@ -9,7 +9,8 @@ use native.Mathlib.Nat.{min-le-right, mul-le-mul-left, zero-add, mul-one}
 use lib.Dec.{eqb}
 use lib.ListN.{length, take, getD, replicate, length-take}
 use lib.Seq.{take-all}
-use borrow.Author.Tests.{le-ltb}
+use Rattle.answer.specs.Outcome.{Outcome, TwoWritten, outcomeOne, outcomeTwo}
+use Rattle.answer.proofs.Faults.{at-most, fault-later, fault-nowhere}
 use Rattle.algebra.specs.Choice.{choose}
 use Rattle.algebra.specs.Coding.{at}
 use Rattle.algebra.specs.Field.{NoiseValue, Value}
@@ -83,8 +84,9 @@ module _ (s : List ℕ) (f : Front) (ready : noise.Ready s f) (small : 2 ^ f .de
       let a = noise-parts s (ready .read) in
       omega (arith, head-ranges 1 s (a .2) .outputs-most)
 
-  module _ {r : TwoLengths} {n v : List ℕ} (call : noiseOffline.expanded r s n v ≡ noiseOffline.offline s (replicate 1024 0) (replicate 2048 0)) where
-    noise-accepted : noiseLaws.Accepted (noise.contentOf s f) s (noiseOffline.expanded r s n v)
+  module _ {r : TwoLengths} {n v : List ℕ}
+      (call : outcomeTwo r (noiseOffline.offlineWith s n v) ≡ noiseOffline.offline s (replicate 1024 0) (replicate 2048 0)) where
+    noise-accepted : noiseLaws.Accepted (noise.contentOf s f) s (outcomeTwo r (noiseOffline.offlineWith s n v))
     noise-accepted = rw call (noiseLaws.offline-accepts s (replicate 1024 0) (replicate 2048 0) (ready .read) small (wide f small))
 
     pub noise-front : r .«first_written» ≡ length (take (r .«first_written») n)
@@ -108,7 +110,7 @@ module _ (s : List ℕ) (f : Front) (ready : noise.Ready s f) (small : 2 ^ f .de
 
     module _ (uOut vOut : List ℕ) (u-room : length uOut ≡ 512) (v-room : length vOut ≡ 1024) where
       lent : noiseOnline.Lent
-      lent = record { source = s; noise = take (r .«first_written») n; v = take (r .«second_written») v; uOut = uOut; vOut = vOut }
+      lent = noiseOnline.lentWith s (take (r .«first_written») n) (take (r .«second_written») v) uOut vOut
 
       mu : ℕ → NoiseValue (kindOf (f .field) .field)
       mu = accumulate (kindOf (f .field) .field .ring .group) (noiseVectors.mu (noise.contentOf s f))
@@ -121,26 +123,24 @@ module _ (s : List ℕ) (f : Front) (ready : noise.Ready s f) (small : 2 ^ f .de
       noise-number =
           noiseLaws.online-number lent (noise.contentOf s f) mu v0 (ready .read) (noise-accepted .noise) (noise-accepted .v)
           (λ j h. noise-element (headOf s f) _ j) (λ j h. value-element (headOf s f) _ j) 0 (f .outputs)
-          ∙ rw (
-            le-ltb (f .outputs) (0 + f .outputs) (omega arith),
-            le-ltb (length uOut) (f .outputs) (omega (arith, noise-few)),
-            le-ltb (length vOut) (f .outputs * elementWords (f .field)) (omega (arith, room f noise-few)),
-          )
+          ∙ sym (fault-later _ _ _ 0 (at-most (0 + f .outputs) (f .outputs) (omega arith))
+          (fault-later _ _ _ 0 (at-most (f .outputs) (length uOut) (omega (arith, noise-few)))
+          (fault-later _ _ [] 0 (at-most (f .outputs * elementWords (f .field)) (length vOut) (omega (arith, room f noise-few))) fault-nowhere)))
 
       pub noise-values : {o : TwoLengths} {u vs : List ℕ}
-          → noiseOnline.outcome o (record { source = s; noise = take (r .«first_written») n; v = take (r .«second_written») v; uOut = u; vOut = vs })
-          ≡ noiseOnline.online (record { source = s; noise = take (r .«first_written») n; v = take (r .«second_written») v; uOut = uOut; vOut = vOut }) 0 (f .outputs)
+          → outcomeTwo o (noiseOnline.lentWith s (take (r .«first_written») n) (take (r .«second_written») v) u vs)
+          ≡ noiseOnline.online (noiseOnline.lentWith s (take (r .«first_written») n) (take (r .«second_written») v) uOut vOut) 0 (f .outputs)
           → NoiseOutputs s f u vs
       unfolding lent mu v0
       noise-values window =
           record {
             u-is = λ x h.
-                ap (λ (l : noiseOnline.Outcome). at (kindOf (f .field) .field .noiseValues) (l .lent .uOut) x) window
+                ap (λ (l : Outcome TwoWritten noiseOnline.Lent). at (kindOf (f .field) .field .noiseValues) (l .lent .uOut) x) window
                 ∙ noiseLaws.online-u lent (noise.contentOf s f) mu v0 (ready .read) (noise-accepted .noise) (noise-accepted .v)
                 (λ j h. noise-element (headOf s f) _ j) (λ j h. value-element (headOf s f) _ j) 0 (f .outputs) noise-number x h
                 ∙ ap (uAt (noise.contentOf s f)) (zero-add x);
             v-is = λ x h.
-                ap (λ (l : noiseOnline.Outcome). at (kindOf (f .field) .field .elements) (l .lent .vOut) x) window
+                ap (λ (l : Outcome TwoWritten noiseOnline.Lent). at (kindOf (f .field) .field .elements) (l .lent .vOut) x) window
                 ∙ noiseLaws.online-v lent (noise.contentOf s f) mu v0 (ready .read) (noise-accepted .noise) (noise-accepted .v)
                 (λ j h. noise-element (headOf s f) _ j) (λ j h. value-element (headOf s f) _ j) 0 (f .outputs) noise-number x h
                 ∙ ap (vAt (noise.contentOf s f)) (zero-add x);
@@ -155,8 +155,8 @@ module _ (t : List ℕ) (f : Front) (ready : scalar.Ready t f) (small : 2 ^ f .d
       omega (arith, head-ranges 2 t (a .3) .outputs-most)
 
   module _ (delta₀ : List ℕ) (two : length delta₀ ≡ 2) {r : TwoLengths} {w delta : List ℕ}
-      (call : scalarOffline.expanded r t w delta ≡ scalarOffline.offline t (replicate 2048 0) delta₀) where
-    scalar-accepted : scalarLaws.Accepted (scalar.contentOf t f) t (scalarOffline.expanded r t w delta)
+      (call : outcomeTwo r (scalarOffline.offlineWith t w delta) ≡ scalarOffline.offline t (replicate 2048 0) delta₀) where
+    scalar-accepted : scalarLaws.Accepted (scalar.contentOf t f) t (outcomeTwo r (scalarOffline.offlineWith t w delta))
     scalar-accepted = rw call (scalarLaws.offline-accepts t (replicate 2048 0) delta₀ (ready .read) (wide f small) (omega arith))
 
     pub w-front : r .«first_written» ≡ length (take (r .«first_written») w)
@@ -170,7 +170,7 @@ module _ (t : List ℕ) (f : Front) (ready : scalar.Ready t f) (small : 2 ^ f .d
 
     module _ (wOut : List ℕ) (w-room : length wOut ≡ 1024) where
       borrowed : scalarOnline.Lent
-      borrowed = record { source = t; w = take (r .«first_written») w; wOut = wOut }
+      borrowed = scalarOnline.lentWith t (take (r .«first_written») w) wOut
 
       w0 : ℕ → Value (kindOf (f .field) .field)
       w0 = accumulate (kindOf (f .field) .field .scaled .group) (scalarVectors.w0 (scalar.contentOf t f))
@@ -179,11 +179,12 @@ module _ (t : List ℕ) (f : Front) (ready : scalar.Ready t f) (small : 2 ^ f .d
       unfolding borrowed w0
       scalar-number =
           scalarLaws.online-number borrowed (scalar.contentOf t f) w0 (ready .read) (scalar-accepted .w) (λ j h. value-element (headOf t f) _ j) 0 (f .outputs)
-          ∙ rw (le-ltb (f .outputs) (0 + f .outputs) (omega arith), le-ltb (length wOut) (f .outputs * elementWords (f .field)) (omega (arith, room f scalar-few)))
+          ∙ sym (fault-later _ _ _ 0 (at-most (0 + f .outputs) (f .outputs) (omega arith))
+          (fault-later _ _ [] 0 (at-most (f .outputs * elementWords (f .field)) (length wOut) (omega (arith, room f scalar-few))) fault-nowhere))
 
       pub scalar-values : length delta ≡ length delta₀ → {o : OneLength} {ws : List ℕ}
-          → scalarOnline.outcome o (record { source = t; w = take (r .«first_written») w; wOut = ws })
-          ≡ scalarOnline.online (record { source = t; w = take (r .«first_written») w; wOut = wOut }) 0 (f .outputs)
+          → outcomeOne o (scalarOnline.lentWith t (take (r .«first_written») w) ws)
+          ≡ scalarOnline.online (scalarOnline.lentWith t (take (r .«first_written») w) wOut) 0 (f .outputs)
           → ScalarOutputs t f ws delta
       unfolding borrowed w0
       scalar-values kept window =
@@ -191,7 +192,7 @@ module _ (t : List ℕ) (f : Front) (ready : scalar.Ready t f) (small : 2 ^ f .d
           sym (take-all 2 delta (omega arith)) ∙ ap (λ (k : ℕ). take k delta) (sym (scalar-accepted .secondWritten)) ∙ scalar-accepted .delta in
           record {
             w-is = λ x h.
-                ap (λ (l : scalarOnline.Outcome). at (kindOf (f .field) .field .elements) (l .lent .wOut) x) window
+                ap (λ (l : Outcome ℕ scalarOnline.Lent). at (kindOf (f .field) .field .elements) (l .lent .wOut) x) window
                 ∙ scalarLaws.online-values borrowed (scalar.contentOf t f) w0 (ready .read) (scalar-accepted .w) (λ j h. value-element (headOf t f) _ j) 0 (f .outputs) scalar-number x h
                 ∙ ap (wAt (scalar.contentOf t f)) (zero-add x);
             delta-is = ap (λ (l : List ℕ). kindOf (f .field) .field .elements .read l 0) whole ∙ delta-read (f .field) (scalar.contentOf t f .delta);

@@ -1,15 +1,12 @@
 -- Laws shaped like what the functions of `rows` are asked.
 use mathlib.Core.Path.{_≡_, refl, sym, ap, _∙_}
-use mathlib.Core.Bool.{Bool, true}
+use mathlib.Core.Bool.{Bool}
 use mathlib.Core.List.{List, _++_, append-nil}
 use Prim.Native.Nat.{ℕ, _+_, _-_, _*_, _≤_, _<_}
 use native.Mathlib.Omega.{arith}
-use lib.Dec.{ltb}
 use lib.ListN.{length, drop, replicate, set, length-set}
 use lib.Seq.{drop-length}
 use borrow.Author.Fill.{fill-none, fill-more}
-use borrow.Author.Tests.{ltb-true, lt-ltb}
-use Rattle.algebra.proofs.Tests.{together}
 use Rattle.algebra.specs.Coding.{at, flat}
 use Rattle.algebra.specs.Inner.Put.{put}
 use Rattle.algebra.specs.Sum.{accumulate}
@@ -31,15 +28,6 @@ use Rattle.rows.specs.Inner.Testing.{elementsUsed}
 use Rattle.rows.proofs.Blocks.{columns-part}
 use Rattle.rows.proofs.Passed.{all-primes, prime-used}
 use Rattle.rows.proofs.Widths.{whole-prime}
-
-pub past-by-first : (first count end : ℕ) → count ≤ end → ltb (end - count) first ≡ ltb end (first + count)
-past-by-first first count end h =
-    together (ltb (end - count) first) (ltb end (first + count))
-    (λ e. lt-ltb end (first + count) (omega (arith, ltb-true (end - count) first e)))
-    (λ e. lt-ltb (end - count) first (omega (arith, ltb-true end (first + count) e)))
-
-pub past-by-count : (first count end : ℕ) → end < count → true ≡ ltb end (first + count)
-past-by-count first count end h = sym (lt-ltb end (first + count) (omega arith))
 
 pub keys-at : (s : List ℕ) (f : Front) {at : ℕ} {c : List (List ℕ)} (words : List ℕ) → at ≡ f .body - 32 → c ≡ columnsAt s at
     → roundKeys words ≡ keyExpansion c → roundKeys words ≡ codeKeys (headOf s f)

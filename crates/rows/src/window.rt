@@ -1,14 +1,15 @@
 // A window's rows, by a record's front: the tests of its lengths and of the words that it uses, and the code key.
 ghost use mathlib.Core.Path.{_≡_};
-ghost use Prim.Native.Nat.{_+_, _-_, _≤_};
+ghost use Prim.Native.Nat.{_-_, _*_, _^_, _≤_};
 ghost use lib.Dec.{ltb};
 ghost use lib.ListN.{length};
 ghost use Rattle.sbox.specs.Inner.Tables.{RoundTables};
 ghost use Rattle.sbox.specs.Table.{SBoxTable};
 ghost use Rattle.aes128.specs.Inner.Words.{roundKeys};
 ghost use Rattle.field.specs.Kind.{kindOf, elementWords};
+ghost use Rattle.answer.specs.Tests.{firstFault};
 ghost use Rattle.record.specs.Answer.{headOf};
-ghost use Rattle.rows.specs.Inner.Numbers.{lengthsNumber};
+ghost use Rattle.rows.specs.Inner.Numbers.{vectorTests};
 ghost use Rattle.rows.specs.Inner.Outputs.{codeKeys, rowsOf};
 ghost use Rattle.rows.specs.Inner.Testing.{Testing, elementsUsed};
 use crate::WindowRows;
@@ -17,6 +18,8 @@ use aes128::schedule;
 use answer::BAD_LENGTH;
 use answer::BUFFER_SHORT;
 use answer::WINDOW_PAST_END;
+use answer::is_past;
+use answer::is_short;
 use code::Shape;
 use code::Window;
 use code::used_below;
@@ -42,30 +45,33 @@ pub fn window_rows(front: Front, window: Window) -> WindowRows
     }
 }
 
-// Whether a window passes the outputs, for any two numbers.
-fn past_end(window: Window, outputs: usize) -> bool
-    ensures { λ r. ⌜ r ≡ ltb outputs (window .first + window .count) ⌝ }
+// How many words N elements take.
+pub fn vector_words(front: Front) -> usize
+    requires { ⌜ front .depth ≤ 16 ⌝ }
+    ensures { λ r. ⌜ r ≡ 2 ^ front .depth * elementWords (front .field) ⌝ }
 {
-    if window.count <= outputs {
-        outputs - window.count < window.first
-    } else {
-        true
-    }
+    leaves(front.depth) * element_width(front.field)
+}
+
+// Whether a buffer is too short for so many elements of a field.
+pub fn lacks_room(field: usize, count: usize, room: usize) -> bool
+    ensures { λ r. ⌜ r ≡ ltb room (count * elementWords field) ⌝ }
+{
+    is_short(room, element_width(field), count)
 }
 
 // The number of the tests 3, 7 and 13, from the lengths of a vector of elements and of the buffer for a window of them.
 pub fn lengths_number(front: Front, vector: usize, window: Window, room: usize) -> u32
-    requires { ⌜ (front .depth ≤ 16) × (front .outputs ≤ 32768) ⌝ }
-    ensures { λ r. ⌜ r ≡ lengthsNumber front vector window room ⌝ }
+    requires { ⌜ front .depth ≤ 16 ⌝ }
+    ensures { λ r. ⌜ r ≡ firstFault (vectorTests front vector window room) ⌝ }
 {
-    let width = element_width(front.field);
-    if vector != leaves(front.depth) * width {
+    if vector != vector_words(front) {
         return BAD_LENGTH;
     }
-    if past_end(window, front.outputs) {
+    if is_past(window.first, window.count, front.outputs) {
         return WINDOW_PAST_END;
     }
-    if room < window.count * width {
+    if lacks_room(front.field, window.count, room) {
         return BUFFER_SHORT;
     }
     0

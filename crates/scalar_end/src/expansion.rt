@@ -11,10 +11,7 @@ ghost use Rattle.tree.specs.Columns.{columnsAt};
 ghost use Rattle.tree.specs.Inner.Branches.{IsBranch};
 ghost use Rattle.scalar_end.specs.Vectors.{w0};
 ghost use Rattle.scalar_end.specs.Inner.Steps.{treeAdded, deltaAt};
-ghost use Rattle.scalar_end.specs.Offline.{expanded, expand};
 ghost use Rattle.scalar_end.specs.Inner.Ready.{Ready, TreesFit, contentOf};
-use answer::BUFFER_SHORT;
-use answer::TwoLengths;
 use field::word_at;
 use fill::add_leaves;
 use record::Front;
@@ -90,7 +87,7 @@ fn write_trees(source: &[u8], front: Front, w: &mut [u64])
 }
 
 // Writes the accumulated w0.
-fn write_accumulated(source: &[u8], front: Front, w: &mut [u64])
+pub fn write_accumulated(source: &[u8], front: Front, w: &mut [u64])
     requires { ⌜ Ready (now source) front × (length (now w) ≡ 2 ^ front .depth * elementWords (front .field)) ⌝ }
     ensures { λ _. ⌜ now (w .exit) ≡ flat (kindOf (front .field) .field .elements) (2 ^ front .depth)
         (accumulate (kindOf (front .field) .field .scaled .group) (w0 (contentOf (now (source .entry)) front))) ⌝ }
@@ -100,7 +97,7 @@ fn write_accumulated(source: &[u8], front: Front, w: &mut [u64])
 }
 
 // Writes the two words of Δ, which begins at a place.
-fn write_delta(source: &[u8], at: usize, field: usize, delta: &mut [u64])
+pub fn write_delta(source: &[u8], at: usize, field: usize, delta: &mut [u64])
     requires { ⌜ (at + 8 * elementWords field ≤ length (now source)) × (2 ≤ length (now delta)) ⌝ }
     ensures { λ _. ⌜ now (delta .exit) ≡ deltaAt field (now (source .entry)) at ++ drop 2 (now (delta .entry)) ⌝ }
 {
@@ -109,34 +106,5 @@ fn write_delta(source: &[u8], at: usize, field: usize, delta: &mut [u64])
         delta[1] = word_at(source, at + 8);
     } else {
         delta[1] = 0;
-    }
-}
-
-// The offline call on a record that was accepted.
-pub fn write_vectors(source: &[u8], front: Front, w: &mut [u64], delta: &mut [u64]) -> TwoLengths
-    requires { ⌜ Ready (now source) front ⌝ }
-    ensures { λ r. ⌜ expanded r (now (source .exit)) (now (w .exit)) (now (delta .exit)) ≡ expand (contentOf (now (source .entry)) front) (now (source .entry)) (now (w .entry)) (now (delta .entry)) ⌝ }
-{
-    let words = leaves(front.depth) * element_width(front.field);
-    if w.len() < words {
-        return TwoLengths {
-            number: BUFFER_SHORT,
-            first_written: 0,
-            second_written: 0,
-        };
-    }
-    if delta.len() < 2 {
-        return TwoLengths {
-            number: BUFFER_SHORT,
-            first_written: 0,
-            second_written: 0,
-        };
-    }
-    write_accumulated(source, front, &mut w[..words]);
-    write_delta(source, front.body, front.field, delta);
-    TwoLengths {
-        number: 0,
-        first_written: words,
-        second_written: 2,
     }
 }

@@ -1,23 +1,31 @@
 // The scalar end's calls: offline writes the accumulated w0 and Δ, online a window of w. A refused call writes nothing.
 ghost use mathlib.Core.Path.{_≡_};
-ghost use Rattle.scalar_end.specs.Offline.{expanded, offline};
-ghost use Rattle.scalar_end.specs.Online.{outcome, online};
+ghost use Rattle.answer.specs.Outcome.{outcomeOne, outcomeTwo};
+ghost use Rattle.scalar_end.specs.Offline.{offlineWith, offline};
+ghost use Rattle.scalar_end.specs.Online.{lentWith, online};
 
 mod expansion;
 mod window;
 
+use answer::BUFFER_SHORT;
+use answer::NOT_ELEMENT;
 use answer::OneLength;
 use answer::TwoLengths;
 use code::Window;
-use expansion::write_vectors;
+use expansion::write_accumulated;
+use expansion::write_delta;
 use record::Opened;
 use record::read_scalar;
+use rows::element_width;
 use rows::fault_of;
-use window::write_window;
+use rows::lengths_number;
+use rows::vector_words;
+use window::write_rows;
 
 // Writes the accumulated w0 to the front of w, and the two words of Δ.
 pub fn offline(source: &[u8], w: &mut [u64], delta: &mut [u64]) -> TwoLengths
-    ensures { λ r. ⌜ expanded r (now (source .exit)) (now (w .exit)) (now (delta .exit)) ≡ offline (now (source .entry)) (now (w .entry)) (now (delta .entry)) ⌝ }
+    ensures { λ r. ⌜ outcomeTwo r (offlineWith (now (source .exit)) (now (w .exit)) (now (delta .exit)))
+        ≡ offline (now (source .entry)) (now (w .entry)) (now (delta .entry)) ⌝ }
 {
     let r = read_scalar(source);
     let Opened::Accepted(front) = r else {
@@ -27,13 +35,34 @@ pub fn offline(source: &[u8], w: &mut [u64], delta: &mut [u64]) -> TwoLengths
             second_written: 0,
         };
     };
-    write_vectors(source, front, w, delta)
+    let words = vector_words(front);
+    if w.len() < words {
+        return TwoLengths {
+            number: BUFFER_SHORT,
+            first_written: 0,
+            second_written: 0,
+        };
+    }
+    if delta.len() < 2 {
+        return TwoLengths {
+            number: BUFFER_SHORT,
+            first_written: 0,
+            second_written: 0,
+        };
+    }
+    write_accumulated(source, front, &mut w[..words]);
+    write_delta(source, front.body, front.field, delta);
+    TwoLengths {
+        number: 0,
+        first_written: words,
+        second_written: 2,
+    }
 }
 
 // Writes the window's outputs of the accumulated vector w to the front of w_out.
 pub fn online(source: &[u8], w: &[u64], first: usize, count: usize, w_out: &mut [u64]) -> OneLength
-    ensures { λ r. ⌜ outcome r (record { source = now (source .exit); w = now (w .exit); wOut = now («w_out» .exit) })
-        ≡ online (record { source = now (source .entry); w = now (w .entry); wOut = now («w_out» .entry) }) first count ⌝ }
+    ensures { λ r. ⌜ outcomeOne r (lentWith (now (source .exit)) (now (w .exit)) (now («w_out» .exit)))
+        ≡ online (lentWith (now (source .entry)) (now (w .entry)) (now («w_out» .entry))) first count ⌝ }
 {
     let r = read_scalar(source);
     let Opened::Accepted(front) = r else {
@@ -42,5 +71,23 @@ pub fn online(source: &[u8], w: &[u64], first: usize, count: usize, w_out: &mut 
             written: 0,
         };
     };
-    write_window(source, front, w, Window { first, count }, w_out)
+    let window = Window { first, count };
+    let number = lengths_number(front, w.len(), window, w_out.len());
+    if number != 0 {
+        return OneLength {
+            number: number,
+            written: 0,
+        };
+    }
+    let words = count * element_width(front.field);
+    if !write_rows(source, front, w, window, w_out) {
+        return OneLength {
+            number: NOT_ELEMENT,
+            written: 0,
+        };
+    }
+    OneLength {
+        number: 0,
+        written: words,
+    }
 }

@@ -7,14 +7,11 @@ ghost use Rattle.aes128.specs.Inner.Words.{roundKeys};
 ghost use Rattle.field.specs.Binary.{binary};
 ghost use Rattle.field.specs.Kind.{kindOf, binaryKind, primeKind, elementWords};
 ghost use Rattle.field.specs.Prime.{primes};
-ghost use Rattle.rows.specs.Inner.Outputs.{rowsOf, windowOver};
+ghost use Rattle.rows.specs.Inner.Outputs.{codeKeys, rowsOf, windowOver};
 ghost use Rattle.rows.specs.Inner.Testing.{Fitting, elementsUsed};
 ghost use Rattle.record.specs.Answer.{headOf};
-ghost use Rattle.scalar_end.specs.Online as on;
 ghost use Rattle.scalar_end.specs.Inner.Ready.{Ready};
-ghost use Rattle.scalar_end.specs.Inner.Steps.{windowUnder, outputsUnder};
-use answer::NOT_ELEMENT;
-use answer::OneLength;
+ghost use Rattle.scalar_end.specs.Inner.Steps.{WindowWritten};
 use code::Window;
 use record::Front;
 use row_sums::scalar_row_binary;
@@ -24,7 +21,6 @@ use rows::code_keys;
 use rows::copy_front;
 use rows::element_width;
 use rows::elements_used;
-use rows::lengths_number;
 use rows::put_block;
 use rows::window_rows;
 
@@ -104,7 +100,7 @@ fn write_small(
 ) -> bool
     requires { ⌜ RoundTables (now tables) × (rows .window .count ≤ 32) ⌝ }
     requires { ⌜ Fitting (elementWords (rows .field)) rows (length (now w)) (length (now «w_out»)) ⌝ }
-    ensures { λ r. ⌜ (r, now («w_out» .exit)) ≡ windowUnder (roundKeys (now (keys .entry))) rows (now (w .entry)) (now («w_out» .entry)) ⌝ }
+    ensures { λ r. ⌜ WindowWritten (roundKeys (now (keys .entry))) rows (now (w .entry)) (now («w_out» .entry)) r (now («w_out» .exit)) ⌝ }
 {
     let mut own = [0u64; 64];
     if !fill(tables, keys, rows, w, &mut own) {
@@ -124,7 +120,7 @@ fn write_tested(
 ) -> bool
     requires { ⌜ RoundTables (now tables) ⌝ }
     requires { ⌜ Fitting (elementWords (rows .field)) rows (length (now w)) (length (now «w_out»)) ⌝ }
-    ensures { λ r. ⌜ (r, now («w_out» .exit)) ≡ windowUnder (roundKeys (now (keys .entry))) rows (now (w .entry)) (now («w_out» .entry)) ⌝ }
+    ensures { λ r. ⌜ WindowWritten (roundKeys (now (keys .entry))) rows (now (w .entry)) (now («w_out» .entry)) r (now («w_out» .exit)) ⌝ }
 {
     if rows.window.count <= 32 {
         return write_small(tables, keys, rows, w, w_out);
@@ -136,69 +132,16 @@ fn write_tested(
     true
 }
 
-// The test of the words that the rows use, and the window, under the code key's round keys.
-fn write_outputs(
-    tables: &[u64; 1536],
-    keys: &[u64; 40],
-    rows: WindowRows,
-    w: &[u64],
-    w_out: &mut [u64],
-) -> OneLength
-    requires { ⌜ RoundTables (now tables) ⌝ }
-    requires { ⌜ Fitting (elementWords (rows .field)) rows (length (now w)) (length (now «w_out»)) ⌝ }
-    ensures { λ r. ⌜ (r, now («w_out» .exit)) ≡ outputsUnder (roundKeys (now (keys .entry))) rows (now (w .entry)) (now («w_out» .entry)) ⌝ }
-{
-    let words = rows.window.count * element_width(rows.field);
-    if !write_tested(tables, keys, rows, w, w_out) {
-        return OneLength {
-            number: NOT_ELEMENT,
-            written: 0,
-        };
-    }
-    OneLength {
-        number: 0,
-        written: words,
-    }
-}
-
-// The window's rows on a record that was accepted, once its lengths and its end were tested.
-fn write_rows(
-    source: &[u8],
-    front: Front,
-    w: &[u64],
-    window: Window,
-    w_out: &mut [u64],
-) -> OneLength
+// The same under a record's code key.
+pub fn write_rows(source: &[u8], front: Front, w: &[u64], window: Window, w_out: &mut [u64]) -> bool
     requires { ⌜ Ready (now source) front ⌝ }
     requires { ⌜ Fitting (elementWords (front .field)) (rowsOf front window) (length (now w)) (length (now «w_out»)) ⌝ }
-    ensures { λ r. ⌜ on.outcome r (record { source = now (source .exit); w = now (w .exit); wOut = now («w_out» .exit) })
-        ≡ on.rowsOutcome (headOf (now (source .entry)) front) (record { source = now (source .entry); w = now (w .entry); wOut = now («w_out» .entry) }) (window .first) (window .count) ⌝ }
+    ensures { λ r. ⌜ WindowWritten (codeKeys (headOf (now (source .entry)) front)) (rowsOf front window) (now (w .entry)) (now («w_out» .entry))
+        r (now («w_out» .exit)) ⌝ }
 {
     let sb = sbox::table();
     let mut tables = [0u64; 1536];
     sbox::fill_tables(&mut tables);
     let keys = code_keys(&sb, source, front);
-    write_outputs(&tables, &keys, window_rows(front, window), w, w_out)
-}
-
-// The online call on a record that was accepted.
-pub fn write_window(
-    source: &[u8],
-    front: Front,
-    w: &[u64],
-    window: Window,
-    w_out: &mut [u64],
-) -> OneLength
-    requires { ⌜ Ready (now source) front ⌝ }
-    ensures { λ r. ⌜ on.outcome r (record { source = now (source .exit); w = now (w .exit); wOut = now («w_out» .exit) })
-        ≡ on.window (headOf (now (source .entry)) front) (record { source = now (source .entry); w = now (w .entry); wOut = now («w_out» .entry) }) (window .first) (window .count) ⌝ }
-{
-    let number = lengths_number(front, w.len(), window, w_out.len());
-    if number != 0 {
-        return OneLength {
-            number: number,
-            written: 0,
-        };
-    }
-    write_rows(source, front, w, window, w_out)
+    write_tested(&tables, &keys, window_rows(front, window), w, w_out)
 }

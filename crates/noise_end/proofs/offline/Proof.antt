@@ -1,7 +1,8 @@
--- `noise_end::offline` meets its contract: the record is refused, or what it was read as is expanded. Assumes nothing.
+-- `noise_end::offline` meets its contract: one law for each return. Assumes nothing.
 use borrow.Author.Needs.{needs}
+use Rattle.rows.proofs.Flats.{front-length}
 use Rattle.noise_end.proofs.Content.{ready}
-use Rattle.noise_end.proofs.Calls.{offline-fault, offline-opened}
+use Rattle.noise_end.proofs.Calls.{depth-most, offline-fault, short-noise, short-v, front-noise, front-words, vectors-written}
 use Rattle.noise_end.proofs.offline.Statement.{statement}
 use Rattle.noise_end.proofs.offline.Tie as tie
 
@@ -14,8 +15,16 @@ offline-spec =
     (λ c. search needs)  -- enum-told
     (λ c κs. search needs)  -- fault-of-requires
     (λ c. search offline-fault)  -- returns
-    (λ c κs. search ready)  -- write-vectors-requires
+    (λ c κs. search depth-most)  -- leaves-requires
+    (λ c. search short-noise)  -- returns-2
+    (λ c κs. search depth-most)  -- vector-words-requires
+    (λ c. search short-v)  -- returns-3
+    (λ c. search needs)  -- slice-relend-prefix-write-accumulated
+    (λ c. search front-length)  -- slice-aggregate-write-accumulated
+    (λ c. search needs)  -- slice-relend-prefix-write-accumulated-2
+    (λ c. search front-length)  -- slice-aggregate-write-accumulated-2
+    (λ c κs. (search ready, search front-noise, search front-words))  -- write-accumulated-requires
     (λ c. search needs)  -- same-length
     (λ c. search needs)  -- same-length-2
-    (λ c. search offline-opened)  -- returns-2
+    (λ c. search vectors-written)  -- returns-4
     )

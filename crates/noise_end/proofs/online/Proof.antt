@@ -1,7 +1,7 @@
--- `noise_end::online` meets its contract: the record is refused, or the window is that of its head. Assumes nothing.
+-- `noise_end::online` meets its contract: one law for each return. Assumes nothing.
 use borrow.Author.Needs.{needs}
 use Rattle.noise_end.proofs.Content.{ready}
-use Rattle.noise_end.proofs.Calls.{online-fault, online-opened}
+use Rattle.noise_end.proofs.Calls.{depth-most, online-fault, online-refused, u-fitting, v-fitting, words-fit, online-unfit, online-written}
 use Rattle.noise_end.proofs.online.Statement.{statement}
 use Rattle.noise_end.proofs.online.Tie as tie
 
@@ -14,8 +14,15 @@ online-spec =
     (λ c. search needs)  -- enum-told
     (λ c κs. search needs)  -- fault-of-requires
     (λ c. search online-fault)  -- returns
-    (λ c κs. search ready)  -- write-window-requires
+    (λ c κs. search depth-most)  -- window-number-requires
+    (λ c. search online-refused)  -- returns-2
+    (λ c κs. search needs)  -- element-width-requires
+    (λ c. search words-fit)  -- mul-words
+    (λ c κs. (search ready, (search u-fitting, search v-fitting)))  -- write-rows-requires
     (λ c. search needs)  -- same-length
     (λ c. search needs)  -- same-length-2
-    (λ c. search online-opened)  -- returns-2
+    (λ c. search online-unfit)  -- returns-3
+    (λ c. search needs)  -- same-length-3
+    (λ c. search needs)  -- same-length-4
+    (λ c. search online-written)  -- returns-4
     )

@@ -1,10 +1,10 @@
--- Inner: no promise cites this file. A punctured tree added, a window's outcome under round keys, and the number of its tests.
-use mathlib.Core.Bool.{Bool, true, false, _&&_, _||_, not}
+-- Inner: no promise cites this file. A punctured tree added, windows written under round keys, and the tests before them.
+use mathlib.Core.Bool.{Bool, _&&_}
 use mathlib.Core.List.{List, [], _∷_}
-use Prim.Native.Nat.{ℕ, _*_, _/_, _^_}
-use lib.Dec.{ltb, eqb}
-use Rattle.answer.specs.Numbers.{accepted, notElement}
-use Rattle.answer.specs.declared.TwoLengths.{TwoLengths}
+use mathlib.Core.Path.{_≡_}
+use Prim.Native.Nat.{ℕ, _+_, _*_, _/_, _^_}
+use Rattle.answer.specs.Numbers.{badLength, windowPastEnd, bufferShort}
+use Rattle.answer.specs.Tests.{Test, _is_, _atMost_, _or_}
 use Rattle.algebra.specs.Choice.{choose}
 use Rattle.code.specs.declared.Window.{Window}
 use Rattle.field.specs.Kind.{kindOf, elementWords}
@@ -15,7 +15,6 @@ use Rattle.tree.specs.Inner.Keys.{keysFor}
 use Rattle.tree.specs.Expanded.{puncturedAdded}
 use Rattle.tree.specs.declared.punctured.Punctured.{Punctured}
 use Rattle.rows.specs.declared.WindowRows.{WindowRows}
-use Rattle.rows.specs.Inner.Numbers.{testsNumber, wrongVector, pastOutputs, shortBuffer}
 use Rattle.rows.specs.Inner.Outputs.{ofNoise, windowOver}
 use Rattle.rows.specs.Inner.Testing.{elementsUsed}
 
@@ -40,20 +39,19 @@ uOver keys r noise uOut = windowOver (ofNoise (kindOf (r .field) .field)) (kindO
 abbrev pub vOver : List (List (List ℕ)) → WindowRows → List ℕ → List ℕ → List ℕ
 vOver keys r v vOut = windowOver (kindOf (r .field) .field) (kindOf (r .field) .coefficient) keys r v vOut
 
--- the windows, if all words pass the test; else nothing is written
-unfoldable pub windowsUnder : List (List (List ℕ)) → WindowRows → List ℕ → List ℕ → List ℕ → List ℕ → Bool × List ℕ × List ℕ
-windowsUnder keys r noise v uOut vOut = choose (bothUsed keys r noise v) (true, uOver keys r noise uOut, vOver keys r v vOut) (false, uOut, vOut)
-
--- the test 8, and the windows
-unfoldable pub outputsUnder : List (List (List ℕ)) → WindowRows → List ℕ → List ℕ → List ℕ → List ℕ → TwoLengths × List ℕ × List ℕ
-outputsUnder keys r noise v uOut vOut =
-    choose (not (bothUsed keys r noise v)) (record { number = notElement; «first_written» = 0; «second_written» = 0 }, uOut, vOut) (
-      record { number = accepted; «first_written» = r .window .count; «second_written» = r .window .count * elementWords (r .field) },
-      uOver keys r noise uOut,
-      vOver keys r v vOut,
-    )
+-- the windows are written if all words pass the test, which is told; else nothing is
+pub record WindowWritten (keys : List (List (List ℕ))) (r : WindowRows) (noise v uOut vOut : List ℕ) (passed : Bool) (uAfter vAfter : List ℕ)
+    : Type 0 where
+  pub told : passed ≡ bothUsed keys r noise v
+  pub u-is : uAfter ≡ choose passed (uOver keys r noise uOut) uOut
+  pub v-is : vAfter ≡ choose passed (vOver keys r v vOut) vOut
 
 -- the tests 3, 7 and 13, from the lengths of both vectors and of both buffers
-unfoldable pub bothNumber : Front → ℕ → ℕ → Window → ℕ → ℕ → ℕ
-bothNumber f noise vector w uRoom room =
-    testsNumber (not (eqb noise (2 ^ f .depth)) || wrongVector f vector) (pastOutputs f w) (ltb uRoom (w .count) || shortBuffer f w room)
+abbrev pub lengthTests : Front → ℕ → ℕ → Window → ℕ → ℕ → List Test
+lengthTests f noise vector w uRoom room =
+    noise is 2 ^ f .depth or badLength
+    ∷ vector is 2 ^ f .depth * elementWords (f .field) or badLength
+    ∷ (w .first + w .count) atMost f .outputs or windowPastEnd
+    ∷ w .count atMost uRoom or bufferShort
+    ∷ w .count * elementWords (f .field) atMost room or bufferShort
+    ∷ []

@@ -1,26 +1,16 @@
--- Inner: no promise cites this file. The number of the tests 3, 7 and 13 of an online call.
-use mathlib.Core.Bool.{Bool, not}
+-- Inner: no promise cites this file. The tests 3, 7 and 13 of an online call, by what the code has.
+use mathlib.Core.List.{List, [], _∷_}
 use Prim.Native.Nat.{ℕ, _+_, _*_, _^_}
-use lib.Dec.{eqb, ltb}
 use Rattle.answer.specs.Numbers.{badLength, windowPastEnd, bufferShort}
-use Rattle.algebra.specs.Choice.{choose}
+use Rattle.answer.specs.Tests.{Test, _is_, _atMost_, _or_}
 use Rattle.code.specs.declared.Window.{Window}
 use Rattle.field.specs.Kind.{elementWords}
 use Rattle.record.specs.declared.Front.{Front}
 
--- of three tests the first that fails; 0 where none does
-abbrev pub testsNumber : Bool → Bool → Bool → ℕ
-testsNumber wrong past short = choose wrong badLength (choose past windowPastEnd (choose short bufferShort 0))
-
--- 3: not N elements; 7: past the outputs; 13: no room for the window's elements
-abbrev pub wrongVector : Front → ℕ → Bool
-wrongVector f vector = not (eqb vector (2 ^ f .depth * elementWords (f .field)))
-
-abbrev pub pastOutputs : Front → Window → Bool
-pastOutputs f w = ltb (f .outputs) (w .first + w .count)
-
-abbrev pub shortBuffer : Front → Window → ℕ → Bool
-shortBuffer f w room = ltb room (w .count * elementWords (f .field))
-
-unfoldable pub lengthsNumber : Front → ℕ → Window → ℕ → ℕ
-lengthsNumber f vector w room = testsNumber (wrongVector f vector) (pastOutputs f w) (shortBuffer f w room)
+-- from the lengths of a vector of N elements and of the buffer for a window of them
+abbrev pub vectorTests : Front → ℕ → Window → ℕ → List Test
+vectorTests f vector w room =
+    vector is 2 ^ f .depth * elementWords (f .field) or badLength
+    ∷ (w .first + w .count) atMost f .outputs or windowPastEnd
+    ∷ w .count * elementWords (f .field) atMost room or bufferShort
+    ∷ []

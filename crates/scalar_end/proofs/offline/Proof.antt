@@ -1,7 +1,8 @@
--- `scalar_end::offline` meets its contract: the record is refused, or what it was read as is expanded. Assumes nothing.
+-- `scalar_end::offline` meets its contract: one law for each return. Assumes nothing.
 use borrow.Author.Needs.{needs}
+use Rattle.rows.proofs.Flats.{front-length}
 use Rattle.scalar_end.proofs.Content.{ready}
-use Rattle.scalar_end.proofs.Calls.{offline-fault, offline-opened}
+use Rattle.scalar_end.proofs.Calls.{depth-most, delta-in, offline-fault, short-w, short-delta, front-words, vectors-written}
 use Rattle.scalar_end.proofs.offline.Statement.{statement}
 use Rattle.scalar_end.proofs.offline.Tie as tie
 
@@ -14,8 +15,14 @@ offline-spec =
     (λ c. search needs)  -- enum-told
     (λ c κs. search needs)  -- fault-of-requires
     (λ c. search offline-fault)  -- returns
-    (λ c κs. search ready)  -- write-vectors-requires
+    (λ c κs. search depth-most)  -- vector-words-requires
+    (λ c. search short-w)  -- returns-2
+    (λ c. search short-delta)  -- returns-3
+    (λ c. search needs)  -- slice-relend-prefix-write-accumulated
+    (λ c. search front-length)  -- slice-aggregate-write-accumulated
+    (λ c κs. (search ready, search front-words))  -- write-accumulated-requires
+    (λ c κs. (search delta-in, search needs))  -- write-delta-requires
     (λ c. search needs)  -- same-length
     (λ c. search needs)  -- same-length-2
-    (λ c. search offline-opened)  -- returns-2
+    (λ c. search vectors-written)  -- returns-4
     )

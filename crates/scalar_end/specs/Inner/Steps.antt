@@ -1,13 +1,12 @@
--- Inner: no promise cites this file. A tree added, Δ from its place, and a window's outcome under round keys.
-use mathlib.Core.Bool.{Bool, true, false, not}
+-- Inner: no promise cites this file. A tree added, Δ from its place, and a window written under round keys.
+use mathlib.Core.Bool.{Bool}
 use mathlib.Core.List.{List, [], _∷_}
+use mathlib.Core.Path.{_≡_}
 use Prim.Native.Nat.{ℕ, _+_, _*_, _/_, _^_}
 use lib.Dec.{eqb}
-use Rattle.answer.specs.Numbers.{accepted, notElement}
-use Rattle.answer.specs.declared.OneLength.{OneLength}
 use Rattle.algebra.specs.Choice.{choose}
 use Rattle.field.specs.Bytes.{wordAt}
-use Rattle.field.specs.Kind.{kindOf, elementWords}
+use Rattle.field.specs.Kind.{kindOf}
 use Rattle.record.specs.declared.Front.{Front}
 use Rattle.tree.specs.Child.{childBy}
 use Rattle.tree.specs.Inner.Keys.{keysFor}
@@ -29,12 +28,7 @@ deltaAt field source at = wordAt source at ∷ choose (eqb field 1) (wordAt sour
 abbrev pub wOver : List (List (List ℕ)) → WindowRows → List ℕ → List ℕ → List ℕ
 wOver keys r w out = windowOver (kindOf (r .field) .field) (kindOf (r .field) .coefficient) keys r w out
 
--- the window, if all words that the rows use are elements; else nothing is written
-unfoldable pub windowUnder : List (List (List ℕ)) → WindowRows → List ℕ → List ℕ → Bool × List ℕ
-windowUnder keys r w out = choose (elementsUsed (kindOf (r .field) .field) keys r w) (true, wOver keys r w out) (false, out)
-
--- the test 8, and the window
-unfoldable pub outputsUnder : List (List (List ℕ)) → WindowRows → List ℕ → List ℕ → OneLength × List ℕ
-outputsUnder keys r w out =
-    choose (not (elementsUsed (kindOf (r .field) .field) keys r w)) (record { number = notElement; written = 0 }, out)
-    (record { number = accepted; written = r .window .count * elementWords (r .field) }, wOver keys r w out)
+-- the window is written if all words that the rows use are elements, which is told; else nothing is
+pub record WindowWritten (keys : List (List (List ℕ))) (r : WindowRows) (w out : List ℕ) (passed : Bool) (after : List ℕ) : Type 0 where
+  pub told : passed ≡ elementsUsed (kindOf (r .field) .field) keys r w
+  pub w-is : after ≡ choose passed (wOver keys r w out) out

@@ -1,6 +1,6 @@
--- `rows::window::lengths_number` meets its contract: one law for each return. Assumes nothing.
+-- `rows::window::lengths_number` meets its contract, test by test. Assumes nothing.
 use borrow.Author.Needs.{needs}
-use Rattle.rows.proofs.Numbers.{vector-fits, room-fits, wrong-length, window-past, short-output, all-passed}
+use Rattle.answer.proofs.Faults.{chain, is-given, is-not-given}
 use Rattle.rows.proofs.window.lengths_number.Statement.{statement}
 use Rattle.rows.proofs.window.lengths_number.Tie as tie
 
@@ -8,13 +8,11 @@ pub lengths-number-spec : {M : Type 1} → statement M
 lengths-number-spec =
     tie.close
     (tie.spec
-    (λ c κs. search needs)  -- element-width-requires
-    (λ c κs. search needs)  -- leaves-requires
-    (λ c. search vector-fits)  -- mul-if1
-    (λ c. search wrong-length)  -- returns
-    (λ c κs. search needs)  -- past-end-requires
-    (λ c. search window-past)  -- returns-2
-    (λ c. search room-fits)  -- mul-if3
-    (λ c. search short-output)  -- returns-3
-    (λ c. search all-passed)  -- returns-4
+    (λ c κs. search needs)  -- vector-words-requires
+    (λ c. search (chain, is-not-given) depth 9)  -- returns
+    (λ c κs. search needs)  -- is-past-requires
+    (λ c. search (chain, is-given) depth 9)  -- returns-2
+    (λ c κs. search needs)  -- lacks-room-requires
+    (λ c. search (chain, is-given) depth 9)  -- returns-3
+    (λ c. search (chain, is-given) depth 9)  -- returns-4
     )
