@@ -3,11 +3,10 @@ use Prim.Native.Nat.{ℕ, _≤_}
 use mathlib.Core.Bool.{Bool, true, false}
 use mathlib.Core.Path.{_≡_, refl, sym, ap, ap₂, _∙_, subst}
 use native.Mathlib.Omega.{arith}
-use lib.Bits.{bitXor, bitAnd, xor-lt, and-lt, xor-comm}
-use lib.Dec.{eqb}
-use Rattle.algebra.specs.Choice.{choose}
+use lib.Bits.{bitXor, bitAnd, xor-comm}
 use Rattle.number.proofs.Places.{split}
-use Rattle.circuit_run.specs.Step.{andShare, flipped}
+use Rattle.circuit_run.proofs.Bits.{xor-bit, and-bit}
+use Rattle.circuit_run.specs.Step.{andShare}
 
 -- a bit of a test
 abbrev bit : Bool → ℕ
@@ -16,12 +15,6 @@ bit false = 0
 
 as-bit : (x : ℕ) → x ≤ 1 → (b : Bool) × (x ≡ bit b)
 as-bit x h = split x 1 (λ l. (false, omega arith)) (λ g. (true, omega arith))
-
-pub xor-bit : {x y : ℕ} → x ≤ 1 → y ≤ 1 → bitXor x y ≤ 1
-xor-bit {x} {y} h g = omega (arith, xor-lt 1 x y (omega arith) (omega arith))
-
-pub and-bit : {x y : ℕ} → x ≤ 1 → y ≤ 1 → bitAnd x y ≤ 1
-and-bit {x} {y} h g = omega (arith, and-lt 1 x y (omega arith) (omega arith))
 
 -- a law of bits from its cases
 by-2 : (P : ℕ → ℕ → Type 0) → ((p q : Bool) → P (bit p) (bit q)) → {x y : ℕ} → x ≤ 1 → y ≤ 1 → P x y
@@ -145,20 +138,3 @@ and-shares {x} {y} {a} {b} {t} {x′} {y′} {a′} {b′} {t′} hx hy ha hb ht
     ∙ ap₂ (λ (n k : ℕ). bitXor (bitXor (bitXor (bitAnd (bitXor a a′) (bitXor b b′)) (bitAnd n (bitXor b b′))) (bitAnd k (bitXor a a′))) (bitAnd n k))
     (xor-shares hx ha hx′ ha′) (xor-shares hy hb hy′ hb′)
     ∙ unmasks (xor-bit hx hx′) (xor-bit hy hy′) (xor-bit ha ha′) (xor-bit hb hb′)
-
--- shares are bits
-pub flipped-bit : (role : ℕ) {x : ℕ} → x ≤ 1 → flipped role x ≤ 1
-unfolding flipped
-flipped-bit role {x} h = of (eqb role 1)
-  where
-    of : (b : Bool) → choose b (bitXor x 1) x ≤ 1
-    of true = xor-bit h (omega arith)
-    of false = h
-
-pub share-bit : (role : ℕ) {d e a b t : ℕ} → d ≤ 1 → e ≤ 1 → a ≤ 1 → b ≤ 1 → t ≤ 1 → andShare role d e a b t ≤ 1
-unfolding andShare
-share-bit role {d} {e} {a} {b} {t} hd he ha hb ht = of (eqb role 1)
-  where
-    of : (c : Bool) → choose c (bitXor (bitXor (bitXor t (bitAnd d b)) (bitAnd e a)) (bitAnd d e)) (bitXor (bitXor t (bitAnd d b)) (bitAnd e a)) ≤ 1
-    of true = xor-bit (xor-bit (xor-bit ht (and-bit hd hb)) (and-bit he ha)) (and-bit hd he)
-    of false = xor-bit (xor-bit ht (and-bit hd hb)) (and-bit he ha)

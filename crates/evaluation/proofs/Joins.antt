@@ -12,10 +12,11 @@ use Rattle.circuit.proofs.Values.{values-hold}
 use Rattle.circuit.specs.Admitted.{GateBelow, WiresBelow, AdmittedCircuit}
 use Rattle.circuit.specs.Content.{Gate, Xor, And, Not, Circuit, isAnd, andsIn}
 use Rattle.circuit.specs.Value.{gateValue, wireValues, atWires, valueOf}
+use Rattle.circuit_run.proofs.Bits.{xor-bit, share-bit}
 use Rattle.circuit_run.specs.Step.{gateAt, andsBefore, flipped, maskedFirst, maskedSecond}
 use Rattle.triples.specs.Matching.{Matching}
 use Rattle.evaluation.proofs.AndGates.{and-before}
-use Rattle.evaluation.proofs.Bits.{xor-bit, not-shares, xor-shares, and-shares, share-bit}
+use Rattle.evaluation.proofs.Bits.{not-shares, xor-shares, and-shares}
 use Rattle.evaluation.proofs.Transcripts.{shares-keep, shares-hold}
 use Rattle.evaluation.specs.Evaluation.{combined}
 use Rattle.evaluation.specs.Inner.Transcript.{BitsByAnd, opened, shareAt, wireShares, Transcript}

@@ -15,7 +15,6 @@ use Rattle.circuit.specs.Reading.{readCircuit}
 use Rattle.circuit.specs.Value.{atWires}
 use Rattle.number.proofs.Places.{either}
 use Rattle.number.specs.Reading.{Reading, Whole, Refused, afterReading}
-use Rattle.evaluation.proofs.Bits.{xor-bit, share-bit}
 use Rattle.evaluation.proofs.AndGates.{and-inside, and-after, and-before}
 use Rattle.evaluation.proofs.Chains.{accepted-state, accepted-waits, accepted-ends, ends-written, Took, share-bits, triple-bits, far-met, state-met, took, took-state, took-gave, took-on, step-refused, first-step, next-step}
 use Rattle.evaluation.proofs.Calls.{call-before}
@@ -23,6 +22,7 @@ use Rattle.circuit_run.proofs.Numbers.{state-phase, state-and}
 use Rattle.evaluation.proofs.Reaches.{Standing, waiting, finished, standing, from-start, run-fresh, run-waits, run-ends, WireBits, set-bits, run-bits, zeros-bits, append-bits}
 use Rattle.evaluation.specs.Progress.{OnCircuit, GivesBits, withFar, farLent, Progress}
 use Rattle.evaluation.specs.Runs.{fresh, StepMade, runOf, IsStep, writtenBy}
+use Rattle.circuit_run.proofs.Bits.{xor-bit, share-bit}
 use Rattle.circuit_run.specs.Step.{StepLent, StepOutcome, gateAt, andsBefore, freshWires, advance, maskedFirst, maskedSecond, waitingShare, withAnd, stepTests, stepRun, withOutputs, acceptedStep, refusedStep, step}
 use Rattle.circuit_run.specs.declared.Run.{Run}
 

@@ -12,9 +12,9 @@ use lib.Seq.{take-add, getD-drop}
 use Rattle.algebra.specs.Choice.{choose}
 use Rattle.circuit.specs.Content.{Gate, Xor, And, Not, Circuit, isAnd, andsIn}
 use Rattle.number.proofs.Places.{choose-yes, choose-no}
-use Rattle.evaluation.proofs.Bits.{xor-bit, flipped-bit}
 use Rattle.circuit.proofs.Ands.{ands-append}
 use Rattle.circuit.specs.Admitted.{mostWires}
+use Rattle.circuit_run.proofs.Bits.{xor-bit, flipped-bit}
 use Rattle.circuit_run.specs.Step.{StepLent, gateAt, andsBefore, flipped, freshWires, runOn, advance, withAnd, stepRun}
 use Rattle.circuit_run.specs.declared.Run.{Run}
 

@@ -4,23 +4,20 @@ use mathlib.Core.Bool.{Bool}
 use mathlib.Core.List.{List, [], _∷_, _++_}
 use mathlib.Core.Path.{_≡_, refl, sym, ap, _∙_, subst}
 use native.Mathlib.Omega.{arith}
-use lib.ListN.{length, getD, take, drop, length-append, List·getD-append, List·getD-map}
+use lib.ListN.{length, getD, take, drop, length-append, List·getD-append}
 use lib.Seq.{getD-append-add, getD-drop, getD-take, length-take-le}
 use Rattle.algebra.specs.Choice.{choose}
 use Rattle.circuit.proofs.Folds.{fold-length, fold-keeps, fold-holds, below-at}
 use Rattle.circuit.specs.Admitted.{GateBelow, GatesBelow}
 use Rattle.circuit.specs.Content.{Gate, Xor, And, Not, Circuit}
 use Rattle.circuit.specs.Value.{overGates}
+use Rattle.circuit_round.proofs.Gates.{share-at}
+use Rattle.circuit_round.proofs.Inputs.{inputs-length}
 use Rattle.circuit_round.specs.Round.{RoundLent, waits, isKnown, shareOf, knownAs, sharesIn}
 use Rattle.circuit_round.specs.Round.{waitingBefore, inputBytes, ready, openedShare, computed, gateByte, wiresAfter}
 use Rattle.circuit_run.specs.Step.{gateAt, maskedFirst, maskedSecond}
 
 -- ---- inputs
-
-pub inputs-length : (shares bytes : List ℕ) → length (inputBytes shares bytes) ≡ length shares
-unfolding inputBytes
-inputs-length [] bytes = refl
-inputs-length (x ∷ xs) bytes = ap suc (inputs-length xs (drop 1 bytes))
 
 pub later-at : (bytes : List ℕ) (w : ℕ) → getD (drop 1 bytes) w 0 ≡ getD bytes (suc w) 0
 later-at [] w = refl
@@ -35,9 +32,6 @@ inputs-at (x ∷ xs) bytes (suc w) h =
     inputs-at xs (drop 1 bytes) w (omega arith) ∙ ap (λ (b : ℕ). choose (isKnown b) b (knownAs (getD xs w 0))) (later-at bytes w)
 
 -- ---- gates
-
-pub share-at : (bytes : List ℕ) (w : ℕ) → getD (sharesIn bytes) w 0 ≡ shareOf (getD bytes w 0)
-share-at bytes w = List·getD-map (λ (b : ℕ). shareOf b) bytes w 0
 
 -- what is computed depends on the wires below it alone
 module _ (c : Circuit) (l : RoundLent) (i p n : ℕ) (waited : Bool) (xs ys : List ℕ) (same : (w : ℕ) → w < n → getD xs w 0 ≡ getD ys w 0) where

@@ -12,6 +12,7 @@ use Rattle.circuit.specs.Content.{Circuit, isAnd}
 use Rattle.circuit.specs.Levels.{levels, levelOf}
 use Rattle.circuit.specs.Reading.{readCircuit}
 use Rattle.circuit.specs.Value.{atWires}
+use Rattle.circuit_round.proofs.Gates.{share-at}
 use Rattle.circuit_round.specs.Round.{RoundLent, RoundOutcome, shareOf, sharesIn}
 use Rattle.circuit_run.specs.Step.{gateAt, andsBefore}
 use Rattle.evaluation.proofs.AndGates.{and-inside, gate-of}
@@ -20,7 +21,6 @@ use Rattle.evaluation.proofs.Joins.{joined}
 use Rattle.evaluation.proofs.Transcripts.{outputs-same}
 use Rattle.evaluation.specs.Inner.Transcript.{BitsByAnd, wireShares, Transcript}
 use Rattle.number.specs.Reading.{Whole}
-use Rattle.round_claims.proofs.Bytes.{share-at}
 use Rattle.round_claims.proofs.Progresses.{finished-outputs, progress}
 use Rattle.round_claims.proofs.Rounds.{share-bits, triple-bits, one-each, took-bytes}
 use Rattle.round_claims.proofs.Stages.{and-wire, and-level, took-some}

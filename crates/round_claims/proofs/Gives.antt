@@ -8,11 +8,11 @@ use lib.ListN.{length, getD, take, drop, length-map}
 use lib.Seq.{take-at}
 use Rattle.circuit.specs.Content.{Circuit}
 use Rattle.circuit.specs.Value.{atWires}
+use Rattle.circuit_round.proofs.Gates.{share-at}
 use Rattle.circuit_round.specs.Round.{RoundLent, RoundOutcome, sharesIn, waiting, waitingIn, bitsToSend, withBits, withOutputs, acceptedRound}
+use Rattle.circuit_run.proofs.Bits.{xor-bit}
 use Rattle.circuit_run.specs.Step.{maskedFirst, maskedSecond}
-use Rattle.evaluation.proofs.Bits.{xor-bit}
 use Rattle.number.proofs.Places.{either}
-use Rattle.round_claims.proofs.Bytes.{share-at}
 use Rattle.round_claims.proofs.Counts.{sent-length, sent-bits}
 use Rattle.round_claims.proofs.Rounds.{accepted-ends, accepted-waits}
 use Rattle.round_claims.specs.Progress.{Writes}

@@ -19,6 +19,7 @@ use Rattle.circuit.specs.Admitted.{mostWires, GateBelow, GatesBelow}
 use Rattle.circuit.specs.Content.{Gate, Xor, And, Not, Circuit, isAnd}
 use Rattle.circuit.specs.Levels.{greater, gateLevel, levels, levelOf, andsOf, andsAtLevel}
 use Rattle.circuit.specs.Reading.{readCircuit}
+use Rattle.circuit_round.proofs.Gates.{share-at}
 use Rattle.circuit_round.specs.Round.{RoundLent, RoundOutcome, waits, isKnown, shareOf, knownAs, waiting}
 use Rattle.circuit_round.specs.Round.{waitingBefore, waitingIn, ready, openedShare, computed, wiresAfter, round}
 use Rattle.circuit_round.specs.declared.RoundState.{RoundState}
@@ -26,7 +27,7 @@ use Rattle.circuit_run.specs.Step.{gateAt, flipped}
 use Rattle.evaluation.proofs.Calls.{call-before}
 use Rattle.number.proofs.Places.{split, choose-yes, choose-no}
 use Rattle.number.specs.Reading.{Whole}
-use Rattle.round_claims.proofs.Bytes.{share-at, at-input, at-gate}
+use Rattle.round_claims.proofs.Bytes.{at-input, at-gate}
 use Rattle.round_claims.proofs.Counts.{wait-ands}
 use Rattle.round_claims.proofs.Rounds.{Took, one-each, took-bytes, took-on, first-round, next-round}
 use Rattle.round_claims.specs.Progress.{RoundsOn, isAndWire}

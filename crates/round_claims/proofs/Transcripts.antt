@@ -16,15 +16,15 @@ use Rattle.circuit.specs.Admitted.{GatesBelow}
 use Rattle.circuit.specs.Content.{Gate, Xor, And, Not, Circuit, isAnd}
 use Rattle.circuit.specs.Levels.{levels, levelOf, andsOf}
 use Rattle.circuit.specs.Reading.{readCircuit}
+use Rattle.circuit_round.proofs.Gates.{share-at}
 use Rattle.circuit_round.specs.Round.{RoundLent, RoundOutcome, shareOf, knownAs, sharesIn, waiting, waits, waitingBefore, openedShare, wiresAfter, bitsToSend}
 use Rattle.circuit_round.specs.declared.RoundState.{RoundState}
+use Rattle.circuit_run.proofs.Bits.{xor-bit, flipped-bit, share-bit}
 use Rattle.circuit_run.specs.Step.{gateAt, andsBefore, firstWire, secondWire, tripleFirst, tripleSecond, flipped, maskedFirst, maskedSecond}
 use Rattle.evaluation.proofs.AndGates.{and-inside, and-below}
-use Rattle.evaluation.proofs.Bits.{xor-bit, flipped-bit, share-bit}
 use Rattle.evaluation.proofs.Transcripts.{shares-keep, shares-hold}
 use Rattle.evaluation.specs.Inner.Transcript.{BitsByAnd, opened, shareAt, wireShares, sentBits}
 use Rattle.number.specs.Reading.{Whole}
-use Rattle.round_claims.proofs.Bytes.{share-at}
 use Rattle.round_claims.proofs.Counts.{sent-at}
 use Rattle.round_claims.proofs.Gives.{bits-are}
 use Rattle.round_claims.proofs.Rounds.{Took, share-bits, triple-bits, far-bits, one-each, took-bytes}
