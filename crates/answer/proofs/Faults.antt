@@ -150,7 +150,7 @@ meets (allAtMost limit bytes) s = rw (above-none limit bytes (λ k h. s k))
 meets (holds t) s = s
 
 -- a fault's number is not 0
-pub passed : (t : Bool) (n rest : ℕ) → choose t rest (suc n) ≡ 0 → (t ≡ true) × (rest ≡ 0)
+passed : (t : Bool) (n rest : ℕ) → choose t rest (suc n) ≡ 0 → (t ≡ true) × (rest ≡ 0)
 passed true n rest e = (refl, e)
 passed false n rest e = absurd (omega arith)
 

@@ -5,15 +5,13 @@ use mathlib.Core.Logic.{⊎-elim}
 use Prim.Native.Nat.{ℕ, _+_, _^_, _≤_}
 use native.Mathlib.Nat.{zero-add}
 use native.Mathlib.Omega.{arith}
-use borrow.Author.Tests.{ne-eqb}
 use lib.ListN.{length, getD}
 use lib.Pow.{pow-mono}
 use Rattle.algebra.proofs.Rising.{rises}
 use Rattle.answer.specs.Outcome.{TwoWritten, wrote}
 use Rattle.answer.specs.Tests.{firstFault}
 use Rattle.answer.proofs.Answers.{accepted-with}
-use Rattle.answer.proofs.Faults.{admitted-by}
-use Rattle.answer.proofs.Joined.{fault-before, fault-after}
+use Rattle.answer.proofs.Faults.{admitted-by, fault-before, fault-after}
 use Rattle.field.specs.Bytes.{wordAt}
 use Rattle.number.specs.Inner.Written.{Room, Wrote}
 use Rattle.record.specs.Content.{elementOf}
@@ -91,11 +89,11 @@ module _ (f : Front) (roots positions values delta key label : List ℕ) where
 
   module _ {s : ℕ} (sizes : s ≡ firstFault (sizeTests I)) where
     pub number-sizes : (a b : ℕ) → (s ≡ 0 → ⊥) → s ≡ firstFault (dealTests I a b)
-    number-sizes a b h = fault-before (sizeTests I) _ s sizes (ne-eqb s 0 h)
+    number-sizes a b h = fault-before (sizeTests I) _ s sizes h
 
     module _ (whole : s ≡ 0) {l : ℕ} (lengths : l ≡ firstFault (lengthTests I)) where
       pub number-lengths : (a b : ℕ) → (l ≡ 0 → ⊥) → l ≡ firstFault (dealTests I a b)
-      number-lengths a b h = fault-after (sizeTests I) _ s l refl sizes whole (fault-before (lengthTests I) _ l lengths (ne-eqb l 0 h))
+      number-lengths a b h = fault-after (sizeTests I) _ s l refl sizes whole (fault-before (lengthTests I) _ l lengths h)
 
       module _ (long : l ≡ 0) where
         pub content-lengths : Lengths f (length positions) (length values) (length delta)
@@ -112,7 +110,7 @@ module _ (f : Front) (roots positions values delta key label : List ℕ) where
           pub number-content : (a b : ℕ) → (c ≡ 0 → ⊥) → c ≡ firstFault (dealTests I a b)
           number-content a b h =
               fault-after (sizeTests I) _ s c refl sizes whole
-              (fault-after (lengthTests I) _ l c refl lengths long (fault-before (contentTests I) _ c content (ne-eqb c 0 h)))
+              (fault-after (lengthTests I) _ l c refl lengths long (fault-before (contentTests I) _ c content h))
 
           module _ (right : c ≡ 0) (begins : Begins) where
             A : Admitted I

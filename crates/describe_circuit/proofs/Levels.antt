@@ -5,14 +5,14 @@ use mathlib.Core.List.{List, [], _∷_, _++_, append-assoc}
 use mathlib.Core.Path.{_≡_, refl, sym, ap, ap₂, _∙_, subst}
 use native.Mathlib.Nat.{add-zero}
 use native.Mathlib.Omega.{arith}
-use borrow.Author.Tests.{le-leb, lt-leb, eq-eqb, ne-eqb, leb-true}
-use lib.Dec.{leb, eqb}
+use borrow.Author.Tests.{eq-eqb, ne-eqb}
 use lib.ListN.{length, getD, set, take, drop, replicate, length-append, length-replicate, List·getD-append}
 use lib.Seq.{take-add, take-length, set-at, length-take-le}
 use mir.Syntax.{w16, w64}
 use mir.Val.{Fits}
 use Rattle.algebra.specs.Choice.{choose}
 use Rattle.circuit.proofs.Folds.{fold-length, fold-last}
+use Rattle.circuit.proofs.Levels.{greater-is, greater-below, greatest-below}
 use Rattle.circuit.specs.Answer.{content, HasFront}
 use Rattle.circuit.specs.Content.{Gate, Xor, And, Not, Circuit}
 use Rattle.circuit.specs.Inner.Fronts.{gateBy}
@@ -31,17 +31,13 @@ use Rattle.describe_circuit.specs.Inner.Levels.{levelBy, levelsTo}
 -- ---- the greater of two
 
 pub greater-second : (a b : ℕ) → a ≤ b → b ≡ greater a b
-greater-second a b h = rw (le-leb a b h)
+greater-second a b h = sym (greater-is a b .0 h)
 
 pub greater-first : (a b : ℕ) → b < a → a ≡ greater a b
-greater-first a b h = rw (lt-leb a b h)
-
-greater-either : (a b : ℕ) (P : ℕ → Type 0) → (a ≤ b → P b) → (b < a → P a) → P (greater a b)
-greater-either a b P f g =
-    split b a (λ h. subst P (greater-first a b h) (g h)) (λ h. subst P (greater-second a b h) (f h))
+greater-first a b h = sym (greater-is a b .1 h)
 
 greater-most : (a b limit : ℕ) → a ≤ limit → b ≤ limit → greater a b ≤ limit
-greater-most a b limit p q = greater-either a b (λ n. n ≤ limit) (λ _. q) (λ _. p)
+greater-most a b limit p q = let r = greater-below a b (limit + 1) (omega arith) (omega arith) in omega (arith, r)
 
 greater-assoc : (a b c : ℕ) → greater a (greater b c) ≡ greater (greater a b) c
 greater-assoc a b c =
@@ -67,11 +63,6 @@ greatest-zero : (n : ℕ) → greatest (replicate n 0) ≡ 0
 unfolding greatest
 greatest-zero zero = refl
 greatest-zero (suc n) = ap (greater 0) (greatest-zero n)
-
-greatest-most : (l : List ℕ) (limit : ℕ) → ((w : ℕ) → getD l w 0 ≤ limit) → greatest l ≤ limit
-unfolding greatest
-greatest-most [] limit h = omega arith
-greatest-most (n ∷ l) limit h = greater-most n (greatest l) limit (h 0) (greatest-most l limit (λ w. h (suc w)))
 
 -- ---- a gate's level
 
@@ -230,7 +221,7 @@ module _ {s : List ℕ} {f : Front} (o : HasFront s f) {array : List ℕ} {most 
         last-small w = append-small (levelsTo c i) level (i + 1) w (λ u. let h = turn .small u in omega arith) bound
 
   pub depth-most : most ≤ 4096
-  depth-most = omega (arith, turn .greatest-is, greatest-most (levelsTo c i) i (turn .small), turn .left .below, o .gates, o .most)
+  depth-most = omega (arith, turn .greatest-is, greatest-below (levelsTo c i) i (λ w _. turn .small w), turn .left .below, o .gates, o .most)
 
   pub depth-fits : Fits w64 most
   depth-fits = record { fits = omega (arith, depth-most) }
