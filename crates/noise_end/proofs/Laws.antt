@@ -55,7 +55,7 @@ module _ (source : List ℕ) {P : NoisePart} (noise v : List ℕ) (e : readNoise
 
   pub offline-whole : offline source noise v ≡ answered (offlineTests P noise v) (refusedTwo (offlineWith source noise v)) done
   unfolding offline
-  offline-whole = sym (read-whole (readNoise source) (refusedTwo (offlineWith source noise v)) _ _ P e refl)
+  offline-whole = sym (read-whole (readNoise source) _ _ _ P e refl)
 
   left : offline source noise v ≡ done → Accepted P source (offline source noise v)
   unfolding expanded
