@@ -2,7 +2,7 @@
 use Prim.Native.Nat.{ℕ, _+_, _-_, _≤_, _<_}
 use mathlib.Core.Bool.{Bool, true, false, _&&_}
 use mathlib.Core.List.{List, [], _∷_, _++_}
-use mathlib.Core.Path.{_≡_, refl, sym, ap, _∙_}
+use mathlib.Core.Path.{_≡_, refl, sym, ap, ap₂, _∙_}
 use borrow.Author.Tests.{le-leb, lt-leb, eq-eqb, ne-eqb}
 use native.Mathlib.Nat.{add-zero}
 use native.Mathlib.Omega.{arith}
@@ -21,7 +21,7 @@ use Rattle.circuit_round.proofs.Waiting.{wait-small}
 use Rattle.circuit_round.specs.Inner.Gates.{openedBy, andByteBy, localByteBy, byteBy}
 use Rattle.circuit_round.specs.Inner.Passes.{passedOn}
 use Rattle.circuit_round.specs.Inner.Tests.{waitOf}
-use Rattle.circuit_round.specs.Round.{RoundLent, roundWith, waiting, waits, isKnown, shareOf, sharesIn, waitingBefore, ready, openedShare, computed, gateByte}
+use Rattle.circuit_round.specs.Round.{RoundLent, roundWith, waiting, waits, isKnown, shareOf, knownAs, sharesIn, waitingBefore, ready, openedShare, computed, gateByte}
 
 pub share-at : (bytes : List ℕ) (w : ℕ) → getD (sharesIn bytes) w 0 ≡ shareOf (getD bytes w 0)
 share-at bytes w = List·getD-map (λ (byte : ℕ). shareOf byte) bytes w 0
@@ -42,11 +42,17 @@ module _ (c : Circuit) (l : RoundLent) (i p a : ℕ) (bytes : List ℕ) {x : ℕ
     unfolding computed ready localByteBy
     xor-is w = rw (share-at bytes a, share-at bytes b, first, second) (both (isKnown x) (isKnown y) _)
 
+    share-is : gateAt c i ≡ And a b → openedShare c l i p bytes ≡ openedBy (l .role) x y (l .triples) (andsBefore c i) (l .far) p
+    unfolding openedShare maskedFirst maskedSecond openedBy
+    share-is g = rw (g, share-at bytes a, share-at bytes b, first, second)
+
+    opens-is : choose {A = ℕ} (isKnown (getD bytes a 0) && isKnown (getD bytes b 0)) 1 0 ≡ choose (isKnown x) (choose (isKnown y) 1 0) 0
+    opens-is = ap₂ (λ (u v : ℕ). choose {A = ℕ} (isKnown u && isKnown v) 1 0) first second ∙ both (isKnown x) (isKnown y) 1
+
     and-is : (byte : ℕ) → gateAt c i ≡ And a b
         → computed c l i p (waits byte) (And a b) bytes ≡ andByteBy (l .role) byte x y (l .triples) (andsBefore c i) (l .far) p
-    unfolding computed ready openedShare maskedFirst maskedSecond andByteBy openedBy
-    and-is byte g =
-        rw (g, share-at bytes a, share-at bytes b, first, second, both (isKnown x) (isKnown y) 1)
+    unfolding computed ready andByteBy
+    and-is byte g = ap₂ (λ (u v : ℕ). choose (waits byte) (knownAs u) v) (share-is g) opens-is
 
 -- ---- of a gate that was read
 
