@@ -5,7 +5,7 @@ use mathlib.Core.Path.{_≡_}
 use mathlib.Core.List.{List}
 use mathlib.Core.Logic.{_↔_}
 use Prim.Native.Nat.{ℕ, _+_, _*_, _^_, _≤_}
-use lib.ListN.{length, take}
+use lib.ListN.{length}
 use Rattle.dealing.specs.Admitted.{Admitted, InMemory}
 use Rattle.dealing.specs.Deal.{deal, noiseRecordOf, scalarRecordOf}
 use Rattle.dealing.specs.Input.{Input}
