@@ -13,6 +13,18 @@
  * in rounds, each of all ANDs that are ready. A stock divides a dealing's outputs among callers, so
  * that no index is used twice; what is left of it can pass to another dealing.
  *
+ * In use, with each number looked at (the source's tests/example.c is a whole program)
+ *   dealt = expander_deal(EXPANDER_BINARY, d, g, t, l, n, roots, 16 * t, positions, t, values, t,
+ *       scalar, 16, code_key, 16, label, 16, nr, sizeof nr, sr, sizeof sr);
+ *   head = expander_describe(nr, dealt.first_written);          the noise end, which has nr alone
+ *   N = head.leaves, W = head.element_words;
+ *   expander_noise_offline(nr, dealt.first_written, noise, N, v, W * N);                     once
+ *   expander_noise_online(nr, dealt.first_written, noise, N, v, W * N, first, count,
+ *       u_out, count, v_out, W * count);                                      as often as wanted
+ *   expander_scalar_offline(sr, dealt.second_written, w, W * N, delta, 2);    the scalar end, sr
+ *   expander_scalar_online(sr, dealt.second_written, w, W * N, first, count, w_out, W * count);
+ *   Now w_out is Delta times u_out plus v_out at each index of the window.
+ *
  * Sizes
  *   d  depth of a tree, 1 to 16; N, the number of its leaves, is 2^d
  *   g  branch bits, 1, 2 or 3: a node has 2^g children, so a tree has d / g levels; d is a multiple
@@ -30,25 +42,72 @@
  *   an element in field 1; in field 2 a word of p or more is none.
  *
  * Rules for every call
- *   Lent memory   A buffer is a pointer and its length, counted in what the pointer points to. A
- *                 pointer is never NULL, even if its length is 0, and has its type's alignment. An
- *                 output buffer (Out) must not overlap anything else lent to the same call; input
- *                 buffers (In) may overlap one another. Nobody writes lent memory, or reads an
- *                 output buffer, until the call returns.
+ *   Rows          Returns has the call's tests in their order, each with its number and the name of
+ *                 the number without EXPANDER_; In and Out have the parameters.
+ *   Lent memory   A buffer is a pointer and its length, counted in what the pointer points to; the
+ *                 length of buffer is buffer_len. A pointer is never NULL, even if its length is 0,
+ *                 and has its type's alignment. An output buffer (Out) must not overlap anything
+ *                 else lent to the same call; input buffers (In) may overlap one another. Nobody
+ *                 writes lent memory, or reads an output buffer, until the call returns.
+ *   Windows       first and count name the indices first to first + count - 1. They may have any
+ *                 value: sums and products of what the caller passes do not wrap. With a count of
+ *                 0, of a batch too, the same tests are made, and nothing is written.
  *   Accepted      The number is 0. Each output buffer holds the result from its start, and the
  *                 lengths returned say how much of it; what lies past that is untouched.
- *   Refused       The number is that of the first test that failed, tests being taken in the order
- *                 listed. All else that is returned is 0, but a stock or state that was passed is
- *                 returned as it was, and all memory is as it was before the call.
+ *   Refused       The number is that of the first test that failed. All else that is returned is 0,
+ *                 but a stock or state that was passed is returned as it was, and all memory is as
+ *                 it was before the call.
  *   In both cases every input buffer is as it was before the call. No call allocates, or keeps
- *   anything between calls, so calls on different output buffers may run at the same time. Sums and
- *   products of what the caller passes do not wrap: first and count may have any value.
+ *   anything between calls, so calls on different output buffers may run at the same time.
  *
  * From words to bytes
  *   The pad calls take v, w and Delta as bytes, each word least byte first. On x86-64 memory holds
  *   words that way, so the words of the online and offline calls can be lent as they are: v_out as
  *   (const uint8_t *)v_out, with 16 count as its length. The choice at an index is u there as a
  *   byte: choices[k] = (uint8_t)u_out[k], which is 0 or 1 in field 1.
+ *
+ * Numbers in records and circuits
+ *   A number is cut into groups of seven bits, a byte each, the lowest first; the top bit is set on
+ *   every byte but the last. It has the shortest form, and at most three bytes: 5 is 05, 127 is 7F,
+ *   128 is 80 01, 300 is AC 02, 16384 is 80 80 01 (hexadecimal).
+ *
+ * Reading a record
+ *   A record is read from front to back, each field first whole and then tested:
+ *    10 RECORD_ENDS: it ends before a field or inside it, code key, label, siblings and roots too;
+ *       an empty one gives this
+ *     9 WRONG_END: the end byte is not this end's, 1 noise or 2 scalar; to expander_describe,
+ *       which takes either, that it is neither
+ *     1 BAD_FIELD: the field byte is not 1 or 2
+ *    11 BAD_NUMBER: d, g, t, l or n (each 11 and then 2, before the next) is not in its shortest
+ *       form, or its third byte has the top bit set
+ *     2 BAD_SIZE: d, g, t, l or n is outside its range, or d is no multiple of g
+ *   then in a noise record, for each tree:
+ *    11 BAD_NUMBER: the position's number is not in its shortest form, or its third byte has the
+ *       top bit set
+ *     4 BAD_POSITION: the position is N or more
+ *     5 BAD_NOISE: the noise value is 0, or p or more (field 2; field 1 has none)
+ *     8 NOT_ELEMENT: the correction is p or more (field 2)
+ *   and in a scalar record:
+ *     6 BAD_DELTA: Delta is zero, or is p or more (field 2)
+ *   and at the end:
+ *    12 BYTES_AFTER: bytes follow the record
+ *   docs/RECORD-FORMAT.md has the fields one by one.
+ *
+ * Reading a circuit
+ *   A circuit is numbers, coded as above: how many inputs, gates and outputs; of each gate its kind
+ *   (1 exclusive or, 2 AND, 3 NOT) and its two wires, of a NOT its one; the output wires. Wires
+ *   count from 0, inputs first, then gates in order; a gate's wires come before it. The AND of two
+ *   inputs is 02 01 01, 02 00 01, 02. It is read from front to back, each number first whole and
+ *   then tested:
+ *    10 RECORD_ENDS: it ends before a number or inside it
+ *    11 BAD_NUMBER: the number is not in its shortest form, or its third byte has the top bit set
+ *    17 BAD_CIRCUIT: the number of inputs is 0 or above 4096; inputs and gates together are above
+ *       4096; the number of outputs is 0 or above 4096; a kind is not 1, 2 or 3; a gate's wire is
+ *       not before the gate; an output wire is none of the wires
+ *   and at the end:
+ *    12 BYTES_AFTER: bytes follow the circuit
+ *   Every call that is lent a circuit reads the whole of it, so it costs the circuit's length: a
+ *   step too, however near the next AND is.
  *
  * Safe use
  *   Facts about what the calls take and leave. None of them says that a use is secure.
@@ -75,12 +134,10 @@
  *              triple, and so give it away.
  *   Time       The cipher looks bytes up in tables, so how long a call takes, and what it leaves in
  *              caches, depends on keys and data.
- *   Sizes      None is recommended here; the limits below say what the calls admit. The papers
- *              discuss sizes, for their own codes and noise: Boyle, Couteau, Gilboa, Ishai, Kohl,
- *              Resch and Scholl, Correlated Pseudorandomness from Expand-Accumulate Codes, section
- *              3.6; Boyle, Couteau, Gilboa, Ishai, Kohl and Scholl, Efficient Pseudorandom
- *              Correlation Generators: Silent OT Extension and More, section 3.2; Couteau,
- *              Correlated Pseudorandomness in Secure Computation, sections 3.6.2 and 3.8.5.
+ *   Sizes      None is recommended; the limits say what the calls admit. In field 1 whoever knows
+ *              the code key finds two outputs whose u lean to being equal: by 2^-26 (n = 32768) to
+ *              2^-55 (n = 64, d = 10) at t = 64 and l = 32, the largest. Smaller t and l are worse
+ *              by far. docs/SIZES.md says what known attacks cost and what the papers say.
  *   Wiping     Nothing is wiped: no call clears a buffer, or the stack that it used.
  */
 #ifndef EXPANDER_H
@@ -94,7 +151,15 @@ extern "C" {
 #endif
 
 /* The version of this header and of the library that goes with it: as a text, and as a number that
- * rises, 10000 major + 100 minor + patch. */
+ * rises, 10000 major + 100 minor + patch.
+ *
+ * Structs cross by value, so their members are part of the binary interface, as the parameters are.
+ * Within a major version no struct, parameter, number or name changes, no call goes, and a call
+ * answers and writes what it did; records and circuits stay readable. A minor version adds calls,
+ * with structs and names of their own; a patch adds nothing. So what was built with this header
+ * links with any library of its major version that is not older. Across major versions build again:
+ * a struct may have grown, and neither linker nor library notices (the shared object's name has no
+ * version, and no call tells it). CHANGELOG.md says what each version changed. */
 #define EXPANDER_VERSION "2.0.0"
 #define EXPANDER_VERSION_NUMBER 20000
 
@@ -107,10 +172,10 @@ extern "C" {
 #define EXPANDER_SCALAR_END 2
 
 /* The modulus p of field 2, 2^61 - 1. */
-#define EXPANDER_MODULUS ((((uint64_t)1) << 61) - 1)
+#define EXPANDER_MODULUS 0x1FFFFFFFFFFFFFFFu
 
 /* The largest signed amount, 2^60 - 1; the smallest is its negative. */
-#define EXPANDER_AMOUNT_MAX ((((int64_t)1) << 60) - 1)
+#define EXPANDER_AMOUNT_MAX 0x0FFFFFFFFFFFFFFF
 
 /* Numbers that the calls return. */
 #define EXPANDER_ACCEPTED 0u         /* the result is written */
@@ -232,7 +297,17 @@ struct expander_label {
  * next[k] to end[k] - 1. Entries past the callers are 0. Its owner passes it to each call as the
  * call before returned it: an older copy hands indices out again. Contents that no call returned
  * are taken as they are: there is no caller from 8 on, and nothing is left where next[k] is end[k]
- * or more. */
+ * or more.
+ *
+ * Two dealings  The two dealings of AND triples share one stock. Its label is that of the one that
+ *               both ends call the first, its n the smaller of both; a window that is drawn from it
+ *               goes to both dealings at both ends. Neither dealing has another stock, nor another
+ *               partner. It passes on to the first of two fresh dealings in the same way.
+ * Restart       A stock has no pointers and no padding, so its 84 bytes can be kept in a file. The
+ *               stock that a draw returned is on disk (a new file, synced, renamed over the old one,
+ *               and the folder synced) before the window is used. After a crash the run goes on from
+ *               the file; what was drawn and not used is lost. An end that is behind the other draws
+ *               until it has caught up. The companion's stock does all of this (not proved). */
 struct expander_stock {
     uint32_t callers;
     struct expander_label label;
@@ -313,21 +388,21 @@ struct expander_described_circuit {
 /** Make a noise record and a scalar record of one dealing.
  *
  *  The caller draws roots, positions, values, delta and code_key at random, chooses a label that no
- *  other dealing has, and sends each end its record alone. Two records are of one dealing if field,
- *  sizes, code key and label are all equal in them.
+ *  other dealing has, and sends each end its record alone.
  *
  *  Returns:  a number, and the bytes written to noise_record and to scalar_record.
- *             0: accepted
- *             1: field is not 1 or 2
- *             2: depth, branch_bits, trees, terms or outputs (in this order) is outside its range,
- *                or depth is no multiple of branch_bits
- *             3: roots, positions, values, delta, code_key or label does not have its exact length
- *             4: a position is not above the one before, or is N or more (all positions are tested
- *                before any value)
- *             5: a value is not 1 (field 1), or is 0, or p or more (field 2)
- *             6: delta is zero; in field 2 also: its first eight bytes give p or more, or one of
- *                its last eight is not 00
- *            13: noise_record or scalar_record is too short for its record
+ *             0 ACCEPTED
+ *             1 BAD_FIELD: field is not 1 or 2
+ *             2 BAD_SIZE: depth, branch_bits, trees, terms or outputs (in this order) is outside
+ *               its range, or depth is no multiple of branch_bits
+ *             3 BAD_LENGTH: roots, positions, values, delta, code_key or label does not have its
+ *               exact length
+ *             4 BAD_POSITION: a position is not above the one before, or is N or more (all
+ *               positions are tested before any value)
+ *             5 BAD_NOISE: a value is not 1 (field 1), or is 0, or p or more (field 2)
+ *             6 BAD_DELTA: delta is zero; in field 2 also: its first eight bytes give p or more, or
+ *               one of its last eight is not 00
+ *            13 BUFFER_SHORT: noise_record or scalar_record is too short for its record
  *  In:       field:         1 binary, 2 prime
  *            depth:         d
  *            branch_bits:   g
@@ -344,8 +419,6 @@ struct expander_described_circuit {
  *            label:         the dealing's label, any; label_len = 16
  *  Out:      noise_record:  the noise record; EXPANDER_NOISE_RECORD_MAX bytes are always enough
  *            scalar_record: the scalar record; EXPANDER_SCALAR_RECORD_MAX bytes are always enough
- *  Refused:  both output buffers are as they were.
- *  Overlap:  noise_record and scalar_record overlap neither each other nor any input buffer.
  */
 struct expander_two_lengths expander_deal(
     uint8_t field, size_t depth, size_t branch_bits, size_t trees, size_t terms, size_t outputs,
@@ -359,65 +432,32 @@ struct expander_two_lengths expander_deal(
     uint8_t *scalar_record, size_t scalar_record_len);
 
 /** Say what a record is: its end, field and sizes, with them how long the vectors and outputs of its
- *  end are, and its label and code key. The whole record is read and tested, as its end's calls do
- *  it. Two records are of one dealing if all that is said of them but the end is equal.
+ *  end are, and its label and code key. Two records are of one dealing if all that is said of them
+ *  but the end is equal.
  *
  *  Returns:  a number, and the head: end (EXPANDER_NOISE_END or EXPANDER_SCALAR_END), field, depth,
  *            branch_bits, trees, terms, outputs, from these leaves (N) and element_words (W), and
  *            label and code_key, 16 bytes each as the record has them.
- *             0: accepted: expander_noise_offline or expander_scalar_offline, by the end, accepts
- *                this record in buffers of leaves and element_words * leaves, or
- *                element_words * leaves and 2
- *            Reading source from front to back, each field first read whole and then tested:
- *            10: source ends before a field or inside it; an empty source too
- *             9: the end byte is not 1 or 2
- *             1: the field byte is not 1 or 2
- *            11: d, g, t, l or n (each 11 and then 2, before the next) is not in its shortest form,
- *                or its third byte has the top bit set
- *             2: d, g, t, l or n is outside its range, or d is no multiple of g
- *            then in a noise record, for each tree:
- *            11: the position's number is not in its shortest form, or its third byte has the top
- *                bit set
- *             4: the position is N or more
- *             5: the noise value is 0, or p or more (field 2; field 1 has none)
- *             8: the correction is p or more (field 2)
- *            and in a scalar record:
- *             6: Delta is zero, or is p or more (field 2)
- *            and at the end:
- *            12: bytes follow the record
+ *             0 ACCEPTED: expander_noise_offline or expander_scalar_offline, by the end, accepts this
+ *               record in buffers of leaves and element_words * leaves, or element_words *
+ *               leaves and 2
+ *            Reading source, a record, as above: 10 RECORD_ENDS, 9 WRONG_END, 1 BAD_FIELD,
+ *            11 BAD_NUMBER, 2 BAD_SIZE, 4 BAD_POSITION, 5 BAD_NOISE, 8 NOT_ELEMENT, 6 BAD_DELTA,
+ *            12 BYTES_AFTER
  *  In:       source: a record of either end, of exactly source_len bytes
- *  Out:      none.
- *  Refused:  all but the number is 0.
- *  Overlap:  none.
  */
 struct expander_described expander_describe(const uint8_t *source, size_t source_len);
 
 /** Expand a noise record to the noise end's accumulated vectors.
  *
  *  Returns:  a number, and the words written to noise (N) and to v (W N).
- *             0: accepted
- *            Reading source from front to back, each field first read whole and then tested:
- *            10: source ends before a field or inside it; tested at every field (code key, label
- *                and siblings too), before that field's own tests
- *             9: the end byte is not 1
- *             1: the field byte is not 1 or 2
- *            11: d, g, t, l or n (each 11 and then 2, before the next) is not in its shortest form,
- *                or its third byte has the top bit set
- *             2: d, g, t, l or n is outside its range, or d is no multiple of g
- *            then for each tree:
- *            11: the position's number is not in its shortest form, or its third byte has the top
- *                bit set
- *             4: the position is N or more
- *             5: the noise value is 0, or p or more (field 2; field 1 has none)
- *             8: the correction is p or more (field 2)
- *            and at the end:
- *            12: bytes follow the record
- *            13: noise_len is below N, or v_len below W N
+ *             0 ACCEPTED
+ *            Reading source, a noise record, as above: 10 RECORD_ENDS, 9 WRONG_END, 1 BAD_FIELD,
+ *            11 BAD_NUMBER, 2 BAD_SIZE, 4 BAD_POSITION, 5 BAD_NOISE, 8 NOT_ELEMENT, 12 BYTES_AFTER
+ *            13 BUFFER_SHORT: noise_len is below N, or v_len below W N
  *  In:       source: a noise record, of exactly source_len bytes
  *  Out:      noise:  the accumulated noise, N words
  *            v:      the accumulated v0, N elements of W words
- *  Refused:  both output buffers are as they were.
- *  Overlap:  noise and v overlap neither each other nor source.
  */
 struct expander_two_lengths expander_noise_offline(
     const uint8_t *source, size_t source_len,
@@ -427,65 +467,36 @@ struct expander_two_lengths expander_noise_offline(
 /** Expand a scalar record to the scalar end's accumulated vector and Delta.
  *
  *  Returns:  a number, and the words written to w (W N) and to delta (2).
- *             0: accepted
- *            Reading source from front to back, each field first read whole and then tested:
- *            10: source ends before a field or inside it; tested at every field (code key, label
- *                and roots too), before that field's own tests
- *             9: the end byte is not 2
- *             1: the field byte is not 1 or 2
- *            11: d, g, t, l or n (each 11 and then 2, before the next) is not in its shortest form,
- *                or its third byte has the top bit set
- *             2: d, g, t, l or n is outside its range, or d is no multiple of g
- *             6: Delta is zero, or is p or more (field 2)
- *            and at the end:
- *            12: bytes follow the record
- *            13: w_len is below W N, or delta_len below 2
+ *             0 ACCEPTED
+ *            Reading source, a scalar record, as above: 10 RECORD_ENDS, 9 WRONG_END, 1 BAD_FIELD,
+ *            11 BAD_NUMBER, 2 BAD_SIZE, 6 BAD_DELTA, 12 BYTES_AFTER
+ *            13 BUFFER_SHORT: w_len is below W N, or delta_len below 2
  *  In:       source: a scalar record, of exactly source_len bytes
  *  Out:      w:      the accumulated w0, N elements of W words
  *            delta:  Delta, two words; in field 2 the second is 0
- *  Refused:  both output buffers are as they were.
- *  Overlap:  w and delta overlap neither each other nor source.
  */
 struct expander_two_lengths expander_scalar_offline(
     const uint8_t *source, size_t source_len,
     uint64_t *w, size_t w_len,
     uint64_t *delta, size_t delta_len);
 
-/** Give the noise end's outputs u and v at the indices first to first + count - 1.
+/** Give the noise end's outputs u and v in a window.
  *
  *  Returns:  a number, and the words written to u_out (count) and to v_out (W count).
- *             0: accepted
- *            Reading source from front to back, each field first read whole and then tested:
- *            10: source ends before a field or inside it; tested at every field (code key, label
- *                and siblings too), before that field's own tests
- *             9: the end byte is not 1
- *             1: the field byte is not 1 or 2
- *            11: d, g, t, l or n (each 11 and then 2, before the next) is not in its shortest form,
- *                or its third byte has the top bit set
- *             2: d, g, t, l or n is outside its range, or d is no multiple of g
- *            then for each tree:
- *            11: the position's number is not in its shortest form, or its third byte has the top
- *                bit set
- *             4: the position is N or more
- *             5: the noise value is 0, or p or more (field 2; field 1 has none)
- *             8: the correction is p or more (field 2)
- *            and at the end:
- *            12: bytes follow the record
- *             3: noise or v does not have its exact length
- *             7: first + count is above n
- *            13: u_out_len is below count, or v_out_len below W count
- *             8: a word of noise or v at a place that the window's rows use is above 1 (field 1,
- *                noise only) or p or more (field 2)
+ *             0 ACCEPTED
+ *            Reading source, a noise record, as above: 10 RECORD_ENDS, 9 WRONG_END, 1 BAD_FIELD,
+ *            11 BAD_NUMBER, 2 BAD_SIZE, 4 BAD_POSITION, 5 BAD_NOISE, 8 NOT_ELEMENT, 12 BYTES_AFTER
+ *             3 BAD_LENGTH: noise or v does not have its exact length
+ *             7 WINDOW_PAST_END: first + count is above n
+ *            13 BUFFER_SHORT: u_out_len is below count, or v_out_len below W count
+ *             8 NOT_ELEMENT: a word of noise or v at a place that the window's rows use is above 1
+ *               (field 1, noise only) or p or more (field 2)
  *  In:       source: the noise record, of exactly source_len bytes
  *            noise:  the accumulated noise as expander_noise_offline wrote it; noise_len = N
  *            v:      the accumulated v0 as expander_noise_offline wrote it; v_len = W N
- *            first:  the window's first index
- *            count:  the window's number of indices; with 0 the same tests are made, and nothing is
- *                    written
+ *            first, count: the window
  *  Out:      u_out:  u at each index of the window, count words
  *            v_out:  v at each index of the window, count elements of W words
- *  Refused:  both output buffers are as they were.
- *  Overlap:  u_out and v_out overlap neither each other nor source, noise or v.
  */
 struct expander_two_lengths expander_noise_online(
     const uint8_t *source, size_t source_len,
@@ -495,33 +506,21 @@ struct expander_two_lengths expander_noise_online(
     uint64_t *u_out, size_t u_out_len,
     uint64_t *v_out, size_t v_out_len);
 
-/** Give the scalar end's outputs w at the indices first to first + count - 1.
+/** Give the scalar end's outputs w in a window.
  *
  *  Returns:  a number, and the words written to w_out (W count).
- *             0: accepted
- *            Reading source from front to back, each field first read whole and then tested:
- *            10: source ends before a field or inside it; tested at every field (code key, label
- *                and roots too), before that field's own tests
- *             9: the end byte is not 2
- *             1: the field byte is not 1 or 2
- *            11: d, g, t, l or n (each 11 and then 2, before the next) is not in its shortest form,
- *                or its third byte has the top bit set
- *             2: d, g, t, l or n is outside its range, or d is no multiple of g
- *             6: Delta is zero, or is p or more (field 2)
- *            and at the end:
- *            12: bytes follow the record
- *             3: w does not have its exact length
- *             7: first + count is above n
- *            13: w_out_len is below W count
- *             8: a word of w at a place that the window's rows use is p or more (field 2)
+ *             0 ACCEPTED
+ *            Reading source, a scalar record, as above: 10 RECORD_ENDS, 9 WRONG_END, 1 BAD_FIELD,
+ *            11 BAD_NUMBER, 2 BAD_SIZE, 6 BAD_DELTA, 12 BYTES_AFTER
+ *             3 BAD_LENGTH: w does not have its exact length
+ *             7 WINDOW_PAST_END: first + count is above n
+ *            13 BUFFER_SHORT: w_out_len is below W count
+ *             8 NOT_ELEMENT: a word of w at a place that the window's rows use is p or more (field
+ *               2)
  *  In:       source: the scalar record, of exactly source_len bytes
  *            w:      the accumulated w0 as expander_scalar_offline wrote it; w_len = W N
- *            first:  the window's first index
- *            count:  the window's number of indices; with 0 the same tests are made, and nothing is
- *                    written
+ *            first, count: the window
  *  Out:      w_out:  w at each index of the window, count elements of W words
- *  Refused:  the output buffer is as it was.
- *  Overlap:  w_out overlaps neither source nor w.
  */
 struct expander_one_length expander_scalar_online(
     const uint8_t *source, size_t source_len,
@@ -529,39 +528,20 @@ struct expander_one_length expander_scalar_online(
     size_t first, size_t count,
     uint64_t *w_out, size_t w_out_len);
 
-/** Give the noise end's outputs u and v at the indices first to first + count - 1 from its record
- *  alone, to verify a unit on a bench: those that expander_noise_online gives on the vectors that
- *  expander_noise_offline writes. No vector is kept: each leaf is walked alone, once for 32 outputs
- *  or fewer, so it is slow.
+/** Give the noise end's outputs u and v in a window from its record alone, to verify a unit on a
+ *  bench: those that expander_noise_online gives on the vectors that expander_noise_offline writes.
+ *  No vector is kept: each leaf is walked alone, once for 32 outputs or fewer, so it is slow.
  *
  *  Returns:  a number, and the words written to u_out (count) and to v_out (W count).
- *             0: accepted
- *            Reading source from front to back, each field first read whole and then tested:
- *            10: source ends before a field or inside it; tested at every field (code key, label
- *                and siblings too), before that field's own tests
- *             9: the end byte is not 1
- *             1: the field byte is not 1 or 2
- *            11: d, g, t, l or n (each 11 and then 2, before the next) is not in its shortest form,
- *                or its third byte has the top bit set
- *             2: d, g, t, l or n is outside its range, or d is no multiple of g
- *            then for each tree:
- *            11: the position's number is not in its shortest form, or its third byte has the top
- *                bit set
- *             4: the position is N or more
- *             5: the noise value is 0, or p or more (field 2; field 1 has none)
- *             8: the correction is p or more (field 2)
- *            and at the end:
- *            12: bytes follow the record
- *             7: first + count is above n
- *            13: u_out_len is below count, or v_out_len below W count
+ *             0 ACCEPTED
+ *            Reading source, a noise record, as above: 10 RECORD_ENDS, 9 WRONG_END, 1 BAD_FIELD,
+ *            11 BAD_NUMBER, 2 BAD_SIZE, 4 BAD_POSITION, 5 BAD_NOISE, 8 NOT_ELEMENT, 12 BYTES_AFTER
+ *             7 WINDOW_PAST_END: first + count is above n
+ *            13 BUFFER_SHORT: u_out_len is below count, or v_out_len below W count
  *  In:       source: the noise record, of exactly source_len bytes
- *            first:  the window's first index
- *            count:  the window's number of indices; with 0 the same tests are made, and nothing is
- *                    written
+ *            first, count: the window
  *  Out:      u_out:  u at each index of the window, count words
  *            v_out:  v at each index of the window, count elements of W words
- *  Refused:  both output buffers are as they were.
- *  Overlap:  u_out and v_out overlap neither each other nor source.
  */
 struct expander_two_lengths expander_noise_direct(
     const uint8_t *source, size_t source_len,
@@ -569,59 +549,38 @@ struct expander_two_lengths expander_noise_direct(
     uint64_t *u_out, size_t u_out_len,
     uint64_t *v_out, size_t v_out_len);
 
-/** Give the scalar end's outputs w at the indices first to first + count - 1 from its record alone,
- *  to verify a unit on a bench: those that expander_scalar_online gives on the vector that
- *  expander_scalar_offline writes. No vector is kept: each leaf is walked alone, once for 32 outputs
- *  or fewer, so it is slow.
+/** Give the scalar end's outputs w in a window from its record alone, as slowly: those that
+ *  expander_scalar_online gives on the vector that expander_scalar_offline writes.
  *
  *  Returns:  a number, and the words written to w_out (W count).
- *             0: accepted
- *            Reading source from front to back, each field first read whole and then tested:
- *            10: source ends before a field or inside it; tested at every field (code key, label
- *                and roots too), before that field's own tests
- *             9: the end byte is not 2
- *             1: the field byte is not 1 or 2
- *            11: d, g, t, l or n (each 11 and then 2, before the next) is not in its shortest form,
- *                or its third byte has the top bit set
- *             2: d, g, t, l or n is outside its range, or d is no multiple of g
- *             6: Delta is zero, or is p or more (field 2)
- *            and at the end:
- *            12: bytes follow the record
- *             7: first + count is above n
- *            13: w_out_len is below W count
+ *             0 ACCEPTED
+ *            Reading source, a scalar record, as above: 10 RECORD_ENDS, 9 WRONG_END, 1 BAD_FIELD,
+ *            11 BAD_NUMBER, 2 BAD_SIZE, 6 BAD_DELTA, 12 BYTES_AFTER
+ *             7 WINDOW_PAST_END: first + count is above n
+ *            13 BUFFER_SHORT: w_out_len is below W count
  *  In:       source: the scalar record, of exactly source_len bytes
- *            first:  the window's first index
- *            count:  the window's number of indices; with 0 the same tests are made, and nothing is
- *                    written
+ *            first, count: the window
  *  Out:      w_out:  w at each index of the window, count elements of W words
- *  Refused:  the output buffer is as it was.
- *  Overlap:  w_out does not overlap source.
  */
 struct expander_one_length expander_scalar_direct(
     const uint8_t *source, size_t source_len,
     size_t first, size_t count,
     uint64_t *w_out, size_t w_out_len);
 
-/** Give the noise end's pads at the indices first to first + count - 1: of each index the pad of v.
- *  Where v and the choice are v and u of one dealing's index, that is the scalar end's message that
- *  the choice names. Field 1 only; no record is read.
+/** Give the noise end's pads in a window: of each index the pad of v. Where v and the choice are v
+ *  and u of one dealing's index, that is the scalar end's message that the choice names. Field 1
+ *  only; no record is read.
  *
  *  Returns:  a number alone; an accepted call has written 16 count bytes to pads.
- *             0: accepted
- *             3: v or choices does not have its exact length
- *             7: first + count is above EXPANDER_PAD_WINDOW_END
- *            13: pads_len is below 16 count
- *             8: a choice is above 1
- *  In:       first:   the window's first index
- *            count:   the window's number of indices; with 0 the same tests are made, and nothing
- *                     is written
- *            v:       v at each index of the window, 16 bytes each: the two words of
- *                     expander_noise_online, each least byte first, which here is what memory
- *                     holds; v_len = 16 count
+ *             0 ACCEPTED
+ *             3 BAD_LENGTH: v or choices does not have its exact length
+ *             7 WINDOW_PAST_END: first + count is above EXPANDER_PAD_WINDOW_END
+ *            13 BUFFER_SHORT: pads_len is below 16 count
+ *             8 NOT_ELEMENT: a choice is above 1
+ *  In:       first, count: the window
+ *            v:       v at each index of the window, as bytes; v_len = 16 count
  *            choices: u at each index of the window, as one byte 0 or 1; choices_len = count
  *  Out:      pads:    the pad of v, 16 bytes an index
- *  Refused:  the output buffer is as it was.
- *  Overlap:  pads overlaps neither v nor choices.
  */
 uint32_t expander_noise_pads(
     size_t first, size_t count,
@@ -629,25 +588,19 @@ uint32_t expander_noise_pads(
     const uint8_t *choices, size_t choices_len,
     uint8_t *pads, size_t pads_len);
 
-/** Give the scalar end's pads at the indices first to first + count - 1: of each index both
- *  messages. Field 1 only; no record is read.
+/** Give the scalar end's pads in a window: of each index both messages. Field 1 only; no record is
+ *  read.
  *
  *  Returns:  a number alone; an accepted call has written 32 count bytes to pads.
- *             0: accepted
- *             3: w or delta does not have its exact length
- *             7: first + count is above EXPANDER_PAD_WINDOW_END
- *             6: delta is zero
- *            13: pads_len is below 32 count
- *  In:       first: the window's first index
- *            count: the window's number of indices; with 0 the same tests are made, and nothing is
- *                   written
- *            w:     w at each index of the window, 16 bytes each: the two words of
- *                   expander_scalar_online, each least byte first, which here is what memory holds;
- *                   w_len = 16 count
- *            delta: Delta, the two words of expander_scalar_offline, likewise; delta_len = 16
+ *             0 ACCEPTED
+ *             3 BAD_LENGTH: w or delta does not have its exact length
+ *             7 WINDOW_PAST_END: first + count is above EXPANDER_PAD_WINDOW_END
+ *             6 BAD_DELTA: delta is zero
+ *            13 BUFFER_SHORT: pads_len is below 32 count
+ *  In:       first, count: the window
+ *            w:     w at each index of the window, as bytes; w_len = 16 count
+ *            delta: Delta, as bytes; delta_len = 16
  *  Out:      pads:  32 bytes an index: message 0, then message 1
- *  Refused:  the output buffer is as it was.
- *  Overlap:  pads overlaps neither w nor delta.
  */
 uint32_t expander_scalar_pads(
     size_t first, size_t count,
@@ -660,18 +613,16 @@ uint32_t expander_scalar_pads(
  *  the same order, in this call and the next two.
  *
  *  Returns:  a number, and the bytes written to bits_out (count).
- *             0: accepted
- *             3: count is above EXPANDER_BATCH_MAX, or choices or wanted does not have its exact length
- *             8: a choice or a wanted bit is above 1
- *            13: bits_out_len is below count
- *  In:       count:    the batch's number of outputs, at most EXPANDER_BATCH_MAX; with 0 the same
- *                      tests are made, and nothing is written
+ *             0 ACCEPTED
+ *             3 BAD_LENGTH: count is above EXPANDER_BATCH_MAX, or choices or wanted does not have
+ *               its exact length
+ *             8 NOT_ELEMENT: a choice or a wanted bit is above 1
+ *            13 BUFFER_SHORT: bits_out_len is below count
+ *  In:       count:    the batch's number of outputs, at most EXPANDER_BATCH_MAX
  *            choices:  u at each output, as one byte 0 or 1; choices_len = count
  *            wanted:   the number of the message wanted at each output, one byte 0 or 1;
  *                      wanted_len = count
  *  Out:      bits_out: the correction bit of each output, one byte 0 or 1
- *  Refused:  the output buffer is as it was.
- *  Overlap:  bits_out overlaps neither choices nor wanted.
  */
 struct expander_one_length expander_correction_bits(
     size_t count,
@@ -683,20 +634,18 @@ struct expander_one_length expander_correction_bits(
  *  bit names, message 1 by the other. The answers are sent to the noise end.
  *
  *  Returns:  a number, and the bytes written to answers_out (32 count).
- *             0: accepted
- *             3: count is above EXPANDER_BATCH_MAX, or bits, pads or messages does not have its exact length
- *             8: a correction bit is above 1
- *            13: answers_out_len is below 32 count
- *  In:       count:       the batch's number of outputs, at most EXPANDER_BATCH_MAX; with 0 the
- *                         same tests are made, and nothing is written
+ *             0 ACCEPTED
+ *             3 BAD_LENGTH: count is above EXPANDER_BATCH_MAX, or bits, pads or messages does not
+ *               have its exact length
+ *             8 NOT_ELEMENT: a correction bit is above 1
+ *            13 BUFFER_SHORT: answers_out_len is below 32 count
+ *  In:       count:       the batch's number of outputs, at most EXPANDER_BATCH_MAX
  *            bits:        the correction bits as expander_correction_bits wrote them;
  *                         bits_len = count
  *            pads:        the pads of those outputs as expander_scalar_pads wrote them, 32 bytes an
  *                         output; pads_len = 32 count
  *            messages:    32 bytes an output: message 0, then message 1; messages_len = 32 count
  *  Out:      answers_out: 32 bytes an output: message 0 masked, then message 1 masked
- *  Refused:  the output buffer is as it was.
- *  Overlap:  answers_out overlaps neither bits nor pads nor messages.
  */
 struct expander_one_length expander_mask_messages(
     size_t count,
@@ -708,20 +657,18 @@ struct expander_one_length expander_mask_messages(
 /** Open at the noise end, of each output of a batch, the message that it wants.
  *
  *  Returns:  a number, and the bytes written to messages_out (16 count).
- *             0: accepted
- *             3: count is above EXPANDER_BATCH_MAX, or wanted, pads or answers does not have its exact length
- *             8: a wanted bit is above 1
- *            13: messages_out_len is below 16 count
- *  In:       count:        the batch's number of outputs, at most EXPANDER_BATCH_MAX; with 0 the
- *                          same tests are made, and nothing is written
+ *             0 ACCEPTED
+ *             3 BAD_LENGTH: count is above EXPANDER_BATCH_MAX, or wanted, pads or answers does not
+ *               have its exact length
+ *             8 NOT_ELEMENT: a wanted bit is above 1
+ *            13 BUFFER_SHORT: messages_out_len is below 16 count
+ *  In:       count:        the batch's number of outputs, at most EXPANDER_BATCH_MAX
  *            wanted:       the wanted bits that expander_correction_bits was lent;
  *                          wanted_len = count
  *            pads:         the pads of those outputs as expander_noise_pads wrote them, 16 bytes an
  *                          output; pads_len = 16 count
  *            answers:      the answers as expander_mask_messages wrote them; answers_len = 32 count
  *  Out:      messages_out: 16 bytes an output: the message wanted
- *  Refused:  the output buffer is as it was.
- *  Overlap:  messages_out overlaps neither wanted nor pads nor answers.
  */
 struct expander_one_length expander_unmask_messages(
     size_t count,
@@ -740,10 +687,10 @@ struct expander_one_length expander_unmask_messages(
  *  lowest one of its first byte.
  *
  *  Returns:  a number, and the bytes written to triples_out (3 c, where c is choices_len).
- *             0: accepted
- *             3: pads_len is not 16 c, or messages_len is not 32 c
- *            13: triples_out_len is below 3 c
- *             8: a choice is above 1
+ *             0 ACCEPTED
+ *             3 BAD_LENGTH: pads_len is not 16 c, or messages_len is not 32 c
+ *            13 BUFFER_SHORT: triples_out_len is below 3 c
+ *             8 NOT_ELEMENT: a choice is above 1
  *  In:       choices:     u at each output of the first dealing, as one byte 0 or 1; any number of
  *                         them, 0 too
  *            pads:        the pads of those outputs as expander_noise_pads wrote them, 16 bytes an
@@ -751,8 +698,6 @@ struct expander_one_length expander_unmask_messages(
  *            messages:    the pads of as many outputs of the second dealing as expander_scalar_pads
  *                         wrote them, 32 bytes an output; messages_len = 32 c
  *  Out:      triples_out: three bytes an output, each 0 or 1
- *  Refused:  the output buffer is as it was.
- *  Overlap:  triples_out overlaps neither choices nor pads nor messages.
  */
 struct expander_one_length expander_triples(
     const uint8_t *choices, size_t choices_len,
@@ -763,34 +708,26 @@ struct expander_one_length expander_triples(
 /** Run one end's shares of a circuit up to the next AND, or to the end. What a wire carries is the
  *  exclusive or of both ends' shares of it.
  *
- *  A circuit is numbers as in the records: the number of inputs, of gates and of outputs; of each
- *  gate, its kind (1 exclusive or, 2 AND, 3 NOT) and its two wires, of a NOT its one; the output
- *  wires. Wires count from 0, inputs first, then gates in order; a gate's wires come before it.
- *
  *  A run begins with a fresh state, all 0. While the state returned is in phase 1, the two bits
  *  returned are sent to the other end, and the next step takes that state and the two bits that the
  *  other end's step returned. In phase 2 the output holds this end's shares of the outputs. Every
  *  step of a run gets the same role, circuit, shares and triples; a further step on a finished run
- *  writes the outputs again. A circuit with A ANDs takes A + 1 steps.
+ *  writes the outputs again. A circuit with A ANDs takes A + 1 steps, each of which reads all of it.
  *
  *  Returns:  a number, the bytes written to output (of a finished run, the number of outputs; else
  *            0), the two bits to send (of a finished run, 0), and the state after the step.
- *             0: accepted
- *            Reading circuit from front to back, each number first read whole and then tested:
- *            10: circuit ends before a number or inside it
- *            11: the number is not in its shortest form, or its third byte has the top bit set
- *            17: the number of inputs is 0 or above 4096; inputs and gates together are above 4096;
- *                the number of outputs is 0 or above 4096; a kind is not 1, 2 or 3; a gate's wire
- *                is not before the gate; an output wire is none of the wires
- *            and at the end:
- *            12: bytes follow the circuit
- *             3: shares_len is not the number of inputs, or triples_len is no multiple of 3
- *            13: output_len is below the number of outputs
- *             8: a share or a triple's bit is above 1, in unused triples too; or, in phase 1, a far
- *                bit is
- *            18: there are fewer triples than ANDs
- *            17: state.phase is above 2, or is 1 where state.gate is no AND of the circuit
- *             9: role is not 1 or 2
+ *             0 ACCEPTED
+ *            Reading circuit, as above: 10 RECORD_ENDS, 11 BAD_NUMBER, 17 BAD_CIRCUIT,
+ *            12 BYTES_AFTER
+ *             3 BAD_LENGTH: shares_len is not the number of inputs, or triples_len is no multiple
+ *               of 3
+ *            13 BUFFER_SHORT: output_len is below the number of outputs
+ *             8 NOT_ELEMENT: a share or a triple's bit is above 1, in unused triples too; or, in
+ *               phase 1, a far bit is
+ *            18 TOO_FEW_TRIPLES: there are fewer triples than ANDs
+ *            17 BAD_CIRCUIT: state.phase is above 2, or is 1 where state.gate is no AND of the
+ *               circuit
+ *             9 WRONG_END: role is not 1 or 2
  *  In:       role:       one end takes 1, the other 2: 1 the noise end of the one of the triples' two
  *                        dealings that both ends call the first, 2 its scalar end
  *            circuit:    the circuit, of exactly circuit_len bytes, the same at both ends
@@ -803,8 +740,6 @@ struct expander_one_length expander_triples(
  *            far_second: the second bit, likewise
  *            state:      the state as the accepted step before returned it, at first all 0
  *  Out:      output:     of a finished run, this end's share of each output, one byte 0 or 1
- *  Refused:  the output buffer is as it was, the bits are 0, and the state is as it was.
- *  Overlap:  output overlaps neither circuit nor shares nor triples.
  */
 struct expander_stepped expander_circuit_step(
     uint8_t role,
@@ -841,25 +776,19 @@ struct expander_stepped expander_circuit_step(
  *  Returns:  a number, the bytes written to output (of a finished run, the number of outputs; else
  *            0), the bytes written to bits_out (two for each AND opened; of a finished run, 0, and
  *            else above 0), and the state after the round.
- *             0: accepted
- *            Reading circuit from front to back, each number first read whole and then tested:
- *            10: circuit ends before a number or inside it
- *            11: the number is not in its shortest form, or its third byte has the top bit set
- *            17: the number of inputs is 0 or above 4096; inputs and gates together are above 4096;
- *                the number of outputs is 0 or above 4096; a kind is not 1, 2 or 3; a gate's wire
- *                is not before the gate; an output wire is none of the wires
- *            and at the end:
- *            12: bytes follow the circuit
- *             3: shares_len is not the number of inputs, triples_len is no multiple of 3, or
- *                far_bits_len is not two for each gate whose byte in the state is 1
- *            13: output_len is below the number of outputs, or bits_out_len below two for each AND of
- *                the circuit, however many are opened
- *             8: a share, a triple's bit (in unused triples too) or a far bit is above 1
- *            18: there are fewer triples than ANDs
- *             9: role is not 1 or 2
+ *             0 ACCEPTED
+ *            Reading circuit, as above: 10 RECORD_ENDS, 11 BAD_NUMBER, 17 BAD_CIRCUIT,
+ *            12 BYTES_AFTER
+ *             3 BAD_LENGTH: shares_len is not the number of inputs, triples_len is no multiple of
+ *               3, or far_bits_len is not two for each gate whose byte in the state is 1
+ *            13 BUFFER_SHORT: output_len is below the number of outputs, or bits_out_len below two
+ *               for each AND of the circuit, however many are opened
+ *             8 NOT_ELEMENT: a share, a triple's bit (in unused triples too) or a far bit is above
+ *               1
+ *            18 TOO_FEW_TRIPLES: there are fewer triples than ANDs
+ *             9 WRONG_END: role is not 1 or 2
  *  In:       role:     one end takes 1, the other 2, as in expander_circuit_step
- *            circuit:  the circuit as expander_circuit_step has it, of exactly circuit_len bytes, the
- *                      same at both ends
+ *            circuit:  the circuit, of exactly circuit_len bytes, the same at both ends
  *            shares:   this end's share of each input, one byte 0 or 1; shares_len is the number of
  *                      inputs
  *            triples:  this end's triples as expander_triples wrote them, of the same outputs at both
@@ -873,8 +802,6 @@ struct expander_stepped expander_circuit_step(
  *  Out:      output:   of a finished run, this end's share of each output, one byte 0 or 1
  *            bits_out: else, the bits to send, one byte 0 or 1 each; twice EXPANDER_WIRES_MAX bytes
  *                      are always enough
- *  Refused:  both output buffers are as they were, and the state is as it was.
- *  Overlap:  output and bits_out overlap neither each other nor circuit, shares, triples or far_bits.
  */
 struct expander_rounded expander_circuit_round(
     uint8_t role,
@@ -887,8 +814,7 @@ struct expander_rounded expander_circuit_round(
     struct expander_round_state state);
 
 /** Say what a circuit is, so that a run's triples, messages and buffers are known before it starts:
- *  its sizes, its ANDs, and the rounds that a run of it takes. The whole circuit is read and tested,
- *  as expander_circuit_step and expander_circuit_round do it.
+ *  its sizes, its ANDs, and the rounds that a run of it takes.
  *
  *  The level of an input is 0; of an exclusive or, the greater of its wires' levels; of a NOT, its
  *  wire's; of an AND, one more than the greater of its wires'. A run takes one round more than the
@@ -896,19 +822,10 @@ struct expander_rounded expander_circuit_round(
  *
  *  Returns:  a number, inputs, gates, outputs, ands (a run takes that many triples, and one step
  *            more; bits_out of a round takes twice as many bytes) and rounds.
- *             0: accepted
- *            Reading circuit from front to back, each number first read whole and then tested:
- *            10: circuit ends before a number or inside it
- *            11: the number is not in its shortest form, or its third byte has the top bit set
- *            17: the number of inputs is 0 or above 4096; inputs and gates together are above 4096;
- *                the number of outputs is 0 or above 4096; a kind is not 1, 2 or 3; a gate's wire
- *                is not before the gate; an output wire is none of the wires
- *            and at the end:
- *            12: bytes follow the circuit
- *  In:       circuit: a circuit as expander_circuit_step has it, of exactly circuit_len bytes
- *  Out:      none.
- *  Refused:  all but the number is 0.
- *  Overlap:  none.
+ *             0 ACCEPTED
+ *            Reading circuit, as above: 10 RECORD_ENDS, 11 BAD_NUMBER, 17 BAD_CIRCUIT,
+ *            12 BYTES_AFTER
+ *  In:       circuit: a circuit, of exactly circuit_len bytes
  */
 struct expander_described_circuit expander_describe_circuit(const uint8_t *circuit, size_t circuit_len);
 
@@ -916,37 +833,30 @@ struct expander_described_circuit expander_describe_circuit(const uint8_t *circu
  *  from 0 in caller order.
  *
  *  Returns:  a number, and the stock.
- *             0: accepted
- *             2: shares_len is 0 or above 8, or outputs is outside 1 to 32768
- *            16: the shares sum to more than outputs
+ *             0 ACCEPTED
+ *             2 BAD_SIZE: shares_len is 0 or above 8, or outputs is outside 1 to 32768
+ *            16 SHARES_ABOVE: the shares sum to more than outputs
  *  In:       label:   the dealing's label, any; 0 too
  *            outputs: n of the dealing, 1 to EXPANDER_OUTPUTS_MAX
  *            shares:  how many outputs each caller is to have, 0 too; shares_len is the number of
  *                     callers, 1 to EXPANDER_CALLERS_MAX
- *  Out:      none.
- *  Refused:  the stock has no callers, and label 0: all of it is 0.
- *  Overlap:  none.
  */
 struct expander_opened_stock expander_open_stock(
     struct expander_label label, size_t outputs,
     const uint32_t *shares, size_t shares_len);
 
-/** Draw a caller's next count indices: first to first + count - 1, a window for the online and pad
- *  calls of both ends.
+/** Draw a caller's next count indices: a window for the online and pad calls of both ends.
  *
  *  Returns:  a number, the window, and the stock after the draw.
- *             0: accepted
- *            21: label is not the stock's
- *            14: caller is not below the stock's number of callers, or is 8 or more
- *            15: the caller's remaining share is under count
+ *             0 ACCEPTED
+ *            21 LABEL_NOT_IN_USE: label is not the stock's
+ *            14 NO_CALLER: caller is not below the stock's number of callers, or is 8 or more
+ *            15 SHARE_SPENT: the caller's remaining share is under count
  *  In:       stock:  the stock as the call before returned it
  *            label:  the label of the dealing that the caller draws from
  *            caller: the caller, counted from 0
  *            count:  how many indices; a draw of 0 changes nothing, and its first is the caller's
  *                    next index
- *  Out:      none; no memory is lent.
- *  Refused:  first and count are 0, and the stock is as it was.
- *  Overlap:  none.
  */
 struct expander_drawn expander_draw(
     struct expander_stock stock, struct expander_label label, size_t caller, size_t count);
@@ -955,17 +865,8 @@ struct expander_drawn expander_draw(
  *  The stock to pass to the next call is still the one that was passed to this.
  *
  *  Returns:  a number, the window, and the stock after that draw.
- *             0: accepted
- *            21: label is not the stock's
- *            14: caller is not below the stock's number of callers, or is 8 or more
- *            15: the caller's remaining share is under count
- *  In:       stock:  the stock as the call before returned it
- *            label:  the label of the dealing that the caller draws from
- *            caller: the caller, counted from 0
- *            count:  how many indices; a preview of 0 shows the caller's next index as first
- *  Out:      none; no memory is lent.
- *  Refused:  first and count are 0, and after is the stock as it was.
- *  Overlap:  none.
+ *            As expander_draw: 0 ACCEPTED, 21 LABEL_NOT_IN_USE, 14 NO_CALLER, 15 SHARE_SPENT
+ *  In:       stock, label, caller, count: as in expander_draw
  */
 struct expander_previewed expander_preview(
     struct expander_stock stock, struct expander_label label, size_t caller, size_t count);
@@ -975,17 +876,14 @@ struct expander_previewed expander_preview(
  *  index is drawn twice.
  *
  *  Returns:  a number, and the stock of the fresh dealing.
- *             0: accepted
- *             2: outputs is outside 1 to 32768
- *            20: label is not above the stock's
- *            16: what the callers have not drawn sums to more than outputs
+ *             0 ACCEPTED
+ *             2 BAD_SIZE: outputs is outside 1 to 32768
+ *            20 LABEL_NOT_ABOVE: label is not above the stock's
+ *            16 SHARES_ABOVE: what the callers have not drawn sums to more than outputs
  *  In:       stock:   the stock as the call before returned it; that of a refused opening passes on
  *                     without callers
  *            label:   the fresh dealing's label, above the stock's
  *            outputs: n of the fresh dealing, 1 to EXPANDER_OUTPUTS_MAX
- *  Out:      none; no memory is lent.
- *  Refused:  the stock is as it was.
- *  Overlap:  none.
  */
 struct expander_opened_stock expander_pass_stock(
     struct expander_stock stock, struct expander_label label, size_t outputs);
@@ -995,12 +893,9 @@ struct expander_opened_stock expander_pass_stock(
  *  in range.
  *
  *  Returns:  a number, and the amount, -(2^60 - 1) to 2^60 - 1.
- *             0: accepted
- *             8: element is p or more
+ *             0 ACCEPTED
+ *             8 NOT_ELEMENT: element is p or more
  *  In:       element: an element of field 2, 0 to p - 1
- *  Out:      none; no memory is lent.
- *  Refused:  the amount returned is 0.
- *  Overlap:  none.
  */
 struct expander_amount expander_read_amount(uint64_t element);
 
@@ -1008,12 +903,9 @@ struct expander_amount expander_read_amount(uint64_t element);
  *  Reading that element gives the amount again.
  *
  *  Returns:  a number, and the element, 0 to p - 1.
- *             0: accepted
- *            19: amount is below -(2^60 - 1) or above 2^60 - 1
+ *             0 ACCEPTED
+ *            19 AMOUNT_OUT_OF_RANGE: amount is below -(2^60 - 1) or above 2^60 - 1
  *  In:       amount: a signed amount, -EXPANDER_AMOUNT_MAX to EXPANDER_AMOUNT_MAX
- *  Out:      none; no memory is lent.
- *  Refused:  the element returned is 0.
- *  Overlap:  none.
  */
 struct expander_written_amount expander_write_amount(int64_t amount);
 

@@ -5,7 +5,8 @@
 - every row of docs/PROMISES.md stands in it, with one of the five marks;
 - every name of the kit that a shown definition uses is on the page of notation, and every name on that page exists: a name of the kit that
   some definition uses, or a definition;
-- the page of notation has the same contract and statement as the code, where it reads them aloud.
+- the page of notation has the same contract and statement as the code, where it reads them aloud;
+- every number is in the list of some call of the header, and stands in each list with its own name.
 """
 import collections
 import importlib.machinery
@@ -57,6 +58,10 @@ for row in book.rows:
         faults.append(f"row {row.number} stands in the book {ids['row-' + row.number]} times")
     if row.mark not in made.MARKS:
         faults.append(f"row {row.number} has no mark, but '{row.mark}'")
+
+# numbers
+faults += [f"include/expander.h: no call's list has the number {number}, {name}" for number, name, _, calls in book.numbers() if not calls]
+faults += book.faults
 
 # notation
 used = {target[2] for item in book.shown for _, _, target in book.house.shown(item) if isinstance(target, tuple)}
