@@ -7,6 +7,8 @@ the page
 - marks `contract` only what the contract of an exported call or of the pair program's line reaches;
 - names in each row marked `statement` a proof that is declared with a statement, applied to its parameters, as its type, or
   a function whose contract cites one; and that statement is, or reaches, all that the row names of specs/;
+- lists in its table of statements the statements of its rows, all of them and no others, with their proofs;
+- leads, in its table of sections, from each section to exactly the rows that are there;
 
 the definitions
 - hold in specs/Inner/ nothing that a promise reaches, and no file outside it has a `use` of one there. A promise is a
@@ -205,7 +207,7 @@ def page_rows():
                 yield number, prefix, [cell.strip() for cell in line.strip("|").split("|")]
 
 
-numbers, promises, statements, claimed = set(), set(), set(), set()
+numbers, promises, statements, claimed, proofs = set(), set(), set(), set(), set()
 for line, prefix, cells in page_rows():
     where = f"{PAGE}:{line}"
     if len(cells) != 5:
@@ -233,6 +235,7 @@ for line, prefix, cells in page_rows():
                 faults.append(f"{where}: row {no}: {found}")
             else:
                 row |= found
+                proofs.add((path, name))
         if not CITED.findall(proof):
             faults.append(f"{where}: row {no} is marked statement and names no proof")
         elif row:
@@ -252,6 +255,31 @@ for path, name in CITED.findall(page):
 for path in sorted(set(re.findall(r"`((?:crates|docs|include|tests|tools)/[^`:\s]+)`", page))):
     if not os.path.exists(path):
         faults.append(f"{PAGE}: there is no {path}")
+
+
+# ---- the tables at the page's end
+
+def table(title):
+    """The rows of a table under a title, each a list of cells."""
+    found = re.search(r"(?m)^## " + re.escape(title) + r"\n(?:.*\n)*?\|.*\n\|[|\-]+\n((?:\|.*\n)*)", page)
+    if not found:
+        faults.append(f"{PAGE}: there is no table '{title}'")
+    return [[cell.strip() for cell in line.strip("|").split("|")] for line in (found[1].split("\n") if found else []) if line]
+
+
+listed = {name for cells in table("The statements") for name in CITED.findall(" ".join(cells))}
+faults += [f"{PAGE}: the table of statements does not have {show(key)}" for key in sorted(statements - {definition(*name) for name in listed})]
+faults += [f"{PAGE}: the table of statements does not have the proof {path}:{name}" for path, name in sorted(proofs - listed)]
+faults += [f"{PAGE}: the table of statements has {show(key)}, and no row marked statement does"
+           for key in sorted({key for key in (definition(*name) for name in listed) if key} - statements)]
+spans = {}
+for number in numbers:
+    section, last = number.rsplit(".", 1)
+    spans[section] = max(spans.get(section, 0), int(last))
+due = {f"{section}.1 to {section}.{last}" for section, last in spans.items() if section != "B"}
+led = {span for cells in table("From the documents' sections to the rows") for span in cells[-1].split(", ")}
+faults += [f"{PAGE}: the table of sections does not have {span}" for span in sorted(due - led)]
+faults += [f"{PAGE}: the table of sections has {span}, and these are not the section's rows" for span in sorted(led - due)]
 
 
 # ---- inner and outer definitions
