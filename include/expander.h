@@ -106,8 +106,8 @@
  *       not before the gate; an output wire is none of the wires
  *   and at the end:
  *    12 BYTES_AFTER: bytes follow the circuit
- *   Every call that is lent a circuit reads the whole of it, so it costs the circuit's length: a
- *   step too, however near the next AND is.
+ *   Every call that is lent a circuit reads the whole of it. So a step costs the circuit's length,
+ *   however near the next AND is, and so does a round.
  *
  * Safe use
  *   Facts about what the calls take and leave. None of them says that a use is secure.
@@ -338,10 +338,9 @@ struct expander_previewed {
 };
 
 /* One end's run of a circuit: its phase, the gate that it has come to, and its shares of the inputs
- * and of the gates passed. A fresh one is all 0. Its owner passes it to each step as the accepted
- * step before returned it. Contents that no step returned are refused only where the phase is above
- * 2, or where phase 1 waits at no AND; else they are taken as they are, and in phase 0 gate and wires
- * are not looked at. */
+ * and of the gates passed. Contents that no step returned are refused only where the phase is above
+ * 2, or where phase 1 waits at no AND; else they are taken as they are, and in phase 0 gate and
+ * wires are not looked at. */
 struct expander_run {
     uint32_t phase;
     uint32_t gate;
@@ -359,8 +358,7 @@ struct expander_stepped {
 };
 
 /* One end's run of a circuit in rounds, a byte a wire: 0 while the wire's share is not known, 1 for an
- * AND that is opened and waits for the far bits, 2 + share once the share is known. A fresh one is all
- * 0. Its owner passes it to each round as the accepted round before returned it. No contents are
+ * AND that is opened and waits for the far bits, 2 + share once the share is known. No contents are
  * refused: a byte from 2 on is a known share, and a share is read off as its byte modulo 2. */
 struct expander_round_state {
     uint8_t wires[EXPANDER_WIRES_MAX];
@@ -708,11 +706,11 @@ struct expander_one_length expander_triples(
 /** Run one end's shares of a circuit up to the next AND, or to the end. What a wire carries is the
  *  exclusive or of both ends' shares of it.
  *
- *  A run begins with a fresh state, all 0. While the state returned is in phase 1, the two bits
- *  returned are sent to the other end, and the next step takes that state and the two bits that the
- *  other end's step returned. In phase 2 the output holds this end's shares of the outputs. Every
- *  step of a run gets the same role, circuit, shares and triples; a further step on a finished run
- *  writes the outputs again. A circuit with A ANDs takes A + 1 steps, each of which reads all of it.
+ *  While the state returned is in phase 1, the two bits returned are sent to the other end, and the
+ *  next step takes that state and the two bits that the other end's step returned. In phase 2 the
+ *  output holds this end's shares of the outputs. Every step of a run gets the same role, circuit,
+ *  shares and triples; a further step on a finished run writes the outputs again. A circuit with A
+ *  ANDs takes A + 1 steps.
  *
  *  Returns:  a number, the bytes written to output (of a finished run, the number of outputs; else
  *            0), the two bits to send (of a finished run, 0), and the state after the step.
@@ -728,8 +726,7 @@ struct expander_one_length expander_triples(
  *            17 BAD_CIRCUIT: state.phase is above 2, or is 1 where state.gate is no AND of the
  *               circuit
  *             9 WRONG_END: role is not 1 or 2
- *  In:       role:       one end takes 1, the other 2: 1 the noise end of the one of the triples' two
- *                        dealings that both ends call the first, 2 its scalar end
+ *  In:       role:       EXPANDER_ROLE_NOISE or EXPANDER_ROLE_SCALAR, one at each end
  *            circuit:    the circuit, of exactly circuit_len bytes, the same at both ends
  *            shares:     this end's share of each input, one byte 0 or 1; shares_len is the number
  *                        of inputs
@@ -761,12 +758,11 @@ struct expander_stepped expander_circuit_step(
  *  first wire exclusive-or the first bit of its triple, and so of the second. AND j of the circuit,
  *  counted from 0, uses triple j whenever it is opened, as in steps.
  *
- *  A run begins with a fresh state, all 0, and no far bits. While bits are written they are sent to
- *  the other end, and the next round takes the state returned and the bits that the other end's round
- *  wrote, which are as many. Once none are written the run is finished, every wire is known, and the
- *  output holds this end's shares of the outputs; a further round, with no far bits, writes them
- *  again. Every round of a run gets the same role, circuit, shares and triples. Its triples serve no
- *  other run, and not this one made again (Safe use, above).
+ *  While bits are written they are sent to the other end, and the next round takes the state returned
+ *  and the bits that the other end's round wrote, which are as many. Once none are written the run is
+ *  finished, every wire is known, and the output holds this end's shares of the outputs; a further
+ *  round, with no far bits, writes them again. Every round of a run gets the same role, circuit,
+ *  shares and triples. Its triples serve no other run, and not this one made again (Safe use, above).
  *
  *  expander_describe_circuit says how many rounds a run takes; messages each way are one fewer. A
  *  round writes as many bits whatever shares, triples and far bits are, so a run on bytes that are
@@ -787,7 +783,7 @@ struct expander_stepped expander_circuit_step(
  *               1
  *            18 TOO_FEW_TRIPLES: there are fewer triples than ANDs
  *             9 WRONG_END: role is not 1 or 2
- *  In:       role:     one end takes 1, the other 2, as in expander_circuit_step
+ *  In:       role:     EXPANDER_ROLE_NOISE or EXPANDER_ROLE_SCALAR, one at each end
  *            circuit:  the circuit, of exactly circuit_len bytes, the same at both ends
  *            shares:   this end's share of each input, one byte 0 or 1; shares_len is the number of
  *                      inputs
