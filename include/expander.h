@@ -172,10 +172,10 @@ extern "C" {
 #define EXPANDER_SCALAR_END 2
 
 /* The modulus p of field 2, 2^61 - 1. */
-#define EXPANDER_MODULUS 0x1FFFFFFFFFFFFFFFu
+#define EXPANDER_MODULUS 0x1FFFFFFFFFFFFFFFul
 
 /* The largest signed amount, 2^60 - 1; the smallest is its negative. */
-#define EXPANDER_AMOUNT_MAX 0x0FFFFFFFFFFFFFFF
+#define EXPANDER_AMOUNT_MAX 0x0FFFFFFFFFFFFFFFl
 
 /* Numbers that the calls return. */
 #define EXPANDER_ACCEPTED 0u         /* the result is written */
