@@ -12,6 +12,7 @@ use lib.ListN.{length, getD}
 use lib.Pow.{pow-lt}
 use mir.Syntax.{w64}
 use mir.Val.{Fits}
+use Rattle.algebra.proofs.Tests.{and-left, and-right}
 use Rattle.field.specs.Bytes.{wordAt}
 use Rattle.field.proofs.KindOf.{words-1, words-2}
 use Rattle.record.proofs.Elements.{is-element-1, is-element-2}
@@ -30,8 +31,7 @@ pub shifted : (d : ℕ) → d ≤ 16 → (1 * 2 ^ d) % 2 ^ 64 ≡ 2 ^ d
 shifted d h = rw one-mul (mod-eq-of-lt (pow-lt {i = d} {j = 64} (omega arith)))
 
 pub and-both : (a b : Bool) → a && b ≡ true → (a ≡ true) × (b ≡ true)
-and-both true b e = (refl, e)
-and-both false b e = absurd (let z : _≡_ {A = ℕ} 0 1 = cc in omega arith)
+and-both a b e = (and-left a b e, and-right a b e)
 
 positive : (n : ℕ) → (n ≡ 0 → ⊥) → 1 ≤ n
 positive n z = split 0 n (λ h. h) (λ h. absurd (z (omega arith)))
