@@ -8,6 +8,9 @@ pub main-spec : {M : Type 1} → statement M
 main-spec =
     tie.close
     (tie.spec
+    (λ c κs. search needs)  -- arg-count-requires
+    (λ c. search needs)  -- slice-aggregate-write-all
+    (λ c κs. search needs)  -- write-all-requires
     (λ c κs. search needs)  -- large-buffer-requires
     (λ c κs. search needs)  -- large-buffer-requires-2
     (λ c. search needs)  -- slice-aggregate-read-file
@@ -22,9 +25,9 @@ main-spec =
     (λ c. search needs)  -- slice-aggregate-line-2
     (λ c κs. search needs)  -- line-requires
     (λ c. search line-in)  -- array-share-prefix-out
-    (λ c. search line-front)  -- slice-aggregate-write-all
-    (λ c κs. search needs)  -- write-all-requires
-    (λ c. search needs)  -- slice-aggregate-write-all-2
+    (λ c. search line-front)  -- slice-aggregate-write-all-2
     (λ c κs. search needs)  -- write-all-requires-2
+    (λ c. search needs)  -- slice-aggregate-write-all-3
+    (λ c κs. search needs)  -- write-all-requires-3
     (λ c. search needs)  -- returns
     )
