@@ -1,5 +1,7 @@
 #!/usr/bin/env python3
-"""Holds the book of promises to what it is made of. Makes it in the folder that is given, and fails unless
+"""usage: tests/book.py FOLDER
+
+Holds the book of promises to what it is made of. Makes it in the folder that is given, and fails unless
 - every definition that a promise reaches, and every exported contract, stands in it exactly once, and after what it cites;
 - every link has its target, and every id stands once;
 - every row of docs/PROMISES.md stands in it, with one of the five marks;
@@ -17,8 +19,12 @@ import subprocess
 import sys
 
 os.chdir(os.path.join(os.path.dirname(os.path.abspath(__file__)), ".."))
-if len(sys.argv) != 2:
-    sys.exit("usage: tests/book.py FOLDER")
+if sys.argv[1:] in (["--help"], ["-h"]):
+    print(__doc__.strip())
+    sys.exit(0)
+if len(sys.argv) != 2 or sys.argv[1].startswith("-"):
+    print("usage: tests/book.py FOLDER", file=sys.stderr)
+    sys.exit(2)
 folder = sys.argv[1]
 subprocess.run(["tools/book", folder], check=True)
 loader = importlib.machinery.SourceFileLoader("book", "tools/book")

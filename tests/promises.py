@@ -1,5 +1,7 @@
 #!/usr/bin/env python3
-"""Holds docs/PROMISES.md to the files, and the files to it. Fails, with a sentence for each fault, unless
+"""usage: tests/promises.py
+
+Holds docs/PROMISES.md to the files, and the files to it. Fails, with a sentence for each fault, unless
 
 the page
 - numbers every row once, by its section, and gives it one of the five marks;
@@ -29,6 +31,12 @@ import os
 import re
 import sys
 
+if sys.argv[1:] in (["--help"], ["-h"]):
+    print(__doc__.strip())
+    sys.exit(0)
+if len(sys.argv) != 1:
+    print("usage: tests/promises.py", file=sys.stderr)
+    sys.exit(2)
 os.chdir(os.path.join(os.path.dirname(os.path.abspath(__file__)), ".."))
 sys.path.insert(0, "tools")
 sys.dont_write_bytecode = True

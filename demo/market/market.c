@@ -159,14 +159,23 @@ static pid_t start_dealer(struct market *market, unsigned label)
     return id;
 }
 
-/* Waits for a process, and ends it if that takes too long. Returns whether it gave status 0. */
-static int ended_well(const struct market *market, pid_t id)
+/* Whether a process is stopped (SIGSTOP, or as a job) and so does nothing until it is continued. */
+static int is_stopped(pid_t id)
+{
+    siginfo_t about;
+    about.si_pid = 0;
+    return waitid(P_PID, (id_t)id, &about, WSTOPPED | WNOHANG | WNOWAIT) == 0 && about.si_pid == id;
+}
+
+/* Waits for a process, and ends it if that takes too long, or if it is stopped and nothing more is to come of it. Returns
+ * whether it gave status 0. */
+static int ended_well(const struct market *market, pid_t id, int nothing_to_come)
 {
     const struct timespec moment = {0, 2000000};
     double limit = milliseconds() + 1000.0 * market->harness_seconds;
     int status;
     while (waitpid(id, &status, WNOHANG) == 0) {
-        if (milliseconds() > limit) {
+        if (milliseconds() > limit || (nothing_to_come && is_stopped(id))) {
             kill(id, SIGKILL);
             waitpid(id, &status, 0);
             return 0;
@@ -307,7 +316,7 @@ static enum outcome run_season(struct market *market, unsigned season)
 {
     struct report reports[HOUSES];
     unsigned label = 1 + 2 * season; /* of the first dealing; the second one's is the next */
-    if (!ended_well(market, start_dealer(market, label)))
+    if (!ended_well(market, start_dealer(market, label), 0))
         return NO_PRICE;
     for (unsigned house = 0; house < HOUSES; house++)
         if (!read_report(market, house, &reports[house]))
@@ -330,8 +339,9 @@ static enum outcome run_seasons(struct market *market)
     return worst;
 }
 
-/* Closes what leads to the houses and waits for them. Returns whether both ended with status 0. */
-static int end_houses(struct market *market)
+/* Closes what leads to the houses and waits for them; without a price one that is stopped is ended at once. Returns whether
+ * both ended with status 0. */
+static int end_houses(struct market *market, enum outcome outcome)
 {
     int well = 1;
     for (unsigned house = 0; house < HOUSES; house++) {
@@ -339,7 +349,7 @@ static int end_houses(struct market *market)
         close(market->reports[house].from);
     }
     for (unsigned house = 0; house < HOUSES; house++)
-        well &= ended_well(market, market->house_ids[house]);
+        well &= ended_well(market, market->house_ids[house], outcome == NO_PRICE);
     return well;
 }
 
@@ -373,7 +383,7 @@ int main(int argc, char **argv)
     open_connections(&market);
     start_houses(&market);
     outcome = run_seasons(&market);
-    if (!end_houses(&market) || outcome == NO_PRICE)
+    if (!end_houses(&market, outcome) || outcome == NO_PRICE)
         stop("a house or the dealer ended early, so there is no price");
     if (outcome == DIFFERED)
         stop("a house found something else than the plain computation");
