@@ -396,7 +396,8 @@ static void print_diagnosis(const struct check *check)
 {
     const struct diagnosis *diagnosis = &check->diagnosis;
     if (diagnosis->apart) {
-        printf("diagnosis: not dealt together: no tree of the noise record follows from its root\n");
+        printf("diagnosis: not dealt together, or one of them was overwritten from its first tree or root to its last: no tree of the "
+               "noise record follows from its root\n");
         return;
     }
     if (!check->diagnosed || diagnosis->count == 0 || diagnosis->no_memory) {
@@ -624,7 +625,7 @@ static int judge(struct check *check, int bench)
             check->remark = "the roots stand in another order than the trees, which changes no place";
     } else {
         check->status = DIFFER;
-        check->verdict = check->diagnosis.apart ? "the two differ: not dealt together" : "the two differ";
+        check->verdict = check->diagnosis.apart ? "the two differ: no tree follows from its root" : "the two differ";
     }
     return 1;
 }

@@ -122,7 +122,7 @@ struct finding {
 
 struct diagnosis {
     int together;     /* 1: some tree follows from its root; 0: none does; -1: it was not looked at */
-    int apart;        /* 1: not dealt together */
+    int apart;        /* 1: of two trees or more none follows from its root: not dealt together, or overwritten altogether */
     int maybe_apart;  /* 1: perhaps not dealt together */
     int dealt;        /* 1: the noise record is what a dealing with these roots and this Delta makes */
     int moved;        /* 1: roots stand in another order than trees, which changes no output */

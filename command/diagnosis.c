@@ -9,7 +9,7 @@
  *   corrections that disagree in every tree, and all call for one other Delta, say that Delta is wrong;
  *   a tree in which nothing agrees has a wrong root if some root that differs in one byte makes all of it agree; else its root
  *   or all of the tree is wrong, and nobody can tell which;
- *   where no tree agrees the records were not dealt together.
+ *   where no tree agrees the records were not dealt together, or one of them was overwritten altogether.
  * Of two parts that may be wrong, one that needs few bytes changed is taken where the other needs many: what is altered in a
  * few bytes would call for a random value of the other part. */
 #include "command.h"
