@@ -1,5 +1,5 @@
-/* Chosen messages: the scalar end offers two messages an output, the noise end opens the one that it wants, and the scalar end does not
- * learn which. Two processes over a socket pair. */
+/* Chosen messages: the scalar end offers two messages an output, the noise end opens the one that it wants and
+ * sends correction bits for it, not the choice itself. Two processes over a socket pair. */
 #define _POSIX_C_SOURCE 200809L
 #include <expander_companion.h>
 

@@ -1,4 +1,4 @@
-/* Two millionaires learn who is richer, and nothing else: the first message of secure computation, over a socket pair. */
+/* Two millionaires find out who is richer, the classic task of secure computation, in two processes over a socket pair. */
 #define _POSIX_C_SOURCE 200809L
 #include <expander_companion.h>
 
@@ -13,7 +13,7 @@ static struct companion_circuit circuit;
 static struct companion_dealt dealt[2]; /* with the roles exchanged: end k is the noise end of dealing k */
 static struct expander_described_circuit counts;
 
-/* One end, which knows its own wealth alone. */
+/* One end, which is given its own wealth alone. */
 static struct companion_status run_end(int end, int fd, uint64_t wealth, uint8_t *richer)
 {
     static struct companion_pair pair;

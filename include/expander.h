@@ -1,6 +1,6 @@
-/* Correlation expander: dealing, the noise end and the scalar end, an expansion for the bench, pads,
- * signed amounts, messages of the caller's choosing, AND triples, a stock of outputs for several
- * callers, circuits. For x86-64 Linux.
+/* Correlation expander: dealing, the noise end and the scalar end, a slow expansion that verifies a
+ * unit on a bench, pads, signed amounts, messages of the caller's choosing, AND triples, a stock of
+ * outputs for several callers, circuits. For x86-64 Linux.
  *
  * A dealing makes two key records. The noise end expands its record to u and v, the scalar end
  * expands its own to w, and w = Delta * u + v at every index below n. In field 1 the pad calls turn
@@ -13,7 +13,7 @@
  * in rounds, each of all ANDs that are ready. A stock divides a dealing's outputs among callers, so
  * that no index is used twice; what is left of it can pass to another dealing.
  *
- * In use, with each number looked at (the source's tests/example.c is a whole program)
+ * In use, with each number looked at (tests/example.c of the source is a whole program)
  *   dealt = expander_deal(EXPANDER_BINARY, d, g, t, l, n, roots, 16 * t, positions, t, values, t,
  *       scalar, 16, code_key, 16, label, 16, nr, sizeof nr, sr, sizeof sr);
  *   head = expander_describe(nr, dealt.first_written);          the noise end, which has nr alone
@@ -42,8 +42,8 @@
  *   an element in field 1; in field 2 a word of p or more is none.
  *
  * Rules for every call
- *   Rows          Returns has the call's tests in their order, each with its number and the name of
- *                 the number without EXPANDER_; In and Out have the parameters.
+ *   Comments      Returns lists the call's tests in their order, each with its number and that
+ *                 number's name without EXPANDER_; In and Out list the parameters.
  *   Lent memory   A buffer is a pointer and its length, counted in what the pointer points to; the
  *                 length of buffer is buffer_len. A pointer is never NULL, even if its length is 0,
  *                 and has its type's alignment. An output buffer (Out) must not overlap anything
@@ -135,9 +135,10 @@
  *   Time       The cipher looks bytes up in tables, so how long a call takes, and what it leaves in
  *              caches, depends on keys and data.
  *   Sizes      None is recommended; the limits say what the calls admit. In field 1 whoever knows
- *              the code key finds two outputs whose u lean to being equal: by 2^-26 (n = 32768) to
- *              2^-55 (n = 64, d = 10) at t = 64 and l = 32, the largest. Smaller t and l are worse
- *              by far. docs/SIZES.md says what known attacks cost and what the papers say.
+ *              the code key finds two outputs whose u are equal a little more often than not: with
+ *              one key the excess was 2^-26 (n = 32768) to 2^-55 (n = 64, d = 10) at t = 64 and
+ *              l = 32, the largest. Smaller t and l are worse by far. docs/SIZES.md says what known
+ *              attacks cost and what the papers say.
  *   Wiping     Nothing is wiped: no call clears a buffer, or the stack that it used.
  */
 #ifndef EXPANDER_H
@@ -430,8 +431,8 @@ struct expander_two_lengths expander_deal(
     uint8_t *scalar_record, size_t scalar_record_len);
 
 /** Say what a record is: its end, field and sizes, with them how long the vectors and outputs of its
- *  end are, and its label and code key. Two records are of one dealing if all that is said of them
- *  but the end is equal.
+ *  end are, and its label and code key. Two records count as of one dealing if all that is said of
+ *  them but the end is equal; that they were dealt together does not follow.
  *
  *  Returns:  a number, and the head: end (EXPANDER_NOISE_END or EXPANDER_SCALAR_END), field, depth,
  *            branch_bits, trees, terms, outputs, from these leaves (N) and element_words (W), and
