@@ -289,6 +289,15 @@ static void settle_refused(struct diagnosis *seen, struct finding refused)
     add_finding(seen, refused);
 }
 
+/* Whether nothing of the part's tree agrees with its root: then the part may stand at another place than where it was read. */
+static int in_doubt(const struct diagnosis *seen, struct finding part)
+{
+    for (size_t k = 0; k < seen->count; k++)
+        if (seen->finding[k].part == WHOLE_TREE && seen->finding[k].tree == part.tree && part.file == NOISE_FILE)
+            return 1;
+    return 0;
+}
+
 /* A record is refused though heads agree: the same look at trees and roots, as far as both can be laid out. */
 static void diagnose_refused(struct check *check)
 {
@@ -332,7 +341,8 @@ static void diagnose_refused(struct check *check)
         refused.bytes = refused.altered = (struct span){at->at, len - at->at};
         refused.tree = 0;
         add_finding(to, refused);
-    } else if (at->number != EXPANDER_BYTES_AFTER && at->ends == len && at->number != EXPANDER_BAD_POSITION && to->together > 0) {
+    } else if (at->number != EXPANDER_BYTES_AFTER && at->ends == len && at->number != EXPANDER_BAD_POSITION && to->together > 0
+               && !in_doubt(to, refused)) {
         const struct tree_layout *tree = &n->tree[at->in_tree];
         refused.bytes = at->part == VALUE ? tree->value : at->part == CORRECTION ? tree->correction
                         : (struct span){s->delta, s->roots - s->delta};
@@ -350,10 +360,10 @@ static void look_for_positions(struct check *check)
 {
     struct diagnosis other;
     struct layout found;
-    int in_doubt = check->diagnosis.apart;
+    int doubt = check->diagnosis.apart;
     for (size_t k = 0; k < check->diagnosis.count; k++)
-        in_doubt |= check->diagnosis.finding[k].part == WHOLE_TREE;
-    if (!in_doubt)
+        doubt |= check->diagnosis.finding[k].part == WHOLE_TREE;
+    if (!doubt)
         return;
     if (realign(check->file[0].at, check->file[0].len, check->file[1].at, &check->layout[1], &found, &other)) {
         end_diagnosis(&check->diagnosis);
@@ -412,7 +422,7 @@ static void print_diagnosis(const struct check *check)
         for (size_t k = 0; k < diagnosis->count; k++) {
             if (diagnosis->finding[k].group != group)
                 continue;
-            printf(at++ == 0 ? (members > 1 ? "  one of these, it cannot be told which:\n    " : "  ") : "    or ");
+            printf(at++ == 0 ? (members > 1 ? "  one or more of these, it cannot be told which:\n    " : "  ") : "    or ");
             print_finding(check, &diagnosis->finding[k]);
             printf("\n");
         }

@@ -481,7 +481,7 @@ static void find_corrections(const struct pair *pair, struct diagnosis *to)
 
 static void find_roots(const struct pair *pair, struct diagnosis *to)
 {
-    size_t known = 0;
+    size_t known = 0, group = 0;
     struct span none = {0, 0};
     for (size_t k = 0; k < pair->n->trees; k++) {
         known += pair->tree[k].known || pair->tree[k].mended;
@@ -497,9 +497,11 @@ static void find_roots(const struct pair *pair, struct diagnosis *to)
         const struct tree_layout *tree = &pair->n->tree[k];
         struct span root = {pair->s->roots + BLOCK * k, BLOCK};
         struct span whole = {tree->position.first, tree->siblings + BLOCK * pair->shape.siblings - tree->position.first};
-        size_t group = to->groups;
+        /* Trees of a run are alternatives: a position of another length moves all that follows it. */
+        if (k == 0 || pair->tree[k - 1].known || pair->tree[k - 1].mended)
+            group = to->groups;
         if (pair->tree[k].mended)
-            add_finding(to, found(group, ROOT, SCALAR_FILE, k, root, pair->tree[k].mend));
+            add_finding(to, found(to->groups, ROOT, SCALAR_FILE, k, root, pair->tree[k].mend));
         else if (!pair->tree[k].known) {
             add_finding(to, found(group, ROOT, SCALAR_FILE, k, root, none));
             add_finding(to, found(group, WHOLE_TREE, NOISE_FILE, k, whole, none));
