@@ -756,8 +756,8 @@ struct expander_stepped expander_circuit_step(
  *  waits takes its far bits and is known; an exclusive or or NOT is known if its wires are, and is 0
  *  if not; any other AND is opened, and waits, if its wires are known, and is 0 if not. Then for each
  *  AND that was opened, in the order of the gates, two bits are written to bits_out: the share of its
- *  first wire exclusive-or the first bit of its triple, and so of the second. AND j of the circuit,
- *  counted from 0, uses triple j whenever it is opened, as in steps.
+ *  first wire exclusive-or the first bit of its triple, and so of the second. Whenever an AND is
+ *  opened, it uses the triple of its number, as in steps.
  *
  *  While bits are written they are sent to the other end, and the next round takes the state returned
  *  and the bits that the other end's round wrote, which are as many. Once none are written the run is
@@ -784,12 +784,7 @@ struct expander_stepped expander_circuit_step(
  *               1
  *            18 TOO_FEW_TRIPLES: there are fewer triples than ANDs
  *             9 WRONG_END: role is not 1 or 2
- *  In:       role:     EXPANDER_ROLE_NOISE or EXPANDER_ROLE_SCALAR, one at each end
- *            circuit:  the circuit, of exactly circuit_len bytes, the same at both ends
- *            shares:   this end's share of each input, one byte 0 or 1; shares_len is the number of
- *                      inputs
- *            triples:  this end's triples as expander_triples wrote them, of the same outputs at both
- *                      ends; triples_len is 3 times their number, at least 3 for each AND
+ *  In:       role, circuit, shares, triples: as those of expander_circuit_step
  *            far_bits: the bits that the other end's round before wrote, one byte 0 or 1 each, two for
  *                      each gate whose byte is 1, in the order of the gates (of these an AND takes its
  *                      two; any other gate, which no round leaves so, passes over them); far_bits_len
