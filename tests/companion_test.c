@@ -191,6 +191,7 @@ int __wrap_close(int fd)
 WRAP_FILE_CALL(fsync, (int fd))
 WRAP_FILE_CALL(rename, (const char *from, const char *to))
 WRAP_FILE_CALL(flock, (int fd, int operation))
+WRAP_FILE_CALL(access, (const char *name, int how))
 
 int __wrap_fsync(int fd)
 {
@@ -211,6 +212,13 @@ int __wrap_flock(int fd, int operation)
     if (mode == INTERRUPTED)
         return __real_flock(fd, operation);
     WRAPPED(flock, ENOLCK, -1, fd, operation);
+}
+
+int __wrap_access(const char *name, int how)
+{
+    if (mode == INTERRUPTED)
+        return __real_access(name, how);
+    WRAPPED(access, EIO, -1, name, how);
 }
 
 /* Calls of the expander that accept whatever the companion lends them, and so are made to refuse. */
@@ -1306,6 +1314,12 @@ static void stock(size_t count)
     companion_close_stock(&a);
     companion_close_stock(&a);
     EXPECT(COMPANION_FILE_THERE, companion_create_stock(path, one, 200, stock_shares, 3, &a));
+    for (at = 0; at < 20; at++) { /* whatever fails while it looks, a stock that is there is not written over */
+        calls = 0;
+        mode = FAILS;
+        CHECK(companion_create_stock(path, one, 200, stock_shares, 3, &a).number != 0, "created over a stock, where call %zu fails", at);
+        mode = WELL;
+    }
     EXPECT(21, companion_open_stock(path, two, &a));
     EXPECT(0, companion_open_stock(path, one, &a));
     EXPECT(0, companion_draw(&a, NULL, one, 0, 5, &first));
