@@ -169,6 +169,12 @@ static void compare_heads(struct check *check)
     }
 }
 
+/* Whether the heads agree in all on which trees depend. */
+static int alike(const struct check *check)
+{
+    return !check->differs[FIELD_BYTE] && !check->differs[DEPTH] && !check->differs[BRANCH_BITS] && !check->differs[TREES];
+}
+
 /* A record with the other one's head: its own bytes from the end of that head on. Returns its number, and its layout. */
 static uint32_t with_head(const struct bytes *own, uint8_t end, const struct bytes *other, size_t head_len, struct bytes *made,
                           struct layout *layout)
@@ -188,42 +194,55 @@ static uint32_t with_head(const struct bytes *own, uint8_t end, const struct byt
 }
 
 /* How well a pair fits: 0 not at all, 1 some trees follow from their roots, 2 it is what a dealing makes. */
-static int fit(const struct bytes file[2], const struct layout *n, const struct layout *s)
+static int fit(const struct bytes file[2], const struct layout *n, const struct layout *s, struct diagnosis *seen)
 {
-    struct diagnosis diagnosis;
-    int fits;
     if (!n->whole || !s->whole || n->end != EXPANDER_NOISE_END || s->end != EXPANDER_SCALAR_END || n->field != s->field
         || n->depth != s->depth || n->branch_bits != s->branch_bits || n->trees != s->trees)
         return 0;
-    diagnose(file[0].at, n, file[1].at, s, &diagnosis);
-    fits = diagnosis.dealt ? 2 : diagnosis.together > 0 ? 1 : 0;
-    end_diagnosis(&diagnosis);
-    return fits;
+    diagnose(file[0].at, n, file[1].at, s, seen);
+    return seen->dealt ? 2 : seen->together > 0 ? 1 : 0;
 }
 
-/* Findings for the bytes in which the head of a file differs from that of the other, part by part. */
-static void find_head(struct check *check, enum file wrong, const struct layout *right, const struct bytes *model, uint8_t end,
-                      size_t group)
+/* How many bytes a number takes; 4 where it does not end with the third. */
+static size_t number_len(const struct bytes *file, size_t at)
 {
-    const struct bytes *own = &check->file[wrong];
+    size_t len = 1;
+    while (len < 4 && at + len < file->len && file->at[at + len - 1] >= 128)
+        len++;
+    return len;
+}
+
+/* Whether a part of the head is wrong in this file itself, where the other one's head lets trees follow from their roots: field,
+ * d, g and t are, since trees depend on them; l, n, code key and label only where one is not admitted, or where n takes another
+ * length, which moves all that follows. */
+static int wrong_itself(const struct check *check, enum file file, const struct layout *right, enum part part)
+{
+    const struct layout *own = &check->layout[file];
+    return part < TERMS || (own->number != 0 && own->part == part)
+           || (part == OUTPUTS && number_len(&check->file[file], right->head[part].first) != right->head[part].len);
+}
+
+/* Findings for the parts in which the heads differ, as the other file's head lays them out; wrong is the file that has wrong ones, or
+ * -1 where that cannot be told. What may be either file's is said of both. */
+static void find_head(struct check *check, int wrong, const struct layout *right)
+{
+    static const uint8_t ends[2] = {EXPANDER_NOISE_END, EXPANDER_SCALAR_END};
+    const struct span none = {0, 0};
     for (int part = END_BYTE; part < HEAD_PARTS; part++) {
-        struct span span = right->head[part];
-        struct finding finding;
-        size_t first = SIZE_MAX, last = 0;
+        struct span span = right->head[part], altered = none;
+        size_t group = check->diagnosis.groups;
         for (size_t k = span.first; k < span.first + span.len; k++)
-            if (own->at[k] != (part == END_BYTE ? end : model->at[k])) {
-                first = first == SIZE_MAX ? k : first;
-                last = k;
+            if (part != END_BYTE ? check->file[0].at[k] != check->file[1].at[k]
+                                 : wrong >= 0 && check->file[wrong].at[k] != ends[wrong]) {
+                altered.first = altered.len == 0 ? k : altered.first;
+                altered.len = k + 1 - altered.first;
             }
-        if (first == SIZE_MAX)
-            continue;
-        memset(&finding, 0, sizeof finding);
-        finding.group = group == SIZE_MAX ? check->diagnosis.groups : group;
-        finding.part = (enum part)part;
-        finding.file = wrong;
-        finding.bytes = span;
-        finding.altered = (struct span){first, last + 1 - first};
-        add_finding(&check->diagnosis, finding);
+        for (int file = 0; file < 2 && altered.len > 0; file++) {
+            int itself = wrong >= 0 && wrong_itself(check, (enum file)wrong, right, (enum part)part);
+            struct finding finding = {group, (enum part)part, (enum file)file, 0, 0, 0, span, itself && part < TERMS ? altered : none};
+            if (!itself || file == wrong)
+                add_finding(&check->diagnosis, finding);
+        }
     }
 }
 
@@ -231,49 +250,45 @@ static void find_head(struct check *check, enum file wrong, const struct layout 
 static void diagnose_heads(struct check *check)
 {
     static const uint8_t ends[2] = {EXPANDER_NOISE_END, EXPANDER_SCALAR_END};
-    int fits[2] = {0, 0};
+    struct diagnosis seen[2];
+    int fits[2] = {0, 0}, wrong;
+    memset(seen, 0, sizeof seen);
     memset(&check->diagnosis, 0, sizeof check->diagnosis);
     check->diagnosis.together = -1;
-    for (int wrong = 0; wrong < 2; wrong++) {
+    for (int file = 0; file < 2; file++) {
         struct bytes pair[2] = {check->file[0], check->file[1]}, made;
-        struct layout mended, right = check->layout[1 - wrong];
+        struct layout mended, right = check->layout[1 - file];
         uint32_t number;
         /* The other file must read by itself, at its own end. */
-        if (check->number[1 - wrong] != 0 || right.end != ends[1 - wrong])
+        if (check->number[1 - file] != 0 || right.end != ends[1 - file])
             continue;
-        number = with_head(&check->file[wrong], ends[wrong], &check->file[1 - wrong], right.head_len, &made, &mended);
+        number = with_head(&check->file[file], ends[file], &check->file[1 - file], right.head_len, &made, &mended);
         if (number == 0) {
-            pair[wrong] = made;
-            fits[wrong] = wrong == 0 ? fit(pair, &mended, &right) : fit(pair, &right, &mended);
+            pair[file] = made;
+            fits[file] = file == 0 ? fit(pair, &mended, &right, &seen[0]) : fit(pair, &right, &mended, &seen[1]);
         }
         drop_bytes(&made);
         companion_wipe(&mended, sizeof mended);
         companion_wipe(&right, sizeof right);
     }
-    if (fits[0] == 0 && fits[1] == 0)
-        return;
-    check->diagnosed = 1;
-    check->diagnosis.together = 1;
-    if (fits[0] > fits[1])
-        find_head(check, NOISE_FILE, &check->layout[1], &check->file[1], EXPANDER_NOISE_END, SIZE_MAX);
-    else if (fits[1] > fits[0])
-        find_head(check, SCALAR_FILE, &check->layout[0], &check->file[0], EXPANDER_SCALAR_END, SIZE_MAX);
-    else
-        for (int part = FIELD_BYTE; part < HEAD_PARTS; part++)
-            if (check->differs[part]) { /* which of the two nobody can tell */
-                size_t group = check->diagnosis.groups;
-                struct span none = {0, 0};
-                for (int file = 0; file < 2; file++) {
-                    struct finding finding = {group, (enum part)part, (enum file)file, 0, 0, 0, check->layout[file].head[part], none};
-                    add_finding(&check->diagnosis, finding);
-                }
-            }
+    if (fits[0] > 0 || fits[1] > 0) {
+        check->diagnosed = 1;
+        check->diagnosis.together = 1;
+        wrong = fits[0] > fits[1] ? NOISE_FILE : fits[1] > fits[0] ? SCALAR_FILE : -1;
+        find_head(check, wrong, &check->layout[wrong == NOISE_FILE ? 1 : 0]);
+        if (wrong >= 0 || alike(check)) /* what is wrong beside the heads, in trees that both layouts agree on */
+            add_findings(&check->diagnosis, &seen[wrong >= 0 ? wrong : 0]);
+    }
+    for (int file = 0; file < 2; file++)
+        end_diagnosis(&seen[file]);
 }
 
-/* The part that is refused is not admitted, so it is wrong itself, whatever else would account for it. */
+/* The part that is refused is not admitted, so it is wrong itself, whatever else would account for it. Where something else would,
+ * it may be wrong too, and what was altered in this one is not known. */
 static void settle_refused(struct diagnosis *seen, struct finding refused)
 {
-    size_t kept = 0, group = SIZE_MAX;
+    const struct span none = {0, 0};
+    size_t kept = 0, group = SIZE_MAX, members = 0;
     for (size_t k = 0; k < seen->count; k++) {
         const struct finding *one = &seen->finding[k];
         if (one->part == refused.part && one->file == refused.file && one->tree == refused.tree) {
@@ -281,10 +296,13 @@ static void settle_refused(struct diagnosis *seen, struct finding refused)
             refused.altered = one->altered;
         }
     }
-    for (size_t k = 0; k < seen->count; k++)
+    for (size_t k = 0; k < seen->count; k++) {
+        members += seen->finding[k].group == group;
         if (seen->finding[k].group != group)
             seen->finding[kept++] = seen->finding[k];
+    }
     seen->count = kept;
+    refused.altered = members > 1 ? none : refused.altered;
     refused.group = group == SIZE_MAX ? seen->groups : group;
     add_finding(seen, refused);
 }
@@ -406,8 +424,8 @@ static void print_diagnosis(const struct check *check)
 {
     const struct diagnosis *diagnosis = &check->diagnosis;
     if (diagnosis->apart) {
-        printf("diagnosis: not dealt together, or one of them was overwritten from its first tree or root to its last: no tree of the "
-               "noise record follows from its root\n");
+        printf("diagnosis: no tree of the noise record follows from its root: the two were not dealt together, or too much of them is "
+               "altered for more to be told\n");
         return;
     }
     if (!check->diagnosed || diagnosis->count == 0 || diagnosis->no_memory) {
@@ -557,27 +575,29 @@ static void print_json(const struct check *check)
         printf(",\"remark\":");
         print_json_text(check->remark);
     }
-    printf(",\"dealt_together\":%s", diagnosis->apart ? "false" : check->diagnosed && diagnosis->together > 0 ? "true" : "null");
+    printf(",\"dealt_together\":%s,\"no_tree_follows\":%s", check->diagnosed && diagnosis->together > 0 ? "true" : "null",
+           !check->diagnosed || diagnosis->together < 0 ? "null" : diagnosis->together == 0 ? "true" : "false");
     printf(",\"diagnosis\":[");
     comma = 0;
     for (size_t group = 0; check->diagnosed && !diagnosis->no_memory && group < diagnosis->groups; group++) {
         int inner = 0;
-        printf("%s[", comma++ ? "," : "");
         for (size_t k = 0; k < diagnosis->count; k++) {
             const struct finding *finding = &diagnosis->finding[k];
             if (finding->group != group)
                 continue;
-            printf("%s{\"part\":\"%s\",\"file\":\"%s\"", inner++ ? "," : "", part_name(finding->part),
+            printf("%s{\"part\":\"%s\",\"file\":\"%s\"", inner++ ? "," : comma++ ? ",[" : "[", part_name(finding->part),
                    finding->file == NOISE_FILE ? "noise" : "scalar");
             if (part_of_tree(finding->part))
                 printf(",\"tree\":%zu", finding->tree);
             if (finding->part == SIBLING)
-                printf(",\"level\":%zu,\"child\":%zu", finding->level, finding->child);
+                printf(",\"level\":%zu", finding->level);
+            if (finding->part == SIBLING && finding->child != ANY_CHILD)
+                printf(",\"child\":%zu", finding->child);
             print_json_span("bytes", finding->bytes);
             print_json_span("altered", finding->altered);
             printf("}");
         }
-        printf("]");
+        printf(inner ? "]" : "");
     }
     printf("]}\n");
 }
@@ -587,7 +607,6 @@ static void print_json(const struct check *check)
 static int judge(struct check *check, int bench)
 {
     const struct layout *n = &check->layout[0], *s = &check->layout[1];
-    int comparable;
     for (int file = 0; file < 2; file++) {
         check->number[file] = expander_describe(check->file[file].at, check->file[file].len).number;
         lay_out(check->file[file].at, check->file[file].len, &check->layout[file]);
@@ -609,14 +628,15 @@ static int judge(struct check *check, int bench)
         return 1;
     }
     compare_heads(check);
-    comparable = !check->differs[FIELD_BYTE] && !check->differs[DEPTH] && !check->differs[BRANCH_BITS] && !check->differs[TREES];
     if (check->heads_differ) {
         check->status = DIFFER;
         check->verdict = "the heads differ";
         diagnose_heads(check);
-        if (comparable && !check->diagnosed) {
+        if (alike(check) && !check->diagnosed) {
             diagnose(check->file[0].at, n, check->file[1].at, s, &check->diagnosis);
             check->diagnosed = 1;
+            if (!check->diagnosis.apart && n->head_len == s->head_len)
+                find_head(check, -1, n);
         }
         return 1;
     }

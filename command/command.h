@@ -111,7 +111,8 @@ void part_words(enum part part, size_t tree, size_t level, size_t child, char *t
 enum file { NOISE_FILE, SCALAR_FILE };
 
 /* A part that is wrong. Findings of one group are alternatives: one of them is, or more. altered is where the part's bytes
- * are not what all else calls for; its length is 0 where that is not known. */
+ * are not what all else calls for; its length is 0 where that is not known. A sibling's child is ANY_CHILD where it is not. */
+enum { ANY_CHILD = 99 };
 struct finding {
     size_t group;
     enum part part;
@@ -122,7 +123,7 @@ struct finding {
 
 struct diagnosis {
     int together;     /* 1: some tree follows from its root; 0: none does; -1: it was not looked at */
-    int apart;        /* 1: of two trees or more none follows from its root: not dealt together, or overwritten altogether */
+    int apart;        /* 1: of two trees or more none follows from its root: not dealt together, or too much is altered */
     int maybe_apart;  /* 1: perhaps not dealt together */
     int dealt;        /* 1: the noise record is what a dealing with these roots and this Delta makes */
     int moved;        /* 1: roots stand in another order than trees, which changes no output */
@@ -142,6 +143,8 @@ int realign(const uint8_t *noise, size_t noise_len, const uint8_t *scalar, const
 int prefix_agrees(const uint8_t *noise, size_t noise_len, const struct layout *noise_layout, const uint8_t *scalar,
                   size_t scalar_len, const struct layout *scalar_layout);
 void add_finding(struct diagnosis *diagnosis, struct finding finding);
+/* Adds what another diagnosis found, in groups of their own. */
+void add_findings(struct diagnosis *to, const struct diagnosis *more);
 void end_diagnosis(struct diagnosis *diagnosis);
 
 /* Arithmetic of field 2. */

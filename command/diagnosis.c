@@ -9,7 +9,9 @@
  *   corrections that disagree in every tree, and all call for one other Delta, say that Delta is wrong;
  *   a tree in which nothing agrees has a wrong root if some root that differs in one byte makes all of it agree; else its root
  *   or all of the tree is wrong, and nobody can tell which;
- *   where no tree agrees the records were not dealt together, or one of them was overwritten altogether.
+ *   the same holds of a tree that agrees with another root than its own, but where trees and roots agree one to one and the
+ *   places rise: then the roots stand in another order, which changes nothing;
+ *   where no tree agrees the records were not dealt together, or too much of them is altered.
  * Of two parts that may be wrong, one that needs few bytes changed is taken where the other needs many: what is altered in a
  * few bytes would call for a random value of the other part. */
 #include "command.h"
@@ -86,6 +88,7 @@ static void make_children(const uint8_t node[BLOCK], size_t branch_bits, uint8_t
 struct walk {
     size_t place, agree;
     int deepest; /* the deepest level at which a sibling agrees, or -1 */
+    int tied;    /* other paths agree as much: they part at the deepest level, in siblings that agree with none of them */
     uint8_t agrees[SIBLINGS_MAX], due[SIBLINGS_MAX][BLOCK], leaf[BLOCK];
 };
 
@@ -114,11 +117,13 @@ static void go_down(const struct shape *shape, const uint8_t *siblings, size_t h
     size_t shift, own, most = 0, count[BRANCHES_MAX] = {0}, first = level * (shape->branches - 1);
     struct walk here;
     if (level == shape->levels) {
+        int tied = best->place != SIZE_MAX && so_far->agree <= best->agree && (so_far->agree == best->agree || best->tied);
         if (best->place == SIZE_MAX || so_far->agree > best->agree
             || (so_far->agree == best->agree && so_far->place == hint)) {
             *best = *so_far;
             memcpy(best->leaf, node, BLOCK);
         }
+        best->tied = tied;
         return;
     }
     shift = shape->depth - shape->branch_bits * (level + 1);
@@ -257,6 +262,7 @@ struct judged {
     struct walk walk;
     size_t root; /* its root's number, or that of another root that it follows from */
     int known, fits, mended;
+    int moved;   /* it follows from a root, and is not where it belongs */
     struct span mend; /* the byte of the root that mends all */
     struct element leaf, correction, wanted_delta;
 };
@@ -365,6 +371,10 @@ static void find_siblings(const struct pair *pair, size_t k, struct diagnosis *t
                         differing(pair->noise + first, judged->walk.due[at], BLOCK, first, &many));
         finding.level = level;
         finding.child = slot + (slot >= digit);
+        if (judged->walk.tied && !judged->fits && (int)level == judged->walk.deepest) { /* wrong in any case; which child is not known */
+            finding.child = ANY_CHILD;
+            finding.altered = none;
+        }
         add_finding(to, finding);
     }
     if (rest.len > 0) { /* below what is confirmed: the siblings, or the way to them, and the correction with them */
@@ -378,7 +388,38 @@ static void find_siblings(const struct pair *pair, size_t k, struct diagnosis *t
 /* Whether the last node of a tree, so what its correction is to be, is beyond doubt. */
 static int leaf_known(const struct pair *pair, const struct judged *judged)
 {
-    return judged->fits || judged->walk.deepest == (int)pair->shape.levels - 1;
+    return judged->fits || (judged->walk.deepest == (int)pair->shape.levels - 1 && !judged->walk.tied);
+}
+
+/* Trees that stand where they do not belong are taken out of what is known: of each either its root is wrong or all of it. */
+static void find_moved(struct pair *pair, struct diagnosis *to)
+{
+    size_t last = SIZE_MAX, follow[EXPANDER_TREES_MAX] = {0};
+    int other = 0, rising = 1;
+    for (size_t k = 0; k < pair->n->trees; k++) {
+        const struct judged *judged = &pair->tree[k];
+        if (!judged->known)
+            continue;
+        other |= judged->root != k;
+        rising &= follow[judged->root]++ == 0 && (judged->root == k || leaf_known(pair, judged));
+        if (!leaf_known(pair, judged))
+            continue;
+        rising &= last == SIZE_MAX || judged->walk.place > pair->tree[last].walk.place;
+        last = k;
+    }
+    to->moved = other && rising;
+    last = SIZE_MAX;
+    for (size_t k = 0; k < pair->n->trees; k++) {
+        struct judged *judged = &pair->tree[k];
+        judged->moved = !rising && judged->known && judged->root != k;
+        if (judged->moved || !judged->known || !leaf_known(pair, judged))
+            continue;
+        if (last != SIZE_MAX && judged->walk.place <= pair->tree[last].walk.place)
+            judged->moved = pair->tree[last].moved = 1;
+        last = k;
+    }
+    for (size_t k = 0; k < pair->n->trees; k++)
+        pair->tree[k].known &= !pair->tree[k].moved;
 }
 
 /* Positions are written as differences: the one that is wrong is that whose difference is. */
@@ -483,10 +524,8 @@ static void find_roots(const struct pair *pair, struct diagnosis *to)
 {
     size_t known = 0, group = 0;
     struct span none = {0, 0};
-    for (size_t k = 0; k < pair->n->trees; k++) {
-        known += pair->tree[k].known || pair->tree[k].mended;
-        to->moved |= pair->tree[k].known && pair->tree[k].root != k;
-    }
+    for (size_t k = 0; k < pair->n->trees; k++)
+        known += pair->tree[k].known || pair->tree[k].mended || pair->tree[k].moved;
     to->together = known > 0;
     if (known == 0 && pair->n->trees > 1) {
         to->apart = 1;
@@ -527,6 +566,7 @@ void diagnose(const uint8_t *noise, const struct layout *noise_layout, const uin
     pair->delta = read_element(scalar + scalar_layout->delta, scalar_layout->field);
     for (size_t k = 0; k < noise_layout->trees; k++)
         judge(pair, k);
+    find_moved(pair, diagnosis);
     find_roots(pair, diagnosis);
     for (size_t k = 0; k < noise_layout->trees; k++) {
         pair->tree[k].known |= pair->tree[k].mended;
@@ -568,35 +608,60 @@ int prefix_agrees(const uint8_t *noise, size_t noise_len, const struct layout *n
     return well && agreeing > 0;
 }
 
+void add_findings(struct diagnosis *to, const struct diagnosis *more)
+{
+    size_t first = to->groups;
+    for (size_t k = 0; k < more->count; k++) {
+        struct finding finding = more->finding[k];
+        finding.group += first;
+        add_finding(to, finding);
+    }
+    to->no_memory |= more->no_memory;
+}
+
+/* A position that begins at a byte, with the length after which all of the tree agrees with its root; 0 if there is none. */
+static size_t position_len(const struct shape *shape, const uint8_t *noise, size_t noise_len, size_t at, const uint8_t *root,
+                           struct walk *walk)
+{
+    for (size_t len = 1; len <= 3; len++) {
+        size_t siblings = at + len + 16;
+        if (siblings > noise_len || noise_len - siblings < BLOCK * shape->siblings)
+            return 0;
+        walk_tree(shape, root, noise + siblings, 0, walk);
+        if (walk->agree == shape->siblings)
+            return len;
+    }
+    return 0;
+}
+
 int realign(const uint8_t *noise, size_t noise_len, const uint8_t *scalar, const struct layout *scalar_layout,
             struct layout *layout, struct diagnosis *diagnosis)
 {
     struct shape shape = shape_of(scalar_layout);
-    size_t at = scalar_layout->head_len, before = SIZE_MAX;
+    size_t at = scalar_layout->head_len, before = SIZE_MAX, len = 1, width = scalar_layout->field == EXPANDER_BINARY ? 16 : 8;
     struct walk walk;
     memset(diagnosis, 0, sizeof *diagnosis);
     diagnosis->together = 1;
     *layout = *scalar_layout; /* heads are equal */
-    for (size_t k = 0; k < scalar_layout->trees; k++) {
+    for (size_t k = 0; k < scalar_layout->trees && len > 0; k++) {
         struct tree_layout *tree = &layout->tree[k];
-        size_t len, siblings = 0, due, read = 0, digits = 0;
-        for (len = 1; len <= 3; len++) {
-            siblings = at + len + 16;
-            if (siblings > noise_len || noise_len - siblings < BLOCK * shape.siblings)
-                return 0;
-            walk_tree(&shape, scalar + scalar_layout->roots + BLOCK * k, noise + siblings, 0, &walk);
-            if (walk.agree == shape.siblings)
-                break;
-        }
-        if (len > 3)
-            return 0;
-        tree->position = (struct span){at, len};
+        size_t due, read = 0, digits = 0;
+        len = position_len(&shape, noise, noise_len, at, scalar + scalar_layout->roots + BLOCK * k, &walk);
+        if (len == 0)
+            break;
         due = walk.place - before - 1;
         for (digits = 0; digits < 3; digits++) { /* the number as it is read */
             read |= (size_t)(noise[at + digits] & 127u) << (7 * digits);
             if (noise[at + digits] < 128)
                 break;
         }
+        tree->position = (struct span){at, len};
+        tree->value = (struct span){at + len, 16 - width};
+        tree->correction = (struct span){at + len + 16 - width, width};
+        tree->siblings = at + len + 16;
+        tree->written = (uint32_t)due; /* what is wrong with it is said here */
+        tree->place = (uint32_t)walk.place;
+        tree->noise = tree->value.len == 0 ? 1 : word_at(noise + tree->value.first);
         if (digits + 1 != len || read != due) {
             uint8_t bytes[3] = {0, 0, 0};
             size_t many;
@@ -606,8 +671,15 @@ int realign(const uint8_t *noise, size_t noise_len, const uint8_t *scalar, const
                                          differing(noise + at, bytes, len, at, &many)));
         }
         before = walk.place;
-        at = siblings + BLOCK * shape.siblings;
+        at = tree->siblings + BLOCK * shape.siblings;
     }
     companion_wipe(&walk, sizeof walk);
-    return at == noise_len && diagnosis->count > 0;
+    if (len > 0 && at == noise_len && diagnosis->count > 0) {
+        struct diagnosis rest; /* of corrections, values and Delta */
+        diagnose(noise, layout, scalar, scalar_layout, &rest);
+        add_findings(diagnosis, &rest);
+        end_diagnosis(&rest);
+        return 1;
+    }
+    return 0;
 }

@@ -21,7 +21,9 @@ int part_of_tree(enum part part)
 
 void part_words(enum part part, size_t tree, size_t level, size_t child, char *text, size_t text_len)
 {
-    if (part == SIBLING)
+    if (part == SIBLING && child == ANY_CHILD)
+        snprintf(text, text_len, "sibling of tree %zu at level %zu", tree, level);
+    else if (part == SIBLING)
         snprintf(text, text_len, "sibling of tree %zu at level %zu, child %zu", tree, level, child);
     else if (part == WHOLE_TREE)
         snprintf(text, text_len, "all of tree %zu", tree);

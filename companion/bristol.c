@@ -18,8 +18,7 @@ struct reading {
 
 static void fail(struct reading *r, uint32_t fault)
 {
-    if (r->fault == 0)
-        r->fault = fault;
+    r->fault = r->fault == 0 ? fault : r->fault;
 }
 
 /* Passes over blanks; whether the line ends there. */
@@ -215,11 +214,10 @@ struct companion_status companion_write_bristol(const struct companion_circuit *
     put_values(&w, c->output_width, c->output_words);
     put(&w, "\n", 0, 0, 0);
     for (size_t k = 0; k < c->gates; k++) {
-        uint8_t kind = c->gate[k].kind;
-        if (kind == EXPANDER_GATE_NOT)
+        if (c->gate[k].kind == EXPANDER_GATE_NOT)
             put(&w, "1 1 %zu %zu INV\n", c->gate[k].left, c->inputs + k, 0);
         else
-            put(&w, kind == EXPANDER_GATE_AND ? "2 1 %zu %zu %zu AND\n" : "2 1 %zu %zu %zu XOR\n", c->gate[k].left,
+            put(&w, c->gate[k].kind == EXPANDER_GATE_AND ? "2 1 %zu %zu %zu AND\n" : "2 1 %zu %zu %zu XOR\n", c->gate[k].left,
                 c->gate[k].right, c->inputs + k);
     }
     for (size_t k = 0; k < copies; k++)

@@ -2,11 +2,9 @@
 
 #include <string.h>
 
-static companion_wire fault(struct companion_circuit *c, uint32_t number)
+static void fault(struct companion_circuit *c, uint32_t number)
 {
-    if (c->fault == 0)
-        c->fault = number;
-    return 0;
+    c->fault = c->fault == 0 ? number : c->fault;
 }
 
 void companion_input(struct companion_circuit *c, uint8_t role, companion_wire *word, size_t width)
@@ -169,12 +167,9 @@ static void invert(struct companion_circuit *c, const companion_wire *a, size_t 
 void companion_difference(struct companion_circuit *c, int form, const companion_wire *a, const companion_wire *b,
                           size_t width, companion_wire *difference)
 {
-    companion_wire not_a[EXPANDER_WIRES_MAX];
-    memset(difference, 0, (width + 1) * sizeof *difference);
-    if (!fits(c, width))
-        return;
-    invert(c, a, width, not_a);
-    companion_sum(c, form, not_a, b, width, difference);
+    companion_wire not_a[EXPANDER_WIRES_MAX] = {0};
+    invert(c, a, fits(c, width) ? width : 0, not_a);
+    companion_sum(c, form, not_a, b, width, difference); /* after a fault all is 0, and stays so */
     invert(c, difference, width, difference);
 }
 

@@ -68,6 +68,7 @@ static struct companion_status draw_position(uint32_t leaves, uint32_t *position
     } while (status.number == 0 && at < count && positions[at] == place);
     memmove(positions + at + 1, positions + at, (count - at) * sizeof *positions);
     positions[at] = place;
+    companion_wipe(&place, sizeof place);
     return status;
 }
 
@@ -101,9 +102,9 @@ struct companion_status companion_deal(const struct companion_sizes *sizes, stru
     struct drawn drawn;
     struct companion_status status = companion_done();
     struct expander_two_lengths made;
-    size_t trees = sizes->depth <= EXPANDER_DEPTH_MAX && sizes->trees <= EXPANDER_TREES_MAX ? sizes->trees : 0;
-    if (trees > (size_t)1 << (trees > 0 ? sizes->depth : 0))
-        trees = 0; /* nothing is drawn where there is no room for it, and the expander refuses the sizes */
+    /* Nothing is drawn where there is no room for it, and the expander refuses the sizes. */
+    int room = sizes->depth <= EXPANDER_DEPTH_MAX && sizes->trees <= EXPANDER_TREES_MAX && sizes->trees <= (size_t)1 << sizes->depth;
+    size_t trees = room ? sizes->trees : 0;
     memset(&drawn, 0, sizeof drawn);
     memset(dealt, 0, sizeof *dealt);
     if (trees > 0)

@@ -18,8 +18,7 @@ struct companion_status companion_open(const uint8_t *record, size_t record_len,
     leaves = end->head.end == EXPANDER_NOISE_END ? end->head.leaves : 0;
     end->record_len = record_len;
     end->held = 8 * (words + leaves) + record_len; /* vectors first, since words are aligned */
-    if (status.number == 0 && (end->elements = companion_take(end->held)) == NULL)
-        status = companion_failed(COMPANION_NO_MEMORY);
+    NEXT(status, companion_given(end->elements = companion_take(end->held)));
     if (status.number == 0) {
         end->noise = leaves > 0 ? end->elements + words : NULL;
         end->record = (uint8_t *)(end->elements + words + leaves);
@@ -79,9 +78,8 @@ struct companion_status companion_expand(const struct companion_end *end, size_t
         return companion_refused(noise ? "expander_noise_online" : "expander_scalar_online", EXPANDER_WINDOW_PAST_END);
     window->count = count;
     window->held = 8 * (words + count) + (pad + 1) * count;
-    if ((window->elements = companion_take(window->held)) == NULL) {
-        status = companion_failed(COMPANION_NO_MEMORY);
-    } else {
+    status = companion_given(window->elements = companion_take(window->held));
+    if (status.number == 0) {
         window->u = noise ? window->elements + words : NULL;
         window->pads = binary ? (uint8_t *)(window->elements + words + count) : NULL;
         window->choices = binary && noise ? window->pads + pad * count : NULL;
@@ -148,8 +146,7 @@ struct companion_status companion_add_triples(const struct companion_pair *pair,
     if (status.number == 0) {
         all.count += count;
         all.windows = companion_sum_of(companion_sum_of(all.windows, pair->label.bytes, 16), place, sizeof place);
-        if ((all.bytes = companion_take(3 * all.count)) == NULL)
-            status = companion_failed(COMPANION_NO_MEMORY);
+        status = companion_given(all.bytes = companion_take(3 * all.count));
     }
     NEXT(status, companion_refused("expander_triples", expander_triples(
         noise.choices, count, noise.pads, 16 * count, scalar.pads, 32 * count, all.bytes + 3 * triples->count,

@@ -6,10 +6,11 @@
 
 #pragma GCC visibility push(hidden) /* these are not for users of the shared object */
 
-/* A status; of a call of the expander (0: it accepted); of a test here (0: it is met); of nothing amiss. */
+/* A status; of a call of the expander (0: it accepted); of a test here (0: it is met); of memory that was asked for; of nothing amiss. */
 struct companion_status companion_failed_at(uint32_t number, const char *call, int system);
 #define companion_refused(call, number) companion_failed_at(number, call, 0)
 #define companion_failed(number) companion_failed_at(number, "", 0)
+#define companion_given(memory) companion_failed((memory) != NULL ? COMPANION_DONE : COMPANION_NO_MEMORY)
 #define companion_done() companion_failed_at(COMPANION_DONE, "", 0)
 
 /* The next step, unless one before it failed. */

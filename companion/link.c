@@ -156,11 +156,9 @@ struct companion_status companion_check(const struct companion_link *link, const
     uint8_t *far = NULL;
     struct companion_status status = companion_add_triples(pair, first, count, &own);
     asked[1] = own.windows;
-    if (status.number == 0 && (far = companion_take(3 * count)) == NULL)
-        status = companion_failed(COMPANION_NO_MEMORY);
+    NEXT(status, companion_given(far = companion_take(3 * count)));
     NEXT(status, companion_exchange(link, asked, sizeof asked, far_asked, sizeof far_asked));
-    if (status.number == 0 && memcmp(asked, far_asked, sizeof asked) != 0)
-        status = companion_failed(COMPANION_OUT_OF_STEP);
+    NEXT(status, companion_failed(memcmp(asked, far_asked, sizeof asked) != 0 ? COMPANION_OUT_OF_STEP : COMPANION_DONE));
     NEXT(status, companion_exchange(link, own.bytes, 3 * count, far, 3 * count));
     NEXT(status, companion_failed(judge(own.bytes, far, count)));
     companion_give_back(far, 3 * count);

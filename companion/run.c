@@ -9,6 +9,7 @@ struct run {
     size_t role, len;
     uint8_t bytes[COMPANION_CIRCUIT_MAX], shares[EXPANDER_WIRES_MAX], output[EXPANDER_CIRCUIT_OUTPUTS_MAX];
     uint8_t bits[2 * EXPANDER_WIRES_MAX], far[2 * EXPANDER_WIRES_MAX];
+    uint8_t giver[EXPANDER_WIRES_MAX], getter[EXPANDER_CIRCUIT_OUTPUTS_MAX]; /* roles of inputs and outputs, bit by bit */
     struct expander_rounded last;
 };
 
@@ -29,29 +30,42 @@ static struct companion_status compare(struct run *run, uint64_t windows)
     return status;
 }
 
+/* The role of each bit of some words. */
+static void spread(const uint16_t *width, const uint8_t *role, size_t words, uint8_t *roles)
+{
+    for (size_t word = 0; word < words; roles += width[word++])
+        memset(roles, role[word], width[word]);
+}
+
+/* What is wrong at this end alone. */
+static struct companion_status test(struct run *run, const uint8_t *own)
+{
+    const struct companion_circuit *c = run->circuit;
+    uint32_t number = COMPANION_DONE;
+    if (run->role != COMPANION_ROLE_1 && run->role != COMPANION_ROLE_2)
+        return companion_refused("expander_circuit_round", EXPANDER_WRONG_END);
+    spread(c->input_width, c->input_role, c->input_words, run->giver);
+    spread(c->output_width, c->output_role, c->output_words, run->getter);
+    for (size_t k = 0; k < c->inputs; k++)
+        if (run->giver[k] != COMPANION_ROLE_1 && run->giver[k] != COMPANION_ROLE_2)
+            number = COMPANION_BAD_WORD;
+        else if (run->giver[k] == run->role && *own++ > 1)
+            number = COMPANION_NOT_BITS;
+    return companion_failed(number);
+}
+
 /* Of each of its own bits an end keeps the masked one and sends the mask; neither alone says anything of the bit. */
 static struct companion_status share(struct run *run, const uint8_t *own)
 {
-    const struct companion_circuit *c = run->circuit;
-    size_t sent = 0, due = 0, wire = 0;
-    struct companion_status status = companion_random(run->bits, c->inputs);
-    for (size_t word = 0; word < c->input_words; word++)
-        for (size_t k = 0; k < c->input_width[word]; k++, wire++) {
-            int mine = c->input_role[word] == run->role;
-            if (c->input_role[word] != COMPANION_ROLE_1 && c->input_role[word] != COMPANION_ROLE_2)
-                NEXT(status, companion_failed(COMPANION_BAD_WORD));
-            if (mine && own[sent] > 1)
-                NEXT(status, companion_failed(COMPANION_NOT_BITS));
-            if (mine)
-                run->shares[wire] = own[sent] ^ (run->bits[sent] &= 1);
-            sent += mine ? 1 : 0;
-            due += mine ? 0 : 1;
-        }
-    NEXT(status, companion_exchange(run->link, run->bits, sent, run->far, due));
-    for (size_t word = 0, at = wire = 0; word < c->input_words; word++)
-        for (size_t k = 0; k < c->input_width[word]; k++, wire++)
-            if (c->input_role[word] != run->role)
-                run->shares[wire] = run->far[at++];
+    size_t inputs = run->circuit->inputs, sent = 0;
+    struct companion_status status = companion_random(run->bits, inputs);
+    for (size_t k = 0; k < inputs; k++)
+        if (run->giver[k] == run->role)
+            run->shares[k] = *own++ ^ (run->bits[sent++] &= 1);
+    NEXT(status, companion_exchange(run->link, run->bits, sent, run->far, inputs - sent));
+    for (size_t k = 0, at = 0; k < inputs; k++)
+        if (run->giver[k] != run->role)
+            run->shares[k] = run->far[at++];
     return status;
 }
 
@@ -75,22 +89,19 @@ static struct companion_status go(struct run *run, const struct companion_triple
 /* Each end sends its shares of the outputs that the other one is to have. */
 static struct companion_status open_outputs(struct run *run, uint8_t *outputs)
 {
-    const struct companion_circuit *c = run->circuit;
-    size_t sent = 0, due = 0, bit = 0;
+    size_t count = run->circuit->outputs, sent = 0, due = 0;
     struct companion_status status;
-    for (size_t word = 0; word < c->output_words; word++)
-        for (size_t k = 0; k < c->output_width[word]; k++, bit++) {
-            if (c->output_role[word] & (COMPANION_BOTH - run->role))
-                run->bits[sent++] = run->output[bit];
-            due += (c->output_role[word] & run->role) != 0;
-        }
+    for (size_t k = 0; k < count; k++) {
+        if (run->getter[k] & (COMPANION_BOTH - run->role))
+            run->bits[sent++] = run->output[k];
+        due += (run->getter[k] & run->role) != 0;
+    }
     status = companion_exchange(run->link, run->bits, sent, run->far, due);
     for (size_t k = 0; k < due; k++)
         if (run->far[k] > 1)
             NEXT(status, companion_failed(COMPANION_NOT_BITS));
-    for (size_t word = 0, at = bit = 0; word < c->output_words && status.number == 0; word++)
-        for (size_t k = 0; k < c->output_width[word]; k++, bit++)
-            outputs[bit] = c->output_role[word] & run->role ? run->output[bit] ^ run->far[at++] : 0;
+    for (size_t k = 0, at = 0; k < count && status.number == 0; k++)
+        outputs[k] = run->getter[k] & run->role ? run->output[k] ^ run->far[at++] : 0;
     return status;
 }
 
@@ -106,9 +117,9 @@ struct companion_status companion_run(const struct companion_link *link, uint8_t
         run->circuit = circuit;
         run->role = role;
         status = companion_count(circuit, &counts);
-        if (triples->count < counts.ands)
-            NEXT(status, companion_refused("expander_circuit_round", EXPANDER_TOO_FEW_TRIPLES));
+        NEXT(status, companion_refused("expander_circuit_round", triples->count < counts.ands ? EXPANDER_TOO_FEW_TRIPLES : 0));
         NEXT(status, companion_write(circuit, run->bytes, sizeof run->bytes, &run->len));
+        NEXT(status, test(run, own)); /* before anything is sent */
         NEXT(status, compare(run, triples->windows));
         NEXT(status, share(run, own));
         NEXT(status, go(run, triples, &made));

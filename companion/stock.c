@@ -55,7 +55,7 @@ static struct companion_status write_file(const char *path, const struct file *f
 static struct companion_status save(struct companion_stock *stock, const struct expander_stock *after)
 {
     struct file file;
-    struct companion_status status;
+    struct companion_status status = companion_done();
     int fd;
     if (stock->path != NULL) {
         memset(&file, 0, sizeof file);
@@ -63,14 +63,12 @@ static struct companion_status save(struct companion_stock *stock, const struct 
         file.stock = *after;
         file.sum = companion_sum_of(0, &file, offsetof(struct file, sum));
         status = write_file(name_of(stock, 1), &file);
-        if (status.number == 0 && rename(name_of(stock, 1), stock->path) != 0)
-            status = failed("rename");
-        if (status.number != 0)
-            return status;
+        NEXT(status, rename(name_of(stock, 1), stock->path) == 0 ? companion_done() : failed("rename"));
     }
-    stock->stock = *after;
-    if (stock->path == NULL)
-        return companion_done();
+    if (status.number == 0)
+        stock->stock = *after;
+    if (stock->path == NULL || status.number != 0)
+        return status;
     fd = open(name_of(stock, 3), O_RDONLY | O_DIRECTORY | O_CLOEXEC);
     return fd < 0 ? failed("open") : sync_and_close(companion_done(), fd);
 }
@@ -126,8 +124,8 @@ struct companion_status companion_create_stock(const char *path, struct expander
     memset(stock, 0, sizeof *stock);
     if (path != NULL) {
         NEXT(status, take_path(path, stock));
-        if (status.number == 0 && access(path, F_OK) == 0)
-            status = companion_failed(COMPANION_FILE_THERE);
+        NEXT(status, access(path, F_OK) == 0 ? companion_failed(COMPANION_FILE_THERE)
+                     : errno == ENOENT ? companion_done() : failed("access")); /* it may be there */
     }
     NEXT(status, save(stock, &opened.stock));
     if (status.number != 0)

@@ -58,7 +58,7 @@ extern "C" {
 #define COMPANION_OTHER_SHARES 111u  /* the far end has other words of inputs or outputs, or roles */
 #define COMPANION_OTHER_WINDOWS 112u /* the far end's triples are of other windows */
 #define COMPANION_NOT_BITS 113u      /* an input, or a byte of the far end, is above 1 */
-#define COMPANION_FILE 114u          /* the system refuses to open, lock, read, write, sync, rename */
+#define COMPANION_FILE 114u          /* the system refuses to find, open, lock, read, write, sync, rename */
 #define COMPANION_FILE_THERE 115u    /* a stock is to be created where a file is */
 #define COMPANION_FILE_DAMAGED 116u  /* no stock's file, or not whole */
 #define COMPANION_FILE_IN_USE 117u   /* the stock is open elsewhere */
@@ -508,6 +508,7 @@ struct companion_status companion_write_bristol(
  *            far end's
  *            COMPANION_BAD_WORD: the role of an input is not 1 or 2; 9: this end's role is not
  *            COMPANION_NO_RANDOM, COMPANION_NO_MEMORY
+ *            What is wrong at this end alone, its role and inputs too, is found before anything is sent.
  *  In:       role:    the pair's
  *            own:     this end's input bits in the circuit's order, a byte 0 or 1 each; NULL if none
  *  Out:      triples: spent: wiped and freed, also where the run fails; their windows serve no other

@@ -191,6 +191,7 @@ int __wrap_close(int fd)
 WRAP_FILE_CALL(fsync, (int fd))
 WRAP_FILE_CALL(rename, (const char *from, const char *to))
 WRAP_FILE_CALL(flock, (int fd, int operation))
+WRAP_FILE_CALL(access, (const char *name, int how))
 
 int __wrap_fsync(int fd)
 {
@@ -211,6 +212,13 @@ int __wrap_flock(int fd, int operation)
     if (mode == INTERRUPTED)
         return __real_flock(fd, operation);
     WRAPPED(flock, ENOLCK, -1, fd, operation);
+}
+
+int __wrap_access(const char *name, int how)
+{
+    if (mode == INTERRUPTED)
+        return __real_access(name, how);
+    WRAPPED(access, EIO, -1, name, how);
 }
 
 /* Calls of the expander that accept whatever the companion lends them, and so are made to refuse. */
@@ -1065,6 +1073,7 @@ static void bristol(size_t count)
 /* ---- Joint runs ---- */
 
 struct joint {
+    uint8_t role; /* to be told to the run, if not 0 */
     struct companion_circuit circuit;
     uint8_t own[4096], outputs[4096];
     size_t own_count, rounds, first, count;
@@ -1085,7 +1094,8 @@ static void run_jointly(struct side *side)
     if (side->status.number == 0)
         side->status = companion_add_triples(&side->pair, joint->first + half, joint->count - half, &triples);
     if (side->status.number == 0)
-        side->status = companion_run(&side->link, side->pair.role, &joint->circuit, joint->own, &triples, joint->outputs, &joint->rounds);
+        side->status = companion_run(&side->link, joint->role != 0 ? joint->role : side->pair.role, &joint->circuit, joint->own, &triples,
+                                     joint->outputs, &joint->rounds);
     CHECK(side->status.number != 0 || (triples.bytes == NULL && triples.count == 0), "triples are spent");
     companion_free_triples(&triples);
     companion_close_pair(&side->pair);
@@ -1102,6 +1112,7 @@ static void prepare(struct joint joints[2], struct side sides[2], const struct c
     EXPECT(0, companion_count(circuit, &counts));
     for (int k = 0; k < 2; k++) {
         joints[k].circuit = *circuit;
+        joints[k].role = 0;
         joints[k].own_count = 0;
         joints[k].first = 2;
         joints[k].count = counts.ands;
@@ -1195,14 +1206,15 @@ static void runs(size_t count)
         CHECK(sides[0].socket.sent == sides[1].socket.received, "bytes");
     }
     try_masks();
-    for (int fault = 0; fault < 9; fault++) { /* the second side differs */
+    for (int fault = 0; fault < 12; fault++) { /* the second side differs */
         static const uint32_t dues[] = {COMPANION_OTHER_CIRCUIT, COMPANION_OTHER_SHARES, COMPANION_OTHER_SHARES, COMPANION_OTHER_WINDOWS,
                                         COMPANION_OTHER_WINDOWS, COMPANION_NOT_BITS, EXPANDER_TOO_FEW_TRIPLES, COMPANION_BAD_WIRE,
-                                        EXPANDER_WINDOW_PAST_END};
-        do
+                                        EXPANDER_WRONG_END, EXPANDER_WRONG_END, COMPANION_OUT_OF_STEP, EXPANDER_WINDOW_PAST_END};
+        const size_t before = 192 + 16 + 3 * 2; /* the bytes that are sent before a run */
+        do {
             random_circuit(&circuit, 60);
-        while (companion_count(&circuit, &counts).number == 0 && (counts.ands < 4 || circuit.output_width[0] < 2));
-        prepare(joints, sides, &circuit, due);
+            prepare(joints, sides, &circuit, due);
+        } while (companion_count(&circuit, &counts).number == 0 && (counts.ands < 4 || circuit.output_width[0] < 2 || joints[1].own_count == 0));
         deal_sides(&larger, 1, sides);
         switch (fault) {
         case 0: joints[1].circuit.gate[30].kind = joints[1].circuit.gate[30].kind == 1 ? 2 : 1; joints[1].count++; joints[0].count++; break;
@@ -1213,13 +1225,15 @@ static void runs(size_t count)
         case 5: memset(joints[1].own, 2, sizeof joints[1].own); break;
         case 6: joints[1].count = counts.ands - 1; break;
         case 7: companion_and(&joints[1].circuit, 4095, 0); break;
+        case 8: joints[1].role = COMPANION_BOTH; break;
+        case 9: joints[1].role = 255; break;
+        case 10: joints[1].role = COMPANION_ROLE_1; break; /* which is the far end's */
         default: joints[1].first = larger.outputs; break;
         }
         run_both(sides);
-        if (fault == 5 && joints[1].own_count == 0)
-            continue;
         EXPECT(dues[fault], sides[1].status);
-        EXPECT(fault < 5 ? dues[fault] : COMPANION_CLOSED, sides[0].status);
+        EXPECT(fault < 5 || fault == 10 ? dues[fault] : COMPANION_CLOSED, sides[0].status);
+        CHECK(fault < 5 || fault > 9 || sides[1].socket.sent == before, "fault %d: %zu bytes were sent", fault, sides[1].socket.sent);
     }
     for (uint8_t role = 0; role <= COMPANION_BOTH; role += COMPANION_BOTH) { /* an input that no end, or either, gives */
         prepare(joints, sides, &circuit, due);
@@ -1228,8 +1242,9 @@ static void runs(size_t count)
         run_both(sides);
         EXPECT(COMPANION_BAD_WORD, sides[0].status);
         EXPECT(COMPANION_BAD_WORD, sides[1].status);
+        CHECK(sides[0].socket.sent == 192 + 16 + 3 * 2, "%zu bytes were sent", sides[0].socket.sent);
     }
-    printf("runs: %zu random circuits as the plain evaluation has them, and 9 ways in which ends differ\n", count);
+    printf("runs: %zu random circuits as the plain evaluation has them, and 12 ways in which ends differ\n", count);
 }
 
 /* ---- The stock ---- */
@@ -1306,6 +1321,12 @@ static void stock(size_t count)
     companion_close_stock(&a);
     companion_close_stock(&a);
     EXPECT(COMPANION_FILE_THERE, companion_create_stock(path, one, 200, stock_shares, 3, &a));
+    for (at = 0; at < 20; at++) { /* whatever fails while it looks, a stock that is there is not written over */
+        calls = 0;
+        mode = FAILS;
+        CHECK(companion_create_stock(path, one, 200, stock_shares, 3, &a).number != 0, "created over a stock, where call %zu fails", at);
+        mode = WELL;
+    }
     EXPECT(21, companion_open_stock(path, two, &a));
     EXPECT(0, companion_open_stock(path, one, &a));
     EXPECT(0, companion_draw(&a, NULL, one, 0, 5, &first));
