@@ -93,7 +93,7 @@ statement = squeezed(book.house.definitions["claims", "Correlation", "Lists"].te
 if statement not in quoted:
     faults.append("docs/NOTATION.md reads another Lists aloud than crates/claims/specs/Correlation.antt has")
 claim = squeezed(book.house.definitions["claims", "Correlation", "Claim"].text)
-if not any(q in claim for q in quoted if "NoiseHands" in q):
+if not any(q in claim for q in quoted if "Hands" in q):
     faults.append("docs/NOTATION.md reads another `correlated` aloud than crates/claims/specs/Correlation.antt has")
 deal = squeezed(book.house.contracts["crates/expander/src/lib.rt", "expander_deal"].text)
 for part in next((q for q in quoted if q.startswith("ensures")), "no contract is read aloud").split(" .. "):

@@ -1,6 +1,6 @@
 -- What accumulated buffers tell, from what accumulated vectors tell over any ring and any group that it scales. The noise values of
 -- an accepted record are elements other than zero, at rising positions below N.
-use mathlib.Core.Path.{_≡_, refl, sym, ap, _∙_}
+use mathlib.Core.Path.{_≡_, sym, ap, _∙_}
 use mathlib.Core.Bool.{Bool, true, false}
 use mathlib.Core.List.{List, [], _∷_, map}
 use mathlib.Core.Logic.{_⊎_, inl, inr, ⊎-elim, _↔_}
@@ -9,7 +9,7 @@ use native.Mathlib.Nat.{not-suc-le-zero, le-of-suc-le-suc}
 use native.Mathlib.Omega.{arith}
 use borrow.Author.Tests.{eqb-true, leb-true, ltb-true, lt-ltb}
 use lib.Dec.{leb, eqb}
-use lib.ListN.{length, getD, length-map, List·getD-map}
+use lib.ListN.{length, length-map, List·getD-map}
 use lib.Seq.{ext-getD}
 use Rattle.algebra.proofs.Coding.{at-flat}
 use Rattle.algebra.proofs.Correlation.{noise-element}
@@ -34,6 +34,7 @@ use Rattle.rows.specs.Head.{fieldOf, places}
 use Rattle.scalar_end.proofs.Laws as scalarLaws
 use Rattle.scalar_end.specs.Vectors as scalarEnd
 use Rattle.scalar_end.specs.Vectors.{delta, w0}
+use Rattle.claims.proofs.Dealt.{delta-told}
 use Rattle.claims.specs.Buffers.{NoiseExpanded, ScalarExpanded, noiseContent, scalarContent, noiseAfter, scalarAfter, muAfter, vAfter, wAfter, deltaAfter, AccumulatedAt, ExpandedAt, Below, Buffers}
 
 -- ---- what is admitted, tree by tree
@@ -73,16 +74,6 @@ word-told f x y e = of (eqb f 1) e
     of : (b : Bool) → choose b binaryKind primeKind .field .noiseValues .read (x ∷ []) 0 ≡ choose b binaryKind primeKind .field .noiseValues .read (y ∷ []) 0 → x ≡ y
     of true q = q
     of false q = ap (λ (a : Prime). a .word) q
-
--- Δ from its two words
-delta-told : (f : ℕ) (d : List ℕ)
-    → at (kindOf f .field .elements) (getD d 0 0 ∷ choose (eqb f 1) (getD d 1 0) 0 ∷ []) 0 ≡ kindOf f .field .elements .read d 0
-delta-told f d = of (eqb f 1)
-  where
-    of : (b : Bool) → at (choose b binaryKind primeKind .field .elements) (getD d 0 0 ∷ choose b (getD d 1 0) 0 ∷ []) 0
-        ≡ choose b binaryKind primeKind .field .elements .read d 0
-    of true = refl
-    of false = refl
 
 module _ (h : Head) where
   laws : KindLaws (kindOf (h .field))

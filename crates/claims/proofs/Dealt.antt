@@ -1,14 +1,17 @@
 -- The vectors that each end's part of a dealing gives are the dealing's own.
 use mathlib.Core.Path.{_≡_, refl, sym, ap, ap₂, _∙_, subst}
+use mathlib.Core.Bool.{Bool, true, false}
 use mathlib.Core.List.{List, [], _∷_, map, append-nil}
 use Prim.Native.Nat.{ℕ, zero, suc, _/_, _^_, _<_}
 use native.Mathlib.Omega.{arith}
-use lib.ListN.{length}
+use lib.Dec.{eqb}
+use lib.ListN.{length, getD}
 use lib.Pow.{pow-pos}
 use Rattle.algebra.proofs.Same.{noise-same, punctured-same, whole-same}
-use Rattle.algebra.specs.Coding.{Coding, CodingLaws}
+use Rattle.algebra.specs.Choice.{choose}
+use Rattle.algebra.specs.Coding.{Coding, CodingLaws, at}
 use Rattle.field.proofs.BothKinds.{kindLaws}
-use Rattle.field.specs.Kind.{KindLaws}
+use Rattle.field.specs.Kind.{KindLaws, binaryKind, primeKind, kindOf}
 use Rattle.aes128.specs.State.{column}
 use Rattle.aes128.specs.Cipher.{aes}
 use Rattle.rows.specs.Head.{kind}
@@ -37,6 +40,16 @@ blocks-back (x ∷ xs) q = ap₂ (λ a l. a ∷ l) (block-back x (q .0)) (blocks
 -- an element's words read back
 words-back : {A : Type 0} (C : Coding A) → CodingLaws C → (a : A) → C .read (C .words a) 0 ≡ a
 words-back C L a = ap (λ l. C .read l 0) (sym (append-nil (C .words a))) ∙ L .read-words [] a []
+
+-- Δ's two words, as the scalar end's offline call writes them, read back as Δ
+pub delta-told : (f : ℕ) (d : List ℕ)
+    → at (kindOf f .field .elements) (getD d 0 0 ∷ choose (eqb f 1) (getD d 1 0) 0 ∷ []) 0 ≡ kindOf f .field .elements .read d 0
+delta-told f d = of (eqb f 1)
+  where
+    of : (b : Bool) → at (choose b binaryKind primeKind .field .elements) (getD d 0 0 ∷ choose b (getD d 1 0) 0 ∷ []) 0
+        ≡ choose b binaryKind primeKind .field .elements .read d 0
+    of true = refl
+    of false = refl
 
 child-square : {k : ℕ} (c : ℕ) → c < k → (s : List (List ℕ)) → Square s → Square (child c s)
 unfolding child

@@ -1,9 +1,8 @@
 -- The inhabitants of the statements about the calls of document 01 together: records, demand 3 entire, and what is accepted.
-use mathlib.Core.Path.{_≡_, sym, ap, _∙_}
+use mathlib.Core.Path.{sym, _∙_}
 use mathlib.Core.List.{[]}
 use Prim.Native.Nat.{_+_, _*_}
 use lib.ListN.{length}
-use Rattle.answer.specs.Tests.{firstFault}
 use Rattle.answer.proofs.Faults.{at-most, fault-later, fault-nowhere}
 use Rattle.dealing.proofs.Laws as dealing
 use Rattle.dealing.specs.Vectors.{field}
@@ -11,9 +10,9 @@ use Rattle.noise_end.proofs.Laws as noiseLaws
 use Rattle.record.proofs.Laws as records
 use Rattle.scalar_end.proofs.Laws as scalarLaws
 use Rattle.claims.specs.Acceptance.{Acceptance}
-use Rattle.claims.specs.Correlation.{Setting, NoiseCall, noiseStep, noiseStart, ScalarCall, scalarStep, scalarStart, listedNoiseTests, listedScalarTests, Outputs, Lists, Pads, Demand3}
+use Rattle.claims.specs.Correlation.{Outputs, Pads, Demand3}
 use Rattle.claims.specs.Records.{Records}
-use Rattle.claims.proofs.Lists.{claim, noise-number, scalar-number}
+use Rattle.claims.proofs.Lists.{noise-number, scalar-number, lists}
 use Rattle.claims.proofs.Outputs.{admitted-correlated}
 use Rattle.claims.proofs.Pads.{admitted-pads}
 
@@ -32,13 +31,6 @@ record-laws =
 pub outputs : Outputs
 outputs I a b z x h = admitted-correlated I (dealing.deal-number I a b z .admitted) x
 
--- every two lists
-pub lists : Lists
-lists S =
-    claim S (dealing.deal-number (S .input) (S .noiseRecord) (S .scalarRecord) (S .dealt) .admitted)
-    (dealing.noise-reads (S .input) (S .noiseRecord) (S .scalarRecord) (S .dealt) (S .inMemory))
-    (dealing.scalar-reads (S .input) (S .noiseRecord) (S .scalarRecord) (S .dealt) (S .inMemory))
-
 pub pads : Pads
 pads I one a b z first count vs choices out noise-accepted first′ count′ ws Δs out′ scalar-accepted x h in-noise in-scalar lent =
     admitted-pads first count vs choices out noise-accepted first′ count′ ws Δs out′ scalar-accepted x in-noise in-scalar I
@@ -46,21 +38,6 @@ pads I one a b z first count vs choices out noise-accepted first′ count′ ws 
 
 pub demand3 : Demand3
 demand3 = record { outputs = outputs; lists = lists; pads = pads }
-
--- ---- what is accepted
-
-module _ (S : Setting) where
-  noise-listed : (c : NoiseCall) → noiseStep (noiseStart S) c .number ≡ firstFault (listedNoiseTests (S .input) c)
-  noise-listed =
-      noise-number S (dealing.deal-number (S .input) (S .noiseRecord) (S .scalarRecord) (S .dealt) .admitted)
-      (dealing.noise-reads (S .input) (S .noiseRecord) (S .scalarRecord) (S .dealt) (S .inMemory))
-      (dealing.scalar-reads (S .input) (S .noiseRecord) (S .scalarRecord) (S .dealt) (S .inMemory))
-
-  scalar-listed : (c : ScalarCall) → scalarStep (scalarStart S) c .number ≡ firstFault (listedScalarTests (S .input) c)
-  scalar-listed =
-      scalar-number S (dealing.deal-number (S .input) (S .noiseRecord) (S .scalarRecord) (S .dealt) .admitted)
-      (dealing.noise-reads (S .input) (S .noiseRecord) (S .scalarRecord) (S .dealt) (S .inMemory))
-      (dealing.scalar-reads (S .input) (S .noiseRecord) (S .scalarRecord) (S .dealt) (S .inMemory))
 
 pub acceptance : Acceptance
 acceptance =
@@ -72,12 +49,12 @@ acceptance =
       noise-offline = λ I M a b z noise v h k. noiseLaws.offline-accepts _ noise v (dealing.noise-reads I a b z M) h k .number;
       scalar-offline = λ I M a b z w delta h k. scalarLaws.offline-accepts _ w delta (dealing.scalar-reads I a b z M) h k .number;
       noise-window = λ S c a h k.
-          noise-listed S c
+          noise-number S c
           ∙ sym (fault-later _ _ _ 0 (at-most (c .first + c .count) (S .input .outputs) a)
-          (fault-later _ _ _ 0 (at-most (c .count) (length (c .uOut)) h)
-          (fault-later _ _ [] 0 (at-most (c .count * field (S .input) .elements .width) (length (c .vOut)) k) fault-nowhere)));
+          (fault-later _ _ _ 0 (at-most (c .count) (length (c .out .uOut)) h)
+          (fault-later _ _ [] 0 (at-most (c .count * field (S .input) .elements .width) (length (c .out .vOut)) k) fault-nowhere)));
       scalar-window = λ S c a h.
-          scalar-listed S c
+          scalar-number S c
           ∙ sym (fault-later _ _ _ 0 (at-most (c .first + c .count) (S .input .outputs) a)
-          (fault-later _ _ [] 0 (at-most (c .count * field (S .input) .elements .width) (length (c .wOut)) h) fault-nowhere));
+          (fault-later _ _ [] 0 (at-most (c .count * field (S .input) .elements .width) (length (c .out)) h) fault-nowhere));
     }

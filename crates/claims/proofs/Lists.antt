@@ -1,303 +1,271 @@
--- The single claim about every two lists of calls, for an accepted dealing whose records read back as each end's part.
+-- The single claim about every two lists of calls, and what each listed call leaves.
 use mathlib.Core.Path.{_≡_, refl, sym, ap, ap₂, _∙_}
 use mathlib.Core.List.{List, [], _∷_, map}
-use mathlib.Core.Logic.{_⊎_, ⊎-elim}
+use mathlib.Core.Option.{some, Option·none-ne-some, Option·some-injective}
 use Prim.Native.Nat.{ℕ, zero, suc, _+_, _*_, _^_, _<_}
 use native.Mathlib.Nat.{not-suc-le-zero, le-of-suc-le-suc}
-use native.Mathlib.Omega.{arith}
-use lib.ListN.{length, getD}
-use lib.Dec.{eqb}
-use Rattle.algebra.specs.Choice.{choose}
+use lib.ListN.{length, getD, getElem?}
 use Rattle.answer.specs.Tests.{firstFault}
 use Rattle.answer.specs.Outcome.{Outcome, TwoWritten, answered, refusedOne, refusedTwo, wrote}
 use Rattle.algebra.proofs.Coding.{flat-cong, at-flat}
 use Rattle.algebra.proofs.Same.{accumulate-same}
 use Rattle.algebra.proofs.Sum.{sum-element}
 use Rattle.algebra.specs.Coding.{at, flat, over}
-use Rattle.algebra.specs.Field.{NoiseValue, Value}
+use Rattle.algebra.specs.Field.{Field, NoiseValue, Value}
 use Rattle.algebra.specs.Group.{Element, itself}
 use Rattle.algebra.specs.Row.{output}
 use Rattle.algebra.specs.Sum.{accumulate}
 use Rattle.field.proofs.BothKinds.{kindLaws, noiseFacts}
-use Rattle.field.specs.Bytes.{wordAt}
-use Rattle.field.specs.Kind.{kindOf}
 use Rattle.number.specs.Reading.{Whole}
-use Rattle.record.specs.Content.{elementOf}
 use Rattle.record.specs.Reading.{readNoise, readScalar}
 use Rattle.rows.proofs.Rows.{row-within, row-output}
 use Rattle.rows.specs.Head.{places, row}
+use Rattle.dealing.proofs.Laws as dealing
 use Rattle.dealing.specs.Admitted.{Admitted}
+use Rattle.dealing.specs.Input.{Input}
 use Rattle.dealing.specs.Parts.{noisePart, scalarPart}
 use Rattle.dealing.specs.Vectors as dealt
 use Rattle.dealing.specs.Vectors.{head, field, mu, v0, w0}
 use Rattle.noise_end.proofs.Laws as noiseLaws
-use Rattle.noise_end.specs.Offline as noiseOffline
 use Rattle.noise_end.specs.Online as noiseOnline
 use Rattle.noise_end.specs.Vectors as noisePartVectors
 use Rattle.scalar_end.proofs.Laws as scalarLaws
-use Rattle.scalar_end.specs.Offline as scalarOffline
 use Rattle.scalar_end.specs.Online as scalarOnline
 use Rattle.scalar_end.specs.Vectors as scalarPartVectors
-use Rattle.claims.specs.Correlation.{Setting, noiseSource, scalarSource, NoiseMemory, NoiseCall, noiseStep, noiseLeft, noiseRun, noiseLast, noiseStart, listedNoiseTests, NoiseHands, ScalarMemory, ScalarCall, scalarStep, scalarLeft, scalarRun, scalarLast, scalarStart, listedScalarTests, ScalarHands, noiseCall, noiseOutcome, scalarCall, scalarOutcome, Claim}
-use Rattle.claims.proofs.Dealt.{mu-dealt, v0-dealt, w0-dealt}
+use Rattle.claims.specs.Correlation.{Setting, noiseSource, scalarSource, Call, End, run, last, EndClaim, NoiseMemory, NoiseOut, noiseExpanded, noiseEnd, ScalarMemory, scalarExpanded, scalarEnd, Lists}
+use Rattle.claims.proofs.Dealt.{delta-told, mu-dealt, v0-dealt, w0-dealt}
 use Rattle.claims.proofs.Outputs.{admitted-correlated}
 
--- ---- lists on any memory: each call leaves the memory as it was, so every call of a list is made on the first memory
+-- ---- a list of calls, each of which leaves the memory as it was
 
-noise-left : (m : NoiseMemory) (c : NoiseCall) → noiseLeft (noiseStep m c) ≡ m
-noise-left m c =
-    let k = noiseLaws.online-kept (noiseOnline.lentWith (m .source) (m .noise) (m .v) (c .uOut) (c .vOut)) (c .first) (c .count) in
-    λ i. record { source = k .source i; noise = k .noise i; v = k .v i }
+module _ (E : End) (kept : (m : E .Memory) (c : Call (E .Out)) → E .memory (E .online m c .lent) ≡ m) where
+  -- every call is made on the first memory
+  pub run-steps : (m : E .Memory) (calls : List (Call (E .Out))) → run E m calls ≡ map (λ c. (c, E .online m c)) calls
+  unfolding run
+  run-steps m [] = refl
+  run-steps m (c ∷ calls) = ap (λ l. (c, E .online m c) ∷ run E l calls) (kept m c) ∙ ap (λ l. (c, E .online m c) ∷ l) (run-steps m calls)
 
--- so the outcomes of a list are those of its calls, each on the first memory
-pub noise-steps : (m : NoiseMemory) (calls : List NoiseCall) → noiseRun m calls ≡ map (noiseStep m) calls
-unfolding noiseRun
-noise-steps m [] = refl
-noise-steps m (c ∷ calls) = ap (λ l. noiseStep m c ∷ noiseRun l calls) (noise-left m c) ∙ ap (λ l. noiseStep m c ∷ l) (noise-steps m calls)
+  -- so the outcome that the run has at a place is that of its call there
+  made-first : (m : E .Memory) (calls : List (Call (E .Out))) (i : ℕ) {c : Call (E .Out)} {o : Outcome (E .Written) (E .Lent)}
+      → getElem? (run E m calls) i ≡ some (c, o) → o ≡ E .online m c
+  unfolding run
+  made-first m [] i e = absurd (Option·none-ne-some _ e)
+  made-first m (d ∷ calls) zero {c} {o} e =
+      let q = Option·some-injective (d, E .online m d) (c, o) e in
+      sym (ap (λ p. p .1) q) ∙ ap (E .online m) (ap (λ p. p .0) q)
+  made-first m (d ∷ calls) (suc i) e = made-first m calls i (rw (kept m d) at e)
 
-noise-end : (m : NoiseMemory) (calls : List NoiseCall) → noiseLast m calls ≡ m
-unfolding noiseLast
-noise-end m [] = refl
-noise-end m (c ∷ calls) = ap (λ l. noiseLast l calls) (noise-left m c) ∙ noise-end m calls
+  last-kept : (m : E .Memory) (calls : List (Call (E .Out))) → last E m calls ≡ m
+  unfolding last
+  last-kept m [] = refl
+  last-kept m (c ∷ calls) = ap (λ l. last E l calls) (kept m c) ∙ last-kept m calls
 
-noise-run : (m : NoiseMemory) (calls : List NoiseCall) (o : Outcome TwoWritten noiseOnline.Lent) (c : NoiseCall) (i : ℕ) → i < length calls
-    → getD (noiseRun m calls) i o ≡ noiseStep m (getD calls i c)
-unfolding noiseRun
-noise-run m [] o c i h = absurd (not-suc-le-zero h)
-noise-run m (d ∷ calls) o c zero h = refl
-noise-run m (d ∷ calls) o c (suc i) h =
-    ap (λ l. getD (noiseRun l calls) i o) (noise-left m d) ∙ noise-run m calls o c i (le-of-suc-le-suc h)
+  -- so what is claimed of a list follows from what holds of each call on the first memory
+  end-claim : ((c : Call (E .Out)) → E .online (E .start) c .number ≡ firstFault (E .tests c))
+      → ((c : Call (E .Out)) → E .online (E .start) c .number ≡ 0 → (k : ℕ) → k < c .count
+      → E .standing (E .online (E .start) c .lent) k ≡ E .dealt (c .first + k))
+      → (calls : List (Call (E .Out))) → EndClaim E calls
+  end-claim number value calls =
+      record {
+        numbers = λ i c o e. ap (λ p. p .number) (made-first (E .start) calls i e) ∙ number c;
+        values = λ x a H.
+            let made = made-first (E .start) calls (H .place) (H .made) in
+            H .stands
+            ∙ ap (λ o. E .standing (o .lent) (H .k)) made
+            ∙ value (H .call) (ap (λ o. o .number) (sym made) ∙ H .accepted) (H .k) (H .within)
+            ∙ ap (E .dealt) (sym (H .index));
+        memory = last-kept (E .start) calls;
+      }
 
-scalar-left : (m : ScalarMemory) (c : ScalarCall) → scalarLeft (scalarStep m c) ≡ m
-scalar-left m c =
-    let k = scalarLaws.online-kept (scalarOnline.lentWith (m .source) (m .w) (c .wOut)) (c .first) (c .count) in
-    λ i. record { source = k .source i; w = k .w i }
-
-pub scalar-steps : (m : ScalarMemory) (calls : List ScalarCall) → scalarRun m calls ≡ map (scalarStep m) calls
-unfolding scalarRun
-scalar-steps m [] = refl
-scalar-steps m (c ∷ calls) = ap (λ l. scalarStep m c ∷ scalarRun l calls) (scalar-left m c) ∙ ap (λ l. scalarStep m c ∷ l) (scalar-steps m calls)
-
-scalar-end : (m : ScalarMemory) (calls : List ScalarCall) → scalarLast m calls ≡ m
-unfolding scalarLast
-scalar-end m [] = refl
-scalar-end m (c ∷ calls) = ap (λ l. scalarLast l calls) (scalar-left m c) ∙ scalar-end m calls
-
-scalar-run : (m : ScalarMemory) (calls : List ScalarCall) (o : Outcome ℕ scalarOnline.Lent) (c : ScalarCall) (i : ℕ) → i < length calls
-    → getD (scalarRun m calls) i o ≡ scalarStep m (getD calls i c)
-unfolding scalarRun
-scalar-run m [] o c i h = absurd (not-suc-le-zero h)
-scalar-run m (d ∷ calls) o c zero h = refl
-scalar-run m (d ∷ calls) o c (suc i) h =
-    ap (λ l. getD (scalarRun l calls) i o) (scalar-left m d) ∙ scalar-run m calls o c i (le-of-suc-le-suc h)
+-- the run has the call at each place of the list with its outcome, so what is claimed of what the run has is claimed of every place
+pub run-place : (E : End) (m : E .Memory) (calls : List (Call (E .Out))) (c : Call (E .Out)) (o : Outcome (E .Written) (E .Lent)) (i : ℕ)
+    → i < length calls → getElem? (run E m calls) i ≡ some (getD calls i c, getD (map (λ p. p .1) (run E m calls)) i o)
+unfolding run
+run-place E m [] c o i h = absurd (not-suc-le-zero h)
+run-place E m (d ∷ calls) c o zero h = refl
+run-place E m (d ∷ calls) c o (suc i) h = run-place E (E .memory (E .online m d .lent)) calls c o i (le-of-suc-le-suc h)
 
 -- ---- one dealing
 
--- what a call that is listed leaves where these are its outputs by index
-abbrev pub noiseListedBy : (S : Setting) → NoiseCall → (ℕ → NoiseValue (field (S .input))) → (ℕ → Value (field (S .input)))
-    → Outcome TwoWritten noiseOnline.Lent
-noiseListedBy S c u v =
-    answered (listedNoiseTests (S .input) c)
-    (refusedTwo (noiseOnline.lentWith (noiseStart S .source) (noiseStart S .noise) (noiseStart S .v) (c .uOut) (c .vOut)))
-    (wrote (record { first = c .count; second = c .count * field (S .input) .elements .width })
-    (noiseOnline.lentWith (noiseStart S .source) (noiseStart S .noise) (noiseStart S .v)
-    (over (field (S .input) .noiseValues) (c .count) (λ k. u (c .first + k)) (c .uOut))
-    (over (field (S .input) .elements) (c .count) (λ k. v (c .first + k)) (c .vOut))))
+module _ (S : Setting) where
+  abbrev I : Input
+  I = S .input
 
-abbrev pub noiseListed : Setting → NoiseCall → Outcome TwoWritten noiseOnline.Lent
-noiseListed S c = noiseListedBy S c (dealt.u (S .input)) (dealt.v (S .input))
+  abbrev F : Field
+  F = field I
 
-abbrev pub scalarListedBy : (S : Setting) → ScalarCall → (ℕ → Value (field (S .input))) → Outcome ℕ scalarOnline.Lent
-scalarListedBy S c w =
-    answered (listedScalarTests (S .input) c) (refusedOne (scalarOnline.lentWith (scalarStart S .source) (scalarStart S .w) (c .wOut)))
-    (wrote (c .count * field (S .input) .elements .width)
-    (scalarOnline.lentWith (scalarStart S .source) (scalarStart S .w) (over (field (S .input) .elements) (c .count) (λ k. w (c .first + k)) (c .wOut))))
+  -- what a call on the first memory is lent
+  abbrev noiseLent : Call NoiseOut → noiseOnline.Lent
+  noiseLent c = noiseOnline.lentWith (noiseEnd S .start .source) (noiseEnd S .start .noise) (noiseEnd S .start .v) (c .out .uOut) (c .out .vOut)
 
-abbrev pub scalarListed : Setting → ScalarCall → Outcome ℕ scalarOnline.Lent
-scalarListed S c = scalarListedBy S c (dealt.w (S .input))
+  abbrev scalarLent : Call (List ℕ) → scalarOnline.Lent
+  scalarLent c = scalarOnline.lentWith (scalarEnd S .start .source) (scalarEnd S .start .w) (c .out)
 
--- Δ's words, as the scalar end's offline call writes them, read back as Δ
-delta-back : (f low high : ℕ) → (f ≡ 1) ⊎ (f ≡ 2)
-    → at (kindOf f .field .elements) (getD (elementOf f low high) 0 0 ∷ choose (eqb f 1) (getD (elementOf f low high) 1 0) 0 ∷ []) 0
-    ≡ kindOf f .field .elements .read (elementOf f low high) 0
-delta-back zero low high h = absurd (⊎-elim (λ e. omega arith) (λ e. omega arith) h)
-delta-back (suc zero) low high h = refl
-delta-back (suc (suc zero)) low high h = refl
-delta-back (suc (suc (suc n))) low high h = absurd (⊎-elim (λ e. omega arith) (λ e. omega arith) h)
+  -- what it leaves where these are its outputs by index
+  abbrev pub noiseListedBy : Call NoiseOut → (ℕ → NoiseValue F) → (ℕ → Value F) → Outcome TwoWritten noiseOnline.Lent
+  noiseListedBy c u v =
+      answered (noiseEnd S .tests c) (refusedTwo (noiseLent c))
+      (wrote (record { first = c .count; second = c .count * F .elements .width })
+      (noiseOnline.lentWith (noiseEnd S .start .source) (noiseEnd S .start .noise) (noiseEnd S .start .v)
+      (over (F .noiseValues) (c .count) (λ k. u (c .first + k)) (c .out .uOut))
+      (over (F .elements) (c .count) (λ k. v (c .first + k)) (c .out .vOut))))
 
-module _ (S : Setting) (A : Admitted (S .input))
-    (noise-reads : readNoise (noiseSource S) ≡ Whole (noisePart (S .input)))
-    (scalar-reads : readScalar (scalarSource S) ≡ Whole (scalarPart (S .input))) where
+  abbrev pub scalarListedBy : Call (List ℕ) → (ℕ → Value F) → Outcome ℕ scalarOnline.Lent
+  scalarListedBy c w =
+      answered (scalarEnd S .tests c) (refusedOne (scalarLent c))
+      (wrote (c .count * F .elements .width)
+      (scalarOnline.lentWith (scalarEnd S .start .source) (scalarEnd S .start .w) (over (F .elements) (c .count) (λ k. w (c .first + k)) (c .out))))
+
+  -- every call leaves the memory as it was
+  pub noise-kept : (m : NoiseMemory) (c : Call NoiseOut) → noiseEnd S .memory (noiseEnd S .online m c .lent) ≡ m
+  noise-kept m c =
+      let k = noiseLaws.online-kept (noiseOnline.lentWith (m .source) (m .noise) (m .v) (c .out .uOut) (c .out .vOut)) (c .first) (c .count) in
+      λ i. record { source = k .source i; noise = k .noise i; v = k .v i }
+
+  pub scalar-kept : (m : ScalarMemory) (c : Call (List ℕ)) → scalarEnd S .memory (scalarEnd S .online m c .lent) ≡ m
+  scalar-kept m c =
+      let k = scalarLaws.online-kept (scalarOnline.lentWith (m .source) (m .w) (c .out)) (c .first) (c .count) in
+      λ i. record { source = k .source i; w = k .w i }
+
+  A : Admitted I
+  A = dealing.deal-number I (S .noiseRecord) (S .scalarRecord) (S .dealt) .admitted
+
+  noise-reads : readNoise (noiseSource S) ≡ Whole (noisePart I)
+  noise-reads = dealing.noise-reads I (S .noiseRecord) (S .scalarRecord) (S .dealt) (S .inMemory)
+
+  scalar-reads : readScalar (scalarSource S) ≡ Whole (scalarPart I)
+  scalar-reads = dealing.scalar-reads I (S .noiseRecord) (S .scalarRecord) (S .dealt) (S .inMemory)
+
+  -- what each offline call left
+  noise-left : noiseLaws.Accepted (noisePart I) (noiseSource S) (noiseExpanded S)
+  noise-left = noiseLaws.offline-accepted (noiseSource S) (S .noiseBuffer) (S .vBuffer) noise-reads (S .noiseAccepted)
+
+  scalar-left : scalarLaws.Accepted (scalarPart I) (scalarSource S) (scalarExpanded S)
+  scalar-left = scalarLaws.offline-accepted (scalarSource S) (S .wBuffer) (S .deltaBuffer) scalar-reads (S .scalarAccepted)
+
   -- the accumulated vectors of the dealing
-  accMu : ℕ → NoiseValue (field (S .input))
-  accMu = accumulate (field (S .input) .ring .group) (mu (S .input))
+  accMu : ℕ → NoiseValue F
+  accMu = accumulate (F .ring .group) (mu I)
 
-  accV0 : ℕ → Value (field (S .input))
-  accV0 = accumulate (field (S .input) .scaled .group) (v0 (S .input))
+  accV0 : ℕ → Value F
+  accV0 = accumulate (F .scaled .group) (v0 I)
 
-  accW0 : ℕ → Value (field (S .input))
-  accW0 = accumulate (field (S .input) .scaled .group) (w0 (S .input))
+  accW0 : ℕ → Value F
+  accW0 = accumulate (F .scaled .group) (w0 I)
 
   -- the memory that each offline call left holds the record and them
-  noise-start : readNoise (noiseStart S .source) ≡ Whole (noisePart (S .input))
-  noise-start =
-      ap readNoise (noiseLaws.offline-accepted (noiseSource S) (S .noiseBuffer) (S .vBuffer) noise-reads (S .noiseAccepted) .record-kept) ∙ noise-reads
+  noise-start : readNoise (noiseEnd S .start .source) ≡ Whole (noisePart I)
+  noise-start = ap readNoise (noise-left .record-kept) ∙ noise-reads
 
-  scalar-start : readScalar (scalarStart S .source) ≡ Whole (scalarPart (S .input))
-  scalar-start =
-      ap readScalar (scalarLaws.offline-accepted (scalarSource S) (S .wBuffer) (S .deltaBuffer) scalar-reads (S .scalarAccepted) .record-kept) ∙ scalar-reads
+  scalar-start : readScalar (scalarEnd S .start .source) ≡ Whole (scalarPart I)
+  scalar-start = ap readScalar (scalar-left .record-kept) ∙ scalar-reads
 
-  noise-words : noiseStart S .noise ≡ flat (field (S .input) .noiseValues) (2 ^ S .input .depth) accMu
+  noise-words : noiseEnd S .start .noise ≡ flat (F .noiseValues) (2 ^ I .depth) accMu
   unfolding accMu
   noise-words =
-      noiseLaws.offline-accepted (noiseSource S) (S .noiseBuffer) (S .vBuffer) noise-reads (S .noiseAccepted) .noise
-      ∙ flat-cong (field (S .input) .noiseValues) (kindLaws (S .input .field) .field .noiseValues) (2 ^ S .input .depth) _ _
-      (accumulate-same (field (S .input) .ring .group) (2 ^ S .input .depth) (noisePartVectors.mu (noisePart (S .input))) (mu (S .input))
-      (λ j h. mu-dealt (S .input) A j))
+      noise-left .noise
+      ∙ flat-cong (F .noiseValues) (kindLaws (I .field) .field .noiseValues) (2 ^ I .depth) _ _
+      (accumulate-same (F .ring .group) (2 ^ I .depth) (noisePartVectors.mu (noisePart I)) (mu I) (λ j h. mu-dealt I A j))
 
-  v-words : noiseStart S .v ≡ flat (field (S .input) .elements) (2 ^ S .input .depth) accV0
+  v-words : noiseEnd S .start .v ≡ flat (F .elements) (2 ^ I .depth) accV0
   unfolding accV0
   v-words =
-      noiseLaws.offline-accepted (noiseSource S) (S .noiseBuffer) (S .vBuffer) noise-reads (S .noiseAccepted) .v
-      ∙ flat-cong (field (S .input) .elements) (kindLaws (S .input .field) .field .elements) (2 ^ S .input .depth) _ _
-      (accumulate-same (field (S .input) .scaled .group) (2 ^ S .input .depth) (noisePartVectors.v0 (noisePart (S .input))) (v0 (S .input))
-      (v0-dealt (S .input) A))
+      noise-left .v
+      ∙ flat-cong (F .elements) (kindLaws (I .field) .field .elements) (2 ^ I .depth) _ _
+      (accumulate-same (F .scaled .group) (2 ^ I .depth) (noisePartVectors.v0 (noisePart I)) (v0 I) (v0-dealt I A))
 
-  w-words : scalarStart S .w ≡ flat (field (S .input) .elements) (2 ^ S .input .depth) accW0
+  w-words : scalarEnd S .start .w ≡ flat (F .elements) (2 ^ I .depth) accW0
   unfolding accW0
   w-words =
-      scalarLaws.offline-accepted (scalarSource S) (S .wBuffer) (S .deltaBuffer) scalar-reads (S .scalarAccepted) .w
-      ∙ flat-cong (field (S .input) .elements) (kindLaws (S .input .field) .field .elements) (2 ^ S .input .depth) _ _
-      (accumulate-same (field (S .input) .scaled .group) (2 ^ S .input .depth) (scalarPartVectors.w0 (scalarPart (S .input))) (w0 (S .input))
-      (λ j h. w0-dealt (S .input) A j))
+      scalar-left .w
+      ∙ flat-cong (F .elements) (kindLaws (I .field) .field .elements) (2 ^ I .depth) _ _
+      (accumulate-same (F .scaled .group) (2 ^ I .depth) (scalarPartVectors.w0 (scalarPart I)) (w0 I) (λ j h. w0-dealt I A j))
 
-  accMu-element : (j : ℕ) → j < 2 ^ S .input .depth → Element (field (S .input) .ring .group) (accMu j)
+  accMu-element : (j : ℕ) → j < 2 ^ I .depth → Element (F .ring .group) (accMu j)
   unfolding accMu accumulate
-  accMu-element j h = sum-element (field (S .input) .ring .group) (kindLaws (S .input .field) .field .ring .group) (suc j) (mu (S .input))
+  accMu-element j h = sum-element (F .ring .group) (kindLaws (I .field) .field .ring .group) (suc j) (mu I)
 
-  accV0-element : (j : ℕ) → j < 2 ^ S .input .depth → Element (field (S .input) .scaled .group) (accV0 j)
+  accV0-element : (j : ℕ) → j < 2 ^ I .depth → Element (F .scaled .group) (accV0 j)
   unfolding accV0 accumulate
-  accV0-element j h = sum-element (field (S .input) .scaled .group) (kindLaws (S .input .field) .field .scaled .group) (suc j) (v0 (S .input))
+  accV0-element j h = sum-element (F .scaled .group) (kindLaws (I .field) .field .scaled .group) (suc j) (v0 I)
 
-  accW0-element : (j : ℕ) → j < 2 ^ S .input .depth → Element (field (S .input) .scaled .group) (accW0 j)
+  accW0-element : (j : ℕ) → j < 2 ^ I .depth → Element (F .scaled .group) (accW0 j)
   unfolding accW0 accumulate
-  accW0-element j h = sum-element (field (S .input) .scaled .group) (kindLaws (S .input .field) .field .scaled .group) (suc j) (w0 (S .input))
+  accW0-element j h = sum-element (F .scaled .group) (kindLaws (I .field) .field .scaled .group) (suc j) (w0 I)
 
   -- u: a row's output on the accumulated noise is the matrix row times the noise
-  u-is : (x : ℕ) → output (itself (field (S .input) .ring)) (row (head (S .input)) x) accMu ≡ dealt.u (S .input) x
+  u-is : (x : ℕ) → output (itself (F .ring)) (row (head I) x) accMu ≡ dealt.u I x
   unfolding accMu dealt.u
-  u-is x =
-      noiseFacts (S .input .field) .matrix (places (head (S .input))) (row (head (S .input)) x) (row-within (head (S .input)) (A .terms .2) x)
-      (mu (S .input))
+  u-is x = noiseFacts (I .field) .matrix (places (head I)) (row (head I) x) (row-within (head I) (A .terms .2) x) (mu I)
 
   -- a row's outputs on the words in memory are the dealing's
-  u-words : (x : ℕ)
-      → output (itself (field (S .input) .ring)) (row (head (S .input)) x) (at (field (S .input) .noiseValues) (noiseStart S .noise)) ≡ dealt.u (S .input) x
+  u-words : (x : ℕ) → output (itself (F .ring)) (row (head I) x) (at (F .noiseValues) (noiseEnd S .start .noise)) ≡ dealt.u I x
   u-words x =
-      row-output (head (S .input)) (A .terms .2) x (itself (field (S .input) .ring)) _ accMu
-      (λ j h. rw noise-words (at-flat (field (S .input) .noiseValues) (kindLaws (S .input .field) .field .noiseValues) (2 ^ S .input .depth) accMu j h))
+      row-output (head I) (A .terms .2) x (itself (F .ring)) _ accMu
+      (λ j h. rw noise-words (at-flat (F .noiseValues) (kindLaws (I .field) .field .noiseValues) (2 ^ I .depth) accMu j h))
       ∙ u-is x
 
-  v-outputs : (x : ℕ) → output (field (S .input) .scaled) (row (head (S .input)) x) (at (field (S .input) .elements) (noiseStart S .v)) ≡ dealt.v (S .input) x
+  v-outputs : (x : ℕ) → output (F .scaled) (row (head I) x) (at (F .elements) (noiseEnd S .start .v)) ≡ dealt.v I x
   unfolding accV0 dealt.v
   v-outputs x =
-      row-output (head (S .input)) (A .terms .2) x (field (S .input) .scaled) _ accV0
-      (λ j h. rw v-words (at-flat (field (S .input) .elements) (kindLaws (S .input .field) .field .elements) (2 ^ S .input .depth) accV0 j h))
+      row-output (head I) (A .terms .2) x (F .scaled) _ accV0
+      (λ j h. rw v-words (at-flat (F .elements) (kindLaws (I .field) .field .elements) (2 ^ I .depth) accV0 j h))
 
-  w-outputs : (x : ℕ) → output (field (S .input) .scaled) (row (head (S .input)) x) (at (field (S .input) .elements) (scalarStart S .w)) ≡ dealt.w (S .input) x
+  w-outputs : (x : ℕ) → output (F .scaled) (row (head I) x) (at (F .elements) (scalarEnd S .start .w)) ≡ dealt.w I x
   unfolding accW0 dealt.w
   w-outputs x =
-      row-output (head (S .input)) (A .terms .2) x (field (S .input) .scaled) _ accW0
-      (λ j h. rw w-words (at-flat (field (S .input) .elements) (kindLaws (S .input .field) .field .elements) (2 ^ S .input .depth) accW0 j h))
+      row-output (head I) (A .terms .2) x (F .scaled) _ accW0
+      (λ j h. rw w-words (at-flat (F .elements) (kindLaws (I .field) .field .elements) (2 ^ I .depth) accW0 j h))
 
-  module _ (c : NoiseCall) where
+  module _ (c : Call NoiseOut) where
     -- what a listed call leaves: 7, 13, or u and v of its window over the fronts of the output buffers
-    pub noise-step : noiseStep (noiseStart S) c ≡ noiseListed S c
+    pub noise-step : noiseEnd S .online (noiseEnd S .start) c ≡ noiseListedBy c (dealt.u I) (dealt.v I)
     unfolding noiseOnline.filled
     noise-step =
-        noiseLaws.online-listed
-        (noiseOnline.lentWith (noiseStart S .source) (noiseStart S .noise) (noiseStart S .v) (c .uOut) (c .vOut))
-        (noisePart (S .input)) accMu accV0 noise-start noise-words v-words accMu-element accV0-element (c .first) (c .count)
-        ∙ (λ i. noiseListedBy S c (λ x. u-words x i) (λ x. v-outputs x i))
+        noiseLaws.online-listed (noiseLent c) (noisePart I) accMu accV0 noise-start noise-words v-words accMu-element accV0-element (c .first) (c .count)
+        ∙ (λ i. noiseListedBy c (λ x. u-words x i) (λ x. v-outputs x i))
 
-    pub noise-number : noiseStep (noiseStart S) c .number ≡ firstFault (listedNoiseTests (S .input) c)
+    pub noise-number : noiseEnd S .online (noiseEnd S .start) c .number ≡ firstFault (noiseEnd S .tests c)
     noise-number =
-        noiseLaws.online-number
-        (noiseOnline.lentWith (noiseStart S .source) (noiseStart S .noise) (noiseStart S .v) (c .uOut) (c .vOut))
-        (noisePart (S .input)) accMu accV0 noise-start noise-words v-words accMu-element accV0-element (c .first) (c .count)
+        noiseLaws.online-number (noiseLent c) (noisePart I) accMu accV0 noise-start noise-words v-words accMu-element accV0-element (c .first) (c .count)
 
-    noise-hands : (x : ℕ) (u′ : NoiseValue (field (S .input))) (v′ : Value (field (S .input)))
-        → NoiseHands (S .input) c (noiseStep (noiseStart S) c) x u′ v′ → (u′ ≡ dealt.u (S .input) x) × (v′ ≡ dealt.v (S .input) x)
+    noise-value : noiseEnd S .online (noiseEnd S .start) c .number ≡ 0 → (k : ℕ) → k < c .count
+        → noiseEnd S .standing (noiseEnd S .online (noiseEnd S .start) c .lent) k ≡ noiseEnd S .dealt (c .first + k)
     unfolding accV0 dealt.v
-    noise-hands x u′ v′ H =
-        let l : noiseOnline.Lent = noiseOnline.lentWith (noiseStart S .source) (noiseStart S .noise) (noiseStart S .v) (c .uOut) (c .vOut) in (
-          H .u-word
-              ∙ noiseLaws.online-u l (noisePart (S .input)) accMu accV0 noise-start noise-words v-words accMu-element accV0-element (c .first) (c .count)
-              (H .accepted) (H .k) (H .within)
-              ∙ u-is (c .first + H .k)
-              ∙ ap (dealt.u (S .input)) (sym (H .index)),
-          H .v-element
-              ∙ noiseLaws.online-v l (noisePart (S .input)) accMu accV0 noise-start noise-words v-words accMu-element accV0-element (c .first) (c .count)
-              (H .accepted) (H .k) (H .within)
-              ∙ ap (dealt.v (S .input)) (sym (H .index)),
-        )
+    noise-value z k h =
+        ap₂ (λ a b. (a, b))
+        (noiseLaws.online-u (noiseLent c) (noisePart I) accMu accV0 noise-start noise-words v-words accMu-element accV0-element (c .first) (c .count) z k h
+        ∙ u-is (c .first + k))
+        (noiseLaws.online-v (noiseLent c) (noisePart I) accMu accV0 noise-start noise-words v-words accMu-element accV0-element (c .first) (c .count) z k h)
 
-  module _ (c : ScalarCall) where
-    pub scalar-step : scalarStep (scalarStart S) c ≡ scalarListed S c
+  module _ (c : Call (List ℕ)) where
+    pub scalar-step : scalarEnd S .online (scalarEnd S .start) c ≡ scalarListedBy c (dealt.w I)
     unfolding scalarOnline.filled
     scalar-step =
-        scalarLaws.online-listed (scalarOnline.lentWith (scalarStart S .source) (scalarStart S .w) (c .wOut))
-        (scalarPart (S .input)) accW0 scalar-start w-words accW0-element (c .first) (c .count)
-        ∙ (λ i. scalarListedBy S c (λ x. w-outputs x i))
+        scalarLaws.online-listed (scalarLent c) (scalarPart I) accW0 scalar-start w-words accW0-element (c .first) (c .count)
+        ∙ (λ i. scalarListedBy c (λ x. w-outputs x i))
 
-    pub scalar-number : scalarStep (scalarStart S) c .number ≡ firstFault (listedScalarTests (S .input) c)
-    scalar-number =
-        scalarLaws.online-number (scalarOnline.lentWith (scalarStart S .source) (scalarStart S .w) (c .wOut))
-        (scalarPart (S .input)) accW0 scalar-start w-words accW0-element (c .first) (c .count)
+    pub scalar-number : scalarEnd S .online (scalarEnd S .start) c .number ≡ firstFault (scalarEnd S .tests c)
+    scalar-number = scalarLaws.online-number (scalarLent c) (scalarPart I) accW0 scalar-start w-words accW0-element (c .first) (c .count)
 
-    scalar-hands : (x : ℕ) (w′ : Value (field (S .input)))
-        → ScalarHands (S .input) c (scalarStep (scalarStart S) c) x w′ → w′ ≡ dealt.w (S .input) x
+    scalar-value : scalarEnd S .online (scalarEnd S .start) c .number ≡ 0 → (k : ℕ) → k < c .count
+        → scalarEnd S .standing (scalarEnd S .online (scalarEnd S .start) c .lent) k ≡ scalarEnd S .dealt (c .first + k)
     unfolding accW0 dealt.w
-    scalar-hands x w′ H =
-        H .w-element
-        ∙ scalarLaws.online-values (scalarOnline.lentWith (scalarStart S .source) (scalarStart S .w) (c .wOut))
-        (scalarPart (S .input)) accW0 scalar-start w-words accW0-element (c .first) (c .count) (H .accepted) (H .k) (H .within)
-        ∙ ap (dealt.w (S .input)) (sym (H .index))
+    scalar-value z k h = scalarLaws.online-values (scalarLent c) (scalarPart I) accW0 scalar-start w-words accW0-element (c .first) (c .count) z k h
 
-  module _ (noiseCalls : List NoiseCall) (scalarCalls : List ScalarCall) where
-    noise-at : (i : ℕ) → i < length noiseCalls → noiseOutcome S noiseCalls i ≡ noiseStep (noiseStart S) (noiseCall noiseCalls i)
-    noise-at i h = noise-run (noiseStart S) noiseCalls _ _ i h
-
-    scalar-at : (i : ℕ) → i < length scalarCalls → scalarOutcome S scalarCalls i ≡ scalarStep (scalarStart S) (scalarCall scalarCalls i)
-    scalar-at i h = scalar-run (scalarStart S) scalarCalls _ _ i h
-
-    noise-values : (i : ℕ) → i < length noiseCalls → (x : ℕ) (u′ : NoiseValue (field (S .input))) (v′ : Value (field (S .input)))
-        → NoiseHands (S .input) (noiseCall noiseCalls i) (noiseOutcome S noiseCalls i) x u′ v′
-        → (u′ ≡ dealt.u (S .input) x) × (v′ ≡ dealt.v (S .input) x)
-    noise-values i h x u′ v′ H = noise-hands (noiseCall noiseCalls i) x u′ v′ (rw (noise-at i h) at H)
-
-    scalar-values : (i : ℕ) → i < length scalarCalls → (x : ℕ) (w′ : Value (field (S .input)))
-        → ScalarHands (S .input) (scalarCall scalarCalls i) (scalarOutcome S scalarCalls i) x w′ → w′ ≡ dealt.w (S .input) x
-    scalar-values i h x w′ H = scalar-hands (scalarCall scalarCalls i) x w′ (rw (scalar-at i h) at H)
-
-    pub claim : Claim S noiseCalls scalarCalls
-    claim =
-        record {
-          noise-numbers = λ i h. ap (λ o. o .number) (noise-at i h) ∙ noise-number (noiseCall noiseCalls i);
-          scalar-numbers = λ i h. ap (λ o. o .number) (scalar-at i h) ∙ scalar-number (scalarCall scalarCalls i);
-          noise-values = noise-values;
-          scalar-values = scalar-values;
-          scalar-delta =
-              ap (λ l. at (field (S .input) .elements) l 0)
-              (scalarLaws.offline-accepted (scalarSource S) (S .wBuffer) (S .deltaBuffer) scalar-reads (S .scalarAccepted) .delta)
-              ∙ delta-back (S .input .field) (wordAt (S .input .delta) 0) (wordAt (S .input .delta) 8) (A .field);
-          noise-memory = noise-end (noiseStart S) noiseCalls;
-          scalar-memory = scalar-end (scalarStart S) scalarCalls;
-          correlated = λ i j h k x u′ v′ w′ N C.
-              let uv = noise-values i h x u′ v′ N in
-              let ww = scalar-values j k x w′ C in
-              ww
-              ∙ admitted-correlated (S .input) A x
-              ∙ ap₂ (λ a b. field (S .input) .scaled .group .add (field (S .input) .scaled .scale a (dealt.delta (S .input))) b)
-              (sym (uv .0)) (sym (uv .1));
-        }
+-- every two lists
+pub lists : Lists
+lists S noiseCalls scalarCalls =
+    let noise : EndClaim (noiseEnd S) noiseCalls = end-claim (noiseEnd S) (noise-kept S) (noise-number S) (noise-value S) noiseCalls in
+    let scalar : EndClaim (scalarEnd S) scalarCalls = end-claim (scalarEnd S) (scalar-kept S) (scalar-number S) (scalar-value S) scalarCalls in
+    record {
+      noise = noise;
+      scalar = scalar;
+      scalar-delta =
+          ap (λ l. at (F S .elements) l 0) (scalar-left S .delta)
+          ∙ delta-told (S .input .field) (scalarPart (S .input) .delta);
+      correlated = λ x u′ v′ w′ N C.
+          scalar .values x w′ C
+          ∙ admitted-correlated (S .input) (A S) x
+          ∙ ap (λ p. F S .scaled .group .add (F S .scaled .scale (p .0) (dealt.delta (S .input))) (p .1)) (sym (noise .values x (u′, v′) N));
+    }

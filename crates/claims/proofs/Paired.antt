@@ -1,5 +1,5 @@
 -- The pair program finds every output of a dealing's own records held.
-use mathlib.Core.Path.{_≡_, refl, sym, ap, ap₂, _∙_}
+use mathlib.Core.Path.{_≡_, sym, ap₂, _∙_}
 use mathlib.Core.Bool.{true}
 use Prim.Native.Nat.{ℕ}
 use Rattle.algebra.proofs.Same.{accumulate-same, output-same}

@@ -14,7 +14,7 @@ use Rattle.dealing.specs.Vectors.{field}
 use Rattle.noise_end.specs.Offline as noiseOffline
 use Rattle.record.specs.Writing.{writeNoise, writeScalar}
 use Rattle.scalar_end.specs.Offline as scalarOffline
-use Rattle.claims.specs.Correlation.{Setting, NoiseCall, noiseStep, noiseStart, ScalarCall, scalarStep, scalarStart}
+use Rattle.claims.specs.Correlation.{Setting, Call, NoiseOut, noiseEnd, scalarEnd}
 
 pub record Acceptance : Type 0 where
   -- the dealing returns 0 exactly for admitted input with room for both records
@@ -29,9 +29,9 @@ pub record Acceptance : Type 0 where
       → 2 ^ I .depth * field I .elements .width ≤ length w → 2 ≤ length delta
       → scalarOffline.offline (scalarRecordOf (deal I a b)) w delta .number ≡ 0
   -- a window within n, with room for its outputs
-  pub noise-window : (S : Setting) (c : NoiseCall) → c .first + c .count ≤ S .input .outputs
-      → c .count ≤ length (c .uOut) → c .count * field (S .input) .elements .width ≤ length (c .vOut)
-      → noiseStep (noiseStart S) c .number ≡ 0
-  pub scalar-window : (S : Setting) (c : ScalarCall) → c .first + c .count ≤ S .input .outputs
-      → c .count * field (S .input) .elements .width ≤ length (c .wOut)
-      → scalarStep (scalarStart S) c .number ≡ 0
+  pub noise-window : (S : Setting) (c : Call NoiseOut) → c .first + c .count ≤ S .input .outputs
+      → c .count ≤ length (c .out .uOut) → c .count * field (S .input) .elements .width ≤ length (c .out .vOut)
+      → noiseEnd S .online (noiseEnd S .start) c .number ≡ 0
+  pub scalar-window : (S : Setting) (c : Call (List ℕ)) → c .first + c .count ≤ S .input .outputs
+      → c .count * field (S .input) .elements .width ≤ length (c .out)
+      → scalarEnd S .online (scalarEnd S .start) c .number ≡ 0

@@ -1,14 +1,15 @@
 -- Demand 3 (document 01, 'Lists of calls at both ends'): the statements, about the definitions that the calls' contracts cite.
 use mathlib.Core.Path.{_≡_}
 use mathlib.Core.List.{List, [], _∷_}
+use mathlib.Core.Option.{some}
 use Prim.Native.Nat.{ℕ, _+_, _-_, _*_, _<_}
-use lib.ListN.{length, getD, take}
+use lib.ListN.{length, getD, getElem?, take}
 use Rattle.algebra.specs.Coding.{at}
 use Rattle.algebra.specs.Expansion.{Correlated}
 use Rattle.algebra.specs.Field.{NoiseValue, Value}
 use Rattle.answer.specs.Numbers.{windowPastEnd, bufferShort}
 use Rattle.answer.specs.Tests.{Test, _atMost_, _or_, firstFault}
-use Rattle.answer.specs.Outcome.{Outcome, TwoWritten, refusedOne, refusedTwo}
+use Rattle.answer.specs.Outcome.{Outcome, TwoWritten}
 use Rattle.dealing.specs.Admitted.{InMemory}
 use Rattle.dealing.specs.Deal.{Dealt, deal, noiseRecordOf, scalarRecordOf}
 use Rattle.dealing.specs.Input.{Input}
@@ -58,7 +59,66 @@ noiseSource S = noiseRecordOf (dealing S)
 abbrev pub scalarSource : Setting → List ℕ
 scalarSource S = scalarRecordOf (dealing S)
 
--- ---- the noise end's list of calls
+-- ---- a list of calls, at either end
+
+-- a listed call: a window, and output buffers of any length and content
+pub record Call (Out : Type 0) : Type 0 where
+  pub first : ℕ
+  pub count : ℕ
+  pub out : Out
+
+-- an end that has made its offline call
+pub record End : Type 1 where
+  -- its record and accumulated vectors in memory, as the offline call left them
+  pub Memory : Type 0
+  pub start : Memory
+  -- its online call on memory, and the memory in what is lent on return
+  pub Out : Type 0
+  pub Written : Type 0
+  pub Lent : Type 0
+  pub online : Memory → Call Out → Outcome Written Lent
+  pub memory : Lent → Memory
+  -- the tests of a listed call
+  pub tests : Call Out → List Test
+  -- what stands at place k of the output buffers on return, and what the dealing has at index x
+  pub Output : Type 0
+  pub standing : Lent → ℕ → Output
+  pub dealt : ℕ → Output
+
+-- each call of a list with its outcome, every call on the memory that the call before left
+unfoldable pub run : (E : End) → E .Memory → List (Call (E .Out)) → List (Call (E .Out) × Outcome (E .Written) (E .Lent))
+run E m [] = []
+run E m (c ∷ calls) = (c, E .online m c) ∷ run E (E .memory (E .online m c .lent)) calls
+
+-- the memory after the last call of the list
+unfoldable pub last : (E : End) → E .Memory → List (Call (E .Out)) → E .Memory
+last E m [] = m
+last E m (c ∷ calls) = last E (E .memory (E .online m c .lent)) calls
+
+-- a list of calls hands out a at index x: one of them is accepted, x is its first + k for a k below its c, and a is what stands at place
+-- k of its output buffers on return; a refused call hands out nothing
+pub record Hands (E : End) (calls : List (Call (E .Out))) (x : ℕ) (a : E .Output) : Type 0 where
+  pub place : ℕ
+  pub call : Call (E .Out)
+  pub outcome : Outcome (E .Written) (E .Lent)
+  pub made : getElem? (run E (E .start) calls) place ≡ some (call, outcome)
+  pub accepted : outcome .number ≡ 0
+  pub k : ℕ
+  pub within : k < call .count
+  pub index : x ≡ call .first + k
+  pub stands : a ≡ E .standing (outcome .lent) k
+
+-- what demand 3 says of the list of one end
+pub record EndClaim (E : End) (calls : List (Call (E .Out))) : Type 0 where
+  -- every call returns the number of the first test of a listed call that is not met, or 0
+  pub numbers : (i : ℕ) (c : Call (E .Out)) (o : Outcome (E .Written) (E .Lent)) → getElem? (run E (E .start) calls) i ≡ some (c, o)
+      → o .number ≡ firstFault (E .tests c)
+  -- what is handed out at x is the dealing's at x
+  pub values : (x : ℕ) (a : E .Output) → Hands E calls x a → a ≡ E .dealt x
+  -- the record and the vectors end as they began
+  pub memory : last E (E .start) calls ≡ E .start
+
+-- ---- the noise end
 
 -- the record and the accumulated vectors in memory
 pub record NoiseMemory : Type 0 where
@@ -66,173 +126,99 @@ pub record NoiseMemory : Type 0 where
   pub noise : List ℕ
   pub v : List ℕ
 
--- a listed call: a window, and output buffers of any length and content
-pub record NoiseCall : Type 0 where
-  pub first : ℕ
-  pub count : ℕ
+-- the output buffers of a call
+pub record NoiseOut : Type 0 where
   pub uOut : List ℕ
   pub vOut : List ℕ
 
--- the online call on memory
-abbrev pub noiseStep : NoiseMemory → NoiseCall → Outcome TwoWritten noiseOnline.Lent
-noiseStep m c =
-    noiseOnline.online
-    (noiseOnline.lentWith (m .source) (m .noise) (m .v) (c .uOut) (c .vOut))
-    (c .first)
-    (c .count)
-
--- the memory that a call leaves
-abbrev pub noiseLeft : Outcome TwoWritten noiseOnline.Lent → NoiseMemory
-noiseLeft o = record { source = o .lent .source; noise = o .lent .noise; v = o .lent .v }
-
--- the outcome of each call of a list, every call on the memory that the call before left
-unfoldable pub noiseRun : NoiseMemory → List NoiseCall → List (Outcome TwoWritten noiseOnline.Lent)
-noiseRun m [] = []
-noiseRun m (c ∷ calls) = noiseStep m c ∷ noiseRun (noiseLeft (noiseStep m c)) calls
-
--- the record and the vectors after the last call of the list
-unfoldable pub noiseLast : NoiseMemory → List NoiseCall → NoiseMemory
-noiseLast m [] = m
-noiseLast m (c ∷ calls) = noiseLast (noiseLeft (noiseStep m c)) calls
-
--- what the noise end's offline call left
+-- what its offline call left
 abbrev pub noiseExpanded : Setting → Outcome TwoWritten noiseOffline.OfflineLent
 noiseExpanded S = noiseOffline.offline (noiseSource S) (S .noiseBuffer) (S .vBuffer)
 
--- the memory as the offline call left it: the record, and the fronts of the returned lengths
-abbrev pub noiseStart : Setting → NoiseMemory
-noiseStart S =
+-- its online calls
+abbrev pub noiseEnd : Setting → End
+noiseEnd S =
     record {
-      source = noiseExpanded S .lent .source;
-      noise = take (noiseExpanded S .written .first) (noiseExpanded S .lent .noise);
-      v = take (noiseExpanded S .written .second) (noiseExpanded S .lent .v);
+      Memory = NoiseMemory;
+      -- the record, and the fronts of the returned lengths
+      start =
+          record {
+            source = noiseExpanded S .lent .source;
+            noise = take (noiseExpanded S .written .first) (noiseExpanded S .lent .noise);
+            v = take (noiseExpanded S .written .second) (noiseExpanded S .lent .v);
+          };
+      Out = NoiseOut;
+      Written = TwoWritten;
+      Lent = noiseOnline.Lent;
+      online = λ m c.
+          noiseOnline.online (noiseOnline.lentWith (m .source) (m .noise) (m .v) (c .out .uOut) (c .out .vOut)) (c .first) (c .count);
+      memory = λ l. record { source = l .source; noise = l .noise; v = l .v };
+      -- 7 if its window passes n, else 13 if an output buffer is too short for c
+      tests = λ c.
+          (c .first + c .count) atMost S .input .outputs or windowPastEnd
+          ∷ c .count atMost length (c .out .uOut) or bufferShort
+          ∷ c .count * field (S .input) .elements .width atMost length (c .out .vOut) or bufferShort
+          ∷ [];
+      -- word k of the first output buffer and element k of the second, to be u and v
+      Output = NoiseValue (field (S .input)) × Value (field (S .input));
+      standing = λ l k. (at (field (S .input) .noiseValues) (l .uOut) k, at (field (S .input) .elements) (l .vOut) k);
+      dealt = λ x. (u (S .input) x, v (S .input) x);
     }
 
--- the tests of a listed call: 7 if its window passes n, else 13 if an output buffer is too short for c
-abbrev pub listedNoiseTests : Input → NoiseCall → List Test
-listedNoiseTests I c =
-    (c .first + c .count) atMost I .outputs or windowPastEnd
-    ∷ c .count atMost length (c .uOut) or bufferShort
-    ∷ c .count * field I .elements .width atMost length (c .vOut) or bufferShort
-    ∷ []
-
--- an outcome hands out u and v at index x: word k of the first output buffer and element k of the second on return, at
--- index first + k for k below c; a refused call hands out nothing
-pub record NoiseHands (I : Input) (c : NoiseCall) (o : Outcome TwoWritten noiseOnline.Lent) (x : ℕ) (u′ : NoiseValue (field I)) (v′ : Value (field I))
-    : Type 0 where
-  pub accepted : o .number ≡ 0
-  pub k : ℕ
-  pub within : k < c .count
-  pub index : x ≡ c .first + k
-  pub u-word : u′ ≡ at (field I .noiseValues) (o .lent .uOut) k
-  pub v-element : v′ ≡ at (field I .elements) (o .lent .vOut) k
-
--- ---- the scalar end's list of calls
+-- ---- the scalar end
 
 -- the record and the accumulated vector in memory
 pub record ScalarMemory : Type 0 where
   pub source : List ℕ
   pub w : List ℕ
 
--- a listed call: a window, and an output buffer of any length and content
-pub record ScalarCall : Type 0 where
-  pub first : ℕ
-  pub count : ℕ
-  pub wOut : List ℕ
-
--- the online call on memory
-abbrev pub scalarStep : ScalarMemory → ScalarCall → Outcome ℕ scalarOnline.Lent
-scalarStep m c = scalarOnline.online (scalarOnline.lentWith (m .source) (m .w) (c .wOut)) (c .first) (c .count)
-
--- the memory that a call leaves
-abbrev pub scalarLeft : Outcome ℕ scalarOnline.Lent → ScalarMemory
-scalarLeft o = record { source = o .lent .source; w = o .lent .w }
-
--- the outcome of each call of a list, every call on the memory that the call before left
-unfoldable pub scalarRun : ScalarMemory → List ScalarCall → List (Outcome ℕ scalarOnline.Lent)
-scalarRun m [] = []
-scalarRun m (c ∷ calls) = scalarStep m c ∷ scalarRun (scalarLeft (scalarStep m c)) calls
-
--- the record and the vector after the last call of the list
-unfoldable pub scalarLast : ScalarMemory → List ScalarCall → ScalarMemory
-scalarLast m [] = m
-scalarLast m (c ∷ calls) = scalarLast (scalarLeft (scalarStep m c)) calls
-
--- what the scalar end's offline call left
+-- what its offline call left
 abbrev pub scalarExpanded : Setting → Outcome TwoWritten scalarOffline.OfflineLent
 scalarExpanded S = scalarOffline.offline (scalarSource S) (S .wBuffer) (S .deltaBuffer)
-
--- the memory as the offline call left it: the record, and the front of the returned length
-abbrev pub scalarStart : Setting → ScalarMemory
-scalarStart S = record { source = scalarExpanded S .lent .source; w = take (scalarExpanded S .written .first) (scalarExpanded S .lent .w) }
 
 -- Δ as the offline call left it
 abbrev pub scalarDelta : Setting → List ℕ
 scalarDelta S = take (scalarExpanded S .written .second) (scalarExpanded S .lent .delta)
 
--- the tests of a listed call: 7, else 13, as at the noise end
-abbrev pub listedScalarTests : Input → ScalarCall → List Test
-listedScalarTests I c =
-    (c .first + c .count) atMost I .outputs or windowPastEnd
-    ∷ c .count * field I .elements .width atMost length (c .wOut) or bufferShort
-    ∷ []
-
--- an outcome hands out w at index x: element k of the output buffer on return, at index first + k for k below c; a refused
--- call hands out nothing
-pub record ScalarHands (I : Input) (c : ScalarCall) (o : Outcome ℕ scalarOnline.Lent) (x : ℕ) (w′ : Value (field I)) : Type 0 where
-  pub accepted : o .number ≡ 0
-  pub k : ℕ
-  pub within : k < c .count
-  pub index : x ≡ c .first + k
-  pub w-element : w′ ≡ at (field I .elements) (o .lent .wOut) k
+-- its online calls, with one output buffer
+abbrev pub scalarEnd : Setting → End
+scalarEnd S =
+    record {
+      Memory = ScalarMemory;
+      start = record { source = scalarExpanded S .lent .source; w = take (scalarExpanded S .written .first) (scalarExpanded S .lent .w) };
+      Out = List ℕ;
+      Written = ℕ;
+      Lent = scalarOnline.Lent;
+      online = λ m c. scalarOnline.online (scalarOnline.lentWith (m .source) (m .w) (c .out)) (c .first) (c .count);
+      memory = λ l. record { source = l .source; w = l .w };
+      -- 7, else 13, as at the noise end
+      tests = λ c.
+          (c .first + c .count) atMost S .input .outputs or windowPastEnd
+          ∷ c .count * field (S .input) .elements .width atMost length (c .out) or bufferShort
+          ∷ [];
+      -- element k of the output buffer, to be w
+      Output = Value (field (S .input));
+      standing = λ l k. at (field (S .input) .elements) (l .wOut) k;
+      dealt = w (S .input);
+    }
 
 -- ---- the single claim about every two lists
 
--- the call at place i of a list, and its outcome
-abbrev pub noiseCall : List NoiseCall → ℕ → NoiseCall
-noiseCall calls i = getD calls i (record { first = 0; count = 0; uOut = []; vOut = [] })
-
-abbrev pub noiseOutcome : Setting → List NoiseCall → ℕ → Outcome TwoWritten noiseOnline.Lent
-noiseOutcome S calls i =
-    getD (noiseRun (noiseStart S) calls) i
-    (refusedTwo (noiseOnline.lentWith [] [] [] [] []) bufferShort)
-
-abbrev pub scalarCall : List ScalarCall → ℕ → ScalarCall
-scalarCall calls i = getD calls i (record { first = 0; count = 0; wOut = [] })
-
-abbrev pub scalarOutcome : Setting → List ScalarCall → ℕ → Outcome ℕ scalarOnline.Lent
-scalarOutcome S calls i =
-    getD (scalarRun (scalarStart S) calls) i (refusedOne (scalarOnline.lentWith [] [] []) bufferShort)
-
 -- what demand 3 says of two lists, one at each end, together
-pub record Claim (S : Setting) (noiseCalls : List NoiseCall) (scalarCalls : List ScalarCall) : Type 0 where
-  -- every call returns the number of the first test of a listed call that is not met, or 0
-  pub noise-numbers : (i : ℕ) → i < length noiseCalls
-      → noiseOutcome S noiseCalls i .number ≡ firstFault (listedNoiseTests (S .input) (noiseCall noiseCalls i))
-  pub scalar-numbers : (i : ℕ) → i < length scalarCalls
-      → scalarOutcome S scalarCalls i .number ≡ firstFault (listedScalarTests (S .input) (scalarCall scalarCalls i))
-  -- what is handed out at x is the dealing's u and v, or w, at x
-  pub noise-values : (i : ℕ) → i < length noiseCalls → (x : ℕ) (u′ : NoiseValue (field (S .input))) (v′ : Value (field (S .input)))
-      → NoiseHands (S .input) (noiseCall noiseCalls i) (noiseOutcome S noiseCalls i) x u′ v′
-      → (u′ ≡ u (S .input) x) × (v′ ≡ v (S .input) x)
-  pub scalar-values : (i : ℕ) → i < length scalarCalls → (x : ℕ) (w′ : Value (field (S .input)))
-      → ScalarHands (S .input) (scalarCall scalarCalls i) (scalarOutcome S scalarCalls i) x w′
-      → w′ ≡ w (S .input) x
+pub record Claim (S : Setting) (noiseCalls : List (Call NoiseOut)) (scalarCalls : List (Call (List ℕ))) : Type 0 where
+  -- of each: the numbers, what is handed out, and the memory
+  pub noise : EndClaim (noiseEnd S) noiseCalls
+  pub scalar : EndClaim (scalarEnd S) scalarCalls
   -- the scalar end's Δ, as its offline call left it, is the dealing's
   pub scalar-delta : at (field (S .input) .elements) (scalarDelta S) 0 ≡ delta (S .input)
-  -- the record and the vectors end as they began
-  pub noise-memory : noiseLast (noiseStart S) noiseCalls ≡ noiseStart S
-  pub scalar-memory : scalarLast (scalarStart S) scalarCalls ≡ scalarStart S
   -- w = Δu + v at each index that both ends hand out
-  pub correlated : (i j : ℕ) → i < length noiseCalls → j < length scalarCalls
-      → (x : ℕ) (u′ : NoiseValue (field (S .input))) (v′ w′ : Value (field (S .input)))
-      → NoiseHands (S .input) (noiseCall noiseCalls i) (noiseOutcome S noiseCalls i) x u′ v′
-      → ScalarHands (S .input) (scalarCall scalarCalls j) (scalarOutcome S scalarCalls j) x w′
+  pub correlated : (x : ℕ) (u′ : NoiseValue (field (S .input))) (v′ w′ : Value (field (S .input)))
+      → Hands (noiseEnd S) noiseCalls x (u′, v′) → Hands (scalarEnd S) scalarCalls x w′
       → Correlated (field (S .input) .scaled) (delta (S .input)) u′ v′ w′
 
 -- for every two lists, one at each end
 abbrev pub Lists : Type 0
-Lists = (S : Setting) (noiseCalls : List NoiseCall) (scalarCalls : List ScalarCall) → Claim S noiseCalls scalarCalls
+Lists = (S : Setting) (noiseCalls : List (Call NoiseOut)) (scalarCalls : List (Call (List ℕ))) → Claim S noiseCalls scalarCalls
 
 -- ---- pads, which stand in no list
 

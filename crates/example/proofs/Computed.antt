@@ -11,14 +11,13 @@ use Rattle.algebra.proofs.Tests.{and-left, and-right}
 use Rattle.algebra.specs.Coding.{flat, over}
 use Rattle.answer.specs.Tests.{isMet, firstFault}
 use Rattle.answer.specs.Outcome.{Outcome, TwoWritten, byNumber, answered}
-use Rattle.dealing.proofs.Laws as dealing
 use Rattle.dealing.specs.Admitted.{InMemory}
 use Rattle.dealing.specs.Deal.{deal}
 use Rattle.dealing.specs.Input.{Input}
 use Rattle.dealing.specs.Vectors.{field, u, v, w}
 use Rattle.claims.proofs.Entire.{acceptance}
 use Rattle.claims.proofs.Lists as lists
-use Rattle.claims.specs.Correlation.{Setting, NoiseCall, noiseStep, noiseStart, noiseRun, ScalarCall, scalarStep, scalarStart, scalarRun}
+use Rattle.claims.specs.Correlation.{Setting, Call, run, NoiseOut, noiseEnd, scalarEnd}
 use Rattle.noise_end.specs.Online as noiseOnline
 use Rattle.scalar_end.specs.Online as scalarOnline
 use Rattle.example.specs.Worked.{Numbers, Worked, binaryInput, primeInput, binaryNumbers, primeNumbers}
@@ -96,36 +95,32 @@ prime-setting = settingOf primeInput prime-memory prime-dealt 4 (lit≤ tt) (lit
 
 module _ (S : Setting) (N : Numbers) (W : Worked (S .input) N) where
   -- a call on the first memory
-  abbrev noiseOne : NoiseCall → Outcome TwoWritten noiseOnline.Lent
+  abbrev noiseOne : Call NoiseOut → Outcome TwoWritten noiseOnline.Lent
   noiseOne c =
       lists.noiseListedBy S c
       (inWords (field (S .input) .noiseValues) (S .input .outputs) (N .us) (u (S .input)))
       (inWords (field (S .input) .elements) (S .input .outputs) (N .vs) (v (S .input)))
 
-  abbrev scalarOne : ScalarCall → Outcome ℕ scalarOnline.Lent
+  abbrev scalarOne : Call (List ℕ) → Outcome ℕ scalarOnline.Lent
   scalarOne c = lists.scalarListedBy S c (inWords (field (S .input) .elements) (S .input .outputs) (N .ws) (w (S .input)))
 
-  noise-one : (c : NoiseCall) → noiseStep (noiseStart S) c ≡ noiseOne c
-  noise-one c =
-      lists.noise-step S (dealing.deal-number (S .input) (S .noiseRecord) (S .scalarRecord) (S .dealt) .admitted)
-      (dealing.noise-reads (S .input) (S .noiseRecord) (S .scalarRecord) (S .dealt) (S .inMemory))
-      (dealing.scalar-reads (S .input) (S .noiseRecord) (S .scalarRecord) (S .dealt) (S .inMemory)) c
-      ∙ (λ i. lists.noiseListedBy S c (u-is (S .input) N W i) (v-is (S .input) N W i))
+  noise-one : (c : Call NoiseOut) → noiseEnd S .online (noiseEnd S .start) c ≡ noiseOne c
+  noise-one c = lists.noise-step S c ∙ (λ i. lists.noiseListedBy S c (u-is (S .input) N W i) (v-is (S .input) N W i))
 
-  scalar-one : (c : ScalarCall) → scalarStep (scalarStart S) c ≡ scalarOne c
-  scalar-one c =
-      lists.scalar-step S (dealing.deal-number (S .input) (S .noiseRecord) (S .scalarRecord) (S .dealt) .admitted)
-      (dealing.noise-reads (S .input) (S .noiseRecord) (S .scalarRecord) (S .dealt) (S .inMemory))
-      (dealing.scalar-reads (S .input) (S .noiseRecord) (S .scalarRecord) (S .dealt) (S .inMemory)) c
-      ∙ (λ i. lists.scalarListedBy S c (w-is (S .input) N W i))
+  scalar-one : (c : Call (List ℕ)) → scalarEnd S .online (scalarEnd S .start) c ≡ scalarOne c
+  scalar-one c = lists.scalar-step S c ∙ (λ i. lists.scalarListedBy S c (w-is (S .input) N W i))
 
-  noise-all : (calls : List NoiseCall) → map noiseShown (noiseRun (noiseStart S) calls) ≡ map noiseShown (map noiseOne calls)
+  noise-all : (calls : List (Call NoiseOut))
+      → map noiseShown (run (noiseEnd S) (noiseEnd S .start) calls) ≡ map noiseShown (map (λ c. (c, noiseOne c)) calls)
   noise-all calls =
-      ap (map noiseShown) (lists.noise-steps (noiseStart S) calls ∙ (λ i. map (λ c. noise-one c i) calls))
+      ap (map noiseShown)
+      (lists.run-steps (noiseEnd S) (lists.noise-kept S) (noiseEnd S .start) calls ∙ (λ i. map (λ c. (c, noise-one c i)) calls))
 
-  scalar-all : (calls : List ScalarCall) → map scalarShown (scalarRun (scalarStart S) calls) ≡ map scalarShown (map scalarOne calls)
+  scalar-all : (calls : List (Call (List ℕ)))
+      → map scalarShown (run (scalarEnd S) (scalarEnd S .start) calls) ≡ map scalarShown (map (λ c. (c, scalarOne c)) calls)
   scalar-all calls =
-      ap (map scalarShown) (lists.scalar-steps (scalarStart S) calls ∙ (λ i. map (λ c. scalar-one c i) calls))
+      ap (map scalarShown)
+      (lists.run-steps (scalarEnd S) (lists.scalar-kept S) (scalarEnd S .start) calls ∙ (λ i. map (λ c. (c, scalar-one c i)) calls))
 
 pub example : Example
 unfolding settingOf binary-setting prime-setting flat over answered byNumber firstFault isMet

@@ -1,5 +1,5 @@
 -- Nothing is vacuous: of a small dealing in each field, from its input through both ends' offline calls as an inhabitant of
--- `Setting`, a list of four online calls at each end, two refused and two accepted, run by `noiseRun` and `scalarRun` themselves
+-- `Setting`, a list of four online calls at each end, two refused and two accepted, run by `run` itself
 -- (document 01, 'Lists of calls at both ends').
 use mathlib.Core.Path.{_≡_}
 use mathlib.Core.List.{List, [], _∷_, _++_, map}
@@ -8,38 +8,38 @@ use lib.ListN.{replicate}
 use Rattle.answer.specs.Numbers.{accepted, windowPastEnd, bufferShort}
 use Rattle.answer.specs.Outcome.{Outcome, TwoWritten}
 use Rattle.dealing.specs.Input.{Input}
-use Rattle.claims.specs.Correlation.{Setting, NoiseCall, noiseStart, noiseRun, ScalarCall, scalarStart, scalarRun}
+use Rattle.claims.specs.Correlation.{Setting, Call, run, NoiseOut, noiseEnd, scalarEnd}
 use Rattle.noise_end.specs.Online as noiseOnline
 use Rattle.scalar_end.specs.Online as scalarOnline
 use Rattle.example.specs.Worked.{binaryInput, primeInput}
 
 -- a call on the window of a first index and a count, into output buffers of so many elements, which hold sevens
-abbrev pub noiseCall : ℕ → ℕ → ℕ → ℕ → NoiseCall
-noiseCall width first count room = record { first = first; count = count; uOut = replicate room 7; vOut = replicate (width * room) 7 }
+abbrev pub noiseCall : ℕ → ℕ → ℕ → ℕ → Call NoiseOut
+noiseCall width first count room = record { first = first; count = count; out = record { uOut = replicate room 7; vOut = replicate (width * room) 7 } }
 
-abbrev pub scalarCall : ℕ → ℕ → ℕ → ℕ → ScalarCall
-scalarCall width first count room = record { first = first; count = count; wOut = replicate (width * room) 7 }
+abbrev pub scalarCall : ℕ → ℕ → ℕ → ℕ → Call (List ℕ)
+scalarCall width first count room = record { first = first; count = count; out = replicate (width * room) 7 }
 
 -- a window past n, buffers too short, outputs 0 and 1 with room for a third, and output 1 again
-abbrev pub noiseCalls : ℕ → List NoiseCall
+abbrev pub noiseCalls : ℕ → List (Call NoiseOut)
 noiseCalls width = noiseCall width 1 2 2 ∷ noiseCall width 0 2 1 ∷ noiseCall width 0 2 3 ∷ noiseCall width 1 1 1 ∷ []
 
-abbrev pub scalarCalls : ℕ → List ScalarCall
+abbrev pub scalarCalls : ℕ → List (Call (List ℕ))
 scalarCalls width = scalarCall width 1 2 2 ∷ scalarCall width 0 2 1 ∷ scalarCall width 0 2 3 ∷ scalarCall width 1 1 1 ∷ []
 
 -- the number, and what stands in the output buffers on return
-abbrev pub noiseShown : Outcome TwoWritten noiseOnline.Lent → List ℕ
-noiseShown o = o .number ∷ (o .lent .uOut ++ o .lent .vOut)
+abbrev pub noiseShown : Call NoiseOut × Outcome TwoWritten noiseOnline.Lent → List ℕ
+noiseShown (c, o) = o .number ∷ (o .lent .uOut ++ o .lent .vOut)
 
-abbrev pub scalarShown : Outcome ℕ scalarOnline.Lent → List ℕ
-scalarShown o = o .number ∷ o .lent .wOut
+abbrev pub scalarShown : Call (List ℕ) × Outcome ℕ scalarOnline.Lent → List ℕ
+scalarShown (c, o) = o .number ∷ o .lent .wOut
 
 -- a setting of this input, and what its lists of calls leave
 pub record Ran (I : Input) (width : ℕ) (noise scalar : List (List ℕ)) : Type 0 where
   pub setting : Setting
   pub input : setting .input ≡ I
-  pub noise-shown : map noiseShown (noiseRun (noiseStart setting) (noiseCalls width)) ≡ noise
-  pub scalar-shown : map scalarShown (scalarRun (scalarStart setting) (scalarCalls width)) ≡ scalar
+  pub noise-shown : map noiseShown (run (noiseEnd setting) (noiseEnd setting .start) (noiseCalls width)) ≡ noise
+  pub scalar-shown : map scalarShown (run (scalarEnd setting) (scalarEnd setting .start) (scalarCalls width)) ≡ scalar
 
 pub record Example : Type 0 where
   pub binary :

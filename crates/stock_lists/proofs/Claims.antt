@@ -1,11 +1,11 @@
 -- The claim about every list of calls after an accepted opening.
-use mathlib.Core.Path.{_≡_, refl, sym, ap, _∙_}
+use mathlib.Core.Path.{_≡_, refl, sym, ap, subst, _∙_}
 use mathlib.Core.List.{List, [], _∷_}
 use mathlib.Core.Logic.{_⊎_, ⊎-elim}
+use mathlib.Core.Option.{some, Option·none-ne-some, Option·some-injective}
 use Prim.Native.Nat.{ℕ, zero, suc, _≤_, _<_}
-use native.Mathlib.Nat.{not-suc-le-zero, le-of-suc-le-suc}
 use native.Mathlib.Omega.{arith}
-use lib.ListN.{length, take, List·getD-eq-default}
+use lib.ListN.{length, getElem?, take, List·getD-eq-default}
 use Rattle.answer.specs.Numbers.{accepted}
 use Rattle.answer.proofs.Answers.{answered-cases}
 use Rattle.stock.specs.declared.Label.{Label}
@@ -13,30 +13,28 @@ use Rattle.stock.specs.declared.OpenedStock.{OpenedStock}
 use Rattle.stock.specs.declared.Stock.{Stock}
 use Rattle.stock.specs.Stock.{remaining, held, sumOf, shareBlocks}
 use Rattle.stock.specs.Calls.{withStock, shareOf, noCallers, openTests, openStock}
-use Rattle.stock_lists.specs.Lists.{Call, draws, previews, Made, make, run, last, handed, upToPassage, sincePassage, outputsIn, shareIn, NextOf, madeAt, StockClaim, StockLists}
+use Rattle.stock_lists.specs.Lists.{Call, draws, previews, Made, make, run, last, handed, upToPassage, sincePassage, outputsIn, shareIn, NextOf, StockClaim, StockLists}
 use Rattle.stock_lists.proofs.Blocks.{Well, blocks-next, blocks-end, blocks-callers, blocks-well, blocks-holds, blocks-held, is-caller, fits-block}
 use Rattle.stock.proofs.Entries.{sum-grows, sum-same}
 use Rattle.stock.proofs.Opened.{up-to-most}
 use Rattle.stock_lists.proofs.Callers.{preview-reply, numbers-alike, replies-alike}
-use Rattle.stock_lists.proofs.Runs.{last-well, sums-run, callers-run, labels-run, once-run, InUse, use-run}
+use Rattle.stock_lists.proofs.Runs.{last-well, sums-run, callers-run, labels-run, hands-at, once-run, InUse, use-run}
 use Rattle.stock_lists.proofs.Steps.{accepted-draw, make-call, make-drawn}
 
 -- ---- the made call at a place
 
-made-at : (s : Stock) (calls : List Call) (i : ℕ) → i < length calls
-    → madeAt (run s calls) i ≡ make (last s (take i calls)) (madeAt (run s calls) i .call)
+made-at : (s : Stock) (calls : List Call) (i : ℕ) (m : Made) → getElem? (run s calls) i ≡ some m → m ≡ make (last s (take i calls)) (m .call)
 unfolding run last
-made-at s [] i h = absurd (not-suc-le-zero h)
-made-at s (c ∷ calls) zero h = ap (make s) (sym (make-call s c))
-made-at s (c ∷ calls) (suc i) h = made-at (make s c .after) calls i (le-of-suc-le-suc h)
+made-at s [] i m e = absurd (Option·none-ne-some m e)
+made-at s (c ∷ calls) zero m e = subst (λ (n : Made). n ≡ make s (n .call)) (Option·some-injective (make s c) m e) (ap (make s) (sym (make-call s c)))
+made-at s (c ∷ calls) (suc i) m e = made-at (make s c .after) calls i m e
 
 -- a draw's reply, and that of a preview of it
-reply-at : (s : Stock) (calls : List Call) (i : ℕ) → i < length calls → (l : Label) (k c : ℕ)
-    → (madeAt (run s calls) i .call ≡ draws l k c) ⊎ (madeAt (run s calls) i .call ≡ previews l k c)
-    → madeAt (run s calls) i .reply ≡ make (last s (take i calls)) (draws l k c) .reply
-reply-at s calls i h l k c e =
+reply-at : (s : Stock) (calls : List Call) (i : ℕ) (m : Made) → getElem? (run s calls) i ≡ some m → (l : Label) (k c : ℕ)
+    → (m .call ≡ draws l k c) ⊎ (m .call ≡ previews l k c) → m .reply ≡ make (last s (take i calls)) (draws l k c) .reply
+reply-at s calls i m h l k c e =
     let t = last s (take i calls) in
-    ap (λ (m : Made). m .reply) (made-at s calls i h)
+    ap (λ (m : Made). m .reply) (made-at s calls i m h)
     ∙ ⊎-elim
     (λ d. ap (λ (c : Call). make t c .reply) d)
     (λ p. ap (λ (c : Call). make t c .reply) p ∙ preview-reply k t l c)
@@ -125,12 +123,13 @@ module _ (label : Label) (outputs : ℕ) (shares : List ℕ) (O : Opened label o
   claim : (calls : List Call) → StockClaim outputs shares start calls
   claim calls =
       record {
-        once = once-run start well calls;
+        once = λ i j m n e f L x o p.
+            once-run start well calls i j L x (hands-at (run start calls) i m e L x o) (hands-at (run start calls) j n f L x p);
         sums = sums-run start well calls ∙ start-held;
         labels = labels-run start well calls;
         callers = λ k. callers-run start well calls k ∙ start-holds k;
-        next = λ i h l k c e z.
-            let r = reply-at start calls i h l k c e in
+        next = λ i m h l k c e z.
+            let r = reply-at start calls i m h l k c e in
             rw (r, take-run start calls i) (next-of outputs shares start well in-use (take i calls) l k c (rw r at z));
         refusals = λ k other same. numbers-alike k start well calls other same;
         own = λ k other same none. replies-alike k start well calls other same none;

@@ -3,10 +3,10 @@ use mathlib.Core.Path.{_≡_, refl, sym, ap, subst, _∙_}
 use mathlib.Core.Bool.{Bool}
 use mathlib.Core.List.{List, [], _∷_, _++_, append-nil}
 use mathlib.Core.Logic.{⊎-elim}
+use mathlib.Core.Option.{some, Option·none-ne-some, Option·some-injective}
 use Prim.Native.Nat.{ℕ, zero, suc, _+_, _-_, _≤_, _<_}
-use native.Mathlib.Nat.{not-suc-le-zero, le-of-suc-le-suc}
 use native.Mathlib.Omega.{arith}
-use lib.ListN.{length}
+use lib.ListN.{getElem?}
 use lib.Seq.{append-snoc}
 use borrow.Author.Tests.{eq-eqb, ne-eqb}
 use Rattle.algebra.specs.Choice.{choose}
@@ -15,7 +15,7 @@ use Rattle.stock.specs.declared.Stock.{Stock}
 use Rattle.stock.specs.Label.{numberOf}
 use Rattle.stock.specs.Stock.{nextOf, endOf, remaining, held, sumOf}
 use Rattle.stock.specs.Calls.{shareOf}
-use Rattle.stock_lists.specs.Lists.{Call, draws, previews, passes, Made, make, run, last, those, aDraw, drawsOf, drawsUnder, handedBy, handed, stocks, heldFirst, heldLast, sincePassage, outputsOf, outputsIn, shareIn, HandsOut, madeAt, Unchanged, Previews}
+use Rattle.stock_lists.specs.Lists.{Call, draws, previews, passes, Made, make, run, last, those, aDraw, drawsOf, drawsUnder, handedBy, handed, stocks, heldFirst, heldLast, sincePassage, outputsOf, outputsIn, shareIn, HandsOut, Unchanged, Previews}
 use Rattle.stock.proofs.Cases.{by-order, by-equality}
 use Rattle.stock.proofs.Entries.{sum-same}
 use Rattle.stock_lists.proofs.Blocks.{Well}
@@ -170,57 +170,63 @@ labels-run s W calls L =
 
 -- ---- no pair of label and index twice
 
+-- a made call at a place hands out index x under a label of number L
+abbrev HandsAt : List Made → ℕ → ℕ → ℕ → Type 0
+HandsAt [] i L x = ⊥
+HandsAt (m ∷ h) zero L x = HandsOut m L x
+HandsAt (m ∷ h) (suc i) L x = HandsAt h i L x
+
+pub hands-at : (h : List Made) (i : ℕ) (m : Made) → getElem? h i ≡ some m → (L x : ℕ) → HandsOut m L x → HandsAt h i L x
+hands-at [] i m e L x o = absurd (Option·none-ne-some m e)
+hands-at (n ∷ h) zero m e L x o = subst (λ (k : Made). HandsOut k L x) (sym (Option·some-injective n m e)) o
+hands-at (n ∷ h) (suc i) m e L x o = hands-at h i m e L x o
+
 -- what is handed out is handed out under the label in use or a later one
-hands-later : (s : Stock) → Well s → (calls : List Call) (i : ℕ) → i < length calls → (L x : ℕ) → HandsOut (madeAt (run s calls) i) L x
-    → numberOf (s .label) ≤ L
+hands-later : (s : Stock) → Well s → (calls : List Call) (i L x : ℕ) → HandsAt (run s calls) i L x → numberOf (s .label) ≤ L
 unfolding run
-hands-later s W [] i h L x o = absurd (not-suc-le-zero h)
-hands-later s W (draws l k c ∷ calls) zero h L x o = let e = hands-label s W l k c L x o in omega arith
-hands-later s W (previews l k c ∷ calls) zero h L x o = absurd (hands-none s (previews l k c) L x refl o)
-hands-later s W (passes l n ∷ calls) zero h L x o = absurd (hands-none s (passes l n) L x refl o)
-hands-later s W (c ∷ calls) (suc i) h L x o =
-    let ih = hands-later (make s c .after) (kept s W c .well) calls i (le-of-suc-le-suc h) L x o in
+hands-later s W [] i L x o = absurd o
+hands-later s W (draws l k c ∷ calls) zero L x o = let e = hands-label s W l k c L x o in omega arith
+hands-later s W (previews l k c ∷ calls) zero L x o = absurd (hands-none s (previews l k c) L x refl o)
+hands-later s W (passes l n ∷ calls) zero L x o = absurd (hands-none s (passes l n) L x refl o)
+hands-later s W (c ∷ calls) (suc i) L x o =
+    let ih = hands-later (make s c .after) (kept s W c .well) calls i L x o in
     let r = label-rises s W c in
     omega arith
 
 -- what is handed out anywhere in a list under the label in use was free before it
-free-run : (s : Stock) → Well s → (calls : List Call) (i : ℕ) → i < length calls → (L x : ℕ) → HandsOut (madeAt (run s calls) i) L x
-    → L ≡ numberOf (s .label) → Free s x
+free-run : (s : Stock) → Well s → (calls : List Call) (i L x : ℕ) → HandsAt (run s calls) i L x → L ≡ numberOf (s .label) → Free s x
 unfolding run
-free-run s W [] i h L x o e = absurd (not-suc-le-zero h)
-free-run s W (draws l k c ∷ calls) zero h L x o e = hands-free s W l k c L x o
-free-run s W (previews l k c ∷ calls) zero h L x o e = absurd (hands-none s (previews l k c) L x refl o)
-free-run s W (passes l n ∷ calls) zero h L x o e = absurd (hands-none s (passes l n) L x refl o)
-free-run s W (c ∷ calls) (suc i) h L x o e =
+free-run s W [] i L x o e = absurd o
+free-run s W (draws l k c ∷ calls) zero L x o e = hands-free s W l k c L x o
+free-run s W (previews l k c ∷ calls) zero L x o e = absurd (hands-none s (previews l k c) L x refl o)
+free-run s W (passes l n ∷ calls) zero L x o e = absurd (hands-none s (passes l n) L x refl o)
+free-run s W (c ∷ calls) (suc i) L x o e =
     let t = make s c .after in
     let T = kept s W c .well in
     ⊎-elim
-    (λ S. free-before s (make s c) (kept s W c) S x
-    (free-run t T calls i (le-of-suc-le-suc h) L x o (e ∙ ap numberOf (sym (S .label)))))
-    (λ M. let a = M .above in let r = hands-later t T calls i (le-of-suc-le-suc h) L x o in absurd (omega arith))
+    (λ S. free-before s (make s c) (kept s W c) S x (free-run t T calls i L x o (e ∙ ap numberOf (sym (S .label)))))
+    (λ M. let a = M .above in let r = hands-later t T calls i L x o in absurd (omega arith))
     (step s W c)
 
 module _ (s : Stock) (W : Well s) (l : Label) (k c : ℕ) (calls : List Call) (L x : ℕ) (o : HandsOut (make s (draws l k c)) L x) where
   -- not after a draw has handed it out
-  twice : (i : ℕ) → i < length calls → HandsOut (madeAt (run (make s (draws l k c) .after) calls) i) L x → ⊥
-  twice i h p =
+  twice : (i : ℕ) → HandsAt (run (make s (draws l k c) .after) calls) i L x → ⊥
+  twice i p =
       hands-gone s W l k c L x o
-      (free-run (make s (draws l k c) .after) (kept s W (draws l k c) .well) calls i h L x p
+      (free-run (make s (draws l k c) .after) (kept s W (draws l k c) .well) calls i L x p
       (hands-label s W l k c L x o ∙ ap numberOf (sym (stayed-draw s W l k c .label))))
 
-pub once-run : (s : Stock) → Well s → (calls : List Call) (i j : ℕ) → i < length calls → j < length calls → (L x : ℕ)
-    → HandsOut (madeAt (run s calls) i) L x → HandsOut (madeAt (run s calls) j) L x → i ≡ j
+pub once-run : (s : Stock) → Well s → (calls : List Call) (i j L x : ℕ) → HandsAt (run s calls) i L x → HandsAt (run s calls) j L x → i ≡ j
 unfolding run
-once-run s W [] i j h w L x o p = absurd (not-suc-le-zero h)
-once-run s W (c ∷ calls) zero zero h w L x o p = refl
-once-run s W (draws l k c ∷ calls) zero (suc j) h w L x o p = absurd (twice s W l k c calls L x o j (le-of-suc-le-suc w) p)
-once-run s W (draws l k c ∷ calls) (suc i) zero h w L x o p = absurd (twice s W l k c calls L x p i (le-of-suc-le-suc h) o)
-once-run s W (previews l k c ∷ calls) zero (suc j) h w L x o p = absurd (hands-none s (previews l k c) L x refl o)
-once-run s W (previews l k c ∷ calls) (suc i) zero h w L x o p = absurd (hands-none s (previews l k c) L x refl p)
-once-run s W (passes l n ∷ calls) zero (suc j) h w L x o p = absurd (hands-none s (passes l n) L x refl o)
-once-run s W (passes l n ∷ calls) (suc i) zero h w L x o p = absurd (hands-none s (passes l n) L x refl p)
-once-run s W (c ∷ calls) (suc i) (suc j) h w L x o p =
-    ap suc (once-run (make s c .after) (kept s W c .well) calls i j (le-of-suc-le-suc h) (le-of-suc-le-suc w) L x o p)
+once-run s W [] i j L x o p = absurd o
+once-run s W (c ∷ calls) zero zero L x o p = refl
+once-run s W (draws l k c ∷ calls) zero (suc j) L x o p = absurd (twice s W l k c calls L x o j p)
+once-run s W (draws l k c ∷ calls) (suc i) zero L x o p = absurd (twice s W l k c calls L x p i o)
+once-run s W (previews l k c ∷ calls) zero (suc j) L x o p = absurd (hands-none s (previews l k c) L x refl o)
+once-run s W (previews l k c ∷ calls) (suc i) zero L x o p = absurd (hands-none s (previews l k c) L x refl p)
+once-run s W (passes l n ∷ calls) zero (suc j) L x o p = absurd (hands-none s (passes l n) L x refl o)
+once-run s W (passes l n ∷ calls) (suc i) zero L x o p = absurd (hands-none s (passes l n) L x refl p)
+once-run s W (c ∷ calls) (suc i) (suc j) L x o p = ap suc (once-run (make s c .after) (kept s W c .well) calls i j L x o p)
 
 -- ---- the blocks of the label in use
 

@@ -3,16 +3,17 @@ use mathlib.Core.Path.{_≡_}
 use mathlib.Core.Bool.{Bool, true, false, _&&_, _||_}
 use mathlib.Core.List.{List, [], _∷_}
 use mathlib.Core.Logic.{_⊎_}
+use mathlib.Core.Option.{some}
 use Prim.Native.Nat.{ℕ, suc, _+_, _-_, _≤_, _<_}
 use lib.Dec.{eqb}
-use lib.ListN.{length, getD, take}
+use lib.ListN.{length, getElem?, take}
 use Rattle.algebra.specs.Choice.{choose}
-use Rattle.answer.specs.Numbers.{accepted, noCaller}
+use Rattle.answer.specs.Numbers.{accepted}
 use Rattle.stock.specs.declared.Label.{Label}
 use Rattle.stock.specs.declared.Stock.{Stock}
-use Rattle.stock.specs.Label.{numberOf, labelZero}
+use Rattle.stock.specs.Label.{numberOf}
 use Rattle.stock.specs.Stock.{remaining, sumOf, held}
-use Rattle.stock.specs.Calls.{shareOf, noCallers, openStock, draw, preview, pass}
+use Rattle.stock.specs.Calls.{shareOf, openStock, draw, preview, pass}
 
 -- ---- lists of calls
 
@@ -192,12 +193,6 @@ pub record NextOf (outputs : ℕ) (shares : List ℕ) (h : List Made) (k c : ℕ
   pub block : r .first + c ≤ sumOf (suc k) (shareIn shares h)
   pub within : sumOf (suc k) (shareIn shares h) ≤ outputsIn outputs h
 
--- the call at place i of a list of made calls
-abbrev pub madeAt : List Made → ℕ → Made
-madeAt h i =
-    getD h i
-    (record { call = draws labelZero 0 0; reply = record { number = noCaller; first = 0; count = 0 }; after = noCallers })
-
 -- caller k's draws and previews, and what concerns it: these and the accepted passages
 abbrev pub asked : ℕ → Made → Bool
 asked k m = asksOf k (m .call)
@@ -212,8 +207,8 @@ AlikeFor k h g = callsOf (those (concerns k) h) ≡ callsOf (those (concerns k) 
 -- a list of draws, previews and passages after an accepted opening
 pub record StockClaim (outputs : ℕ) (shares : List ℕ) (s : Stock) (calls : List Call) : Type 0 where
   -- no pair of label and index is handed out twice
-  pub once : (i j : ℕ) → i < length calls → j < length calls → (L x : ℕ)
-      → HandsOut (madeAt (run s calls) i) L x → HandsOut (madeAt (run s calls) j) L x → i ≡ j
+  pub once : (i j : ℕ) (m n : Made) → getElem? (run s calls) i ≡ some m → getElem? (run s calls) j ≡ some n
+      → (L x : ℕ) → HandsOut m L x → HandsOut n L x → i ≡ j
   -- outputs handed out and outputs still held make up the sum of shares
   pub sums : handed aDraw (run s calls) + held (last s calls) ≡ sumOf (length shares) (shareOf shares)
   -- under each label, outputs handed out and outputs held when it goes out of use make up those held when it came into use
@@ -221,10 +216,9 @@ pub record StockClaim (outputs : ℕ) (shares : List ℕ) (s : Stock) (calls : L
   -- all that a caller draws and what it still holds make up its opening share
   pub callers : (k : ℕ) → handed (drawsOf k) (run s calls) + remaining (last s calls) k ≡ shareOf shares k
   -- an accepted draw of c returns the caller's next c indices, and an accepted preview names them
-  pub next : (i : ℕ) → i < length calls → (l : Label) (k c : ℕ)
-      → (madeAt (run s calls) i .call ≡ draws l k c) ⊎ (madeAt (run s calls) i .call ≡ previews l k c)
-      → madeAt (run s calls) i .reply .number ≡ accepted
-      → NextOf outputs shares (take i (run s calls)) k c (madeAt (run s calls) i .reply)
+  pub next : (i : ℕ) (m : Made) → getElem? (run s calls) i ≡ some m
+      → (l : Label) (k c : ℕ) → (m .call ≡ draws l k c) ⊎ (m .call ≡ previews l k c) → m .reply .number ≡ accepted
+      → NextOf outputs shares (take i (run s calls)) k c (m .reply)
   -- a caller's numbers are those of every list that is alike for it
   pub refusals : (k : ℕ) (other : List Call) → AlikeFor k (run s calls) (run s other)
       → replyNumbers (those (asked k) (run s calls)) ≡ replyNumbers (those (asked k) (run s other))
