@@ -6,13 +6,8 @@ use Prim.Native.Nat.{ℕ, zero, suc, _+_, _≤_, _<_}
 use native.Mathlib.Nat.{add-zero, add-suc, le-antisymm, eq-or-lt-of-le, le-of-suc-le-suc}
 use native.Mathlib.Numerals.{add-one}
 use native.Mathlib.Omega.{arith}
-use Rattle.algebra.proofs.Tests.{and-left, and-right, and-both}
+use Rattle.algebra.proofs.Tests.{and-left, and-right, and-both, and-false}
 use Rattle.algebra.specs.Every.{every}
-
--- one test fails
-and-false : (a b : Bool) → b ≡ false → (a && b) ≡ false
-and-false true b e = e
-and-false false b e = refl
 
 module _ (test : ℕ → Bool) where
   pub every-none : every 0 test ≡ true

@@ -1,7 +1,7 @@
 -- Each circuit has one writing: reading the writing of an admitted circuit gives it back, and what reads as a circuit is admitted and is
 -- exactly its writing. Assumes nothing.
 use Prim.Native.Nat.{ℕ, zero, suc, _+_, _-_, _≤_, _<_}
-use mathlib.Core.Bool.{Bool, true, false}
+use mathlib.Core.Bool.{false}
 use mathlib.Core.List.{List, [], _∷_, _++_}
 use mathlib.Core.Path.{_≡_, refl, sym, ap, _∙_, subst}
 use borrow.Author.Tests.{lt-ltb, le-ltb, le-leb, eq-eqb, ne-eqb, ltb-false}
@@ -10,10 +10,10 @@ use native.Mathlib.Omega.{arith}
 use lib.Dec.{ltb}
 use lib.ListN.{length, length-append}
 use Rattle.number.proofs.Laws.{number-reads, number-whole, length-number}
-use Rattle.number.proofs.Places.{either, refused-whole, then-whole, has-front, has-back, has-next, has-is, whole-has, has-whole}
+use Rattle.number.proofs.Places.{either, then-whole, ended-whole, has-front, has-back, has-next, has-is, whole-has, has-whole}
 use Rattle.number.specs.Number.{readNumber, writeNumber}
 use Rattle.number.specs.Inner.Written.{numbers}
-use Rattle.number.specs.Reading.{Whole, Refused, choose, tested, Bytes}
+use Rattle.number.specs.Reading.{Whole, tested, Bytes}
 use Rattle.number.specs.Inner.Known.{Has}
 use Rattle.circuit.proofs.Fields.{within-parts, wire-parts, twoWires, GateParts, one, two, gate-parts}
 use Rattle.circuit.proofs.Lists.{first-gate, first-wire, no-gate, no-wire, gates-length, wires-length, gates-below, wires-below}
@@ -194,10 +194,6 @@ pub record CircuitParts (s : List ℕ) (c : Circuit) : Type 0 where
   pub tail : readWires wanted (c .inputs + count) s at4 ≡ Whole (c .outputs, end)
   pub all : length s ≤ end
 
-ended-whole : {A : Type 0} (b : Bool) (x : A) {z : A} → choose b (Refused 12) (Whole x) ≡ Whole z → (b ≡ false) × (x ≡ z)
-ended-whole true x e = absurd (refused-whole refl e)
-ended-whole false x e = (refl, cc)
-
 pub circuit-parts : (s : List ℕ) (c : Circuit) → readCircuit s ≡ Whole c → CircuitParts s c
 unfolding readCircuit
 circuit-parts s c e =
@@ -206,7 +202,7 @@ circuit-parts s c e =
     let d = then-whole (readWithin 1 mostWires s (b .1)) _ (b .3) in
     let g = then-whole (readGates (b .0) (a .0) s (d .1)) _ (d .3) in
     let w = then-whole (readWires (d .0) (a .0 + b .0) s (g .1)) _ (g .3) in
-    let z = ended-whole {A = Circuit} (ltb (w .1) (length s)) (record { inputs = a .0; gates = g .0; outputs = w .0 }) (w .3) in
+    let z = ended-whole {A = Circuit} (ltb (w .1) (length s)) (record { inputs = a .0; gates = g .0; outputs = w .0 }) 12 (w .3) in
     subst (CircuitParts s) (z .1)
     (record {
       count = b .0;

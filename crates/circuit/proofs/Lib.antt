@@ -9,4 +9,4 @@ pub mod Second
 pub mod Values
 mod Circuits
 mod Fields
-mod Turns
+pub mod Turns

@@ -2,12 +2,12 @@
 use Prim.Native.Nat.{ℕ, _<_}
 use mathlib.Core.Bool.{true}
 use mathlib.Core.List.{List}
-use mathlib.Core.Path.{_≡_, refl, sym, ap, _∙_, subst}
+use mathlib.Core.Path.{_≡_, sym, ap, _∙_, subst}
 use borrow.Author.Tests.{ne-eqb}
 use native.Mathlib.Omega.{arith}
-use Rattle.number.proofs.Places.{whole-is}
+use Rattle.number.proofs.Places.{whole-is, whole-of}
 use Rattle.number.specs.Number.{readNumber}
-use Rattle.number.specs.Reading.{Reading, Whole, Refused}
+use Rattle.number.specs.Reading.{Whole}
 use Rattle.number.specs.Inner.Known.{isWhole}
 use Rattle.circuit.proofs.Fields.{GateParts, one, two, gate-parts, within-parts, wire-parts, two-kind}
 use Rattle.circuit.specs.Content.{Gate}
@@ -15,11 +15,6 @@ use Rattle.circuit.specs.Inner.GateKinds.{kindNumber}
 use Rattle.circuit.specs.Inner.Fronts.{gateOf}
 use Rattle.circuit.specs.Reading.{readWithin, readWire, readGate}
 use Rattle.circuit.specs.declared.GateRead.{GateRead}
-
--- what is known to be whole
-pub whole-of : {A : Type 0} (x : Reading A) → isWhole x ≡ true → (z : A) × (x ≡ Whole z)
-whole-of (Whole z) e = (z, refl)
-whole-of {A} (Refused k) e = absurd (let z : _≡_ {A = ℕ} 0 1 = cc in omega arith)
 
 abbrev pub gateWith : ℕ → ℕ → ℕ → ℕ → GateRead
 gateWith kind first second next = record { kind = kind; first = first; second = second; next = next }

@@ -28,7 +28,7 @@ kind-read : (x : Step Gate) {p next : ℕ} → gateKind x ≡ Whole (p, next) �
 kind-read (Whole r) e = let z = whole-is e in (r .0, ap (λ (n : ℕ × ℕ). Whole (r .0, n .1)) z, ap (λ (n : ℕ × ℕ). n .0) z)
 kind-read (Refused n) e = absurd (refused-whole refl e)
 
-and-kind : (g : Gate) → andOf (kindNumber g) ≡ choose (isAnd g) 1 0
+pub and-kind : (g : Gate) → andOf (kindNumber g) ≡ choose (isAnd g) 1 0
 and-kind (Xor a b) = refl
 and-kind (And a b) = refl
 and-kind (Not a) = refl

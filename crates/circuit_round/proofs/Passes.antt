@@ -320,12 +320,11 @@ module _ {s : List ℕ} {f : Front} (o : HasFront s f) {role : ℕ} {triples far
         }
 
 -- a gate that waits has its triple, and room for its bits
-module _ (x role kind byte y z : ℕ) (triples : List ℕ) (ands : ℕ) (far : List ℕ) (p : ℕ) (e : x ≡ byteBy role kind byte y z triples ands far p)
-    {s : List ℕ} {f : Front} (o : HasFront s f) {before bits₀ wires bits : List ℕ} (can : CanPass s f triples far (length bits₀) before) {at q i : ℕ}
-    (turn : PassTurn s (f .inputs) (f .gates) role triples far before bits₀ wires bits at ands p q i) (more : i < f .gates) (a b : ℕ) {next : ℕ}
-    (read : Whole (gateBy kind a b, next) ≡ readGate (f .inputs + i) s at) where
-  pub pass-triple : x ≡ 1 → ands * 3 + 1 < length triples
-  pass-triple w = omega (arith, and-few o can turn more kind a b read (is-two x role kind byte y z triples ands far p e w), can .enough)
-
-  pub pass-bits : x ≡ 1 → q + 1 < length bits
-  pass-bits w = and-bits o can turn more kind a b read (is-two x role kind byte y z triples ands far p e w)
+pub pass-puts : (x role kind byte y z : ℕ) (triples : List ℕ) (ands : ℕ) (far : List ℕ) (p : ℕ) → x ≡ byteBy role kind byte y z triples ands far p
+    → {s : List ℕ} {f : Front} → HasFront s f → {before bits₀ wires bits : List ℕ} → CanPass s f triples far (length bits₀) before
+    → {at q i : ℕ} → PassTurn s (f .inputs) (f .gates) role triples far before bits₀ wires bits at ands p q i → i < f .gates
+    → (a b : ℕ) {next : ℕ} → Whole (gateBy kind a b, next) ≡ readGate (f .inputs + i) s at
+    → (x ≡ 1 → ands * 3 + 1 < length triples) × (x ≡ 1 → q + 1 < length bits)
+pass-puts x role kind byte y z triples ands far p e o can turn more a b read =
+    let two = is-two x role kind byte y z triples ands far p e in
+    (λ w. omega (arith, and-few o can turn more kind a b read (two w), can .enough), λ w. and-bits o can turn more kind a b read (two w))

@@ -17,6 +17,12 @@ use answer::is_times;
 use circuit::Front;
 use circuit_run::is_role;
 
+// What a round has of its circuit, once read, and the role that it is run in.
+pub struct Frame {
+    pub front: Front,
+    pub role: u8,
+}
+
 // One for a byte that waits, else none.
 pub fn wait_of(byte: u8) -> usize
     ensures { λ r. ⌜ r ≡ waitOf byte ⌝ }

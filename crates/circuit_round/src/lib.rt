@@ -12,6 +12,7 @@ use accepted::accepted_round;
 use circuit::Opened;
 use circuit::read_circuit;
 use circuit::refusal_of;
+use input::Frame;
 use input::round_number;
 use input::waiting_gates;
 
@@ -79,10 +80,13 @@ pub fn round_run(
     if number != 0 {
         return refused(number, state);
     }
+    let frame = Frame {
+        front: front,
+        role: role,
+    };
     let lengths = accepted_round(
         circuit,
-        front,
-        role,
+        frame,
         shares,
         triples,
         output,

@@ -7,9 +7,9 @@ ghost use Rattle.circuit.specs.Answer.{HasFront};
 ghost use Rattle.circuit_round.specs.Inner.Gates.{inputByte, AndHas, openedBy, andByteBy, localByteBy, byteBy};
 ghost use Rattle.circuit_round.specs.Inner.Passes.{CanPass, Passes};
 ghost use Rattle.circuit_round.specs.Round.{inputBytes};
+use crate::input::Frame;
 use crate::input::wait_of;
 use crate::writing::put_bits;
-use circuit::Front;
 use circuit::and_of;
 use circuit::known_gate;
 use circuit_run::and_share;
@@ -58,27 +58,41 @@ fn opened_share(
     and_share(role, d, e, first, second, third)
 }
 
+// The byte of a gate's own wire, and those of the wires that it takes.
+pub struct GateBytes {
+    pub own: u8,
+    pub first: u8,
+    pub second: u8,
+}
+
 // The byte of an AND that is not known.
 fn and_byte(
     role: u8,
-    byte: u8,
-    x: u8,
-    y: u8,
+    bytes: GateBytes,
     triples: &[u8],
     ands: usize,
     far_bits: &[u8],
     passed: usize,
 ) -> u8
-    requires { ⌜ (byte ≡ 1 → AndHas (now triples) ands (now «far_bits») passed) ⌝ }
-    ensures { λ r. ⌜ r ≡ andByteBy role byte x y (now (triples .entry)) ands (now («far_bits» .entry)) passed ⌝ }
+    requires { ⌜ (bytes .own ≡ 1 → AndHas (now triples) ands (now «far_bits») passed) ⌝ }
+    ensures { λ r. ⌜ r ≡ andByteBy role (bytes .own) (bytes .first) (bytes .second) (now (triples .entry)) ands (now («far_bits» .entry)) passed ⌝ }
 {
-    if byte == 1 {
-        return 2 + opened_share(role, x, y, triples, ands, far_bits, passed);
+    if bytes.own == 1 {
+        return 2
+            + opened_share(
+                role,
+                bytes.first,
+                bytes.second,
+                triples,
+                ands,
+                far_bits,
+                passed,
+            );
     }
-    if x < 2 {
+    if bytes.first < 2 {
         return 0;
     }
-    if y < 2 {
+    if bytes.second < 2 {
         return 0;
     }
     1
@@ -100,47 +114,45 @@ fn local_byte(role: u8, kind: usize, x: u8, y: u8) -> u8
     2 + (x % 2 ^ y % 2)
 }
 
-// The byte of a gate of a kind, whose byte was `byte`: a known one stays.
+// The byte of a gate of a kind, from those before: a known one stays.
 fn gate_byte(
     role: u8,
     kind: usize,
-    byte: u8,
-    x: u8,
-    y: u8,
+    bytes: GateBytes,
     triples: &[u8],
     ands: usize,
     far_bits: &[u8],
     passed: usize,
 ) -> u8
-    requires { ⌜ (kind ≡ 2 → byte ≡ 1 → AndHas (now triples) ands (now «far_bits») passed) ⌝ }
-    ensures { λ r. ⌜ r ≡ byteBy role kind byte x y (now (triples .entry)) ands (now («far_bits» .entry)) passed ⌝ }
+    requires { ⌜ (kind ≡ 2 → bytes .own ≡ 1 → AndHas (now triples) ands (now «far_bits») passed) ⌝ }
+    ensures { λ r. ⌜ r ≡ byteBy role kind (bytes .own) (bytes .first) (bytes .second) (now (triples .entry)) ands (now («far_bits» .entry)) passed ⌝ }
 {
-    if 2 <= byte {
-        return byte;
+    if 2 <= bytes.own {
+        return bytes.own;
     }
     if kind == 2 {
-        return and_byte(role, byte, x, y, triples, ands, far_bits, passed);
+        return and_byte(role, bytes, triples, ands, far_bits, passed);
     }
-    local_byte(role, kind, x, y)
+    local_byte(role, kind, bytes.first, bytes.second)
 }
 
 // Passes over the gates and puts the bits of those that wait afterwards; how many bits they are.
 pub fn pass_gates(
     source: &[u8],
-    front: Front,
-    role: u8,
+    frame: Frame,
     triples: &[u8],
     far_bits: &[u8],
     bits_out: &mut [u8],
     wires: &mut [u8; 4096],
 ) -> usize
-    requires { ⌜ HasFront (now source) front × CanPass (now source) front (now triples) (now «far_bits») (length (now «bits_out»)) (now wires) ⌝ }
-    ensures { λ r. ⌜ Passes (now (source .entry)) front role (now (triples .entry)) (now («far_bits» .entry))
+    requires { ⌜ HasFront (now source) (frame .front) × CanPass (now source) (frame .front) (now triples) (now «far_bits») (length (now «bits_out»)) (now wires) ⌝ }
+    ensures { λ r. ⌜ Passes (now (source .entry)) (frame .front) (frame .role) (now (triples .entry)) (now («far_bits» .entry))
         (now («bits_out» .entry)) (now (wires .entry)) r (now («bits_out» .exit)) (now (wires .exit)) ⌝ }
 {
-    let inputs = front.inputs;
-    let gates = front.gates;
-    let mut at = front.body;
+    let role = frame.role;
+    let inputs = frame.front.inputs;
+    let gates = frame.front.gates;
+    let mut at = frame.front.body;
     let mut ands: usize = 0;
     let mut passed: usize = 0;
     let mut place: usize = 0;
@@ -153,7 +165,12 @@ pub fn pass_gates(
         let before = wires[wire];
         let x = wires[first];
         let y = wires[second];
-        let after = gate_byte(role, g.kind, before, x, y, triples, ands, far_bits, passed);
+        let bytes = GateBytes {
+            own: before,
+            first: x,
+            second: y,
+        };
+        let after = gate_byte(role, g.kind, bytes, triples, ands, far_bits, passed);
         wires[wire] = after;
         place = put_bits(after, x, y, triples, ands, bits_out, place);
         ands += and_of(g.kind);

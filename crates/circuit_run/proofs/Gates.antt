@@ -15,6 +15,7 @@ use mir.Val.{Fits}
 use Rattle.algebra.specs.Choice.{choose}
 use Rattle.circuit.proofs.Ands.{head-at, tail-at, ands-more, ands-split}
 use Rattle.circuit.proofs.Lists.{FirstGate, first-gate}
+use Rattle.circuit.proofs.Turns.{and-kind}
 use Rattle.circuit.specs.Content.{Gate, Xor, And, Not, isAnd, andsIn}
 use Rattle.circuit.specs.Inner.GateKinds.{kindNumber}
 use Rattle.circuit.specs.Inner.Fronts.{andOf, gateBy}
@@ -41,9 +42,6 @@ pub kind-and : (g : Gate) → eqb (kindNumber g) 2 ≡ isAnd g
 kind-and (Xor a b) = refl
 kind-and (And a b) = refl
 kind-and (Not a) = refl
-
-and-ones : (g : Gate) → andOf (kindNumber g) ≡ choose (isAnd g) 1 0
-and-ones g = ap (λ (b : Bool). choose b 1 0) (kind-and g)
 
 and-small : (g : Gate) → choose (isAnd g) 1 0 ≤ 1
 and-small (Xor a b) = omega arith
@@ -246,7 +244,7 @@ module _ {s : List ℕ} {f : Front} (o : HasFront s f) {gate : ℕ} (room : gate
 
     module _ (kind a b : ℕ) (known : kind ≡ kindNumber (gateBy kind a b)) {n : ℕ} (one : n ≡ andOf kind) where
       ones : n ≡ choose (isAnd (gateBy kind a b)) 1 0
-      ones = one ∙ ap andOf known ∙ and-ones (gateBy kind a b)
+      ones = one ∙ ap andOf known ∙ and-kind (gateBy kind a b)
 
       pub place-ands : Fits w64 (ands + n)
       place-ands = record { fits = omega (arith, turn .few, ones, and-small (gateBy kind a b), o .most) }

@@ -21,17 +21,18 @@ use Rattle.field.specs.Binary.{block, blockScale}
 use Rattle.field.specs.declared.prime.Prime.{Prime}
 use Rattle.field.specs.Kind.{kindOf, elementWords}
 use Rattle.field.specs.Prime.{modulus, prime, primeSub, primeMul, primeLeaf}
-use Rattle.aes128.proofs.Sizes.{four-bytes, four-words, state-bytes}
+use Rattle.aes128.proofs.Sizes.{state-bytes}
 use Rattle.aes128.specs.State.{column}
-use Rattle.aes128.specs.Inner.Sizes.{IsWord, IsState}
+use Rattle.aes128.specs.Inner.Sizes.{IsState}
 use Rattle.number.specs.Reading.{Bytes}
 use Rattle.record.specs.Admitted.{isElement, Each, SixteenBytes, SixtyFourBits, AdmittedHead, AdmittedTree, AdmittedNoise, AdmittedScalar}
 use Rattle.record.specs.Content.{NoiseTree, elementOf, siblingCount, treeIn}
 use Rattle.tree.proofs.ChildLaws.{leaf-state, siblings-states}
 use Rattle.tree.proofs.Laws as tree
+use Rattle.tree.proofs.Nodes.{columns-state}
 use Rattle.tree.proofs.Listed.{length-listed, listed-none, listed-front, listed-at}
 use Rattle.tree.specs.Child.{child}
-use Rattle.tree.specs.Columns.{columnsAt, columnsBytes}
+use Rattle.tree.specs.Columns.{columnsBytes}
 use Rattle.tree.specs.Tree.{listed, siblings, leafAt}
 use Rattle.dealing.specs.Admitted.{InMemory, Admitted}
 use Rattle.dealing.specs.Input.{Input, deltaAdmitted, position}
@@ -40,14 +41,6 @@ use Rattle.dealing.specs.Vectors.{head, field, root, leaf, delta, value}
 use Rattle.dealing.proofs.Faults.{size-is, branch-is, field-is, noise-is, delta-is}
 
 -- ---- blocks
-
--- bytes from a place on are a state
-columns-state : (bytes : List ℕ) (at : ℕ) → ((i : ℕ) → getD bytes i 0 < 256) → IsState (columnsAt bytes at)
-unfolding columnsAt
-columns-state bytes at b = four-words (word at) (word (at + 4)) (word (at + 8)) (word (at + 12))
-  where
-    word : (k : ℕ) → IsWord (fourAt bytes k [])
-    word k = four-bytes (b k) (b (k + 1)) (b (k + 2)) (b (k + 3))
 
 bytes-none : Bytes []
 unfolding Bytes

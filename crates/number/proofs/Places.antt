@@ -1,16 +1,16 @@
 -- Laws of places in a record: bytes that stand there, fields read one after the other, and bytes written into a buffer.
 -- Assumes nothing.
-use Prim.Native.Nat.{ℕ, suc, _+_, _≤_, _<_}
+use Prim.Native.Nat.{ℕ, _+_, _≤_, _<_}
 use mathlib.Core.Bool.{Bool, true, false}
 use mathlib.Core.List.{List, [], _∷_, _++_}
 use mathlib.Core.Path.{_≡_, refl, sym, ap, ap₂, _∙_, subst}
 use native.Mathlib.Decide.{decLt}
-use native.Mathlib.Nat.{add-zero}
 use native.Mathlib.Omega.{arith}
 use borrow.Author.Tests.{lt-ltb, le-leb, ltb-true, leb-true}
 use lib.Dec.{ltb, leb}
-use lib.ListN.{length, getD, take, drop, set, length-append, length-drop}
-use lib.Seq.{take-add, take-take, take-at, drop-at, drop-drop, drop-cons, take-length, length-take-le, sets, length-sets}
+use lib.ListN.{length, getD, take, drop, length-append, length-drop}
+use lib.Seq.{take-add, take-take, take-at, drop-at, drop-drop, drop-cons, take-length, length-take-le, length-sets}
+use Rattle.algebra.proofs.Written.{sets-append}
 use Rattle.number.specs.Reading.{Reading, Whole, Refused, Step, then, choose, tested, part, readBytes, readByte}
 use Rattle.number.specs.Inner.Known.{isWhole, Has}
 use Rattle.number.specs.Inner.Written.{Room, Wrote}
@@ -35,6 +35,11 @@ refused-known {A} {r} {k} p q = let e : false ≡ true = ap (λ (x : Reading A).
 pub whole-is : {A : Type 0} {x y : A} → Whole x ≡ Whole y → x ≡ y
 whole-is e = cc
 
+-- what is known to be whole
+pub whole-of : {A : Type 0} (x : Reading A) → isWhole x ≡ true → (z : A) × (x ≡ Whole z)
+whole-of (Whole z) e = (z, refl)
+whole-of {A} (Refused k) e = absurd (refused-known {A = A} {k = k} refl e)
+
 -- what a whole field was, and that the rest was whole
 pub then-whole : {A B : Type 0} (r : Step A) (k : A → ℕ → Reading B) {z : B} → then r k ≡ Whole z
     → (x : A) × (next : ℕ) × (r ≡ Whole (x, next)) × (k x next ≡ Whole z)
@@ -52,6 +57,10 @@ choose-no x y e = simp e
 pub choose-whole : {A : Type 0} (b : Bool) (x : A) (k : ℕ) {z : A} → choose b (Whole x) (Refused k) ≡ Whole z → (b ≡ true) × (x ≡ z)
 choose-whole true x k e = (refl, cc)
 choose-whole false x k e = absurd (refused-whole refl e)
+
+pub ended-whole : {A : Type 0} (b : Bool) (x : A) (k : ℕ) {z : A} → choose b (Refused k) (Whole x) ≡ Whole z → (b ≡ false) × (x ≡ z)
+ended-whole true x k e = absurd (refused-whole refl e)
+ended-whole false x k e = (refl, cc)
 
 pub tested-whole : {A : Type 0} (r : Step A) (ok : A → Bool) (k : ℕ) {x : A} {next : ℕ} → tested r ok k ≡ Whole (x, next)
     → (r ≡ Whole (x, next)) × (ok x ≡ true)
@@ -159,15 +168,11 @@ module _ (s : List ℕ) where
 
 -- ---- bytes written into a buffer, one run after the other
 
-pub sets-append : (b : List ℕ) (at : ℕ) (u v : List ℕ) → sets (sets b at u) (at + length u) v ≡ sets b at (u ++ v)
-sets-append b at [] v = rw add-zero
-sets-append b at (x ∷ u) v = ap (λ (n : ℕ). sets (sets (set b at x) (suc at) u) n v) (omega arith) ∙ sets-append (set b at x) (suc at) u v
-
 pub wrote-then : {b b₁ b₂ : List ℕ} {at next end : ℕ} {u v : List ℕ} → Wrote b at u next b₁ → Wrote b₁ next v end b₂ → Wrote b at (u ++ v) end b₂
 wrote-then {b} {b₁} {b₂} {at} {next} {end} {u} {v} w x =
     record {
       place = omega (arith, w .place, x .place, length-append u v);
-      stored = x .stored ∙ rw (w .place, w .stored) (sets-append b at u v);
+      stored = x .stored ∙ rw (w .place, w .stored) (sym (sets-append b at u v));
     }
 
 pub room-front : {b : List ℕ} {at : ℕ} (u v : List ℕ) → Room b at (u ++ v) → Room b at u

@@ -3,7 +3,7 @@
 use Prim.Native.Nat.{ℕ, _+_, _*_, _^_, _≤_, _<_}
 use mathlib.Core.Bool.{true}
 use mathlib.Core.List.{List, [], _∷_}
-use mathlib.Core.Path.{_≡_, refl, sym, ap, _∙_}
+use mathlib.Core.Path.{_≡_, sym, ap, _∙_}
 use borrow.Author.Tests.{eq-eqb, ne-eqb, ltb-true, leb-true}
 use native.Mathlib.Omega.{arith}
 use lib.Dec.{ltb, leb}
@@ -13,23 +13,16 @@ use mir.Syntax.{w64}
 use mir.Val.{Fits}
 use Rattle.field.proofs.KindOf.{words-1, words-2}
 use Rattle.field.specs.Bytes.{wordAt}
-use Rattle.number.proofs.Places.{either, whole-is, then-whole, tested-whole, choose-whole, choose-yes, choose-no}
+use Rattle.number.proofs.Places.{either, whole-is, whole-of, then-whole, tested-whole, choose-whole, choose-yes, choose-no}
 use Rattle.number.specs.Number.{readNumber}
-use Rattle.number.specs.Reading.{Reading, Whole, Refused, Step, then, choose, tested}
+use Rattle.number.specs.Reading.{Whole, Refused, Step, then, choose, tested}
 use Rattle.number.specs.Inner.Known.{isWhole}
 use Rattle.record.proofs.Items.{items-whole}
 use Rattle.record.proofs.Parts.{TreeParts, tree-parts}
 use Rattle.record.specs.Admitted.{isElement, isNoise}
 use Rattle.field.specs.Kind.{elementWords}
-use Rattle.record.specs.Content.{NoiseTree, elementOf}
+use Rattle.record.specs.Content.{NoiseTree}
 use Rattle.record.specs.Reading.{items, blockAt, readWords, readPosition, readValue, readCorrection, readTree}
-use Rattle.record.specs.Inner.Answers.{treeOf}
-use Rattle.record.specs.declared.Tree.{Tree}
-
--- what is known to be whole
-whole-of : {A : Type 0} (x : Reading A) → isWhole x ≡ true → (z : A) × (x ≡ Whole z)
-whole-of (Whole z) e = (z, refl)
-whole-of {A} (Refused k) e = absurd (let z : _≡_ {A = ℕ} 0 1 = cc in omega arith)
 
 -- the parts of a position, a noise value and a correction that were read
 pub position-parts : (base all : ℕ) (s : List ℕ) (at : ℕ) {p next : ℕ} → readPosition base all s at ≡ Whole (p, next)

@@ -1,13 +1,12 @@
 -- What a head, a tree, trees and a record that were read whole were read from: the reading of each of their fields. Assumes nothing.
 use Prim.Native.Nat.{ℕ, suc, _+_, _^_, _≤_}
-use mathlib.Core.Bool.{Bool, true, false}
 use mathlib.Core.List.{List, [], _∷_}
-use mathlib.Core.Path.{_≡_, refl, sym, ap, _∙_}
+use mathlib.Core.Path.{_≡_, sym, ap, _∙_}
 use borrow.Author.Tests.{ltb-false}
 use lib.Dec.{ltb}
 use lib.ListN.{length}
-use Rattle.number.proofs.Places.{then-whole, whole-is, refused-whole}
-use Rattle.number.specs.Reading.{Whole, Refused, choose, readBytes}
+use Rattle.number.proofs.Places.{then-whole, whole-is, ended-whole}
+use Rattle.number.specs.Reading.{Whole, readBytes}
 use Rattle.record.specs.Admitted.{mostTrees, mostTerms, mostOutputs}
 use Rattle.record.specs.Content.{Head, NoiseTree, NoisePart, ScalarPart, siblingCount}
 use Rattle.record.specs.Reading.{readSize, readBranch, readPosition, readValue, readCorrection, readBlocks, readField, readAfterDepth, readSizes, readHead, readDelta, readTree, readTrees, readNoise, readScalar}
@@ -143,10 +142,6 @@ trees-none field depth beside base s at e =
 
 -- ---- records
 
-ended-whole : {A : Type 0} (b : Bool) (x : A) {z : A} → choose b (Refused 12) (Whole x) ≡ Whole z → (b ≡ false) × (x ≡ z)
-ended-whole true x e = absurd (refused-whole refl e)
-ended-whole false x e = (refl, whole-is e)
-
 pub noise-parts : (s : List ℕ) {p : NoisePart} → readNoise s ≡ Whole p
     → (body : ℕ) × (end : ℕ) × (readHead 1 s ≡ Whole (p .head, body))
     × (readTrees (p .head .field) (p .head .depth) (siblingCount (p .head .depth) (p .head .branchBits)) (p .head .trees) 0 s body ≡ Whole (p .trees, end)) × (length s ≤ end)
@@ -154,7 +149,7 @@ unfolding readNoise
 noise-parts s {p} e =
     let a = then-whole (readHead 1 s) _ e in
     let b = then-whole (readTrees (a .0 .field) (a .0 .depth) (siblingCount (a .0 .depth) (a .0 .branchBits)) (a .0 .trees) 0 s (a .1)) _ (a .3) in
-    let c = ended-whole {A = NoisePart} (ltb (b .1) (length s)) (record { head = a .0; trees = b .0 }) (b .3) in (
+    let c = ended-whole {A = NoisePart} (ltb (b .1) (length s)) (record { head = a .0; trees = b .0 }) 12 (b .3) in (
       a .1,
       b .1,
       a .2 ∙ ap (λ (x : NoisePart). Whole (x .head, a .1)) (c .1),
@@ -170,7 +165,7 @@ scalar-parts s {p} e =
     let a = then-whole (readHead 2 s) _ e in
     let b = then-whole (readDelta (a .0 .field) s (a .1)) _ (a .3) in
     let c = then-whole (readBlocks (a .0 .trees) s (b .1)) _ (b .3) in
-    let d = ended-whole {A = ScalarPart} (ltb (c .1) (length s)) (record { head = a .0; delta = b .0; roots = c .0 }) (c .3) in (
+    let d = ended-whole {A = ScalarPart} (ltb (c .1) (length s)) (record { head = a .0; delta = b .0; roots = c .0 }) 12 (c .3) in (
       a .1,
       b .1,
       c .1,

@@ -9,10 +9,11 @@ use lib.ListN.{length, getD, drop, set, length-set, length-drop}
 use lib.Seq.{sets, length-sets, take-suc, take-all, getD-drop, length-take-le}
 use mir.Syntax.{w64}
 use mir.Val.{Fits}
+use Rattle.algebra.proofs.Written.{sets-append}
 use Rattle.field.proofs.ByteWords.{length-leBytes}
 use Rattle.field.specs.Bytes.{leBytes}
 use Rattle.field.specs.Inner.Written.{withWord}
-use Rattle.number.proofs.Places.{sets-append, choose-yes, choose-no, wrote-then, room-front, room-back}
+use Rattle.number.proofs.Places.{choose-yes, choose-no, wrote-then, room-front, room-back}
 use Rattle.number.specs.Number.{writeNumber}
 use Rattle.number.specs.Inner.Written.{Room, Wrote}
 use Rattle.number.specs.Reading.{part}
@@ -26,7 +27,7 @@ use Rattle.record.specs.Inner.Lengths.{sizesBytes, frontBytes}
 
 -- one part after another
 pub after : {b c : List ℕ} (b₀ : List ℕ) (at : ℕ) {next : ℕ} (u v : List ℕ) → b ≡ sets b₀ at u → next ≡ at + length u → c ≡ sets b next v → c ≡ sets b₀ at (u ++ v)
-after {b} b₀ at u v e p f = f ∙ ap (λ (n : ℕ). sets b n v) p ∙ ap (λ (x : List ℕ). sets x (at + length u) v) e ∙ sets-append b₀ at u v
+after {b} b₀ at u v e p f = f ∙ ap (λ (n : ℕ). sets b n v) p ∙ ap (λ (x : List ℕ). sets x (at + length u) v) e ∙ sym (sets-append b₀ at u v)
 
 pub as-long : {b : List ℕ} (b₀ : List ℕ) (at : ℕ) (u : List ℕ) → b ≡ sets b₀ at u → length b ≡ length b₀
 as-long b₀ at u e = ap length e ∙ length-sets b₀ at u

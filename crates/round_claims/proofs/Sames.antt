@@ -26,7 +26,7 @@ use Rattle.evaluation.proofs.Transcripts.{SameTriples, outputs-same, determined
 use Rattle.evaluation.specs.Inner.Transcript.{BitsByAnd, wireShares, farInSteps}
 use Rattle.evaluation.specs.Runs.{StepMade, runOf, IsStep, writtenBy}
 use Rattle.number.proofs.Places.{split, choose-yes, choose-no}
-use Rattle.triples.specs.Triple.{Triple}
+use Rattle.triples.proofs.Matching.{triple-eq}
 use Rattle.round_claims.proofs.Evaluates.{levels-passed, far-got, wrote-shares}
 use Rattle.round_claims.proofs.Progresses.{progress}
 use Rattle.round_claims.proofs.Stages.{and-wire}
@@ -37,14 +37,10 @@ use Rattle.round_claims.specs.Same.{levelAt, placeAt, SameFar, Alike, Sa
 
 -- triples that are the same bytes
 triples-same : (n : ℕ) (t t′ : List ℕ) → take (3 * n) t ≡ take (3 * n) t′ → SameTriples n t t′
-triples-same n t t′ e j h = triple-is (byte (j * 3) (omega arith)) (byte (j * 3 + 1) (omega arith)) (byte (j * 3 + 2) (omega arith))
+triples-same n t t′ e j h = triple-eq (byte (j * 3) (omega arith)) (byte (j * 3 + 1) (omega arith)) (byte (j * 3 + 2) (omega arith))
   where
     byte : (k : ℕ) → k < 3 * n → getD t k 0 ≡ getD t′ k 0
     byte k g = sym (getD-take (3 * n) t k 0 g) ∙ ap (λ (l : List ℕ). getD l k 0) e ∙ getD-take (3 * n) t′ k 0 g
-
-    triple-is : {a b c a′ b′ c′ : ℕ} → a ≡ a′ → b ≡ b′ → c ≡ c′
-        → _≡_ {A = Triple} (record { first = a; second = b; third = c }) (record { first = a′; second = b′; third = c′ })
-    triple-is p q r = rw (p, q, r)
 
 module _ (circuit : List ℕ) (c : Circuit) (role : ℕ) (shares triples₁ triples₂ : List ℕ)
     (calls₁ : List StepLent) (calls₂ : List RoundLent) (alike : Alike circuit c role shares triples₁ triples₂ (runOf calls₁) (roundsOf calls₂)) where

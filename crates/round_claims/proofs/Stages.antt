@@ -11,6 +11,7 @@ use lib.Bits.{bitXor}
 use lib.Dec.{eqb}
 use lib.ListN.{length, getD, take, drop, replicate}
 use lib.Seq.{getD-drop, getD-take, take-length, length-take-le}
+use Rattle.algebra.proofs.Tests.{and-false}
 use Rattle.algebra.specs.Choice.{choose}
 use Rattle.circuit.proofs.Exact.{admitted}
 use Rattle.circuit.proofs.Folds.{by-gates, below-at}
@@ -54,18 +55,14 @@ low x h = lt-leb 2 x h
 pub high : (x : ℕ) → 2 ≤ x → isKnown x ≡ true
 high x h = le-leb 2 x h
 
-pub and-no : (a b : Bool) → b ≡ false → (a && b) ≡ false
-and-no true b e = e
-and-no false b e = refl
-
 module _ (P Q : ℕ → Type 0) (p-high : (x : ℕ) → P x → 2 ≤ x) (q-high : (x : ℕ) → Q x → 2 ≤ x) where
   pair : {f g : Bool} {a b m x y : ℕ} → Stage P f a m x → Stage Q g b m y → Pair P Q (greater a b) m x y
   pair {f} {g} {a} {b} {m} {x} {y} (known h p) (known k q) =
       both (ap₂ (λ (s t : Bool). s && t) (high x (p-high x p)) (high y (q-high y q))) (greater-below a b m h k) p q
   pair {f} {g} {a} {b} {m} {x} {y} (known h p) (opened t e z) =
-      not-both (and-no (isKnown x) (isKnown y) (low y (omega arith))) (omega (arith, greater-from a b))
+      not-both (and-false (isKnown x) (isKnown y) (low y (omega arith))) (omega (arith, greater-from a b))
   pair {f} {g} {a} {b} {m} {x} {y} (known h p) (unknown k n z) =
-      not-both (and-no (isKnown x) (isKnown y) (low y (omega arith))) (omega (arith, greater-from a b))
+      not-both (and-false (isKnown x) (isKnown y) (low y (omega arith))) (omega (arith, greater-from a b))
   pair {f} {g} {a} {b} {m} {x} {y} (opened t e z) s =
       not-both (ap (λ (r : Bool). r && isKnown y) (low x (omega arith))) (omega (arith, greater-from a b))
   pair {f} {g} {a} {b} {m} {x} {y} (unknown k n z) s =
@@ -189,7 +186,7 @@ module _ (P : ℕ → ℕ → Type 0) (high-at : (w x : ℕ) → P w x → 2 ≤
 
 wait-stage : {P : ℕ → Type 0} → ((x : ℕ) → P x → 2 ≤ x) → {f : Bool} {level m b : ℕ} → Stage P f level m b → waits b ≡ (f && eqb level m)
 wait-stage high-at {f} {level} {m} {b} (known h p) =
-    ne-eqb b 1 (λ z. omega (arith, high-at b p)) ∙ sym (and-no f (eqb level m) (ne-eqb level m (λ z. omega arith)))
+    ne-eqb b 1 (λ z. omega (arith, high-at b p)) ∙ sym (and-false f (eqb level m) (ne-eqb level m (λ z. omega arith)))
 wait-stage high-at {f} {level} {m} {b} (opened t e z) =
     eq-eqb b 1 z ∙ sym (ap₂ (λ (p q : Bool). p && q) t (eq-eqb level m e))
 wait-stage high-at {f} {level} {m} {b} (unknown h n z) = ne-eqb b 1 (λ y. omega arith) ∙ of f n

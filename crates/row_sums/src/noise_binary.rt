@@ -13,6 +13,7 @@ ghost use Rattle.row_sums.specs.Inner.Sums.{BinaryAdded, termsTo, Binary
 ghost use Rattle.code.specs.Inner.Rows.{Shaped, placeBy, binaryRow};
 ghost use Rattle.code.specs.Inner.Used.{rowBelow};
 use crate::row::BinaryPair;
+use crate::row::CodeRow;
 use crate::row::block_at;
 use code::Shape;
 use code::place_of;
@@ -48,20 +49,20 @@ fn binary_term(
 fn noise_turn_binary(
     tables: &[u64; 1536],
     keys: &[u64; 40],
-    x: u64,
+    row: CodeRow,
     shared: [[[u8; 4]; 4]; 2],
-    shape: Shape,
     i: usize,
     noise: &[u64],
     v: &[u64],
     sums: BinaryPair,
 ) -> BinaryPair
-    requires { ⌜ RoundTables (now tables) × IsShared (now keys) x shared × (i < shape .terms) ⌝ }
-    requires { ⌜ Shaped shape × (length (now noise) ≡ shape .places) × (length (now v) ≡ shape .places * 2) ⌝ }
-    requires { ⌜ BinarySums (roundKeys (now keys)) shape x (now noise) (now v) (termsTo shape i) sums ⌝ }
-    ensures { λ r. ⌜ BinarySums (roundKeys (now (keys .entry))) shape x (now (noise .entry)) (now (v .entry)) (termsTo shape (i + 2)) r ⌝ }
+    requires { ⌜ RoundTables (now tables) × IsShared (now keys) (row .x) shared × (i < row .shape .terms) ⌝ }
+    requires { ⌜ Shaped (row .shape) × (length (now noise) ≡ row .shape .places) × (length (now v) ≡ row .shape .places * 2) ⌝ }
+    requires { ⌜ BinarySums (roundKeys (now keys)) (row .shape) (row .x) (now noise) (now v) (termsTo (row .shape) i) sums ⌝ }
+    ensures { λ r. ⌜ BinarySums (roundKeys (now (keys .entry))) (row .shape) (row .x) (now (noise .entry)) (now (v .entry)) (termsTo (row .shape) (i + 2)) r ⌝ }
 {
-    let words = two_words(tables, keys, x, shared, i as u64);
+    let shape = row.shape;
+    let words = two_words(tables, keys, row.x, shared, i as u64);
     let next = binary_term(shape, i, words.first, noise, v, sums);
     if i + 1 < shape.terms {
         binary_term(shape, i + 1, words.second, noise, v, next)
@@ -85,7 +86,11 @@ pub fn noise_row_binary(
         × (r .v ≡ output blocks (binaryRow (roundKeys (now (keys .entry))) shape x) (at (binary .elements) (now (v .entry))))
         × (r .used ≡ rowBelow 2 (now (noise .entry)) (roundKeys (now (keys .entry))) shape x) ⌝ }
 {
-    let shared = share(tables, keys, x as u64);
+    let row = CodeRow {
+        shape: shape,
+        x: x as u64,
+    };
+    let shared = share(tables, keys, row.x);
     let mut sums = BinaryPair {
         u: 0,
         v: Block::zero(),
@@ -93,7 +98,7 @@ pub fn noise_row_binary(
     };
     let mut i: usize = 0;
     while i < shape.terms {
-        let next = noise_turn_binary(tables, keys, x as u64, shared, shape, i, noise, v, sums);
+        let next = noise_turn_binary(tables, keys, row, shared, i, noise, v, sums);
         sums = next;
         i += 2;
     }

@@ -14,6 +14,7 @@ ghost use Rattle.field.specs.Prime.{primes, primeRing, modulus};
 ghost use Rattle.row_sums.specs.Inner.Sums.{PrimesAdded, termsTo, PrimesTotal};
 ghost use Rattle.code.specs.Inner.Rows.{Shaped, placeBy, primeRow};
 ghost use Rattle.code.specs.Inner.Used.{rowBelow};
+use crate::row::CodeRow;
 use crate::row::PrimePair;
 use code::Shape;
 use code::place_of;
@@ -58,20 +59,20 @@ fn prime_term(
 fn noise_turn_prime(
     tables: &[u64; 1536],
     keys: &[u64; 40],
-    x: u64,
+    row: CodeRow,
     shared: [[[u8; 4]; 4]; 2],
-    shape: Shape,
     i: usize,
     noise: &[u64],
     v: &[u64],
     sums: PrimeSums,
 ) -> PrimeSums
-    requires { ⌜ RoundTables (now tables) × IsShared (now keys) x shared × (i < shape .terms) ⌝ }
-    requires { ⌜ Shaped shape × (length (now noise) ≡ shape .places) × (length (now v) ≡ shape .places) ⌝ }
-    requires { ⌜ PrimesTotal (roundKeys (now keys)) shape x (now noise) (now v) (termsTo shape i) sums ⌝ }
-    ensures { λ r. ⌜ PrimesTotal (roundKeys (now (keys .entry))) shape x (now (noise .entry)) (now (v .entry)) (termsTo shape (i + 2)) r ⌝ }
+    requires { ⌜ RoundTables (now tables) × IsShared (now keys) (row .x) shared × (i < row .shape .terms) ⌝ }
+    requires { ⌜ Shaped (row .shape) × (length (now noise) ≡ row .shape .places) × (length (now v) ≡ row .shape .places) ⌝ }
+    requires { ⌜ PrimesTotal (roundKeys (now keys)) (row .shape) (row .x) (now noise) (now v) (termsTo (row .shape) i) sums ⌝ }
+    ensures { λ r. ⌜ PrimesTotal (roundKeys (now (keys .entry))) (row .shape) (row .x) (now (noise .entry)) (now (v .entry)) (termsTo (row .shape) (i + 2)) r ⌝ }
 {
-    let pair = two_blocks(tables, keys, x, shared, i as u64);
+    let shape = row.shape;
+    let pair = two_blocks(tables, keys, row.x, shared, i as u64);
     let next = prime_term(shape, i, pair.first, noise, v, sums);
     if i + 1 < shape.terms {
         prime_term(shape, i + 1, pair.second, noise, v, next)
@@ -96,7 +97,11 @@ pub fn noise_row_prime(
         × (r .used ≡ (rowBelow modulus (now (noise .entry)) (roundKeys (now (keys .entry))) shape x
         && rowBelow modulus (now (v .entry)) (roundKeys (now (keys .entry))) shape x)) ⌝ }
 {
-    let shared = share(tables, keys, x as u64);
+    let row = CodeRow {
+        shape: shape,
+        x: x as u64,
+    };
+    let shared = share(tables, keys, row.x);
     let mut sums = PrimeSums {
         u: 0,
         v: 0,
@@ -104,7 +109,7 @@ pub fn noise_row_prime(
     };
     let mut i: usize = 0;
     while i < shape.terms {
-        let next = noise_turn_prime(tables, keys, x as u64, shared, shape, i, noise, v, sums);
+        let next = noise_turn_prime(tables, keys, row, shared, i, noise, v, sums);
         sums = next;
         i += 2;
     }

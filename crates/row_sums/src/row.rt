@@ -4,8 +4,15 @@ ghost use Prim.Native.Nat.{_+_, _*_, _<_};
 ghost use lib.ListN.{length};
 ghost use Rattle.algebra.specs.Coding.{at};
 ghost use Rattle.field.specs.Binary.{binary};
+use code::Shape;
 use field::Block;
 use field::Prime;
+
+// A row of the code: the code's shape, and the row's number.
+pub struct CodeRow {
+    pub shape: Shape,
+    pub x: u64,
+}
 
 // A row's outputs at the noise end in field 1, and whether every noise word that it uses is a bit; before the row's end, those
 // of its terms so far.

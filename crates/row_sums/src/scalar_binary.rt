@@ -10,6 +10,7 @@ ghost use Rattle.row_cipher.specs.Inner.Row.{IsShared};
 ghost use Rattle.field.specs.Binary.{binary, blocks, blockAdd};
 ghost use Rattle.row_sums.specs.Inner.Sums.{termsTo, blocksSum};
 ghost use Rattle.code.specs.Inner.Rows.{Shaped, placeBy, binaryRow};
+use crate::row::CodeRow;
 use crate::row::block_at;
 use code::Shape;
 use code::place_of;
@@ -29,19 +30,19 @@ fn block_term(shape: Shape, i: usize, word: u64, w: &[u64], total: Block) -> Blo
 fn scalar_turn_binary(
     tables: &[u64; 1536],
     keys: &[u64; 40],
-    x: u64,
+    row: CodeRow,
     shared: [[[u8; 4]; 4]; 2],
-    shape: Shape,
     i: usize,
     w: &[u64],
     total: Block,
 ) -> Block
-    requires { ⌜ RoundTables (now tables) × IsShared (now keys) x shared × (i < shape .terms) ⌝ }
-    requires { ⌜ Shaped shape × (length (now w) ≡ shape .places * 2) ⌝ }
-    requires { ⌜ total ≡ blocksSum (roundKeys (now keys)) shape x (now w) (termsTo shape i) ⌝ }
-    ensures { λ r. ⌜ r ≡ blocksSum (roundKeys (now (keys .entry))) shape x (now (w .entry)) (termsTo shape (i + 2)) ⌝ }
+    requires { ⌜ RoundTables (now tables) × IsShared (now keys) (row .x) shared × (i < row .shape .terms) ⌝ }
+    requires { ⌜ Shaped (row .shape) × (length (now w) ≡ row .shape .places * 2) ⌝ }
+    requires { ⌜ total ≡ blocksSum (roundKeys (now keys)) (row .shape) (row .x) (now w) (termsTo (row .shape) i) ⌝ }
+    ensures { λ r. ⌜ r ≡ blocksSum (roundKeys (now (keys .entry))) (row .shape) (row .x) (now (w .entry)) (termsTo (row .shape) (i + 2)) ⌝ }
 {
-    let words = two_words(tables, keys, x, shared, i as u64);
+    let shape = row.shape;
+    let words = two_words(tables, keys, row.x, shared, i as u64);
     let next = block_term(shape, i, words.first, w, total);
     if i + 1 < shape.terms {
         block_term(shape, i + 1, words.second, w, next)
@@ -62,11 +63,15 @@ pub fn scalar_row_binary(
     requires { ⌜ Shaped shape × (length (now w) ≡ shape .places * 2) ⌝ }
     ensures { λ r. ⌜ r ≡ output blocks (binaryRow (roundKeys (now (keys .entry))) shape x) (at (binary .elements) (now (w .entry))) ⌝ }
 {
-    let shared = share(tables, keys, x as u64);
+    let row = CodeRow {
+        shape: shape,
+        x: x as u64,
+    };
+    let shared = share(tables, keys, row.x);
     let mut total = Block::zero();
     let mut i: usize = 0;
     while i < shape.terms {
-        let next = scalar_turn_binary(tables, keys, x as u64, shared, shape, i, w, total);
+        let next = scalar_turn_binary(tables, keys, row, shared, i, w, total);
         total = next;
         i += 2;
     }

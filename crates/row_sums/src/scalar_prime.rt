@@ -13,6 +13,7 @@ ghost use Rattle.field.specs.Prime.{primes, primeRing, modulus};
 ghost use Rattle.row_sums.specs.Inner.Sums.{PrimeAdded, termsTo, PrimeTotal};
 ghost use Rattle.code.specs.Inner.Rows.{Shaped, placeBy, primeRow};
 ghost use Rattle.code.specs.Inner.Used.{rowBelow};
+use crate::row::CodeRow;
 use crate::row::PrimeRow;
 use code::Shape;
 use code::place_of;
@@ -44,19 +45,19 @@ fn scalar_term(shape: Shape, i: usize, block: Block, w: &[u64], sum: PrimeSum) -
 fn scalar_turn_prime(
     tables: &[u64; 1536],
     keys: &[u64; 40],
-    x: u64,
+    row: CodeRow,
     shared: [[[u8; 4]; 4]; 2],
-    shape: Shape,
     i: usize,
     w: &[u64],
     sum: PrimeSum,
 ) -> PrimeSum
-    requires { ⌜ RoundTables (now tables) × IsShared (now keys) x shared × (i < shape .terms) ⌝ }
-    requires { ⌜ Shaped shape × (length (now w) ≡ shape .places) ⌝ }
-    requires { ⌜ PrimeTotal (roundKeys (now keys)) shape x (now w) (termsTo shape i) sum ⌝ }
-    ensures { λ r. ⌜ PrimeTotal (roundKeys (now (keys .entry))) shape x (now (w .entry)) (termsTo shape (i + 2)) r ⌝ }
+    requires { ⌜ RoundTables (now tables) × IsShared (now keys) (row .x) shared × (i < row .shape .terms) ⌝ }
+    requires { ⌜ Shaped (row .shape) × (length (now w) ≡ row .shape .places) ⌝ }
+    requires { ⌜ PrimeTotal (roundKeys (now keys)) (row .shape) (row .x) (now w) (termsTo (row .shape) i) sum ⌝ }
+    ensures { λ r. ⌜ PrimeTotal (roundKeys (now (keys .entry))) (row .shape) (row .x) (now (w .entry)) (termsTo (row .shape) (i + 2)) r ⌝ }
 {
-    let pair = two_blocks(tables, keys, x, shared, i as u64);
+    let shape = row.shape;
+    let pair = two_blocks(tables, keys, row.x, shared, i as u64);
     let next = scalar_term(shape, i, pair.first, w, sum);
     if i + 1 < shape.terms {
         scalar_term(shape, i + 1, pair.second, w, next)
@@ -78,14 +79,18 @@ pub fn scalar_row_prime(
     ensures { λ r. ⌜ (r .w ≡ output (itself primeRing) (primeRow (roundKeys (now (keys .entry))) shape x) (at (primes .elements) (now (w .entry))))
         × (r .used ≡ rowBelow modulus (now (w .entry)) (roundKeys (now (keys .entry))) shape x) ⌝ }
 {
-    let shared = share(tables, keys, x as u64);
+    let row = CodeRow {
+        shape: shape,
+        x: x as u64,
+    };
+    let shared = share(tables, keys, row.x);
     let mut sum = PrimeSum {
         total: 0,
         used: true,
     };
     let mut i: usize = 0;
     while i < shape.terms {
-        let next = scalar_turn_prime(tables, keys, x as u64, shared, shape, i, w, sum);
+        let next = scalar_turn_prime(tables, keys, row, shared, i, w, sum);
         sum = next;
         i += 2;
     }

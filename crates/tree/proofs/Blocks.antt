@@ -4,24 +4,13 @@ use mathlib.Core.List.{List, [], _∷_, _++_}
 use Prim.Native.Nat.{ℕ, zero, suc, _+_, _*_, _<_}
 use native.Mathlib.Nat.{add-assoc, add-zero, zero-add, suc-add}
 use native.Mathlib.Omega.{arith}
-use lib.ListN.{length, getD, drop, set, length-append, List·getD-append}
-use lib.Seq.{sets, getD-append-add}
+use lib.ListN.{length, getD, drop, length-append, List·getD-append}
+use lib.Seq.{getD-append-add}
+pub use Rattle.aes128.proofs.Words.{is-four, four-eq}
 use Rattle.aes128.specs.State.{four, column, byteAt, xorWord, xorState}
-use Rattle.field.specs.Bytes.{fourAt}
 use Rattle.tree.specs.Columns.{columnsAt, columnsBytes, blocksBytes, siblingsAt}
 
-pub four-eq : {A : Type 0} {a b c d x y z w : A} → a ≡ x → b ≡ y → c ≡ z → d ≡ w → a ∷ b ∷ c ∷ d ∷ [] ≡ x ∷ y ∷ z ∷ w ∷ []
-four-eq p q r s = cc
-
 -- ---- writing
-
--- stores one after another
-pub sets-append : {A : Type 0} (l : List A) (i : ℕ) (xs ys : List A) → sets (sets l i xs) (i + length xs) ys ≡ sets l i (xs ++ ys)
-sets-append l i [] ys = ap (λ k. sets l k ys) (add-zero i)
-sets-append l i (x ∷ xs) ys = ap (λ k. sets (sets (set l i x) (suc i) xs) k ys) (more i (length xs)) ∙ sets-append (set l i x) (suc i) xs ys
-  where
-    more : (i n : ℕ) → i + suc n ≡ suc i + n
-    more i n = omega arith
 
 pub length-block : (s : List (List ℕ)) → length (columnsBytes s) ≡ 16
 unfolding columnsBytes
@@ -39,19 +28,11 @@ pub record Square (s : List (List ℕ)) : Type 0 where
   pub size : length s ≡ 4
   pub columns : (c : ℕ) → c < 4 → length (column s c) ≡ 4
 
-is-four : {A : Type 0} (none : A) (l : List A) → length l ≡ 4 → four (λ i. getD l i none) ≡ l
-is-four none [] e = absurd (omega arith)
-is-four none (a ∷ []) e = absurd (omega arith)
-is-four none (a ∷ b ∷ []) e = absurd (omega arith)
-is-four none (a ∷ b ∷ c ∷ []) e = absurd (omega arith)
-is-four none (a ∷ b ∷ c ∷ d ∷ []) e = refl
-is-four none (a ∷ b ∷ c ∷ d ∷ x ∷ l) e = absurd (omega arith)
-
-pub square-is : (s : List (List ℕ)) → Square s → four (λ c. four (λ r. byteAt s r c)) ≡ s
+square-is : (s : List (List ℕ)) → Square s → four (λ c. four (λ r. byteAt s r c)) ≡ s
 square-is s h =
-    four-eq (is-four 0 (column s 0) (h .columns 0 (omega arith))) (is-four 0 (column s 1) (h .columns 1 (omega arith)))
-    (is-four 0 (column s 2) (h .columns 2 (omega arith))) (is-four 0 (column s 3) (h .columns 3 (omega arith)))
-    ∙ is-four [] s (h .size)
+    sym (is-four [] s (h .size)
+    ∙ four-eq (is-four 0 (column s 0) (h .columns 0 (omega arith))) (is-four 0 (column s 1) (h .columns 1 (omega arith)))
+    (is-four 0 (column s 2) (h .columns 2 (omega arith))) (is-four 0 (column s 3) (h .columns 3 (omega arith))))
 
 -- a byte of a part of a list
 byte-of : (p x q : List ℕ) (at k : ℕ) → length p ≡ at → k < length x → getD (p ++ (x ++ q)) (at + k) 0 ≡ getD x k 0

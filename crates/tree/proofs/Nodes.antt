@@ -2,7 +2,7 @@
 use mathlib.Core.Path.{_≡_, refl, ap, ap₂, sym, _∙_}
 use mathlib.Core.Bool.{Bool, true, false}
 use mathlib.Core.List.{List, [], _∷_, _++_}
-use Prim.Native.Nat.{ℕ, zero, suc, _+_, _*_, _/_, _%_, _≤_, _<_}
+use Prim.Native.Nat.{ℕ, zero, suc, _+_, _/_, _≤_, _<_}
 use native.Mathlib.Omega.{arith}
 use mir.Syntax.{w8}
 use mir.Val.{Val}
@@ -13,26 +13,27 @@ use denote.Shadow.{shadow}
 use denote.RattleType.{RattleType}
 use denote.Struct.Declared.{row}
 use borrow.Author.Tests.{ltb-true, ltb-false}
-use lib.Bits.{bitXor, xor-shr, xor-mod}
-use lib.Dec.{T, ltb, ltb→lt, lit<}
+use lib.Dec.{ltb, lit<}
 use lib.ListN.{length, getD, List·getD-eq-default}
 use lib.Seq.{sets}
-use Rattle.field.specs.Bytes.{leNumber, leBytes, eightAt, wordAt, columnsOf, lowOf, highOf, fourAt}
+use Rattle.field.specs.Bytes.{leNumber, leBytes, wordAt, columnsOf, lowOf, highOf, fourAt}
 use Rattle.field.specs.Binary.{block, blockOf, blockAdd, blockLeaf}
 use Rattle.field.specs.Prime.{primeReduce, primeLeaf}
 use Rattle.field.specs.Inner.Written.{withWord}
 use Rattle.field.specs.declared.block.Block.{Block}
 use Rattle.field.proofs.block.Block.{the-type}
 use Rattle.field.proofs.ByteWords.{length-leBytes, leNumber-leBytes-word}
-use Rattle.aes128.specs.State.{column, byteAt, xorWord, xorState}
+use Rattle.aes128.specs.State.{xorState}
 use Rattle.aes128.specs.Inner.Sizes.{IsWord, IsState}
 use Rattle.aes128.specs.Inner.Blocks.{cipherOf}
-use Rattle.aes128.proofs.Sizes.{columns-of-cipher}
+use Rattle.aes128.proofs.Columns.{columns-xor, columns-of-block}
+use Rattle.aes128.proofs.Sizes.{four-bytes, four-words, columns-of-cipher}
+use Rattle.algebra.proofs.Written.{sets-append}
 use Rattle.tree.specs.Child.{childBy}
 use Rattle.tree.specs.Inner.Keys.{keysFor}
 use Rattle.tree.specs.Columns.{columnsAt, columnsBytes}
 use Rattle.tree.specs.Inner.Nodes.{nodeOf}
-use Rattle.tree.proofs.Blocks.{four-eq, square-is, sets-append}
+use Rattle.tree.proofs.Blocks.{four-eq}
 
 -- ---- arrays of bytes
 
@@ -73,58 +74,30 @@ given-block s vs g = record { low = g .1 .1 .0 .1; high = g .1 .1 .1 .0 .1 }
 
 -- ---- columns and words
 
--- the bytes of the number of bytes
-bytes-cons : (n b x : ℕ) → b < 256 → leBytes (suc n) (b + 256 * x) ≡ b ∷ leBytes n x
-unfolding leBytes
-bytes-cons n b x h =
-    let r : (b + 256 * x) % 256 ≡ b = omega arith in
-    let q : (b + 256 * x) / 256 ≡ x = omega arith in
-    rw (r, q)
-
-four-bytes-of : {a b c d : ℕ} (x : ℕ) → a < 256 → b < 256 → c < 256 → d < 256 → leBytes 4 (a + 256 * (b + 256 * (c + 256 * (d + 256 * x)))) ≡ a ∷ b ∷ c ∷ d ∷ []
-unfolding leBytes
-four-bytes-of {a} {b} {c} {d} x ha hb hc hd =
-    bytes-cons 3 a _ ha ∙ ap (λ l. a ∷ l) (bytes-cons 2 b _ hb ∙ ap (λ l. b ∷ l) (bytes-cons 1 c _ hc ∙ ap (λ l. c ∷ l) (bytes-cons 0 d x hd)))
-
-rest-of : {a b c d x : ℕ} → a < 256 → b < 256 → c < 256 → d < 256 → (a + 256 * (b + 256 * (c + 256 * (d + 256 * x)))) / 4294967296 ≡ x
-rest-of ha hb hc hd = omega arith
-
--- the columns of the words of a state are the state
-pub columns-of-state : (s : List (List ℕ)) → IsState s → columnsOf (lowOf s) (highOf s) ≡ s
-unfolding columnsOf lowOf highOf leNumber
-columns-of-state s h =
-    four-eq (four-bytes-of _ (b 0 0 tt) (b 0 1 tt) (b 0 2 tt) (b 0 3 tt))
-    (ap (leBytes 4) (rest-of (b 0 0 tt) (b 0 1 tt) (b 0 2 tt) (b 0 3 tt)) ∙ four-bytes-of 0 (b 1 0 tt) (b 1 1 tt) (b 1 2 tt) (b 1 3 tt))
-    (four-bytes-of _ (b 2 0 tt) (b 2 1 tt) (b 2 2 tt) (b 2 3 tt))
-    (ap (leBytes 4) (rest-of (b 2 0 tt) (b 2 1 tt) (b 2 2 tt) (b 2 3 tt)) ∙ four-bytes-of 0 (b 3 0 tt) (b 3 1 tt) (b 3 2 tt) (b 3 3 tt))
-    ∙ square-is s (record { size = h .size; columns = λ c l. h .words c l .size })
-  where
-    b : (c r : ℕ) → T (ltb c 4) → byteAt s r c < 256
-    b c r l = h .words c (ltb→lt c 4 l) .bytes r
-
 -- the node of a state's block
 pub node-of-columns : (s : List (List ℕ)) {b : Block} → IsState s → b ≡ blockOf s → nodeOf b ≡ s
-node-of-columns s h e = ap nodeOf e ∙ columns-of-state s h
+node-of-columns s h e = ap nodeOf e ∙ columns-of-block s h
+
+-- bytes from a place on are a state
+pub columns-state : (bytes : List ℕ) (at : ℕ) → ((i : ℕ) → getD bytes i 0 < 256) → IsState (columnsAt bytes at)
+unfolding columnsAt
+columns-state bytes at b = four-words (word at) (word (at + 4)) (word (at + 8)) (word (at + 12))
+  where
+    word : (k : ℕ) → IsWord (fourAt bytes k [])
+    word k = four-bytes (b k) (b (k + 1)) (b (k + 2)) (b (k + 3))
 
 -- the node whose bytes stand at a place
 pub node-at : (bytes : List ℕ) (at : ℕ) {s : Block} → ((i : ℕ) → getD bytes i 0 < 256) → s .low ≡ wordAt bytes at → s .high ≡ wordAt bytes (at + 8)
     → nodeOf s ≡ columnsAt bytes at
-unfolding columnsOf columnsAt wordAt leNumber
+unfolding columnsOf columnsAt lowOf highOf wordAt
 node-at bytes at {s} b el eh =
-    ap₂ columnsOf el eh
-    ∙ four-eq (first at) (second at) (first (at + 8)) (second (at + 8) ∙ ap (λ i. fourAt bytes i []) (omega arith))
+    ap₂ columnsOf (el ∙ eight at (omega arith)) (eh ∙ eight (at + 8) (omega arith)) ∙ columns-of-block (columnsAt bytes at) (columns-state bytes at b)
   where
-    first : (k : ℕ) → leBytes 4 (leNumber (eightAt bytes k)) ≡ fourAt bytes k []
-    first k = four-bytes-of _ (b k) (b (k + 1)) (b (k + 2)) (b (k + 3))
-
-    past : (k n : ℕ) → getD bytes (k + (4 + n)) 0 ≡ getD bytes (k + 4 + n) 0
-    past k n = ap (λ i. getD bytes i 0) (omega arith)
-
-    second : (k : ℕ) → leBytes 4 (leNumber (eightAt bytes k) / 4294967296) ≡ fourAt bytes (k + 4) []
-    second k =
-        ap (leBytes 4) (rest-of (b k) (b (k + 1)) (b (k + 2)) (b (k + 3)))
-        ∙ four-bytes-of 0 (b (k + 4)) (b (k + 5)) (b (k + 6)) (b (k + 7))
-        ∙ four-eq refl (past k 1) (past k 2) (past k 3)
+    eight : (k : ℕ) {j : ℕ} → k + 4 ≡ j → wordAt bytes k ≡ leNumber (fourAt bytes k (fourAt bytes j []))
+    eight k e = rw (← e) (ap (λ l. leNumber (fourAt bytes k l)) (four-eq refl (past k 1) (past k 2) (past k 3)))
+      where
+        past : (k n : ℕ) → getD bytes (k + (4 + n)) 0 ≡ getD bytes (k + 4 + n) 0
+        past k n = ap (λ i. getD bytes i 0) (omega arith)
 
 -- the eight bytes of a word as two columns
 eight-bytes : (x : ℕ) → leBytes 8 x ≡ fourAt (leBytes 4 x) 0 (fourAt (leBytes 4 (x / 4294967296)) 0 [])
@@ -158,31 +131,8 @@ sets-node l at s e₁ e₂ =
     e₂
     ∙ ap (λ k. sets k (at + 8) (leBytes 8 (s .high))) e₁
     ∙ ap (λ n. sets (sets l at (leBytes 8 (s .low))) (at + n) (leBytes 8 (s .high))) (sym (length-leBytes 8 (s .low)))
-    ∙ sets-append l at (leBytes 8 (s .low)) (leBytes 8 (s .high))
+    ∙ sym (sets-append l at (leBytes 8 (s .low)) (leBytes 8 (s .high)))
     ∙ ap₂ (λ a b. sets l at (a ++ b)) (eight-bytes (s .low)) (eight-bytes (s .high))
-
--- ---- sums
-
-word-xor : (x y : ℕ) {z : ℕ} → z ≡ bitXor x y → leBytes 4 z ≡ xorWord (leBytes 4 x) (leBytes 4 y)
-unfolding leBytes xorWord
-word-xor x y e =
-    let e₁ = next x y e in
-    let e₂ = next (x / 256) (y / 256) e₁ in
-    let e₃ = next (x / 256 / 256) (y / 256 / 256) e₂ in
-    four-eq (low x y e) (low (x / 256) (y / 256) e₁) (low (x / 256 / 256) (y / 256 / 256) e₂) (low (x / 256 / 256 / 256) (y / 256 / 256 / 256) e₃)
-  where
-    low : (x y : ℕ) {z : ℕ} → z ≡ bitXor x y → z % 256 ≡ bitXor (x % 256) (y % 256)
-    low x y e = ap (λ v. v % 256) e ∙ xor-mod x y 8
-
-    next : (x y : ℕ) {z : ℕ} → z ≡ bitXor x y → z / 256 ≡ bitXor (x / 256) (y / 256)
-    next x y e = ap (λ v. v / 256) e ∙ xor-shr x y 8
-
--- the columns of a sum of blocks are the sum of their columns
-pub columns-xor : (a b : Block) → nodeOf (blockAdd a b) ≡ xorState (nodeOf a) (nodeOf b)
-unfolding columnsOf xorState
-columns-xor a b =
-    four-eq (word-xor (a .low) (b .low) refl) (word-xor _ _ (xor-shr (a .low) (b .low) 32)) (word-xor (a .high) (b .high) refl)
-    (word-xor _ _ (xor-shr (a .high) (b .high) 32))
 
 -- ---- children
 
@@ -192,5 +142,5 @@ pub child-block : (keys : List (List ℕ)) (c : ℕ) (s : Block) {r t : Block} �
 unfolding childBy
 child-block keys c s er et =
     ap nodeOf (et ∙ ap (λ b. blockAdd b s) er)
-    ∙ columns-xor (cipherOf (getD keys c []) s) s
+    ∙ columns-xor (cipherOf (getD keys c []) s .low) (s .low) (cipherOf (getD keys c []) s .high) (s .high)
     ∙ ap (λ l. xorState l (nodeOf s)) (columns-of-cipher (getD keys c []) s)

@@ -19,11 +19,11 @@ use Rattle.aes128.specs.State.{four, column}
 use Rattle.aes128.specs.Inner.Words.{roundKeys}
 use Rattle.aes128.specs.Inner.Sizes.{IsWord, IsState}
 use Rattle.aes128.proofs.Sizes.{state-bytes}
+use Rattle.aes128.proofs.Columns.{columns-of-block}
 use Rattle.aes128.proofs.Words.{is-four, four-eq}
 use Rattle.tree.specs.Tree.{listed}
 use Rattle.tree.specs.Inner.Keys.{keysFor}
 use Rattle.tree.proofs.Listed.{length-listed, listed-at}
-use Rattle.tree.proofs.Nodes.{columns-of-state}
 
 -- eleven round keys of four columns of four bytes
 pub record IsKeys (keys : List (List (List ℕ))) : Type 0 where
@@ -96,7 +96,7 @@ module _ (keys : List (List (List ℕ))) where
 
     entry : (n : ℕ) → n < 11 → getD (roundKeys stored) n [] ≡ key n
     unfolding roundKeys stored
-    entry zero l = columns-of-state (key 0) (h .states 0 l)
+    entry zero l = columns-of-block (key 0) (h .states 0 l)
     entry (suc zero) l = wides-read 1 l
     entry (suc (suc zero)) l = wides-read 2 l
     entry (suc (suc (suc zero))) l = wides-read 3 l
@@ -106,7 +106,7 @@ module _ (keys : List (List (List ℕ))) where
     entry (suc (suc (suc (suc (suc (suc (suc zero))))))) l = wides-read 7 l
     entry (suc (suc (suc (suc (suc (suc (suc (suc zero)))))))) l = wides-read 8 l
     entry (suc (suc (suc (suc (suc (suc (suc (suc (suc zero))))))))) l = wides-read 9 l
-    entry (suc (suc (suc (suc (suc (suc (suc (suc (suc (suc zero)))))))))) l = columns-of-state (key 10) (h .states 10 l)
+    entry (suc (suc (suc (suc (suc (suc (suc (suc (suc (suc zero)))))))))) l = columns-of-block (key 10) (h .states 10 l)
     entry (suc (suc (suc (suc (suc (suc (suc (suc (suc (suc (suc n))))))))))) l = absurd (omega arith)
 
     stored-read : roundKeys stored ≡ keys

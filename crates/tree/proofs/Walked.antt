@@ -7,7 +7,7 @@ use native.Mathlib.Nat.{mod-lt, add-zero, zero-add}
 use native.Mathlib.Omega.{arith}
 use mir.Syntax.{w64}
 use mir.Val.{Fits}
-use lib.ListN.{length, getD, take, drop, length-append}
+use lib.ListN.{length, take, drop, length-append}
 use lib.Pow.{pow-pos}
 use lib.Seq.{sets, take-at, drop-at}
 use Rattle.tree.specs.Tree.{leafAt, listed, others, siblings}
@@ -19,7 +19,8 @@ use Rattle.tree.specs.declared.punctured.Punctured.{Punctured}
 use Rattle.tree.proofs.Paths.{digit, digit-below}
 use Rattle.tree.proofs.Laws.{leaf-none, leaf-suc, siblings-none, siblings-suc, length-others}
 use Rattle.tree.proofs.Listed.{length-listed, listed-front, listed-cong, listed-none, listed-last}
-use Rattle.tree.proofs.Blocks.{sets-append, length-blocks}
+use Rattle.algebra.proofs.Written.{sets-append}
+use Rattle.tree.proofs.Blocks.{length-blocks}
 use Rattle.tree.proofs.PowerLaws.{power-of-power, down, level-less, halved, eight}
 
 -- ---- blocks written one after another
@@ -34,7 +35,7 @@ sets-blocks : (l : List ℕ) (at place : ℕ) (xs ys : List (List (List ℕ))) �
     → sets (sets l at (blocksBytes xs)) place (blocksBytes ys) ≡ sets l at (blocksBytes (xs ++ ys))
 sets-blocks l at place xs ys e =
     ap (λ n. sets (sets l at (blocksBytes xs)) n (blocksBytes ys)) (e ∙ ap (λ n. at + n) (sym (length-blocks xs)))
-    ∙ sets-append l at (blocksBytes xs) (blocksBytes ys)
+    ∙ sym (sets-append l at (blocksBytes xs) (blocksBytes ys))
     ∙ ap (sets l at) (sym (blocks-append xs ys))
 
 -- one block

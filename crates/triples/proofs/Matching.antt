@@ -69,7 +69,7 @@ bits-match a a′ r q r′ q′ ha ha′ hr hq hr′ hq′ =
     a′ ha′) r hr) q hq) r′ hr′) q′ hq′)
 
 -- triples are equal by their bits
-triple-eq : {a b c x y z : ℕ} → a ≡ x → b ≡ y → c ≡ z
+pub triple-eq : {a b c x y z : ℕ} → a ≡ x → b ≡ y → c ≡ z
     → _≡_ {A = Triple} (record { first = a; second = b; third = c }) (record { first = x; second = y; third = z })
 triple-eq p q r = cc
 

@@ -9,11 +9,11 @@ use Rattle.row_sums.proofs.noise_binary.noise_row_binary.Statement.{sta
 use Rattle.row_sums.proofs.noise_binary.noise_row_binary.Tie as tie
 
 abbrev Inv-loop : tie.InvT-loop
-Inv-loop tables keys shape x noise v shared sums₀ i₀ sums i =
+Inv-loop tables keys shape x noise v row shared sums₀ i₀ sums i =
     (i ≤ shape .terms + 1) × BinarySums (roundKeys keys) shape x noise v (termsTo shape i) sums
 
 abbrev μ-loop : tie.MeasureT-loop
-μ-loop tables keys shape x noise v shared sums₀ i₀ sums i = shape .terms + 1 - i
+μ-loop tables keys shape x noise v row shared sums₀ i₀ sums i = shape .terms + 1 - i
 
 pub noise-row-binary-spec : {M : Type 1} → statement M
 noise-row-binary-spec =

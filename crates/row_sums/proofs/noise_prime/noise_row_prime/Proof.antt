@@ -9,11 +9,11 @@ use Rattle.row_sums.proofs.noise_prime.noise_row_prime.Statement.{state
 use Rattle.row_sums.proofs.noise_prime.noise_row_prime.Tie as tie
 
 abbrev Inv-loop : tie.InvT-loop
-Inv-loop tables keys shape x noise v shared sums₀ i₀ sums i =
+Inv-loop tables keys shape x noise v row shared sums₀ i₀ sums i =
     (i ≤ shape .terms + 1) × PrimesTotal (roundKeys keys) shape x noise v (termsTo shape i) sums
 
 abbrev μ-loop : tie.MeasureT-loop
-μ-loop tables keys shape x noise v shared sums₀ i₀ sums i = shape .terms + 1 - i
+μ-loop tables keys shape x noise v row shared sums₀ i₀ sums i = shape .terms + 1 - i
 
 pub noise-row-prime-spec : {M : Type 1} → statement M
 noise-row-prime-spec =

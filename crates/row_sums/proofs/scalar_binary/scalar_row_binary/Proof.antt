@@ -10,11 +10,11 @@ use Rattle.row_sums.proofs.scalar_binary.scalar_row_binary.Statement.{s
 use Rattle.row_sums.proofs.scalar_binary.scalar_row_binary.Tie as tie
 
 abbrev Inv-loop : tie.InvT-loop
-Inv-loop tables keys shape x w shared total₀ i₀ total i =
+Inv-loop tables keys shape x w row shared total₀ i₀ total i =
     (i ≤ shape .terms + 1) × (total ≡ blocksSum (roundKeys keys) shape x w (termsTo shape i))
 
 abbrev μ-loop : tie.MeasureT-loop
-μ-loop tables keys shape x w shared total₀ i₀ total i = shape .terms + 1 - i
+μ-loop tables keys shape x w row shared total₀ i₀ total i = shape .terms + 1 - i
 
 pub scalar-row-binary-spec : {M : Type 1} → statement M
 scalar-row-binary-spec =

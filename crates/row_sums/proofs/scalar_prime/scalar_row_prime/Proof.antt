@@ -9,11 +9,11 @@ use Rattle.row_sums.proofs.scalar_prime.scalar_row_prime.Statement.{sta
 use Rattle.row_sums.proofs.scalar_prime.scalar_row_prime.Tie as tie
 
 abbrev Inv-loop : tie.InvT-loop
-Inv-loop tables keys shape x w shared sum₀ i₀ sum i =
+Inv-loop tables keys shape x w row shared sum₀ i₀ sum i =
     (i ≤ shape .terms + 1) × PrimeTotal (roundKeys keys) shape x w (termsTo shape i) sum
 
 abbrev μ-loop : tie.MeasureT-loop
-μ-loop tables keys shape x w shared sum₀ i₀ sum i = shape .terms + 1 - i
+μ-loop tables keys shape x w row shared sum₀ i₀ sum i = shape .terms + 1 - i
 
 pub scalar-row-prime-spec : {M : Type 1} → statement M
 scalar-row-prime-spec =
