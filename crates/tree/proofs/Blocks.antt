@@ -7,7 +7,6 @@ use native.Mathlib.Omega.{arith}
 use lib.ListN.{length, getD, drop, set, length-append, List·getD-append}
 use lib.Seq.{sets, getD-append-add}
 use Rattle.aes128.specs.State.{four, column, byteAt, xorWord, xorState}
-use Rattle.field.specs.Bytes.{fourAt}
 use Rattle.tree.specs.Columns.{columnsAt, columnsBytes, blocksBytes, siblingsAt}
 
 pub four-eq : {A : Type 0} {a b c d x y z w : A} → a ≡ x → b ≡ y → c ≡ z → d ≡ w → a ∷ b ∷ c ∷ d ∷ [] ≡ x ∷ y ∷ z ∷ w ∷ []

@@ -24,7 +24,7 @@ use Rattle.field.specs.Inner.Written.{withWord}
 use Rattle.field.specs.declared.block.Block.{Block}
 use Rattle.field.proofs.block.Block.{the-type}
 use Rattle.field.proofs.ByteWords.{length-leBytes, leNumber-leBytes-word}
-use Rattle.aes128.specs.State.{column, byteAt, xorWord, xorState}
+use Rattle.aes128.specs.State.{byteAt, xorWord, xorState}
 use Rattle.aes128.specs.Inner.Sizes.{IsWord, IsState}
 use Rattle.aes128.specs.Inner.Blocks.{cipherOf}
 use Rattle.aes128.proofs.Sizes.{columns-of-cipher}
