@@ -15,7 +15,7 @@ use answer::any_above;
 use answer::is_short;
 use answer::is_times;
 use circuit::Front;
-use circuit_run::is_role;
+use step_call::is_role;
 
 // One for a byte that waits, else none.
 pub fn wait_of(byte: u8) -> usize
