@@ -7,4 +7,3 @@ mod Held
 mod Expansion
 pub mod Rounds
 pub mod Sizes
-mod Examples

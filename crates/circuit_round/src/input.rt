@@ -15,7 +15,7 @@ use answer::any_above;
 use answer::is_short;
 use answer::is_times;
 use circuit::Front;
-use circuit_run::is_role;
+use step_call::is_role;
 
 // What a round has of its circuit, once read, and the role that it is run in.
 pub struct Frame {

@@ -12,8 +12,8 @@ use crate::input::wait_of;
 use crate::writing::put_bits;
 use circuit::and_of;
 use circuit::known_gate;
-use circuit_run::and_share;
-use circuit_run::flip;
+use step_call::and_share;
+use step_call::flip;
 
 // The byte of an input: a known one stays, another takes its share.
 fn input_byte(byte: u8, share: u8) -> u8

@@ -27,9 +27,9 @@ use Rattle.number.specs.Reading.{Whole}
 use Rattle.number.specs.Inner.Known.{isWhole}
 use Rattle.circuit_run.specs.Inner.Places.{localShare, Left, Stands, Spots, Stops}
 use Rattle.circuit_run.specs.Step.{gateAt, andsBefore, firstWire, secondWire, flipped, runOn, stateAdmitted}
-use Rattle.circuit_run.specs.declared.running.Reached.{Reached}
-use Rattle.circuit_run.specs.declared.waiting.Place.{Place}
-use Rattle.circuit_run.specs.declared.waiting.Spot.{Spot}
+use Rattle.circuit_run.specs.declared.places.Reached.{Reached}
+use Rattle.circuit_run.specs.declared.places.Place.{Place}
+use Rattle.circuit_run.specs.declared.places.Spot.{Spot}
 
 -- ---- kinds
 

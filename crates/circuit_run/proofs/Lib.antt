@@ -2,7 +2,5 @@
 pub mod Bits
 pub mod Numbers
 pub mod Gates
-mod Leaves
-mod Proceeds
 pub mod Steps
 pub mod Wires

@@ -33,10 +33,10 @@ use Rattle.circuit_run.specs.Step.{StepLent, lentWith, StepOutcome, step
 use Rattle.circuit_run.specs.Step.{maskedFirst, maskedSecond, waitingShare, withAnd, stepRun, withOutputs, acceptedStep, refusedStep, step}
 use Rattle.circuit_run.specs.declared.Run.{Run}
 use Rattle.circuit_run.specs.declared.Stepped.{Stepped}
-use Rattle.circuit_run.specs.declared.checking.Checked.{Checked}
-use Rattle.circuit_run.specs.declared.input.Asked.{Asked}
-use Rattle.circuit_run.specs.declared.running.Reached.{Reached}
-use Rattle.circuit_run.specs.declared.waiting.Spot.{Spot}
+use Rattle.circuit_run.specs.declared.places.Checked.{Checked}
+use Rattle.circuit_run.specs.declared.places.Asked.{Asked}
+use Rattle.circuit_run.specs.declared.places.Reached.{Reached}
+use Rattle.circuit_run.specs.declared.places.Spot.{Spot}
 
 -- what a circuit that was read opens
 pub opened-front : {s : List ℕ} {r : Opened} {f : Front} → OpenedAs s r → r ≡ Accepted f → HasFront s f

@@ -21,8 +21,8 @@ use Rattle.number.specs.Reading.{Whole}
 use Rattle.number.specs.Inner.Known.{isWhole}
 use Rattle.circuit_run.specs.Inner.Places.{givenAnd}
 use Rattle.circuit_run.specs.Step.{andShare, freshWires}
-use Rattle.circuit_run.specs.declared.input.Asked.{Asked}
-use Rattle.circuit_run.specs.declared.waiting.Spot.{Spot}
+use Rattle.circuit_run.specs.declared.places.Asked.{Asked}
+use Rattle.circuit_run.specs.declared.places.Spot.{Spot}
 
 -- ---- fresh wires
 

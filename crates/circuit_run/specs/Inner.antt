@@ -1,3 +1,3 @@
--- Inner: no promise cites these files. What the functions of `circuit_run` say to each other.
+-- Inner: no promise cites these files. What the functions of a step say to each other.
 pub mod Places
 pub mod Tests

@@ -1,23 +1,12 @@
-// Evaluating a circuit in steps: each end's step up to the next AND.
-ghost use mathlib.Core.Path.{_≡_};
-ghost use Rattle.circuit_run.specs.Inner.Places.{steppedWith};
-ghost use Rattle.circuit_run.specs.Step.{lentWith, stepped, step};
+// Evaluating a circuit in steps, in definitions and laws: each end's step up to the next AND. The step's code stands in crate
+// `step_call`.
+mod places;
 
-mod accepted;
-mod checking;
-mod input;
-mod running;
-mod waiting;
-
-use accepted::accepted_step;
-use checking::check;
-use circuit::Opened;
-use circuit::read_circuit;
-use circuit::refusal_of;
-use input::Asked;
-pub use input::is_role;
-pub use running::and_share;
-pub use running::flip;
+pub use places::Asked;
+pub use places::Checked;
+pub use places::Place;
+pub use places::Reached;
+pub use places::Spot;
 
 // An end's run: 0 fresh, 1 waits for the far bits of the AND at `gate`, 2 finished; this end's shares of the wires passed.
 #[repr(C)]
@@ -35,60 +24,4 @@ pub struct Stepped {
     pub first_bit: u8,
     pub second_bit: u8,
     pub state: Run,
-}
-
-// A refused step: zeros, and the state as it was.
-fn refused(number: u32, state: Run) -> Stepped
-    ensures { λ r. ⌜ r ≡ steppedWith number 0 0 0 state ⌝ }
-{
-    Stepped {
-        number: number,
-        written: 0,
-        first_bit: 0,
-        second_bit: 0,
-        state: state,
-    }
-}
-
-// One step of an end's run: up to the next AND, whose two bits to send it gives, or to the end, where it writes the outputs.
-pub fn step_run(
-    role: u8,
-    circuit: &[u8],
-    shares: &[u8],
-    triples: &[u8],
-    output: &mut [u8],
-    far_first: u8,
-    far_second: u8,
-    state: Run,
-) -> Stepped
-    ensures { λ r. ⌜ stepped r (lentWith role (now (circuit .exit)) (now (shares .exit)) (now (triples .exit)) (now (output .exit)) «far_first» «far_second»)
-        ≡ step (lentWith role (now (circuit .entry)) (now (shares .entry)) (now (triples .entry)) (now (output .entry)) «far_first» «far_second») state ⌝ }
-{
-    let opened = read_circuit(circuit);
-    let Opened::Accepted(front) = opened else {
-        return refused(refusal_of(opened), state);
-    };
-    let phase = state.phase;
-    let asked = Asked {
-        role: role,
-        waits: phase == 1,
-        far_first: far_first,
-        far_second: far_second,
-    };
-    let gate = state.gate as usize;
-    let checked = check(
-        circuit,
-        front,
-        asked,
-        phase,
-        gate,
-        shares,
-        triples,
-        output.len(),
-    );
-    if checked.number != 0 {
-        return refused(checked.number, state);
-    }
-    let spot = checked.spot;
-    accepted_step(circuit, front, asked, spot, shares, triples, output, state)
 }

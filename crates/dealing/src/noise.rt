@@ -24,9 +24,9 @@ use record::write_head;
 use sbox::fill_tables;
 use sbox::table;
 use tree::Punctured;
-use tree::child_keys;
-use tree::columns_at;
-use tree::walk;
+use tree_walk::child_keys;
+use tree_walk::columns_at;
+use tree_walk::walk;
 
 // The correction in field 1: the leaf's element minus Δ × value.
 fn correction_binary(leaf: [[u8; 4]; 4], value: u64, delta: &[u8]) -> Block

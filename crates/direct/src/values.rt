@@ -20,7 +20,7 @@ use crate::walk::Levels;
 use crate::walk::walk_to;
 use crate::walk::walk_two;
 use record::Front;
-use tree::columns_at;
+use tree_walk::columns_at;
 
 // A vector of a record: 1 is μ, 2 is v0 and 3 is w0.
 pub struct Vector {

@@ -8,8 +8,8 @@ ghost use Rattle.tree.specs.Inner.Keys.{keysFor};
 ghost use Rattle.tree.specs.Tree.{leafAt};
 ghost use Rattle.direct.specs.Inner.Trees.{IsWay};
 use field::Block;
-use tree::child;
-use tree::child_of_both;
+use tree_walk::child;
+use tree_walk::child_of_both;
 
 // How many bits name a child, and how many levels are left below each of two nodes.
 pub struct Levels {

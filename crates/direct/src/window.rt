@@ -30,7 +30,7 @@ use code::Window;
 use record::Front;
 use rows::code_keys;
 use rows::element_width;
-use tree::child_keys;
+use tree_walk::child_keys;
 
 // The words of a window's elements.
 fn words_for(front: Front, window: Window) -> usize

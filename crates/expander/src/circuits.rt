@@ -24,7 +24,7 @@ pub extern "C" fn expander_circuit_step(
     ensures { λ r. ⌜ stepped r (lentWith role (now (circuit .exit)) (now (shares .exit)) (now (triples .exit)) (now (output .exit)) «far_first» «far_second»)
         ≡ step (lentWith role (now (circuit .entry)) (now (shares .entry)) (now (triples .entry)) (now (output .entry)) «far_first» «far_second») state ⌝ }
 {
-    circuit_run::step_run(
+    step_call::step_run(
         role,
         circuit,
         shares,

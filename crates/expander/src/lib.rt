@@ -136,7 +136,7 @@ pub extern "C" fn expander_noise_pads(
     ensures { λ r. ⌜ outcomeNone r (lentNoise (now (v .exit)) (now (choices .exit)) (now (pads .exit)))
         ≡ noisePads first count (now (v .entry)) (now (choices .entry)) (now (pads .entry)) ⌝ }
 {
-    pads::noise_pads(first, count, v, choices, pads)
+    pad_calls::noise_pads(first, count, v, choices, pads)
 }
 
 // The scalar end's pads of a window, both messages of each output.
@@ -151,5 +151,5 @@ pub extern "C" fn expander_scalar_pads(
     ensures { λ r. ⌜ outcomeNone r (lentScalar (now (w .exit)) (now (delta .exit)) (now (pads .exit)))
         ≡ scalarPads first count (now (w .entry)) (now (delta .entry)) (now (pads .entry)) ⌝ }
 {
-    pads::scalar_pads(first, count, w, delta, pads)
+    pad_calls::scalar_pads(first, count, w, delta, pads)
 }

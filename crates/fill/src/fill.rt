@@ -20,9 +20,9 @@ use aes128::TwoBlocks;
 use field::Block;
 use field::Prime;
 use tree::Punctured;
-use tree::block_at;
-use tree::children;
-use tree::power;
+use tree_walk::block_at;
+use tree_walk::children;
+use tree_walk::power;
 
 // Adds an element of field 1 to the one that two words hold.
 fn add_block(element: Block, acc: &mut [u64])

@@ -3,7 +3,7 @@ ghost use mathlib.Core.Logic.{_≢_};
 ghost use mathlib.Core.Path.{_≡_};
 ghost use Prim.Native.Nat.{_+_, _*_, _-_, _^_, _≤_, _<_};
 ghost use Rattle.fill.specs.Inner.Ranges.{IsRange, IsPath, childCount, sizeOf, halfFrom, front, pathIn, AreHalves};
-use tree::power;
+use tree_walk::power;
 
 // The 2^bits children from child `first` on of a node that has so many levels below it and 2^branch_bits children. Where no
 // level is left it stands for the node itself.

@@ -19,8 +19,8 @@ use Rattle.algebra.specs.Sum.{accumulate}
 use Rattle.algebra.proofs.Coding.{length-flat, at-flat, at-over, take-over}
 use Rattle.algebra.proofs.Tests.{and-both}
 use Rattle.field.proofs.BothKinds.{kindLaws}
-use Rattle.number.specs.Reading.{Whole}
-use Rattle.number.proofs.Records.{read-whole, read-either}
+use Rattle.number.specs.Reading.{Whole, Refused}
+use Rattle.number.proofs.Records.{read-refused, read-whole, read-either}
 use Rattle.record.specs.Content.{Head, NoisePart}
 use Rattle.record.specs.Reading.{readNoise}
 use Rattle.record.proofs.Callers.{head-ranges}
@@ -48,6 +48,11 @@ pub record Accepted (P : NoisePart) (source : List ℕ) (o : Outcome TwoWritten 
 -- a noise value takes one word
 pub one-word : (h : Head) (n : ℕ) → n * fieldOf h .noiseValues .width ≡ n
 one-word h n = ap (λ w. n * w) (kindLaws (h .field) .noise-width) ∙ mul-one n
+
+-- a record that is refused gives its number, zero lengths, and all that is lent as it was
+pub offline-refused : (source noise v : List ℕ) (k : ℕ) → readNoise source ≡ Refused k → offline source noise v ≡ refusedTwo (offlineWith source noise v) k
+unfolding offline
+offline-refused source noise v k e = sym (read-refused (readNoise source) (refusedTwo (offlineWith source noise v)) _ _ k e refl)
 
 module _ (source : List ℕ) {P : NoisePart} (noise v : List ℕ) (e : readNoise source ≡ Whole P) where
   abbrev done : Outcome TwoWritten OfflineLent

@@ -23,7 +23,7 @@ use rows::accumulate_elements;
 use rows::accumulate_noise;
 use rows::zero_words;
 use tree::Punctured;
-use tree::child_keys;
+use tree_walk::child_keys;
 
 // The tree at a place of an accepted record, whose trees have `beside` siblings, after positions below `base`: its position is
 // a leaf's, and its siblings lie in the record.

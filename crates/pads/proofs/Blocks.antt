@@ -38,6 +38,10 @@ pub two-words : (l : List ℕ) (at : ℕ) (b : Block) → withWord (withWord l a
 unfolding withWord withValue leBytes
 two-words l at b = sym (sets-append l at (leBytes 8 (b .low)) (leBytes 8 (b .high)))
 
+-- both words of a block written
+pub put-words : (l l′ l″ : List ℕ) (at : ℕ) (b : Block) → l′ ≡ withWord l at (b .low) → l″ ≡ withWord l′ (at + 8) (b .high) → l″ ≡ withValue blockBytes l at b
+put-words l l′ l″ at b e g = g ∙ rw e (two-words l at b)
+
 -- messages are written as two blocks
 pub two-blocks : (l : List ℕ) (at : ℕ) (m : MessagePair)
     → withValue blockBytes (withValue blockBytes l at (m .message0)) (at + 16) (m .message1) ≡ withValue messageBytes l at m

@@ -1,8 +1,7 @@
--- The laws of `pads`: what lies where in a written buffer, which input is accepted, the choice law, and the laws that the
--- functions' proofs use.
+-- The laws of `pads`: what lies where in a written buffer, which input is accepted and what is refused, the rule in two steps, and the
+-- choice law.
 pub mod Blocks
 pub mod Accepts
+pub mod Refused
+pub mod Steps
 pub mod Choice
-pub mod Needs
-pub mod Turns
-pub mod Outcomes

@@ -1,3 +1,2 @@
--- Inner: no promise cites this folder. What inner functions' contracts and the proofs use.
-pub mod Steps
+-- Inner: no promise cites this folder. The pad rule in two steps.
 pub mod Passes

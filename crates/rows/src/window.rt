@@ -26,7 +26,7 @@ use code::used_below;
 use field::Prime;
 use record::Front;
 use record::leaves;
-use tree::columns_at;
+use tree_walk::columns_at;
 
 // The rows that a window asks of a record.
 pub fn window_rows(front: Front, window: Window) -> WindowRows

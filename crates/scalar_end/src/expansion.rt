@@ -19,8 +19,8 @@ use record::leaves;
 use rows::accumulate_elements;
 use rows::element_width;
 use rows::zero_words;
-use tree::child_keys;
-use tree::columns_at;
+use tree_walk::child_keys;
+use tree_walk::columns_at;
 
 // Root i of an accepted record.
 fn root_at(source: &[u8], front: Front, i: usize) -> [[u8; 4]; 4]

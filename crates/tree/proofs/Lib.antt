@@ -10,4 +10,3 @@ pub mod Stored
 pub mod Listed
 pub mod PowerLaws
 pub mod Levels
-mod Walked

@@ -1,17 +1,4 @@
-// Trees of blocks with two, four or eight children a node: a node's children, and the walk to a leaf with the siblings beside
-// it. Tables and round keys are lent by the caller.
-mod columns;
-mod leaf;
-mod node;
-mod powers;
+// Trees of blocks with two, four or eight children a node: definitions and laws. Their code stands in crates `tree_walk` and `fill`.
 mod punctured;
 
-pub use columns::block_at;
-pub use columns::columns_at;
-pub use leaf::walk;
-pub use node::child;
-pub use node::child_keys;
-pub use node::child_of_both;
-pub use node::children;
-pub use powers::power;
 pub use punctured::Punctured;

@@ -16,11 +16,11 @@ use Rattle.number.specs.Reading.{Whole}
 use Rattle.circuit_run.specs.Step.{gateAt, andsBefore, firstWire, secondWire, tripleFirst, tripleSecond, tripleThird, stateAdmitted, flipped}
 use Rattle.circuit_run.specs.Step.{andShare, freshWires, runOn, runWith, StepLent, StepOutcome, stepRun, acceptedStep}
 use Rattle.circuit_run.specs.Inner.Tests.{askedTests}
-use Rattle.circuit_run.specs.declared.checking.Checked.{Checked}
-use Rattle.circuit_run.specs.declared.input.Asked.{Asked}
-use Rattle.circuit_run.specs.declared.waiting.Place.{Place}
-use Rattle.circuit_run.specs.declared.waiting.Spot.{Spot}
-use Rattle.circuit_run.specs.declared.running.Reached.{Reached}
+use Rattle.circuit_run.specs.declared.places.Checked.{Checked}
+use Rattle.circuit_run.specs.declared.places.Asked.{Asked}
+use Rattle.circuit_run.specs.declared.places.Place.{Place}
+use Rattle.circuit_run.specs.declared.places.Spot.{Spot}
+use Rattle.circuit_run.specs.declared.places.Reached.{Reached}
 use Rattle.circuit_run.specs.declared.Run.{Run}
 use Rattle.circuit_run.specs.declared.Stepped.{Stepped}
 

@@ -7,7 +7,7 @@ use Rattle.answer.specs.Numbers.{badLength, notElement, wrongEnd, bufferShort, 
 use Rattle.answer.specs.Tests.{Test, _is_, _atMost_, allAtMost, holds, _or_}
 use Rattle.circuit.specs.declared.Front.{Front}
 use Rattle.circuit_run.specs.Step.{farAdmitted, isRole}
-use Rattle.circuit_run.specs.declared.input.Asked.{Asked}
+use Rattle.circuit_run.specs.declared.places.Asked.{Asked}
 
 -- by the numbers of the circuit's front, whether the state is admitted being known
 abbrev pub askedTests : Front → Bool → Asked → List ℕ → List ℕ → ℕ → List Test

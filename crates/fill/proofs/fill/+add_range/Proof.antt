@@ -10,8 +10,8 @@ use Rattle.fill.proofs.fill.+add_range.Lts-add_range as lts
 use Rattle.fill.proofs.fill.add_bottom.Reads as add-bottom-reads
 use Rattle.fill.proofs.fill.add_both.Reads as add-both-reads
 use Rattle.fill.proofs.fill.add_leaf.Reads as add-leaf-reads
-use Rattle.tree.proofs.children.Reads as children-reads
-use Rattle.tree.proofs.power.Reads as power-reads
+use Rattle.tree_walk.proofs.children.Reads as children-reads
+use Rattle.tree_walk.proofs.power.Reads as power-reads
 use Rattle.fill.specs.Inner.Ranges.{leftOf}
 use Rattle.fill.proofs.Halves.{front-count}
 use Rattle.fill.proofs.Ranges.{two-some, one-falls, half-falls, one-range, front-range, back-range, pair-keys, bits-few, back-fits}

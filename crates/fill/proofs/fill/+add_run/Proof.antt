@@ -7,9 +7,9 @@ use borrow.Fn.PlainCycle.{Measures, is, falls, and}
 use Rattle.fill.proofs.fill.add_run.Reads as reads
 use Rattle.fill.proofs.fill.add_run.Kinds as kinds
 use Rattle.fill.proofs.fill.+add_run.Lts-add_run as lts
-use Rattle.tree.proofs.block_at.Reads as block-at-reads
+use Rattle.tree_walk.proofs.block_at.Reads as block-at-reads
 use Rattle.fill.proofs.fill.add_range.Reads as add-range-reads
-use Rattle.tree.proofs.power.Reads as power-reads
+use Rattle.tree_walk.proofs.power.Reads as power-reads
 use Rattle.fill.specs.Inner.Ranges.{leftOf}
 use Rattle.fill.proofs.Halves.{front-count}
 use Rattle.fill.proofs.Ranges.{sibling-room, sibling-range, run-few, run-fits, front-run, back-run}

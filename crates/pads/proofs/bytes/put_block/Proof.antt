@@ -1,6 +1,6 @@
 -- `pads::bytes::put_block` meets its contract: a block is written as its two words.
 use borrow.Author.Needs.{needs}
-use Rattle.pads.proofs.Needs.{put-words}
+use Rattle.pads.proofs.Blocks.{put-words}
 use Rattle.pads.proofs.bytes.put_block.Statement.{statement}
 use Rattle.pads.proofs.bytes.put_block.Tie as tie
 

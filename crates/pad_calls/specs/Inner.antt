@@ -1,0 +1,2 @@
+-- Inner: no promise cites this folder. What the inner functions ask of their callers.
+pub mod Steps

@@ -1,0 +1,173 @@
+// The pads of a window, written to the front of a buffer in two passes: the first writes each pad's first step, the second
+// finishes each pad in place.
+ghost use mathlib.Core.Path.{_≡_};
+ghost use Prim.Native.Nat.{_+_, _*_, _≤_};
+ghost use lib.ListN.{length};
+ghost use Rattle.algebra.specs.Coding.{at, over};
+ghost use Rattle.algebra.specs.Inner.Put.{withValue};
+ghost use Rattle.pads.specs.Bytes.{blockBytes, messageBytes};
+ghost use Rattle.pads.specs.Pad.{pad, messagePair, underPadKey};
+ghost use Rattle.pad_calls.specs.Inner.Steps.{PadKeys, WindowFits};
+ghost use Rattle.pads.specs.Inner.Passes.{secondStep, firstMessages, secondMessages};
+use crate::rule::one_pad;
+use crate::rule::second_steps;
+use field::Block;
+use pads::block_at;
+use pads::put_block;
+
+// Writes the first steps of blocks a and b from a place on.
+fn start_two(tables: &[u64; 1536], keys: &[u64; 40], a: Block, b: Block, pads: &mut [u8], at: usize)
+    requires { ⌜ PadKeys (now tables) (now keys) × (at + 32 ≤ length (now pads)) ⌝ }
+    ensures { λ _. ⌜ now (pads .exit)
+        ≡ withValue blockBytes (withValue blockBytes (now (pads .entry)) at (underPadKey a)) (at + 16) (underPadKey b) ⌝ }
+{
+    let s = aes128::encrypt_two(tables, keys, keys, a, b);
+    put_block(pads, at, s.first);
+    put_block(pads, at + 16, s.second);
+}
+
+// Finishes the pads of indices x and y, whose first steps stand from a place on.
+fn finish_two(
+    tables: &[u64; 1536],
+    keys: &[u64; 40],
+    x: usize,
+    y: usize,
+    pads: &mut [u8],
+    at: usize,
+)
+    requires { ⌜ PadKeys (now tables) (now keys) × (at + 32 ≤ length (now pads)) ⌝ }
+    ensures { λ _. ⌜ now (pads .exit) ≡ withValue blockBytes
+        (withValue blockBytes (now (pads .entry)) at (secondStep x (blockBytes .read (now (pads .entry)) at)))
+        (at + 16) (secondStep y (blockBytes .read (now (pads .entry)) (at + 16))) ⌝ }
+{
+    let s = block_at(pads, at);
+    let t = block_at(pads, at + 16);
+    let p = second_steps(tables, keys, x, y, s, t);
+    put_block(pads, at, p.first);
+    put_block(pads, at + 16, p.second);
+}
+
+// Writes the first steps of pairs of blocks of v.
+fn start_pairs(tables: &[u64; 1536], keys: &[u64; 40], pairs: usize, v: &[u8], pads: &mut [u8])
+    requires { ⌜ PadKeys (now tables) (now keys) × (pairs * 32 ≤ length (now v)) × (pairs * 32 ≤ length (now pads)) ⌝ }
+    ensures { λ _. ⌜ now (pads .exit) ≡ over blockBytes (2 * pairs) (λ k. underPadKey (at blockBytes (now (v .entry)) k)) (now (pads .entry)) ⌝ }
+{
+    let mut k: usize = 0;
+    while k < pairs {
+        let at = 32 * k;
+        let a = block_at(v, at);
+        let b = block_at(v, at + 16);
+        start_two(tables, keys, a, b, pads, at);
+        k += 1;
+    }
+}
+
+// Finishes the pads of pairs of blocks, whose first steps stand in the buffer.
+fn finish_pairs(tables: &[u64; 1536], keys: &[u64; 40], first: usize, pairs: usize, pads: &mut [u8])
+    requires { ⌜ PadKeys (now tables) (now keys) × (first + 2 * pairs ≤ 32768) × (pairs * 32 ≤ length (now pads)) ⌝ }
+    ensures { λ _. ⌜ now (pads .exit) ≡ over blockBytes (2 * pairs) (λ k. secondStep (first + k) (at blockBytes (now (pads .entry)) k)) (now (pads .entry)) ⌝ }
+{
+    let mut k: usize = 0;
+    while k < pairs {
+        let x = first + 2 * k;
+        finish_two(tables, keys, x, x + 1, pads, 32 * k);
+        k += 1;
+    }
+}
+
+// Writes the pads of pairs of blocks of v.
+fn write_pairs(
+    tables: &[u64; 1536],
+    keys: &[u64; 40],
+    first: usize,
+    pairs: usize,
+    v: &[u8],
+    pads: &mut [u8],
+)
+    requires { ⌜ PadKeys (now tables) (now keys) × WindowFits first (2 * pairs) (length (now v)) 16 (length (now pads)) ⌝ }
+    ensures { λ _. ⌜ now (pads .exit) ≡ over blockBytes (2 * pairs) (λ k. pad (first + k) (at blockBytes (now (v .entry)) k)) (now (pads .entry)) ⌝ }
+{
+    start_pairs(tables, keys, pairs, v, pads);
+    finish_pairs(tables, keys, first, pairs, pads);
+}
+
+// Writes the pad of each block of v, two at a time; the last of an odd count alone.
+pub fn write_pads(
+    tables: &[u64; 1536],
+    keys: &[u64; 40],
+    first: usize,
+    count: usize,
+    v: &[u8],
+    pads: &mut [u8],
+)
+    requires { ⌜ PadKeys (now tables) (now keys) × WindowFits first count (length (now v)) 16 (length (now pads)) ⌝ }
+    ensures { λ _. ⌜ now (pads .exit) ≡ over blockBytes count (λ k. pad (first + k) (at blockBytes (now (v .entry)) k)) (now (pads .entry)) ⌝ }
+{
+    let pairs = count / 2;
+    write_pairs(tables, keys, first, pairs, v, pads);
+    let k = 2 * pairs;
+    if k < count {
+        let at = 16 * k;
+        let a = block_at(v, at);
+        let p = one_pad(tables, keys, first + k, a);
+        put_block(pads, at, p);
+    }
+}
+
+// Writes the first steps of messages 0 and 1 of each block of w.
+fn start_messages(
+    tables: &[u64; 1536],
+    keys: &[u64; 40],
+    count: usize,
+    w: &[u8],
+    delta: Block,
+    pads: &mut [u8],
+)
+    requires { ⌜ PadKeys (now tables) (now keys) × (count * 16 ≤ length (now w)) × (count * 32 ≤ length (now pads)) ⌝ }
+    ensures { λ _. ⌜ now (pads .exit) ≡ over messageBytes count (λ k. firstMessages (at blockBytes (now (w .entry)) k) delta) (now (pads .entry)) ⌝ }
+{
+    let mut k: usize = 0;
+    while k < count {
+        let b = block_at(w, 16 * k);
+        start_two(tables, keys, b, b.add(delta), pads, 32 * k);
+        k += 1;
+    }
+}
+
+// Finishes messages 0 and 1 of each output, whose first steps stand in the buffer.
+fn finish_messages(
+    tables: &[u64; 1536],
+    keys: &[u64; 40],
+    first: usize,
+    count: usize,
+    pads: &mut [u8],
+)
+    requires { ⌜ PadKeys (now tables) (now keys) × (first + count ≤ 32768) × (count * 32 ≤ length (now pads)) ⌝ }
+    ensures { λ _. ⌜ now (pads .exit)
+        ≡ over messageBytes count (λ k. secondMessages (first + k) (at messageBytes (now (pads .entry)) k)) (now (pads .entry)) ⌝ }
+{
+    let mut k: usize = 0;
+    while k < count {
+        let x = first + k;
+        finish_two(tables, keys, x, x, pads, 32 * k);
+        k += 1;
+    }
+}
+
+// Writes messages 0 and 1 of each block of w.
+pub fn write_messages(
+    tables: &[u64; 1536],
+    keys: &[u64; 40],
+    first: usize,
+    count: usize,
+    w: &[u8],
+    delta: Block,
+    pads: &mut [u8],
+)
+    requires { ⌜ PadKeys (now tables) (now keys) × WindowFits first count (length (now w)) 32 (length (now pads)) ⌝ }
+    ensures { λ _. ⌜ now (pads .exit)
+        ≡ over messageBytes count (λ k. messagePair pad (first + k) (at blockBytes (now (w .entry)) k) delta) (now (pads .entry)) ⌝ }
+{
+    start_messages(tables, keys, count, w, delta, pads);
+    finish_messages(tables, keys, first, count, pads);
+}

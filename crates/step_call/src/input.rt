@@ -1,0 +1,79 @@
+// The tests of a step, once its circuit is read.
+ghost use mathlib.Core.Path.{_≡_};
+ghost use Rattle.answer.specs.Tests.{firstFault};
+ghost use Rattle.circuit_run.specs.Inner.Tests.{askedTests};
+ghost use Rattle.circuit_run.specs.Step.{farAdmitted, isRole};
+use answer::BAD_CIRCUIT;
+use answer::BAD_LENGTH;
+use answer::BUFFER_SHORT;
+use answer::NOT_ELEMENT;
+use answer::TOO_FEW_TRIPLES;
+use answer::WRONG_END;
+use answer::any_above;
+use answer::is_short;
+use circuit::Front;
+use circuit_run::Asked;
+
+// Whether the far bits of a run that waits are bits.
+fn are_far_bits(waits: bool, first: u8, second: u8) -> bool
+    ensures { λ r. ⌜ r ≡ farAdmitted waits first second ⌝ }
+{
+    if !waits {
+        return true;
+    }
+    if 1 < first {
+        return false;
+    }
+    second <= 1
+}
+
+// Whether the role is 1 or 2.
+pub fn is_role(role: u8) -> bool
+    ensures { λ r. ⌜ r ≡ isRole role ⌝ }
+{
+    if role == 1 {
+        return true;
+    }
+    role == 2
+}
+
+// The number of a step, with room for an output of `room` bytes.
+pub fn step_number(
+    front: Front,
+    admitted: bool,
+    asked: Asked,
+    shares: &[u8],
+    triples: &[u8],
+    room: usize,
+) -> u32
+    ensures { λ r. ⌜ r ≡ firstFault (askedTests front admitted asked (now (shares .entry)) (now (triples .entry)) room) ⌝ }
+{
+    if shares.len() != front.inputs {
+        return BAD_LENGTH;
+    }
+    if triples.len() % 3 != 0 {
+        return BAD_LENGTH;
+    }
+    if room < front.outputs {
+        return BUFFER_SHORT;
+    }
+    if any_above(1, shares) {
+        return NOT_ELEMENT;
+    }
+    if any_above(1, triples) {
+        return NOT_ELEMENT;
+    }
+    if !are_far_bits(asked.waits, asked.far_first, asked.far_second) {
+        return NOT_ELEMENT;
+    }
+    if is_short(triples.len(), 3, front.ands) {
+        return TOO_FEW_TRIPLES;
+    }
+    if !admitted {
+        return BAD_CIRCUIT;
+    }
+    if !is_role(asked.role) {
+        return WRONG_END;
+    }
+    0
+}

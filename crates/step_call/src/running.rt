@@ -1,0 +1,163 @@
+// Running to the next AND or to the end.
+ghost use mathlib.Core.List.{_++_};
+ghost use mathlib.Core.Path.{_≡_};
+ghost use Prim.Native.Nat.{_+_, _*_, _<_, _≤_};
+ghost use lib.ListN.{length, drop};
+ghost use Rattle.circuit.specs.Answer.{content, HasFront};
+ghost use Rattle.circuit.specs.Value.{atWires};
+ghost use Rattle.circuit_run.specs.Inner.Places.{localShare, Stands, CanProceed, Stops, givenAnd, proceeded};
+ghost use Rattle.circuit_run.specs.Step.{flipped, andShare, freshWires, runOn};
+use circuit::Front;
+use circuit::known_gate;
+use circuit::known_wire;
+use circuit_run::Asked;
+use circuit_run::Place;
+use circuit_run::Reached;
+use circuit_run::Spot;
+
+// NOT at one end.
+pub fn flip(role: u8, x: u8) -> u8
+    ensures { λ r. ⌜ r ≡ flipped role x ⌝ }
+{
+    if role == 1 { x ^ 1 } else { x }
+}
+
+// The share of a gate that is no AND.
+fn local_share(role: u8, kind: usize, x: u8, y: u8) -> u8
+    ensures { λ r. ⌜ r ≡ localShare role kind x y ⌝ }
+{
+    if kind == 1 {
+        return x ^ y;
+    }
+    flip(role, x)
+}
+
+// Runs from a place to the next AND or to the end.
+fn run_on(source: &[u8], front: Front, role: u8, from: Place, wires: &mut [u8; 4096]) -> Reached
+    requires { ⌜ HasFront (now source) front × Stands (now source) front from ⌝ }
+    ensures { λ r. ⌜ Stops (now (source .entry)) front
+        (runOn role (front .inputs) (drop (from .gate) (content (now (source .entry)) .gates)) (from .gate) (now (wires .entry)))
+        r (now (wires .exit)) ⌝ }
+{
+    let inputs = front.inputs;
+    let gates = front.gates;
+    let ands = from.ands;
+    let mut at = from.at;
+    let mut i = from.gate;
+    while i < gates {
+        let wire = inputs + i;
+        let g = known_gate(source, at, wire);
+        let first = g.first;
+        let second = g.second;
+        if g.kind == 2 {
+            return Reached {
+                waits: true,
+                gate: i,
+                first: first,
+                second: second,
+                ands: ands,
+            };
+        }
+        wires[wire] = local_share(role, g.kind, wires[first], wires[second]);
+        at = g.next;
+        i += 1;
+    }
+    Reached {
+        waits: false,
+        gate: i,
+        first: 0,
+        second: 0,
+        ands: ands,
+    }
+}
+
+// The share of an AND, from the combined bits and a triple.
+pub fn and_share(role: u8, d: u8, e: u8, first: u8, second: u8, third: u8) -> u8
+    ensures { λ r. ⌜ r ≡ andShare role d e first second third ⌝ }
+{
+    let sum = third ^ (d & second) ^ (e & first);
+    if role == 1 { sum ^ (d & e) } else { sum }
+}
+
+// Gives the AND that a run waits at its share.
+fn give_and(asked: Asked, spot: Spot, wire: usize, triples: &[u8], wires: &mut [u8; 4096])
+    requires { ⌜ (spot .first < 4096) × (spot .second < 4096) × (spot .ands * 3 + 2 < length (now triples)) × (wire < 4096) ⌝ }
+    ensures { λ _. ⌜ now (wires .exit) ≡ givenAnd asked spot wire (now (triples .entry)) (now (wires .entry)) ⌝ }
+{
+    let at = spot.ands * 3;
+    let x = spot.first;
+    let y = spot.second;
+    let first = triples[at];
+    let second = triples[at + 1];
+    let third = triples[at + 2];
+    let d = wires[x] ^ first ^ asked.far_first;
+    let e = wires[y] ^ second ^ asked.far_second;
+    wires[wire] = and_share(asked.role, d, e, first, second, third);
+}
+
+// The wires of a fresh run: the shares, and zero past them.
+fn fresh_wires(shares: &[u8]) -> [u8; 4096]
+    requires { ⌜ length (now shares) ≤ 4096 ⌝ }
+    ensures { λ r. ⌜ r ≡ freshWires (now (shares .entry)) ⌝ }
+{
+    let mut wires = [0u8; 4096];
+    let mut i: usize = 0;
+    while i < shares.len() {
+        wires[i] = shares[i];
+        i += 1;
+    }
+    wires
+}
+
+// Takes a fresh run, or one that waits, to the next AND or to the end.
+pub fn proceed(
+    source: &[u8],
+    front: Front,
+    asked: Asked,
+    spot: Spot,
+    shares: &[u8],
+    triples: &[u8],
+    wires: &mut [u8; 4096],
+) -> Reached
+    requires { ⌜ HasFront (now source) front × CanProceed (now source) front asked spot (now shares) (now triples) ⌝ }
+    ensures { λ r. ⌜ Stops (now (source .entry)) front
+        (proceeded (now (source .entry)) front asked spot (now (shares .entry)) (now (triples .entry)) (now (wires .entry)))
+        r (now (wires .exit)) ⌝ }
+{
+    if asked.waits {
+        give_and(asked, spot, front.inputs + spot.gate, triples, wires);
+        let after = Place {
+            gate: spot.gate + 1,
+            at: spot.next,
+            ands: spot.ands + 1,
+        };
+        return run_on(source, front, asked.role, after, wires);
+    }
+    let fresh = fresh_wires(shares);
+    *wires = fresh;
+    let start = Place {
+        gate: 0,
+        at: front.body,
+        ands: 0,
+    };
+    run_on(source, front, asked.role, start, wires)
+}
+
+// Writes the shares of the output wires.
+pub fn write_outputs(source: &[u8], front: Front, wires: &[u8; 4096], output: &mut [u8])
+    requires { ⌜ HasFront (now source) front × (front .outputs ≤ length (now output)) ⌝ }
+    ensures { λ _. ⌜ now (output .exit)
+        ≡ atWires (now (wires .entry)) (content (now (source .entry)) .outputs) ++ drop (front .outputs) (now (output .entry)) ⌝ }
+{
+    let outputs = front.outputs;
+    let limit = front.inputs + front.gates;
+    let mut at = front.tail;
+    let mut i: usize = 0;
+    while i < outputs {
+        let w = known_wire(source, at, limit);
+        let wire = w.number;
+        output[i] = wires[wire];
+        at = w.next;
+        i += 1;
+    }
+}

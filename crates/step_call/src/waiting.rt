@@ -1,0 +1,70 @@
+// Where a run stands in its circuit.
+ghost use mathlib.Core.Path.{_≡_};
+ghost use Prim.Native.Nat.{_≤_};
+ghost use Rattle.circuit.specs.Answer.{content, HasFront};
+ghost use Rattle.circuit_run.specs.Inner.Places.{Left, Spots};
+ghost use Rattle.circuit_run.specs.Step.{andsBefore};
+use circuit::Front;
+use circuit::and_of;
+use circuit::known_gate;
+use circuit_run::Place;
+use circuit_run::Spot;
+
+// The place of a gate, or after the last.
+fn place_of(source: &[u8], front: Front, gate: usize) -> Place
+    requires { ⌜ HasFront (now source) front × (gate ≤ front .gates) ⌝ }
+    ensures { λ r. ⌜ Left (now (source .entry)) (front .inputs) gate (r .at) × (r .ands ≡ andsBefore (content (now (source .entry))) gate) ⌝ }
+{
+    let inputs = front.inputs;
+    let mut at = front.body;
+    let mut ands: usize = 0;
+    let mut i: usize = 0;
+    while i < gate {
+        let g = known_gate(source, at, inputs + i);
+        ands += and_of(g.kind);
+        at = g.next;
+        i += 1;
+    }
+    Place {
+        gate: i,
+        at: at,
+        ands: ands,
+    }
+}
+
+// A spot without an AND.
+fn no_spot(admitted: bool, gate: usize) -> Spot
+    ensures { λ r. ⌜ (r .admitted ≡ admitted) × (r .gate ≡ gate) ⌝ }
+{
+    Spot {
+        admitted: admitted,
+        gate: gate,
+        first: 0,
+        second: 0,
+        ands: 0,
+        next: 0,
+    }
+}
+
+// Where a state of a phase and a gate stands.
+pub fn spot_of(source: &[u8], front: Front, phase: u32, gate: usize) -> Spot
+    requires { ⌜ HasFront (now source) front ⌝ }
+    ensures { λ r. ⌜ Spots (now (source .entry)) front phase gate r ⌝ }
+{
+    if phase != 1 {
+        return no_spot(phase <= 2, gate);
+    }
+    if front.gates <= gate {
+        return no_spot(false, gate);
+    }
+    let place = place_of(source, front, gate);
+    let g = known_gate(source, place.at, front.inputs + gate);
+    Spot {
+        admitted: g.kind == 2,
+        gate: gate,
+        first: g.first,
+        second: g.second,
+        ands: place.ands,
+        next: g.next,
+    }
+}

@@ -1,0 +1,3 @@
+-- The laws of `tree_walk`.
+mod Made
+mod Walked

@@ -1,0 +1,2 @@
+-- Inner: no promise cites these files. A level of a walk.
+pub mod Levels
