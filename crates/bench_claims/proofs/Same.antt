@@ -1,17 +1,17 @@
 -- The expansion for the bench is the online call on the record's offline vectors, at both ends.
-use mathlib.Core.Path.{_≡_, refl, sym, ap, ap₂, _∙_}
+use mathlib.Core.Path.{_≡_, refl, sym, ap, _∙_}
 use mathlib.Core.Bool.{true, false}
 use mathlib.Core.List.{List, _++_}
 use Prim.Native.Nat.{ℕ, suc, _+_, _*_, _≤_, _<_}
 use native.Mathlib.Omega.{arith}
-use lib.ListN.{length, take, drop}
+use lib.ListN.{drop}
 use Rattle.answer.specs.Tests.{Test, holds, firstFault}
-use Rattle.answer.specs.Outcome.{Outcome, TwoWritten, answered, refusedOne, refusedTwo, wrote}
+use Rattle.answer.specs.Outcome.{TwoWritten, answered, refusedOne, refusedTwo, wrote}
 use Rattle.answer.specs.Inner.Numbered.{apart}
 use Rattle.answer.proofs.Answers.{answered-map}
 use Rattle.answer.proofs.Faults.{fault-before, last-only}
-use Rattle.algebra.specs.Coding.{CodingLaws, at, flat, over}
-use Rattle.algebra.specs.Field.{NoiseValue, Value}
+use Rattle.algebra.specs.Coding.{CodingLaws, at, over}
+use Rattle.algebra.specs.Field.{Value}
 use Rattle.algebra.specs.Group.{Element, Scaled, ScaledLaws, itself}
 use Rattle.algebra.specs.Row.{output, entry, rowTimes}
 use Rattle.algebra.specs.Sum.{accumulate}
@@ -25,12 +25,14 @@ use Rattle.record.proofs.Parts.{noise-parts, scalar-parts}
 use Rattle.rows.specs.Head.{fieldOf, places, row}
 use Rattle.rows.proofs.Rows.{row-within, row-output}
 use Rattle.noise_end.specs.Vectors.{mu, v0}
+use Rattle.noise_end.specs.Offline as noiseOffline
 use Rattle.noise_end.specs.Online as noiseOnline
 use Rattle.noise_end.proofs.Laws as noiseLaws
 use Rattle.scalar_end.specs.Vectors.{w0}
+use Rattle.scalar_end.specs.Offline as scalarOffline
 use Rattle.scalar_end.specs.Online as scalarOnline
 use Rattle.scalar_end.proofs.Laws as scalarLaws
-use Rattle.bench_claims.specs.Bench.{NoiseExpanded, ScalarExpanded, noiseAfter, scalarAfter, noiseOnlineCall, scalarOnlineCall, noiseSeen, scalarSeen, Bench}
+use Rattle.bench_claims.specs.Bench.{noiseOnlineCall, scalarOnlineCall, noiseSeen, scalarSeen, Bench}
 use Rattle.direct.specs.Noise as noise
 use Rattle.direct.specs.Scalar as scalar
 use Rattle.direct.proofs.Laws.{noise-whole, scalar-whole}
@@ -53,21 +55,14 @@ accumulated-elements : (h : Head) (f : ℕ → Value (fieldOf h)) (j : ℕ) → 
 unfolding accumulate
 accumulated-elements h f j k = sum-element (fieldOf h .scaled .group) (kindLaws (h .field) .field .scaled .group) (suc j) f
 
-module _ (E : NoiseExpanded) (first count : ℕ) (uOut vOut : List ℕ) where
+module _ {h : Head} (E : noiseOffline.Expanded h) (first count : ℕ) (uOut vOut : List ℕ) where
   abbrev part : NoisePart
-  part = E .content
+  part = noiseOffline.content E
 
   abbrev lent : noiseOnline.Lent
-  lent =
-      record {
-        source = E .source;
-        noise = take (noiseAfter E .written .first) (noiseAfter E .lent .noise);
-        v = take (noiseAfter E .written .second) (noiseAfter E .lent .v);
-        uOut = uOut;
-        vOut = vOut;
-      }
+  lent = noiseOnline.lentWith (E .source) (noiseOffline.noiseOf (noiseOffline.after E)) (noiseOffline.vOf (noiseOffline.after E)) uOut vOut
 
-  accepted : noiseLaws.Accepted part (E .source) (noiseAfter E)
+  accepted : noiseLaws.Accepted part (E .source) (noiseOffline.after E)
   accepted = noiseLaws.offline-accepted (E .source) (E .noiseBuffer) (E .vBuffer) (E .read) (E .number)
 
   noise-elements : (j : ℕ) → j < places (part .head) → Element (fieldOf (part .head) .ring .group) (accumulate (fieldOf (part .head) .ring .group) (mu part) j)
@@ -138,14 +133,14 @@ module _ (E : NoiseExpanded) (first count : ℕ) (uOut vOut : List ℕ) where
 
 -- ---- the scalar end
 
-module _ (D : ScalarExpanded) (first count : ℕ) (wOut : List ℕ) where
+module _ {h : Head} (D : scalarOffline.Expanded h) (first count : ℕ) (wOut : List ℕ) where
   abbrev whole : ScalarPart
-  whole = D .content
+  whole = scalarOffline.content D
 
   abbrev lent-w : scalarOnline.Lent
-  lent-w = scalarOnline.lentWith (D .source) (take (scalarAfter D .written .first) (scalarAfter D .lent .w)) wOut
+  lent-w = scalarOnline.lentWith (D .source) (scalarOffline.wOf (scalarOffline.after D)) wOut
 
-  accepted-w : scalarLaws.Accepted whole (D .source) (scalarAfter D)
+  accepted-w : scalarLaws.Accepted whole (D .source) (scalarOffline.after D)
   accepted-w = scalarLaws.offline-accepted (D .source) (D .wBuffer) (D .deltaBuffer) (D .read) (D .number)
 
   full-w : whole .head .terms ≤ places (whole .head)
@@ -199,4 +194,5 @@ module _ (D : ScalarExpanded) (first count : ℕ) (wOut : List ℕ) where
 
 -- the statement
 pub bench : Bench
-bench = record { noise-same = noise-same; scalar-same = scalar-same; noise-vectors = noise-vectors; scalar-vector = scalar-vector }
+bench =
+    record { noise-same = λ h. noise-same; scalar-same = λ h. scalar-same; noise-vectors = λ h. noise-vectors; scalar-vector = λ h. scalar-vector }

@@ -3,12 +3,9 @@
 use mathlib.Core.List.{List}
 use mathlib.Core.Path.{_≡_}
 use Prim.Native.Nat.{ℕ}
-use lib.ListN.{take}
-use Rattle.answer.specs.Numbers.{accepted, badLength, notElement}
+use Rattle.answer.specs.Numbers.{badLength, notElement}
 use Rattle.answer.specs.Outcome.{Outcome, TwoWritten}
-use Rattle.number.specs.Reading.{Whole}
-use Rattle.record.specs.Content.{NoisePart, ScalarPart}
-use Rattle.record.specs.Reading.{readNoise, readScalar}
+use Rattle.record.specs.Content.{Head}
 use Rattle.noise_end.specs.Offline as noiseOffline
 use Rattle.noise_end.specs.Online as noiseOnline
 use Rattle.scalar_end.specs.Offline as scalarOffline
@@ -16,47 +13,15 @@ use Rattle.scalar_end.specs.Online as scalarOnline
 use Rattle.direct.specs.Noise as noise
 use Rattle.direct.specs.Scalar as scalar
 
--- an accepted noise record, and an accepted offline call on it
-pub record NoiseExpanded : Type 0 where
-  pub source : List ℕ
-  pub content : NoisePart
-  pub read : readNoise source ≡ Whole content
-  pub noiseBuffer : List ℕ
-  pub vBuffer : List ℕ
-  pub number : noiseOffline.offline source noiseBuffer vBuffer .number ≡ accepted
-
--- an accepted scalar record, and an accepted offline call on it
-pub record ScalarExpanded : Type 0 where
-  pub source : List ℕ
-  pub content : ScalarPart
-  pub read : readScalar source ≡ Whole content
-  pub wBuffer : List ℕ
-  pub deltaBuffer : List ℕ
-  pub number : scalarOffline.offline source wBuffer deltaBuffer .number ≡ accepted
-
--- what stands after each offline call
-abbrev pub noiseAfter : NoiseExpanded → Outcome TwoWritten noiseOffline.OfflineLent
-noiseAfter E = noiseOffline.offline (E .source) (E .noiseBuffer) (E .vBuffer)
-
-abbrev pub scalarAfter : ScalarExpanded → Outcome TwoWritten scalarOffline.OfflineLent
-scalarAfter D = scalarOffline.offline (D .source) (D .wBuffer) (D .deltaBuffer)
-
 -- the online call on the record and the words that its offline call wrote, with any output buffers
-abbrev pub noiseOnlineCall : NoiseExpanded → ℕ → ℕ → List ℕ → List ℕ → Outcome TwoWritten noiseOnline.Lent
+abbrev pub noiseOnlineCall : {h : Head} → noiseOffline.Expanded h → ℕ → ℕ → List ℕ → List ℕ → Outcome TwoWritten noiseOnline.Lent
 noiseOnlineCall E first count uOut vOut =
     noiseOnline.online
-    (record {
-      source = E .source;
-      noise = take (noiseAfter E .written .first) (noiseAfter E .lent .noise);
-      v = take (noiseAfter E .written .second) (noiseAfter E .lent .v);
-      uOut = uOut;
-      vOut = vOut;
-    })
-    first count
+    (noiseOnline.lentWith (E .source) (noiseOffline.noiseOf (noiseOffline.after E)) (noiseOffline.vOf (noiseOffline.after E)) uOut vOut) first count
 
-abbrev pub scalarOnlineCall : ScalarExpanded → ℕ → ℕ → List ℕ → Outcome ℕ scalarOnline.Lent
+abbrev pub scalarOnlineCall : {h : Head} → scalarOffline.Expanded h → ℕ → ℕ → List ℕ → Outcome ℕ scalarOnline.Lent
 scalarOnlineCall D first count wOut =
-    scalarOnline.online (scalarOnline.lentWith (D .source) (take (scalarAfter D .written .first) (scalarAfter D .lent .w)) wOut) first count
+    scalarOnline.online (scalarOnline.lentWith (D .source) (scalarOffline.wOf (scalarOffline.after D)) wOut) first count
 
 -- what such a call returns, and leaves in the record and in the output buffers
 abbrev pub noiseSeen : Outcome TwoWritten noiseOnline.Lent → Outcome TwoWritten noise.Lent
@@ -68,12 +33,12 @@ scalarSeen o = record { number = o .number; written = o .written; lent = scalar.
 
 pub record Bench : Type 0 where
   -- for every accepted record, window and output buffers the expansion is the online call, refusals by 7 and 13 too
-  pub noise-same : (E : NoiseExpanded) (first count : ℕ) (uOut vOut : List ℕ)
+  pub noise-same : (h : Head) (E : noiseOffline.Expanded h) (first count : ℕ) (uOut vOut : List ℕ)
       → noise.direct (noise.lentWith (E .source) uOut vOut) first count ≡ noiseSeen (noiseOnlineCall E first count uOut vOut)
-  pub scalar-same : (D : ScalarExpanded) (first count : ℕ) (wOut : List ℕ)
+  pub scalar-same : (h : Head) (D : scalarOffline.Expanded h) (first count : ℕ) (wOut : List ℕ)
       → scalar.direct (scalar.lentWith (D .source) wOut) first count ≡ scalarSeen (scalarOnlineCall D first count wOut)
   -- on those vectors the online call refuses neither by 3 nor by 8
-  pub noise-vectors : (E : NoiseExpanded) (first count : ℕ) (uOut vOut : List ℕ)
+  pub noise-vectors : (h : Head) (E : noiseOffline.Expanded h) (first count : ℕ) (uOut vOut : List ℕ)
       → (noiseOnlineCall E first count uOut vOut .number ≡ badLength → ⊥) × (noiseOnlineCall E first count uOut vOut .number ≡ notElement → ⊥)
-  pub scalar-vector : (D : ScalarExpanded) (first count : ℕ) (wOut : List ℕ)
+  pub scalar-vector : (h : Head) (D : scalarOffline.Expanded h) (first count : ℕ) (wOut : List ℕ)
       → (scalarOnlineCall D first count wOut .number ≡ badLength → ⊥) × (scalarOnlineCall D first count wOut .number ≡ notElement → ⊥)

@@ -26,16 +26,19 @@ use Rattle.field.specs.Kind.{KindLaws, binaryKind, primeKind, kindOf}
 use Rattle.field.specs.Prime.{modulus}
 use Rattle.field.specs.declared.prime.Prime.{Prime}
 use Rattle.noise_end.proofs.Laws as noiseLaws
+use Rattle.noise_end.specs.Offline as noiseOffline
 use Rattle.noise_end.specs.Vectors.{value, mu, v0}
+use Rattle.number.specs.Reading.{Bytes}
 use Rattle.record.proofs.Laws.{noise-exact}
 use Rattle.record.specs.Admitted.{isField, isNoise, Each, AdmittedTree, AdmittedNoise}
 use Rattle.record.specs.Content.{Head, NoiseTree, treeIn, siblingCount}
 use Rattle.rows.specs.Head.{fieldOf, places}
 use Rattle.scalar_end.proofs.Laws as scalarLaws
+use Rattle.scalar_end.specs.Offline as scalarOffline
 use Rattle.scalar_end.specs.Vectors as scalarEnd
 use Rattle.scalar_end.specs.Vectors.{delta, w0}
 use Rattle.claims.proofs.Dealt.{delta-told}
-use Rattle.claims.specs.Buffers.{NoiseExpanded, ScalarExpanded, noiseContent, scalarContent, noiseAfter, scalarAfter, muAfter, vAfter, wAfter, deltaAfter, AccumulatedAt, ExpandedAt, Below, Buffers}
+use Rattle.claims.specs.Buffers.{AccumulatedAt, ExpandedAt, Below, Buffers}
 
 -- ---- what is admitted, tree by tree
 
@@ -81,9 +84,26 @@ module _ (h : Head) where
 
   -- ---- a noise record
 
-  module _ (E : NoiseExpanded h) where
-    admitted : AdmittedNoise (noiseContent h E)
-    admitted = noise-exact (E .source) (E .bytes) (E .read) .0
+  module _ (E : noiseOffline.Expanded h) where
+    -- the words that the call wrote
+    left : noiseLaws.Accepted (noiseOffline.content E) (E .source) (noiseOffline.after E)
+    left = noiseLaws.offline-accepted (E .source) (E .noiseBuffer) (E .vBuffer) (E .read) (E .number)
+
+    noise-at : (j : ℕ) → j < places h → at (fieldOf h .noiseValues) (noiseOffline.noiseOf (noiseOffline.after E)) j
+        ≡ accumulate (fieldOf h .ring .group) (mu (noiseOffline.content E)) j
+    noise-at j l =
+        ap (λ (ws : List ℕ). at (fieldOf h .noiseValues) ws j) (left .noise)
+        ∙ at-flat (fieldOf h .noiseValues) (laws .field .noiseValues) (places h) (accumulate (fieldOf h .ring .group) (mu (noiseOffline.content E))) j l
+
+    v-at : (j : ℕ) → j < places h → at (fieldOf h .elements) (noiseOffline.vOf (noiseOffline.after E)) j
+        ≡ accumulate (fieldOf h .scaled .group) (v0 (noiseOffline.content E)) j
+    v-at j l =
+        ap (λ (ws : List ℕ). at (fieldOf h .elements) ws j) (left .v)
+        ∙ at-flat (fieldOf h .elements) (laws .field .elements) (places h) (accumulate (fieldOf h .scaled .group) (v0 (noiseOffline.content E))) j l
+
+  module _ (E : noiseOffline.Expanded h) (bytes : Bytes (E .source)) where
+    admitted : AdmittedNoise (noiseOffline.content E)
+    admitted = noise-exact (E .source) bytes (E .read) .0
 
     field-is : (h .field ≡ 1) ⊎ (h .field ≡ 2)
     field-is = two-fields (h .field) (admitted .head .field)
@@ -97,7 +117,7 @@ module _ (h : Head) where
     valued : (i : ℕ) → i < h .trees → isNoise (h .field) (treeIn (E .trees) i .value) ≡ true
     valued i l = tree i l .value
 
-    told : NoiseBelow (fieldOf h .ring) (places h) (h .trees) (λ i. treeIn (E .trees) i .position) (value (noiseContent h E))
+    told : NoiseBelow (fieldOf h .ring) (places h) (h .trees) (λ i. treeIn (E .trees) i .position) (value (noiseOffline.content E))
     told =
         record {
           rising = admitted .rising;
@@ -106,93 +126,81 @@ module _ (h : Head) where
           nonzero = λ i l. noise-nonzero (h .field) (treeIn (E .trees) i .value) field-is (valued i l);
         }
 
-    mu-element : (j : ℕ) → Element (fieldOf h .ring .group) (mu (noiseContent h E) j)
+    mu-element : (j : ℕ) → Element (fieldOf h .ring .group) (mu (noiseOffline.content E) j)
     unfolding mu
     mu-element j =
-        noise-element (fieldOf h .ring) (laws .field .ring) (h .trees) (λ i. treeIn (E .trees) i .position) (value (noiseContent h E)) (told .element) j
-
-    -- the words that the call wrote
-    left : noiseLaws.Accepted (noiseContent h E) (E .source) (noiseAfter h E)
-    left = noiseLaws.offline-accepted (E .source) (E .noiseBuffer) (E .vBuffer) (E .read) (E .number)
-
-    noise-at : (j : ℕ) → j < places h → at (fieldOf h .noiseValues) (muAfter h E) j ≡ accumulate (fieldOf h .ring .group) (mu (noiseContent h E)) j
-    noise-at j l =
-        ap (λ (ws : List ℕ). at (fieldOf h .noiseValues) ws j) (left .noise)
-        ∙ at-flat (fieldOf h .noiseValues) (laws .field .noiseValues) (places h) (accumulate (fieldOf h .ring .group) (mu (noiseContent h E))) j l
-
-    v-at : (j : ℕ) → j < places h → at (fieldOf h .elements) (vAfter h E) j ≡ accumulate (fieldOf h .scaled .group) (v0 (noiseContent h E)) j
-    v-at j l =
-        ap (λ (ws : List ℕ). at (fieldOf h .elements) ws j) (left .v)
-        ∙ at-flat (fieldOf h .elements) (laws .field .elements) (places h) (accumulate (fieldOf h .scaled .group) (v0 (noiseContent h E))) j l
+        noise-element (fieldOf h .ring) (laws .field .ring) (h .trees) (λ i. treeIn (E .trees) i .position) (value (noiseOffline.content E)) (told .element) j
 
   -- ---- a scalar record
 
-  module _ (D : ScalarExpanded h) where
-    w0-element : (j : ℕ) → Element (fieldOf h .scaled .group) (w0 (scalarContent h D) j)
+  module _ (D : scalarOffline.Expanded h) where
+    w0-element : (j : ℕ) → Element (fieldOf h .scaled .group) (w0 (scalarOffline.content D) j)
     unfolding w0 whole
-    w0-element j = sum-element (fieldOf h .scaled .group) (laws .field .scaled .group) (h .trees) (λ i. scalarEnd.leaf (scalarContent h D) i j)
+    w0-element j = sum-element (fieldOf h .scaled .group) (laws .field .scaled .group) (h .trees) (λ i. scalarEnd.leaf (scalarOffline.content D) i j)
 
-    scalar-left : scalarLaws.Accepted (scalarContent h D) (D .source) (scalarAfter h D)
+    scalar-left : scalarLaws.Accepted (scalarOffline.content D) (D .source) (scalarOffline.after D)
     scalar-left = scalarLaws.offline-accepted (D .source) (D .wBuffer) (D .deltaBuffer) (D .read) (D .number)
 
-    w-at : (j : ℕ) → j < places h → at (fieldOf h .elements) (wAfter h D) j ≡ accumulate (fieldOf h .scaled .group) (w0 (scalarContent h D)) j
+    w-at : (j : ℕ) → j < places h → at (fieldOf h .elements) (scalarOffline.wOf (scalarOffline.after D)) j
+        ≡ accumulate (fieldOf h .scaled .group) (w0 (scalarOffline.content D)) j
     w-at j l =
         ap (λ (ws : List ℕ). at (fieldOf h .elements) ws j) (scalar-left .w)
-        ∙ at-flat (fieldOf h .elements) (laws .field .elements) (places h) (accumulate (fieldOf h .scaled .group) (w0 (scalarContent h D))) j l
+        ∙ at-flat (fieldOf h .elements) (laws .field .elements) (places h) (accumulate (fieldOf h .scaled .group) (w0 (scalarOffline.content D))) j l
 
-    delta-at : at (fieldOf h .elements) (deltaAfter h D) 0 ≡ delta (scalarContent h D)
+    delta-at : at (fieldOf h .elements) (scalarOffline.deltaOf (scalarOffline.after D)) 0 ≡ delta (scalarOffline.content D)
     delta-at = ap (λ (ws : List ℕ). at (fieldOf h .elements) ws 0) (scalar-left .delta) ∙ delta-told (h .field) (D .delta)
 
   -- ---- both
 
-  module _ (E : NoiseExpanded h) (D : ScalarExpanded h) (k : ℕ) (most : k ≤ places h) where
-    tell : ((j : ℕ) → j < k → Correlated (fieldOf h .scaled) (delta (scalarContent h D))
-        (accumulate (fieldOf h .ring .group) (mu (noiseContent h E)) j)
-        (accumulate (fieldOf h .scaled .group) (v0 (noiseContent h E)) j)
-        (accumulate (fieldOf h .scaled .group) (w0 (scalarContent h D)) j))
-        ↔ Below k (ExpandedAt h E D)
+  module _ (E : noiseOffline.Expanded h) (bytes : Bytes (E .source)) (D : scalarOffline.Expanded h) (k : ℕ) (most : k ≤ places h) where
+    tell : ((j : ℕ) → j < k → Correlated (fieldOf h .scaled) (delta (scalarOffline.content D))
+        (accumulate (fieldOf h .ring .group) (mu (noiseOffline.content E)) j)
+        (accumulate (fieldOf h .scaled .group) (v0 (noiseOffline.content E)) j)
+        (accumulate (fieldOf h .scaled .group) (w0 (scalarOffline.content D)) j))
+        ↔ Below k (ExpandedAt E D)
     tell =
-        kindFacts (h .field) .accumulated .correlation (delta (scalarContent h D)) k
-        (mu (noiseContent h E)) (v0 (noiseContent h E)) (w0 (scalarContent h D)) (λ j l. mu-element E j) (λ j l. w0-element D j)
+        kindFacts (h .field) .accumulated .correlation (delta (scalarOffline.content D)) k
+        (mu (noiseOffline.content E)) (v0 (noiseOffline.content E)) (w0 (scalarOffline.content D)) (λ j l. mu-element E bytes j) (λ j l. w0-element D j)
 
-    told-by-accumulated : Below k (AccumulatedAt h E D) → Below k (ExpandedAt h E D)
+    told-by-accumulated : Below k (AccumulatedAt E D) → Below k (ExpandedAt E D)
     told-by-accumulated e =
         tell .0 (λ j l. rw (delta-at D, noise-at E j (omega arith), v-at E j (omega arith), w-at D j (omega arith)) at (e j l))
 
-    accumulated-by-told : Below k (ExpandedAt h E D) → Below k (AccumulatedAt h E D)
+    accumulated-by-told : Below k (ExpandedAt E D) → Below k (AccumulatedAt E D)
     accumulated-by-told e j l =
         rw (delta-at D, noise-at E j (omega arith), v-at E j (omega arith), w-at D j (omega arith)) (tell .1 e j l)
 
   -- ---- two noise records
 
-  module _ (E E′ : NoiseExpanded h) (same : muAfter h E ≡ muAfter h E′) where
+  module _ (E E′ : noiseOffline.Expanded h) (bytes : Bytes (E .source)) (bytes′ : Bytes (E′ .source))
+      (same : noiseOffline.noiseOf (noiseOffline.after E) ≡ noiseOffline.noiseOf (noiseOffline.after E′)) where
     told-trees : (i : ℕ) → i < h .trees
-        → (treeIn (E .trees) i .position ≡ treeIn (E′ .trees) i .position) × (value (noiseContent h E) i ≡ value (noiseContent h E′) i)
+        → (treeIn (E .trees) i .position ≡ treeIn (E′ .trees) i .position) × (value (noiseOffline.content E) i ≡ value (noiseOffline.content E′) i)
     unfolding mu
     told-trees =
         kindFacts (h .field) .accumulated .positions (places h) (h .trees) (λ i. treeIn (E .trees) i .position) (λ i. treeIn (E′ .trees) i .position)
-        (value (noiseContent h E)) (value (noiseContent h E′)) (told E) (told E′)
+        (value (noiseOffline.content E)) (value (noiseOffline.content E′)) (told E bytes) (told E′ bytes′)
         (λ j l. sym (noise-at E j l) ∙ ap (λ (ws : List ℕ). at (fieldOf h .noiseValues) ws j) same ∙ noise-at E′ j l)
 
     -- lists of as many trees are equal in a part if all their trees are
     parts-same : (part : NoiseTree → ℕ) → ((i : ℕ) → i < h .trees → part (treeIn (E .trees) i) ≡ part (treeIn (E′ .trees) i))
         → map part (E .trees) ≡ map part (E′ .trees)
     parts-same part e =
-        ext-getD (part none) (map part (E .trees)) (map part (E′ .trees)) (long E ∙ sym (long E′))
-        (λ i l. List·getD-map part (E .trees) i none ∙ e i (rw (long E) at l) ∙ sym (List·getD-map part (E′ .trees) i none))
+        ext-getD (part none) (map part (E .trees)) (map part (E′ .trees)) (long E bytes ∙ sym (long E′ bytes′))
+        (λ i l. List·getD-map part (E .trees) i none ∙ e i (rw (long E bytes) at l) ∙ sym (List·getD-map part (E′ .trees) i none))
       where
         none : NoiseTree
         none = record { position = 0; value = 0; correction = []; siblings = [] }
 
-        long : (A : NoiseExpanded h) → length (map part (A .trees)) ≡ h .trees
-        long A = length-map (A .trees) part ∙ admitted A .count
+        long : (A : noiseOffline.Expanded h) → Bytes (A .source) → length (map part (A .trees)) ≡ h .trees
+        long A b = length-map (A .trees) part ∙ admitted A b .count
 
 pub buffers : Buffers
 buffers =
     record {
-      correlation = λ h E D k most. (told-by-accumulated h E D k most, accumulated-by-told h E D k most);
-      noise = λ h E E′ same. (
-        parts-same h E E′ same (λ t. t .position) (λ i l. told-trees h E E′ same i l .0),
-        parts-same h E E′ same (λ t. t .value) (λ i l. word-told (h .field) _ _ (told-trees h E E′ same i l .1)),
+      correlation = λ h E b D k most. (told-by-accumulated h E b D k most, accumulated-by-told h E b D k most);
+      noise = λ h E E′ b b′ same. (
+        parts-same h E E′ b b′ same (λ t. t .position) (λ i l. told-trees h E E′ b b′ same i l .0),
+        parts-same h E E′ b b′ same (λ t. t .value) (λ i l. word-told (h .field) _ _ (told-trees h E E′ b b′ same i l .1)),
       );
     }

@@ -3,7 +3,7 @@ use mathlib.Core.Path.{_≡_}
 use mathlib.Core.List.{List, [], _∷_}
 use mathlib.Core.Option.{some}
 use Prim.Native.Nat.{ℕ, _+_, _-_, _*_, _<_}
-use lib.ListN.{length, getD, getElem?, take}
+use lib.ListN.{length, getD, getElem?}
 use Rattle.algebra.specs.Coding.{at}
 use Rattle.algebra.specs.Expansion.{Correlated}
 use Rattle.algebra.specs.Field.{NoiseValue, Value}
@@ -140,13 +140,7 @@ abbrev pub noiseEnd : Setting → End
 noiseEnd S =
     record {
       Memory = NoiseMemory;
-      -- the record, and the fronts of the returned lengths
-      start =
-          record {
-            source = noiseExpanded S .lent .source;
-            noise = take (noiseExpanded S .written .first) (noiseExpanded S .lent .noise);
-            v = take (noiseExpanded S .written .second) (noiseExpanded S .lent .v);
-          };
+      start = record { source = noiseExpanded S .lent .source; noise = noiseOffline.noiseOf (noiseExpanded S); v = noiseOffline.vOf (noiseExpanded S) };
       Out = NoiseOut;
       Written = TwoWritten;
       Lent = noiseOnline.Lent;
@@ -178,14 +172,14 @@ scalarExpanded S = scalarOffline.offline (scalarSource S) (S .wBuffer) (S .delta
 
 -- Δ as the offline call left it
 abbrev pub scalarDelta : Setting → List ℕ
-scalarDelta S = take (scalarExpanded S .written .second) (scalarExpanded S .lent .delta)
+scalarDelta S = scalarOffline.deltaOf (scalarExpanded S)
 
 -- its online calls, with one output buffer
 abbrev pub scalarEnd : Setting → End
 scalarEnd S =
     record {
       Memory = ScalarMemory;
-      start = record { source = scalarExpanded S .lent .source; w = take (scalarExpanded S .written .first) (scalarExpanded S .lent .w) };
+      start = record { source = scalarExpanded S .lent .source; w = scalarOffline.wOf (scalarExpanded S) };
       Out = List ℕ;
       Written = ℕ;
       Lent = scalarOnline.Lent;

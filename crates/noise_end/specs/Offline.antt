@@ -1,15 +1,16 @@
 -- The noise end's offline call (document 01, 'Offline and online', 'Numbers of the calls': the record, then 13): from
 -- everything lent to everything that stands on return.
+use mathlib.Core.Path.{_≡_}
 use mathlib.Core.List.{List, [], _∷_}
 use Prim.Native.Nat.{ℕ, _*_}
-use lib.ListN.{length}
-use Rattle.answer.specs.Numbers.{bufferShort}
+use lib.ListN.{length, take}
+use Rattle.answer.specs.Numbers.{accepted, bufferShort}
 use Rattle.answer.specs.Tests.{Test, _atMost_, _or_}
 use Rattle.answer.specs.Outcome.{Outcome, TwoWritten, answered, refusedTwo, wrote}
 use Rattle.algebra.specs.Coding.{over}
 use Rattle.algebra.specs.Sum.{accumulate}
-use Rattle.number.specs.Reading.{afterReading}
-use Rattle.record.specs.Content.{NoisePart}
+use Rattle.number.specs.Reading.{Whole, afterReading}
+use Rattle.record.specs.Content.{Head, NoiseTree, NoisePart}
 use Rattle.record.specs.Reading.{readNoise}
 use Rattle.rows.specs.Head.{fieldOf, places}
 use Rattle.noise_end.specs.Vectors.{mu, v0}
@@ -49,3 +50,26 @@ offline source noise v =
     afterReading (readNoise source) (refusedTwo (offlineWith source noise v))
     (λ P. answered (offlineTests P noise v) (refusedTwo (offlineWith source noise v))
     (wrote (record { first = places (P .head); second = vWords P }) (expanded P source noise v)))
+
+-- the accumulated noise and the accumulated v that a call wrote: the fronts of its buffers, of the returned lengths
+abbrev pub noiseOf : Outcome TwoWritten OfflineLent → List ℕ
+noiseOf o = take (o .written .first) (o .lent .noise)
+
+abbrev pub vOf : Outcome TwoWritten OfflineLent → List ℕ
+vOf o = take (o .written .second) (o .lent .v)
+
+-- an accepted record of a head, and an accepted call on it
+pub record Expanded (h : Head) : Type 0 where
+  pub source : List ℕ
+  pub trees : List NoiseTree
+  pub read : readNoise source ≡ Whole (record { head = h; trees = trees })
+  pub noiseBuffer : List ℕ
+  pub vBuffer : List ℕ
+  pub number : offline source noiseBuffer vBuffer .number ≡ accepted
+
+-- the content of the record, and what stands after the call
+abbrev pub content : {h : Head} → Expanded h → NoisePart
+content {h} E = record { head = h; trees = E .trees }
+
+abbrev pub after : {h : Head} → Expanded h → Outcome TwoWritten OfflineLent
+after E = offline (E .source) (E .noiseBuffer) (E .vBuffer)
