@@ -1,9 +1,6 @@
 -- The laws of rounds.
-mod Leaves
 pub mod Waiting
 pub mod Inputs
 pub mod Gates
 pub mod Opened
-mod Passes
-mod Outputs
-mod Rounds
+pub mod Rounds

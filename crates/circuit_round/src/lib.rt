@@ -1,20 +1,5 @@
-// Evaluating a circuit in rounds: each end's round opens every AND whose wires are known.
-ghost use mathlib.Core.Path.{_≡_};
-ghost use Rattle.circuit_round.specs.Inner.Passes.{roundedWith};
-ghost use Rattle.circuit_round.specs.Round.{roundWith, rounded, round, stateWith};
-
-mod accepted;
-mod input;
-mod passing;
-mod writing;
-
-use accepted::accepted_round;
-use circuit::Opened;
-use circuit::read_circuit;
-use circuit::refusal_of;
-use input::Frame;
-use input::round_number;
-use input::waiting_gates;
+// Evaluating a circuit in rounds, in definitions and laws: each end's round opens every AND whose wires are known. The round's code
+// stands in crate `round_call`.
 
 // An end's run: a byte for each wire, 0 while its share is not known, 1 for an AND that waits for the far bits, 2 + share once known.
 #[repr(C)]
@@ -29,75 +14,4 @@ pub struct Rounded {
     pub written: usize,
     pub bits_written: usize,
     pub state: RoundState,
-}
-
-// A refused round: zeros, and the state as it was.
-fn refused(number: u32, state: RoundState) -> Rounded
-    ensures { λ r. ⌜ r ≡ roundedWith number 0 0 state ⌝ }
-{
-    Rounded {
-        number: number,
-        written: 0,
-        bits_written: 0,
-        state: state,
-    }
-}
-
-// One round of an end's run: opens every AND whose wires are known and gives its two bits to send, or writes the outputs of a run
-// where none waits.
-pub fn round_run(
-    role: u8,
-    circuit: &[u8],
-    shares: &[u8],
-    triples: &[u8],
-    output: &mut [u8],
-    far_bits: &[u8],
-    bits_out: &mut [u8],
-    state: RoundState,
-) -> Rounded
-    ensures { λ r. ⌜ rounded r
-        (roundWith role (now (circuit .exit)) (now (shares .exit)) (now (triples .exit)) (now (output .exit)) (now («far_bits» .exit)) (now («bits_out» .exit)))
-        ≡ round
-        (roundWith role (now (circuit .entry)) (now (shares .entry)) (now (triples .entry))
-        (now (output .entry)) (now («far_bits» .entry)) (now («bits_out» .entry))) state ⌝ }
-{
-    let opened = read_circuit(circuit);
-    let Opened::Accepted(front) = opened else {
-        return refused(refusal_of(opened), state);
-    };
-    let mut wires = state.wires;
-    let waits = waiting_gates(&wires, front.inputs, front.gates);
-    let number = round_number(
-        front,
-        waits,
-        role,
-        shares,
-        triples,
-        far_bits,
-        output.len(),
-        bits_out.len(),
-    );
-    if number != 0 {
-        return refused(number, state);
-    }
-    let frame = Frame {
-        front: front,
-        role: role,
-    };
-    let lengths = accepted_round(
-        circuit,
-        frame,
-        shares,
-        triples,
-        output,
-        far_bits,
-        bits_out,
-        &mut wires,
-    );
-    Rounded {
-        number: 0,
-        written: lengths.written,
-        bits_written: lengths.bits_written,
-        state: RoundState { wires: wires },
-    }
 }

@@ -54,7 +54,7 @@ pub extern "C" fn expander_circuit_round(
         (roundWith role (now (circuit .entry)) (now (shares .entry)) (now (triples .entry))
         (now (output .entry)) (now («far_bits» .entry)) (now («bits_out» .entry))) state ⌝ }
 {
-    circuit_round::round_run(
+    round_call::round_run(
         role,
         circuit,
         shares,

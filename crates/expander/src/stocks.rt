@@ -12,7 +12,7 @@ use stock::Stock;
 pub extern "C" fn expander_open_stock(label: Label, outputs: usize, shares: &[u32]) -> OpenedStock
     ensures { λ r. ⌜ stockOpening r (now (shares .exit)) ≡ openStock label outputs (now (shares .entry)) ⌝ }
 {
-    stock::open(label, outputs, shares)
+    stock_calls::open(label, outputs, shares)
 }
 
 // The caller's next `count` indices, as a window.
@@ -20,7 +20,7 @@ pub extern "C" fn expander_open_stock(label: Label, outputs: usize, shares: &[u3
 pub extern "C" fn expander_draw(stock: Stock, label: Label, caller: usize, count: usize) -> Drawn
     ensures { λ r. ⌜ r ≡ draw stock label caller count ⌝ }
 {
-    stock::draw(stock, label, caller, count)
+    stock_calls::draw(stock, label, caller, count)
 }
 
 // What a draw would return, and the stock that it would leave.
@@ -33,7 +33,7 @@ pub extern "C" fn expander_preview(
 ) -> Previewed
     ensures { λ r. ⌜ r ≡ preview stock label caller count ⌝ }
 {
-    stock::preview(stock, label, caller, count)
+    stock_calls::preview(stock, label, caller, count)
 }
 
 // Passes a stock to a dealing with another label: each caller keeps its unspent share, as a block of the fresh outputs.
@@ -41,5 +41,5 @@ pub extern "C" fn expander_preview(
 pub extern "C" fn expander_pass_stock(stock: Stock, label: Label, outputs: usize) -> OpenedStock
     ensures { λ r. ⌜ r ≡ pass stock label outputs ⌝ }
 {
-    stock::pass(stock, label, outputs)
+    stock_calls::pass(stock, label, outputs)
 }

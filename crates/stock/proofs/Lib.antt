@@ -1,7 +1,5 @@
 -- Laws of the stock.
 pub mod Cases
 pub mod Entries
-pub mod LabelOrder
-pub mod Needs
+pub mod Calls
 pub mod Opened
-pub mod Passed

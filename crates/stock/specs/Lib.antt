@@ -2,4 +2,3 @@
 pub mod Label
 pub mod Stock
 pub mod Calls
-pub mod Inner

@@ -1,0 +1,4 @@
+-- The laws of `round_call`, which its functions' proofs use.
+mod Leaves
+mod Passes
+mod Outputs

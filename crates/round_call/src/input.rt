@@ -1,0 +1,98 @@
+// The tests of a round, once its circuit is read.
+ghost use mathlib.Core.Path.{_≡_};
+ghost use Prim.Native.Nat.{_+_, _≤_};
+ghost use lib.ListN.{length, take, drop};
+ghost use Rattle.answer.specs.Tests.{firstFault};
+ghost use Rattle.circuit.specs.Admitted.{mostWires};
+ghost use Rattle.circuit_round.specs.Inner.Tests.{waitOf, byteTests, askedTests};
+ghost use Rattle.circuit_round.specs.Round.{waiting};
+use answer::BAD_LENGTH;
+use answer::BUFFER_SHORT;
+use answer::NOT_ELEMENT;
+use answer::TOO_FEW_TRIPLES;
+use answer::WRONG_END;
+use answer::any_above;
+use answer::is_short;
+use answer::is_times;
+use circuit::Front;
+use step_call::is_role;
+
+// What a round has of its circuit, once read, and the role that it is run in.
+pub struct Frame {
+    pub front: Front,
+    pub role: u8,
+}
+
+// One for a byte that waits, else none.
+pub fn wait_of(byte: u8) -> usize
+    ensures { λ r. ⌜ r ≡ waitOf byte ⌝ }
+{
+    if byte == 1 { 1 } else { 0 }
+}
+
+// How many gates wait.
+pub fn waiting_gates(wires: &[u8; 4096], inputs: usize, gates: usize) -> usize
+    requires { ⌜ (inputs + gates ≤ mostWires) × (length (now wires) ≡ mostWires) ⌝ }
+    ensures { λ r. ⌜ r ≡ waiting (take gates (drop inputs (now (wires .entry)))) ⌝ }
+{
+    let mut count: usize = 0;
+    let mut i: usize = 0;
+    while i < gates {
+        count += wait_of(wires[inputs + i]);
+        i += 1;
+    }
+    count
+}
+
+// The number by the bytes and the role of a round on a circuit of so many ANDs.
+fn byte_number(ands: usize, role: u8, shares: &[u8], triples: &[u8], far_bits: &[u8]) -> u32
+    ensures { λ r. ⌜ r ≡ firstFault (byteTests ands role (now (shares .entry)) (now (triples .entry)) (now («far_bits» .entry))) ⌝ }
+{
+    if any_above(1, shares) {
+        return NOT_ELEMENT;
+    }
+    if any_above(1, triples) {
+        return NOT_ELEMENT;
+    }
+    if any_above(1, far_bits) {
+        return NOT_ELEMENT;
+    }
+    if is_short(triples.len(), 3, ands) {
+        return TOO_FEW_TRIPLES;
+    }
+    if !is_role(role) {
+        return WRONG_END;
+    }
+    0
+}
+
+// The number of a round whose state has so many gates that wait, with room for an output and for bits of so many bytes.
+pub fn round_number(
+    front: Front,
+    waits: usize,
+    role: u8,
+    shares: &[u8],
+    triples: &[u8],
+    far_bits: &[u8],
+    room: usize,
+    bits_room: usize,
+) -> u32
+    ensures { λ r. ⌜ r ≡ firstFault (askedTests front waits role (now (shares .entry)) (now (triples .entry)) (now («far_bits» .entry)) room «bits_room») ⌝ }
+{
+    if shares.len() != front.inputs {
+        return BAD_LENGTH;
+    }
+    if triples.len() % 3 != 0 {
+        return BAD_LENGTH;
+    }
+    if !is_times(far_bits.len(), 2, waits) {
+        return BAD_LENGTH;
+    }
+    if room < front.outputs {
+        return BUFFER_SHORT;
+    }
+    if is_short(bits_room, 2, front.ands) {
+        return BUFFER_SHORT;
+    }
+    byte_number(front.ands, role, shares, triples, far_bits)
+}

@@ -1,0 +1,52 @@
+// What a round writes: the bits to send, or the outputs.
+ghost use mathlib.Core.List.{_++_};
+ghost use mathlib.Core.Path.{_≡_};
+ghost use Prim.Native.Nat.{_+_, _*_, _<_, _≤_};
+ghost use lib.ListN.{length, drop};
+ghost use Rattle.circuit.specs.Answer.{content, HasFront};
+ghost use Rattle.circuit.specs.Value.{atWires};
+ghost use Rattle.circuit_round.specs.Inner.Gates.{placeAfter, putBits};
+ghost use Rattle.circuit_round.specs.Round.{sharesIn};
+use circuit::Front;
+use circuit::known_wire;
+
+// Puts the two bits of a gate that waits, its wires' bytes given; the place after them.
+pub fn put_bits(
+    byte: u8,
+    x: u8,
+    y: u8,
+    triples: &[u8],
+    ands: usize,
+    bits_out: &mut [u8],
+    place: usize,
+) -> usize
+    requires { ⌜ (ands ≤ 4096) × (place ≤ 8192) × (byte ≡ 1 → ands * 3 + 1 < length (now triples)) × (byte ≡ 1 → place + 1 < length (now «bits_out»)) ⌝ }
+    ensures { λ r. ⌜ (r ≡ placeAfter byte place) × (now («bits_out» .exit) ≡ putBits byte x y (now (triples .entry)) ands place (now («bits_out» .entry))) ⌝ }
+{
+    if byte != 1 {
+        return place;
+    }
+    let at = ands * 3;
+    bits_out[place] = x % 2 ^ triples[at];
+    bits_out[place + 1] = y % 2 ^ triples[at + 1];
+    place + 2
+}
+
+// Writes the shares of the output wires.
+pub fn write_shares(source: &[u8], front: Front, wires: &[u8; 4096], output: &mut [u8])
+    requires { ⌜ HasFront (now source) front × (front .outputs ≤ length (now output)) ⌝ }
+    ensures { λ _. ⌜ now (output .exit)
+        ≡ atWires (sharesIn (now (wires .entry))) (content (now (source .entry)) .outputs) ++ drop (front .outputs) (now (output .entry)) ⌝ }
+{
+    let outputs = front.outputs;
+    let limit = front.inputs + front.gates;
+    let mut at = front.tail;
+    let mut i: usize = 0;
+    while i < outputs {
+        let w = known_wire(source, at, limit);
+        let wire = w.number;
+        output[i] = wires[wire] % 2;
+        at = w.next;
+        i += 1;
+    }
+}
