@@ -100,28 +100,67 @@ static long ended(long result)
     } while (0)
 
 void *__real_calloc(size_t count, size_t size);
+void __real_free(void *memory);
 void *__wrap_calloc(size_t count, size_t size);
+
+/* Memory whose size is known: to the sanitizer, or else because it stands before it. */
+#ifdef __SANITIZE_ADDRESS__
+static void *take(size_t count, size_t size)
+{
+    return __real_calloc(count, size);
+}
+
+static size_t size_of(void *memory)
+{
+    return malloc_usable_size(memory);
+}
+
+static void give_back(void *memory)
+{
+    __real_free(memory);
+}
+#else
+enum { BEFORE = 16 };
+static void *take(size_t count, size_t size)
+{
+    size_t *memory = __real_calloc(1, BEFORE + count * size);
+    if (memory == NULL)
+        return NULL;
+    *memory = count * size;
+    return (uint8_t *)memory + BEFORE;
+}
+
+static size_t size_of(void *memory)
+{
+    return *(size_t *)(void *)((uint8_t *)memory - BEFORE);
+}
+
+static void give_back(void *memory)
+{
+    __real_free(memory == NULL ? NULL : (uint8_t *)memory - BEFORE);
+}
+#endif
+
 void *__wrap_calloc(size_t count, size_t size)
 {
     if (mode == INTERRUPTED)
-        return __real_calloc(count, size);
+        return take(count, size);
     if (counted(ENOMEM) != 0) {
         failed_call = "calloc";
         return NULL;
     }
-    return __real_calloc(count, size);
+    return take(count, size);
 }
 
-void __real_free(void *memory);
 void __wrap_free(void *memory);
 void __wrap_free(void *memory)
 {
-    size_t len = memory == NULL ? 0 : malloc_usable_size(memory);
+    size_t len = memory == NULL ? 0 : size_of(memory);
     for (size_t k = 0; k < len; k++)
         if (((uint8_t *)memory)[k] != 0)
             complain(__LINE__, "byte %zu of %zu is freed and not wiped", k, len);
     checks += memory != NULL;
-    __real_free(memory);
+    give_back(memory);
 }
 
 ssize_t __real_getrandom(void *bytes, size_t len, unsigned flags);
