@@ -617,6 +617,10 @@ static int judge(struct check *check, int bench)
     }
     if (check->number[0] != 0 || check->number[1] != 0 || n->end != EXPANDER_NOISE_END || s->end != EXPANDER_SCALAR_END) {
         check->status = UNUSABLE;
+        if (check->number[0] == 0 && check->number[1] != 0 && n->end == EXPANDER_SCALAR_END)
+            check->remark = "the first file is a scalar record, and the noise record is expected first";
+        if (check->number[1] == 0 && check->number[0] != 0 && s->end == EXPANDER_NOISE_END)
+            check->remark = "the second file is a noise record, and the noise record is expected first";
         check->verdict = check->number[0] != 0 || check->number[1] != 0 ? "refused"
                          : n->end == EXPANDER_NOISE_END ? "both are noise records" : "both are scalar records";
         diagnose_heads(check);
@@ -688,6 +692,14 @@ int run_check(int argc, char **argv)
         else
             print_text(check);
         status = check->status;
+    } else if (json) {
+        printf("{\"noise\":");
+        print_json_text(argv[0]);
+        printf(",\"scalar\":");
+        print_json_text(argv[1]);
+        printf(",");
+        print_json_error();
+        printf("\n");
     }
     end_diagnosis(&check->diagnosis);
     for (int file = 0; file < 2; file++)

@@ -21,7 +21,8 @@ static const char help[] =
     "outputs. A file may be - for standard input.\n"
     "\n"
     "  --inputs FILE         the values, one for each input word, between blanks or lines: decimal up to 64 bits, 0x and\n"
-    "                        hexadecimal digits, or 0b and bits; standard input if not given, since they may be secret\n"
+    "                        hexadecimal digits, or 0b and bits; standard input if not given, since they may be secret,\n"
+    "                        but where CIRCUIT is\n"
     "  --input-widths W,..   how many bits the words of inputs have, lowest bit first; needed of bytes, which do not say it,\n"
     "  --output-widths W,..  if there is more than one word of inputs, or of outputs\n"
     "  --output FILE         a new file that its owner alone can read, instead of standard output\n"
@@ -288,8 +289,10 @@ static int read_values(const char *path, const struct companion_circuit *circuit
 
 static void print_word(const uint8_t *bits, size_t width, int json)
 {
+    enum { EXACT = 53 }; /* bits of a number that every reader of JSON keeps */
     if (width <= 64) {
-        printf("%llu", (unsigned long long)companion_from_bits(bits, width));
+        const char *quote = json && width > EXACT ? "\"" : "";
+        printf("%s%llu%s", quote, (unsigned long long)companion_from_bits(bits, width), quote);
         return;
     }
     printf(json ? "\"0x" : "0x");
@@ -370,6 +373,8 @@ int run_circuit(int argc, char **argv)
     }
     if (operands != 1)
         return complain("one file is expected: expander circuit %s %s", actions[action], action == 1 ? "TEXT" : "CIRCUIT");
+    if (action == 3 && strcmp(argv[1], "-") == 0 && (inputs == NULL || strcmp(inputs, "-") == 0))
+        return complain("standard input is the circuit, so the values are expected in a file: --inputs FILE");
     if ((circuit = calloc(1, sizeof *circuit)) == NULL)
         return complain("the system gives no memory");
     if (read_circuit(argv[1], action == 1, circuit, &bristol) && set_widths(circuit, bristol, input_widths, output_widths)) {
@@ -379,6 +384,13 @@ int run_circuit(int argc, char **argv)
             status = evaluate(argv[1], circuit, inputs, json);
         else
             status = write_circuit(argv[1], circuit, action == 2, output);
+    }
+    if (json && status == UNUSABLE) {
+        printf("{\"file\":");
+        print_json_text(argv[1]);
+        printf(",");
+        print_json_error();
+        printf("\n");
     }
     free(circuit);
     return status;

@@ -14,6 +14,8 @@ enum { WELL = 0, DIFFER = 1, UNUSABLE = 2 };
 /* Prints a sentence to standard error, behind the name of the subcommand; returns UNUSABLE. */
 void name_subcommand(const char *name);
 int complain(const char *format, ...) __attribute__((format(printf, 1, 2)));
+/* The last complaint as the end of a JSON object: "error" and "status". */
+void print_json_error(void);
 
 /* An option: a flag, or one with a value. */
 struct option {

@@ -11,6 +11,7 @@
 #include <unistd.h>
 
 static const char *subcommand = "";
+static char said[1024]; /* the last complaint */
 
 void name_subcommand(const char *name)
 {
@@ -20,15 +21,21 @@ void name_subcommand(const char *name)
 int complain(const char *format, ...)
 {
     va_list arguments;
-    char text[1024];
     va_start(arguments, format);
-    vsnprintf(text, sizeof text, format, arguments);
+    vsnprintf(said, sizeof said, format, arguments);
     va_end(arguments);
     fflush(stdout);
     fprintf(stderr, "expander%s%s: ", subcommand[0] != '\0' ? " " : "", subcommand);
-    print_name(stderr, text);
+    print_name(stderr, said);
     fprintf(stderr, "\n");
     return UNUSABLE;
+}
+
+void print_json_error(void)
+{
+    printf("\"error\":");
+    print_json_text(said);
+    printf(",\"status\":%d}", UNUSABLE);
 }
 
 int take_options(int argc, char **argv, const struct option *options, size_t count)
@@ -254,15 +261,16 @@ int end_output(int status)
     return status;
 }
 
-/* Whether a text is UTF-8, without looking at ranges that are not characters. */
+/* Whether a text is UTF-8: no surrogates, nothing longer than it need be, nothing above U+10FFFF. */
 static int is_utf8(const char *text)
 {
     for (const unsigned char *at = (const unsigned char *)text; *at != 0; at++) {
-        int more = *at < 0x80 ? 0 : *at >= 0xC2 && *at < 0xE0 ? 1 : *at >= 0xE0 && *at < 0xF0 ? 2 : *at >= 0xF0 && *at < 0xF5 ? 3 : -1;
+        unsigned first = *at, least = first == 0xE0 ? 0xA0 : first == 0xF0 ? 0x90 : 0x80, most = first == 0xED ? 0x9F : first == 0xF4 ? 0x8F : 0xBF;
+        int more = first < 0x80 ? 0 : first >= 0xC2 && first < 0xE0 ? 1 : first >= 0xE0 && first < 0xF0 ? 2 : first >= 0xF0 && first < 0xF5 ? 3 : -1;
         if (more < 0)
             return 0;
-        for (; more > 0; more--)
-            if ((*++at & 0xC0) != 0x80)
+        for (; more > 0; more--, least = 0x80, most = 0xBF)
+            if (*++at < least || *at > most)
                 return 0;
     }
     return 1;

@@ -259,6 +259,12 @@ int run_describe(int argc, char **argv)
         struct described one;
         if (!read_file(argv[k], RECORD_FILE_MAX, &file)) {
             status = UNUSABLE;
+            if (json) {
+                printf("%s{\"file\":", shown++ > 0 ? "," : "");
+                print_json_text(argv[k]);
+                printf(",");
+                print_json_error();
+            }
             continue;
         }
         one.path = argv[k];

@@ -49,12 +49,12 @@ int main(void)
     status = companion_count(&circuit, &counts);
     for (int k = 0; k < 2 && status.number == 0; k++)
         status = companion_deal(&sizes, companion_label((uint64_t)k + 1), &dealt[k]);
-    if (status.number != 0 || socketpair(AF_UNIX, SOCK_STREAM, 0, fds) != 0)
-        return 1;
+    if (status.number != 0 || socketpair(AF_UNIX, SOCK_STREAM, 0, fds) != 0) return 1;
     int end = fork() == 0;
     status = run_end(end, fds[end], wealth[end], &found);
+    companion_wipe(dealt, sizeof dealt);
     companion_text(status, text, sizeof text);
-    if (end == 0 && (wait(&other) < 0 || other != 0)) return 1;
-    printf("end %d: %s; the %s is richer (%d ANDs, %d rounds)\n", end + 1, text, found ? "first" : "second", (int)counts.ands, (int)counts.rounds);
-    return status.number != 0 || found != (wealth[0] > wealth[1]);
+    if (status.number != 0) fprintf(stderr, "end %d: %s\n", end + 1, text);
+    else printf("end %d: the %s is richer (%d ANDs, %d rounds)\n", end + 1, found ? "first" : "second", (int)counts.ands, (int)counts.rounds);
+    return (end == 0 && (wait(&other) < 0 || other != 0)) || status.number != 0 || found != (wealth[0] > wealth[1]);
 }

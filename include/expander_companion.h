@@ -361,7 +361,12 @@ struct companion_status companion_draw(
     struct companion_stock *stock, const struct companion_link *link, struct expander_label label,
     size_t caller, size_t count, size_t *first);
 
-/** Pass what is left of a stock to a fresh dealing, or pair, of a higher label.
+/** Pass what is left of a stock to a fresh dealing, or pair, of a higher label. Nothing is sent.
+ *
+ *  Both ends are to stand alike before, since what each has left divides the fresh indices among the
+ *  callers: after a crash, a draw of 0 for each caller with a link brings the one that is behind there.
+ *  After a crash in a passage, or between both ends' passages, a stock has the one label or the other:
+ *  open it with the fresh label and, where that returns 21, with the one before, and then pass it.
  *
  *  Returns:  0; 2, 20, 16 (as expander_pass_stock); COMPANION_FILE
  *  In:       label, outputs: of the fresh dealing, or pair

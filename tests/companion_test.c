@@ -100,28 +100,67 @@ static long ended(long result)
     } while (0)
 
 void *__real_calloc(size_t count, size_t size);
+void __real_free(void *memory);
 void *__wrap_calloc(size_t count, size_t size);
+
+/* Memory whose size is known: to the sanitizer, or else because it stands before it. */
+#ifdef __SANITIZE_ADDRESS__
+static void *take(size_t count, size_t size)
+{
+    return __real_calloc(count, size);
+}
+
+static size_t size_of(void *memory)
+{
+    return malloc_usable_size(memory);
+}
+
+static void give_back(void *memory)
+{
+    __real_free(memory);
+}
+#else
+enum { BEFORE = 16 };
+static void *take(size_t count, size_t size)
+{
+    size_t *memory = __real_calloc(1, BEFORE + count * size);
+    if (memory == NULL)
+        return NULL;
+    *memory = count * size;
+    return (uint8_t *)memory + BEFORE;
+}
+
+static size_t size_of(void *memory)
+{
+    return *(size_t *)(void *)((uint8_t *)memory - BEFORE);
+}
+
+static void give_back(void *memory)
+{
+    __real_free(memory == NULL ? NULL : (uint8_t *)memory - BEFORE);
+}
+#endif
+
 void *__wrap_calloc(size_t count, size_t size)
 {
     if (mode == INTERRUPTED)
-        return __real_calloc(count, size);
+        return take(count, size);
     if (counted(ENOMEM) != 0) {
         failed_call = "calloc";
         return NULL;
     }
-    return __real_calloc(count, size);
+    return take(count, size);
 }
 
-void __real_free(void *memory);
 void __wrap_free(void *memory);
 void __wrap_free(void *memory)
 {
-    size_t len = memory == NULL ? 0 : malloc_usable_size(memory);
+    size_t len = memory == NULL ? 0 : size_of(memory);
     for (size_t k = 0; k < len; k++)
         if (((uint8_t *)memory)[k] != 0)
             complain(__LINE__, "byte %zu of %zu is freed and not wiped", k, len);
     checks += memory != NULL;
-    __real_free(memory);
+    give_back(memory);
 }
 
 ssize_t __real_getrandom(void *bytes, size_t len, unsigned flags);
@@ -1296,6 +1335,38 @@ static void step_together(struct side *side)
     companion_close_stock(&stock);
 }
 
+/* A crash between the passages of two ends: one has passed, the other, that has not, passes when it comes up. */
+static void pass_apart(void)
+{
+    struct companion_stock ends[2];
+    struct expander_label one = companion_label(1), two = companion_label(2);
+    size_t first[2];
+    char paths[2][128];
+    fresh_folder();
+    for (int k = 0; k < 2; k++) {
+        snprintf(paths[k], sizeof paths[k], "%s.%d", path, k);
+        EXPECT(0, companion_create_stock(paths[k], one, 200, stock_shares, 3, &ends[k]));
+        EXPECT(0, companion_draw(&ends[k], NULL, one, 0, 30, &first[k]));
+    }
+    EXPECT(0, companion_pass(&ends[0], two, 120));
+    for (int k = 0; k < 2; k++) {
+        companion_close_stock(&ends[k]);
+        EXPECT(k == 0 ? 0 : 21, companion_open_stock(paths[k], two, &ends[k]));
+    }
+    EXPECT(0, companion_open_stock(paths[1], one, &ends[1]));
+    EXPECT(0, companion_pass(&ends[1], two, 120));
+    for (size_t caller = 0; caller < 2; caller++) {
+        EXPECT(0, companion_draw(&ends[0], NULL, two, caller, 7, &first[0]));
+        EXPECT(0, companion_draw(&ends[1], NULL, two, caller, 7, &first[1]));
+        CHECK(first[0] == first[1], "after the passages the ends draw %zu and %zu", first[0], first[1]);
+    }
+    for (int k = 0; k < 2; k++) {
+        companion_close_stock(&ends[k]);
+        CHECK(remove(paths[k]) == 0 && remove(strcat(paths[k], ".lock")) == 0, "no file");
+    }
+    remove_folder();
+}
+
 static void stock(size_t count)
 {
     struct companion_stock a, b;
@@ -1382,6 +1453,7 @@ static void stock(size_t count)
         EXPECT(0, sides[1].status);
         CHECK(positions[0] == ahead && positions[1] == ahead, "ends draw %zu and %zu", positions[0], positions[1]);
     }
+    pass_apart();
     printf("stock: %zu bytes a file; each byte changed, and each cut, is noticed\n", len);
 }
 
@@ -1586,28 +1658,45 @@ static void silence(size_t count)
 
 /* ---- Crashes ---- */
 
-/* A process that draws until it is killed, and says by the pipe what it was handed out. */
-static void draw_and_die(int to, enum mode how, size_t place, uint64_t turn)
+/* What the process that is killed says: the label that it has, and a window that it was handed out, or none. */
+struct handed {
+    uint64_t label;
+    size_t first, count;
+};
+
+/* A process that draws, or first passes, or passes after a draw, until it is killed, and says by the pipe what it was handed out.
+ * Its stock has the label, or the next one: a passage was saved, and nobody was told. */
+static void draw_and_die(int to, enum mode how, size_t place, uint64_t turn, uint64_t label)
 {
     struct companion_stock stock;
     struct companion_status status;
+    struct handed handed = {label + 1, 0, 0};
     seed = turn;
     mode = WELL;
-    status = companion_open_stock(path, companion_label(1), &stock);
-    if (status.number == COMPANION_FILE)
-        status = companion_create_stock(path, companion_label(1), EXPANDER_OUTPUTS_MAX,
+    status = companion_open_stock(path, companion_label(label + 1), &stock);
+    if (status.number == EXPANDER_LABEL_NOT_IN_USE) {
+        handed.label = label;
+        status = companion_open_stock(path, companion_label(label), &stock);
+    } else if (status.number == COMPANION_FILE) {
+        status = companion_create_stock(path, companion_label(handed.label), EXPANDER_OUTPUTS_MAX,
                                         (const uint32_t[2]){EXPANDER_OUTPUTS_MAX / 2, EXPANDER_OUTPUTS_MAX / 2}, 2, &stock);
-    if (status.number != 0)
+    }
+    if (status.number != 0 || __real_write(to, &handed, sizeof handed) != sizeof handed)
         _exit(2);
     calls = 0;
     at = place;
     mode = how;
-    for (;;) {
-        size_t drawn[2] = {0, 1 + draw(3)};
-        status = companion_draw(&stock, NULL, companion_label(1), draw(2), drawn[1], &drawn[0]);
+    for (size_t step = 0;; step++) {
+        handed.count = 0;
+        if (step == turn % 5) { /* in two of five runs a passage is among the two steps that are made */
+            status = companion_pass(&stock, companion_label(++handed.label), EXPANDER_OUTPUTS_MAX);
+        } else {
+            handed.count = 1 + draw(3);
+            status = companion_draw(&stock, NULL, companion_label(handed.label), draw(2), handed.count, &handed.first);
+        }
         if (status.number != 0)
             _exit(status.number == EXPANDER_SHARE_SPENT ? 3 : 4);
-        if (__real_write(to, drawn, sizeof drawn) != sizeof drawn)
+        if (__real_write(to, &handed, sizeof handed) != sizeof handed)
             _exit(5);
     }
 }
@@ -1617,14 +1706,16 @@ static void draw_and_die(int to, enum mode how, size_t place, uint64_t turn)
 static void crashes(size_t count)
 {
     enum { STEPS = 8 }; /* open, write, sync, close, rename, open, sync, close */
-    static uint8_t used[EXPANDER_OUTPUTS_MAX];
+    static uint8_t used[EXPANDER_OUTPUTS_MAX]; /* of the label's dealing */
     char before[128], command[300];
-    size_t handed = 0, put_back = 0, runs_made = 0;
+    size_t given = 0, put_back = 0, runs_made = 0, passages = 0, unsaid = 0;
+    uint64_t label = 0;
     fresh_folder();
     snprintf(before, sizeof before, "%s.before", path);
     for (size_t turn = 0; turn < count; turn++) {
         enum mode how = turn % 2 == 0 ? DIES_BEFORE : DIES_AFTER;
-        size_t place = turn / 2 % (2 * STEPS), step = place % STEPS, drawn[2], seen = 0;
+        size_t place = turn / 2 % (2 * STEPS), step = place % STEPS, seen = 0;
+        struct handed handed;
         int fds[2], status;
         pid_t id;
         if (pipe(fds) != 0)
@@ -1635,20 +1726,27 @@ static void crashes(size_t count)
         fflush(stdout);
         id = fork();
         if (id == 0)
-            draw_and_die(fds[1], how, place, turn + 1);
+            draw_and_die(fds[1], how, place, turn + 1, label);
         __real_close(fds[1]);
-        while (__real_read(fds[0], drawn, sizeof drawn) == sizeof drawn) {
-            for (size_t k = drawn[0]; k < drawn[0] + drawn[1]; k++) {
-                CHECK(!used[k], "index %zu is handed out twice, in run %zu", k, turn);
+        while (__real_read(fds[0], &handed, sizeof handed) == sizeof handed) {
+            if (handed.label != label) {
+                CHECK(handed.label == label + 1, "label %u after %u", (unsigned)handed.label, (unsigned)label);
+                label = handed.label;
+                memset(used, 0, sizeof used);
+                unsaid += seen == 0;
+                passages++;
+            }
+            for (size_t k = handed.first; k < handed.first + handed.count; k++) {
+                CHECK(!used[k], "index %zu of label %u is handed out twice, in run %zu", k, (unsigned)label, turn);
                 used[k] = 1;
-                handed++;
+                given++;
             }
             seen++;
         }
         __real_close(fds[0]);
         waitpid(id, &status, 0);
         CHECK(WIFSIGNALED(status) && WTERMSIG(status) == SIGKILL, "run %zu ended by itself, status %d", turn, status);
-        CHECK(seen == place / STEPS, "run %zu was handed %zu windows", turn, seen);
+        CHECK(seen == 1 + place / STEPS, "run %zu made %zu steps", turn, seen);
         /* Renamed and not synced: the machine may come up with the file as it was before this run. */
         if (turn % 7 == 0 && turn > 0 && place < STEPS && (how == DIES_BEFORE ? step >= 5 && step <= 6 : step >= 4 && step <= 5)) {
             CHECK(rename(before, path) == 0, "nothing to put back");
@@ -1658,8 +1756,9 @@ static void crashes(size_t count)
     }
     remove(before);
     remove_folder();
-    printf("crashes: %zu runs killed before and after each of the %d calls of saving, %zu indices handed out, none twice;"
-           " %zu times the rename was lost\n", runs_made, STEPS, handed, put_back);
+    CHECK(count < 500 || (passages > count / 10 && unsaid > count / 100), "%zu passages, %zu of them found after a crash", passages, unsaid);
+    printf("crashes: %zu runs killed before and after each of the %d calls of saving, %zu indices handed out, none twice; %zu passages,"
+           " %zu of them found after a crash; %zu times the rename was lost\n", runs_made, STEPS, given, passages, unsaid, put_back);
 }
 
 /* ---- Texts ---- */
