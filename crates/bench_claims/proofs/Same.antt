@@ -22,8 +22,8 @@ use Rattle.field.proofs.BothKinds.{kindLaws}
 use Rattle.record.specs.Content.{Head, NoisePart, ScalarPart}
 use Rattle.record.proofs.Callers.{head-ranges}
 use Rattle.record.proofs.Parts.{noise-parts, scalar-parts}
-use Rattle.rows.specs.Head.{fieldOf, places, row}
-use Rattle.rows.proofs.Rows.{row-within, row-output}
+use Rattle.window.specs.Head.{fieldOf, places, row}
+use Rattle.window.proofs.Rows.{row-within, row-output}
 use Rattle.noise_end.specs.Vectors.{mu, v0}
 use Rattle.noise_end.specs.Online as noiseOnline
 use Rattle.noise_end.proofs.Laws as noiseLaws

@@ -30,7 +30,7 @@ use Rattle.noise_end.specs.Vectors.{value, mu, v0}
 use Rattle.record.proofs.Laws.{noise-exact}
 use Rattle.record.specs.Admitted.{isField, isNoise, Each, AdmittedTree, AdmittedNoise}
 use Rattle.record.specs.Content.{Head, NoiseTree, treeIn, siblingCount}
-use Rattle.rows.specs.Head.{fieldOf, places}
+use Rattle.window.specs.Head.{fieldOf, places}
 use Rattle.scalar_end.proofs.Laws as scalarLaws
 use Rattle.scalar_end.specs.Vectors as scalarEnd
 use Rattle.scalar_end.specs.Vectors.{delta, w0}

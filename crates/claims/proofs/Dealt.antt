@@ -11,7 +11,7 @@ use Rattle.field.proofs.BothKinds.{kindLaws}
 use Rattle.field.specs.Kind.{KindLaws}
 use Rattle.aes128.specs.State.{column}
 use Rattle.aes128.specs.Cipher.{aes}
-use Rattle.rows.specs.Head.{kind}
+use Rattle.window.specs.Head.{kind}
 use Rattle.tree.proofs.Blocks.{Square, columns-of, xor-square}
 use Rattle.tree.proofs.Listed.{listed-at}
 use Rattle.tree.proofs.Laws.{Each, from-siblings, siblings-have}

@@ -24,8 +24,8 @@ use Rattle.field.specs.Kind.{kindOf}
 use Rattle.number.specs.Reading.{Whole}
 use Rattle.record.specs.Content.{elementOf}
 use Rattle.record.specs.Reading.{readNoise, readScalar}
-use Rattle.rows.proofs.Rows.{row-within, row-output}
-use Rattle.rows.specs.Head.{places, row}
+use Rattle.window.proofs.Rows.{row-within, row-output}
+use Rattle.window.specs.Head.{places, row}
 use Rattle.dealing.specs.Admitted.{Admitted}
 use Rattle.dealing.specs.Parts.{noisePart, scalarPart}
 use Rattle.dealing.specs.Vectors as dealt

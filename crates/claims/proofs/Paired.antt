@@ -5,8 +5,8 @@ use Prim.Native.Nat.{ℕ}
 use Rattle.algebra.proofs.Same.{accumulate-same, output-same}
 use Rattle.algebra.specs.Group.{itself}
 use Rattle.field.proofs.BothKinds.{noiseFacts}
-use Rattle.rows.proofs.Rows.{row-within}
-use Rattle.rows.specs.Head.{places, row}
+use Rattle.window.proofs.Rows.{row-within}
+use Rattle.window.specs.Head.{places, row}
 use Rattle.dealing.proofs.Laws as dealing
 use Rattle.dealing.specs.Admitted.{Admitted}
 use Rattle.dealing.specs.Input.{Input}

@@ -11,7 +11,7 @@ use Rattle.answer.specs.Outcome.{Outcome, TwoWritten}
 use Rattle.number.specs.Reading.{Whole, Bytes}
 use Rattle.record.specs.Content.{Head, NoiseTree, NoisePart, ScalarPart}
 use Rattle.record.specs.Reading.{readNoise, readScalar}
-use Rattle.rows.specs.Head.{fieldOf, places}
+use Rattle.window.specs.Head.{fieldOf, places}
 use Rattle.noise_end.specs.Offline as noiseOffline
 use Rattle.noise_end.specs.Vectors.{mu, v0}
 use Rattle.scalar_end.specs.Offline as scalarOffline

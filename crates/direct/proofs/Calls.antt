@@ -29,8 +29,8 @@ use Rattle.record.proofs.Parts.{noise-parts, scalar-parts}
 use Rattle.aes128.specs.Cipher.{aes}
 use Rattle.code.specs.Row.{termBlock}
 use Rattle.code.specs.Inner.Rows.{termBlockBy}
-use Rattle.rows.specs.Inner.Outputs.{codeKeys}
-use Rattle.rows.proofs.Numbers.{count-fits}
+use Rattle.window.specs.Inner.Outputs.{codeKeys}
+use Rattle.window.proofs.Numbers.{count-fits}
 use Rattle.tree.specs.Inner.Keys.{keysFor}
 use Rattle.tree.specs.KeySchedules.{OfChildKeys}
 use Rattle.noise_end.specs.Inner.Ready as noiseReady

@@ -18,8 +18,8 @@ use Rattle.record.specs.Content.{NoiseTree, treeIn, siblingCount}
 use Rattle.record.specs.Inner.Answers.{treeOf}
 use Rattle.record.specs.declared.Front.{Front}
 use Rattle.record.specs.declared.Tree.{Tree}
-use Rattle.rows.proofs.Blocks.{columns-item}
-use Rattle.rows.proofs.Widths.{width-most}
+use Rattle.window.proofs.Blocks.{columns-item}
+use Rattle.field.proofs.Widths.{width-most}
 use Rattle.tree.specs.Child.{child}
 use Rattle.tree.specs.Columns.{columnsAt, siblingsAt}
 use Rattle.tree.specs.Tree.{leafAt, fromSiblings}

@@ -13,7 +13,7 @@ use Rattle.algebra.specs.Row.{entry, rowTimes}
 use Rattle.number.specs.Reading.{afterReading}
 use Rattle.record.specs.Content.{Head, NoisePart}
 use Rattle.record.specs.Reading.{readNoise}
-use Rattle.rows.specs.Head.{fieldOf, places, row}
+use Rattle.window.specs.Head.{fieldOf, places, row}
 use Rattle.noise_end.specs.Vectors.{mu, v0}
 
 -- what is lent: the record and the output buffers

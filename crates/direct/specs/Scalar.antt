@@ -12,7 +12,7 @@ use Rattle.algebra.specs.Row.{entry, rowTimes}
 use Rattle.number.specs.Reading.{afterReading}
 use Rattle.record.specs.Content.{Head, ScalarPart}
 use Rattle.record.specs.Reading.{readScalar}
-use Rattle.rows.specs.Head.{fieldOf, places, row}
+use Rattle.window.specs.Head.{fieldOf, places, row}
 use Rattle.scalar_end.specs.Vectors.{w0}
 
 -- what is lent: the record and the output buffer

@@ -27,10 +27,10 @@ use answer::TwoLengths;
 use answer::WINDOW_PAST_END;
 use answer::is_past;
 use code::Window;
+use field::element_width;
 use record::Front;
-use rows::code_keys;
-use rows::element_width;
 use tree::child_keys;
+use window::code_keys;
 
 // The words of a window's elements.
 fn words_for(front: Front, window: Window) -> usize

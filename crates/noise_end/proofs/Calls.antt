@@ -3,7 +3,6 @@ use mathlib.Core.Path.{_≡_, refl, sym, ap, _∙_}
 use mathlib.Core.Bool.{Bool, true, false, not}
 use mathlib.Core.List.{List, [], _∷_, _++_}
 use Prim.Native.Nat.{ℕ, _+_, _*_, _^_, _≤_, _<_}
-use native.Mathlib.Nat.{mul-one}
 use native.Mathlib.Omega.{arith}
 use lib.ListN.{length, take, drop}
 use lib.Seq.{length-take-le}
@@ -15,7 +14,7 @@ use Rattle.answer.specs.Tests.{holds, _or_, firstFault, AllMet}
 use Rattle.answer.specs.Outcome.{Outcome, TwoWritten, answered, refusedTwo, wrote}
 use Rattle.answer.proofs.Answers.{refused-two, accepted-now}
 use Rattle.answer.proofs.Faults.{admitted-by, held, broken, given-at-most, given-above, fault-here, fault-later, fault-nowhere, fault-before, fault-after}
-use Rattle.algebra.specs.Choice.{choose}
+use Rattle.algebra.proofs.Every.{every-both}
 use Rattle.algebra.specs.Coding.{flat, over}
 use Rattle.algebra.specs.Sum.{accumulate}
 use Rattle.aes128.specs.Cipher.{aes}
@@ -23,34 +22,35 @@ use Rattle.code.specs.Row.{termBlock, rowOfBlocks}
 use Rattle.code.specs.Inner.Rows.{termBlockBy}
 use Rattle.code.specs.declared.Window.{Window}
 use Rattle.field.specs.Kind.{kindOf, elementWords}
-use Rattle.field.proofs.BothKinds.{kindLaws}
 use Rattle.number.proofs.Records.{read-refused, read-whole}
 use Rattle.record.specs.Reading.{readHead, readNoise}
 use Rattle.record.specs.Answer.{headOf, opened, frontOf, recordFault}
 use Rattle.record.specs.declared.Front.{Front}
 use Rattle.record.specs.declared.Opened.{Opened}
 use Rattle.record.specs.declared.Opened.the-variants.{Accepted, Fault}
-use Rattle.rows.specs.declared.WindowRows.{WindowRows}
-use Rattle.rows.specs.Head.{fieldOf}
-use Rattle.rows.specs.Inner.Outputs.{codeKeys, rowsOf, ofNoise}
-use Rattle.rows.specs.Inner.Testing.{Fitting, elementsUsed}
-use Rattle.rows.specs.Usable.{windowUsable}
-use Rattle.rows.proofs.Fronts.{front-over}
-use Rattle.rows.proofs.Numbers.{count-fits, passed-fits}
+use Rattle.window.specs.Head.{fieldOf}
+use Rattle.window.specs.Inner.Numbers.{lengthTests}
+use Rattle.window.specs.Inner.Outputs.{codeKeys, rowsOf}
+use Rattle.window.specs.Inner.Sizes.{Sizes}
+use Rattle.window.specs.Inner.Testing.{Fitting, NoiseFitting, elementsUsed}
+use Rattle.window.specs.Inner.Written.{bothUsed, uOver, vOver, WindowWritten}
+use Rattle.window.specs.Usable.{windowUsable}
+use Rattle.window.proofs.Numbers.{count-fits, passed-fits, all-pairs}
 use Rattle.noise_end.specs.Vectors.{mu, v0}
 use Rattle.noise_end.specs.Offline.{OfflineLent, offlineWith, vWords, offlineTests, expanded, offline}
 use Rattle.noise_end.specs.Online.{Lent, lentWith, usable, filled, onlineTests, online}
 use Rattle.noise_end.specs.Inner.Ready.{contentOf, Ready}
-use Rattle.noise_end.specs.Inner.Steps.{bothUsed, uOver, vOver, WindowWritten, lengthTests}
 use Rattle.noise_end.proofs.Content.{ready, refused-is}
 use Rattle.noise_end.proofs.Laws.{one-word}
-use Rattle.noise_end.proofs.Steps.{every-both}
 
 -- ---- reading
 
 module _ (s : List ℕ) {r : Opened} (opens : opened s r ≡ frontOf (readNoise s) (readHead 1 s)) {f : Front} (e : r ≡ Accepted f) where
   pub depth-most : f .depth ≤ 16
   depth-most = ready s opens e .sizes .depth
+
+  pub sizes : Sizes s (headOf s f) (f .body)
+  sizes = ready s opens e .sizes
 
 -- ---- offline
 
@@ -101,53 +101,6 @@ module _ (s noise v : List ℕ) {r : Opened} (opens : opened s r ≡ frontOf (re
 
 -- ---- online
 
--- the windows under round keys
-module _ (keys : List (List (List ℕ))) (r : WindowRows) (noise v uOut vOut : List ℕ) where
-  none-written : bothUsed keys r noise v ≡ false → WindowWritten keys r noise v uOut vOut false uOut vOut
-  none-written e = record { told = sym e; u-is = refl; v-is = refl }
-
-  all-written : bothUsed keys r noise v ≡ true → {a b : List ℕ} → a ≡ uOver keys r noise uOut → b ≡ vOver keys r v vOut
-      → WindowWritten keys r noise v uOut vOut true a b
-  all-written e p q = record { told = sym e; u-is = p; v-is = q }
-
-  -- tested before they are written, the noise and then v
-  module _ {x : Bool} (xe : x ≡ elementsUsed (ofNoise (kindOf (r .field) .field)) keys r noise) where
-    pub noise-not-usable : not x ≡ true → WindowWritten keys r noise v uOut vOut false uOut vOut
-    noise-not-usable e = none-written (rw (← xe, not-true x e))
-
-    module _ (right : not x ≡ false) {y : Bool} (ye : y ≡ elementsUsed (kindOf (r .field) .field) keys r v) where
-      pub not-usable : not y ≡ true → WindowWritten keys r noise v uOut vOut false uOut vOut
-      not-usable e = none-written (rw (← xe, ← ye, not-false x right, not-true y e))
-
-      pub large-written : not y ≡ false → {a b : List ℕ} → a ≡ uOver keys r noise uOut → b ≡ vOver keys r v vOut
-          → WindowWritten keys r noise v uOut vOut true a b
-      large-written e = all-written (rw (← xe, ← ye, not-false x right, not-false y e))
-
-  -- tested as they are summed, in memory of its own
-  module _ {t : Bool} (te : t ≡ bothUsed keys r noise v) where
-    pub small-refused : not t ≡ true → WindowWritten keys r noise v uOut vOut false uOut vOut
-    small-refused e = none-written (sym te ∙ not-true t e)
-
-    pub small-written : not t ≡ false → {width : ℕ} → width ≡ elementWords (r .field)
-        → (uOwn : List ℕ) {x : List ℕ} → x ≡ uOver keys r noise uOwn
-        → (vOwn : List ℕ) {y : List ℕ} → y ≡ vOver keys r v vOwn
-        → {a : List ℕ} → a ≡ take (r .window .count) x ++ drop (r .window .count) uOut
-        → {b : List ℕ} → b ≡ take (r .window .count * width) y ++ drop (r .window .count * width) vOut
-        → WindowWritten keys r noise v uOut vOut true a b
-    small-written e we uOwn p vOwn q ae be =
-        let F = kindOf (r .field) .field in
-        let L = kindLaws (r .field) .field in
-        let one : r .window .count ≡ r .window .count * F .noiseValues .width =
-        sym (ap (λ (n : ℕ). r .window .count * n) (kindLaws (r .field) .noise-width) ∙ mul-one (r .window .count)) in
-        all-written (sym te ∙ not-false t e)
-        (front-over (F .noiseValues) (L .noiseValues) (r .window .count) _ uOwn uOut p one ae)
-        (front-over (F .elements) (L .elements) (r .window .count) _ vOwn vOut q (ap (λ (n : ℕ). r .window .count * n) we) be)
-
-  -- under keys and rows that functions made
-  pub written-for : {keys′ : List (List (List ℕ))} → keys′ ≡ keys → {r′ : WindowRows} → r′ ≡ r → {t : Bool} {a b : List ℕ}
-      → WindowWritten keys′ r′ noise v uOut vOut t a b → WindowWritten keys r noise v uOut vOut t a b
-  written-for ke re w = rw (← ke, ← re) w
-
 module _ (s noise v uOut vOut : List ℕ) (first count : ℕ) {r : Opened} (opens : opened s r ≡ frontOf (readNoise s) (readHead 1 s)) where
   pub online-fault : {j k : ℕ} → r ≡ Fault j → k ≡ recordFault r
       → refusedTwo (lentWith s noise v uOut vOut) k ≡ online (lentWith s noise v uOut vOut) first count
@@ -183,20 +136,21 @@ module _ (s noise v uOut vOut : List ℕ) (first count : ℕ) {r : Opened} (open
         met : AllMet (lengthTests f (length noise) (length v) a (length uOut) (length vOut))
         met = admitted-by _ n refl number z
 
-        pub u-fitting : Fitting 1 (rowsOf f (record { first = first; count = count })) (length noise) (length uOut)
+        pub u-fitting : NoiseFitting (rowsOf f (record { first = first; count = count }) count) (length noise) (length uOut)
         u-fitting =
-            passed-fits 1 s f (length noise) a (length uOut) (accepted .sizes) (omega (arith, met .all)) (omega (arith, met .all)) (omega (arith, met .all))
+            all-pairs f a (passed-fits 1 s f (length noise) a (length uOut) count (accepted .sizes)
+            (omega (arith, met .all)) (omega (arith, met .all)) (omega (arith, met .all)))
 
-        pub v-fitting : Fitting (elementWords (f .field)) (rowsOf f (record { first = first; count = count })) (length v) (length vOut)
+        pub v-fitting : Fitting (elementWords (f .field)) (rowsOf f (record { first = first; count = count }) count) (length v) (length vOut)
         v-fitting =
-            passed-fits (elementWords (f .field)) s f (length v) a (length vOut) (accepted .sizes)
+            passed-fits (elementWords (f .field)) s f (length v) a (length vOut) count (accepted .sizes)
             (omega (arith, met .all)) (omega (arith, met .all)) (omega (arith, met .all))
 
         pub words-fit : {width : ℕ} → width ≡ elementWords (f .field) → Fits w64 (count * width)
         words-fit we = count-fits (f .field) we first count (v-fitting .testing .within)
 
         -- the test of the words that the rows use, place by place and vector by vector
-        used-words : bothUsed (codeKeys (headOf s f)) (rowsOf f a) noise v ≡ windowUsable (usable (fieldOf (headOf s f)) l) (headOf s f) first count
+        used-words : bothUsed (codeKeys (headOf s f)) (rowsOf f a count) noise v ≡ windowUsable (usable (fieldOf (headOf s f)) l) (headOf s f) first count
         unfolding elementsUsed windowUsable usable rowOfBlocks termBlock termBlockBy aes
         used-words = simp every-both
 
@@ -206,7 +160,7 @@ module _ (s noise v uOut vOut : List ℕ) (first count : ℕ) {r : Opened} (open
         last {k} q = fault-after (lengthTests f (length noise) (length v) a (length uOut) (length vOut)) _ n k refl number z q
 
         module _ {t : Bool} {x y : List ℕ}
-            (w : WindowWritten (codeKeys (headOf s f)) (rowsOf f (record { first = first; count = count })) noise v uOut vOut t x y) where
+            (w : WindowWritten (codeKeys (headOf s f)) (rowsOf f (record { first = first; count = count }) count) noise v uOut vOut t x y) where
           pub online-unfit : not t ≡ true
               → record { number = 8; written = record { first = 0; second = 0 }; lent = lentWith s noise v x y }
               ≡ online (lentWith s noise v uOut vOut) first count
@@ -217,12 +171,12 @@ module _ (s noise v uOut vOut : List ℕ) (first count : ℕ) {r : Opened} (open
               rw (p, q) (online-by (refused-two l (onlineTests (headOf s f) l first count) 8
               (last (fault-here _ notElement [] (broken _ t (w .told ∙ used-words) c))) refl _))
 
-          pub online-written : not t ≡ false → {width : ℕ} → width ≡ elementWords (f .field)
-              → record { number = 0; written = record { first = count; second = count * width }; lent = lentWith s noise v x y }
-              ≡ online (lentWith s noise v uOut vOut) first count
+          pub online-written : not t ≡ false → {width : ℕ} → width ≡ elementWords (f .field) → {both : TwoWritten}
+              → both ≡ record { first = count; second = count * width }
+              → record { number = 0; written = both; lent = lentWith s noise v x y } ≡ online (lentWith s noise v uOut vOut) first count
           unfolding filled termBlock termBlockBy aes
-          online-written g we =
+          online-written g we be =
               let c = not-false t g in
-              let p : x ≡ uOver (codeKeys (headOf s f)) (rowsOf f a) noise uOut = w .u-is ∙ rw c in
-              let q : y ≡ vOver (codeKeys (headOf s f)) (rowsOf f a) v vOut = w .v-is ∙ rw c in
-              online-by (accepted-now _ _ _ _ (last (fault-later _ _ [] 0 (held _ t (w .told ∙ used-words) c) fault-nowhere)) (rw (p, q, we)))
+              let p : x ≡ uOver (codeKeys (headOf s f)) (rowsOf f a count) noise uOut = w .u-is ∙ rw c in
+              let q : y ≡ vOver (codeKeys (headOf s f)) (rowsOf f a count) v vOut = w .v-is ∙ rw c in
+              online-by (accepted-now _ _ _ _ (last (fault-later _ _ [] 0 (held _ t (w .told ∙ used-words) c) fault-nowhere)) (rw (p, q, be, we)))

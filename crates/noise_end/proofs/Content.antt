@@ -11,7 +11,7 @@ use Rattle.record.specs.declared.Front.{Front}
 use Rattle.record.specs.declared.Opened.{Opened}
 use Rattle.record.specs.declared.Opened.the-variants.{Accepted, Fault}
 use Rattle.record.proofs.Callers.{noise-refused, noise-opened}
-use Rattle.rows.proofs.Sizes.{head-sizes}
+use Rattle.window.proofs.Sizes.{head-sizes}
 use Rattle.noise_end.specs.Inner.Ready.{beside, treesAt, contentOf, Ready}
 
 -- the trees that were read

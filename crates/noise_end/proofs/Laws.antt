@@ -25,9 +25,9 @@ use Rattle.record.specs.Content.{Head, NoisePart}
 use Rattle.record.specs.Reading.{readNoise}
 use Rattle.record.proofs.Callers.{head-ranges}
 use Rattle.record.proofs.Parts.{noise-parts}
-use Rattle.rows.specs.Head.{fieldOf, places, row}
-use Rattle.rows.specs.Usable.{windowUsable}
-use Rattle.rows.proofs.Rows.{window-usable, row-output}
+use Rattle.window.specs.Head.{fieldOf, places, row}
+use Rattle.window.specs.Usable.{windowUsable}
+use Rattle.window.proofs.Rows.{window-usable, row-output}
 use Rattle.noise_end.specs.Vectors.{mu, v0}
 use Rattle.noise_end.specs.Offline.{OfflineLent, offlineWith, vWords, offlineTests, expanded, offline}
 use Rattle.noise_end.specs.Online.{Lent, usable, uAt, vAt, filled, onlineTests, online}

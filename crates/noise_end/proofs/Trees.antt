@@ -39,11 +39,12 @@ use Rattle.tree.specs.KeySchedules.{OfChildKeys}
 use Rattle.tree.specs.Tree.{fromSiblings}
 use Rattle.tree.proofs.ChildLaws.{punctured-by}
 use Rattle.tree.proofs.Levels.{whole-levels, level-leaves}
-use Rattle.rows.specs.Inner.Outputs.{ofNoise}
-use Rattle.rows.proofs.Blocks.{columns-part}
-use Rattle.rows.proofs.Flats.{put-flat}
-use Rattle.rows.proofs.Sizes.{leaf-words}
-use Rattle.rows.proofs.Sums.{treesSum, zero-elements, zero-noise, length-trees, trees-none, trees-more}
+use Rattle.window.specs.Inner.Outputs.{ofNoise}
+use Rattle.tree.proofs.Blocks.{columns-part}
+use Rattle.algebra.proofs.Flats.{put-flat}
+use Rattle.tree.proofs.Levels.{leaf-words}
+use Rattle.tree.proofs.Sums.{treesSum, length-trees, trees-none, trees-more}
+use Rattle.field.proofs.KindOf.{zero-elements, zero-noise}
 use Rattle.noise_end.specs.Vectors.{value, correction, leaf, mu, v0}
 use Rattle.noise_end.specs.Inner.Ready.{TreeRead, TreeFits, TreesFit, beside, treesAt, contentOf}
 use Rattle.noise_end.specs.Inner.Steps.{puncturedOf, treeAdded}

@@ -11,7 +11,7 @@ use Rattle.algebra.specs.Sum.{accumulate}
 use Rattle.number.specs.Reading.{afterReading}
 use Rattle.record.specs.Content.{NoisePart}
 use Rattle.record.specs.Reading.{readNoise}
-use Rattle.rows.specs.Head.{fieldOf, places}
+use Rattle.window.specs.Head.{fieldOf, places}
 use Rattle.noise_end.specs.Vectors.{mu, v0}
 
 -- what is lent: the record and both buffers

@@ -8,7 +8,7 @@ use Rattle.tree.specs.Child.{child}
 use Rattle.tree.specs.Columns.{columnsAt}
 use Rattle.tree.specs.Tree.{fromSiblings}
 use Rattle.record.specs.Content.{NoiseTree, NoisePart, treeIn}
-use Rattle.rows.specs.Head.{kind, fieldOf}
+use Rattle.window.specs.Head.{kind, fieldOf}
 
 -- tree i of a list of trees: its noise value, its correction, and the element of its leaf j, which follows from the siblings;
 -- a node has 2^g children, and the tree d / g levels (document 02, 10)

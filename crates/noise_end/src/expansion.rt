@@ -13,15 +13,15 @@ ghost use Rattle.record.specs.Reading.{readTree};
 ghost use Rattle.noise_end.specs.Vectors.{mu, v0};
 ghost use Rattle.noise_end.specs.Inner.Ready.{Ready, TreesFit, TreeRead, TreeFits, contentOf};
 ghost use Rattle.noise_end.specs.Inner.Steps.{treeAdded};
+use code::accumulate_elements;
+use code::accumulate_noise;
 use fill::add_punctured;
+use fill::zero_words;
 use record::Front;
 use record::Tree;
 use record::known_tree;
 use record::leaves;
 use record::sibling_count;
-use rows::accumulate_elements;
-use rows::accumulate_noise;
-use rows::zero_words;
 use tree::Punctured;
 use tree::child_keys;
 

@@ -5,7 +5,6 @@ ghost use Rattle.answer.specs.Outcome.{outcomeTwo};
 ghost use Rattle.noise_end.specs.Online.{lentWith, online};
 
 mod expansion;
-mod window;
 
 use answer::BUFFER_SHORT;
 use answer::NOT_ELEMENT;
@@ -13,12 +12,12 @@ use answer::TwoLengths;
 use code::Window;
 pub use expansion::tree_at;
 use expansion::write_accumulated;
+use field::element_width;
 use record::Opened;
+use record::fault_of;
 use record::leaves;
 use record::read_noise;
-use rows::element_width;
-use rows::fault_of;
-use rows::vector_words;
+use window::vector_words;
 use window::window_number;
 use window::write_rows;
 
@@ -96,8 +95,7 @@ pub fn online(
             second_written: 0,
         };
     }
-    let words = count * element_width(front.field);
-    if !write_rows(source, front, noise, v, window, u_out, v_out) {
+    if !write_rows(source, front, window, count, noise, v, u_out, v_out) {
         return TwoLengths {
             number: NOT_ELEMENT,
             first_written: 0,
@@ -107,6 +105,6 @@ pub fn online(
     TwoLengths {
         number: 0,
         first_written: count,
-        second_written: words,
+        second_written: count * element_width(front.field),
     }
 }

@@ -27,8 +27,8 @@ use Rattle.record.specs.declared.Front.{Front}
 use Rattle.record.specs.Answer.{headOf}
 use Rattle.record.proofs.Callers.{head-ranges}
 use Rattle.record.proofs.Parts.{noise-parts, scalar-parts}
-use Rattle.rows.specs.Head.{fieldOf}
-use Rattle.rows.proofs.Widths.{width-most}
+use Rattle.window.specs.Head.{fieldOf}
+use Rattle.field.proofs.Widths.{width-most}
 use Rattle.noise_end.proofs.Laws as noiseLaws
 use Rattle.noise_end.specs.Inner.Ready as noise
 use Rattle.noise_end.specs.Offline as noiseOffline

@@ -12,10 +12,10 @@ use crate::heads::same_dealing;
 use crate::held::count_held;
 use record::Front;
 use record::Opened;
+use record::fault_of;
 use record::leaves;
 use record::read_noise;
 use record::read_scalar;
-use rows::fault_of;
 
 // The leaves that there is memory for.
 const MOST_LEAVES: usize = 1024;

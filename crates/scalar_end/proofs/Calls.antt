@@ -15,7 +15,7 @@ use Rattle.answer.specs.Outcome.{Outcome, TwoWritten, answered, refusedOne, ref
 use Rattle.answer.proofs.Answers.{refused-one, refused-two, accepted-now}
 use Rattle.answer.proofs.Faults.{admitted-by, held, broken, at-most, above, given-at-most, given-above}
 use Rattle.answer.proofs.Faults.{fault-here, fault-later, fault-nowhere, fault-before, fault-after}
-use Rattle.algebra.specs.Choice.{choose}
+use Rattle.algebra.specs.Every.{every}
 use Rattle.algebra.specs.Coding.{flat, over}
 use Rattle.algebra.specs.Sum.{accumulate}
 use Rattle.aes128.specs.Cipher.{aes}
@@ -23,26 +23,25 @@ use Rattle.code.specs.Row.{termBlock, rowOfBlocks}
 use Rattle.code.specs.Inner.Rows.{termBlockBy}
 use Rattle.code.specs.declared.Window.{Window}
 use Rattle.field.specs.Kind.{kindOf, elementWords}
-use Rattle.field.proofs.BothKinds.{kindLaws}
 use Rattle.number.proofs.Records.{read-refused, read-whole}
 use Rattle.record.specs.Reading.{readHead, readScalar}
 use Rattle.record.specs.Answer.{headOf, opened, frontOf, recordFault}
 use Rattle.record.specs.declared.Front.{Front}
 use Rattle.record.specs.declared.Opened.{Opened}
 use Rattle.record.specs.declared.Opened.the-variants.{Accepted, Fault}
-use Rattle.rows.specs.declared.WindowRows.{WindowRows}
-use Rattle.rows.specs.Head.{fieldOf}
-use Rattle.rows.specs.Inner.Numbers.{vectorTests}
-use Rattle.rows.specs.Inner.Outputs.{codeKeys, rowsOf}
-use Rattle.rows.specs.Inner.Testing.{Fitting, elementsUsed}
-use Rattle.rows.specs.Usable.{windowUsable}
-use Rattle.rows.proofs.Fronts.{front-over}
-use Rattle.rows.proofs.Numbers.{count-fits, passed-fits}
+use Rattle.window.specs.Head.{fieldOf}
+use Rattle.window.specs.Inner.Numbers.{lengthTests, elementTests}
+use Rattle.window.specs.Inner.Outputs.{codeKeys, rowsOf}
+use Rattle.window.specs.Inner.Sizes.{Sizes}
+use Rattle.window.specs.Inner.Testing.{Fitting, elementsUsed}
+use Rattle.window.specs.Inner.Written.{bothUsed, vOver, WindowWritten}
+use Rattle.window.specs.Usable.{windowUsable}
+use Rattle.window.proofs.Numbers.{count-fits, passed-fits, elements-alone}
 use Rattle.scalar_end.specs.Vectors.{w0, deltaOut}
 use Rattle.scalar_end.specs.Offline.{OfflineLent, offlineWith, wWords, offlineTests, expanded, offline}
 use Rattle.scalar_end.specs.Online.{Lent, lentWith, usable, filled, onlineTests, online}
 use Rattle.scalar_end.specs.Inner.Ready.{contentOf, Ready}
-use Rattle.scalar_end.specs.Inner.Steps.{deltaAt, wOver, WindowWritten}
+use Rattle.scalar_end.specs.Inner.Steps.{deltaAt}
 use Rattle.scalar_end.proofs.Content.{ready, refused-is}
 use Rattle.scalar_end.proofs.Steps.{delta-words}
 
@@ -51,6 +50,9 @@ use Rattle.scalar_end.proofs.Steps.{delta-words}
 module _ (s : List ℕ) {r : Opened} (opens : opened s r ≡ frontOf (readScalar s) (readHead 2 s)) {f : Front} (e : r ≡ Accepted f) where
   pub depth-most : f .depth ≤ 16
   depth-most = ready s opens e .sizes .depth
+
+  pub sizes : Sizes s (headOf s f) (f .body)
+  sizes = ready s opens e .sizes
 
   pub delta-in : f .body + 8 * elementWords (f .field) ≤ length s
   delta-in = omega (arith, ready s opens e .room)
@@ -95,29 +97,6 @@ module _ (s w d : List ℕ) {r : Opened} (opens : opened s r ≡ frontOf (readSc
 
 -- ---- online
 
--- the window under round keys
-module _ (keys : List (List (List ℕ))) (r : WindowRows) (w out : List ℕ) where
-  -- tested, and then written or not
-  module _ {used : Bool} (ue : used ≡ elementsUsed (kindOf (r .field) .field) keys r w) where
-    pub not-usable : not used ≡ true → WindowWritten keys r w out false out
-    not-usable e = record { told = sym (not-true used e) ∙ ue; w-is = refl }
-
-    pub large-written : not used ≡ false → {x : List ℕ} → x ≡ wOver keys r w out → WindowWritten keys r w out true x
-    large-written e q = record { told = sym (not-false used e) ∙ ue; w-is = q }
-
-    -- from memory of its own
-    pub small-written : not used ≡ false → {width : ℕ} → width ≡ elementWords (r .field) → (own : List ℕ) {y : List ℕ} → y ≡ wOver keys r w own
-        → {x : List ℕ} → x ≡ take (r .window .count * width) y ++ drop (r .window .count * width) out → WindowWritten keys r w out true x
-    small-written e we own q xe =
-        large-written e
-        (front-over (kindOf (r .field) .field .elements) (kindLaws (r .field) .field .elements) (r .window .count) _ own out q
-        (ap (λ (n : ℕ). r .window .count * n) we) xe)
-
-  -- under keys and rows that functions made
-  pub written-for : {keys′ : List (List (List ℕ))} → keys′ ≡ keys → {r′ : WindowRows} → r′ ≡ r → {t : Bool} {x : List ℕ}
-      → WindowWritten keys′ r′ w out t x → WindowWritten keys r w out t x
-  written-for ke re z = rw (← ke, ← re) z
-
 module _ (s w out : List ℕ) (first count : ℕ) {r : Opened} (opens : opened s r ≡ frontOf (readScalar s) (readHead 2 s)) where
   pub online-fault : {j k : ℕ} → r ≡ Fault j → k ≡ recordFault r → refusedOne (lentWith s w out) k ≡ online (lentWith s w out) first count
   unfolding online
@@ -140,46 +119,51 @@ module _ (s w out : List ℕ) (first count : ℕ) {r : Opened} (opens : opened s
     unfolding online
     online-by {o} q = read-whole (readScalar s) (refusedOne l) _ o (contentOf s f) (accepted .read) q
 
-    module _ {n : ℕ} (number : n ≡ firstFault (vectorTests f (length w) (record { first = first; count = count }) (length out))) where
+    module _ {m n : ℕ} (places : m ≡ 2 ^ f .depth)
+        (number : n ≡ firstFault (lengthTests f m (length w) (record { first = first; count = count }) count (length out))) where
+      element-number : n ≡ firstFault (elementTests f (length w) a (length out))
+      element-number = number ∙ elements-alone f (length w) a (length out) places
+
       pub online-refused : (n ≡ 0 → ⊥) → refusedOne (lentWith s w out) n ≡ online (lentWith s w out) first count
       online-refused h =
           online-by (refused-one l (onlineTests (headOf s f) l first count) n
-          (fault-before (vectorTests f (length w) a (length out)) _ n number h) (ne-eqb n 0 h) _)
+          (fault-before (elementTests f (length w) a (length out)) _ n element-number h) (ne-eqb n 0 h) _)
 
       module _ (z : n ≡ 0) where
-        met : AllMet (vectorTests f (length w) a (length out))
-        met = admitted-by _ n refl number z
+        met : AllMet (elementTests f (length w) a (length out))
+        met = admitted-by _ n refl element-number z
 
-        pub fitting : Fitting (elementWords (f .field)) (rowsOf f (record { first = first; count = count })) (length w) (length out)
+        pub fitting : Fitting (elementWords (f .field)) (rowsOf f (record { first = first; count = count }) 0) (length w) (length out)
         fitting =
-            passed-fits (elementWords (f .field)) s f (length w) a (length out) (accepted .sizes)
+            passed-fits (elementWords (f .field)) s f (length w) a (length out) 0 (accepted .sizes)
             (omega (arith, met .all)) (omega (arith, met .all)) (omega (arith, met .all))
 
         pub words-fit : {width : ℕ} → width ≡ elementWords (f .field) → Fits w64 (count * width)
         words-fit we = count-fits (f .field) we first count (fitting .testing .within)
 
-        used-words : elementsUsed (kindOf (f .field) .field) (codeKeys (headOf s f)) (rowsOf f a) w
+        used-words : (noise : List ℕ) → bothUsed (codeKeys (headOf s f)) (rowsOf f a 0) noise w
             ≡ windowUsable (usable (fieldOf (headOf s f)) l) (headOf s f) first count
-        unfolding elementsUsed windowUsable usable rowOfBlocks termBlock termBlockBy aes
-        used-words = refl
+        unfolding every elementsUsed windowUsable usable rowOfBlocks termBlock termBlockBy aes
+        used-words noise = refl
 
         -- all tests but that of the words that the rows use are met
         last : {k : ℕ} → k ≡ firstFault (holds (windowUsable (usable (fieldOf (headOf s f)) l) (headOf s f) first count) or notElement ∷ [])
             → k ≡ firstFault (onlineTests (headOf s f) l first count)
-        last {k} q = fault-after (vectorTests f (length w) a (length out)) _ n k refl number z q
+        last {k} q = fault-after (elementTests f (length w) a (length out)) _ n k refl element-number z q
 
-        module _ {t : Bool} {x : List ℕ} (v : WindowWritten (codeKeys (headOf s f)) (rowsOf f (record { first = first; count = count })) w out t x) where
+        module _ {t : Bool} {noise u y x : List ℕ}
+            (v : WindowWritten (codeKeys (headOf s f)) (rowsOf f (record { first = first; count = count }) 0) noise w u out t y x) where
           pub online-unfit : not t ≡ true → record { number = 8; written = 0; lent = lentWith s w x } ≡ online (lentWith s w out) first count
           online-unfit g =
               let c = not-true t g in
-              let p : x ≡ out = v .w-is ∙ rw c in
+              let p : x ≡ out = v .v-is ∙ rw c in
               rw p (online-by (refused-one l (onlineTests (headOf s f) l first count) 8
-              (last (fault-here _ notElement [] (broken _ t (v .told ∙ used-words) c))) refl _))
+              (last (fault-here _ notElement [] (broken _ t (v .told ∙ used-words noise) c))) refl _))
 
           pub online-written : not t ≡ false → {width : ℕ} → width ≡ elementWords (f .field)
               → record { number = 0; written = count * width; lent = lentWith s w x } ≡ online (lentWith s w out) first count
           unfolding filled termBlock termBlockBy aes
           online-written g we =
               let c = not-false t g in
-              let p : x ≡ wOver (codeKeys (headOf s f)) (rowsOf f a) w out = v .w-is ∙ rw c in
-              online-by (accepted-now _ _ _ _ (last (fault-later _ _ [] 0 (held _ t (v .told ∙ used-words) c) fault-nowhere)) (rw (p, we)))
+              let p : x ≡ vOver (codeKeys (headOf s f)) (rowsOf f a 0) w out = v .v-is ∙ rw c in
+              online-by (accepted-now _ _ _ _ (last (fault-later _ _ [] 0 (held _ t (v .told ∙ used-words noise) c) fault-nowhere)) (rw (p, we)))

@@ -11,7 +11,7 @@ use Rattle.record.specs.declared.Front.{Front}
 use Rattle.record.specs.declared.Opened.{Opened}
 use Rattle.record.specs.declared.Opened.the-variants.{Accepted, Fault}
 use Rattle.record.proofs.Callers.{scalar-opened, scalar-refused}
-use Rattle.rows.proofs.Sizes.{head-sizes}
+use Rattle.window.proofs.Sizes.{head-sizes}
 use Rattle.scalar_end.specs.Inner.Ready.{contentOf, Ready}
 
 -- contents are equal by their parts

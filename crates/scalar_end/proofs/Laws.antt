@@ -23,9 +23,9 @@ use Rattle.record.specs.Content.{Head, ScalarPart}
 use Rattle.record.specs.Reading.{readScalar}
 use Rattle.record.proofs.Callers.{head-ranges}
 use Rattle.record.proofs.Parts.{scalar-parts}
-use Rattle.rows.specs.Head.{fieldOf, places, row}
-use Rattle.rows.specs.Usable.{windowUsable}
-use Rattle.rows.proofs.Rows.{window-usable, row-output}
+use Rattle.window.specs.Head.{fieldOf, places, row}
+use Rattle.window.specs.Usable.{windowUsable}
+use Rattle.window.proofs.Rows.{window-usable, row-output}
 use Rattle.scalar_end.specs.Vectors.{w0, deltaOut}
 use Rattle.scalar_end.specs.Offline.{OfflineLent, offlineWith, wWords, offlineTests, expanded, offline}
 use Rattle.scalar_end.specs.Online.{Lent, usable, wAt, filled, onlineTests, online}

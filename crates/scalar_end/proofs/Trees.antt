@@ -18,8 +18,9 @@ use Rattle.tree.specs.Columns.{columnsAt}
 use Rattle.tree.specs.Expanded.{leavesAdded}
 use Rattle.tree.proofs.ChildLaws.{filled-by}
 use Rattle.tree.proofs.Levels.{level-leaves}
-use Rattle.rows.proofs.Blocks.{columns-item}
-use Rattle.rows.proofs.Sums.{treesSum, zero-elements, length-trees, trees-none, trees-more}
+use Rattle.window.proofs.Blocks.{columns-item}
+use Rattle.tree.proofs.Sums.{treesSum, length-trees, trees-none, trees-more}
+use Rattle.field.proofs.KindOf.{zero-elements}
 use Rattle.scalar_end.specs.Vectors.{leaf, w0}
 use Rattle.scalar_end.specs.Inner.Ready.{TreesFit, rootsAt, contentOf}
 use Rattle.scalar_end.specs.Inner.Steps.{treeAdded}

@@ -11,7 +11,7 @@ use Rattle.algebra.specs.Sum.{accumulate}
 use Rattle.number.specs.Reading.{afterReading}
 use Rattle.record.specs.Content.{ScalarPart}
 use Rattle.record.specs.Reading.{readScalar}
-use Rattle.rows.specs.Head.{fieldOf, places}
+use Rattle.window.specs.Head.{fieldOf, places}
 use Rattle.scalar_end.specs.Vectors.{w0, deltaOut}
 
 -- what is lent: the record and both buffers

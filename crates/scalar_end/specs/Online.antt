@@ -13,8 +13,8 @@ use Rattle.algebra.specs.Row.{output}
 use Rattle.number.specs.Reading.{afterReading}
 use Rattle.record.specs.Content.{Head}
 use Rattle.record.specs.Reading.{readScalar}
-use Rattle.rows.specs.Head.{fieldOf, places, row}
-use Rattle.rows.specs.Usable.{windowUsable}
+use Rattle.window.specs.Head.{fieldOf, places, row}
+use Rattle.window.specs.Usable.{windowUsable}
 
 -- what is lent: the record, the accumulated vector, and the output buffer
 pub record Lent : Type 0 where

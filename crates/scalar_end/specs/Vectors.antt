@@ -7,7 +7,7 @@ use Rattle.algebra.specs.Choice.{choose}
 use Rattle.algebra.specs.Expansion.{whole}
 use Rattle.algebra.specs.Field.{Value}
 use Rattle.record.specs.Content.{ScalarPart}
-use Rattle.rows.specs.Head.{kind, fieldOf}
+use Rattle.window.specs.Head.{kind, fieldOf}
 use Rattle.tree.specs.Child.{child}
 use Rattle.tree.specs.Columns.{columnsAt}
 use Rattle.tree.specs.Tree.{leafAt}

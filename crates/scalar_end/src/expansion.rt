@@ -12,13 +12,13 @@ ghost use Rattle.tree.specs.Inner.Branches.{IsBranch};
 ghost use Rattle.scalar_end.specs.Vectors.{w0};
 ghost use Rattle.scalar_end.specs.Inner.Steps.{treeAdded, deltaAt};
 ghost use Rattle.scalar_end.specs.Inner.Ready.{Ready, TreesFit, contentOf};
+use code::accumulate_elements;
+use field::element_width;
 use field::word_at;
 use fill::add_leaves;
+use fill::zero_words;
 use record::Front;
 use record::leaves;
-use rows::accumulate_elements;
-use rows::element_width;
-use rows::zero_words;
 use tree::child_keys;
 use tree::columns_at;
 

@@ -5,7 +5,6 @@ ghost use Rattle.scalar_end.specs.Offline.{offlineWith, offline};
 ghost use Rattle.scalar_end.specs.Online.{lentWith, online};
 
 mod expansion;
-mod window;
 
 use answer::BUFFER_SHORT;
 use answer::NOT_ELEMENT;
@@ -14,12 +13,13 @@ use answer::TwoLengths;
 use code::Window;
 use expansion::write_accumulated;
 use expansion::write_delta;
+use field::element_width;
 use record::Opened;
+use record::fault_of;
+use record::leaves;
 use record::read_scalar;
-use rows::element_width;
-use rows::fault_of;
-use rows::lengths_number;
-use rows::vector_words;
+use window::vector_words;
+use window::window_number;
 use window::write_rows;
 
 // Writes the accumulated w0 to the front of w, and the two words of Δ.
@@ -72,7 +72,14 @@ pub fn online(source: &[u8], w: &[u64], first: usize, count: usize, w_out: &mut 
         };
     };
     let window = Window { first, count };
-    let number = lengths_number(front, w.len(), window, w_out.len());
+    let number = window_number(
+        front,
+        leaves(front.depth),
+        w.len(),
+        window,
+        count,
+        w_out.len(),
+    );
     if number != 0 {
         return OneLength {
             number: number,
@@ -80,7 +87,8 @@ pub fn online(source: &[u8], w: &[u64], first: usize, count: usize, w_out: &mut 
         };
     }
     let words = count * element_width(front.field);
-    if !write_rows(source, front, w, window, w_out) {
+    let mut no_u = [0u64; 1];
+    if !write_rows(source, front, window, 0, w, w, &mut no_u, w_out) {
         return OneLength {
             number: NOT_ELEMENT,
             written: 0,

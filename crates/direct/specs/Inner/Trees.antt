@@ -15,7 +15,7 @@ use Rattle.record.specs.Answer.{headOf}
 use Rattle.record.specs.Inner.Answers.{treeOf}
 use Rattle.record.specs.declared.Front.{Front}
 use Rattle.record.specs.declared.Tree.{Tree}
-use Rattle.rows.specs.Inner.Sizes.{Sizes}
+use Rattle.window.specs.Inner.Sizes.{Sizes}
 use Rattle.tree.specs.Child.{child}
 use Rattle.tree.specs.Inner.Keys.{keysFor}
 use Rattle.tree.specs.Columns.{columnsAt, siblingsAt}

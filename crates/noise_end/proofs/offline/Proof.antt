@@ -1,6 +1,6 @@
 -- `noise_end::offline` meets its contract: one law for each return. Assumes nothing.
 use borrow.Author.Needs.{needs}
-use Rattle.rows.proofs.Flats.{front-length}
+use Rattle.algebra.proofs.Flats.{taken-length}
 use Rattle.noise_end.proofs.Content.{ready}
 use Rattle.noise_end.proofs.Calls.{depth-most, offline-fault, short-noise, short-v, front-noise, front-words, vectors-written}
 use Rattle.noise_end.proofs.offline.Statement.{statement}
@@ -20,9 +20,9 @@ offline-spec =
     (λ c κs. search depth-most)  -- vector-words-requires
     (λ c. search short-v)  -- returns-3
     (λ c. search needs)  -- slice-relend-prefix-write-accumulated
-    (λ c. search front-length)  -- slice-aggregate-write-accumulated
+    (λ c. search taken-length)  -- slice-aggregate-write-accumulated
     (λ c. search needs)  -- slice-relend-prefix-write-accumulated-2
-    (λ c. search front-length)  -- slice-aggregate-write-accumulated-2
+    (λ c. search taken-length)  -- slice-aggregate-write-accumulated-2
     (λ c κs. (search ready, search front-noise, search front-words))  -- write-accumulated-requires
     (λ c. search needs)  -- same-length
     (λ c. search needs)  -- same-length-2

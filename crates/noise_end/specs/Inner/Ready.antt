@@ -17,7 +17,7 @@ use Rattle.record.specs.declared.Tree.{Tree}
 use Rattle.tree.specs.Inner.Keys.{keysFor}
 use Rattle.tree.specs.Inner.Branches.{IsBranch}
 use Rattle.tree.specs.KeySchedules.{OfChildKeys}
-use Rattle.rows.specs.Inner.Sizes.{Sizes}
+use Rattle.window.specs.Inner.Sizes.{Sizes}
 
 -- the siblings of a tree
 abbrev pub beside : Front → ℕ

@@ -1,6 +1,6 @@
 -- `scalar_end::offline` meets its contract: one law for each return. Assumes nothing.
 use borrow.Author.Needs.{needs}
-use Rattle.rows.proofs.Flats.{front-length}
+use Rattle.algebra.proofs.Flats.{taken-length}
 use Rattle.scalar_end.proofs.Content.{ready}
 use Rattle.scalar_end.proofs.Calls.{depth-most, delta-in, offline-fault, short-w, short-delta, front-words, vectors-written}
 use Rattle.scalar_end.proofs.offline.Statement.{statement}
@@ -19,7 +19,7 @@ offline-spec =
     (λ c. search short-w)  -- returns-2
     (λ c. search short-delta)  -- returns-3
     (λ c. search needs)  -- slice-relend-prefix-write-accumulated
-    (λ c. search front-length)  -- slice-aggregate-write-accumulated
+    (λ c. search taken-length)  -- slice-aggregate-write-accumulated
     (λ c κs. (search ready, search front-words))  -- write-accumulated-requires
     (λ c κs. (search delta-in, search needs))  -- write-delta-requires
     (λ c. search needs)  -- same-length

@@ -11,7 +11,7 @@ use Rattle.record.specs.Answer.{headOf}
 use Rattle.record.specs.declared.Front.{Front}
 use Rattle.tree.specs.Inner.Keys.{keysFor}
 use Rattle.tree.specs.KeySchedules.{OfChildKeys}
-use Rattle.rows.specs.Inner.Sizes.{Sizes}
+use Rattle.window.specs.Inner.Sizes.{Sizes}
 use Rattle.field.specs.Kind.{elementWords}
 
 abbrev pub rootsAt : Front → ℕ

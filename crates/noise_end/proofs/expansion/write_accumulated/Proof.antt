@@ -1,6 +1,6 @@
 -- `noise_end::expansion::write_accumulated` meets its contract. Assumes nothing.
 use borrow.Author.Needs.{needs}
-use Rattle.rows.proofs.Flats.{all-words, accumulated, noise-accumulated}
+use Rattle.field.proofs.Accumulated.{all-words, accumulated, noise-accumulated}
 use Rattle.noise_end.proofs.expansion.write_accumulated.Statement.{statement}
 use Rattle.noise_end.proofs.expansion.write_accumulated.Tie as tie
 

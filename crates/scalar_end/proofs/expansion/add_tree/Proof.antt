@@ -1,6 +1,6 @@
 -- `scalar_end::expansion::add_tree` meets its contract. Assumes nothing.
 use borrow.Author.Needs.{needs}
-use Rattle.rows.proofs.Sizes.{leaf-words}
+use Rattle.tree.proofs.Levels.{leaf-words}
 use Rattle.scalar_end.proofs.Trees.{tree-is}
 use Rattle.scalar_end.proofs.expansion.add_tree.Statement.{statement}
 use Rattle.scalar_end.proofs.expansion.add_tree.Tie as tie

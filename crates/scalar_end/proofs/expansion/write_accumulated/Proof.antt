@@ -1,6 +1,6 @@
 -- `scalar_end::expansion::write_accumulated` meets its contract. Assumes nothing.
 use borrow.Author.Needs.{needs}
-use Rattle.rows.proofs.Flats.{all-words, accumulated}
+use Rattle.field.proofs.Accumulated.{all-words, accumulated}
 use Rattle.scalar_end.proofs.expansion.write_accumulated.Statement.{statement}
 use Rattle.scalar_end.proofs.expansion.write_accumulated.Tie as tie
 
