@@ -25,15 +25,15 @@ use Rattle.field.proofs.BothKinds.{kindLaws, kindFacts}
 use Rattle.field.specs.Kind.{KindLaws, binaryKind, primeKind, kindOf}
 use Rattle.field.specs.Prime.{modulus}
 use Rattle.field.specs.declared.prime.Prime.{Prime}
-use Rattle.noise_end.proofs.Laws as noiseLaws
-use Rattle.noise_end.specs.Vectors.{value, mu, v0}
+use Rattle.ends.proofs.noise.Laws as noiseLaws
+use Rattle.ends.specs.Noise.Vectors.{value, mu, v0}
 use Rattle.record.proofs.Laws.{noise-exact}
 use Rattle.record.specs.Admitted.{isField, isNoise, Each, AdmittedTree, AdmittedNoise}
 use Rattle.record.specs.Content.{Head, NoiseTree, treeIn, siblingCount}
 use Rattle.window.specs.Head.{fieldOf, places}
-use Rattle.scalar_end.proofs.Laws as scalarLaws
-use Rattle.scalar_end.specs.Vectors as scalarEnd
-use Rattle.scalar_end.specs.Vectors.{delta, w0}
+use Rattle.ends.proofs.scalar.Laws as scalarLaws
+use Rattle.ends.specs.Scalar.Vectors as scalarEnd
+use Rattle.ends.specs.Scalar.Vectors.{delta, w0}
 use Rattle.claims.specs.Buffers.{NoiseExpanded, ScalarExpanded, noiseContent, scalarContent, noiseAfter, scalarAfter, muAfter, vAfter, wAfter, deltaAfter, AccumulatedAt, ExpandedAt, Below, Buffers}
 
 -- ---- what is admitted, tree by tree

@@ -30,14 +30,14 @@ use Rattle.dealing.specs.Admitted.{Admitted}
 use Rattle.dealing.specs.Parts.{noisePart, scalarPart}
 use Rattle.dealing.specs.Vectors as dealt
 use Rattle.dealing.specs.Vectors.{head, field, mu, v0, w0}
-use Rattle.noise_end.proofs.Laws as noiseLaws
-use Rattle.noise_end.specs.Offline as noiseOffline
-use Rattle.noise_end.specs.Online as noiseOnline
-use Rattle.noise_end.specs.Vectors as noisePartVectors
-use Rattle.scalar_end.proofs.Laws as scalarLaws
-use Rattle.scalar_end.specs.Offline as scalarOffline
-use Rattle.scalar_end.specs.Online as scalarOnline
-use Rattle.scalar_end.specs.Vectors as scalarPartVectors
+use Rattle.ends.proofs.noise.Laws as noiseLaws
+use Rattle.ends.specs.Noise.Offline as noiseOffline
+use Rattle.ends.specs.Noise.Online as noiseOnline
+use Rattle.ends.specs.Noise.Vectors as noisePartVectors
+use Rattle.ends.proofs.scalar.Laws as scalarLaws
+use Rattle.ends.specs.Scalar.Offline as scalarOffline
+use Rattle.ends.specs.Scalar.Online as scalarOnline
+use Rattle.ends.specs.Scalar.Vectors as scalarPartVectors
 use Rattle.claims.specs.Correlation.{Setting, noiseSource, scalarSource, NoiseMemory, NoiseCall, noiseStep, noiseLeft, noiseRun, noiseLast, noiseStart, listedNoiseTests, NoiseHands, ScalarMemory, ScalarCall, scalarStep, scalarLeft, scalarRun, scalarLast, scalarStart, listedScalarTests, ScalarHands, noiseCall, noiseOutcome, scalarCall, scalarOutcome, Claim}
 use Rattle.claims.proofs.Dealt.{mu-dealt, v0-dealt, w0-dealt}
 use Rattle.claims.proofs.Outputs.{admitted-correlated}

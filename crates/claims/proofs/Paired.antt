@@ -12,8 +12,8 @@ use Rattle.dealing.specs.Admitted.{Admitted}
 use Rattle.dealing.specs.Input.{Input}
 use Rattle.dealing.specs.Parts.{noisePart, scalarPart}
 use Rattle.dealing.specs.Vectors.{head, field, delta, mu, v0, w0, u, v, w}
-use Rattle.noise_end.specs.Vectors as noiseVectors
-use Rattle.scalar_end.specs.Vectors as scalarVectors
+use Rattle.ends.specs.Noise.Vectors as noiseVectors
+use Rattle.ends.specs.Scalar.Vectors as scalarVectors
 use Rattle.pairing.proofs.Laws.{held-at, correlated-held}
 use Rattle.pairing.specs.Verdict.{uAt, vAt, wAt, pairOf, heldAt}
 use Rattle.claims.specs.Pairing.{Held}

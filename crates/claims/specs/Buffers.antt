@@ -12,10 +12,10 @@ use Rattle.number.specs.Reading.{Whole, Bytes}
 use Rattle.record.specs.Content.{Head, NoiseTree, NoisePart, ScalarPart}
 use Rattle.record.specs.Reading.{readNoise, readScalar}
 use Rattle.window.specs.Head.{fieldOf, places}
-use Rattle.noise_end.specs.Offline as noiseOffline
-use Rattle.noise_end.specs.Vectors.{mu, v0}
-use Rattle.scalar_end.specs.Offline as scalarOffline
-use Rattle.scalar_end.specs.Vectors.{delta, w0}
+use Rattle.ends.specs.Noise.Offline as noiseOffline
+use Rattle.ends.specs.Noise.Vectors.{mu, v0}
+use Rattle.ends.specs.Scalar.Offline as scalarOffline
+use Rattle.ends.specs.Scalar.Vectors.{delta, w0}
 
 -- an accepted noise record of a head, and an accepted offline call on it
 pub record NoiseExpanded (h : Head) : Type 0 where

@@ -13,7 +13,7 @@ use Rattle.number.specs.Reading.{afterReading}
 use Rattle.record.specs.Content.{Head, ScalarPart}
 use Rattle.record.specs.Reading.{readScalar}
 use Rattle.window.specs.Head.{fieldOf, places, row}
-use Rattle.scalar_end.specs.Vectors.{w0}
+use Rattle.ends.specs.Scalar.Vectors.{w0}
 
 -- what is lent: the record and the output buffer
 pub record Lent : Type 0 where

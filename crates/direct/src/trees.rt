@@ -3,7 +3,7 @@ ghost use mathlib.Core.Bool.{false, _||_};
 ghost use mathlib.Core.Path.{_≡_};
 ghost use Prim.Native.Nat.{_+_, _*_, _^_, _≤_, _<_};
 ghost use lib.ListN.{length};
-ghost use Rattle.scalar_end.specs.Inner.Ready.{rootsAt};
+ghost use Rattle.ends.specs.Inner.Scalar.{rootsAt};
 ghost use Rattle.direct.specs.Inner.Trees.{IsBeside, FromSibling, Standing, StartsAt, puncturedAt};
 use crate::table::tree_at;
 use crate::walk::digit;

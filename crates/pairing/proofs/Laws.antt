@@ -13,7 +13,7 @@ use Rattle.number.specs.Reading.{Whole, Refused}
 use Rattle.record.specs.Content.{NoisePart, ScalarPart}
 use Rattle.record.specs.Reading.{readNoise, readScalar}
 use Rattle.window.specs.Head.{fieldOf, places}
-use Rattle.scalar_end.specs.Vectors as scalarEnd
+use Rattle.ends.specs.Scalar.Vectors as scalarEnd
 use Rattle.pairing.specs.AllHeld.{CorrelatedHeld}
 use Rattle.pairing.specs.Line.{text, printed}
 use Rattle.pairing.specs.Verdict.{Verdict, Refusal, TooLarge, Different, Checked, sameDealing, uAt, vAt, wAt, holds, Pair, noiseOf, scalarOf, pairOf, heldAt, heldOf, paired, verdict}

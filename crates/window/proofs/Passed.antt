@@ -13,7 +13,8 @@ use Rattle.field.specs.Kind.{kindOf, elementWords}
 use Rattle.field.specs.Prime.{primes, modulus}
 use Rattle.field.proofs.KindOf.{kind-2, words-2}
 use Rattle.window.specs.declared.WindowRows.{WindowRows}
-use Rattle.window.specs.Inner.Outputs.{ofNoise, pairRows}
+use Rattle.window.specs.Head.{ofNoise}
+use Rattle.window.specs.Inner.Outputs.{pairRows}
 use Rattle.window.specs.Inner.Testing.{Testing, NoiseTesting, elementsUsed}
 
 module _ (keys : List (List (List ℕ))) (r : WindowRows) (words : List ℕ) where

@@ -11,7 +11,8 @@ use Rattle.algebra.proofs.Flats.{front-over}
 use Rattle.field.specs.Kind.{kindOf, elementWords}
 use Rattle.field.proofs.BothKinds.{kindLaws}
 use Rattle.window.specs.declared.WindowRows.{WindowRows}
-use Rattle.window.specs.Inner.Outputs.{ofNoise, pairRows}
+use Rattle.window.specs.Head.{ofNoise}
+use Rattle.window.specs.Inner.Outputs.{pairRows}
 use Rattle.window.specs.Inner.Testing.{elementsUsed}
 use Rattle.window.specs.Inner.Written.{bothUsed, uOver, vOver, WindowWritten}
 

@@ -20,7 +20,8 @@ use Rattle.field.proofs.KindOf.{kind-2, words-1, words-2}
 use Rattle.field.proofs.Words.{put-one}
 use Rattle.record.specs.declared.Front.{Front}
 use Rattle.window.specs.declared.WindowRows.{WindowRows}
-use Rattle.window.specs.Inner.Outputs.{shapeOf, rowsOf, ofNoise, pairRows, windowOver}
+use Rattle.window.specs.Head.{ofNoise}
+use Rattle.window.specs.Inner.Outputs.{shapeOf, rowsOf, pairRows, windowOver}
 use Rattle.window.specs.Inner.Testing.{Fitting, NoiseFitting}
 use Rattle.window.specs.Inner.Written.{WindowWritten}
 

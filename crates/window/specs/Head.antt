@@ -1,6 +1,7 @@
 -- The field, N, and the rows of the code, from a record's head (document 01, 'Sizes', 'Offline and online').
 use Prim.Native.Nat.{ℕ, _^_}
 use Rattle.algebra.specs.Field.{Field}
+use Rattle.algebra.specs.Group.{itself}
 use Rattle.algebra.specs.Row.{Row}
 use Rattle.field.specs.Kind.{Kind, kindOf}
 use Rattle.tree.specs.Columns.{columnsAt}
@@ -13,6 +14,10 @@ kind h = kindOf (h .field)
 
 abbrev pub fieldOf : Head → Field
 fieldOf h = kind h .field
+
+-- noise values in the place of elements: what is said of v and w is said of u
+abbrev pub ofNoise : Field → Field
+ofNoise F = record { ring = F .ring; scaled = itself (F .ring); noiseValues = F .noiseValues; elements = F .noiseValues }
 
 -- N
 abbrev pub places : Head → ℕ

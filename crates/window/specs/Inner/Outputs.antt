@@ -4,7 +4,6 @@ use mathlib.Core.List.{List}
 use Prim.Native.Nat.{ℕ, _+_, _^_}
 use Rattle.algebra.specs.Coding.{at, over}
 use Rattle.algebra.specs.Field.{Field, NoiseValue, Value}
-use Rattle.algebra.specs.Group.{itself}
 use Rattle.algebra.specs.Row.{output}
 use Rattle.code.specs.declared.Shape.{Shape}
 use Rattle.code.specs.declared.Window.{Window}
@@ -31,10 +30,6 @@ rowsOf f w pairs = record { field = f .field; shape = shapeOf f; window = w; pai
 -- those that do
 abbrev pub pairRows : WindowRows → WindowRows
 pairRows r = record { field = r .field; shape = r .shape; window = record { first = r .window .first; count = r .pairs }; pairs = r .pairs }
-
--- noise values in the place of elements: what holds of v and w holds of u
-abbrev pub ofNoise : Field → Field
-ofNoise F = record { ring = F .ring; scaled = itself (F .ring); noiseValues = F .noiseValues; elements = F .noiseValues }
 
 -- output k of the window, for a rule of coefficients
 abbrev pub outputAt : (F : Field) → (ℕ → NoiseValue F) → List (List (List ℕ)) → WindowRows → List ℕ → ℕ → Value F

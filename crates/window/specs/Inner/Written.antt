@@ -7,7 +7,8 @@ use Prim.Native.Nat.{ℕ}
 use Rattle.algebra.specs.Choice.{choose}
 use Rattle.field.specs.Kind.{kindOf}
 use Rattle.window.specs.declared.WindowRows.{WindowRows}
-use Rattle.window.specs.Inner.Outputs.{ofNoise, pairRows, windowOver}
+use Rattle.window.specs.Head.{ofNoise}
+use Rattle.window.specs.Inner.Outputs.{pairRows, windowOver}
 use Rattle.window.specs.Inner.Testing.{elementsUsed}
 
 -- the test of the words that the rows use, of the noise and of v

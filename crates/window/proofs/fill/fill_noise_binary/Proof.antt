@@ -13,7 +13,8 @@ use Rattle.aes128.specs.Inner.Words.{roundKeys}
 use Rattle.field.specs.Binary.{binary}
 use Rattle.field.specs.Kind.{binaryKind}
 use Rattle.field.proofs.BinaryField.{binaryLaws}
-use Rattle.window.specs.Inner.Outputs.{ofNoise, outputAt}
+use Rattle.window.specs.Head.{ofNoise}
+use Rattle.window.specs.Inner.Outputs.{outputAt}
 use Rattle.window.proofs.Windows.{word-put, turn-fits}
 use Rattle.window.proofs.Passed.{rowPasses, bits-passed}
 use Rattle.window.proofs.fill.fill_noise_binary.Statement.{statement}
