@@ -1,4 +1,5 @@
--- Tests at every index below n: what a loop that tests one index or several a turn knows, and what the test says of an index.
+-- Tests at every index below n: what a loop that tests one index or several a turn knows, what the test says of an index, and two
+-- tests at once.
 use mathlib.Core.Bool.{Bool, true, false, _&&_, true≢false}
 use mathlib.Core.Logic.{⊎-elim}
 use mathlib.Core.Path.{_≡_, refl, sym, ap, _∙_}
@@ -61,3 +62,29 @@ module _ (test : ℕ → Bool) where
       decide : (t : Bool) → every n (λ k. test (i + k)) ≡ t → (every n (λ k. test (i + k)) ≡ false → false ≡ every m test) → false ≡ every m test
       decide true q earlier = every-stop (i + n) m (omega arith) (ap (λ (b : Bool). b && test (i + n)) (sym q) ∙ f)
       decide false q earlier = earlier q
+
+-- the test so far, one index a turn: before the loop, after a turn and after the loop
+module _ (test : ℕ → Bool) where
+  pub passed-none : true ≡ every 0 test
+  unfolding every
+  passed-none = refl
+
+  module _ {k : ℕ} {t : Bool} (e : t ≡ every k test) where
+    pub passed-more : {x : Bool} → x ≡ test k → (t && x) ≡ every (k + 1) test
+    unfolding every
+    passed-more q = rw (e, q, add-one)
+
+    pub passed-all : {n : ℕ} → k ≤ n → n ≤ k → t ≡ every n test
+    passed-all {n} h g = e ∙ ap (λ (m : ℕ). every m test) (le-antisymm {n = k} {m = n} h g)
+
+and-swap : (a b c d : Bool) → ((a && b) && (c && d)) ≡ ((a && c) && (b && d))
+and-swap true true c d = refl
+and-swap true false true d = refl
+and-swap true false false d = refl
+and-swap false b c d = refl
+
+-- two tests at every index
+pub every-both : (n : ℕ) (s t : ℕ → Bool) → every n (λ i. s i && t i) ≡ (every n s && every n t)
+unfolding every
+every-both zero s t = refl
+every-both (suc n) s t = ap (λ (b : Bool). b && (s n && t n)) (every-both n s t) ∙ and-swap (every n s) (every n t) (s n) (t n)

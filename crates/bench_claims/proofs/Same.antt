@@ -22,16 +22,17 @@ use Rattle.field.proofs.BothKinds.{kindLaws}
 use Rattle.record.specs.Content.{Head, NoisePart, ScalarPart}
 use Rattle.record.proofs.Callers.{head-ranges}
 use Rattle.record.proofs.Parts.{noise-parts, scalar-parts}
-use Rattle.rows.specs.Head.{fieldOf, places, row}
-use Rattle.rows.proofs.Rows.{row-within, row-output}
-use Rattle.noise_end.specs.Vectors.{mu, v0}
-use Rattle.noise_end.specs.Offline as noiseOffline
-use Rattle.noise_end.specs.Online as noiseOnline
-use Rattle.noise_end.proofs.Laws as noiseLaws
-use Rattle.scalar_end.specs.Vectors.{w0}
-use Rattle.scalar_end.specs.Offline as scalarOffline
-use Rattle.scalar_end.specs.Online as scalarOnline
-use Rattle.scalar_end.proofs.Laws as scalarLaws
+use Rattle.window.specs.Head.{fieldOf, ofNoise, places, row}
+use Rattle.window.proofs.Rows.{row-within, row-output}
+use Rattle.ends.specs.Parts.{valuesOver}
+use Rattle.ends.specs.Noise.Vectors.{mu, v0}
+use Rattle.ends.specs.Noise.Offline as noiseOffline
+use Rattle.ends.specs.Noise.Online as noiseOnline
+use Rattle.ends.proofs.noise.Laws as noiseLaws
+use Rattle.ends.specs.Scalar.Vectors.{w0}
+use Rattle.ends.specs.Scalar.Offline as scalarOffline
+use Rattle.ends.specs.Scalar.Online as scalarOnline
+use Rattle.ends.proofs.scalar.Laws as scalarLaws
 use Rattle.bench_claims.specs.Bench.{noiseOnlineCall, scalarOnlineCall, noiseSeen, scalarSeen, Bench}
 use Rattle.direct.specs.Noise as noise
 use Rattle.direct.specs.Scalar as scalar
@@ -78,7 +79,8 @@ module _ {h : Head} (E : noiseOffline.Expanded h) (first count : ℕ) (uOut vOut
       noiseLaws.online-listed lent part (accumulate (fieldOf (part .head) .ring .group) (mu part)) (accumulate (fieldOf (part .head) .scaled .group) (v0 part))
       (E .read) (accepted .noise) (accepted .v) noise-elements (accumulated-elements (part .head) (v0 part)) first count
 
-  u-same : (k : ℕ) → noiseOnline.uAt (part .head) lent (first + k) ≡ noise.uAt part (first + k)
+  u-same : (k : ℕ)
+      → output (itself (fieldOf (part .head) .ring)) (row (part .head) (first + k)) (at (fieldOf (part .head) .noiseValues) (lent .noise)) ≡ noise.uAt part (first + k)
   unfolding noise.uAt
   u-same k =
       row-same (part .head) full (first + k) (itself (fieldOf (part .head) .ring)) (itself-laws (fieldOf (part .head) .ring) (kindLaws (part .head .field) .field .ring)) (mu part)
@@ -86,7 +88,7 @@ module _ {h : Head} (E : noiseOffline.Expanded h) (first count : ℕ) (uOut vOut
       (λ j l. ap (λ (x : List ℕ). at (fieldOf (part .head) .noiseValues) x j) (accepted .noise)
       ∙ at-flat (fieldOf (part .head) .noiseValues) (kindLaws (part .head .field) .field .noiseValues) (places (part .head)) (accumulate (fieldOf (part .head) .ring .group) (mu part)) j l)
 
-  v-same : (k : ℕ) → noiseOnline.vAt (part .head) lent (first + k) ≡ noise.vAt part (first + k)
+  v-same : (k : ℕ) → output (fieldOf (part .head) .scaled) (row (part .head) (first + k)) (at (fieldOf (part .head) .elements) (lent .v)) ≡ noise.vAt part (first + k)
   unfolding noise.vAt
   v-same k =
       row-same (part .head) full (first + k) (fieldOf (part .head) .scaled) (kindLaws (part .head .field) .field .scaled) (v0 part)
@@ -103,10 +105,10 @@ module _ {h : Head} (E : noiseOffline.Expanded h) (first count : ℕ) (uOut vOut
   filled-same : noise.filled part here first count ≡ seenLent (noiseOnline.filled (part .head) lent first count)
   unfolding noise.filled noiseOnline.filled over
   filled-same =
-      let u : over (fieldOf (part .head) .noiseValues) count (λ k. noise.uAt part (first + k)) uOut ≡ over (fieldOf (part .head) .noiseValues) count (λ k. noiseOnline.uAt (part .head) lent (first + k)) uOut =
+      let u : over (fieldOf (part .head) .noiseValues) count (λ k. noise.uAt part (first + k)) uOut ≡ valuesOver (ofNoise (fieldOf (part .head))) (row (part .head)) (lent .noise) first count uOut =
       ap (λ (x : List ℕ). x ++ drop (count * fieldOf (part .head) .noiseValues .width) uOut)
       (flat-cong (fieldOf (part .head) .noiseValues) (kindLaws (part .head .field) .field .noiseValues) count _ _ (λ k l. sym (u-same k))) in
-      let v : over (fieldOf (part .head) .elements) count (λ k. noise.vAt part (first + k)) vOut ≡ over (fieldOf (part .head) .elements) count (λ k. noiseOnline.vAt (part .head) lent (first + k)) vOut =
+      let v : over (fieldOf (part .head) .elements) count (λ k. noise.vAt part (first + k)) vOut ≡ valuesOver (fieldOf (part .head)) (row (part .head)) (lent .v) first count vOut =
       ap (λ (x : List ℕ). x ++ drop (count * fieldOf (part .head) .elements .width) vOut)
       (flat-cong (fieldOf (part .head) .elements) (kindLaws (part .head .field) .field .elements) count _ _ (λ k l. sym (v-same k))) in
       λ i. record { source = E .source; uOut = u i; vOut = v i }
@@ -152,7 +154,7 @@ module _ {h : Head} (D : scalarOffline.Expanded h) (first count : ℕ) (wOut : L
       scalarLaws.online-listed lent-w whole (accumulate (fieldOf (whole .head) .scaled .group) (w0 whole)) (D .read) (accepted-w .w)
       (accumulated-elements (whole .head) (w0 whole)) first count
 
-  w-same : (k : ℕ) → scalarOnline.wAt (whole .head) lent-w (first + k) ≡ scalar.wAt whole (first + k)
+  w-same : (k : ℕ) → output (fieldOf (whole .head) .scaled) (row (whole .head) (first + k)) (at (fieldOf (whole .head) .elements) (lent-w .w)) ≡ scalar.wAt whole (first + k)
   unfolding scalar.wAt
   w-same k =
       row-same (whole .head) full-w (first + k) (fieldOf (whole .head) .scaled) (kindLaws (whole .head .field) .field .scaled) (w0 whole)
@@ -167,7 +169,7 @@ module _ {h : Head} (D : scalarOffline.Expanded h) (first count : ℕ) (wOut : L
       ≡ record { source = D .source; wOut = scalarOnline.filled (whole .head) lent-w first count .wOut }
   unfolding scalar.filled scalarOnline.filled over
   filled-w =
-      let w : over (fieldOf (whole .head) .elements) count (λ k. scalar.wAt whole (first + k)) wOut ≡ over (fieldOf (whole .head) .elements) count (λ k. scalarOnline.wAt (whole .head) lent-w (first + k)) wOut =
+      let w : over (fieldOf (whole .head) .elements) count (λ k. scalar.wAt whole (first + k)) wOut ≡ valuesOver (fieldOf (whole .head)) (row (whole .head)) (lent-w .w) first count wOut =
       ap (λ (x : List ℕ). x ++ drop (count * fieldOf (whole .head) .elements .width) wOut)
       (flat-cong (fieldOf (whole .head) .elements) (kindLaws (whole .head .field) .field .elements) count _ _ (λ k l. sym (w-same k))) in
       λ i. record { source = D .source; wOut = w i }

@@ -6,10 +6,10 @@ use Prim.Native.Nat.{ℕ}
 use Rattle.answer.specs.Numbers.{badLength, notElement}
 use Rattle.answer.specs.Outcome.{Outcome, TwoWritten}
 use Rattle.record.specs.Content.{Head}
-use Rattle.noise_end.specs.Offline as noiseOffline
-use Rattle.noise_end.specs.Online as noiseOnline
-use Rattle.scalar_end.specs.Offline as scalarOffline
-use Rattle.scalar_end.specs.Online as scalarOnline
+use Rattle.ends.specs.Noise.Offline as noiseOffline
+use Rattle.ends.specs.Noise.Online as noiseOnline
+use Rattle.ends.specs.Scalar.Offline as scalarOffline
+use Rattle.ends.specs.Scalar.Online as scalarOnline
 use Rattle.direct.specs.Noise as noise
 use Rattle.direct.specs.Scalar as scalar
 

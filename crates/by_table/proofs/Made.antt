@@ -15,7 +15,7 @@ use Rattle.tree.specs.Columns.{columnsAt}
 use Rattle.tree.specs.Tree.{leafAt}
 use Rattle.code.specs.Row.{placeOf, termBlock, termPlace, rowOfBlocks}
 use Rattle.record.specs.Content.{Head}
-use Rattle.rows.specs.Head.{kind, fieldOf, places, row}
+use Rattle.window.specs.Head.{kind, fieldOf, places, row}
 use Rattle.dealing.specs.Input.{Input, position}
 use Rattle.dealing.specs.Vectors.{head, field, value, root, leaf, delta, treeCorrection, v0, w0}
 use Rattle.pads.specs.Pad.{padKey, indexBlock, state, underPadKey, pad}

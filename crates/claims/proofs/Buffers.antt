@@ -25,18 +25,18 @@ use Rattle.field.proofs.BothKinds.{kindLaws, kindFacts}
 use Rattle.field.specs.Kind.{KindLaws, binaryKind, primeKind, kindOf}
 use Rattle.field.specs.Prime.{modulus}
 use Rattle.field.specs.declared.prime.Prime.{Prime}
-use Rattle.noise_end.proofs.Laws as noiseLaws
-use Rattle.noise_end.specs.Offline as noiseOffline
-use Rattle.noise_end.specs.Vectors.{value, mu, v0}
+use Rattle.ends.proofs.noise.Laws as noiseLaws
+use Rattle.ends.specs.Noise.Offline as noiseOffline
+use Rattle.ends.specs.Noise.Vectors.{value, mu, v0}
 use Rattle.number.specs.Reading.{Bytes}
 use Rattle.record.proofs.Laws.{noise-exact}
 use Rattle.record.specs.Admitted.{isField, isNoise, Each, AdmittedTree, AdmittedNoise}
 use Rattle.record.specs.Content.{Head, NoiseTree, treeIn, siblingCount}
-use Rattle.rows.specs.Head.{fieldOf, places}
-use Rattle.scalar_end.proofs.Laws as scalarLaws
-use Rattle.scalar_end.specs.Offline as scalarOffline
-use Rattle.scalar_end.specs.Vectors as scalarEnd
-use Rattle.scalar_end.specs.Vectors.{delta, w0}
+use Rattle.window.specs.Head.{fieldOf, places}
+use Rattle.ends.proofs.scalar.Laws as scalarLaws
+use Rattle.ends.specs.Scalar.Offline as scalarOffline
+use Rattle.ends.specs.Scalar.Vectors as scalarEnd
+use Rattle.ends.specs.Scalar.Vectors.{delta, w0}
 use Rattle.claims.proofs.Dealt.{delta-told}
 use Rattle.claims.specs.Buffers.{AccumulatedAt, ExpandedAt, Below, Buffers}
 

@@ -14,7 +14,7 @@ use Rattle.field.proofs.BothKinds.{kindLaws}
 use Rattle.field.specs.Kind.{KindLaws, binaryKind, primeKind, kindOf}
 use Rattle.aes128.specs.State.{column}
 use Rattle.aes128.specs.Cipher.{aes}
-use Rattle.rows.specs.Head.{kind}
+use Rattle.window.specs.Head.{kind}
 use Rattle.tree.proofs.Blocks.{Square, columns-of, xor-square}
 use Rattle.tree.proofs.Listed.{listed-at}
 use Rattle.tree.proofs.Laws.{Each, from-siblings, siblings-have}
@@ -26,8 +26,8 @@ use Rattle.dealing.specs.Admitted.{Admitted}
 use Rattle.dealing.specs.Input.{Input, position}
 use Rattle.dealing.specs.Parts.{noiseTree, noisePart, scalarPart}
 use Rattle.dealing.specs.Vectors.{head, field, value, root, leaf, treeCorrection, mu, v0, w0}
-use Rattle.noise_end.specs.Vectors as noiseEnd
-use Rattle.scalar_end.specs.Vectors as scalarEnd
+use Rattle.ends.specs.Noise.Vectors as noiseEnd
+use Rattle.ends.specs.Scalar.Vectors as scalarEnd
 
 -- a block's bytes read back
 block-back : (s : List (List ℕ)) → Square s → columnsAt (columnsBytes s) 0 ≡ s

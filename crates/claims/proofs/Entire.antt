@@ -6,9 +6,9 @@ use lib.ListN.{length}
 use Rattle.answer.proofs.Faults.{at-most, fault-later, fault-nowhere}
 use Rattle.dealing.proofs.Laws as dealing
 use Rattle.dealing.specs.Vectors.{field}
-use Rattle.noise_end.proofs.Laws as noiseLaws
+use Rattle.ends.proofs.noise.Laws as noiseLaws
 use Rattle.record.proofs.Laws as records
-use Rattle.scalar_end.proofs.Laws as scalarLaws
+use Rattle.ends.proofs.scalar.Laws as scalarLaws
 use Rattle.claims.specs.Acceptance.{Acceptance}
 use Rattle.claims.specs.Correlation.{Outputs, Pads, Demand3}
 use Rattle.claims.specs.Records.{Records}

@@ -18,20 +18,20 @@ use Rattle.algebra.specs.Sum.{accumulate}
 use Rattle.field.proofs.BothKinds.{kindLaws, noiseFacts}
 use Rattle.number.specs.Reading.{Whole}
 use Rattle.record.specs.Reading.{readNoise, readScalar}
-use Rattle.rows.proofs.Rows.{row-within, row-output}
-use Rattle.rows.specs.Head.{places, row}
+use Rattle.window.proofs.Rows.{row-within, row-output}
+use Rattle.window.specs.Head.{places, row}
 use Rattle.dealing.proofs.Laws as dealing
 use Rattle.dealing.specs.Admitted.{Admitted}
 use Rattle.dealing.specs.Input.{Input}
 use Rattle.dealing.specs.Parts.{noisePart, scalarPart}
 use Rattle.dealing.specs.Vectors as dealt
 use Rattle.dealing.specs.Vectors.{head, field, mu, v0, w0}
-use Rattle.noise_end.proofs.Laws as noiseLaws
-use Rattle.noise_end.specs.Online as noiseOnline
-use Rattle.noise_end.specs.Vectors as noisePartVectors
-use Rattle.scalar_end.proofs.Laws as scalarLaws
-use Rattle.scalar_end.specs.Online as scalarOnline
-use Rattle.scalar_end.specs.Vectors as scalarPartVectors
+use Rattle.ends.proofs.noise.Laws as noiseLaws
+use Rattle.ends.specs.Noise.Online as noiseOnline
+use Rattle.ends.specs.Noise.Vectors as noisePartVectors
+use Rattle.ends.proofs.scalar.Laws as scalarLaws
+use Rattle.ends.specs.Scalar.Online as scalarOnline
+use Rattle.ends.specs.Scalar.Vectors as scalarPartVectors
 use Rattle.claims.specs.Correlation.{Setting, noiseSource, scalarSource, Call, End, run, last, EndClaim, NoiseMemory, NoiseOut, noiseExpanded, noiseEnd, ScalarMemory, scalarExpanded, scalarEnd, Lists}
 use Rattle.claims.proofs.Dealt.{delta-told, mu-dealt, v0-dealt, w0-dealt}
 use Rattle.claims.proofs.Outputs.{admitted-correlated}

@@ -14,8 +14,8 @@ use Rattle.field.specs.Bytes.{wordAt}
 use Rattle.field.specs.Kind.{kindOf}
 use Rattle.field.specs.Prime.{modulus}
 use Rattle.record.specs.Content.{elementOf}
-use Rattle.rows.proofs.Rows.{row-within}
-use Rattle.rows.specs.Head.{places, row}
+use Rattle.window.proofs.Rows.{row-within}
+use Rattle.window.specs.Head.{places, row}
 use Rattle.tree.specs.Child.{child}
 use Rattle.tree.specs.Tree.{leafAt}
 use Rattle.dealing.specs.Admitted.{Admitted, NoiseAdmitted}

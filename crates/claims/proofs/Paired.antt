@@ -5,15 +5,15 @@ use Prim.Native.Nat.{ℕ}
 use Rattle.algebra.proofs.Same.{accumulate-same, output-same}
 use Rattle.algebra.specs.Group.{itself}
 use Rattle.field.proofs.BothKinds.{noiseFacts}
-use Rattle.rows.proofs.Rows.{row-within}
-use Rattle.rows.specs.Head.{places, row}
+use Rattle.window.proofs.Rows.{row-within}
+use Rattle.window.specs.Head.{places, row}
 use Rattle.dealing.proofs.Laws as dealing
 use Rattle.dealing.specs.Admitted.{Admitted}
 use Rattle.dealing.specs.Input.{Input}
 use Rattle.dealing.specs.Parts.{noisePart, scalarPart}
 use Rattle.dealing.specs.Vectors.{head, field, delta, mu, v0, w0, u, v, w}
-use Rattle.noise_end.specs.Vectors as noiseVectors
-use Rattle.scalar_end.specs.Vectors as scalarVectors
+use Rattle.ends.specs.Noise.Vectors as noiseVectors
+use Rattle.ends.specs.Scalar.Vectors as scalarVectors
 use Rattle.pairing.proofs.Laws.{held-at, correlated-held}
 use Rattle.pairing.specs.Verdict.{uAt, vAt, wAt, pairOf, heldAt}
 use Rattle.claims.specs.Pairing.{Held}

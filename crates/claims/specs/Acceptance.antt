@@ -11,9 +11,9 @@ use Rattle.dealing.specs.Deal.{deal, noiseRecordOf, scalarRecordOf}
 use Rattle.dealing.specs.Input.{Input}
 use Rattle.dealing.specs.Parts.{noisePart, scalarPart}
 use Rattle.dealing.specs.Vectors.{field}
-use Rattle.noise_end.specs.Offline as noiseOffline
+use Rattle.ends.specs.Noise.Offline as noiseOffline
 use Rattle.record.specs.Writing.{writeNoise, writeScalar}
-use Rattle.scalar_end.specs.Offline as scalarOffline
+use Rattle.ends.specs.Scalar.Offline as scalarOffline
 use Rattle.claims.specs.Correlation.{Setting, Call, NoiseOut, noiseEnd, scalarEnd}
 
 pub record Acceptance : Type 0 where

@@ -7,11 +7,11 @@ use Rattle.algebra.specs.Coding.{at}
 use Rattle.algebra.specs.Expansion.{Correlated}
 use Rattle.number.specs.Reading.{Bytes}
 use Rattle.record.specs.Content.{Head}
-use Rattle.rows.specs.Head.{fieldOf, places}
-use Rattle.noise_end.specs.Offline as noiseOffline
-use Rattle.noise_end.specs.Vectors.{mu, v0}
-use Rattle.scalar_end.specs.Offline as scalarOffline
-use Rattle.scalar_end.specs.Vectors.{delta, w0}
+use Rattle.window.specs.Head.{fieldOf, places}
+use Rattle.ends.specs.Noise.Offline as noiseOffline
+use Rattle.ends.specs.Noise.Vectors.{mu, v0}
+use Rattle.ends.specs.Scalar.Offline as scalarOffline
+use Rattle.ends.specs.Scalar.Vectors.{delta, w0}
 
 -- w = Δu + v at place j, of the words that an offline call of each end wrote
 abbrev pub AccumulatedAt : {h : Head} → noiseOffline.Expanded h → scalarOffline.Expanded h → ℕ → Type 0

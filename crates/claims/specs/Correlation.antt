@@ -15,12 +15,12 @@ use Rattle.dealing.specs.Deal.{Dealt, deal, noiseRecordOf, scalarRecordOf}
 use Rattle.dealing.specs.Input.{Input}
 use Rattle.dealing.specs.Vectors.{field, delta, u, v, w}
 use Rattle.field.specs.Bytes.{wordAt}
-use Rattle.noise_end.specs.Offline as noiseOffline
-use Rattle.noise_end.specs.Online as noiseOnline
+use Rattle.ends.specs.Noise.Offline as noiseOffline
+use Rattle.ends.specs.Noise.Online as noiseOnline
 use Rattle.pads.specs.Calls.{noisePads, scalarPads}
 use Rattle.pads.specs.Choice.{InWindow, padAt, messageAt}
-use Rattle.scalar_end.specs.Offline as scalarOffline
-use Rattle.scalar_end.specs.Online as scalarOnline
+use Rattle.ends.specs.Scalar.Offline as scalarOffline
+use Rattle.ends.specs.Scalar.Online as scalarOnline
 
 -- w = Δu + v at each output of every accepted dealing
 abbrev pub Outputs : Type 0

@@ -1,5 +1,5 @@
 -- Accumulation in place, one value a turn: the state before the loop, after a turn and after the loop, for any group and
--- coding, then for the words of each field.
+-- coding, then for the words of each field, and by the field's number.
 use mathlib.Core.List.{List}
 use mathlib.Core.Path.{_≡_, refl, sym, ap, _∙_}
 use Prim.Native.Nat.{ℕ, _+_, _*_, _≤_, _<_}
@@ -15,10 +15,13 @@ use Rattle.algebra.proofs.Loop.{loop-total-none, loop-values-none, loop-total, 
 use Rattle.field.specs.declared.block.Block.{Block}
 use Rattle.field.specs.declared.prime.Prime.{Prime}
 use Rattle.field.specs.Binary.{binary, bitRing, block, blockGroup, blockZero, blockAdd, bitAdd}
+use Rattle.field.specs.Kind.{kindOf, elementWords}
 use Rattle.field.specs.Prime.{primes, primeRing, prime, primeZero, primeAdd}
 use Rattle.field.specs.Words.{oneWord}
 use Rattle.field.proofs.BinaryField.{binaryLaws}
+use Rattle.field.proofs.KindOf.{kind-2, words-1}
 use Rattle.field.proofs.PrimeField.{primeLaws}
+use Rattle.field.proofs.Widths.{whole-prime}
 use Rattle.field.proofs.Words.{at-one, put-one, put-two}
 
 -- i values of b are accumulated: their total, and the list
@@ -97,3 +100,27 @@ module _ {b : List ℕ} where
   pub blocks-end : {v : List ℕ} {t : Block} {i n : ℕ} → Accumulated blockGroup (binary .elements) b v t i → i ≤ n → n ≤ i
       → length b ≡ n * 2 → v ≡ flat (binary .elements) n (accumulate blockGroup (at (binary .elements) b))
   blocks-end = done blockGroup (binary .elements) (binaryLaws .elements) b
+
+-- by the field's number
+module _ (field : ℕ) (w : List ℕ) where
+  pub noise-binary : field ≡ 1 → {next : List ℕ} → next ≡ flat (binary .noiseValues) (length w) (accumulate (bitRing .group) (at (binary .noiseValues) w))
+      → next ≡ flat (kindOf field .field .noiseValues) (length w) (accumulate (kindOf field .field .ring .group) (at (kindOf field .field .noiseValues) w))
+  noise-binary e q = rw e q
+
+  pub noise-prime : (field ≡ 1 → ⊥) → {next : List ℕ} → next ≡ flat (primes .elements) (length w) (accumulate (primeRing .group) (at (primes .elements) w))
+      → next ≡ flat (kindOf field .field .noiseValues) (length w) (accumulate (kindOf field .field .ring .group) (at (kindOf field .field .noiseValues) w))
+  noise-prime h q = rw (kind-2 field h) q
+
+  module _ (count : ℕ) (whole : length w ≡ count * elementWords field) where
+    pub whole-binary : field ≡ 1 → length w ≡ count * 2
+    whole-binary e = rw (words-1 field e) at whole
+
+    pub elements-binary : field ≡ 1 → {next : List ℕ} → next ≡ flat (binary .elements) count (accumulate blockGroup (at (binary .elements) w))
+        → next ≡ flat (kindOf field .field .elements) count (accumulate (kindOf field .field .scaled .group) (at (kindOf field .field .elements) w))
+    elements-binary e q = rw e q
+
+    pub elements-prime : (field ≡ 1 → ⊥) → {next : List ℕ} → next ≡ flat (primes .elements) (length w) (accumulate (primeRing .group) (at (primes .elements) w))
+        → next ≡ flat (kindOf field .field .elements) count (accumulate (kindOf field .field .scaled .group) (at (kindOf field .field .elements) w))
+    elements-prime h q =
+        rw (kind-2 field h)
+        (q ∙ ap (λ (n : ℕ). flat (primes .elements) n (accumulate (primeRing .group) (at (primes .elements) w))) (whole-prime field h (length w) count whole))

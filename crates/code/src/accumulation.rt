@@ -5,6 +5,7 @@ ghost use lib.ListN.{length};
 ghost use Rattle.algebra.specs.Coding.{at, flat};
 ghost use Rattle.algebra.specs.Sum.{accumulate};
 ghost use Rattle.field.specs.Binary.{binary, bitRing, blockGroup};
+ghost use Rattle.field.specs.Kind.{kindOf, elementWords};
 ghost use Rattle.field.specs.Prime.{primes, primeRing};
 use field::Block;
 use field::Prime;
@@ -55,5 +56,30 @@ pub fn accumulate_primes(v: &mut [u64])
         v[i] = next.word;
         total = next;
         i += 1;
+    }
+}
+
+// Accumulates noise words of a field.
+pub fn accumulate_noise(field: usize, words: &mut [u64])
+    ensures { λ _. ⌜ now (words .exit) ≡ flat (kindOf field .field .noiseValues) (length (now (words .entry)))
+        (accumulate (kindOf field .field .ring .group) (at (kindOf field .field .noiseValues) (now (words .entry)))) ⌝ }
+{
+    if field == 1 {
+        accumulate_bits(words);
+    } else {
+        accumulate_primes(words);
+    }
+}
+
+// Accumulates `count` elements of a field.
+pub fn accumulate_elements(field: usize, count: usize, words: &mut [u64])
+    requires { ⌜ length (now words) ≡ count * elementWords field ⌝ }
+    ensures { λ _. ⌜ now (words .exit) ≡ flat (kindOf field .field .elements) count
+        (accumulate (kindOf field .field .scaled .group) (at (kindOf field .field .elements) (now (words .entry)))) ⌝ }
+{
+    if field == 1 {
+        accumulate_blocks(words, count);
+    } else {
+        accumulate_primes(words);
     }
 }

@@ -3,9 +3,8 @@ mod accumulation;
 mod row;
 mod used;
 
-pub use accumulation::accumulate_bits;
-pub use accumulation::accumulate_blocks;
-pub use accumulation::accumulate_primes;
+pub use accumulation::accumulate_elements;
+pub use accumulation::accumulate_noise;
 pub use row::Term;
 pub use row::place_of;
 pub use row::row_term;

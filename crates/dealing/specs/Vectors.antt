@@ -11,7 +11,7 @@ use Rattle.tree.specs.Child.{child}
 use Rattle.tree.specs.Columns.{columnsAt}
 use Rattle.tree.specs.Tree.{leafAt}
 use Rattle.record.specs.Content.{Head}
-use Rattle.rows.specs.Head.{kind, fieldOf, places, row}
+use Rattle.window.specs.Head.{kind, fieldOf, places, row}
 use Rattle.dealing.specs.Input.{Input, position, deltaWords}
 
 -- the head of both records

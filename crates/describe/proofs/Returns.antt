@@ -20,7 +20,7 @@ use Rattle.record.specs.declared.Opened.the-variants.{Accepted, Fault}
 use Rattle.record.proofs.Callers.{head-ranges, noise-refused, noise-opened, scalar-refused, scalar-opened}
 use Rattle.describe.specs.declared.Described.{Described}
 use Rattle.describe.specs.Describe.{head, refused, said, byEnd, description, describe}
-use Rattle.rows.proofs.Sizes.{head-sizes}
+use Rattle.window.proofs.Sizes.{head-sizes}
 
 -- the head of its numbers, N, the words of an element, the label and the code key
 pub with-sizes : (end : ℕ) (s : List ℕ) (f : Front) {n w : ℕ} {label key : List ℕ} → n ≡ 2 ^ f .depth → w ≡ elementWords (f .field)

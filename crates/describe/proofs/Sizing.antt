@@ -15,12 +15,12 @@ use Rattle.answer.proofs.Faults.{last-not, last-only}
 use Rattle.number.specs.Reading.{Reading, Whole, Refused, Step, tested, readByte, afterReading}
 use Rattle.record.specs.Content.{Head, NoisePart, ScalarPart}
 use Rattle.record.specs.Reading.{readNoise, readScalar}
-use Rattle.noise_end.specs.Offline as noiseOffline
-use Rattle.noise_end.specs.Online as noiseOnline
-use Rattle.noise_end.proofs.Laws as noiseLaws
-use Rattle.scalar_end.specs.Offline as scalarOffline
-use Rattle.scalar_end.specs.Online as scalarOnline
-use Rattle.scalar_end.proofs.Laws as scalarLaws
+use Rattle.ends.specs.Noise.Offline as noiseOffline
+use Rattle.ends.specs.Noise.Online as noiseOnline
+use Rattle.ends.proofs.noise.Laws as noiseLaws
+use Rattle.ends.specs.Scalar.Offline as scalarOffline
+use Rattle.ends.specs.Scalar.Online as scalarOnline
+use Rattle.ends.proofs.scalar.Laws as scalarLaws
 use Rattle.describe.specs.declared.Described.{Described}
 use Rattle.describe.specs.Describe.{head, refused, said, byEnd, describe}
 use Rattle.describe.specs.Sizing.{Sizing, answerFor, noiseLengths, scalarLengths, withoutEnd}

@@ -11,7 +11,7 @@ use Rattle.field.specs.Kind.{elementWords}
 use Rattle.number.specs.Reading.{Reading, Step, tested, readByte, afterReading}
 use Rattle.record.specs.Content.{Head}
 use Rattle.record.specs.Reading.{readNoise, readScalar}
-use Rattle.rows.specs.Head.{places}
+use Rattle.window.specs.Head.{places}
 use Rattle.describe.specs.declared.Described.{Described}
 
 -- the head of an accepted record of an end: its field and sizes, N, the words of an element, and the 16 bytes of its label and of its

@@ -12,10 +12,10 @@ use Rattle.answer.specs.Tests.{Ask, Test, _is_, _atMost_, _or_, firstFault}
 use Rattle.number.specs.Reading.{Whole}
 use Rattle.record.specs.Content.{NoisePart, ScalarPart}
 use Rattle.record.specs.Reading.{readNoise, readScalar}
-use Rattle.noise_end.specs.Offline as noiseOffline
-use Rattle.noise_end.specs.Online as noiseOnline
-use Rattle.scalar_end.specs.Offline as scalarOffline
-use Rattle.scalar_end.specs.Online as scalarOnline
+use Rattle.ends.specs.Noise.Offline as noiseOffline
+use Rattle.ends.specs.Noise.Online as noiseOnline
+use Rattle.ends.specs.Scalar.Offline as scalarOffline
+use Rattle.ends.specs.Scalar.Online as scalarOnline
 use Rattle.describe.specs.declared.Described.{Described}
 use Rattle.describe.specs.Describe.{refused, describe}
 

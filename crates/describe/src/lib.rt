@@ -7,13 +7,13 @@ ghost use Rattle.record.specs.Reading.{blockAt, readNoise, readScalar};
 ghost use Rattle.describe.specs.Describe.{head, refused, said, description, describe};
 use answer::RECORD_ENDS;
 use answer::WRONG_END;
+use field::element_width;
 use record::Front;
 use record::Opened;
+use record::fault_of;
 use record::leaves;
 use record::read_noise;
 use record::read_scalar;
-use rows::element_width;
-use rows::fault_of;
 
 // The answer: the number; the end, the field and the sizes of the record; N, and the words of an element; the label and the code
 // key. A refused record has zeros beside its number.

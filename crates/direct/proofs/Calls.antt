@@ -29,14 +29,14 @@ use Rattle.record.proofs.Parts.{noise-parts, scalar-parts}
 use Rattle.aes128.specs.Cipher.{aes}
 use Rattle.code.specs.Row.{termBlock}
 use Rattle.code.specs.Inner.Rows.{termBlockBy}
-use Rattle.rows.specs.Inner.Outputs.{codeKeys}
-use Rattle.rows.proofs.Numbers.{count-fits}
+use Rattle.window.specs.Inner.Outputs.{codeKeys}
+use Rattle.window.proofs.Numbers.{count-fits}
 use Rattle.tree.specs.Inner.Keys.{keysFor}
 use Rattle.tree.specs.KeySchedules.{OfChildKeys}
-use Rattle.noise_end.specs.Inner.Ready as noiseReady
-use Rattle.noise_end.proofs.Content as noiseContent
-use Rattle.scalar_end.specs.Inner.Ready as scalarReady
-use Rattle.scalar_end.proofs.Content as scalarContent
+use Rattle.ends.specs.Inner.Noise as noiseReady
+use Rattle.ends.proofs.noise.Content as noiseContent
+use Rattle.ends.specs.Inner.Scalar as scalarReady
+use Rattle.ends.proofs.scalar.Content as scalarContent
 use Rattle.direct.specs.Noise as noise
 use Rattle.direct.specs.Scalar as scalar
 use Rattle.direct.specs.Inner.Both.{BothFit}

@@ -29,10 +29,10 @@ use Rattle.tree.specs.KeySchedules.{OfChildKeys}
 use Rattle.tree.specs.Tree.{leafAt}
 use Rattle.tree.proofs.Laws.{leaf-none}
 use Rattle.tree.proofs.Levels.{whole-levels}
-use Rattle.noise_end.specs.Vectors as noiseEnd
-use Rattle.noise_end.specs.Inner.Ready.{treesAt, contentOf}
-use Rattle.scalar_end.specs.Vectors as scalarEnd
-use Rattle.scalar_end.specs.Inner.Ready as scalarReady
+use Rattle.ends.specs.Noise.Vectors as noiseEnd
+use Rattle.ends.specs.Inner.Noise.{treesAt, contentOf}
+use Rattle.ends.specs.Scalar.Vectors as scalarEnd
+use Rattle.ends.specs.Inner.Scalar as scalarReady
 use Rattle.direct.specs.Inner.Vectors.{fieldBy, noiseIn, elementIn, valueIn, leafOf, valuesBy, valuesOf}
 use Rattle.direct.specs.Inner.Trees.{treeAt, TreesIn, Standing, Walking, puncturedAt, IsWay, StartsAt, TwoStarts, twoLeaves, noiseWord}
 use Rattle.direct.specs.declared.elements.Element.{Element}

@@ -29,9 +29,9 @@ use Rattle.field.proofs.BinaryField.{binaryLaws}
 use Rattle.field.proofs.BothKinds.{kindLaws}
 use Rattle.field.proofs.Words.{put-one}
 use Rattle.record.specs.declared.Front.{Front}
-use Rattle.rows.specs.declared.WindowRows.{WindowRows}
-use Rattle.rows.specs.Inner.Outputs.{rowsOf}
-use Rattle.rows.proofs.Windows.{value-put}
+use Rattle.window.specs.declared.WindowRows.{WindowRows}
+use Rattle.window.specs.Inner.Outputs.{rowsOf}
+use Rattle.algebra.proofs.Flats.{value-put}
 use Rattle.tree.specs.Added.{added}
 use Rattle.direct.specs.Inner.Vectors.{fieldBy, fieldFor, noiseIn, valueIn, rowIn}
 use Rattle.direct.specs.Inner.Rows.{noiseSum, entryIn, IsBatch, IsCode, HasTerms, sumsMore, placeAdded}

@@ -18,17 +18,17 @@ use Rattle.record.specs.Content.{NoiseTree, treeIn, siblingCount}
 use Rattle.record.specs.Inner.Answers.{treeOf}
 use Rattle.record.specs.declared.Front.{Front}
 use Rattle.record.specs.declared.Tree.{Tree}
-use Rattle.rows.proofs.Blocks.{columns-item}
-use Rattle.rows.proofs.Widths.{width-most}
+use Rattle.window.proofs.Blocks.{columns-item}
+use Rattle.field.proofs.Widths.{width-most}
 use Rattle.tree.specs.Child.{child}
 use Rattle.tree.specs.Columns.{columnsAt, siblingsAt}
 use Rattle.tree.specs.Tree.{leafAt, fromSiblings}
 use Rattle.tree.proofs.Levels.{whole-levels, level-leaves}
-use Rattle.noise_end.specs.Vectors as noise
-use Rattle.noise_end.specs.Inner.Ready.{beside, treesAt, contentOf}
-use Rattle.noise_end.proofs.Trees.{correction-words, siblings-columns}
-use Rattle.scalar_end.specs.Inner.Ready as scalarReady
-use Rattle.scalar_end.specs.Vectors as scalar
+use Rattle.ends.specs.Noise.Vectors as noise
+use Rattle.ends.specs.Inner.Noise.{beside, treesAt, contentOf}
+use Rattle.ends.proofs.Trees.{correction-words, siblings-columns}
+use Rattle.ends.specs.Inner.Scalar as scalarReady
+use Rattle.ends.specs.Scalar.Vectors as scalar
 use Rattle.direct.specs.Inner.Vectors.{elementIn, leafOf}
 use Rattle.direct.specs.Inner.Trees.{treeAt, IsTree, Standing, puncturedAt, IsWay, IsBeside, FromSibling, StartsAt}
 use Rattle.direct.specs.declared.trees.Start.{Start}

@@ -30,8 +30,9 @@ use Rattle.field.specs.Kind.{kindOf, elementWords}
 use Rattle.field.proofs.BinaryField.{binaryLaws}
 use Rattle.field.proofs.BothKinds.{kindLaws}
 use Rattle.record.specs.declared.Front.{Front}
-use Rattle.rows.proofs.Sums.{zero-elements, zero-noise, trees-none, treesSum}
-use Rattle.rows.proofs.Widths.{width-most}
+use Rattle.field.proofs.KindOf.{zero-elements, zero-noise}
+use Rattle.tree.proofs.Sums.{trees-none, treesSum}
+use Rattle.field.proofs.Widths.{width-most}
 use Rattle.tree.specs.Added.{added}
 use Rattle.direct.specs.Inner.Vectors.{fieldBy, fieldFor, noiseIn, valuesOf, rowIn, outputOf}
 use Rattle.direct.specs.Inner.Rows.{noiseSum, entryIn, IsBatch, IsCode, HasTerms, sumsMore, placeAdded, stripAdded, stripOf}

@@ -16,8 +16,8 @@ use Rattle.record.specs.Inner.Answers.{treeOf}
 use Rattle.record.specs.declared.Front.{Front}
 use Rattle.record.specs.declared.Tree.{Tree}
 use Rattle.record.proofs.Callers.{again-asks, again-at}
-use Rattle.noise_end.specs.Inner.Ready.{beside, treesAt, Ready, TreeRead}
-use Rattle.noise_end.proofs.Trees.{all-left}
+use Rattle.ends.specs.Inner.Noise.{beside, treesAt, Ready, TreeRead}
+use Rattle.ends.proofs.Trees.{all-left}
 use Rattle.direct.specs.Inner.Trees.{treeAt, treePut, IsTree, TreesIn}
 
 -- ---- a tree put into the table

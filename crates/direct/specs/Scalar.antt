@@ -12,8 +12,8 @@ use Rattle.algebra.specs.Row.{entry, rowTimes}
 use Rattle.number.specs.Reading.{afterReading}
 use Rattle.record.specs.Content.{Head, ScalarPart}
 use Rattle.record.specs.Reading.{readScalar}
-use Rattle.rows.specs.Head.{fieldOf, places, row}
-use Rattle.scalar_end.specs.Vectors.{w0}
+use Rattle.window.specs.Head.{fieldOf, places, row}
+use Rattle.ends.specs.Scalar.Vectors.{w0}
 
 -- what is lent: the record and the output buffer
 pub record Lent : Type 0 where

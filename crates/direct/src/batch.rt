@@ -14,9 +14,9 @@ use crate::entries::add_place;
 use crate::entries::make_terms;
 use crate::entries::pass_terms;
 use crate::values::value_at;
+use fill::zero_words;
 use record::Front;
 use record::leaves;
-use rows::zero_words;
 
 // Strip i of the places, for a batch.
 pub struct Strip {
@@ -95,7 +95,7 @@ fn value_width(vector: usize, field: usize) -> usize
     if vector == 1 {
         1
     } else {
-        rows::element_width(field)
+        field::element_width(field)
     }
 }
 

@@ -13,7 +13,7 @@ ghost use Rattle.direct.specs.Inner.Rows.{noiseSum};
 use field::Block;
 use field::Prime;
 use field::add_bits;
-use rows::put_block;
+use field::put_block;
 
 // An element: in field 1 its two words, in field 2 its word and any second one. A noise value is one word and any second one.
 pub struct Element {

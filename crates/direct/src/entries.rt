@@ -15,7 +15,7 @@ use crate::values::Vector;
 use code::Window;
 use code::row_term;
 use record::Front;
-use rows::window_rows;
+use window::window_rows;
 
 // So many rows of the code from an index on, and the vector that they are summed over.
 pub struct Batch {

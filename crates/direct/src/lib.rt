@@ -18,9 +18,9 @@ use answer::OneLength;
 use answer::TwoLengths;
 use code::Window;
 use record::Opened;
+use record::fault_of;
 use record::read_noise;
 use record::read_scalar;
-use rows::fault_of;
 use window::write_noise;
 use window::write_scalar;
 

@@ -2,9 +2,9 @@
 ghost use mathlib.Core.Path.{_≡_};
 ghost use Prim.Native.Nat.{_≤_, _<_};
 ghost use Rattle.record.specs.declared.Tree.{Tree};
-ghost use Rattle.noise_end.specs.Inner.Ready.{Ready};
+ghost use Rattle.ends.specs.Inner.Noise.{Ready};
 ghost use Rattle.direct.specs.Inner.Trees.{treeAt, TreesIn, treePut};
-use noise_end::tree_at as record_tree;
+use ends::noise::tree_at as record_tree;
 use record::Front;
 use record::Tree;
 use record::sibling_count;

@@ -3,13 +3,13 @@ ghost use mathlib.Core.Bool.{false, _||_};
 ghost use mathlib.Core.Path.{_≡_};
 ghost use Prim.Native.Nat.{_+_, _*_, _^_, _≤_, _<_};
 ghost use lib.ListN.{length};
-ghost use Rattle.scalar_end.specs.Inner.Ready.{rootsAt};
+ghost use Rattle.ends.specs.Inner.Scalar.{rootsAt};
 ghost use Rattle.direct.specs.Inner.Trees.{IsBeside, FromSibling, Standing, StartsAt, puncturedAt};
 use crate::table::tree_at;
 use crate::walk::digit;
+use field::element_width;
 use record::Front;
 use record::leaves;
-use rows::element_width;
 
 // The place of a block's bytes, and how many levels are left below it.
 pub struct Start {

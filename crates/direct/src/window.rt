@@ -12,8 +12,8 @@ ghost use Rattle.aes128.specs.Inner.Words.{roundKeys};
 ghost use Rattle.direct.specs.Inner.Vectors.{fieldFor, outputOf};
 ghost use Rattle.direct.specs.Inner.Both.{BothFit};
 ghost use lib.ListN.{length};
-ghost use Rattle.noise_end.specs.Inner.Ready as noiseReady;
-ghost use Rattle.scalar_end.specs.Inner.Ready as scalarReady;
+ghost use Rattle.ends.specs.Inner.Noise as noiseReady;
+ghost use Rattle.ends.specs.Inner.Scalar as scalarReady;
 ghost use Rattle.direct.specs.Noise as noise;
 ghost use Rattle.direct.specs.Scalar as scalar;
 ghost use Rattle.direct.specs.Inner.Calls.{NoiseFits, ScalarFits};
@@ -27,10 +27,10 @@ use answer::TwoLengths;
 use answer::WINDOW_PAST_END;
 use answer::is_past;
 use code::Window;
+use field::element_width;
 use record::Front;
-use rows::code_keys;
-use rows::element_width;
 use tree_walk::child_keys;
+use window::code_keys;
 
 // The words of a window's elements.
 fn words_for(front: Front, window: Window) -> usize

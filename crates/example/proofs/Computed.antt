@@ -18,8 +18,8 @@ use Rattle.dealing.specs.Vectors.{field, u, v, w}
 use Rattle.claims.proofs.Entire.{acceptance}
 use Rattle.claims.proofs.Lists as lists
 use Rattle.claims.specs.Correlation.{Setting, Call, run, NoiseOut, noiseEnd, scalarEnd}
-use Rattle.noise_end.specs.Online as noiseOnline
-use Rattle.scalar_end.specs.Online as scalarOnline
+use Rattle.ends.specs.Noise.Online as noiseOnline
+use Rattle.ends.specs.Scalar.Online as scalarOnline
 use Rattle.example.specs.Worked.{Numbers, Worked, binaryInput, primeInput, binaryNumbers, primeNumbers}
 use Rattle.example.specs.Example.{noiseCalls, scalarCalls, noiseShown, scalarShown, Example}
 use Rattle.example.proofs.Dealt.{binary-dealt, prime-dealt}

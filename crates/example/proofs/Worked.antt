@@ -29,8 +29,8 @@ use Rattle.tree.proofs.Listed.{listed-at}
 use Rattle.tree.specs.Columns.{columnsAt}
 use Rattle.tree.specs.Tree.{path, reach, leafAt, listed}
 use Rattle.code.specs.Row.{placeOf, rowOfBlocks}
-use Rattle.rows.proofs.Rows.{row-within}
-use Rattle.rows.specs.Head.{places, row}
+use Rattle.window.proofs.Rows.{row-within}
+use Rattle.window.specs.Head.{places, row}
 use Rattle.dealing.specs.Admitted.{Admitted}
 use Rattle.dealing.specs.Input.{Input, position}
 use Rattle.dealing.specs.Vectors.{head, field, value, leaf, delta, treeCorrection, mu, v0, w0, u, v, w}

@@ -9,8 +9,8 @@ use Rattle.answer.specs.Numbers.{accepted, windowPastEnd, bufferShort}
 use Rattle.answer.specs.Outcome.{Outcome, TwoWritten}
 use Rattle.dealing.specs.Input.{Input}
 use Rattle.claims.specs.Correlation.{Setting, Call, run, NoiseOut, noiseEnd, scalarEnd}
-use Rattle.noise_end.specs.Online as noiseOnline
-use Rattle.scalar_end.specs.Online as scalarOnline
+use Rattle.ends.specs.Noise.Online as noiseOnline
+use Rattle.ends.specs.Scalar.Online as scalarOnline
 use Rattle.example.specs.Worked.{binaryInput, primeInput}
 
 -- a call on the window of a first index and a count, into output buffers of so many elements, which hold sevens

@@ -10,7 +10,7 @@ use Rattle.algebra.specs.Sum.{accumulate}
 use Rattle.field.specs.Prime.{modulus}
 use Rattle.dealing.specs.Input.{Input}
 use Rattle.dealing.specs.Vectors.{head, field, leaf, treeCorrection, mu, v0, w0, u, v, w}
-use Rattle.rows.specs.Head.{places, row}
+use Rattle.window.specs.Head.{places, row}
 use Rattle.tree.specs.Tree.{listed}
 
 -- n bytes, each one more than the one before

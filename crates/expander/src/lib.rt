@@ -2,12 +2,12 @@
 ghost use mathlib.Core.Path.{_≡_};
 ghost use Rattle.dealing.specs.Deal.{deal, lentDeal};
 ghost use Rattle.dealing.specs.Input.{inputWith};
-ghost use Rattle.noise_end.specs.Offline as noiseOffline;
-ghost use Rattle.noise_end.specs.Online as noiseOnline;
+ghost use Rattle.ends.specs.Noise.Offline as noiseOffline;
+ghost use Rattle.ends.specs.Noise.Online as noiseOnline;
 ghost use Rattle.answer.specs.Outcome.{outcomeNone, outcomeOne, outcomeTwo};
 ghost use Rattle.pads.specs.Calls.{lentNoise, lentScalar, noisePads, scalarPads};
-ghost use Rattle.scalar_end.specs.Offline as scalarOffline;
-ghost use Rattle.scalar_end.specs.Online as scalarOnline;
+ghost use Rattle.ends.specs.Scalar.Offline as scalarOffline;
+ghost use Rattle.ends.specs.Scalar.Online as scalarOnline;
 
 mod and_triples;
 mod bench_windows;
@@ -75,7 +75,7 @@ pub extern "C" fn expander_noise_offline(
     ensures { λ r. ⌜ outcomeTwo r (noiseOffline.offlineWith (now (source .exit)) (now (noise .exit)) (now (v .exit)))
         ≡ noiseOffline.offline (now (source .entry)) (now (noise .entry)) (now (v .entry)) ⌝ }
 {
-    noise_end::offline(source, noise, v)
+    ends::noise::offline(source, noise, v)
 }
 
 // The scalar end's offline call: the accumulated w, and Δ.
@@ -88,7 +88,7 @@ pub extern "C" fn expander_scalar_offline(
     ensures { λ r. ⌜ outcomeTwo r (scalarOffline.offlineWith (now (source .exit)) (now (w .exit)) (now (delta .exit)))
         ≡ scalarOffline.offline (now (source .entry)) (now (w .entry)) (now (delta .entry)) ⌝ }
 {
-    scalar_end::offline(source, w, delta)
+    ends::scalar::offline(source, w, delta)
 }
 
 // The noise end's online call: a window of u and v.
@@ -106,7 +106,7 @@ pub extern "C" fn expander_noise_online(
         ≡ noiseOnline.online (noiseOnline.lentWith (now (source .entry)) (now (noise .entry)) (now (v .entry)) (now («u_out» .entry)) (now («v_out» .entry)))
         first count ⌝ }
 {
-    noise_end::online(source, noise, v, first, count, u_out, v_out)
+    ends::noise::online(source, noise, v, first, count, u_out, v_out)
 }
 
 // The scalar end's online call: a window of w.
@@ -121,7 +121,7 @@ pub extern "C" fn expander_scalar_online(
     ensures { λ r. ⌜ outcomeOne r (scalarOnline.lentWith (now (source .exit)) (now (w .exit)) (now («w_out» .exit)))
         ≡ scalarOnline.online (scalarOnline.lentWith (now (source .entry)) (now (w .entry)) (now («w_out» .entry))) first count ⌝ }
 {
-    scalar_end::online(source, w, first, count, w_out)
+    ends::scalar::online(source, w, first, count, w_out)
 }
 
 // The noise end's pads of a window.

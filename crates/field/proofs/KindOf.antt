@@ -1,8 +1,10 @@
--- The kind of a field byte: binary for 1, prime for every other.
-use mathlib.Core.Bool.{Bool}
-use mathlib.Core.Path.{_≡_, ap}
+-- The kind of a field byte: binary for 1, prime for every other; the words of zero.
+use mathlib.Core.Bool.{Bool, true, false}
+use mathlib.Core.Path.{_≡_, refl, ap}
 use Prim.Native.Nat.{ℕ}
 use borrow.Author.Tests.{ne-eqb}
+use lib.Dec.{eqb}
+use lib.ListN.{replicate}
 use Rattle.algebra.specs.Choice.{choose}
 use Rattle.field.specs.Kind.{Kind, binaryKind, primeKind, kindOf, elementWords}
 
@@ -18,3 +20,20 @@ words-1 field f = ap (λ (K : Kind). K .field .elements .width) (kind-1 field f)
 
 pub words-2 : (field : ℕ) → (field ≡ 1 → ⊥) → elementWords field ≡ 1
 words-2 field f = ap (λ (K : Kind). K .field .elements .width) (kind-2 field f)
+
+-- words of zero are zero, of elements and of noise values
+pub zero-elements : (field : ℕ) → kindOf field .field .elements .words (kindOf field .field .scaled .group .zero) ≡ replicate (kindOf field .field .elements .width) 0
+zero-elements field = of (eqb field 1)
+  where
+    of : (b : Bool) → choose b binaryKind primeKind .field .elements .words (choose b binaryKind primeKind .field .scaled .group .zero)
+        ≡ replicate (choose b binaryKind primeKind .field .elements .width) 0
+    of true = refl
+    of false = refl
+
+pub zero-noise : (field : ℕ) → kindOf field .field .noiseValues .words (kindOf field .field .ring .group .zero) ≡ replicate (kindOf field .field .noiseValues .width) 0
+zero-noise field = of (eqb field 1)
+  where
+    of : (b : Bool) → choose b binaryKind primeKind .field .noiseValues .words (choose b binaryKind primeKind .field .ring .group .zero)
+        ≡ replicate (choose b binaryKind primeKind .field .noiseValues .width) 0
+    of true = refl
+    of false = refl

@@ -1,4 +1,4 @@
--- The laws of `field`: arithmetic modulo p, words in bytes, the laws of the two fields, and elements as signed numbers.
+-- The laws of `field`: arithmetic modulo p, words in bytes, the laws of the two fields, elements in words and accumulated, and elements as signed numbers.
 pub mod Modular
 pub mod Scale
 pub mod Xor
@@ -8,5 +8,7 @@ pub mod BinaryField
 pub mod PrimeField
 pub mod BothKinds
 pub mod KindOf
+pub mod Widths
+pub mod Accumulated
 pub mod Around
 pub mod SignedNeeds

@@ -5,3 +5,4 @@ mod Elements
 mod Bottom
 mod Couples
 mod Filled
+mod Zeroes

@@ -10,10 +10,10 @@ use Rattle.record.specs.Answer.{headOf, opened, frontOf, recordFault}
 use Rattle.record.specs.declared.Front.{Front}
 use Rattle.record.specs.declared.Opened.{Opened}
 use Rattle.record.specs.declared.Opened.the-variants.{Accepted, Fault}
-use Rattle.noise_end.specs.Inner.Ready as noise
-use Rattle.noise_end.proofs.Content as noiseContent
-use Rattle.scalar_end.specs.Inner.Ready as scalar
-use Rattle.scalar_end.proofs.Content as scalarContent
+use Rattle.ends.specs.Inner.Noise as noise
+use Rattle.ends.proofs.noise.Content as noiseContent
+use Rattle.ends.specs.Inner.Scalar as scalar
+use Rattle.ends.proofs.scalar.Content as scalarContent
 use Rattle.pairing.specs.declared.Finding.the-variants as finding
 use Rattle.pairing.specs.Answer.{verdictOf}
 use Rattle.pairing.specs.Inner.Steps.{KeyIn}

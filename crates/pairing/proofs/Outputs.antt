@@ -27,18 +27,19 @@ use Rattle.record.specs.declared.Front.{Front}
 use Rattle.record.specs.Answer.{headOf}
 use Rattle.record.proofs.Callers.{head-ranges}
 use Rattle.record.proofs.Parts.{noise-parts, scalar-parts}
-use Rattle.rows.specs.Head.{fieldOf}
-use Rattle.rows.proofs.Widths.{width-most}
-use Rattle.noise_end.proofs.Laws as noiseLaws
-use Rattle.noise_end.specs.Inner.Ready as noise
-use Rattle.noise_end.specs.Offline as noiseOffline
-use Rattle.noise_end.specs.Online as noiseOnline
-use Rattle.noise_end.specs.Vectors as noiseVectors
-use Rattle.scalar_end.proofs.Laws as scalarLaws
-use Rattle.scalar_end.specs.Inner.Ready as scalar
-use Rattle.scalar_end.specs.Offline as scalarOffline
-use Rattle.scalar_end.specs.Online as scalarOnline
-use Rattle.scalar_end.specs.Vectors as scalarVectors
+use Rattle.window.specs.Head.{fieldOf}
+use Rattle.field.proofs.Widths.{width-most}
+use Rattle.ends.proofs.Vectors.{one-word}
+use Rattle.ends.proofs.noise.Laws as noiseLaws
+use Rattle.ends.specs.Inner.Noise as noise
+use Rattle.ends.specs.Noise.Offline as noiseOffline
+use Rattle.ends.specs.Noise.Online as noiseOnline
+use Rattle.ends.specs.Noise.Vectors as noiseVectors
+use Rattle.ends.proofs.scalar.Laws as scalarLaws
+use Rattle.ends.specs.Inner.Scalar as scalar
+use Rattle.ends.specs.Scalar.Offline as scalarOffline
+use Rattle.ends.specs.Scalar.Online as scalarOnline
+use Rattle.ends.specs.Scalar.Vectors as scalarVectors
 use Rattle.pairing.specs.Inner.Steps.{Paired, NoiseOutputs, ScalarOutputs, counted, holdsAt, heldWords}
 use Rattle.pairing.specs.Verdict.{Checked, uAt, vAt, wAt, Pair, scalarOf, pairOf, heldAt, heldOf, verdict}
 use Rattle.pairing.proofs.Laws.{same-checked}
@@ -94,7 +95,7 @@ module _ (s : List ℕ) (f : Front) (ready : noise.Ready s f) (small : 2 ^ f .de
         noise-accepted .firstWritten
         ∙ sym (ap length (noise-accepted .noise)
         ∙ length-flat (kindOf (f .field) .field .noiseValues) (kindLaws (f .field) .field .noiseValues) (2 ^ f .depth) _
-        ∙ noiseLaws.one-word (headOf s f) (2 ^ f .depth))
+        ∙ one-word (headOf s f) (2 ^ f .depth))
 
     pub noise-in : r .«first_written» ≤ length n
     noise-in = front-in (r .«first_written») n noise-front

@@ -5,7 +5,7 @@ use mathlib.Core.List.{List, _++_}
 use Prim.Native.Nat.{ℕ, _≤_, _<_}
 use Rattle.number.specs.Reading.{Whole}
 use Rattle.record.specs.Reading.{readNoise, readScalar}
-use Rattle.rows.specs.Head.{places}
+use Rattle.window.specs.Head.{places}
 use Rattle.pairing.specs.Verdict.{Checked, Pair, noiseOf, scalarOf, heldAt, verdict}
 use Rattle.pairing.specs.Line.{decimal, checkedText, heldText, text}
 

@@ -12,9 +12,9 @@ use Rattle.algebra.specs.Sum.{accumulate}
 use Rattle.number.specs.Reading.{Reading, Whole, Refused}
 use Rattle.record.specs.Content.{Head, NoiseTree, NoisePart, ScalarPart}
 use Rattle.record.specs.Reading.{readNoise, readScalar}
-use Rattle.rows.specs.Head.{fieldOf, places, row}
-use Rattle.noise_end.specs.Vectors as noiseEnd
-use Rattle.scalar_end.specs.Vectors as scalarEnd
+use Rattle.window.specs.Head.{fieldOf, places, row}
+use Rattle.ends.specs.Noise.Vectors as noiseEnd
+use Rattle.ends.specs.Scalar.Vectors as scalarEnd
 
 pub data Verdict : Type 0 where
   -- a record is refused with this number

@@ -7,7 +7,7 @@ ghost use Rattle.record.specs.Reading.{blockAt};
 ghost use Rattle.pairing.specs.Inner.Steps.{KeyIn, sameSizes};
 ghost use Rattle.pairing.specs.Verdict.{sameList, sameDealing};
 use record::Front;
-use rows::code_key_at;
+use window::code_key_at;
 
 // Whether the 16 bytes at a place of each record are equal.
 fn same_block(a: &[u8], x: usize, b: &[u8], y: usize) -> bool

@@ -2,8 +2,8 @@
 ghost use mathlib.Core.Path.{_≡_};
 ghost use Prim.Native.Nat.{_^_, _≤_};
 ghost use lib.ListN.{length};
-ghost use Rattle.noise_end.specs.Inner.Ready as noise;
-ghost use Rattle.scalar_end.specs.Inner.Ready as scalar;
+ghost use Rattle.ends.specs.Inner.Noise as noise;
+ghost use Rattle.ends.specs.Inner.Scalar as scalar;
 ghost use Rattle.pairing.specs.Answer.{verdictOf};
 ghost use Rattle.pairing.specs.Inner.Steps.{Paired, NoiseOutputs, ScalarOutputs};
 ghost use Rattle.pairing.specs.Verdict.{Checked, verdict};
@@ -12,10 +12,10 @@ use crate::heads::same_dealing;
 use crate::held::count_held;
 use record::Front;
 use record::Opened;
+use record::fault_of;
 use record::leaves;
 use record::read_noise;
 use record::read_scalar;
-use rows::fault_of;
 
 // The leaves that there is memory for.
 const MOST_LEAVES: usize = 1024;
@@ -27,10 +27,10 @@ fn noise_outputs(source: &[u8], front: Front, u_out: &mut [u64], v_out: &mut [u6
 {
     let mut noise = [0u64; 1024];
     let mut v = [0u64; 2048];
-    let lengths = noise_end::offline(source, &mut noise, &mut v);
+    let lengths = ends::noise::offline(source, &mut noise, &mut v);
     let noise_words = lengths.first_written;
     let v_words = lengths.second_written;
-    noise_end::online(
+    ends::noise::online(
         source,
         &noise[..noise_words],
         &v[..v_words],
@@ -47,9 +47,9 @@ fn scalar_outputs(source: &[u8], front: Front, w_out: &mut [u64], delta: &mut [u
     ensures { λ _. ⌜ ScalarOutputs (now (source .entry)) front (now («w_out» .exit)) (now (delta .exit)) ⌝ }
 {
     let mut w = [0u64; 2048];
-    let lengths = scalar_end::offline(source, &mut w, delta);
+    let lengths = ends::scalar::offline(source, &mut w, delta);
     let w_words = lengths.first_written;
-    scalar_end::online(source, &w[..w_words], 0, front.outputs, w_out);
+    ends::scalar::online(source, &w[..w_words], 0, front.outputs, w_out);
 }
 
 // How many outputs hold, for two accepted records of one dealing.

@@ -1,12 +1,12 @@
 -- Items of one size one after the other: reading them, and that what stands at their places is their writing. Assumes nothing.
-use Prim.Native.Nat.{ℕ, zero, suc, _+_, _*_, _≤_}
+use Prim.Native.Nat.{ℕ, zero, suc, _+_, _*_, _≤_, _<_}
 use mathlib.Core.List.{List, [], _∷_}
 use mathlib.Core.Path.{_≡_, refl, sym, ap, _∙_, subst}
 use borrow.Author.Tests.{le-leb, leb-true}
 use native.Mathlib.Nat.{mul-zero, mul-suc}
 use native.Mathlib.Omega.{arith}
 use lib.Dec.{leb}
-use lib.ListN.{length, length-append}
+use lib.ListN.{length, getD, length-append}
 use Rattle.number.proofs.Places.{choose-whole, has-front, has-back, has-next}
 use Rattle.number.specs.Reading.{Whole}
 use Rattle.number.specs.Inner.Known.{Has}
@@ -79,3 +79,11 @@ module _ {A : Type 0} (item : List ℕ → ℕ → A) (size : ℕ) where
             subst (λ (l : List A). Has s at (writeEach write l)) (sym (w .1)) (o .1),
             w .2 ∙ ap (λ (k : ℕ). at + k) (ap (λ (k : ℕ). size * k) (sym many) ∙ sym (length-flat xs ok)),
           )
+
+-- item i of many
+pub item-at : {A : Type 0} (item : List ℕ → ℕ → A) (size : ℕ) (s : List ℕ) (at n i : ℕ) (none : A) → i < n
+    → getD (items item size s at n) i none ≡ item s (at + size * i)
+unfolding items
+item-at item size s at zero i none h = absurd (omega arith)
+item-at item size s at (suc n) zero none h = ap (item s) (omega arith)
+item-at item size s at (suc n) (suc i) none h = item-at item size s (at + size) n i none (omega arith) ∙ ap (item s) (omega arith)

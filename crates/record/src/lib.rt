@@ -1,5 +1,8 @@
 // Key records: reading the noise record and the scalar record with every test, a second pass over what was accepted, and
 // writing both.
+ghost use mathlib.Core.Path.{_≡_};
+ghost use Rattle.record.specs.Answer.{recordFault};
+
 mod element;
 mod head;
 mod noise;
@@ -46,4 +49,14 @@ pub struct Tree {
     pub low: u64,
     pub high: u64,
     pub siblings: usize,
+}
+
+// The number that a record is refused with.
+pub fn fault_of(r: Opened) -> u32
+    ensures { λ k. ⌜ k ≡ recordFault r ⌝ }
+{
+    match r {
+        Opened::Accepted(_) => 0,
+        Opened::Fault(k) => k,
+    }
 }

@@ -4,8 +4,8 @@ use mathlib.Core.List.{List, [], _∷_, _++_}
 use Prim.Native.Nat.{ℕ, zero, suc, _+_, _*_, _<_}
 use native.Mathlib.Nat.{add-assoc, add-zero, zero-add, suc-add}
 use native.Mathlib.Omega.{arith}
-use lib.ListN.{length, getD, drop, length-append, List·getD-append}
-use lib.Seq.{getD-append-add}
+use lib.ListN.{length, getD, take, drop, length-append, List·getD-append}
+use lib.Seq.{getD-append-add, getD-take, getD-drop}
 pub use Rattle.aes128.proofs.Words.{is-four, four-eq}
 use Rattle.aes128.specs.State.{four, column, byteAt, xorWord, xorState}
 use Rattle.tree.specs.Columns.{columnsAt, columnsBytes, blocksBytes, siblingsAt}
@@ -91,3 +91,16 @@ siblings-past bytes (suc n) m at =
   where
     more : (at n : ℕ) → at + 16 + 16 * n ≡ at + 16 * suc n
     more at n = omega arith
+
+-- the columns of the 16 bytes at a place
+pub columns-part : (s : List ℕ) (at : ℕ) → columnsAt (take 16 (drop at s)) 0 ≡ columnsAt s at
+unfolding columnsAt
+columns-part s at =
+    four-eq
+    (four-eq (byte 0 at (omega arith) (omega arith)) (byte 1 (at + 1) (omega arith) refl) (byte 2 (at + 2) (omega arith) refl) (byte 3 (at + 3) (omega arith) refl))
+    (four-eq (byte 4 (at + 4) (omega arith) refl) (byte 5 (at + 4 + 1) (omega arith) (omega arith)) (byte 6 (at + 4 + 2) (omega arith) (omega arith)) (byte 7 (at + 4 + 3) (omega arith) (omega arith)))
+    (four-eq (byte 8 (at + 8) (omega arith) refl) (byte 9 (at + 8 + 1) (omega arith) (omega arith)) (byte 10 (at + 8 + 2) (omega arith) (omega arith)) (byte 11 (at + 8 + 3) (omega arith) (omega arith)))
+    (four-eq (byte 12 (at + 12) (omega arith) refl) (byte 13 (at + 12 + 1) (omega arith) (omega arith)) (byte 14 (at + 12 + 2) (omega arith) (omega arith)) (byte 15 (at + 12 + 3) (omega arith) (omega arith)))
+  where
+    byte : (k i : ℕ) → k < 16 → i ≡ at + k → getD (take 16 (drop at s)) k 0 ≡ getD s i 0
+    byte k i h e = getD-take 16 (drop at s) k 0 h ∙ getD-drop at s k 0 ∙ ap (λ (m : ℕ). getD s m 0) (sym e)

@@ -1,4 +1,4 @@
--- The laws of `tree`. Callers use Laws (any tree), Paths, Added, Blocks (siblings in bytes too), Nodes, ChildLaws, Listed, Levels and PowerLaws; Bits has the inhabitant of a statement, and Stored what may be lent.
+-- The laws of `tree`. Callers use Laws (any tree), Paths, Added, Blocks (siblings in bytes too), Nodes, ChildLaws, Listed, Levels, Sums (trees added in place) and PowerLaws; Bits has the inhabitant of a statement, and Stored what may be lent.
 pub mod Paths
 pub mod Laws
 pub mod Bits
@@ -10,3 +10,4 @@ pub mod Stored
 pub mod Listed
 pub mod PowerLaws
 pub mod Levels
+pub mod Sums

@@ -1,5 +1,5 @@
 -- `direct::noise_direct` meets its contract: the record is refused, or the window is that of its content. Assumes nothing.
-use Rattle.noise_end.proofs.Content.{ready}
+use Rattle.ends.proofs.noise.Content.{ready}
 use Rattle.direct.proofs.Calls.{noise-fault, noise-opened}
 use borrow.Author.Needs.{needs}
 use Rattle.direct.proofs.noise_direct.Statement.{statement}

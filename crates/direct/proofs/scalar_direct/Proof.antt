@@ -1,5 +1,5 @@
 -- `direct::scalar_direct` meets its contract: the record is refused, or the window is that of its content. Assumes nothing.
-use Rattle.scalar_end.proofs.Content.{ready}
+use Rattle.ends.proofs.scalar.Content.{ready}
 use Rattle.direct.proofs.Calls.{scalar-fault, scalar-opened}
 use borrow.Author.Needs.{needs}
 use Rattle.direct.proofs.scalar_direct.Statement.{statement}

@@ -15,15 +15,15 @@ use Rattle.record.specs.Answer.{headOf}
 use Rattle.record.specs.Inner.Answers.{treeOf}
 use Rattle.record.specs.declared.Front.{Front}
 use Rattle.record.specs.declared.Tree.{Tree}
-use Rattle.rows.specs.Inner.Sizes.{Sizes}
+use Rattle.window.specs.Inner.Sizes.{Sizes}
 use Rattle.tree.specs.Child.{child}
 use Rattle.tree.specs.Inner.Keys.{keysFor}
 use Rattle.tree.specs.Columns.{columnsAt, siblingsAt}
 use Rattle.tree.specs.Inner.Branches.{IsBranch}
 use Rattle.tree.specs.KeySchedules.{OfChildKeys}
 use Rattle.tree.specs.Tree.{leafAt, fromSiblings}
-use Rattle.noise_end.specs.Inner.Ready.{beside, treesAt}
-use Rattle.scalar_end.specs.Inner.Ready.{rootsAt}
+use Rattle.ends.specs.Inner.Noise.{beside, treesAt}
+use Rattle.ends.specs.Inner.Scalar.{rootsAt}
 use Rattle.direct.specs.Inner.Vectors.{leafOf}
 use Rattle.direct.specs.declared.trees.Start.{Start}
 

@@ -13,10 +13,10 @@ use Rattle.algebra.specs.Row.{Row, entry, rowTimes}
 use Rattle.code.specs.Row.{rowOfBlocks}
 use Rattle.code.specs.Inner.Rows.{termBlockBy}
 use Rattle.field.specs.Kind.{kindOf}
-use Rattle.noise_end.specs.Vectors as noise
-use Rattle.noise_end.specs.Inner.Ready as noiseReady
-use Rattle.scalar_end.specs.Vectors as scalar
-use Rattle.scalar_end.specs.Inner.Ready as scalarReady
+use Rattle.ends.specs.Noise.Vectors as noise
+use Rattle.ends.specs.Inner.Noise as noiseReady
+use Rattle.ends.specs.Scalar.Vectors as scalar
+use Rattle.ends.specs.Inner.Scalar as scalarReady
 use Rattle.record.specs.declared.Front.{Front}
 use Rattle.record.specs.Content.{treeIn}
 use Rattle.direct.specs.declared.elements.Element.{Element}

@@ -11,8 +11,8 @@ use Rattle.algebra.specs.Field.{Field}
 use Rattle.field.specs.Kind.{kindOf}
 use Rattle.record.specs.declared.Front.{Front}
 use Rattle.record.specs.Answer.{headOf}
-use Rattle.noise_end.specs.Inner.Ready as noise
-use Rattle.scalar_end.specs.Inner.Ready as scalar
+use Rattle.ends.specs.Inner.Noise as noise
+use Rattle.ends.specs.Inner.Scalar as scalar
 use Rattle.pairing.specs.Verdict.{uAt, vAt, wAt, holds}
 
 -- field and sizes all equal

@@ -1,7 +1,7 @@
 -- `pairing::judge::judge` meets its contract: a record is refused, or both are accepted. Assumes nothing.
 use borrow.Author.Needs.{needs}
-use Rattle.noise_end.proofs.Content as noise
-use Rattle.scalar_end.proofs.Content as scalar
+use Rattle.ends.proofs.noise.Content as noise
+use Rattle.ends.proofs.scalar.Content as scalar
 use Rattle.pairing.proofs.Judged.{noise-number, scalar-number}
 use Rattle.pairing.proofs.judge.judge.Statement.{statement}
 use Rattle.pairing.proofs.judge.judge.Tie as tie

@@ -1,0 +1,3 @@
+-- The laws of the noise end.
+pub mod Laws
+pub mod Content

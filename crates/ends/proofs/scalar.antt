@@ -1,0 +1,4 @@
+-- The laws of the scalar end.
+pub mod Laws
+pub mod Content
+pub mod Delta

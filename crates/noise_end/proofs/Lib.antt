@@ -1,6 +1,0 @@
--- The laws of the noise end.
-pub mod Laws
-pub mod Content
-mod Steps
-mod Calls
-pub mod Trees

@@ -1,3 +1,0 @@
--- Inner: no promise cites this folder. What inner functions' contracts and the proofs use.
-pub mod Ready
-pub mod Steps

@@ -1,5 +1,0 @@
--- Inner: no promise cites this folder. What inner functions' contracts and the proofs use.
-pub mod Sizes
-pub mod Outputs
-pub mod Testing
-pub mod Numbers

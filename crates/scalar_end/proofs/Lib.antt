@@ -1,6 +1,0 @@
--- The laws of the scalar end.
-pub mod Laws
-pub mod Content
-mod Steps
-mod Calls
-pub mod Trees

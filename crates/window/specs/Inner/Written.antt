@@ -1,0 +1,30 @@
+-- Inner: no promise cites this file. A window written over the fronts of its buffers, if its words pass their test. Elements are
+-- called v here, which at the scalar end are those of w.
+use mathlib.Core.Bool.{Bool, _&&_}
+use mathlib.Core.List.{List}
+use mathlib.Core.Path.{_≡_}
+use Prim.Native.Nat.{ℕ}
+use Rattle.algebra.specs.Choice.{choose}
+use Rattle.field.specs.Kind.{kindOf}
+use Rattle.window.specs.declared.WindowRows.{WindowRows}
+use Rattle.window.specs.Head.{ofNoise}
+use Rattle.window.specs.Inner.Outputs.{pairRows, windowOver}
+use Rattle.window.specs.Inner.Testing.{elementsUsed}
+
+-- the test of the words that the rows use, of the noise and of v
+abbrev pub bothUsed : List (List (List ℕ)) → WindowRows → List ℕ → List ℕ → Bool
+bothUsed keys r noise v = elementsUsed (ofNoise (kindOf (r .field) .field)) keys (pairRows r) noise && elementsUsed (kindOf (r .field) .field) keys r v
+
+-- the windows over the fronts of both buffers; where no row gives a word of u, its buffer stays as it is
+abbrev pub uOver : List (List (List ℕ)) → WindowRows → List ℕ → List ℕ → List ℕ
+uOver keys r noise uOut = windowOver (ofNoise (kindOf (r .field) .field)) (kindOf (r .field) .coefficient) keys (pairRows r) noise uOut
+
+abbrev pub vOver : List (List (List ℕ)) → WindowRows → List ℕ → List ℕ → List ℕ
+vOver keys r v vOut = windowOver (kindOf (r .field) .field) (kindOf (r .field) .coefficient) keys r v vOut
+
+-- the windows are written if all words pass the test, which is told; else nothing is
+pub record WindowWritten (keys : List (List (List ℕ))) (r : WindowRows) (noise v uOut vOut : List ℕ) (passed : Bool) (uAfter vAfter : List ℕ)
+    : Type 0 where
+  pub told : passed ≡ bothUsed keys r noise v
+  pub u-is : uAfter ≡ choose passed (uOver keys r noise uOut) uOut
+  pub v-is : vAfter ≡ choose passed (vOver keys r v vOut) vOut

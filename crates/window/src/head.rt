@@ -1,0 +1,52 @@
+// What a record's head gives its windows: the code's shape, the words of a vector, and the code key.
+ghost use mathlib.Core.Path.{_≡_};
+ghost use Prim.Native.Nat.{_-_, _*_, _^_, _≤_};
+ghost use lib.ListN.{length};
+ghost use Rattle.sbox.specs.Table.{SBoxTable};
+ghost use Rattle.aes128.specs.Inner.Words.{roundKeys};
+ghost use Rattle.field.specs.Kind.{elementWords};
+ghost use Rattle.record.specs.Answer.{headOf};
+ghost use Rattle.window.specs.Inner.Outputs.{codeKeys, shapeOf};
+use aes128::schedule;
+use code::Shape;
+use field::element_width;
+use record::Front;
+use record::leaves;
+use tree_walk::columns_at;
+
+// The code's shape.
+pub fn shape_of(front: Front) -> Shape
+    requires { ⌜ (front .depth ≤ 16) × (1 ≤ front .terms) ⌝ }
+    ensures { λ r. ⌜ r ≡ shapeOf front ⌝ }
+{
+    let places = leaves(front.depth);
+    Shape {
+        places,
+        terms: front.terms,
+        strip: places / front.terms,
+    }
+}
+
+// How many words N elements take.
+pub fn vector_words(front: Front) -> usize
+    requires { ⌜ front .depth ≤ 16 ⌝ }
+    ensures { λ r. ⌜ r ≡ 2 ^ front .depth * elementWords (front .field) ⌝ }
+{
+    leaves(front.depth) * element_width(front.field)
+}
+
+// The place of the code key's 16 bytes, which the label's 16 follow (document 02, 8).
+pub fn code_key_at(front: Front) -> usize
+    requires { ⌜ 32 ≤ front .body ⌝ }
+    ensures { λ r. ⌜ r ≡ front .body - 32 ⌝ }
+{
+    front.body - 32
+}
+
+// The round keys of the code key.
+pub fn code_keys(sbox: &[u8; 256], source: &[u8], front: Front) -> [u64; 40]
+    requires { ⌜ SBoxTable (now sbox) × (32 ≤ front .body) × (front .body ≤ length (now source)) ⌝ }
+    ensures { λ r. ⌜ roundKeys r ≡ codeKeys (headOf (now (source .entry)) front) ⌝ }
+{
+    schedule(sbox, columns_at(source, code_key_at(front)))
+}
