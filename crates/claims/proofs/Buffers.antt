@@ -28,7 +28,8 @@ use Rattle.field.specs.declared.prime.Prime.{Prime}
 use Rattle.noise_end.proofs.Laws as noiseLaws
 use Rattle.noise_end.specs.Vectors.{value, mu, v0}
 use Rattle.record.proofs.Laws.{noise-exact}
-use Rattle.record.specs.Admitted.{isField, isNoise, Each, AdmittedTree, AdmittedNoise}
+use Rattle.field.specs.ByNumber.{isField, isNoise}
+use Rattle.record.specs.Admitted.{Each, AdmittedTree, AdmittedNoise}
 use Rattle.record.specs.Content.{Head, NoiseTree, treeIn, siblingCount}
 use Rattle.rows.specs.Head.{fieldOf, places}
 use Rattle.scalar_end.proofs.Laws as scalarLaws

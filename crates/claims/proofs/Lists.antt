@@ -22,7 +22,7 @@ use Rattle.field.proofs.BothKinds.{kindLaws, noiseFacts}
 use Rattle.field.specs.Bytes.{wordAt}
 use Rattle.field.specs.Kind.{kindOf}
 use Rattle.number.specs.Reading.{Whole}
-use Rattle.record.specs.Content.{elementOf}
+use Rattle.field.specs.ByNumber.{elementOf}
 use Rattle.record.specs.Reading.{readNoise, readScalar}
 use Rattle.rows.proofs.Rows.{row-within, row-output}
 use Rattle.rows.specs.Head.{places, row}

@@ -29,7 +29,8 @@ use Rattle.noise_end.specs.Inner.Ready.{beside, treesAt, contentOf}
 use Rattle.noise_end.proofs.Trees.{correction-words, siblings-columns}
 use Rattle.scalar_end.specs.Inner.Ready as scalarReady
 use Rattle.scalar_end.specs.Vectors as scalar
-use Rattle.direct.specs.Inner.Vectors.{elementIn, leafOf}
+use Rattle.field.specs.Inner.Elements.{elementIn}
+use Rattle.direct.specs.Inner.Vectors.{leafOf}
 use Rattle.direct.specs.Inner.Trees.{treeAt, IsTree, Standing, puncturedAt, IsWay, IsBeside, FromSibling, StartsAt}
 use Rattle.direct.specs.declared.trees.Start.{Start}
 use Rattle.direct.proofs.Walks as walks

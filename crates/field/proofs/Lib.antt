@@ -8,5 +8,6 @@ pub mod BinaryField
 pub mod PrimeField
 pub mod BothKinds
 pub mod KindOf
+pub mod Elements
 pub mod Around
 pub mod SignedNeeds
