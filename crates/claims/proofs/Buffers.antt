@@ -30,7 +30,8 @@ use Rattle.ends.specs.Noise.Offline as noiseOffline
 use Rattle.ends.specs.Noise.Vectors.{value, mu, v0}
 use Rattle.number.specs.Reading.{Bytes}
 use Rattle.record.proofs.Laws.{noise-exact}
-use Rattle.record.specs.Admitted.{isField, isNoise, Each, AdmittedTree, AdmittedNoise}
+use Rattle.field.specs.ByNumber.{isField, isNoise}
+use Rattle.record.specs.Admitted.{Each, AdmittedTree, AdmittedNoise}
 use Rattle.record.specs.Content.{Head, NoiseTree, treeIn, siblingCount}
 use Rattle.window.specs.Head.{fieldOf, places}
 use Rattle.ends.proofs.scalar.Laws as scalarLaws

@@ -13,7 +13,7 @@ use Rattle.field.proofs.BothKinds.{kindLaws, kindFacts}
 use Rattle.field.specs.Bytes.{wordAt}
 use Rattle.field.specs.Kind.{kindOf}
 use Rattle.field.specs.Prime.{modulus}
-use Rattle.record.specs.Content.{elementOf}
+use Rattle.field.specs.ByNumber.{elementOf}
 use Rattle.window.proofs.Rows.{row-within}
 use Rattle.window.specs.Head.{places, row}
 use Rattle.tree.specs.Child.{child}

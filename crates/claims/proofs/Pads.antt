@@ -8,7 +8,7 @@ use Rattle.algebra.specs.Expansion.{Correlated}
 use Rattle.algebra.specs.Field.{NoiseValue, Value}
 use Rattle.field.specs.Bytes.{wordAt}
 use Rattle.field.specs.Kind.{kindOf}
-use Rattle.record.specs.Content.{elementOf}
+use Rattle.field.specs.ByNumber.{elementOf}
 use Rattle.pads.proofs.Choice.{choice}
 use Rattle.pads.specs.Calls.{noisePads, scalarPads}
 use Rattle.pads.specs.Choice.{InWindow, padAt, messageAt}

@@ -12,9 +12,11 @@ use Rattle.answer.specs.Outcome.{TwoWritten, wrote}
 use Rattle.answer.specs.Tests.{firstFault}
 use Rattle.answer.proofs.Answers.{accepted-with}
 use Rattle.answer.proofs.Faults.{admitted-by, fault-before, fault-after}
-use Rattle.field.specs.Bytes.{wordAt}
+use Rattle.field.specs.ByNumber.{elementOf}
+use Rattle.field.specs.Inner.Elements.{elementLength, elementAt}
+use Rattle.field.specs.declared.element.Element.{Element}
+use Rattle.field.proofs.Elements.{at-words}
 use Rattle.number.specs.Inner.Written.{Room, Wrote}
-use Rattle.record.specs.Content.{elementOf}
 use Rattle.record.specs.Inner.Heads.{scalarWith}
 use Rattle.record.specs.Inner.Lengths.{Writable, headLength}
 use Rattle.record.specs.declared.Front.{Front}
@@ -28,6 +30,7 @@ use Rattle.dealing.proofs.Faults.{admitted, size-says}
 use Rattle.dealing.proofs.Laws.{noiseWriting, scalarWriting, Accepted, tests-accepted}
 use Rattle.dealing.proofs.Lengths.{noise-bytes, scalar-bytes, roots-blocks}
 use Rattle.dealing.proofs.Positions.{rise-from}
+use Rattle.dealing.proofs.Tests.{delta-room}
 use Rattle.dealing.proofs.Written.{sets-front}
 
 -- the scalar record as it is written: its roots are blocks of the input
@@ -159,20 +162,18 @@ pub scalar-ready : (positions values a : List ℕ) (f : Front) (roots delta key 
 scalar-ready positions values a f roots delta key label b = scalar-placed f roots positions values delta key label a b
 
 module _ (f : Front) (key label delta roots out : List ℕ) (P : ScalarPlaced f key label delta roots (length out)) where
-  pub scalar-low : 0 + 8 ≤ length delta
-  scalar-low = omega (arith, P .delta-bytes)
+  pub scalar-room : 0 + elementLength (f .field) ≤ length delta
+  scalar-room = delta-room (f .field) delta (P .delta-bytes)
 
-  pub scalar-high : 8 + 8 ≤ length delta
-  scalar-high = omega (arith, P .delta-bytes)
+  module _ {e : Element} (read : e ≡ elementAt (f .field) delta 0) where
+    -- Δ's words are those that are read
+    same : writeScalar (scalarWith f key label (elementOf (f .field) (e .low) (e .high)) roots)
+        ≡ writeScalar (scalarWith f key label (wordsOf (f .field) delta) roots)
+    same = ap (λ (ws : List ℕ). writeScalar (scalarWith f key label ws roots)) (at-words (f .field) delta 0 read)
 
-  module _ {low high : ℕ} (l : low ≡ wordAt delta 0) (h : high ≡ wordAt delta 8) where
-    -- Δ's words are the two that are read
-    same : writeScalar (scalarWith f key label (elementOf (f .field) low high) roots) ≡ writeScalar (scalarWith f key label (wordsOf (f .field) delta) roots)
-    same = rw (l, h)
-
-    pub scalar-fits : Room out 0 (writeScalar (scalarWith f key label (elementOf (f .field) low high) roots))
+    pub scalar-fits : Room out 0 (writeScalar (scalarWith f key label (elementOf (f .field) (e .low) (e .high)) roots))
     scalar-fits = record { fits = omega (arith, P .room, ap length same) }
 
-    pub scalar-wrote : {next : ℕ} {out₁ : List ℕ} → Wrote out 0 (writeScalar (scalarWith f key label (elementOf (f .field) low high) roots)) next out₁
+    pub scalar-wrote : {next : ℕ} {out₁ : List ℕ} → Wrote out 0 (writeScalar (scalarWith f key label (elementOf (f .field) (e .low) (e .high)) roots)) next out₁
         → Wrote out 0 (writeScalar (scalarWith f key label (wordsOf (f .field) delta) roots)) next out₁
     scalar-wrote w = rw same at w

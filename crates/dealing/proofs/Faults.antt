@@ -1,6 +1,6 @@
 -- The tests of a dealing's input are met exactly where document 01 admits it.
 use mathlib.Core.Path.{_≡_, refl, sym}
-use mathlib.Core.Bool.{Bool, true, _&&_, _||_, not, true≢false}
+use mathlib.Core.Bool.{Bool, true, _&&_, not, true≢false}
 use mathlib.Core.Logic.{_⊎_, inl, inr, ⊎-elim}
 use Prim.Native.Nat.{ℕ, zero, suc, _-_, _*_, _%_, _^_, _≤_, _<_}
 use native.Mathlib.Omega.{arith}
@@ -14,8 +14,8 @@ use Rattle.algebra.proofs.Tests.{and-left, and-right, and-both, or-cases}
 use Rattle.answer.specs.Tests.{AllMet}
 use Rattle.field.specs.Bytes.{wordAt}
 use Rattle.field.specs.Prime.{modulus}
-use Rattle.record.specs.Admitted.{isField, isSize, isBranch, mostTrees, mostTerms, mostOutputs, isNoise, isScalar}
-use Rattle.record.specs.Content.{elementOf}
+use Rattle.field.specs.ByNumber.{isField, isNoise, elementOf, restZero, isScalar}
+use Rattle.record.specs.Admitted.{isSize, isBranch, mostTrees, mostTerms, mostOutputs}
 use Rattle.dealing.specs.Admitted.{Admitted, DeltaAdmitted, NoiseAdmitted}
 use Rattle.dealing.specs.Input.{Input, deltaAdmitted, sizeTests, lengthTests, contentTests}
 
@@ -59,7 +59,7 @@ noise-is f y h A =
 
 -- the test of Δ over its two words
 abbrev deltaTest : ℕ → ℕ → ℕ → Bool
-deltaTest f low high = isScalar f (elementOf f low high) && (eqb f 1 || eqb high 0)
+deltaTest f low high = isScalar f (elementOf f low high) && restZero f high
 
 delta-binary : (low high : ℕ) → deltaTest 1 low high ≡ true → (low ≡ 0) × (high ≡ 0) → ⊥
 delta-binary low high e z =

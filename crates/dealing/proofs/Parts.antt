@@ -25,8 +25,9 @@ use Rattle.aes128.proofs.Sizes.{state-bytes}
 use Rattle.aes128.specs.State.{column}
 use Rattle.aes128.specs.Inner.Sizes.{IsState}
 use Rattle.number.specs.Reading.{Bytes}
-use Rattle.record.specs.Admitted.{isElement, Each, SixteenBytes, SixtyFourBits, AdmittedHead, AdmittedTree, AdmittedNoise, AdmittedScalar}
-use Rattle.record.specs.Content.{NoiseTree, elementOf, siblingCount, treeIn}
+use Rattle.field.specs.ByNumber.{elementOf, isElement}
+use Rattle.record.specs.Admitted.{Each, SixteenBytes, SixtyFourBits, AdmittedHead, AdmittedTree, AdmittedNoise, AdmittedScalar}
+use Rattle.record.specs.Content.{NoiseTree, siblingCount, treeIn}
 use Rattle.tree.proofs.ChildLaws.{leaf-state, siblings-states}
 use Rattle.tree.proofs.Laws as tree
 use Rattle.tree.proofs.Nodes.{columns-state}

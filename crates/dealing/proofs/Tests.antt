@@ -1,27 +1,24 @@
 -- Each return of the tests of a dealing's input gives what the definition says there. Assumes nothing.
-use mathlib.Core.Path.{_≡_, refl, sym, _∙_}
-use mathlib.Core.Bool.{Bool, true, false, _&&_, not}
+use mathlib.Core.Path.{_≡_, sym, ap, _∙_}
+use mathlib.Core.Bool.{Bool, true, false, _&&_}
 use mathlib.Core.List.{List}
 use Prim.Native.Nat.{ℕ, _+_, _/_, _%_, _^_, _≤_, _<_, min}
-use borrow.Author.Tests.{leb-true, lt-ltb, le-ltb, le-leb, lt-leb, eq-eqb, ne-eqb}
+use native.Mathlib.Omega.{arith}
+use borrow.Author.Tests.{leb-true, le-leb, lt-leb}
 use lib.Dec.{leb, eqb}
-use lib.ListN.{getD}
-use Rattle.record.specs.Content.{elementOf}
-use Rattle.record.proofs.Elements.{is-element-2}
+use lib.ListN.{length, getD}
 use Rattle.algebra.proofs.Every.{every-more, every-done, every-stop}
 use Rattle.algebra.proofs.Tests.{and-left, and-right}
 use Rattle.field.specs.Bytes.{wordAt}
-use Rattle.field.specs.Prime.{modulus}
-use Rattle.record.specs.Admitted.{isField, isSize, isBranch, mostOutputs, isNoise}
-use Rattle.dealing.specs.Input.{everyNoise, deltaAdmitted}
+use Rattle.field.specs.ByNumber.{isNoise, elementOf, restZero, isScalar}
+use Rattle.field.specs.Inner.Elements.{elementLength, elementAt}
+use Rattle.field.specs.declared.element.Element.{Element}
+use Rattle.field.proofs.Elements.{at-words}
+use Rattle.record.specs.Admitted.{isSize, isBranch, mostOutputs}
+use Rattle.field.proofs.Widths.{width-most}
+use Rattle.dealing.specs.Input.{everyNoise, wordsOf, deltaAdmitted}
 
 -- ---- numbers
-
-pub field-one : (f : ℕ) → f ≡ 1 → eqb f 1 ≡ isField f
-field-one f e = rw e
-
-pub field-other : (f : ℕ) → (f ≡ 1 → ⊥) → eqb f 2 ≡ isField f
-field-other f e = rw (ne-eqb f 1 e)
 
 pub size-upper : (top n : ℕ) → 1 ≤ n → leb n top ≡ isSize top n
 size-upper top n h = rw (le-leb 1 n h)
@@ -53,15 +50,6 @@ depth-most d first e = leb-true d 16 (and-right (leb 1 d) (leb d 16) (sym first 
 
 -- ---- noise values
 
-pub noise-one : (f y : ℕ) → f ≡ 1 → eqb y 1 ≡ isNoise f y
-noise-one f y e = rw e
-
-pub noise-upper : (f y : ℕ) → (f ≡ 1 → ⊥) → 1 ≤ y → leb y 2305843009213693950 ≡ isNoise f y
-noise-upper f y e h = rw (ne-eqb f 1 e, le-leb 1 y h)
-
-pub noise-lower : (f y : ℕ) → (f ≡ 1 → ⊥) → y < 1 → leb 1 y ≡ isNoise f y
-noise-lower f y e h = rw (ne-eqb f 1 e, lt-leb 1 y h)
-
 module _ (f : ℕ) (l : List ℕ) (i t : ℕ) where
   module _ {r : Bool} (h : i < t) (test : r ≡ isNoise f (getD l i 0)) where
     pub noise-refused : r ≡ false → false ≡ everyNoise f t l
@@ -75,27 +63,18 @@ module _ (f : ℕ) (l : List ℕ) (i t : ℕ) where
 
 -- ---- Δ
 
-module _ (f : ℕ) (d : List ℕ) {low high : ℕ} (l : low ≡ wordAt d 0) (h : high ≡ wordAt d 8) where
-  pub delta-low : f ≡ 1 → (low ≡ 0 → ⊥) → true ≡ deltaAdmitted f d
-  unfolding deltaAdmitted
-  delta-low e n = rw (← l, ← h, e, ne-eqb low 0 n)
+-- an element at the front of Δ's bytes
+pub delta-room : (f : ℕ) (d : List ℕ) → length d ≡ 16 → 0 + elementLength f ≤ length d
+delta-room f d e = omega (arith, width-most f)
 
-  pub delta-high : f ≡ 1 → low ≡ 0 → not (eqb high 0) ≡ deltaAdmitted f d
-  unfolding deltaAdmitted
-  delta-high e z = rw (← l, ← h, e, z) (both (not (eqb high 0)))
-    where
-      both : (t : Bool) → t ≡ (t && true)
-      both true = refl
-      both false = refl
+module _ (f : ℕ) (d : List ℕ) {e : Element} (read : e ≡ elementAt f d 0) {x : Bool} (first : x ≡ isScalar f (elementOf f (e .low) (e .high))) where
+  words : x ≡ isScalar f (wordsOf f d)
+  words = first ∙ ap (isScalar f) (at-words f d 0 read)
 
-  pub delta-large : (f ≡ 1 → ⊥) → modulus ≤ low → false ≡ deltaAdmitted f d
+  pub delta-no : x ≡ false → false ≡ deltaAdmitted f d
   unfolding deltaAdmitted
-  delta-large e b = rw (← l, ← h, is-element-2 f e (elementOf f low high), ne-eqb f 1 e, le-ltb low modulus b)
+  delta-no n = ap (λ (b : Bool). b && restZero f (wordAt d 8)) (sym n ∙ words)
 
-  pub delta-zero : (f ≡ 1 → ⊥) → low < modulus → low ≡ 0 → false ≡ deltaAdmitted f d
+  pub delta-last : x ≡ true → {h : ℕ} {y : Bool} → h ≡ wordAt d 8 → y ≡ restZero f h → y ≡ deltaAdmitted f d
   unfolding deltaAdmitted
-  delta-zero e b z = rw (← l, ← h, is-element-2 f e (elementOf f low high), ne-eqb f 1 e, lt-ltb low modulus b, eq-eqb low 0 z)
-
-  pub delta-last : (f ≡ 1 → ⊥) → low < modulus → (low ≡ 0 → ⊥) → eqb high 0 ≡ deltaAdmitted f d
-  unfolding deltaAdmitted
-  delta-last e b n = rw (← l, ← h, is-element-2 f e (elementOf f low high), ne-eqb f 1 e, lt-ltb low modulus b, ne-eqb low 0 n)
+  delta-last n p q = q ∙ ap (restZero f) p ∙ ap (λ (b : Bool). b && restZero f (wordAt d 8)) (sym n ∙ words)

@@ -1,29 +1,23 @@
--- What writing a dealing's records stores: trees one after another, corrections in either field, blocks as bytes. Assumes nothing.
+-- What writing a dealing's records stores: trees one after another, corrections, blocks as bytes. Assumes nothing.
 use mathlib.Core.Path.{_≡_, refl, sym, ap, ap₂, _∙_}
-use mathlib.Core.Bool.{Bool, true, false, true≢false}
 use mathlib.Core.List.{List, [], _∷_, _++_, map, append-assoc, append-nil}
 use Prim.Native.Nat.{ℕ, zero, suc, _+_, _-_, _*_, _/_, _^_, _≤_, _<_}
 use native.Mathlib.Nat.{add-zero, zero-add, le-of-eq, mul-comm, mul-div-le}
 use native.Mathlib.Omega.{arith}
-use borrow.Author.Tests.{ne-eqb}
-use lib.Dec.{eqb}
 use mir.Syntax.{w64}
 use mir.Val.{Fits}
 use lib.ListN.{length, getD, drop, set, length-append}
 use lib.Pow.{pow-pos}
 use lib.Seq.{sets, sets-eq, set-comm, length-sets}
 use Rattle.algebra.specs.Expansion.{correction}
-use Rattle.algebra.specs.Group.{itself}
 use Rattle.field.proofs.BothKinds.{kindLaws}
-use Rattle.field.specs.Binary.{block, blocks, blockSub, blockScale, blockLeaf}
-use Rattle.field.specs.Bytes.{wordAt}
-use Rattle.field.specs.Kind.{binaryKind, primeKind, kindOf}
-use Rattle.field.specs.Prime.{prime, primeSub, primeMul, primeRing, primeLeaf}
-use Rattle.field.specs.declared.block.Block.{Block}
-use Rattle.field.specs.declared.prime.Prime.{Prime}
+use Rattle.field.proofs.Elements.{element-words, element-again, at-words}
+use Rattle.field.specs.ByNumber.{elementOf}
+use Rattle.field.specs.Kind.{kindOf}
+use Rattle.field.specs.Inner.Elements.{noiseIn, elementIn, elementAt}
+use Rattle.field.specs.declared.element.Element.{Element}
 use Rattle.number.specs.Inner.Written.{Room, Wrote}
-use Rattle.number.specs.Reading.{choose}
-use Rattle.record.specs.Content.{NoiseTree, elementOf, siblingCount}
+use Rattle.record.specs.Content.{NoiseTree, siblingCount}
 use Rattle.record.specs.Writing.{writeEach, writeBlocks, writeFront, writeTree, writeTrees}
 use Rattle.record.specs.Inner.Lengths.{frontBytes, frontLength, treeLength}
 use Rattle.record.proofs.Lengths.{length-front}
@@ -38,7 +32,7 @@ use Rattle.tree.specs.Expanded.{walk, walked}
 use Rattle.tree.specs.Inner.Branches.{IsPunctured}
 use Rattle.tree.specs.declared.punctured.Punctured.{Punctured}
 use Rattle.tree.specs.Tree.{listed, siblings, leafAt}
-use Rattle.dealing.specs.Input.{Input, position}
+use Rattle.dealing.specs.Input.{Input, position, wordsOf}
 use Rattle.dealing.specs.Parts.{noiseTree}
 use Rattle.dealing.specs.Vectors.{field, delta, root, leaf}
 use Rattle.dealing.specs.Inner.Steps.{TablesAndKeys, correctionWords, frontFor, planned, plannedBytes, treeOf, Placed}
@@ -114,26 +108,19 @@ module _ (field : ℕ) (f : ℕ → NoiseTree) where
 
 -- ---- corrections
 
-pub words-binary : (field : ℕ) (s : List (List ℕ)) (y : ℕ) (delta : List ℕ) {c : Block} → field ≡ 1
-    → c ≡ correction blocks (block (wordAt delta 0) (wordAt delta 8)) (blockLeaf s) y
+pub corrected : (field : ℕ) (s : List (List ℕ)) (y : ℕ) (delta : List ℕ) {d : Element} (l m c : Element)
+    → d ≡ elementAt field delta 0 → elementIn field l ≡ kindOf field .leaf s
+    → elementIn field m ≡ kindOf field .field .scaled .scale (noiseIn field y) (elementIn field d)
+    → elementIn field c ≡ kindOf field .field .scaled .group .sub (elementIn field l) (elementIn field m)
     → elementOf field (c .low) (c .high) ≡ correctionWords field s y delta
-unfolding correctionWords
-words-binary field s y delta f e = rw (e, f)
-
-pub words-prime : (field : ℕ) (s : List (List ℕ)) (y : ℕ) (delta : List ℕ) {c : Prime} → (field ≡ 1 → ⊥)
-    → c ≡ correction (itself primeRing) (prime (wordAt delta 0)) (primeLeaf s) (prime y)
-    → elementOf field (c .word) 0 ≡ correctionWords field s y delta
-unfolding correctionWords
-words-prime field s y delta {c} f e = of (eqb field 1) (ne-eqb field 1 f)
-  where
-    of : (b : Bool) → b ≡ false
-        → choose b (c .word ∷ 0 ∷ []) (c .word ∷ [])
-        ≡ choose b binaryKind primeKind .field .elements .words
-        (correction (choose b binaryKind primeKind .field .scaled)
-        (choose b binaryKind primeKind .field .elements .read (choose b (wordAt delta 0 ∷ wordAt delta 8 ∷ []) (wordAt delta 0 ∷ [])) 0)
-        (choose b binaryKind primeKind .leaf s) (choose b binaryKind primeKind .field .noiseValues .read (y ∷ []) 0))
-    of true f = absurd (true≢false f)
-    of false f = rw e
+unfolding correctionWords correction
+corrected field s y delta {d} l m c read leaf multiple difference =
+    let K = kindOf field in
+    let scalar : elementIn field d ≡ K .field .elements .read (wordsOf field delta) 0 =
+    element-again field (d .low) (d .high) ∙ ap (λ (ws : List ℕ). K .field .elements .read ws 0) (at-words field delta 0 read) in
+    element-words field (c .low) (c .high)
+    ∙ ap (K .field .elements .words)
+    (difference ∙ ap₂ (K .field .scaled .group .sub) leaf (multiple ∙ ap (K .field .scaled .scale (noiseIn field y)) scalar))
 
 -- ---- a tree
 
@@ -171,15 +158,6 @@ module _ (t : Planned) (root : List (List ℕ)) (delta : List ℕ) where
       ≡ frontLength (t .base) (t .position) + 16 * siblingCount (t .depth) (t .«branch_bits»)
   tree-long = ap length tree-bytes ∙ length-append before beside ∙ ap₂ (λ a b. a + b) before-long beside-long
 
--- a noise value alone is read as among the others
-read-value : (k : ℕ) (values : List ℕ) (i : ℕ) → kindOf k .field .noiseValues .read (getD values i 0 ∷ []) 0 ≡ kindOf k .field .noiseValues .read values i
-read-value k values i = of (eqb k 1)
-  where
-    of : (b : Bool) → choose b binaryKind primeKind .field .noiseValues .read (getD values i 0 ∷ []) 0
-        ≡ choose b binaryKind primeKind .field .noiseValues .read values i
-    of true = refl
-    of false = refl
-
 pub own-tree : (I : Input) (i base at : ℕ) → treeOf (planned (frontFor I 0) (I .positions) (I .values) i base at) (root I i) (I .delta) ≡ noiseTree I i
 unfolding noiseTree correctionWords
 own-tree I i base at =
@@ -189,7 +167,7 @@ own-tree I i base at =
       correction = field I .elements .words (correction (field I .scaled) (delta I) (leaf I i (position I i)) y);
       siblings = map columnsBytes (siblings (2 ^ I .branchBits) child (I .depth / I .branchBits) (root I i) (position I i));
     })
-    (read-value (I .field) (I .values) i)
+    (sym (kindLaws (I .field) .noise-read (I .values) i))
 
 pub tree-length : (I : Input) (i base body : ℕ) → length (writeTree (I .field) base (noiseTree I i)) ≡ treeLength (frontFor I body) base (position I i)
 unfolding treeLength
@@ -266,15 +244,3 @@ module _ (t : Planned) (root : List (List ℕ)) (delta : List ℕ) {out : List �
               (ap (λ n. t .at + n) (front ∙ sym (before-long t root delta)))
               ∙ ap (sets out (t .at)) (sym (tree-bytes t root delta));
         }
-
--- ---- a correction's steps
-
-pub corrected-binary : (low high y : ℕ) (s : List (List ℕ)) {l h : ℕ} {e d c : Block} → l ≡ low → h ≡ high → e ≡ blockLeaf s → d ≡ blockScale y (block l h)
-    → c ≡ blockSub e d → c ≡ correction blocks (block low high) (blockLeaf s) y
-unfolding correction
-corrected-binary low high y s a b e d c = c ∙ ap₂ blockSub e (d ∙ ap₂ (λ l h. blockScale y (block l h)) a b)
-
-pub corrected-prime : (low y : ℕ) (s : List (List ℕ)) {l : ℕ} {e d c : Prime} → l ≡ low → e ≡ primeLeaf s → d ≡ primeMul (prime y) (prime l)
-    → c ≡ primeSub e d → c ≡ correction (itself primeRing) (prime low) (primeLeaf s) (prime y)
-unfolding correction
-corrected-prime low y s a e d c = c ∙ ap₂ primeSub e (d ∙ ap (λ l. primeMul (prime y) (prime l)) a)

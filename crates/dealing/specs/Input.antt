@@ -1,17 +1,17 @@
 -- A dealing's input and its tests (document 01, 'Sizes', 'Dealing', 'Numbers of the calls'), with a label (document 02, 8) and
 -- branch bits (document 02, 10).
-use mathlib.Core.Bool.{Bool, _&&_, _||_}
+use mathlib.Core.Bool.{Bool, _&&_}
 use mathlib.Core.List.{List, [], _∷_}
 use Prim.Native.Nat.{ℕ, _*_, _^_}
-use lib.Dec.{ltb, eqb}
+use lib.Dec.{ltb}
 use lib.ListN.{length, getD}
 use Rattle.answer.specs.Numbers.{badField, badSize, badLength, badPosition, badNoise, badDelta}
 use Rattle.answer.specs.Tests.{Test, _is_, holds, _or_}
 use Rattle.algebra.specs.Every.{every}
 use Rattle.algebra.specs.Expansion.{rising}
 use Rattle.field.specs.Bytes.{wordAt}
-use Rattle.record.specs.Admitted.{isField, isSize, isBranch, mostTrees, mostTerms, mostOutputs, isNoise, isScalar}
-use Rattle.record.specs.Content.{elementOf}
+use Rattle.field.specs.ByNumber.{isField, isNoise, elementOf, restZero, isScalar}
+use Rattle.record.specs.Admitted.{isSize, isBranch, mostTrees, mostTerms, mostOutputs}
 
 -- field, d, g (document 02, 10), t, ℓ, n, t roots of 16 bytes, t positions, t noise values, Δ, the code key, the label
 -- (document 02, 8)
@@ -69,7 +69,7 @@ deltaWords I = wordsOf (I .field) (I .delta)
 
 -- Δ is an element and not zero; in field 2 its last eight bytes are 00
 unfoldable pub deltaAdmitted : ℕ → List ℕ → Bool
-deltaAdmitted field delta = isScalar field (wordsOf field delta) && (eqb field 1 || eqb (wordAt delta 8) 0)
+deltaAdmitted field delta = isScalar field (wordsOf field delta) && restZero field (wordAt delta 8)
 
 -- ---- the tests of an input, in the order 1, 2, 3, 4, 5, 6
 

@@ -4,7 +4,7 @@ ghost use Prim.Native.Nat.{_^_, _≤_, min};
 ghost use lib.ListN.{length};
 ghost use mathlib.Core.List.{[]};
 ghost use Rattle.answer.specs.Tests.{firstFault};
-ghost use Rattle.record.specs.Admitted.{isField, isSize, isBranch, mostOutputs, isNoise};
+ghost use Rattle.record.specs.Admitted.{isSize, isBranch, mostOutputs};
 ghost use Rattle.dealing.specs.Inner.Steps.{inputFrom, Lengths};
 ghost use Rattle.dealing.specs.Input.{positionsAdmitted, everyNoise, deltaAdmitted, sizeTests, lengthTests, contentTests};
 use answer::BAD_DELTA;
@@ -14,17 +14,14 @@ use answer::BAD_NOISE;
 use answer::BAD_POSITION;
 use answer::BAD_SIZE;
 use answer::is_times;
-use field::Prime;
+use field::element_at;
+use field::is_field;
+use field::is_noise;
+use field::is_scalar;
+use field::rest_zero;
 use field::word_at;
 use record::Front;
 use record::leaves;
-
-// Whether a number is a field's.
-fn is_field(field: usize) -> bool
-    ensures { λ r. ⌜ r ≡ isField field ⌝ }
-{
-    field == 1 || field == 2
-}
 
 // Whether a size is 1 to `top`.
 fn is_size(top: usize, size: usize) -> bool
@@ -154,16 +151,6 @@ fn rising(depth: usize, trees: usize, positions: &[u32]) -> bool
     true
 }
 
-// Whether a noise value is admitted.
-fn is_noise(field: usize, value: u64) -> bool
-    ensures { λ r. ⌜ r ≡ isNoise field value ⌝ }
-{
-    if field == 1 {
-        return value == 1;
-    }
-    1 <= value && value <= Prime::MODULUS - 1
-}
-
 // Whether every noise value is admitted.
 fn every_noise(field: usize, trees: usize, values: &[u64]) -> bool
     requires { ⌜ length (now values) ≡ trees ⌝ }
@@ -184,21 +171,11 @@ fn delta_admitted(field: usize, delta: &[u8]) -> bool
     requires { ⌜ length (now delta) ≡ 16 ⌝ }
     ensures { λ r. ⌜ r ≡ deltaAdmitted field (now (delta .entry)) ⌝ }
 {
-    let low = word_at(delta, 0);
-    let high = word_at(delta, 8);
-    if field == 1 {
-        if low != 0 {
-            return true;
-        }
-        return high != 0;
-    }
-    if Prime::MODULUS <= low {
+    let scalar = element_at(field, delta, 0);
+    if !is_scalar(field, scalar) {
         return false;
     }
-    if low == 0 {
-        return false;
-    }
-    high == 0
+    rest_zero(field, word_at(delta, 8))
 }
 
 // The number of the first fault of positions, noise values and Δ, or 0 where there is none.

@@ -2,20 +2,17 @@
 ghost use mathlib.Core.Path.{_≡_};
 ghost use Prim.Native.Nat.{_+_, _≤_, _<_};
 ghost use lib.ListN.{length};
-ghost use Rattle.algebra.specs.Expansion.{correction};
-ghost use Rattle.algebra.specs.Group.{itself};
-ghost use Rattle.field.specs.Binary.{block, blocks, blockLeaf};
-ghost use Rattle.field.specs.Bytes.{wordAt};
-ghost use Rattle.field.specs.Prime.{prime, primeRing, primeLeaf};
+ghost use Rattle.field.specs.ByNumber.{elementOf};
 ghost use Rattle.number.specs.Inner.Written.{Room, Wrote};
-ghost use Rattle.record.specs.Content.{elementOf};
 ghost use Rattle.record.specs.Writing.{writeTree, writeNoise};
 ghost use Rattle.dealing.specs.Parts.{noisePart};
 ghost use Rattle.dealing.specs.Inner.Steps.{TablesAndKeys, inputFrom, correctionWords, planned, plannedBytes, treeOf, treesBytes, Placed, TreesPlaced, NoisePlaced};
 use crate::input::wide;
-use field::Block;
-use field::Prime;
-use field::word_at;
+use field::Element;
+use field::element_at;
+use field::element_difference;
+use field::element_scaled;
+use field::leaf_element;
 use record::Front;
 use record::front_length;
 use record::sibling_count;
@@ -28,47 +25,15 @@ use tree_walk::child_keys;
 use tree_walk::columns_at;
 use tree_walk::walk;
 
-// The correction in field 1: the leaf's element minus Δ × value.
-fn correction_binary(leaf: [[u8; 4]; 4], value: u64, delta: &[u8]) -> Block
-    requires { ⌜ length (now delta) ≡ 16 ⌝ }
-    ensures { λ r. ⌜ r ≡ correction blocks (block (wordAt (now (delta .entry)) 0) (wordAt (now (delta .entry)) 8)) (blockLeaf leaf) value ⌝ }
-{
-    let scalar = Block {
-        low: word_at(delta, 0),
-        high: word_at(delta, 8),
-    };
-    let element = Block::of_columns(leaf);
-    let scaled = scalar.scale(value);
-    element.sub(scaled)
-}
-
-// The correction in field 2.
-fn correction_prime(leaf: [[u8; 4]; 4], value: u64, delta: &[u8]) -> Prime
-    requires { ⌜ length (now delta) ≡ 16 ⌝ }
-    ensures { λ r. ⌜ r ≡ correction (itself primeRing) (prime (wordAt (now (delta .entry)) 0)) (primeLeaf leaf) (prime value) ⌝ }
-{
-    let scalar = Prime {
-        word: word_at(delta, 0),
-    };
-    let noise = Prime { word: value };
-    let element = Prime::of_columns(leaf);
-    let multiple = noise.mul(scalar);
-    element.sub(multiple)
-}
-
-// The correction's first and second word, 0 where it has one.
-fn correction_words(field: usize, leaf: [[u8; 4]; 4], value: u64, delta: &[u8]) -> Block
+// The correction of a tree: the element of the leaf at its position minus Δ × its noise value.
+fn correction(field: usize, leaf: [[u8; 4]; 4], value: u64, delta: &[u8]) -> Element
     requires { ⌜ length (now delta) ≡ 16 ⌝ }
     ensures { λ r. ⌜ elementOf field (r .low) (r .high) ≡ correctionWords field leaf value (now (delta .entry)) ⌝ }
 {
-    if field == 1 {
-        return correction_binary(leaf, value, delta);
-    }
-    let c = correction_prime(leaf, value, delta);
-    Block {
-        low: c.word,
-        high: 0,
-    }
+    let scalar = element_at(field, delta, 0);
+    let element = leaf_element(field, leaf);
+    let multiple = element_scaled(field, value, scalar);
+    element_difference(field, element, multiple)
 }
 
 // A tree to be written: field, d, g, position, noise value, one more than the position before, and the place for it.
@@ -111,9 +76,9 @@ fn write_planned(leaf: [[u8; 4]; 4], tree: Planned, delta: &[u8], out: &mut [u8]
         × (Room (now out) (tree .at) (plannedBytes tree leaf (now delta))) ⌝ }
     ensures { λ r. ⌜ Wrote (now (out .entry)) (tree .at) (plannedBytes tree leaf (now (delta .entry))) r (now (out .exit)) ⌝ }
 {
-    let c = correction_words(tree.field, leaf, tree.value, delta);
+    let words = correction(tree.field, leaf, tree.value, delta);
     let back = tree.position - tree.base;
-    write_front(out, tree.at, tree.field, back, tree.value, c.low, c.high)
+    write_front(out, tree.at, tree.field, back, tree.value, words)
 }
 
 // Writes a tree at its place; the place after it. The walk to the leaf writes the siblings.

@@ -6,7 +6,7 @@ ghost use Rattle.record.specs.Inner.Heads.{scalarWith};
 ghost use Rattle.record.specs.Writing.{writeScalar};
 ghost use Rattle.dealing.specs.Input.{wordsOf};
 ghost use Rattle.dealing.specs.Inner.Steps.{ScalarPlaced};
-use field::word_at;
+use field::element_at;
 use record::Front;
 use record::write_scalar;
 
@@ -24,7 +24,6 @@ pub fn write_scalar_part(
         (writeScalar (scalarWith front (now («code_key» .entry)) (now (label .entry)) (wordsOf (front .field) (now (delta .entry))) (now (roots .entry))))
         r (now (out .exit)) ⌝ }
 {
-    let low = word_at(delta, 0);
-    let high = word_at(delta, 8);
-    write_scalar(out, front, code_key, label, low, high, roots)
+    let scalar = element_at(front.field, delta, 0);
+    write_scalar(out, front, code_key, label, scalar, roots)
 }

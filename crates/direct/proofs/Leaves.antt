@@ -33,12 +33,13 @@ use Rattle.ends.specs.Noise.Vectors as noiseEnd
 use Rattle.ends.specs.Inner.Noise.{treesAt, contentOf}
 use Rattle.ends.specs.Scalar.Vectors as scalarEnd
 use Rattle.ends.specs.Inner.Scalar as scalarReady
-use Rattle.direct.specs.Inner.Vectors.{fieldBy, noiseIn, elementIn, valueIn, leafOf, valuesBy, valuesOf}
+use Rattle.field.specs.Inner.Elements.{noiseIn, elementIn}
+use Rattle.field.proofs.Elements.{element-zero, noise-zero}
+use Rattle.direct.specs.Inner.Vectors.{fieldBy, valueIn, leafOf, valuesBy, valuesOf}
 use Rattle.direct.specs.Inner.Trees.{treeAt, TreesIn, Standing, Walking, puncturedAt, IsWay, StartsAt, TwoStarts, twoLeaves, noiseWord}
-use Rattle.direct.specs.declared.elements.Element.{Element}
+use Rattle.field.specs.declared.element.Element.{Element}
 use Rattle.direct.specs.declared.trees.Start.{Start}
 use Rattle.direct.proofs.Walks.{walked-leaf}
-use Rattle.direct.proofs.Words.{element-zero, noise-zero}
 
 -- ---- one tree, and two
 

@@ -33,11 +33,12 @@ use Rattle.window.specs.declared.WindowRows.{WindowRows}
 use Rattle.window.specs.Inner.Outputs.{rowsOf}
 use Rattle.algebra.proofs.Flats.{value-put}
 use Rattle.tree.specs.Added.{added}
-use Rattle.direct.specs.Inner.Vectors.{fieldBy, fieldFor, noiseIn, valueIn, rowIn}
-use Rattle.direct.specs.Inner.Rows.{noiseSum, entryIn, IsBatch, IsCode, HasTerms, sumsMore, placeAdded}
-use Rattle.direct.specs.declared.elements.Element.{Element}
+use Rattle.field.specs.Inner.Elements.{noiseIn, noiseSum}
+use Rattle.field.proofs.Elements.{noise-sum-is, noise-zero}
+use Rattle.direct.specs.Inner.Vectors.{fieldBy, fieldFor, valueIn, rowIn}
+use Rattle.direct.specs.Inner.Rows.{entryIn, IsBatch, IsCode, HasTerms, sumsMore, placeAdded}
+use Rattle.field.specs.declared.element.Element.{Element}
 use Rattle.direct.specs.declared.entries.Batch.{Batch}
-use Rattle.direct.proofs.Words.{noise-sum-is, noise-zero}
 
 -- the laws of a vector's values
 pub vector-laws : (b : Bool) (field : ℕ) → FieldLaws (fieldBy b field)

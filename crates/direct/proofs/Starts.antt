@@ -29,7 +29,8 @@ use Rattle.ends.specs.Inner.Noise.{beside, treesAt, contentOf}
 use Rattle.ends.proofs.Trees.{correction-words, siblings-columns}
 use Rattle.ends.specs.Inner.Scalar as scalarReady
 use Rattle.ends.specs.Scalar.Vectors as scalar
-use Rattle.direct.specs.Inner.Vectors.{elementIn, leafOf}
+use Rattle.field.specs.Inner.Elements.{elementIn}
+use Rattle.direct.specs.Inner.Vectors.{leafOf}
 use Rattle.direct.specs.Inner.Trees.{treeAt, IsTree, Standing, puncturedAt, IsWay, IsBeside, FromSibling, StartsAt}
 use Rattle.direct.specs.declared.trees.Start.{Start}
 use Rattle.direct.proofs.Walks as walks

@@ -34,13 +34,14 @@ use Rattle.field.proofs.KindOf.{zero-elements, zero-noise}
 use Rattle.tree.proofs.Sums.{trees-none, treesSum}
 use Rattle.field.proofs.Widths.{width-most}
 use Rattle.tree.specs.Added.{added}
-use Rattle.direct.specs.Inner.Vectors.{fieldBy, fieldFor, noiseIn, valuesOf, rowIn, outputOf}
-use Rattle.direct.specs.Inner.Rows.{noiseSum, entryIn, IsBatch, IsCode, HasTerms, sumsMore, placeAdded, stripAdded, stripOf}
+use Rattle.field.specs.Inner.Elements.{noiseIn, noiseSum}
+use Rattle.field.proofs.Elements.{noise-sum-is, noise-zero}
+use Rattle.direct.specs.Inner.Vectors.{fieldBy, fieldFor, valuesOf, rowIn, outputOf}
+use Rattle.direct.specs.Inner.Rows.{entryIn, IsBatch, IsCode, HasTerms, sumsMore, placeAdded, stripAdded, stripOf}
 use Rattle.direct.specs.Inner.Strips.{IsStrip}
 use Rattle.direct.specs.Inner.Trees.{Walking}
 use Rattle.direct.specs.declared.batch.Strip.{Strip}
 use Rattle.direct.specs.declared.entries.Batch.{Batch}
-use Rattle.direct.proofs.Words.{noise-sum-is, noise-zero}
 use Rattle.direct.proofs.Rows.{vector-laws}
 use Rattle.direct.proofs.ByStrips.{strip-entry, strips-times}
 

@@ -1,109 +1,35 @@
--- Elements and noise values of either field by their words: laws shaped like what the functions of `elements` are asked.
-use mathlib.Core.Path.{_≡_, refl, sym, ap, subst, _∙_}
+-- A value added to an output, in either field: laws shaped like what the functions of `elements` are asked.
+use mathlib.Core.Path.{_≡_, sym, ap, _∙_}
 use mathlib.Core.Bool.{Bool, true, false}
 use mathlib.Core.List.{List, [], _∷_}
 use Prim.Native.Nat.{ℕ, _+_, _*_, _%_, _≤_, _<_}
-use native.Mathlib.Nat.{mod-lt, mul-le-mul, mul-one}
+use native.Mathlib.Nat.{mul-le-mul, mul-one}
 use native.Mathlib.Omega.{arith}
-use lib.Bits.{bitXor}
 use lib.Dec.{eqb}
 use lib.ListN.{length, getD, set}
 use mir.Syntax.{w64}
 use mir.Val.{Fits}
-use borrow.Author.Tests.{eq-eqb, ne-eqb}
+use borrow.Author.Tests.{ne-eqb}
 use Rattle.algebra.specs.Choice.{choose}
 use Rattle.algebra.specs.Coding.{at}
 use Rattle.algebra.specs.Inner.Put.{put}
 use Rattle.field.specs.declared.block.Block.{Block}
 use Rattle.field.specs.declared.prime.Prime.{Prime}
-use Rattle.field.specs.Binary.{binary, bitAdd, bitMul, block, blockAdd, blockLeaf, blockScale}
-use Rattle.field.specs.Kind.{Kind, kindOf, binaryKind, primeKind}
-use Rattle.field.specs.Prime.{primes, prime, primeAdd, primeMul, primeLeaf, primeReduce}
+use Rattle.field.specs.Binary.{binary, bitAdd, bitMul, block, blockAdd, blockScale}
+use Rattle.field.specs.Kind.{Kind, binaryKind, primeKind}
+use Rattle.field.specs.Prime.{primes, prime, primeAdd, primeMul, primeReduce}
 use Rattle.field.proofs.BothKinds.{kindLaws}
+use Rattle.field.proofs.Elements.{other}
 use Rattle.field.proofs.KindOf.{words-2}
 use Rattle.field.proofs.Modular.{mod-mul-mod, mul-mod-mod}
 use Rattle.field.proofs.Words.{put-one}
-use Rattle.direct.specs.Inner.Rows.{noiseSum}
-use Rattle.direct.specs.Inner.Vectors.{fieldBy, fieldFor, noiseIn, elementIn, valueIn}
-use Rattle.direct.specs.declared.elements.Element.{Element}
+use Rattle.field.specs.Inner.Elements.{noiseIn}
+use Rattle.field.specs.declared.element.Element.{Element}
+use Rattle.direct.specs.Inner.Vectors.{fieldBy, fieldFor}
 
 -- the kind by the test of a field byte
 abbrev kindBy : Bool → Kind
 kindBy t = choose t binaryKind primeKind
-
--- ---- in field 1
-
-module _ (field : ℕ) (e : field ≡ 1) where
-  pub leaf-1 : (leaf : List (List ℕ)) {b : Block} → b ≡ blockLeaf leaf
-      → elementIn field (record { low = b .low; high = b .high }) ≡ kindOf field .leaf leaf
-  unfolding elementIn
-  leaf-1 leaf q = rw e q
-
-  pub sum-1 : (a b : Element)
-      → elementIn field (record { low = bitXor (a .low) (b .low); high = bitXor (a .high) (b .high) })
-      ≡ kindOf field .field .scaled .group .add (elementIn field a) (elementIn field b)
-  unfolding elementIn
-  sum-1 a b = rw e
-
-  pub coefficient-1 : (word : ℕ) → noiseIn field 1 ≡ kindOf field .coefficient word
-  coefficient-1 word = rw e
-
-  pub noise-sum-1 : (a b : ℕ) {r : ℕ} → r ≡ bitAdd a b → r ≡ noiseSum field a b
-  unfolding noiseSum
-  noise-sum-1 a b q = rw e q
-
--- ---- in field 2
-
-module _ (field : ℕ) (h : field ≡ 1 → ⊥) where
-  -- what holds where the test of the field byte fails
-  other : (P : Bool → Type 0) → P false → P (eqb field 1)
-  other P x = subst P (sym (ne-eqb field 1 h)) x
-
-  pub leaf-2 : (leaf : List (List ℕ)) {p : Prime} → p ≡ primeLeaf leaf → elementIn field (record { low = p .word; high = 0 }) ≡ kindOf field .leaf leaf
-  unfolding elementIn
-  leaf-2 leaf {p} q = other (λ t. kindBy t .field .elements .read (p .word ∷ 0 ∷ []) 0 ≡ kindBy t .leaf leaf) q
-
-  pub sum-2 : (a b : Element) {p : Prime} → p ≡ primeAdd (prime (a .low)) (prime (b .low))
-      → elementIn field (record { low = p .word; high = 0 }) ≡ kindOf field .field .scaled .group .add (elementIn field a) (elementIn field b)
-  unfolding elementIn
-  sum-2 a b {p} q =
-      other (λ t. kindBy t .field .elements .read (p .word ∷ 0 ∷ []) 0
-      ≡ kindBy t .field .scaled .group .add (kindBy t .field .elements .read (a .low ∷ a .high ∷ []) 0)
-      (kindBy t .field .elements .read (b .low ∷ b .high ∷ []) 0)) q
-
-  pub coefficient-2 : (word : ℕ) {p : Prime} → p ≡ primeReduce word → noiseIn field (p .word) ≡ kindOf field .coefficient word
-  coefficient-2 word {p} q = other (λ t. kindBy t .field .noiseValues .read (p .word ∷ []) 0 ≡ kindBy t .coefficient word) q
-
-  pub noise-sum-2 : (a b : ℕ) {p : Prime} → p ≡ primeAdd (prime a) (prime b) → p .word ≡ noiseSum field a b
-  unfolding noiseSum
-  noise-sum-2 a b q = rw (ne-eqb field 1 h) (ap (λ (x : Prime). x .word) q)
-
--- ---- in either field
-
-pub noise-sum-is : (field a b : ℕ) → noiseIn field (noiseSum field a b) ≡ kindOf field .field .ring .group .add (noiseIn field a) (noiseIn field b)
-unfolding noiseSum
-noise-sum-is field a b = of (eqb field 1)
-  where
-    of : (t : Bool) → choose t binaryKind primeKind .field .noiseValues .read (choose t (bitAdd a b) (primeAdd (prime a) (prime b) .word) ∷ []) 0
-        ≡ choose t binaryKind primeKind .field .ring .group .add (choose t binaryKind primeKind .field .noiseValues .read (a ∷ []) 0)
-        (choose t binaryKind primeKind .field .noiseValues .read (b ∷ []) 0)
-    of true = refl
-    of false = refl
-
-pub noise-zero : (field : ℕ) → noiseIn field 0 ≡ kindOf field .field .ring .group .zero
-noise-zero field = of (eqb field 1)
-  where
-    of : (t : Bool) → choose t binaryKind primeKind .field .noiseValues .read (0 ∷ []) 0 ≡ choose t binaryKind primeKind .field .ring .group .zero
-    of true = refl
-    of false = refl
-
-pub element-zero : (field : ℕ) → elementIn field (record { low = 0; high = 0 }) ≡ kindOf field .field .scaled .group .zero
-unfolding elementIn
-element-zero field = of (eqb field 1)
-  where
-    of : (t : Bool) → choose t binaryKind primeKind .field .elements .read (0 ∷ 0 ∷ []) 0 ≡ choose t binaryKind primeKind .field .scaled .group .zero
-    of true = refl
-    of false = refl
 
 -- ---- one output
 

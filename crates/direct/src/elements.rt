@@ -1,86 +1,18 @@
-// Elements of either field as two words, and noise values as one: sums, and an entry × a value added to an output.
+// An entry × a value added to an output, of noise values or of elements in either field.
 ghost use mathlib.Core.Path.{_≡_};
-ghost use mathlib.Core.List.{[], _∷_};
 ghost use Prim.Native.Nat.{_+_, _*_, _≤_, _<_};
 ghost use lib.ListN.{length};
 ghost use Rattle.algebra.specs.Coding.{at};
 ghost use Rattle.algebra.specs.Inner.Put.{put};
 ghost use Rattle.field.specs.Binary.{binary, bitAdd, bitMul, block, blockAdd, blockScale};
-ghost use Rattle.field.specs.Kind.{kindOf};
 ghost use Rattle.field.specs.Prime.{primes, prime, primeAdd, primeMul};
-ghost use Rattle.direct.specs.Inner.Vectors.{fieldFor, noiseIn, elementIn, valueIn};
-ghost use Rattle.direct.specs.Inner.Rows.{noiseSum};
+ghost use Rattle.field.specs.Inner.Elements.{noiseIn};
+ghost use Rattle.direct.specs.Inner.Vectors.{fieldFor, valueIn};
 use field::Block;
+use field::Element;
 use field::Prime;
 use field::add_bits;
 use field::put_block;
-
-// An element: in field 1 its two words, in field 2 its word and any second one. A noise value is one word and any second one.
-pub struct Element {
-    pub low: u64,
-    pub high: u64,
-}
-
-// The element of a leaf.
-pub fn leaf_element(field: usize, leaf: [[u8; 4]; 4]) -> Element
-    ensures { λ r. ⌜ elementIn field r ≡ kindOf field .leaf leaf ⌝ }
-{
-    if field == 1 {
-        let block = Block::of_columns(leaf);
-        return Element {
-            low: block.low,
-            high: block.high,
-        };
-    }
-    let prime = Prime::of_columns(leaf);
-    Element {
-        low: prime.word,
-        high: 0,
-    }
-}
-
-// The sum of two elements.
-pub fn element_sum(field: usize, a: Element, b: Element) -> Element
-    ensures { λ r. ⌜ elementIn field r ≡ kindOf field .field .scaled .group .add (elementIn field a) (elementIn field b) ⌝ }
-{
-    if field == 1 {
-        return Element {
-            low: a.low ^ b.low,
-            high: a.high ^ b.high,
-        };
-    }
-    let first = Prime { word: a.low };
-    let second = Prime { word: b.low };
-    let sum = first.add(second);
-    Element {
-        low: sum.word,
-        high: 0,
-    }
-}
-
-// The coefficient of a term's word.
-pub fn coefficient(field: usize, word: u64) -> u64
-    ensures { λ r. ⌜ noiseIn field r ≡ kindOf field .coefficient word ⌝ }
-{
-    if field == 1 {
-        return 1;
-    }
-    let reduced = Prime::reduce(word);
-    reduced.word
-}
-
-// The sum of two noise values.
-pub fn noise_sum(field: usize, a: u64, b: u64) -> u64
-    ensures { λ r. ⌜ r ≡ noiseSum field a b ⌝ }
-{
-    if field == 1 {
-        return add_bits(a, b);
-    }
-    let first = Prime { word: a };
-    let second = Prime { word: b };
-    let sum = first.add(second);
-    sum.word
-}
 
 // Adds entry × bit to bit k of the outputs.
 fn add_bit(k: usize, entry: u64, bit: u64, out: &mut [u64])

@@ -23,7 +23,8 @@ use Rattle.field.proofs.BothKinds.{kindLaws}
 use Rattle.field.proofs.Words.{put-one}
 use Rattle.number.specs.Reading.{Whole, Refused, Step}
 use Rattle.number.specs.Inner.Known.{isWhole}
-use Rattle.record.specs.Content.{NoiseTree, elementOf, treeIn, siblingCount}
+use Rattle.field.specs.ByNumber.{elementOf}
+use Rattle.record.specs.Content.{NoiseTree, treeIn, siblingCount}
 use Rattle.record.specs.Reading.{items, blockAt, readTree, readTrees}
 use Rattle.record.specs.Inner.Answers.{treeOf}
 use Rattle.record.specs.declared.Front.{Front}

@@ -10,5 +10,6 @@ pub mod BothKinds
 pub mod KindOf
 pub mod Widths
 pub mod Accumulated
+pub mod Elements
 pub mod Around
 pub mod SignedNeeds

@@ -5,4 +5,5 @@ pub mod Binary
 pub mod Prime
 pub mod Signed
 pub mod Kind
+pub mod ByNumber
 pub mod Inner

@@ -1,82 +1,65 @@
 -- Held outputs counted one by one. Assumes nothing.
-use mathlib.Core.Path.{_≡_, refl, sym, ap, _∙_}
+use mathlib.Core.Path.{_≡_, refl, sym, ap, ap₂, _∙_}
 use mathlib.Core.Bool.{Bool, true, false}
-use mathlib.Core.List.{List}
+use mathlib.Core.List.{List, [], _++_}
 use Prim.Native.Nat.{ℕ, zero, suc, _+_, _*_, _^_, _≤_, _<_}
 use native.Mathlib.Omega.{arith}
-use native.Mathlib.Nat.{mul-one}
+use native.Mathlib.Nat.{mul-one, zero-mul}
 use native.Mathlib.Numerals.{add-one}
 use lib.ListN.{getD}
 use mir.Syntax.{w64}
 use mir.Val.{Fits}
-use Rattle.field.proofs.KindOf.{kind-2}
-use Rattle.algebra.specs.Field.{Field, NoiseValue, Value}
-use Rattle.field.specs.Binary.{binary, block, blockAdd, blockScale}
-use Rattle.field.specs.Kind.{Kind, kindOf}
-use Rattle.field.specs.Prime.{primes, prime, primeAdd, primeMul}
-use Rattle.field.specs.declared.block.Block.{Block}
-use Rattle.field.specs.declared.prime.Prime.{Prime}
+use Rattle.algebra.specs.Coding.{at}
+use Rattle.algebra.specs.Field.{Field, Value}
+use Rattle.field.proofs.BothKinds.{kindLaws}
+use Rattle.field.specs.Kind.{kindOf}
+use Rattle.field.specs.Inner.Elements.{noiseIn, elementIn, Compared}
+use Rattle.field.specs.declared.element.Element.{Element}
 use Rattle.pairing.specs.Inner.Steps.{counted, holdsAt, heldWords}
 use Rattle.pairing.specs.Verdict.{sameList, holds}
 use Rattle.pairing.proofs.Same.{same-refl, same-not}
 
 -- ---- one output
 
-not-held : (F : Field) (Δ : Value F) (u : NoiseValue F) (v w right : Value F) → right ≡ F .scaled .group .add (F .scaled .scale u Δ) v
-    → (F .elements .words w ≡ F .elements .words right → ⊥) → 0 ≡ counted (holds F Δ u v w)
-unfolding holds
-not-held F Δ u v w right e n = sym (ap counted (same-not _ _ (λ q. n (q ∙ ap (F .elements .words) (sym e)))))
+-- the noise value of word x
+noise-at : (field : ℕ) (l : List ℕ) (x : ℕ) → at (kindOf field .field .noiseValues) l x ≡ noiseIn field (getD l x 0)
+noise-at field l x =
+    let C = kindOf field .field .noiseValues in
+    ap (C .read l) (ap (λ (n : ℕ). x * n) (kindLaws field .noise-width) ∙ mul-one x) ∙ kindLaws field .noise-read l x
 
-is-held : (F : Field) (Δ : Value F) (u : NoiseValue F) (v w right : Value F) → right ≡ F .scaled .group .add (F .scaled .scale u Δ) v
-    → F .elements .words w ≡ F .elements .words right → 1 ≡ counted (holds F Δ u v w)
-unfolding holds
-is-held F Δ u v w right e q =
-    sym (ap counted (ap (sameList (F .elements .words w)) (ap (F .elements .words) (sym e) ∙ sym q) ∙ same-refl (F .elements .words w)))
+module _ (field : ℕ) where
+  abbrev F : Field
+  F = kindOf field .field
 
-module _ (Δ : Block) (u : ℕ) (v w : Block) {product right : Block} (times : product ≡ blockScale u Δ) (plus : right ≡ blockAdd product v) where
-  whole : right ≡ blockAdd (blockScale u Δ) v
-  whole = plus ∙ ap (λ (b : Block). blockAdd b v) times
+  same-value : (y z : Value F) → F .elements .words y ≡ F .elements .words z → y ≡ z
+  same-value y z q =
+      let L = kindLaws field .field .elements in
+      sym (L .read-words [] y []) ∙ ap (λ (l : List ℕ). F .elements .read (l ++ []) 0) q ∙ L .read-words [] z []
 
-  pub low-differs : (w .low ≡ right .low → ⊥) → 0 ≡ counted (holds binary Δ u v w)
-  low-differs n = not-held binary Δ u v w right whole (λ e. n (ap (λ (l : List ℕ). getD l 0 0) e))
+  module _ (delta u v w : List ℕ) (x : ℕ) (d m a r b : Element) (scalar : elementIn field d ≡ at (F .elements) delta 0)
+      (multiple : elementIn field m ≡ F .scaled .scale (noiseIn field (getD u x 0)) (elementIn field d)) (first : elementIn field a ≡ at (F .elements) v x)
+      (sum : elementIn field r ≡ F .scaled .group .add (elementIn field m) (elementIn field a)) (left : elementIn field b ≡ at (F .elements) w x)
+      {t : Bool} (compared : Compared field b r t) where
+    -- Δu + v at the output
+    abbrev both : Value F
+    both = F .scaled .group .add (F .scaled .scale (at (F .noiseValues) u x) (F .elements .read delta 0)) (at (F .elements) v x)
 
-  pub high-differs : (w .high ≡ right .high → ⊥) → 0 ≡ counted (holds binary Δ u v w)
-  high-differs n = not-held binary Δ u v w right whole (λ e. n (ap (λ (l : List ℕ). getD l 1 0) e))
+    right : elementIn field r ≡ both
+    right =
+        let Δ : elementIn field d ≡ F .elements .read delta 0 = scalar ∙ ap (F .elements .read delta) (zero-mul (F .elements .width)) in
+        sum ∙ ap₂ (F .scaled .group .add) (multiple ∙ ap₂ (F .scaled .scale) (sym (noise-at field u x)) Δ) first
 
-  pub block-same : w .low ≡ right .low → w .high ≡ right .high → 1 ≡ counted (holds binary Δ u v w)
-  block-same p q = is-held binary Δ u v w right whole (cc)
+    pub at-held : t ≡ true → 1 ≡ counted (holdsAt F delta u v w x)
+    unfolding holdsAt holds
+    at-held e =
+        sym (ap counted (ap (λ (y : Value F). sameList (F .elements .words y) (F .elements .words both)) (sym left ∙ compared .same e ∙ right)
+        ∙ same-refl (F .elements .words both)))
 
-module _ (Δ u v w : Prime) {product right : Prime} (times : product ≡ primeMul u Δ) (plus : right ≡ primeAdd product v) where
-  total : right ≡ primeAdd (primeMul u Δ) v
-  total = plus ∙ ap (λ (b : Prime). primeAdd b v) times
-
-  pub word-differs : (w .word ≡ right .word → ⊥) → 0 ≡ counted (holds primes Δ u v w)
-  word-differs n = not-held primes Δ u v w right total (λ e. n (ap (λ (l : List ℕ). getD l 0 0) e))
-
-  pub word-same : w .word ≡ right .word → 1 ≡ counted (holds primes Δ u v w)
-  word-same p = is-held primes Δ u v w right total (cc)
-
--- ---- one output, from the words
-
-module _ (delta u v w : List ℕ) (x : ℕ) {field r : ℕ} where
-  pub at-binary : field ≡ 1
-      → r ≡ counted (holds binary (block (getD delta 0 0) (getD delta 1 0)) (getD u x 0)
-      (block (getD v (x * 2) 0) (getD v (x * 2 + 1) 0)) (block (getD w (x * 2) 0) (getD w (x * 2 + 1) 0)))
-      → r ≡ counted (holdsAt (kindOf field .field) delta u v w x)
-  unfolding holdsAt
-  at-binary e q = q ∙ rw (e, mul-one x)
-
-  pub at-prime : (field ≡ 1 → ⊥)
-      → r ≡ counted (holds primes (prime (getD delta 0 0)) (prime (getD u x 0)) (prime (getD v x 0)) (prime (getD w x 0)))
-      → r ≡ counted (holdsAt (kindOf field .field) delta u v w x)
-  unfolding holdsAt
-  at-prime n q =
-      let words : counted (holds primes (prime (getD delta 0 0)) (prime (getD u x 0)) (prime (getD v x 0)) (prime (getD w x 0)))
-      ≡ counted (holdsAt primes delta u v w x) = rw (mul-one x) in
-      q ∙ words ∙ ap (λ (F : Field). counted (holdsAt F delta u v w x)) (sym (not-binary field n))
-    where
-      not-binary : (f : ℕ) → (f ≡ 1 → ⊥) → kindOf f .field ≡ primes
-      not-binary f m = ap (λ (K : Kind). K .field) (kind-2 f m)
+    pub at-lost : t ≡ false → 0 ≡ counted (holdsAt F delta u v w x)
+    unfolding holdsAt holds
+    at-lost e =
+        sym (ap counted (same-not (F .elements .words (at (F .elements) w x)) (F .elements .words both)
+        (λ q. compared .other e (left ∙ same-value (at (F .elements) w x) both q ∙ sym right))))
 
 -- ---- all outputs
 

@@ -1,9 +1,9 @@
 -- The second pass over a tree that was accepted: no test of its reading can fail, so its parts stand where they are taken.
 -- Assumes nothing.
 use Prim.Native.Nat.{ℕ, _+_, _*_, _^_, _≤_, _<_}
-use mathlib.Core.Bool.{true}
-use mathlib.Core.List.{List, [], _∷_}
-use mathlib.Core.Path.{_≡_, sym, ap, _∙_}
+use mathlib.Core.Bool.{Bool, true, false}
+use mathlib.Core.List.{List}
+use mathlib.Core.Path.{_≡_, refl, sym, ap, _∙_}
 use borrow.Author.Tests.{eq-eqb, ne-eqb, ltb-true, leb-true}
 use native.Mathlib.Omega.{arith}
 use lib.Dec.{ltb, leb}
@@ -13,14 +13,18 @@ use mir.Syntax.{w64}
 use mir.Val.{Fits}
 use Rattle.field.proofs.KindOf.{words-1, words-2}
 use Rattle.field.specs.Bytes.{wordAt}
+use Rattle.field.specs.ByNumber.{isNoise, oneNoise, elementOf, isElement}
+use Rattle.field.specs.Kind.{elementWords}
+use Rattle.field.specs.Inner.Elements.{elementLength, elementAt}
+use Rattle.field.specs.declared.element.Element.{Element}
+use Rattle.field.proofs.Elements.{at-words, at-second}
 use Rattle.number.proofs.Places.{either, whole-is, whole-of, then-whole, tested-whole, choose-whole, choose-yes, choose-no}
 use Rattle.number.specs.Number.{readNumber}
 use Rattle.number.specs.Reading.{Whole, Refused, Step, then, choose, tested}
 use Rattle.number.specs.Inner.Known.{isWhole}
+use Rattle.record.proofs.Fields.{element-items}
 use Rattle.record.proofs.Items.{items-whole}
 use Rattle.record.proofs.Parts.{TreeParts, tree-parts}
-use Rattle.record.specs.Admitted.{isElement, isNoise}
-use Rattle.field.specs.Kind.{elementWords}
 use Rattle.record.specs.Content.{NoiseTree}
 use Rattle.record.specs.Reading.{items, blockAt, readWords, readPosition, readValue, readCorrection, readTree}
 
@@ -38,18 +42,18 @@ position-parts base all s at {p} {next} e =
 abbrev wordField : List ℕ → ℕ → Step ℕ
 wordField s at = choose (leb (at + 8) (length s)) (Whole (wordAt s at, at + 8)) (Refused 10)
 
-pub value-parts-1 : (field : ℕ) (s : List ℕ) (at : ℕ) {y next : ℕ} → field ≡ 1 → readValue field s at ≡ Whole (y, next) → (y ≡ 1) × (next ≡ at)
+pub value-parts-1 : (field : ℕ) (s : List ℕ) (at : ℕ) {y next : ℕ} → oneNoise field ≡ true → readValue field s at ≡ Whole (y, next) → (y ≡ 1) × (next ≡ at)
 unfolding readValue
 value-parts-1 field s at f e =
-    let z = whole-is (sym (choose-yes {A = Step ℕ} (Whole (1, at)) (tested (wordField s at) (λ y. isNoise field y) 5) (eq-eqb field 1 f)) ∙ e) in
+    let z = whole-is (sym (choose-yes {A = Step ℕ} (Whole (1, at)) (tested (wordField s at) (λ y. isNoise field y) 5) f) ∙ e) in
     (ap (λ (x : ℕ × ℕ). x .0) (sym z), ap (λ (x : ℕ × ℕ). x .1) (sym z))
 
-pub value-parts-2 : (field : ℕ) (s : List ℕ) (at : ℕ) {y next : ℕ} → (field ≡ 1 → ⊥) → readValue field s at ≡ Whole (y, next)
+pub value-parts-2 : (field : ℕ) (s : List ℕ) (at : ℕ) {y next : ℕ} → oneNoise field ≡ false → readValue field s at ≡ Whole (y, next)
     → (at + 8 ≤ length s) × (y ≡ wordAt s at) × (next ≡ at + 8) × (isNoise field y ≡ true)
 unfolding readValue
 value-parts-2 field s at f e =
     let t = tested-whole (wordField s at) (λ y. isNoise field y) 5
-    (sym (choose-no {A = Step ℕ} (Whole (1, at)) (tested (wordField s at) (λ y. isNoise field y) 5) (ne-eqb field 1 f)) ∙ e) in
+    (sym (choose-no {A = Step ℕ} (Whole (1, at)) (tested (wordField s at) (λ y. isNoise field y) 5) f) ∙ e) in
     let c = choose-whole {A = ℕ × ℕ} (leb (at + 8) (length s)) (wordAt s at, at + 8) 10 (t .0) in
     (leb-true _ _ (c .0), ap (λ (x : ℕ × ℕ). x .0) (sym (c .1)), ap (λ (x : ℕ × ℕ). x .1) (sym (c .1)), t .1)
 
@@ -93,21 +97,18 @@ module _ (field depth beside base : ℕ) (s : List ℕ) (at : ℕ) (known : isWh
     middle =
         either field 1
         (λ f.
-        let v = value-parts-1 field s (parts .at1) f (parts .value) in
+        let v = value-parts-1 field s (parts .at1) (eq-eqb field 1 f) (parts .value) in
         let c = correction-parts field s (parts .at2) (parts .correction) in
         let w : elementWords field ≡ 2 = words-1 field f in
         (omega (arith, v .1, c .2, w, place), omega (arith, v .1, c .0, w, place)))
         (λ f.
-        let v = value-parts-2 field s (parts .at1) f (parts .value) in
+        let v = value-parts-2 field s (parts .at1) (ne-eqb field 1 f) (parts .value) in
         let c = correction-parts field s (parts .at2) (parts .correction) in
         let w : elementWords field ≡ 1 = words-2 field f in
         (omega (arith, v .2, c .2, w, place), omega (arith, v .2, c .0, w, place)))
 
-    pub known-room-1 : next + 8 ≤ length s
-    known-room-1 = omega (arith, middle .1)
-
-    pub known-room-2 : next + 8 + 8 ≤ length s
-    known-room-2 = omega (arith, middle .1)
+    pub known-room : next + 8 ≤ length s
+    known-room = omega (arith, middle .1)
 
     pub known-fits-1 : length s < 2 ^ 64 → Fits w64 (next + 8)
     known-fits-1 h = record { fits = omega (arith, middle .1) }
@@ -131,23 +132,38 @@ module _ (field depth beside base : ℕ) (s : List ℕ) (at : ℕ) (known : isWh
             → _≡_ {A = Step NoiseTree} (Whole (t, a)) (Whole (record { position = p; value = value; correction = words; siblings = blocks }, b))
         both p v c s e = λ i. Whole (record { position = p i; value = v i; correction = c i; siblings = s i }, e i)
 
-    module _ {first second : ℕ} (r₁ : first ≡ wordAt s next) (r₂ : second ≡ wordAt s (next + 8)) where
-      pub known-1 : {words : List ℕ} → field ≡ 1 → words ≡ first ∷ second ∷ []
-          → (Whole (record { position = base + x; value = 1; correction = words; siblings = items blockAt 16 s (next + 16) beside }, next + 16 + 16 * beside) ≡ readTree field depth beside base s at)
-          × (second ≡ getD words 1 0)
-      unfolding items
-      known-1 f e =
-          let v = value-parts-1 field s (parts .at1) f (parts .value) in
-          let c = correction-parts field s (parts .at2) (parts .correction) in
-          let at2 : parts .at2 ≡ next = v .1 ∙ place in
-          (given (sym (v .0)) (e ∙ sym (c .1 ∙ rw (words-1 field f, at2, ← r₁, ← r₂))), rw e)
+    -- what is read of a tree of this noise value and a correction of these words
+    abbrev Known : ℕ → Element → Type 0
+    Known value e =
+        (Whole (
+          record { position = base + x; value = value; correction = elementOf field (e .low) (e .high); siblings = items blockAt 16 s (next + 16) beside },
+          next + 16 + 16 * beside,
+        ) ≡ readTree field depth beside base s at) × (e .high ≡ getD (elementOf field (e .low) (e .high)) 1 0)
 
-      pub known-2 : {words : List ℕ} → (field ≡ 1 → ⊥) → words ≡ second ∷ []
-          → (Whole (record { position = base + x; value = first; correction = words; siblings = items blockAt 16 s (next + 16) beside }, next + 16 + 16 * beside) ≡ readTree field depth beside base s at)
-          × (0 ≡ getD words 1 0)
-      unfolding items
-      known-2 f e =
-          let v = value-parts-2 field s (parts .at1) f (parts .value) in
-          let c = correction-parts field s (parts .at2) (parts .correction) in
-          let at2 : parts .at2 ≡ next + 8 = v .2 ∙ ap (λ (n : ℕ). n + 8) place in
-          (given (r₁ ∙ ap (wordAt s) (sym place) ∙ sym (v .1)) (e ∙ sym (c .1 ∙ rw (words-2 field f, at2, ← r₂))), rw e)
+    -- the words of a correction at a place
+    words-at : {e : Element} (place : ℕ) → e ≡ elementAt field s place → parts .at2 ≡ place → elementOf field (e .low) (e .high) ≡ tree .0 .0 .correction
+    words-at place q p =
+        at-words field s place q ∙ sym (element-items field s place) ∙ ap (λ (n : ℕ). items wordAt 8 s n (elementWords field)) (sym p)
+        ∙ sym (correction-parts field s (parts .at2) (parts .correction) .1)
+
+    module _ {o : Bool} (one : o ≡ oneNoise field) where
+      module _ (yes : o ≡ true) where
+        v₁ : (tree .0 .0 .value ≡ 1) × (parts .at2 ≡ parts .at1)
+        v₁ = value-parts-1 field s (parts .at1) (sym one ∙ yes) (parts .value)
+
+        pub known-first : next + elementLength field ≤ length s
+        known-first = omega (arith, correction-parts field s (parts .at2) (parts .correction) .0, v₁ .1, place)
+
+        pub known-1 : {e : Element} → e ≡ elementAt field s next → Known 1 e
+        known-1 q = (given (sym (v₁ .0)) (words-at next q (v₁ .1 ∙ place)), at-second field s next q)
+
+      module _ (no : o ≡ false) where
+        v₂ : (parts .at1 + 8 ≤ length s) × (tree .0 .0 .value ≡ wordAt s (parts .at1)) × (parts .at2 ≡ parts .at1 + 8) × (isNoise field (tree .0 .0 .value) ≡ true)
+        v₂ = value-parts-2 field s (parts .at1) (sym one ∙ no) (parts .value)
+
+        pub known-second : next + 8 + elementLength field ≤ length s
+        known-second = omega (arith, correction-parts field s (parts .at2) (parts .correction) .0, v₂ .2, place)
+
+        pub known-2 : {e : Element} {value : ℕ} → value ≡ wordAt s next → e ≡ elementAt field s (next + 8) → Known value e
+        known-2 r q =
+            (given (r ∙ ap (wordAt s) (sym place) ∙ sym (v₂ .1)) (words-at (next + 8) q (v₂ .2 ∙ ap (λ (n : ℕ). n + 8) place)), at-second field s (next + 8) q)

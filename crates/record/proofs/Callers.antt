@@ -21,7 +21,8 @@ use Rattle.record.proofs.Exact.{field-exact}
 use Rattle.record.proofs.Heads.{size-range, branch-range, branch-multiple}
 use Rattle.record.proofs.Items.{items-whole}
 use Rattle.record.proofs.Parts.{head-parts, tree-parts, trees-parts, noise-parts, scalar-parts}
-use Rattle.record.specs.Admitted.{isField, isSize, mostTrees, mostTerms, mostOutputs, isNoise, isElement, isScalar}
+use Rattle.field.specs.ByNumber.{isField, isNoise, isElement, isScalar}
+use Rattle.record.specs.Admitted.{isSize, mostTrees, mostTerms, mostOutputs}
 use Rattle.field.specs.Kind.{elementWords}
 use Rattle.record.specs.Content.{Head, NoiseTree, NoisePart, ScalarPart, siblingCount}
 use Rattle.record.specs.Reading.{items, blockAt, readWords, readBlocks, readValue, readDelta, readHead, readTree, readTrees, readNoise, readScalar}
@@ -143,8 +144,8 @@ tree-ranges field depth beside base s at {t} {next} e =
     value-test : (f : ℕ) (u : List ℕ) (i : ℕ) {y k : ℕ} → readValue f u i ≡ Whole (y, k) → isNoise f y ≡ true
     value-test f u i {y} g =
         either f 1
-        (λ h. choose-yes (eqb y 1) (isSize (modulus - 1) y) (eq-eqb f 1 h) ∙ eq-eqb y 1 (value-parts-1 f u i h g .0))
-        (λ h. value-parts-2 f u i h g .3)
+        (λ h. choose-yes (eqb y 1) (isSize (modulus - 1) y) (eq-eqb f 1 h) ∙ eq-eqb y 1 (value-parts-1 f u i (eq-eqb f 1 h) g .0))
+        (λ h. value-parts-2 f u i (ne-eqb f 1 h) g .3)
 
 -- ---- the second pass: tree i of an accepted record, where trees 0 to i − 1 have been passed
 

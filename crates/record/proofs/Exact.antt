@@ -13,6 +13,7 @@ use lib.Pow.{pow-mono}
 use lib.Seq.{getD-take, getD-drop}
 use Rattle.field.proofs.ByteWords.{length-leBytes, leNumber-leBytes-word, leBytes-leNumber, leNumber-below, wordAt-take}
 use Rattle.field.specs.Bytes.{leNumber, leBytes, wordAt}
+use Rattle.field.specs.ByNumber.{isField, isNoise, isElement, isScalar}
 use Rattle.field.specs.Prime.{modulus}
 use Rattle.number.proofs.Laws.{length-number, number-reads, number-whole}
 use Rattle.number.proofs.Places.{split, either, whole-is, then-whole, tested-whole, tested-reads, choose-yes, choose-no, has-front, has-back, has-next, has-is, part-has, byte-reads, byte-whole, bytes-reads, bytes-whole}
@@ -24,7 +25,7 @@ use Rattle.record.proofs.Again.{value-parts-1, value-parts-2}
 use Rattle.record.proofs.Fields.{and-both}
 use Rattle.record.proofs.Items.{items-reads, items-exact}
 use Rattle.record.proofs.Parts.{head-parts, tree-parts, trees-parts, trees-none}
-use Rattle.record.specs.Admitted.{isField, isSize, isBranch, mostTrees, mostTerms, mostOutputs, isNoise, isElement, isScalar, Each, SixteenBytes, SixtyFourBits, AdmittedHead}
+use Rattle.record.specs.Admitted.{isSize, isBranch, mostTrees, mostTerms, mostOutputs, Each, SixteenBytes, SixtyFourBits, AdmittedHead}
 use Rattle.record.specs.Inner.Rising.{TreeFrom, TreesFrom}
 use Rattle.field.specs.Kind.{elementWords}
 use Rattle.record.specs.Content.{Head, NoiseTree}
@@ -176,14 +177,14 @@ module _ (s : List ℕ) where
   value-exact bytes field at {y} {next} room e =
       either field 1
       (λ f.
-      let v = value-parts-1 field s at f e in
+      let v = value-parts-1 field s at (eq-eqb field 1 f) e in
       let w : writeValue field y ≡ [] = choose-yes [] (leBytes 8 y) (eq-eqb field 1 f) in (
         choose-yes (eqb y 1) (isSize (modulus - 1) y) (eq-eqb field 1 f) ∙ eq-eqb y 1 (v .0),
         subst (Has s at) (sym w) (omega arith, refl),
         v .1 ∙ sym (add-zero at) ∙ ap (λ (l : List ℕ). at + length l) (sym w),
       ))
       (λ f.
-      let v = value-parts-2 field s at f e in
+      let v = value-parts-2 field s at (ne-eqb field 1 f) e in
       let w : writeValue field y ≡ leBytes 8 (wordAt s at) = choose-no [] (leBytes 8 y) (ne-eqb field 1 f) ∙ ap (leBytes 8) (v .1) in (
         v .3,
         subst (Has s at) (sym w) (word-only bytes at (v .0) .1),

@@ -2,29 +2,31 @@
 -- that lead to it. Assumes nothing.
 use Prim.Native.Nat.{ℕ, _+_, _-_, _*_, _%_, _^_, _≤_, _<_}
 use mathlib.Core.Bool.{Bool, true, false, _&&_}
-use mathlib.Core.List.{List}
-use mathlib.Core.Path.{_≡_, refl, sym, ap, _∙_}
+use mathlib.Core.List.{List, [], _∷_}
+use mathlib.Core.Path.{_≡_, refl, sym, ap, ap₂, _∙_}
 use borrow.Author.Tests.{lt-ltb, le-ltb, le-leb, lt-leb, leb-true, eq-eqb, ne-eqb}
 use native.Mathlib.Nat.{mod-eq-of-lt, one-mul}
 use native.Mathlib.Omega.{arith}
-use lib.Dec.{leb}
+use lib.Dec.{leb, eqb}
 use lib.ListN.{length, getD}
 use lib.Pow.{pow-lt}
 use mir.Syntax.{w64}
 use mir.Val.{Fits}
 use Rattle.algebra.proofs.Tests.{and-left, and-right}
 use Rattle.field.specs.Bytes.{wordAt}
-use Rattle.field.proofs.KindOf.{words-1, words-2}
-use Rattle.record.proofs.Elements.{is-element-1, is-element-2}
+use Rattle.field.specs.ByNumber.{isField, isNoise, oneNoise, elementOf, isElement, isScalar}
+use Rattle.field.specs.Kind.{binaryKind, primeKind, elementWords}
+use Rattle.field.specs.Inner.Elements.{elementLength, elementAt}
+use Rattle.field.specs.declared.element.Element.{Element}
+use Rattle.field.proofs.Elements.{element-first, at-words}
 use Rattle.number.specs.Number.{readNumber}
 use Rattle.number.specs.Answer.{numberRead}
-use Rattle.number.specs.Reading.{Whole, Refused, choose, tested, readByte}
+use Rattle.number.specs.Reading.{Whole, Refused, Step, choose, tested, readByte}
 use Rattle.number.specs.declared.Number.{Number}
 use Rattle.number.specs.declared.Number.the-variants.{Value, Fault}
-use Rattle.number.proofs.Places.{split, choose-whole, refused-whole}
+use Rattle.number.proofs.Places.{choose-no, split, choose-whole, refused-whole}
 use Rattle.record.specs.Reading.{items, readItems, readSize, readPosition, readValue, readCorrection, readDelta, readField}
 use Rattle.record.specs.Inner.Answers.{skipped, firstWord}
-use Rattle.record.specs.Inner.Lengths.{elementLength}
 
 -- a shift is the power of two
 pub shifted : (d : ℕ) → d ≤ 16 → (1 * 2 ^ d) % 2 ^ 64 ≡ 2 ^ d
@@ -32,9 +34,6 @@ shifted d h = rw one-mul (mod-eq-of-lt (pow-lt {i = d} {j = 64} (omega arith)))
 
 pub and-both : (a b : Bool) → a && b ≡ true → (a ≡ true) × (b ≡ true)
 and-both a b e = (and-left a b e, and-right a b e)
-
-positive : (n : ℕ) → (n ≡ 0 → ⊥) → 1 ≤ n
-positive n z = split 0 n (λ h. h) (λ h. absurd (z (omega arith)))
 
 lost : (b : Bool) (x : ℕ × ℕ) {k : ℕ} → choose b (Whole x) (Refused 10) ≡ Refused k → (b ≡ false) × (k ≡ 10)
 lost true x e = absurd (refused-whole (sym e) refl)
@@ -56,16 +55,6 @@ module _ (at count : ℕ) {n : ℕ} {b : Bool} (has : b ≡ leb (at + count) n) 
 
   pub place-fits : n < 2 ^ 64 → Fits w64 (at + count)
   place-fits h = record { fits = omega (arith, has-room) }
-
-module _ (at : ℕ) {n : ℕ} {b : Bool} (has : b ≡ leb (at + 16) n) (yes : b ≡ true) where
-  pub first-room : at + 8 ≤ n
-  first-room = omega (arith, has-room at 16 has yes)
-
-  pub second-room : at + 8 + 8 ≤ n
-  second-room = omega (arith, has-room at 16 has yes)
-
-  pub second-fits : n < 2 ^ 64 → Fits w64 (at + 8)
-  second-fits h = record { fits = omega (arith, first-room) }
 
 -- a field that is passed over
 module _ (count : ℕ) (s : List ℕ) (at : ℕ) where
@@ -89,92 +78,109 @@ module _ (count : ℕ) (s : List ℕ) (at : ℕ) where
         let c = choose-whole (leb (at + count) (length s)) (at, at + count) 10 (sym read ∙ ap numberRead e) in
         (c .0, sym (ap (λ (z : ℕ × ℕ). z .1) (c .1)))
 
--- ---- elements
+-- ---- noise values and elements
 
-pub element-1 : (field : ℕ) → field ≡ 1 → 16 ≡ elementLength field
-element-1 field f = ap (λ (n : ℕ). 8 * n) (sym (words-1 field f))
+-- a field that is whole or not, and its test
+module _ {A : Type 0} (b : Bool) (x : A) (next : ℕ) (ok : A → Bool) (k : ℕ) where
+  abbrev asked : Step A
+  asked = tested (choose b (Whole (x, next)) (Refused 10)) ok k
 
-pub element-2 : (field : ℕ) → (field ≡ 1 → ⊥) → 8 ≡ elementLength field
-element-2 field f = ap (λ (n : ℕ). 8 * n) (sym (words-2 field f))
+  lacking : b ≡ false → Refused 10 ≡ asked
+  unfolding tested
+  lacking e = rw e
 
-module _ (field : ℕ) (s : List ℕ) (at : ℕ) where
-  module _ (f : field ≡ 1) where
-    pub value-one : Whole (1, at) ≡ readValue field s at
+  failing : b ≡ true → ok x ≡ false → Refused k ≡ asked
+  unfolding tested
+  failing e f = rw (e, f)
+
+  passing : b ≡ true → ok x ≡ true → Whole (x, next) ≡ asked
+  unfolding tested
+  passing e f = rw (e, f)
+
+module _ (field : ℕ) (s : List ℕ) (at : ℕ) {o : Bool} (one : o ≡ oneNoise field) where
+  pub value-one : o ≡ true → Whole (1, at) ≡ readValue field s at
+  unfolding readValue
+  value-one e = rw (sym one ∙ e)
+
+  abbrev wordField : Step ℕ
+  wordField = asked (leb (at + 8) (length s)) (wordAt s at) (at + 8) (isNoise field) 5
+
+  module _ (many : o ≡ false) where
+    written : {x : Step ℕ} → x ≡ wordField → x ≡ readValue field s at
     unfolding readValue
-    value-one = simp (eq-eqb _ _ f)
+    written e = e ∙ sym (choose-no {A = Step ℕ} (Whole (1, at)) wordField (sym one ∙ many))
 
-    module _ {b : Bool} (has : b ≡ leb (at + 16) (length s)) where
-      pub correction-ends-1 : b ≡ false → Refused 10 ≡ firstWord (readCorrection field s at)
-      unfolding readCorrection readItems tested
-      correction-ends-1 e = simp (words-1 field f, is-element-1 field f, ← has, e)
+    module _ {b : Bool} (has : b ≡ leb (at + 8) (length s)) where
+      pub value-ends : b ≡ false → Refused 10 ≡ readValue field s at
+      value-ends e = written (lacking _ (wordAt s at) (at + 8) (isNoise field) 5 (sym has ∙ e))
 
-      pub delta-ends-1 : b ≡ false → Refused 10 ≡ firstWord (readDelta field s at)
-      unfolding readDelta readItems tested
-      delta-ends-1 e = simp (words-1 field f, is-element-1 field f, eq-eqb field 1 f, ← has, e)
+      module _ (yes : b ≡ true) {w : ℕ} (first : w ≡ wordAt s at) {n : Bool} (noise : n ≡ isNoise field w) where
+        pub value-bad : n ≡ false → Refused 5 ≡ readValue field s at
+        value-bad e = written (failing _ (wordAt s at) (at + 8) (isNoise field) 5 (sym has ∙ yes) (ap (isNoise field) (sym first) ∙ sym noise ∙ e))
 
-      module _ (yes : b ≡ true) {low : ℕ} (first : low ≡ wordAt s at) where
-        pub correction-1 : Whole (low, at + 16) ≡ firstWord (readCorrection field s at)
-        unfolding readCorrection readItems items tested
-        correction-1 = simp (words-1 field f, is-element-1 field f, ← has, yes, first)
+        pub value-whole : n ≡ true → Whole (w, at + 8) ≡ readValue field s at
+        value-whole e =
+            ap (λ (x : ℕ). Whole (x, at + 8)) first
+            ∙ written (passing _ (wordAt s at) (at + 8) (isNoise field) 5 (sym has ∙ yes) (ap (isNoise field) (sym first) ∙ sym noise ∙ e))
 
-        pub delta-low-1 : (low ≡ 0 → ⊥) → Whole (low, at + 16) ≡ firstWord (readDelta field s at)
-        unfolding readDelta readItems items tested
-        delta-low-1 z = simp (words-1 field f, is-element-1 field f, eq-eqb field 1 f, ← has, yes, ← first, ne-eqb _ _ z)
+-- the words of an element at a place
+pub element-items : (field : ℕ) (s : List ℕ) (at : ℕ) → items wordAt 8 s at (elementWords field) ≡ elementOf field (wordAt s at) (wordAt s (at + 8))
+unfolding items
+element-items field s at = of (eqb field 1)
+  where
+    of : (t : Bool) → items wordAt 8 s at (choose t binaryKind primeKind .field .elements .width)
+        ≡ choose t (wordAt s at ∷ wordAt s (at + 8) ∷ []) (wordAt s at ∷ [])
+    of true = refl
+    of false = refl
 
-        module _ (z : low ≡ 0) {high : ℕ} (second : high ≡ wordAt s (at + 8)) where
-          pub delta-zero-1 : high ≡ 0 → Refused 6 ≡ firstWord (readDelta field s at)
-          unfolding readDelta readItems items tested
-          delta-zero-1 w = simp (words-1 field f, is-element-1 field f, eq-eqb field 1 f, ← has, yes, ← first, eq-eqb _ _ z, ← second, eq-eqb _ _ w)
+module _ (field : ℕ) (s : List ℕ) (at : ℕ) {size : ℕ} {b : Bool} (long : size ≡ elementLength field) (has : b ≡ leb (at + size) (length s)) where
+  -- the place after an element
+  after : at + size ≡ at + elementLength field
+  after = ap (λ (n : ℕ). at + n) long
 
-          pub delta-high-1 : (high ≡ 0 → ⊥) → Whole (0, at + 16) ≡ firstWord (readDelta field s at)
-          unfolding readDelta readItems items tested
-          delta-high-1 w = simp (words-1 field f, is-element-1 field f, eq-eqb field 1 f, ← has, yes, ← first, z, ← second, ne-eqb _ _ w)
+  here : {t : Bool} → b ≡ t → leb (at + elementLength field) (length s) ≡ t
+  here e = ap (λ (n : ℕ). leb n (length s)) (sym after) ∙ sym has ∙ e
 
-  module _ (f : field ≡ 1 → ⊥) {b : Bool} (has : b ≡ leb (at + 8) (length s)) where
-    pub value-ends : b ≡ false → Refused 10 ≡ readValue field s at
-    unfolding readValue tested
-    value-ends e = simp (ne-eqb _ _ f, ← has, e)
+  pub element-room : b ≡ true → at + elementLength field ≤ length s
+  element-room e = leb-true _ _ (here e)
 
-    pub correction-ends-2 : b ≡ false → Refused 10 ≡ firstWord (readCorrection field s at)
-    unfolding readCorrection readItems tested
-    correction-ends-2 e = simp (words-2 field f, is-element-2 field f, ← has, e)
+  abbrev words : List ℕ
+  words = items wordAt 8 s at (elementWords field)
 
-    pub delta-ends-2 : b ≡ false → Refused 10 ≡ firstWord (readDelta field s at)
-    unfolding readDelta readItems tested
-    delta-ends-2 e = simp (words-2 field f, is-element-2 field f, ne-eqb field 1 f, ← has, e)
+  pub correction-ends : b ≡ false → Refused 10 ≡ firstWord (readCorrection field s at)
+  unfolding readCorrection readItems
+  correction-ends e = ap firstWord (lacking _ words (at + elementLength field) (isElement field) 8 (here e))
 
-    module _ (yes : b ≡ true) {w : ℕ} (first : w ≡ wordAt s at) where
-      pub value-zero : w ≡ 0 → Refused 5 ≡ readValue field s at
-      unfolding readValue tested
-      value-zero z = simp (ne-eqb _ _ f, ← has, yes, ← first, z)
+  pub delta-ends : b ≡ false → Refused 10 ≡ firstWord (readDelta field s at)
+  unfolding readDelta readItems
+  delta-ends e = ap firstWord (lacking _ words (at + elementLength field) (isScalar field) 6 (here e))
 
-      pub value-large : (w ≡ 0 → ⊥) → 2305843009213693951 ≤ w → Refused 5 ≡ readValue field s at
-      unfolding readValue tested
-      value-large z h = let p : 1 ≤ w = positive w z in simp (ne-eqb _ _ f, ← has, yes, ← first, le-leb _ _ p, lt-leb w 2305843009213693950 (omega arith))
+  module _ (yes : b ≡ true) {e : Element} (read : e ≡ elementAt field s at) where
+    same : words ≡ elementOf field (e .low) (e .high)
+    same = element-items field s at ∙ sym (at-words field s at read)
 
-      pub value-two : (w ≡ 0 → ⊥) → w < 2305843009213693951 → Whole (w, at + 8) ≡ readValue field s at
-      unfolding readValue tested
-      value-two z h = let p : 1 ≤ w = positive w z in simp (ne-eqb _ _ f, ← has, yes, ← first, le-leb _ _ p, le-leb w 2305843009213693950 (omega arith))
+    first : Whole (e .low, at + size) ≡ firstWord (Whole (words, at + elementLength field))
+    first = ap₂ (λ (w n : ℕ). Whole (w, n)) (sym (ap (λ (l : List ℕ). getD l 0 0) same ∙ element-first field (e .low) (e .high))) after
 
-      pub correction-large : 2305843009213693951 ≤ w → Refused 8 ≡ firstWord (readCorrection field s at)
-      unfolding readCorrection readItems items tested
-      correction-large h = simp (words-2 field f, is-element-2 field f, ← has, yes, ← first, le-ltb _ _ h)
+    pub correction-bad : {t : Bool} → t ≡ isElement field (elementOf field (e .low) (e .high)) → t ≡ false → Refused 8 ≡ firstWord (readCorrection field s at)
+    unfolding readCorrection readItems
+    correction-bad q f = ap firstWord (failing _ words (at + elementLength field) (isElement field) 8 (here yes) (ap (isElement field) same ∙ sym q ∙ f))
 
-      pub correction-2 : w < 2305843009213693951 → Whole (w, at + 8) ≡ firstWord (readCorrection field s at)
-      unfolding readCorrection readItems items tested
-      correction-2 h = simp (words-2 field f, is-element-2 field f, ← has, yes, ← first, lt-ltb _ _ h)
+    pub correction-whole : {t : Bool} → t ≡ isElement field (elementOf field (e .low) (e .high)) → t ≡ true
+        → Whole (e .low, at + size) ≡ firstWord (readCorrection field s at)
+    unfolding readCorrection readItems
+    correction-whole q f =
+        first ∙ ap firstWord (passing _ words (at + elementLength field) (isElement field) 8 (here yes) (ap (isElement field) same ∙ sym q ∙ f))
 
-      pub delta-zero-2 : w ≡ 0 → Refused 6 ≡ firstWord (readDelta field s at)
-      unfolding readDelta readItems items tested
-      delta-zero-2 z = simp (words-2 field f, is-element-2 field f, ne-eqb field 1 f, ← has, yes, ← first, z)
+    pub delta-bad : {t : Bool} → t ≡ isScalar field (elementOf field (e .low) (e .high)) → t ≡ false → Refused 6 ≡ firstWord (readDelta field s at)
+    unfolding readDelta readItems
+    delta-bad q f = ap firstWord (failing _ words (at + elementLength field) (isScalar field) 6 (here yes) (ap (isScalar field) same ∙ sym q ∙ f))
 
-      pub delta-large : 2305843009213693951 ≤ w → Refused 6 ≡ firstWord (readDelta field s at)
-      unfolding readDelta readItems items tested
-      delta-large h = simp (words-2 field f, is-element-2 field f, ne-eqb field 1 f, ← has, yes, ← first, le-ltb _ _ h)
-
-      pub delta-2 : (w ≡ 0 → ⊥) → w < 2305843009213693951 → Whole (w, at + 8) ≡ firstWord (readDelta field s at)
-      unfolding readDelta readItems items tested
-      delta-2 z h = simp (words-2 field f, is-element-2 field f, ne-eqb field 1 f, ← has, yes, ← first, lt-ltb _ _ h, ne-eqb _ _ z)
+    pub delta-whole : {t : Bool} → t ≡ isScalar field (elementOf field (e .low) (e .high)) → t ≡ true
+        → Whole (e .low, at + size) ≡ firstWord (readDelta field s at)
+    unfolding readDelta readItems
+    delta-whole q f =
+        first ∙ ap firstWord (passing _ words (at + elementLength field) (isScalar field) 6 (here yes) (ap (isScalar field) same ∙ sym q ∙ f))
 
 -- ---- the end byte and the field byte
 
@@ -194,17 +200,13 @@ module _ (end : ℕ) (s : List ℕ) where
       field-ends-1 g = simp (lt-ltb _ _ h, eq-eqb _ _ e, le-ltb _ _ g)
 
       module _ (g : 1 < length s) where
-        pub field-1 : getD s 1 0 ≡ 1 → Whole (1, 2) ≡ readField end s
+        pub field-known : {x : Bool} → x ≡ isField (getD s 1 0) → x ≡ true → Whole (getD s 1 0, 2) ≡ readField end s
         unfolding readField readByte tested
-        field-1 f = simp (lt-ltb _ _ h, eq-eqb _ _ e, lt-ltb _ _ g, f)
+        field-known k t = let f : isField (getD s 1 0) ≡ true = sym k ∙ t in simp (lt-ltb _ _ h, eq-eqb _ _ e, lt-ltb _ _ g, f)
 
-        pub field-2 : getD s 1 0 ≡ 2 → Whole (2, 2) ≡ readField end s
+        pub field-unknown : {x : Bool} → x ≡ isField (getD s 1 0) → x ≡ false → Refused 1 ≡ readField end s
         unfolding readField readByte tested
-        field-2 f = simp (lt-ltb _ _ h, eq-eqb _ _ e, lt-ltb _ _ g, f)
-
-        pub field-unknown : (getD s 1 0 ≡ 1 → ⊥) → (getD s 1 0 ≡ 2 → ⊥) → Refused 1 ≡ readField end s
-        unfolding readField readByte tested
-        field-unknown f k = simp (lt-ltb _ _ h, eq-eqb _ _ e, lt-ltb _ _ g, ne-eqb _ _ f, ne-eqb _ _ k)
+        field-unknown k t = let f : isField (getD s 1 0) ≡ false = sym k ∙ t in simp (lt-ltb _ _ h, eq-eqb _ _ e, lt-ltb _ _ g, f)
 
 -- ---- numbers with a test
 

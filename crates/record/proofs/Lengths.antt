@@ -14,17 +14,19 @@ use mir.Val.{Fits}
 use Rattle.field.proofs.KindOf.{words-1, words-2}
 use Rattle.field.proofs.ByteWords.{length-leBytes}
 use Rattle.field.specs.Bytes.{leBytes}
+use Rattle.field.specs.ByNumber.{elementOf}
+use Rattle.field.specs.Inner.Elements.{elementLength}
 use Rattle.field.specs.Kind.{elementWords}
 use Rattle.number.proofs.Laws.{length-number, length-bounds}
 use Rattle.number.proofs.Places.{either}
 use Rattle.number.specs.Number.{numberLength}
 use Rattle.number.specs.Reading.{part}
 use Rattle.record.specs.Inner.Rising.{RisesFrom}
-use Rattle.record.specs.Content.{Head, elementOf, siblingCount}
+use Rattle.record.specs.Content.{Head, siblingCount}
 use Rattle.record.specs.declared.Front.{Front}
 use Rattle.record.specs.Reading.{items, blockAt}
 use Rattle.record.specs.Writing.{writeEach, writeWords, writeBlocks, writeHead, writeFront}
-use Rattle.record.specs.Inner.Lengths.{Writable, elementLength, headLength, frontLength, treeLength, treesLength, noiseLength, scalarLength}
+use Rattle.record.specs.Inner.Lengths.{Writable, headLength, frontLength, treeLength, treesLength, noiseLength, scalarLength}
 
 pub length-head : (end : ℕ) (h : Head) → length (h .codeKey) ≡ 16 → length (h .label) ≡ 16
     → length (writeHead end h) ≡ headLength (h .depth) (h .branchBits) (h .trees) (h .terms) (h .outputs)

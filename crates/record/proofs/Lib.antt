@@ -1,7 +1,6 @@
 -- The laws of `record`.
 mod Again
 pub mod Callers
-pub mod Elements
 pub mod Exact
 mod Fields
 mod Heads

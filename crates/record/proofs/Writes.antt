@@ -1,8 +1,9 @@
 -- The writing functions: each part is stored after the one before it, so the buffer holds the definition's bytes. Assumes nothing.
 use Prim.Native.Nat.{ℕ, _+_, _*_, _^_, _≤_, _<_}
-use mathlib.Core.List.{List, [], _∷_, _++_, append-assoc, append-nil}
-use mathlib.Core.Path.{_≡_, refl, sym, ap, _∙_, subst}
-use borrow.Author.Tests.{eq-eqb, ne-eqb}
+use mathlib.Core.Bool.{Bool, true, false}
+use mathlib.Core.List.{List, [], _∷_, _++_, append-assoc}
+use mathlib.Core.Path.{_≡_, refl, sym, ap, _∙_}
+use native.Mathlib.Nat.{add-zero}
 use native.Mathlib.Numerals.{add-one}
 use native.Mathlib.Omega.{arith}
 use lib.ListN.{length, getD, drop, set, length-set, length-drop}
@@ -12,18 +13,18 @@ use mir.Val.{Fits}
 use Rattle.algebra.proofs.Written.{sets-append}
 use Rattle.field.proofs.ByteWords.{length-leBytes}
 use Rattle.field.specs.Bytes.{leBytes}
-use Rattle.field.specs.Inner.Written.{withWord}
-use Rattle.number.proofs.Places.{choose-yes, choose-no, wrote-then, room-front, room-back}
-use Rattle.number.specs.Number.{writeNumber}
+use Rattle.field.specs.ByNumber.{oneNoise, elementOf}
+use Rattle.field.specs.Inner.Elements.{elementLength}
+use Rattle.field.specs.Inner.Written.{withWord, withWords}
+use Rattle.number.proofs.Places.{choose-no, wrote-then, room-front, room-back}
 use Rattle.number.specs.Inner.Written.{Room, Wrote}
 use Rattle.number.specs.Reading.{part}
-use Rattle.record.proofs.Lengths.{length-words, blocks-part}
-use Rattle.record.specs.Content.{elementOf}
+use Rattle.record.proofs.Lengths.{length-element, blocks-part}
 use Rattle.record.specs.Inner.Heads.{headFrom, scalarWith}
 use Rattle.record.specs.declared.Front.{Front}
 use Rattle.record.specs.Reading.{items, blockAt}
 use Rattle.record.specs.Writing.{writeEach, writeWords, writeBlocks, writeHead, writeValue, writeScalar}
-use Rattle.record.specs.Inner.Lengths.{sizesBytes, frontBytes}
+use Rattle.record.specs.Inner.Lengths.{sizesBytes}
 
 -- one part after another
 pub after : {b c : List ℕ} (b₀ : List ℕ) (at : ℕ) {next : ℕ} (u v : List ℕ) → b ≡ sets b₀ at u → next ≡ at + length u → c ≡ sets b next v → c ≡ sets b₀ at (u ++ v)
@@ -66,67 +67,45 @@ module _ (b₀ : List ℕ) (at : ℕ) (s : List ℕ) (start count : ℕ) (room :
           stored = done ∙ ap (λ (n : ℕ). sets b₀ at (part s start n)) {x = i} {y = count} (omega arith);
         }
 
--- ---- words
+-- ---- noise values and elements
 
--- a word stored
-pub word-wrote : {b : List ℕ} (b₀ : List ℕ) (at x : ℕ) → b ≡ withWord b₀ at x → Wrote b₀ at (writeWords (x ∷ [])) (at + 8) b
-unfolding withWord writeEach
-word-wrote b₀ at x w = record { place = rw (append-nil, length-leBytes); stored = rw append-nil w }
+module _ (b₀ : List ℕ) (at field value : ℕ) {o : Bool} (one : o ≡ oneNoise field) where
+  pub value-none : o ≡ true → Wrote b₀ at (writeValue field value) at b₀
+  value-none e = rw (sym one ∙ e) (record { place = sym (add-zero at); stored = refl })
 
-two-words : (x y : ℕ) → writeWords (x ∷ y ∷ []) ≡ writeWords (x ∷ []) ++ writeWords (y ∷ [])
-unfolding writeEach
-two-words x y = ap (λ w. w ++ writeWords (y ∷ [])) (sym (append-nil (leBytes 8 x)))
+  module _ (many : o ≡ false) where
+    word : writeValue field value ≡ leBytes 8 value
+    word = choose-no [] (leBytes 8 value) (sym one ∙ many)
 
-module _ (b₀ : List ℕ) (at x y : ℕ) (room : Room b₀ at (writeWords (x ∷ y ∷ []))) where
-  words-long : at + 16 ≤ length b₀
-  words-long = omega (arith, room .fits, length-words (x ∷ y ∷ []))
+    pub value-room : Room b₀ at (writeValue field value) → at + 8 ≤ length b₀
+    value-room r = omega (arith, r .fits, ap length word, length-leBytes 8 value)
 
-  pub words-room-1 : at + 8 ≤ length b₀
-  words-room-1 = omega (arith, words-long)
-
-  pub words-fits-1 : length b₀ < 2 ^ 64 → Fits w64 (at + 8)
-  words-fits-1 h = record { fits = omega (arith, words-long) }
-
-  pub words-fits-2 : length b₀ < 2 ^ 64 → Fits w64 (at + 16)
-  words-fits-2 h = record { fits = omega (arith, words-long) }
-
-  module _ {b : List ℕ} (w₁ : b ≡ withWord b₀ at x) where
-    pub words-room-2 : at + 8 + 8 ≤ length b
+    pub value-wrote : {b : List ℕ} → b ≡ withWord b₀ at value → Wrote b₀ at (writeValue field value) (at + 8) b
     unfolding withWord
-    words-room-2 = omega (arith, words-long, as-long b₀ at (leBytes 8 x) w₁)
+    value-wrote w = rw word (record { place = rw length-leBytes; stored = w })
 
-    pub words-wrote : {c : List ℕ} → c ≡ withWord b (at + 8) y → Wrote b₀ at (writeWords (x ∷ y ∷ [])) (at + 16) c
-    words-wrote {c} w₂ =
-        rw two-words
-        (subst (λ n. Wrote b₀ at (writeWords (x ∷ []) ++ writeWords (y ∷ [])) n c) (omega arith)
-        (wrote-then (word-wrote b₀ at x w₁) (word-wrote b (at + 8) y w₂)))
+-- words stored one after the other
+stored-words : (b₀ : List ℕ) (at : ℕ) (ws : List ℕ) → withWords b₀ at ws ≡ sets b₀ at (writeWords ws)
+unfolding withWords withWord writeEach
+stored-words b₀ at [] = refl
+stored-words b₀ at (w ∷ ws) =
+    stored-words (sets b₀ at (leBytes 8 w)) (at + 8) ws
+    ∙ after b₀ at (leBytes 8 w) (writeWords ws) refl (ap (λ (n : ℕ). at + n) (sym (length-leBytes 8 w))) refl
 
--- the words of an element
-pub element-two : (field low high : ℕ) → field ≡ 1 → elementOf field low high ≡ low ∷ high ∷ []
-element-two field low high f = choose-yes (low ∷ high ∷ []) (low ∷ []) (eq-eqb field 1 f)
+module _ (b₀ : List ℕ) (at field low high : ℕ) where
+  pub element-room : Room b₀ at (writeWords (elementOf field low high)) → at + elementLength field ≤ length b₀
+  element-room r = omega (arith, r .fits, length-element field low high)
 
-pub element-one : (field low high : ℕ) → (field ≡ 1 → ⊥) → elementOf field low high ≡ low ∷ []
-element-one field low high f = choose-no (low ∷ high ∷ []) (low ∷ []) (ne-eqb field 1 f)
+  module _ {n : ℕ} (long : n ≡ elementLength field) where
+    pub element-fits : Room b₀ at (writeWords (elementOf field low high)) → length b₀ < 2 ^ 64 → Fits w64 (at + n)
+    element-fits r h = record { fits = omega (arith, element-room r, long) }
 
-module _ (b₀ : List ℕ) (at field low high : ℕ) (room : Room b₀ at (writeWords (elementOf field low high))) where
-  pub element-room-1 : field ≡ 1 → Room b₀ at (writeWords (low ∷ high ∷ []))
-  element-room-1 f = rw (element-two field low high f) at room
-
-  one-word : (field ≡ 1 → ⊥) → at + 8 ≤ length b₀
-  one-word f = omega (arith, room .fits, length-words (elementOf field low high), ap length (element-one field low high f))
-
-  pub element-room-2 : (field ≡ 1 → ⊥) → at + 8 ≤ length b₀
-  element-room-2 f = one-word f
-
-  pub element-fits : (field ≡ 1 → ⊥) → length b₀ < 2 ^ 64 → Fits w64 (at + 8)
-  element-fits f h = record { fits = omega (arith, one-word f) }
-
-module _ (b₀ : List ℕ) (at : ℕ) (words : List ℕ) {b : List ℕ} where
-  pub element-wrote-1 : (low high : ℕ) {next : ℕ} → words ≡ low ∷ high ∷ [] → Wrote b₀ at (writeWords (low ∷ high ∷ [])) next b → Wrote b₀ at (writeWords words) next b
-  element-wrote-1 low high e w = rw e w
-
-  pub element-wrote-2 : (low : ℕ) → words ≡ low ∷ [] → b ≡ withWord b₀ at low → Wrote b₀ at (writeWords words) (at + 8) b
-  element-wrote-2 low e w = rw e (word-wrote b₀ at low w)
+    pub element-wrote : {b : List ℕ} → b ≡ withWords b₀ at (elementOf field low high) → Wrote b₀ at (writeWords (elementOf field low high)) (at + n) b
+    element-wrote w =
+        record {
+          place = ap (λ (k : ℕ). at + k) (long ∙ sym (length-element field low high));
+          stored = w ∙ stored-words b₀ at (elementOf field low high);
+        }
 
 -- ---- four parts one after the other
 
@@ -201,24 +180,16 @@ module _ (b₀ : List ℕ) (end : ℕ) (f : Front) (key label : List ℕ) (room 
 
 -- ---- a tree up to its siblings
 
-module _ (b₀ : List ℕ) (at field back value : ℕ) (words : List ℕ) {next : ℕ} {b₁ : List ℕ} (w₁ : Wrote b₀ at (writeNumber back) next b₁) where
-  module _ (low high : ℕ) (f : field ≡ 1) (two : words ≡ low ∷ high ∷ []) where
-    pub front-room-1 : Room b₀ at (frontBytes field back value words) → Room b₁ next (writeWords (low ∷ high ∷ []))
-    front-room-1 r = rw (f, two) at (room-back (writeNumber back) (writeValue field value ++ writeWords words) w₁ r)
+module _ (b₀ : List ℕ) (at : ℕ) (u v w : List ℕ) (room : Room b₀ at (u ++ (v ++ w))) {next : ℕ} {b₁ : List ℕ} (w₁ : Wrote b₀ at u next b₁) where
+  pub front-value : Room b₁ next v
+  front-value = room-front v w (room-back u (v ++ w) w₁ room)
 
-    pub front-wrote-1 : {end : ℕ} {b₂ : List ℕ} → Wrote b₁ next (writeWords (low ∷ high ∷ [])) end b₂ → Wrote b₀ at (frontBytes field back value words) end b₂
-    front-wrote-1 w₂ = rw (f, two) (wrote-then w₁ w₂)
+  module _ {middle : ℕ} {b₂ : List ℕ} (w₂ : Wrote b₁ next v middle b₂) where
+    pub front-element : Room b₂ middle w
+    front-element = room-back v w w₂ (room-back u (v ++ w) w₁ room)
 
-  module _ (low : ℕ) (f : field ≡ 1 → ⊥) (one : words ≡ low ∷ []) where
-    value-word : writeValue field value ++ writeWords words ≡ writeWords (value ∷ low ∷ [])
-    unfolding writeEach
-    value-word = rw (one, ne-eqb field 1 f)
-
-    pub front-room-2 : Room b₀ at (frontBytes field back value words) → Room b₁ next (writeWords (value ∷ low ∷ []))
-    front-room-2 r = rw value-word at (room-back (writeNumber back) (writeValue field value ++ writeWords words) w₁ r)
-
-    pub front-wrote-2 : {end : ℕ} {b₂ : List ℕ} → Wrote b₁ next (writeWords (value ∷ low ∷ [])) end b₂ → Wrote b₀ at (frontBytes field back value words) end b₂
-    front-wrote-2 w₂ = rw value-word (wrote-then w₁ w₂)
+    pub front-wrote : {end : ℕ} {b₃ : List ℕ} → Wrote b₂ middle w end b₃ → Wrote b₀ at (u ++ (v ++ w)) end b₃
+    front-wrote w₃ = wrote-then w₁ (wrote-then w₂ w₃)
 
 -- ---- the scalar record
 

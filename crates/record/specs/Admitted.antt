@@ -1,20 +1,15 @@
--- What a record may hold (document 01, 'Two fields', 'Sizes', 'Trees', 'Dealing'): the tests of its fields, and the content that
--- passes them.
-use Prim.Native.Nat.{ℕ, _-_, _/_, _%_, _^_, _<_, min}
-use mathlib.Core.Bool.{Bool, true, not, _&&_, _||_}
+-- What a record may hold (document 01, 'Sizes', 'Trees', 'Dealing'): the tests of its sizes, and the content that passes all tests.
+use Prim.Native.Nat.{ℕ, _/_, _%_, _^_, _<_, min}
+use mathlib.Core.Bool.{Bool, true, _&&_}
 use mathlib.Core.List.{List, [], _∷_}
 use mathlib.Core.Path.{_≡_}
 use lib.Dec.{leb, ltb, eqb}
-use lib.ListN.{length, getD}
+use lib.ListN.{length}
 use Rattle.algebra.specs.Expansion.{Rising}
-use Rattle.field.specs.Prime.{modulus}
-use Rattle.number.specs.Reading.{choose, Bytes}
-use Rattle.field.specs.Kind.{kindOf, elementWords}
+use Rattle.field.specs.ByNumber.{isField, isNoise, isElement, isScalar}
+use Rattle.field.specs.Kind.{elementWords}
+use Rattle.number.specs.Reading.{Bytes}
 use Rattle.record.specs.Content.{Head, NoiseTree, NoisePart, ScalarPart, siblingCount, treeIn}
-
--- Two fields: 1 is binary, 2 is prime
-abbrev pub isField : ℕ → Bool
-isField field = eqb field 1 || eqb field 2
 
 -- Sizes: 1 to the largest
 abbrev pub isSize : ℕ → ℕ → Bool
@@ -35,22 +30,6 @@ mostTerms depth = min 32 (2 ^ depth)
 -- Sizes: n is 1 to N / 2
 abbrev pub mostOutputs : ℕ → ℕ
 mostOutputs depth = 2 ^ depth / 2
-
--- Dealing: a noise value is 1 in field 1, 1 to p − 1 in field 2
-abbrev pub isNoise : ℕ → ℕ → Bool
-isNoise field value = choose (eqb field 1) (eqb value 1) (isSize (modulus - 1) value)
-
--- Two fields: words that are an element of the field: in field 1 every block is one, in field 2 a word below p
-abbrev pub isElement : ℕ → List ℕ → Bool
-isElement field words = kindOf field .field .scaled .group .isElement (kindOf field .field .elements .read words 0)
-
--- the element of these words is zero: both words in field 1, the one word in field 2
-abbrev pub isZero : ℕ → List ℕ → Bool
-isZero field words = choose (eqb field 1) (eqb (getD words 0 0) 0 && eqb (getD words 1 0) 0) (eqb (getD words 0 0) 0)
-
--- Dealing: Δ is an element and never zero
-abbrev pub isScalar : ℕ → List ℕ → Bool
-isScalar field words = isElement field words && not (isZero field words)
 
 -- every member of a list is such
 unfoldable pub Each : {A : Type 0} → (A → Type 0) → List A → Type 0

@@ -1,9 +1,7 @@
 -- The content of key records (document 01, 'Sizes', 'Key records').
 use Prim.Native.Nat.{ℕ, _-_, _*_, _/_, _^_}
-use mathlib.Core.List.{List, [], _∷_}
-use lib.Dec.{eqb}
+use mathlib.Core.List.{List, []}
 use lib.ListN.{getD}
-use Rattle.number.specs.Reading.{choose}
 
 -- the head: field, d, g (document 02, 10), t, ℓ, n, the 16 bytes of the code key and those of the
 -- label (document 02, 8)
@@ -39,10 +37,6 @@ pub record ScalarPart : Type 0 where
   pub head : Head
   pub delta : List ℕ
   pub roots : List (List ℕ)
-
--- the element of a first and a second word
-abbrev pub elementOf : ℕ → ℕ → ℕ → List ℕ
-elementOf field low high = choose (eqb field 1) (low ∷ high ∷ []) (low ∷ [])
 
 -- tree i of a list of trees
 abbrev pub treeIn : List NoiseTree → ℕ → NoiseTree

@@ -6,10 +6,11 @@ use lib.Dec.{leb, ltb, eqb}
 use lib.ListN.{length}
 use Rattle.answer.specs.Numbers.{badField, badSize, badPosition, badNoise, badDelta, notElement, wrongEnd, recordEnds, bytesAfter}
 use Rattle.field.specs.Bytes.{wordAt}
+use Rattle.field.specs.ByNumber.{isField, isNoise, oneNoise, isElement, isScalar}
+use Rattle.field.specs.Kind.{elementWords}
 use Rattle.number.specs.Number.{readNumber}
 use Rattle.number.specs.Reading.{Reading, Whole, Refused, Step, then, choose, tested, part, readByte, readBytes}
-use Rattle.record.specs.Admitted.{isField, isSize, mostTrees, mostTerms, mostOutputs, isNoise, isElement, isScalar}
-use Rattle.field.specs.Kind.{elementWords}
+use Rattle.record.specs.Admitted.{isSize, mostTrees, mostTerms, mostOutputs}
 use Rattle.record.specs.Content.{Head, NoiseTree, NoisePart, ScalarPart, siblingCount}
 
 -- ---- fields
@@ -49,7 +50,7 @@ readPosition base all s at = tested (then (readNumber s at) λ x next. Whole (ba
 -- a noise value, in field 2 only; 5: not admitted
 unfoldable pub readValue : ℕ → List ℕ → ℕ → Step ℕ
 readValue field s at =
-    choose (eqb field 1) (Whole (1, at))
+    choose (oneNoise field) (Whole (1, at))
     (tested (choose (leb (at + 8) (length s)) (Whole (wordAt s at, at + 8)) (Refused recordEnds)) (λ y. isNoise field y) badNoise)
 
 -- a correction; 8: not an element

@@ -1,8 +1,8 @@
 -- The writing of key records (document 01, 'Key records').
 use Prim.Native.Nat.{ℕ, _+_, _-_}
 use mathlib.Core.List.{List, [], _∷_, _++_}
-use lib.Dec.{eqb}
 use Rattle.field.specs.Bytes.{leBytes}
+use Rattle.field.specs.ByNumber.{oneNoise}
 use Rattle.number.specs.Number.{writeNumber}
 use Rattle.number.specs.Reading.{choose}
 use Rattle.record.specs.Content.{Head, NoiseTree, NoisePart, ScalarPart}
@@ -29,7 +29,7 @@ writeHead end h =
 
 -- the noise value: field 2 only, 8 LE bytes
 abbrev pub writeValue : ℕ → ℕ → List ℕ
-writeValue field value = choose (eqb field 1) [] (leBytes 8 value)
+writeValue field value = choose (oneNoise field) [] (leBytes 8 value)
 
 -- a tree up to its siblings: the position less `base`, the noise value, the correction. `base` is 0 for the first tree, and
 -- for each later one the position before plus 1, so that its difference from the one before, less 1, is written

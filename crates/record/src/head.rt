@@ -14,6 +14,7 @@ use answer::BAD_FIELD;
 use answer::BAD_SIZE;
 use answer::RECORD_ENDS;
 use answer::WRONG_END;
+use field::is_field;
 use number::Number;
 use number::fault_of;
 use number::read_number;
@@ -105,11 +106,9 @@ pub fn read_field(source: &[u8], end: u8) -> Number
     if source.len() <= 1 {
         return Number::Fault(RECORD_ENDS);
     }
-    if source[1] == 1 {
-        return Number::Value(1, 2);
-    }
-    if source[1] == 2 {
-        return Number::Value(2, 2);
+    let field = source[1] as usize;
+    if is_field(field) {
+        return Number::Value(field, 2);
     }
     Number::Fault(BAD_FIELD)
 }

@@ -3,10 +3,10 @@ ghost use mathlib.Core.Bool.{true};
 ghost use mathlib.Core.Path.{_≡_};
 ghost use Prim.Native.Nat.{_+_, _*_, _^_, _≤_, _<_};
 ghost use lib.ListN.{getD};
+ghost use Rattle.field.specs.ByNumber.{elementOf};
 ghost use Rattle.number.specs.Answer.{numberRead};
 ghost use Rattle.number.specs.Reading.{Whole};
 ghost use Rattle.number.specs.Inner.Known.{isWhole};
-ghost use Rattle.record.specs.Content.{elementOf};
 ghost use Rattle.record.specs.Reading.{readPosition, readTree, readHead, readNoise};
 ghost use Rattle.record.specs.Inner.Answers.{treeFront, treeOf};
 ghost use Rattle.record.specs.Answer.{frontOf, opened};
@@ -20,6 +20,8 @@ use crate::head::sibling_count;
 use crate::head::skip;
 use answer::BAD_POSITION;
 use answer::BYTES_AFTER;
+use field::element_at;
+use field::one_noise;
 use field::word_at;
 use number::Number;
 use number::fault_of;
@@ -117,22 +119,23 @@ pub fn known_tree(
     let number = known_number(source, at);
     let next = number.next;
     let position = base + number.number;
-    let first = word_at(source, next);
-    let second = word_at(source, next + 8);
-    if field == 1 {
+    if one_noise(field) {
+        let correction = element_at(field, source, next);
         return Tree {
             position: position,
             value: 1,
-            low: first,
-            high: second,
+            low: correction.low,
+            high: correction.high,
             siblings: next + 16,
         };
     }
+    let value = word_at(source, next);
+    let correction = element_at(field, source, next + 8);
     Tree {
         position: position,
-        value: first,
-        low: second,
-        high: 0,
+        value: value,
+        low: correction.low,
+        high: correction.high,
         siblings: next + 16,
     }
 }

@@ -1,18 +1,20 @@
 // Writing records into a lent buffer, and their lengths.
-ghost use mathlib.Core.List.{[], _∷_};
 ghost use mathlib.Core.Path.{_≡_};
 ghost use Prim.Native.Nat.{_+_, _*_, _^_, _≤_, _<_};
 ghost use lib.ListN.{length};
+ghost use Rattle.field.specs.ByNumber.{elementOf};
 ghost use Rattle.number.specs.Inner.Written.{numbers, Room, Wrote};
 ghost use Rattle.number.specs.Reading.{part};
 ghost use Rattle.record.specs.Inner.Rising.{RisesFrom};
-ghost use Rattle.record.specs.Content.{elementOf};
 ghost use Rattle.record.specs.Inner.Heads.{headFrom, scalarWith};
-ghost use Rattle.record.specs.Writing.{writeHead, writeWords, writeScalar};
+ghost use Rattle.record.specs.Writing.{writeHead, writeValue, writeWords, writeScalar};
 ghost use Rattle.record.specs.Inner.Lengths.{Writable, afterDepthBytes, sizesBytes, frontBytes, headLength, frontLength, treeLength, noiseLength, scalarLength};
 use crate::Front;
-use crate::element::element_length;
 use crate::head::sibling_count;
+use field::Element;
+use field::element_length;
+use field::one_noise;
+use field::put_element;
 use field::put_word;
 use number::number_length;
 use number::write_number;
@@ -30,26 +32,25 @@ pub fn write_bytes(buffer: &mut [u8], at: usize, from: &[u8], start: usize, coun
     at + count
 }
 
-// Writes two words from a place on; the place after them.
-fn write_words(buffer: &mut [u8], at: usize, first: u64, second: u64) -> usize
-    requires { ⌜ Room (now buffer) at (writeWords (first ∷ second ∷ [])) ⌝ }
-    ensures { λ r. ⌜ Wrote (now (buffer .entry)) at (writeWords (first ∷ second ∷ [])) r (now (buffer .exit)) ⌝ }
+// Writes a noise value from a place on, none where it is always 1; the place after it.
+fn write_value(buffer: &mut [u8], at: usize, field: usize, value: u64) -> usize
+    requires { ⌜ Room (now buffer) at (writeValue field value) ⌝ }
+    ensures { λ r. ⌜ Wrote (now (buffer .entry)) at (writeValue field value) r (now (buffer .exit)) ⌝ }
 {
-    put_word(buffer, at, first);
-    put_word(buffer, at + 8, second);
-    at + 16
+    if one_noise(field) {
+        return at;
+    }
+    put_word(buffer, at, value);
+    at + 8
 }
 
-// Writes an element's words from a place on; the place after them.
-fn write_element(buffer: &mut [u8], at: usize, field: usize, low: u64, high: u64) -> usize
-    requires { ⌜ Room (now buffer) at (writeWords (elementOf field low high)) ⌝ }
-    ensures { λ r. ⌜ Wrote (now (buffer .entry)) at (writeWords (elementOf field low high)) r (now (buffer .exit)) ⌝ }
+// Writes an element from a place on; the place after it.
+fn write_element(buffer: &mut [u8], at: usize, field: usize, element: Element) -> usize
+    requires { ⌜ Room (now buffer) at (writeWords (elementOf field (element .low) (element .high))) ⌝ }
+    ensures { λ r. ⌜ Wrote (now (buffer .entry)) at (writeWords (elementOf field (element .low) (element .high))) r (now (buffer .exit)) ⌝ }
 {
-    if field == 1 {
-        return write_words(buffer, at, low, high);
-    }
-    put_word(buffer, at, low);
-    at + 8
+    put_element(field, buffer, at, element);
+    at + element_length(field)
 }
 
 // Writes g, t, ℓ and n from a place on; the place after them.
@@ -91,17 +92,14 @@ pub fn write_front(
     field: usize,
     back: usize,
     value: u64,
-    low: u64,
-    high: u64,
+    correction: Element,
 ) -> usize
-    requires { ⌜ (back < numbers) × (Room (now buffer) at (frontBytes field back value (elementOf field low high))) ⌝ }
-    ensures { λ r. ⌜ Wrote (now (buffer .entry)) at (frontBytes field back value (elementOf field low high)) r (now (buffer .exit)) ⌝ }
+    requires { ⌜ (back < numbers) × (Room (now buffer) at (frontBytes field back value (elementOf field (correction .low) (correction .high)))) ⌝ }
+    ensures { λ r. ⌜ Wrote (now (buffer .entry)) at (frontBytes field back value (elementOf field (correction .low) (correction .high))) r (now (buffer .exit)) ⌝ }
 {
     let next = write_number(buffer, at, back);
-    if field == 1 {
-        return write_words(buffer, next, low, high);
-    }
-    write_words(buffer, next, value, low)
+    let middle = write_value(buffer, next, field, value);
+    write_element(buffer, middle, field, correction)
 }
 
 // Writes the scalar record at the buffer's front; its length.
@@ -110,15 +108,14 @@ pub fn write_scalar(
     front: Front,
     code_key: &[u8],
     label: &[u8],
-    low: u64,
-    high: u64,
+    delta: Element,
     roots: &[u8],
 ) -> usize
-    requires { ⌜ (Writable front) × (length (now «code_key») ≡ 16) × (length (now label) ≡ 16) × (length (now roots) ≡ 16 * front .trees) × (Room (now buffer) 0 (writeScalar (scalarWith front (now «code_key») (now label) (elementOf (front .field) low high) (now roots)))) ⌝ }
-    ensures { λ r. ⌜ Wrote (now (buffer .entry)) 0 (writeScalar (scalarWith front (now («code_key» .entry)) (now (label .entry)) (elementOf (front .field) low high) (now (roots .entry)))) r (now (buffer .exit)) ⌝ }
+    requires { ⌜ (Writable front) × (length (now «code_key») ≡ 16) × (length (now label) ≡ 16) × (length (now roots) ≡ 16 * front .trees) × (Room (now buffer) 0 (writeScalar (scalarWith front (now «code_key») (now label) (elementOf (front .field) (delta .low) (delta .high)) (now roots)))) ⌝ }
+    ensures { λ r. ⌜ Wrote (now (buffer .entry)) 0 (writeScalar (scalarWith front (now («code_key» .entry)) (now (label .entry)) (elementOf (front .field) (delta .low) (delta .high)) (now (roots .entry)))) r (now (buffer .exit)) ⌝ }
 {
     let at = write_head(buffer, 2, front, code_key, label);
-    let next = write_element(buffer, at, front.field, low, high);
+    let next = write_element(buffer, at, front.field, delta);
     write_bytes(buffer, next, roots, 0, 16 * front.trees)
 }
 

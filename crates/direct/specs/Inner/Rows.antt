@@ -3,23 +3,18 @@
 use mathlib.Core.Path.{_≡_}
 use mathlib.Core.List.{List, [], _∷_}
 use Prim.Native.Nat.{ℕ, zero, suc, _+_, _-_, _*_, _/_, _^_, _≤_, _<_}
-use lib.Dec.{eqb, leb}
+use lib.Dec.{leb}
 use lib.ListN.{length, getD}
 use Rattle.algebra.specs.Choice.{choose}
 use Rattle.algebra.specs.Coding.{over}
 use Rattle.algebra.specs.Field.{Field, NoiseValue, Value}
-use Rattle.field.specs.Binary.{bitAdd}
 use Rattle.field.specs.Kind.{kindOf}
-use Rattle.field.specs.Prime.{prime, primeAdd}
+use Rattle.field.specs.Inner.Elements.{noiseIn, noiseSum}
 use Rattle.field.specs.Words.{oneWord}
 use Rattle.record.specs.declared.Front.{Front}
 use Rattle.tree.specs.Added.{added}
-use Rattle.direct.specs.Inner.Vectors.{fieldFor, noiseIn, rowIn}
+use Rattle.direct.specs.Inner.Vectors.{fieldFor, rowIn}
 use Rattle.direct.specs.declared.entries.Batch.{Batch}
-
--- the sum of two noise values' words
-unfoldable pub noiseSum : ℕ → ℕ → ℕ → ℕ
-noiseSum field a b = choose (eqb field 1) (bitAdd a b) (primeAdd (prime a) (prime b) .word)
 
 -- row k's entry of the code matrix at place j of the strip
 unfoldable pub entryIn : (field : ℕ) → List ℕ → ℕ → ℕ → NoiseValue (kindOf field .field)

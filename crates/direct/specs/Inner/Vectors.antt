@@ -1,5 +1,5 @@
 -- Inner: no promise cites this file. The three vectors by a number, μ 1, v0 2 and w0 3, of a record by its front: how their values
--- are added, scaled and written, and an element of either field as two words.
+-- are added, scaled and written.
 use mathlib.Core.Bool.{Bool, true, false}
 use mathlib.Core.List.{List, [], _∷_}
 use Prim.Native.Nat.{ℕ, _^_}
@@ -7,19 +7,19 @@ use lib.Dec.{eqb}
 use lib.ListN.{getD}
 use Rattle.algebra.specs.Choice.{choose}
 use Rattle.algebra.specs.Coding.{Coding, flat}
-use Rattle.algebra.specs.Field.{Field, NoiseValue, Value}
+use Rattle.algebra.specs.Field.{Field, Value}
 use Rattle.algebra.specs.Group.{Scaled, itself}
 use Rattle.algebra.specs.Row.{Row, entry, rowTimes}
 use Rattle.code.specs.Row.{rowOfBlocks}
 use Rattle.code.specs.Inner.Rows.{termBlockBy}
 use Rattle.field.specs.Kind.{kindOf}
+use Rattle.field.specs.declared.element.Element.{Element}
 use Rattle.ends.specs.Noise.Vectors as noise
 use Rattle.ends.specs.Inner.Noise as noiseReady
 use Rattle.ends.specs.Scalar.Vectors as scalar
 use Rattle.ends.specs.Inner.Scalar as scalarReady
 use Rattle.record.specs.declared.Front.{Front}
 use Rattle.record.specs.Content.{treeIn}
-use Rattle.direct.specs.declared.elements.Element.{Element}
 
 -- the values of μ are noise values, those of v0 and w0 elements
 abbrev pub scaledBy : Bool → (field : ℕ) → Scaled (kindOf field .field .ring)
@@ -42,13 +42,7 @@ fieldBy b field =
 abbrev pub fieldFor : ℕ → ℕ → Field
 fieldFor vector field = fieldBy (eqb vector 1) field
 
--- a noise value of a word, and an element of two words
-abbrev pub noiseIn : (field : ℕ) → ℕ → NoiseValue (kindOf field .field)
-noiseIn field w = kindOf field .field .noiseValues .read (w ∷ []) 0
-
-unfoldable pub elementIn : (field : ℕ) → Element → Value (kindOf field .field)
-elementIn field e = kindOf field .field .elements .read (e .low ∷ e .high ∷ []) 0
-
+-- a value of two words
 abbrev pub valueIn : (vector field : ℕ) → Element → Value (fieldFor vector field)
 valueIn vector field e = fieldFor vector field .elements .read (e .low ∷ e .high ∷ []) 0
 

@@ -3,8 +3,9 @@ use Prim.Native.Nat.{ℕ, _+_}
 use mathlib.Core.List.{List}
 use lib.Dec.{leb}
 use lib.ListN.{length, getD}
+use Rattle.field.specs.ByNumber.{elementOf}
 use Rattle.number.specs.Reading.{Whole, Refused, Step, choose}
-use Rattle.record.specs.Content.{NoiseTree, elementOf}
+use Rattle.record.specs.Content.{NoiseTree}
 use Rattle.record.specs.declared.Tree.{Tree}
 use Rattle.record.specs.Reading.{items, blockAt}
 

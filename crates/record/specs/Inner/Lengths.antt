@@ -3,14 +3,10 @@ use Prim.Native.Nat.{ℕ, _+_, _-_, _*_, _≤_, _<_}
 use mathlib.Core.List.{List, [], _∷_, _++_}
 use mathlib.Core.Path.{_≡_}
 use Rattle.number.specs.Number.{numberLength, writeNumber}
-use Rattle.field.specs.Kind.{elementWords}
+use Rattle.field.specs.Inner.Elements.{elementLength}
 use Rattle.record.specs.Content.{siblingCount}
 use Rattle.record.specs.Writing.{writeValue, writeWords}
 use Rattle.record.specs.declared.Front.{Front}
-
--- an element takes 16 bytes (field 1) or 8 (field 2)
-abbrev pub elementLength : ℕ → ℕ
-elementLength field = 8 * elementWords field
 
 -- g, t, ℓ and n
 abbrev pub afterDepthBytes : Front → List ℕ

@@ -8,7 +8,7 @@ pub write-planned-spec : {M : Type 1} → statement M
 write-planned-spec =
     tie.close
     (tie.spec
-    (λ c κs. search needs)  -- correction-words-requires
+    (λ c κs. search needs)  -- correction-requires
     (λ c. search needs)  -- sub-back
     (λ c κs. (search needs, search planned-room))  -- write-front-requires
     (λ c. search needs)  -- same-length

@@ -1,6 +1,6 @@
 -- `dealing::scalar::write_scalar_part` meets its contract. Assumes nothing.
 use borrow.Author.Needs.{needs}
-use Rattle.dealing.proofs.Deals.{scalar-low, scalar-high, scalar-fits, scalar-wrote}
+use Rattle.dealing.proofs.Deals.{scalar-room, scalar-fits, scalar-wrote}
 use Rattle.dealing.proofs.scalar.write_scalar_part.Statement.{statement}
 use Rattle.dealing.proofs.scalar.write_scalar_part.Tie as tie
 
@@ -8,8 +8,7 @@ pub write-scalar-part-spec : {M : Type 1} → statement M
 write-scalar-part-spec =
     tie.close
     (tie.spec
-    (λ c κs. search scalar-low)  -- word-at-requires
-    (λ c κs. search scalar-high)  -- word-at-requires-2
+    (λ c κs. search scalar-room)  -- element-at-requires
     (λ c κs. (search needs, search needs, search needs, search needs, search scalar-fits))  -- write-scalar-requires
     (λ c. search needs)  -- same-length
     (λ c. search scalar-wrote)  -- returns

@@ -1,6 +1,6 @@
--- `pairing::held::held_at` meets its contract, field by field. Assumes nothing.
+-- `pairing::held::held_at` meets its contract. Assumes nothing.
 use borrow.Author.Needs.{needs}
-use Rattle.pairing.proofs.Turns.{at-binary, at-prime}
+use Rattle.pairing.proofs.Turns.{at-held, at-lost}
 use Rattle.pairing.proofs.held.held_at.Statement.{statement}
 use Rattle.pairing.proofs.held.held_at.Tie as tie
 
@@ -8,30 +8,14 @@ pub held-at-spec : {M : Type 1} → statement M
 held-at-spec =
     tie.close
     (tie.spec
-    (λ c. search needs)  -- mul-low
-    (λ c. search needs)  -- shared-slice-read-block-holds
-    (λ c. search needs)  -- shared-slice-read-t15
-    (λ c. search needs)  -- mul-block-holds
-    (λ c. search needs)  -- shared-slice-read-block-holds-2
-    (λ c. search needs)  -- add-t18
-    (λ c. search needs)  -- mul-t19
-    (λ c. search needs)  -- shared-slice-read-t15-2
-    (λ c. search needs)  -- mul-t16
-    (λ c. search needs)  -- shared-slice-read-t15-3
-    (λ c. search needs)  -- add-block-holds
-    (λ c. search needs)  -- mul-block-holds-2
-    (λ c. search needs)  -- shared-slice-read-block-holds-3
-    (λ c. search needs)  -- mul-block-holds-3
-    (λ c. search needs)  -- shared-slice-read-block-holds-4
-    (λ c κs. search needs)  -- block-holds-requires
-    (λ c. search at-binary)  -- returns
-    (λ c. search needs)  -- shared-slice-read-t25
-    (λ c. search needs)  -- mul-t27
-    (λ c. search needs)  -- shared-slice-read-t29
-    (λ c. search needs)  -- mul-t31
-    (λ c. search needs)  -- shared-slice-read-t33
-    (λ c. search needs)  -- mul-t35
-    (λ c. search needs)  -- shared-slice-read-t37
-    (λ c κs. search needs)  -- prime-holds-requires
-    (λ c. search at-prime)  -- returns-2
+    (λ c κs. search needs)  -- element-of-requires
+    (λ c. search needs)  -- mul-element-scaled
+    (λ c. search needs)  -- shared-slice-read-element-scaled
+    (λ c κs. search needs)  -- element-scaled-requires
+    (λ c κs. search needs)  -- element-of-requires-2
+    (λ c κs. search needs)  -- element-sum-requires
+    (λ c κs. search needs)  -- element-of-requires-3
+    (λ c κs. search needs)  -- same-element-requires
+    (λ c. search at-held)  -- returns
+    (λ c. search at-lost)  -- returns-2
     )

@@ -1,6 +1,7 @@
 -- `record::head::read_field` meets its contract: one law for each return. Assumes nothing.
-use Rattle.record.proofs.Fields.{field-ends-0, other-end, field-ends-1, field-1, field-2, field-unknown}
+use Rattle.record.proofs.Fields.{field-ends-0, other-end, field-ends-1, field-known, field-unknown}
 use borrow.Author.Needs.{needs}
+use native.Mathlib.Omega.{arith}
 use Rattle.record.proofs.head.read_field.Statement.{statement}
 use Rattle.record.proofs.head.read_field.Tie as tie
 
@@ -12,9 +13,9 @@ read-field-spec =
     (λ c. search needs)  -- shared-slice-read-if2
     (λ c. search other-end)  -- returns-2
     (λ c. search field-ends-1)  -- returns-3
-    (λ c. search needs)  -- shared-slice-read-if4
-    (λ c. search field-1)  -- returns-4
-    (λ c. search needs)  -- shared-slice-read-if5
-    (λ c. search field-2)  -- returns-5
-    (λ c. search field-unknown)  -- returns-6
+    (λ c. search needs)  -- shared-slice-read-field
+    (λ c. record { fits = omega (arith, c .shared-slice-known3 .given 1) })  -- cast-field
+    (λ c κs. search needs)  -- is-field-requires
+    (λ c. search field-known)  -- returns-4
+    (λ c. search field-unknown)  -- returns-5
     )
