@@ -20,8 +20,8 @@ use aes128::TwoBlocks;
 use field::Block;
 use field::Prime;
 use tree::Punctured;
-use tree::block_at;
 use tree::children;
+use tree::node_at;
 use tree::power;
 
 // Adds an element of field 1 to the one that two words hold.
@@ -275,7 +275,7 @@ fn add_run(
     let bits = run.bits;
     let first = run.first;
     if bits == 0 {
-        let sibling = block_at(bytes, at + 16 * first);
+        let sibling = node_at(bytes, at + 16 * first);
         let all = Range {
             branch_bits,
             levels: levels - 1,

@@ -6,8 +6,8 @@ mod node;
 mod powers;
 mod punctured;
 
-pub use columns::block_at;
 pub use columns::columns_at;
+pub use columns::node_at;
 pub use leaf::walk;
 pub use node::child;
 pub use node::child_keys;
