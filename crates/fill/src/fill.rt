@@ -20,7 +20,7 @@ use aes128::TwoBlocks;
 use field::Block;
 use field::Prime;
 use tree::Punctured;
-use tree_walk::block_at;
+use tree_walk::node_at;
 use tree_walk::children;
 use tree_walk::power;
 
@@ -275,7 +275,7 @@ fn add_run(
     let bits = run.bits;
     let first = run.first;
     if bits == 0 {
-        let sibling = block_at(bytes, at + 16 * first);
+        let sibling = node_at(bytes, at + 16 * first);
         let all = Range {
             branch_bits,
             levels: levels - 1,

@@ -29,7 +29,7 @@ pub fn fault_of(r: Number) -> u32
 }
 
 // The number in a wider type.
-fn wide(x: u8) -> usize
+fn byte_number(x: u8) -> usize
     ensures { λ r. ⌜ (r ≡ x) × (r < 256) ⌝ }
 {
     x as usize
@@ -43,7 +43,7 @@ pub fn read_number(source: &[u8], at: usize) -> Number
     if end <= at {
         return Number::Fault(RECORD_ENDS);
     }
-    let a = wide(source[at]);
+    let a = byte_number(source[at]);
     let at1 = at + 1;
     if a < 128 {
         return Number::Value(a, at1);
@@ -51,7 +51,7 @@ pub fn read_number(source: &[u8], at: usize) -> Number
     if end <= at1 {
         return Number::Fault(RECORD_ENDS);
     }
-    let b = wide(source[at1]);
+    let b = byte_number(source[at1]);
     let at2 = at1 + 1;
     if b < 128 {
         if b == 0 {
@@ -62,7 +62,7 @@ pub fn read_number(source: &[u8], at: usize) -> Number
     if end <= at2 {
         return Number::Fault(RECORD_ENDS);
     }
-    let c = wide(source[at2]);
+    let c = byte_number(source[at2]);
     let at3 = at2 + 1;
     if c < 128 {
         if c == 0 {

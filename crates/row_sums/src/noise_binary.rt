@@ -14,7 +14,7 @@ ghost use Rattle.code.specs.Inner.Rows.{Shaped, placeBy, binaryRow};
 ghost use Rattle.code.specs.Inner.Used.{rowBelow};
 use crate::row::BinaryPair;
 use crate::row::CodeRow;
-use crate::row::block_at;
+use crate::row::binary_at;
 use code::Shape;
 use code::place_of;
 use code::still_below;
@@ -40,7 +40,7 @@ fn binary_term(
     let bit = noise[j];
     BinaryPair {
         u: add_bits(sums.u, bit),
-        v: sums.v.add(block_at(v, j)),
+        v: sums.v.add(binary_at(v, j)),
         used: still_below(sums.used, bit, 2),
     }
 }

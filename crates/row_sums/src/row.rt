@@ -36,7 +36,7 @@ pub struct PrimeRow {
 }
 
 // The element of field 1 at place j.
-pub fn block_at(v: &[u64], j: usize) -> Block
+pub fn binary_at(v: &[u64], j: usize) -> Block
     requires { ⌜ j * 2 + 1 < length (now v) ⌝ }
     ensures { λ r. ⌜ r ≡ at (binary .elements) (now (v .entry)) j ⌝ }
 {

@@ -11,7 +11,7 @@ ghost use Rattle.field.specs.Binary.{binary, blocks, blockAdd};
 ghost use Rattle.row_sums.specs.Inner.Sums.{termsTo, blocksSum};
 ghost use Rattle.code.specs.Inner.Rows.{Shaped, placeBy, binaryRow};
 use crate::row::CodeRow;
-use crate::row::block_at;
+use crate::row::binary_at;
 use code::Shape;
 use code::place_of;
 use field::Block;
@@ -23,7 +23,7 @@ fn block_term(shape: Shape, i: usize, word: u64, w: &[u64], total: Block) -> Blo
     requires { ⌜ Shaped shape × (i < shape .terms) × (length (now w) ≡ shape .places * 2) ⌝ }
     ensures { λ r. ⌜ r ≡ blockAdd total (at (binary .elements) (now (w .entry)) (placeBy shape i word)) ⌝ }
 {
-    total.add(block_at(w, place_of(shape, i, word)))
+    total.add(binary_at(w, place_of(shape, i, word)))
 }
 
 // Two terms of a row at the scalar end in field 1.

@@ -273,7 +273,7 @@ pub fn table() -> [u8; 256]
 }
 
 // The number in a wider type.
-fn wide(x: u8) -> u64
+fn byte_word(x: u8) -> u64
     ensures { λ r. ⌜ (r ≡ x) × (r < 256) ⌝ }
 {
     x as u64
@@ -334,7 +334,7 @@ fn fill(tables: &mut [u64])
     let sb = table();
     let mut x: usize = 0;
     while x < 256 {
-        let s = wide(sb[x]);
+        let s = byte_word(sb[x]);
         let d = twice(s);
         let e = thrice(s);
         let m0 = wide_column(d, s, s, e);

@@ -32,7 +32,7 @@ pub fn columns_at(bytes: &[u8], at: usize) -> [[u8; 4]; 4]
 }
 
 // The node whose 16 bytes begin at a place.
-pub fn block_at(bytes: &[u8], at: usize) -> Block
+pub fn node_at(bytes: &[u8], at: usize) -> Block
     requires { ⌜ at + 16 ≤ length (now bytes) ⌝ }
     ensures { λ r. ⌜ nodeOf r ≡ columnsAt (now (bytes .entry)) at ⌝ }
 {
@@ -43,7 +43,7 @@ pub fn block_at(bytes: &[u8], at: usize) -> Block
 }
 
 // Writes the 16 bytes of a node from a place on.
-pub fn put_block(bytes: &mut [u8], at: usize, s: Block)
+pub fn put_node(bytes: &mut [u8], at: usize, s: Block)
     requires { ⌜ at + 16 ≤ length (now bytes) ⌝ }
     ensures { λ _. ⌜ now (bytes .exit) ≡ sets (now (bytes .entry)) at (columnsBytes (nodeOf s)) ⌝ }
 {

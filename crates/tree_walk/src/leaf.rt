@@ -9,7 +9,7 @@ ghost use Rattle.tree.specs.Expanded.{walk, walked};
 ghost use Rattle.tree.specs.Inner.Branches.{IsBranch, IsPunctured};
 ghost use Rattle.tree_walk.specs.Inner.Levels.{IsLevel, childrenPut, twinPut, frontPut, levelPassed};
 ghost use Rattle.tree.specs.Inner.Nodes.{nodeOf};
-use crate::columns::put_block;
+use crate::columns::put_node;
 use crate::node::children;
 use crate::powers::power;
 use field::Block;
@@ -32,8 +32,8 @@ fn put_children(
         return;
     }
     let both = children(tables, keys, first, s);
-    put_block(out, at, both.first);
-    put_block(out, at + 16, both.second);
+    put_node(out, at, both.first);
+    put_node(out, at + 16, both.second);
     put_children(tables, keys, s, first + 2, pairs - 1, at + 32, out);
 }
 
@@ -51,10 +51,10 @@ fn put_twin(
 {
     let both = children(tables, keys, 2 * (digit / 2), s);
     if digit % 2 == 0 {
-        put_block(out, at, both.second);
+        put_node(out, at, both.second);
         both.first
     } else {
-        put_block(out, at, both.first);
+        put_node(out, at, both.first);
         both.second
     }
 }

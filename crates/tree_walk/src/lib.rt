@@ -5,7 +5,7 @@ mod leaf;
 mod node;
 mod powers;
 
-pub use columns::block_at;
+pub use columns::node_at;
 pub use columns::columns_at;
 pub use leaf::walk;
 pub use node::child;

@@ -9,21 +9,21 @@ read-number-spec =
     tie.close
     (tie.spec
     (λ c. search ends-0)  -- returns
-    (λ c. search needs)  -- shared-slice-read-wide
-    (λ c κs. search needs)  -- wide-requires
+    (λ c. search needs)  -- shared-slice-read-byte-number
+    (λ c κs. search needs)  -- byte-number-requires
     (λ c. search needs)  -- add-at1
     (λ c. search value-0)  -- returns-2
     (λ c. search ends-1)  -- returns-3
-    (λ c. search needs)  -- shared-slice-read-wide-2
-    (λ c κs. search needs)  -- wide-requires-2
+    (λ c. search needs)  -- shared-slice-read-byte-number-2
+    (λ c κs. search needs)  -- byte-number-requires-2
     (λ c. search needs)  -- add-at2
     (λ c. search zero-1)  -- returns-4
     (λ c. search needs)  -- mul-t16
     (λ c. search needs)  -- add-t17
     (λ c. search value-1)  -- returns-5
     (λ c. search ends-2)  -- returns-6
-    (λ c. search needs)  -- shared-slice-read-wide-3
-    (λ c κs. search needs)  -- wide-requires-3
+    (λ c. search needs)  -- shared-slice-read-byte-number-3
+    (λ c κs. search needs)  -- byte-number-requires-3
     (λ c. search needs)  -- add-at3
     (λ c. search zero-2)  -- returns-7
     (λ c. search needs)  -- mul-t22

@@ -22,8 +22,8 @@ fill-spec =
     μ-loop
     (λ c κs. search needs)  -- table-requires
     (λ c. (omega arith, filled-none (search needs)))  -- loop-holds
-    (λ c. search needs)  -- array-read-wide
-    (λ c κs. search needs)  -- wide-requires
+    (λ c. search needs)  -- array-read-byte-word
+    (λ c κs. search needs)  -- byte-word-requires
     (λ c κs. search needs)  -- twice-requires
     (λ c κs. search needs)  -- thrice-requires
     (λ c κs. search needs)  -- wide-column-requires

@@ -7,7 +7,7 @@ use borrow.Fn.PlainCycle.{Measures, is, falls, and}
 use Rattle.fill.proofs.fill.add_run.Reads as reads
 use Rattle.fill.proofs.fill.add_run.Kinds as kinds
 use Rattle.fill.proofs.fill.+add_run.Lts-add_run as lts
-use Rattle.tree_walk.proofs.block_at.Reads as block-at-reads
+use Rattle.tree_walk.proofs.node_at.Reads as node-at-reads
 use Rattle.fill.proofs.fill.add_range.Reads as add-range-reads
 use Rattle.tree_walk.proofs.power.Reads as power-reads
 use Rattle.fill.specs.Inner.Ranges.{leftOf}
@@ -28,8 +28,8 @@ below t = and 4 kinds.ps (falls 4 kinds.ps _<_ μ t) reads.Pre
 
 pub +add-run-spec : {M : Type 1} → statement M
 +add-run-spec = close μ λ t. lts.spec (
-  block-at-reads.Asked,
-  block-at-reads.Learnt,
+  node-at-reads.Asked,
+  node-at-reads.Learnt,
   add-range-reads.Asked,
   add-range-reads.Learnt,
   power-reads.Asked,
@@ -39,9 +39,9 @@ pub +add-run-spec : {M : Type 1} → statement M
 )
     (at t)
     reads.Post
-    (λ c. search needs)  -- mul-block-at
-    (λ c. search needs)  -- add-block-at
-    (λ c κs. search sibling-room)  -- block-at-requires
+    (λ c. search needs)  -- mul-node-at
+    (λ c. search needs)  -- add-node-at
+    (λ c κs. search sibling-room)  -- node-at-requires
     (λ c. search needs)  -- sub-t19
     (λ c κs. (search needs, search sibling-range, search sibling-length))  -- add-range-requires
     (λ c. search needs)  -- sub-mid

@@ -12,7 +12,7 @@ binary-term-spec =
     (λ c. search needs)  -- mul-bit
     (λ c. search needs)  -- shared-slice-read-bit
     (λ c κs. search needs)  -- add-bits-requires
-    (λ c κs. search needs)  -- block-at-requires
+    (λ c κs. search needs)  -- binary-at-requires
     (λ c κs. search needs)  -- add-requires
     (λ c κs. search needs)  -- still-below-requires
     (λ c. record { u = search bit-at; v = search block-at; used = search used-at })  -- returns

@@ -9,7 +9,7 @@ block-term-spec =
     tie.close
     (tie.spec
     (λ c κs. search needs)  -- place-of-requires
-    (λ c κs. search needs)  -- block-at-requires
+    (λ c κs. search needs)  -- binary-at-requires
     (λ c κs. search needs)  -- add-requires
     (λ c. search block-at)  -- returns
     )

@@ -8,7 +8,7 @@ use borrow.Fn.PlainCycle.{Measures, is, falls, and}
 use Rattle.tree_walk.proofs.leaf.put_children.Reads as reads
 use Rattle.tree_walk.proofs.leaf.put_children.Kinds as kinds
 use Rattle.tree_walk.proofs.leaf.+put_children.Lts-put_children as lts
-use Rattle.tree_walk.proofs.columns.put_block.Reads as put-block-reads
+use Rattle.tree_walk.proofs.columns.put_node.Reads as put-node-reads
 use Rattle.tree_walk.proofs.node.children.Reads as children-reads
 use Rattle.tree_walk.proofs.Walked.{put-none, put-more}
 use Rattle.tree_walk.proofs.leaf.+put_children.{statement}
@@ -27,8 +27,8 @@ pub +put-children-spec : {M : Type 1} → statement M
 +put-children-spec = close μ λ t. lts.spec (
   children-reads.Asked,
   children-reads.Learnt,
-  put-block-reads.Asked,
-  put-block-reads.Learnt,
+  put-node-reads.Asked,
+  put-node-reads.Learnt,
   below t,
   reads.Post,
 )
@@ -36,9 +36,9 @@ pub +put-children-spec : {M : Type 1} → statement M
     reads.Post
     (λ c. search (needs, put-none))  -- returns
     (λ c κs. (search needs, omega arith))  -- children-requires
-    (λ c κs. search needs)  -- put-block-requires
-    (λ c. search needs)  -- add-put-block
-    (λ c κs. search needs)  -- put-block-requires-2
+    (λ c κs. search needs)  -- put-node-requires
+    (λ c. search needs)  -- add-put-node
+    (λ c κs. search needs)  -- put-node-requires-2
     (λ c. search needs)  -- add-put-children
     (λ c. search needs)  -- sub-put-children
     (λ c. search needs)  -- add-put-children-2

@@ -10,8 +10,8 @@ put-twin-spec =
     (tie.spec
     (λ c. search needs)  -- mul-children
     (λ c κs. search needs)  -- children-requires
-    (λ c κs. search needs)  -- put-block-requires
-    (λ c κs. search needs)  -- put-block-requires-2
+    (λ c κs. search needs)  -- put-node-requires
+    (λ c κs. search needs)  -- put-node-requires-2
     (λ c. search needs)  -- same-length
     (λ c. search (needs, twin-second))  -- returns
     (λ c. search needs)  -- same-length-2

@@ -1,12 +1,12 @@
--- `tree_walk::columns::block_at` meets its contract: two words. Assumes nothing.
+-- `tree_walk::columns::node_at` meets its contract: two words. Assumes nothing.
 use native.Mathlib.Omega.{arith}
 use borrow.Author.Needs.{needs}
 use Rattle.tree.proofs.Nodes.{node-at}
-use Rattle.tree_walk.proofs.columns.block_at.Statement.{statement}
-use Rattle.tree_walk.proofs.columns.block_at.Tie as tie
+use Rattle.tree_walk.proofs.columns.node_at.Statement.{statement}
+use Rattle.tree_walk.proofs.columns.node_at.Tie as tie
 
-pub block-at-spec : {M : Type 1} → statement M
-block-at-spec =
+pub node-at-spec : {M : Type 1} → statement M
+node-at-spec =
     tie.close
     (tie.spec
     (λ c κs. search needs)  -- word-at-requires

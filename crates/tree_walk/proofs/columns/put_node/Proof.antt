@@ -1,11 +1,11 @@
--- `tree_walk::columns::put_block` meets its contract: one word after the other. Assumes nothing.
+-- `tree_walk::columns::put_node` meets its contract: one word after the other. Assumes nothing.
 use borrow.Author.Needs.{needs}
 use Rattle.tree.proofs.Nodes.{sets-node}
-use Rattle.tree_walk.proofs.columns.put_block.Statement.{statement}
-use Rattle.tree_walk.proofs.columns.put_block.Tie as tie
+use Rattle.tree_walk.proofs.columns.put_node.Statement.{statement}
+use Rattle.tree_walk.proofs.columns.put_node.Tie as tie
 
-pub put-block-spec : {M : Type 1} → statement M
-put-block-spec =
+pub put-node-spec : {M : Type 1} → statement M
+put-node-spec =
     tie.close
     (tie.spec
     (λ c κs. search needs)  -- put-word-requires
