@@ -12,10 +12,9 @@ use crate::elements::add_output;
 use crate::elements::coefficient;
 use crate::elements::noise_sum;
 use crate::values::Vector;
-use code::Window;
 use code::row_term;
 use record::Front;
-use window::window_rows;
+use window::shape_of;
 
 // So many rows of the code from an index on, and the vector that they are summed over.
 pub struct Batch {
@@ -37,9 +36,7 @@ fn pending_term(tables: &[u64; 1536], code: &[u64; 40], front: Front, x: usize, 
     ensures { λ r. ⌜ (r .place ≡ rowIn (roundKeys (now (code .entry))) front x .place i)
         × (noiseIn (front .field) (r .coefficient) ≡ rowIn (roundKeys (now (code .entry))) front x .coefficient i) ⌝ }
 {
-    let window = Window { first: x, count: 1 };
-    let rows = window_rows(front, window);
-    let term = row_term(tables, code, rows.shape, x, i);
+    let term = row_term(tables, code, shape_of(front), x, i);
     Pending {
         place: term.place,
         coefficient: coefficient(front.field, term.word),

@@ -12,7 +12,7 @@ mod table;
 mod trees;
 mod values;
 mod walk;
-mod window;
+mod accepted;
 
 use answer::OneLength;
 use answer::TwoLengths;
@@ -21,8 +21,8 @@ use record::Opened;
 use record::fault_of;
 use record::read_noise;
 use record::read_scalar;
-use window::write_noise;
-use window::write_scalar;
+use accepted::write_noise;
+use accepted::write_scalar;
 
 // Writes the window's outputs: u to the front of u_out, v to the front of v_out.
 pub fn noise_direct(
