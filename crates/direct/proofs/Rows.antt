@@ -19,7 +19,7 @@ use Rattle.algebra.proofs.Choice.{choose-true, choose-false}
 use Rattle.algebra.proofs.Coding.{at-over-past, length-put, over-whole}
 use Rattle.algebra.proofs.Sum.{itself-laws}
 use Rattle.algebra.proofs.Written.{front-none, front-all}
-use Rattle.code.specs.declared.Window.{Window}
+use Rattle.code.specs.declared.Shape.{Shape}
 use Rattle.code.specs.Row.{rowOfBlocks}
 use Rattle.code.specs.Inner.Rows.{Shaped, termBlockBy, placeIn}
 use Rattle.field.specs.Bytes.{highOf}
@@ -29,8 +29,7 @@ use Rattle.field.proofs.BinaryField.{binaryLaws}
 use Rattle.field.proofs.BothKinds.{kindLaws}
 use Rattle.field.proofs.Words.{put-one}
 use Rattle.record.specs.declared.Front.{Front}
-use Rattle.window.specs.declared.WindowRows.{WindowRows}
-use Rattle.window.specs.Inner.Outputs.{rowsOf}
+use Rattle.window.specs.Inner.Outputs.{shapeOf}
 use Rattle.algebra.proofs.Flats.{value-put}
 use Rattle.tree.specs.Added.{added}
 use Rattle.field.specs.Inner.Elements.{noiseIn, noiseSum}
@@ -71,17 +70,17 @@ module _ (field : ℕ) (rows : List ℕ) (j k : ℕ) {r : ℕ} where
 
 -- ---- terms
 
-module _ (f : Front) (w : Window) (ok : IsCode f) {all : WindowRows} (e : all ≡ rowsOf f w) where
-  pub shaped : Shaped (all .shape)
+module _ (f : Front) (ok : IsCode f) {shape : Shape} (e : shape ≡ shapeOf f) where
+  pub shaped : Shaped shape
   shaped = rw e (record { some = ok .some; full = ok .full; most = pow-mono (ok .depth); few = ok .few; strip = refl })
 
-  pub term-below : {i : ℕ} → i < f .terms → i < all .shape .terms
+  pub term-below : {i : ℕ} → i < f .terms → i < shape .terms
   term-below h = rw e h
 
   module _ (code : List (List (List ℕ))) (x i : ℕ) where
-    pub term-place : {p : ℕ} → p ≡ placeIn code (all .shape) x i → p ≡ rowIn code f x .place i
+    pub term-place : {p : ℕ} → p ≡ placeIn code shape x i → p ≡ rowIn code f x .place i
     unfolding rowIn rowOfBlocks
-    term-place q = q ∙ ap (λ (r : WindowRows). placeIn code (r .shape) x i) e
+    term-place q = q ∙ ap (λ (s : Shape). placeIn code s x i) e
 
     pub term-coefficient : (c : ℕ) {word : ℕ} → word ≡ highOf (termBlockBy code x i) → noiseIn (f .field) c ≡ kindOf (f .field) .coefficient word
         → noiseIn (f .field) c ≡ rowIn code f x .coefficient i

@@ -10,13 +10,12 @@ ghost use Rattle.direct.specs.Inner.Vectors.{fieldFor, valueIn, rowIn};
 ghost use Rattle.direct.specs.Inner.Rows.{IsBatch, IsCode, HasTerms, entryIn, sumsMore, placeAdded};
 use crate::elements::add_output;
 use crate::values::Vector;
-use code::Window;
 use code::row_term;
 use field::Element;
 use field::coefficient;
 use field::noise_sum;
 use record::Front;
-use window::window_rows;
+use window::shape_of;
 
 // So many rows of the code from an index on, and the vector that they are summed over.
 pub struct Batch {
@@ -38,9 +37,7 @@ fn pending_term(tables: &[u64; 1536], code: &[u64; 40], front: Front, x: usize, 
     ensures { λ r. ⌜ (r .place ≡ rowIn (roundKeys (now (code .entry))) front x .place i)
         × (noiseIn (front .field) (r .coefficient) ≡ rowIn (roundKeys (now (code .entry))) front x .coefficient i) ⌝ }
 {
-    let window = Window { first: x, count: 1 };
-    let rows = window_rows(front, window);
-    let term = row_term(tables, code, rows.shape, x, i);
+    let term = row_term(tables, code, shape_of(front), x, i);
     Pending {
         place: term.place,
         coefficient: coefficient(front.field, term.word),

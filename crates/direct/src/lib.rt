@@ -5,6 +5,7 @@ ghost use Rattle.answer.specs.Outcome.{outcomeOne, outcomeTwo};
 ghost use Rattle.direct.specs.Noise as noise;
 ghost use Rattle.direct.specs.Scalar as scalar;
 
+mod accepted;
 mod batch;
 mod elements;
 mod entries;
@@ -12,8 +13,9 @@ mod table;
 mod trees;
 mod values;
 mod walk;
-mod window;
 
+use accepted::write_noise;
+use accepted::write_scalar;
 use answer::OneLength;
 use answer::TwoLengths;
 use code::Window;
@@ -21,8 +23,6 @@ use record::Opened;
 use record::fault_of;
 use record::read_noise;
 use record::read_scalar;
-use window::write_noise;
-use window::write_scalar;
 
 // Writes the window's outputs: u to the front of u_out, v to the front of v_out.
 pub fn noise_direct(

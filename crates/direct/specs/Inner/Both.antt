@@ -3,7 +3,7 @@ use mathlib.Core.List.{List}
 use Prim.Native.Nat.{ℕ, _+_, _*_, _≤_}
 use Rattle.direct.specs.Inner.Trees.{Walking}
 use Rattle.direct.specs.Inner.Vectors.{fieldFor}
-use Rattle.direct.specs.declared.window.Rows.{Rows}
+use Rattle.direct.specs.declared.accepted.Rows.{Rows}
 
 -- an accepted noise record with its table and the round keys of the child keys, rows up to 32768, and room for their outputs
 pub record BothFit (s : List ℕ) (r : Rows) (table : List ℕ) (keys : List (List ℕ)) (u v : ℕ) : Type 0 where

@@ -8,7 +8,7 @@ pub pending-term-spec : {M : Type 1} → statement M
 pending-term-spec =
     tie.close
     (tie.spec
-    (λ c κs. search needs)  -- window-rows-requires
+    (λ c κs. search needs)  -- shape-of-requires
     (λ c κs. (search needs, (search shaped, search term-below)))  -- row-term-requires
     (λ c κs. search needs)  -- coefficient-requires
     (λ c. (search term-place, search term-coefficient))  -- returns

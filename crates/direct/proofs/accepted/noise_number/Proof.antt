@@ -1,9 +1,9 @@
--- `direct::window::noise_number` meets its contract, test by test. Assumes nothing.
+-- `direct::accepted::noise_number` meets its contract, test by test. Assumes nothing.
 use borrow.Author.Needs.{needs}
 use Rattle.answer.proofs.Faults.{chain, given-at-most, given-above}
 use Rattle.direct.proofs.Calls.{within-end}
-use Rattle.direct.proofs.window.noise_number.Statement.{statement}
-use Rattle.direct.proofs.window.noise_number.Tie as tie
+use Rattle.direct.proofs.accepted.noise_number.Statement.{statement}
+use Rattle.direct.proofs.accepted.noise_number.Tie as tie
 
 pub noise-number-spec : {M : Type 1} → statement M
 noise-number-spec =

@@ -1,8 +1,8 @@
--- `direct::window::write_w` meets its contract. Assumes nothing.
+-- `direct::accepted::write_w` meets its contract. Assumes nothing.
 use Rattle.direct.proofs.Calls.{w0-walking, w-filled}
 use borrow.Author.Needs.{needs}
-use Rattle.direct.proofs.window.write_w.Statement.{statement}
-use Rattle.direct.proofs.window.write_w.Tie as tie
+use Rattle.direct.proofs.accepted.write_w.Statement.{statement}
+use Rattle.direct.proofs.accepted.write_w.Tie as tie
 
 pub write-w-spec : {M : Type 1} → statement M
 write-w-spec =

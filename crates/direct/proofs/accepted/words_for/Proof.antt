@@ -1,8 +1,8 @@
--- `direct::window::words_for` meets its contract. Assumes nothing.
+-- `direct::accepted::words_for` meets its contract. Assumes nothing.
 use borrow.Author.Needs.{needs}
 use Rattle.direct.proofs.Calls.{words-fit, words-are}
-use Rattle.direct.proofs.window.words_for.Statement.{statement}
-use Rattle.direct.proofs.window.words_for.Tie as tie
+use Rattle.direct.proofs.accepted.words_for.Statement.{statement}
+use Rattle.direct.proofs.accepted.words_for.Tie as tie
 
 pub words-for-spec : {M : Type 1} → statement M
 words-for-spec =

@@ -1,10 +1,10 @@
--- `direct::window::write_noise` meets its contract: refused by its number, or accepted with the window written. Assumes nothing.
+-- `direct::accepted::write_noise` meets its contract: refused by its number, or accepted with the window written. Assumes nothing.
 use borrow.Author.Needs.{needs}
 use Rattle.answer.proofs.Answers.{refused}
 use Rattle.direct.specs.Noise as noise
 use Rattle.direct.proofs.Calls.{noise-within, noise-fits, noise-written}
-use Rattle.direct.proofs.window.write_noise.Statement.{statement}
-use Rattle.direct.proofs.window.write_noise.Tie as tie
+use Rattle.direct.proofs.accepted.write_noise.Statement.{statement}
+use Rattle.direct.proofs.accepted.write_noise.Tie as tie
 
 refusal : tie.Need-returns
 unfolding noise.window

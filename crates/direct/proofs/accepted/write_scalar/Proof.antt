@@ -1,10 +1,10 @@
--- `direct::window::write_scalar` meets its contract: refused by its number, or accepted with the window written. Assumes nothing.
+-- `direct::accepted::write_scalar` meets its contract: refused by its number, or accepted with the window written. Assumes nothing.
 use borrow.Author.Needs.{needs}
 use Rattle.answer.proofs.Answers.{refused}
 use Rattle.direct.specs.Scalar as scalar
 use Rattle.direct.proofs.Calls.{scalar-within, scalar-fits, scalar-written}
-use Rattle.direct.proofs.window.write_scalar.Statement.{statement}
-use Rattle.direct.proofs.window.write_scalar.Tie as tie
+use Rattle.direct.proofs.accepted.write_scalar.Statement.{statement}
+use Rattle.direct.proofs.accepted.write_scalar.Tie as tie
 
 refusal : tie.Need-returns
 unfolding scalar.window

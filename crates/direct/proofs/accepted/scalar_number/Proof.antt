@@ -1,9 +1,9 @@
--- `direct::window::scalar_number` meets its contract, test by test. Assumes nothing.
+-- `direct::accepted::scalar_number` meets its contract, test by test. Assumes nothing.
 use borrow.Author.Needs.{needs}
 use Rattle.answer.proofs.Faults.{chain, given-at-most, given-above}
 use Rattle.direct.proofs.Calls.{within-end}
-use Rattle.direct.proofs.window.scalar_number.Statement.{statement}
-use Rattle.direct.proofs.window.scalar_number.Tie as tie
+use Rattle.direct.proofs.accepted.scalar_number.Statement.{statement}
+use Rattle.direct.proofs.accepted.scalar_number.Tie as tie
 
 pub scalar-number-spec : {M : Type 1} → statement M
 scalar-number-spec =

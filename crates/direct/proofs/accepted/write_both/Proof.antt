@@ -1,8 +1,8 @@
--- `direct::window::write_both` meets its contract. Assumes nothing.
+-- `direct::accepted::write_both` meets its contract. Assumes nothing.
 use Rattle.direct.proofs.Calls.{few-trees, both-fit, both-filled}
 use borrow.Author.Needs.{needs}
-use Rattle.direct.proofs.window.write_both.Statement.{statement}
-use Rattle.direct.proofs.window.write_both.Tie as tie
+use Rattle.direct.proofs.accepted.write_both.Statement.{statement}
+use Rattle.direct.proofs.accepted.write_both.Tie as tie
 
 pub write-both-spec : {M : Type 1} → statement M
 write-both-spec =
