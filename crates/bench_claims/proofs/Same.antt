@@ -79,8 +79,8 @@ module _ {h : Head} (E : noiseOffline.Expanded h) (first count : ℕ) (uOut vOut
       noiseLaws.online-listed lent part (accumulate (fieldOf (part .head) .ring .group) (mu part)) (accumulate (fieldOf (part .head) .scaled .group) (v0 part))
       (E .read) (accepted .noise) (accepted .v) noise-elements (accumulated-elements (part .head) (v0 part)) first count
 
-  u-same : (k : ℕ)
-      → output (itself (fieldOf (part .head) .ring)) (row (part .head) (first + k)) (at (fieldOf (part .head) .noiseValues) (lent .noise)) ≡ noise.uAt part (first + k)
+  u-same : (k : ℕ) → output (itself (fieldOf (part .head) .ring)) (row (part .head) (first + k)) (at (fieldOf (part .head) .noiseValues) (lent .noise))
+      ≡ noise.uAt part (first + k)
   unfolding noise.uAt
   u-same k =
       row-same (part .head) full (first + k) (itself (fieldOf (part .head) .ring)) (itself-laws (fieldOf (part .head) .ring) (kindLaws (part .head .field) .field .ring)) (mu part)
@@ -88,7 +88,8 @@ module _ {h : Head} (E : noiseOffline.Expanded h) (first count : ℕ) (uOut vOut
       (λ j l. ap (λ (x : List ℕ). at (fieldOf (part .head) .noiseValues) x j) (accepted .noise)
       ∙ at-flat (fieldOf (part .head) .noiseValues) (kindLaws (part .head .field) .field .noiseValues) (places (part .head)) (accumulate (fieldOf (part .head) .ring .group) (mu part)) j l)
 
-  v-same : (k : ℕ) → output (fieldOf (part .head) .scaled) (row (part .head) (first + k)) (at (fieldOf (part .head) .elements) (lent .v)) ≡ noise.vAt part (first + k)
+  v-same : (k : ℕ) → output (fieldOf (part .head) .scaled) (row (part .head) (first + k)) (at (fieldOf (part .head) .elements) (lent .v))
+      ≡ noise.vAt part (first + k)
   unfolding noise.vAt
   v-same k =
       row-same (part .head) full (first + k) (fieldOf (part .head) .scaled) (kindLaws (part .head .field) .field .scaled) (v0 part)
@@ -154,7 +155,8 @@ module _ {h : Head} (D : scalarOffline.Expanded h) (first count : ℕ) (wOut : L
       scalarLaws.online-listed lent-w whole (accumulate (fieldOf (whole .head) .scaled .group) (w0 whole)) (D .read) (accepted-w .w)
       (accumulated-elements (whole .head) (w0 whole)) first count
 
-  w-same : (k : ℕ) → output (fieldOf (whole .head) .scaled) (row (whole .head) (first + k)) (at (fieldOf (whole .head) .elements) (lent-w .w)) ≡ scalar.wAt whole (first + k)
+  w-same : (k : ℕ) → output (fieldOf (whole .head) .scaled) (row (whole .head) (first + k)) (at (fieldOf (whole .head) .elements) (lent-w .w))
+      ≡ scalar.wAt whole (first + k)
   unfolding scalar.wAt
   w-same k =
       row-same (whole .head) full-w (first + k) (fieldOf (whole .head) .scaled) (kindLaws (whole .head .field) .field .scaled) (w0 whole)

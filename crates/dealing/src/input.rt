@@ -22,19 +22,13 @@ use field::rest_zero;
 use field::word_at;
 use record::Front;
 use record::leaves;
+use record::smaller;
 
 // Whether a size is 1 to `top`.
 fn is_size(top: usize, size: usize) -> bool
     ensures { λ r. ⌜ r ≡ isSize top size ⌝ }
 {
     1 <= size && size <= top
-}
-
-// The smaller of two numbers.
-fn smaller(a: usize, b: usize) -> usize
-    ensures { λ r. ⌜ r ≡ min a b ⌝ }
-{
-    if a <= b { a } else { b }
 }
 
 // Whether g is 1, 2 or 3 and d a multiple of it (document 02, 10).

@@ -54,7 +54,7 @@ fn refusal(number: u32) -> Described
 }
 
 // The 16 bytes at a place.
-fn block_at(source: &[u8], at: usize) -> [u8; 16]
+fn sixteen_at(source: &[u8], at: usize) -> [u8; 16]
     requires { ⌜ at + 16 ≤ length (now source) ⌝ }
     ensures { λ r. ⌜ r ≡ blockAt (now (source .entry)) at ⌝ }
 {
@@ -83,8 +83,8 @@ fn accepted(end: u8, source: &[u8], front: Front) -> Described
         outputs: front.outputs,
         leaves: leaves(front.depth),
         element_words: element_width(front.field),
-        label: block_at(source, front.body - 16),
-        code_key: block_at(source, front.body - 32),
+        label: sixteen_at(source, front.body - 16),
+        code_key: sixteen_at(source, front.body - 32),
     }
 }
 

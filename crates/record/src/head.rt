@@ -36,8 +36,8 @@ pub fn sibling_count(depth: usize, branch_bits: usize) -> usize
 }
 
 // The smaller of two numbers.
-fn smaller(a: usize, b: usize) -> usize
-    ensures { λ r. ⌜ r ≡ min a b ⌝ }
+pub fn smaller(a: usize, b: usize) -> usize
+    ensures { λ r. ⌜ (r ≡ min a b) × (r ≤ a) × (r ≤ b) ⌝ }
 {
     if a <= b { a } else { b }
 }

@@ -11,6 +11,7 @@ mod writing;
 
 pub use head::leaves;
 pub use head::sibling_count;
+pub use head::smaller;
 pub use noise::known_tree;
 pub use noise::read_noise;
 pub use scalar::read_scalar;

@@ -28,7 +28,8 @@ pub fn accepted_round(
 ) -> Lengths
     requires { ⌜ Tested (now circuit) (frame .front) (now shares) (now triples) (length (now output)) (now «far_bits») (length (now «bits_out»)) (now wires) ⌝ }
     ensures { λ r. ⌜ roundOutcome 0 (r .written) (r .«bits_written») (stateWith (now (wires .exit)))
-        (roundWith (frame .role) (now (circuit .exit)) (now (shares .exit)) (now (triples .exit)) (now (output .exit)) (now («far_bits» .exit)) (now («bits_out» .exit)))
+        (roundWith (frame .role) (now (circuit .exit)) (now (shares .exit)) (now (triples .exit))
+        (now (output .exit)) (now («far_bits» .exit)) (now («bits_out» .exit)))
         ≡ acceptedOn (content (now (circuit .entry)))
         (roundWith (frame .role) (now (circuit .entry)) (now (shares .entry)) (now (triples .entry))
         (now (output .entry)) (now («far_bits» .entry)) (now («bits_out» .entry))) (now (wires .entry)) ⌝ }

@@ -145,7 +145,8 @@ pub fn pass_gates(
     bits_out: &mut [u8],
     wires: &mut [u8; 4096],
 ) -> usize
-    requires { ⌜ HasFront (now source) (frame .front) × CanPass (now source) (frame .front) (now triples) (now «far_bits») (length (now «bits_out»)) (now wires) ⌝ }
+    requires { ⌜ HasFront (now source) (frame .front)
+        × CanPass (now source) (frame .front) (now triples) (now «far_bits») (length (now «bits_out»)) (now wires) ⌝ }
     ensures { λ r. ⌜ Passes (now (source .entry)) (frame .front) (frame .role) (now (triples .entry)) (now («far_bits» .entry))
         (now («bits_out» .entry)) (now (wires .entry)) r (now («bits_out» .exit)) (now (wires .exit)) ⌝ }
 {

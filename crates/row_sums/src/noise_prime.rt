@@ -69,7 +69,8 @@ fn noise_turn_prime(
     requires { ⌜ RoundTables (now tables) × IsShared (now keys) (row .x) shared × (i < row .shape .terms) ⌝ }
     requires { ⌜ Shaped (row .shape) × (length (now noise) ≡ row .shape .places) × (length (now v) ≡ row .shape .places) ⌝ }
     requires { ⌜ PrimesTotal (roundKeys (now keys)) (row .shape) (row .x) (now noise) (now v) (termsTo (row .shape) i) sums ⌝ }
-    ensures { λ r. ⌜ PrimesTotal (roundKeys (now (keys .entry))) (row .shape) (row .x) (now (noise .entry)) (now (v .entry)) (termsTo (row .shape) (i + 2)) r ⌝ }
+    ensures { λ r. ⌜ PrimesTotal (roundKeys (now (keys .entry))) (row .shape) (row .x) (now (noise .entry)) (now (v .entry))
+        (termsTo (row .shape) (i + 2)) r ⌝ }
 {
     let shape = row.shape;
     let pair = two_blocks(tables, keys, row.x, shared, i as u64);

@@ -12,9 +12,9 @@ accepted-spec =
     (λ c. search needs)  -- cast-t4
     (λ c κs. search needs)  -- leaves-requires
     (λ c κs. search needs)  -- element-width-requires
-    (λ c. search needs)  -- sub-block-at
-    (λ c κs. search needs)  -- block-at-requires
-    (λ c. search needs)  -- sub-block-at-2
-    (λ c κs. search needs)  -- block-at-requires-2
+    (λ c. search needs)  -- sub-sixteen-at
+    (λ c κs. search needs)  -- sixteen-at-requires
+    (λ c. search needs)  -- sub-sixteen-at-2
+    (λ c κs. search needs)  -- sixteen-at-requires-2
     (λ c. search with-sizes)  -- returns
     )

@@ -1,12 +1,12 @@
--- `describe::block_at` meets its contract. The loop's invariant: the bytes copied, and zero past them. The measure is the bytes left.
+-- `describe::sixteen_at` meets its contract. The loop's invariant: the bytes copied, and zero past them. The measure is the bytes left.
 -- Assumes nothing.
 use Prim.Native.Nat.{_-_, _≤_}
 use mathlib.Core.Path.{_≡_}
 use native.Mathlib.Omega.{arith}
 use borrow.Author.Needs.{needs}
 use Rattle.describe.proofs.Blocks.{copied, copied-none, copied-more, copied-all}
-use Rattle.describe.proofs.block_at.Statement.{statement}
-use Rattle.describe.proofs.block_at.Tie as tie
+use Rattle.describe.proofs.sixteen_at.Statement.{statement}
+use Rattle.describe.proofs.sixteen_at.Tie as tie
 
 abbrev Inv-loop : tie.InvT-loop
 Inv-loop source at block₀ i₀ block i = (i ≤ 16) × (block ≡ copied source at i)
@@ -14,8 +14,8 @@ Inv-loop source at block₀ i₀ block i = (i ≤ 16) × (block ≡ copied sourc
 abbrev μ-loop : tie.MeasureT-loop
 μ-loop source at block₀ i₀ block i = 16 - i
 
-pub block-at-spec : {M : Type 1} → statement M
-block-at-spec =
+pub sixteen-at-spec : {M : Type 1} → statement M
+sixteen-at-spec =
     tie.close
     (tie.spec
     Inv-loop
