@@ -1,7 +1,7 @@
--- The laws of `aes128`. Callers use Wide, Sizes, Words, Last and Rounds.
+-- The laws of `aes128`. Callers use Wide, Sizes, Words, Columns, Last and Rounds.
 pub mod Words
 pub mod Wide
-mod Columns
+pub mod Columns
 pub mod Last
 mod Held
 mod Expansion

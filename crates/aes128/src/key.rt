@@ -1,5 +1,6 @@
 // KeyExpansion of FIPS 197, and the forty words in which the cipher is lent its round keys.
 ghost use mathlib.Core.Path.{_≡_};
+ghost use mathlib.Core.List.{[], _∷_};
 ghost use Prim.Native.Nat.{_<_};
 ghost use Rattle.field.specs.Bytes.{columnsOf};
 ghost use Rattle.sbox.specs.Byte.{sBox};
@@ -10,7 +11,6 @@ ghost use Rattle.aes128.specs.Cipher.{keyExpansion};
 ghost use Rattle.aes128.specs.Inner.Words.{wideKey, roundKeys};
 ghost use Rattle.aes128.specs.Inner.Blocks.{IsHalf};
 ghost use Rattle.aes128.specs.Inner.Steps.{nextKey};
-use crate::round::wide_of;
 use field::Block;
 
 // The S-box at a byte.
@@ -69,6 +69,13 @@ fn number(x: u8) -> u64
     ensures { λ r. ⌜ (r ≡ x) × (r < 256) ⌝ }
 {
     x as u64
+}
+
+// The wide column of four bytes.
+pub fn wide_of(a: u8, b: u8, c: u8, d: u8) -> u64
+    ensures { λ r. ⌜ wideRows r ≡ a ∷ b ∷ c ∷ d ∷ [] ⌝ }
+{
+    (a as u64) + ((b as u64) + (c as u64) * 0x100) * 0x100_0000 + (d as u64) * 0x100_0000_0000_0000
 }
 
 // The wide column of a word.

@@ -6,7 +6,7 @@ ghost use Rattle.aes128.specs.Inner.Words.{roundKeys};
 ghost use Rattle.field.specs.Bytes.{highOf};
 ghost use Rattle.code.specs.Inner.Rows.{Shaped, termBlockBy, placeBy, placeIn};
 use crate::Shape;
-use aes128::encrypt;
+use block_cipher::encrypt;
 use field::Block;
 
 // The place that a word names for term i, in strip i.

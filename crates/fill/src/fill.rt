@@ -16,7 +16,7 @@ ghost use Rattle.fill.specs.Inner.Ranges.{pairOf, leafAdded, childrenAdd
 use crate::range::Path;
 use crate::range::Range;
 use crate::range::parted;
-use aes128::TwoBlocks;
+use block_cipher::TwoBlocks;
 use field::Block;
 use field::Prime;
 use tree::Punctured;
@@ -113,7 +113,7 @@ fn add_pair(
     requires { ⌜ RoundTables (now tables) × (c + 2 ≤ 8) × (length (now acc) ≡ 2 * elementWords field) ⌝ }
     ensures { λ _. ⌜ now (acc .exit) ≡ childrenAdded field (childBy (keysFor (now (keys .entry)))) c 2 (nodeOf s) (now (acc .entry)) ⌝ }
 {
-    let ciphers = aes128::encrypt_two(tables, &keys[c], &keys[c + 1], s, s);
+    let ciphers = block_cipher::encrypt_two(tables, &keys[c], &keys[c + 1], s, s);
     let both = TwoBlocks {
         first: ciphers.first.add(s),
         second: ciphers.second.add(s),

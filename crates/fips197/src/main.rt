@@ -111,7 +111,7 @@ fn block_wrong(
     requires { ⌜ SBoxTable (now sbox) × RoundTables (now tables) ⌝ }
 {
     let keys = aes128::schedule(sbox, key);
-    let mine = aes128::encrypt(tables, &keys, Block::of_columns(block));
+    let mine = block_cipher::encrypt(tables, &keys, Block::of_columns(block));
     let w = plain::expand(plain, bytes(key));
     let other = plain::encrypt(plain, &w, bytes(block));
     one_wrong(mine.columns(), other, want)
@@ -131,7 +131,7 @@ fn pair_wrong(
     let second_keys = aes128::schedule(sbox, keys[1]);
     let first = Block::of_columns(blocks[0]);
     let second = Block::of_columns(blocks[1]);
-    let mine = aes128::encrypt_two(tables, &first_keys, &second_keys, first, second);
+    let mine = block_cipher::encrypt_two(tables, &first_keys, &second_keys, first, second);
     differ(bytes(mine.first.columns()), bytes(want[0]))
         | differ(bytes(mine.second.columns()), bytes(want[1]))
 }
@@ -202,8 +202,8 @@ fn chain_wrong(sbox: &[u8; 256], tables: &[u64; 1536], plain: &[u8; 256]) -> u8
         let v = plain_of(plain, last);
         let mut m: u32 = 0;
         while m < 100 {
-            let mine = aes128::encrypt(tables, &keys, block);
-            let two = aes128::encrypt_two(tables, &keys, &lasts, block, key);
+            let mine = block_cipher::encrypt(tables, &keys, block);
+            let two = block_cipher::encrypt_two(tables, &keys, &lasts, block, key);
             d = d
                 | apart(plain, &w, block, mine)
                 | apart(plain, &w, block, two.first)

@@ -6,7 +6,7 @@ ghost use Rattle.aes128.specs.Inner.Words.{roundKeys};
 ghost use Rattle.pads.specs.Pad.{padKey, pad};
 ghost use Rattle.pad_calls.specs.Inner.Steps.{PadKeys};
 ghost use Rattle.pads.specs.Inner.Passes.{secondStep};
-use aes128::TwoBlocks;
+use block_cipher::TwoBlocks;
 use field::Block;
 
 // The round keys of the pads' key, 16 bytes FF.
@@ -38,7 +38,7 @@ pub fn second_steps(
         low: y as u64,
         high: 0,
     });
-    let e = aes128::encrypt_two(tables, keys, keys, p, q);
+    let e = block_cipher::encrypt_two(tables, keys, keys, p, q);
     TwoBlocks {
         first: e.first.add(s),
         second: e.second.add(t),
@@ -50,7 +50,7 @@ pub fn one_pad(tables: &[u64; 1536], keys: &[u64; 40], x: usize, a: Block) -> Bl
     requires { ⌜ PadKeys (now tables) (now keys) ⌝ }
     ensures { λ r. ⌜ r ≡ pad x a ⌝ }
 {
-    let s = aes128::encrypt(tables, keys, a);
+    let s = block_cipher::encrypt(tables, keys, a);
     let p = second_steps(tables, keys, x, x, s, s);
     p.first
 }

@@ -21,7 +21,7 @@ fn start_two(tables: &[u64; 1536], keys: &[u64; 40], a: Block, b: Block, pads: &
     ensures { λ _. ⌜ now (pads .exit)
         ≡ withValue blockBytes (withValue blockBytes (now (pads .entry)) at (underPadKey a)) (at + 16) (underPadKey b) ⌝ }
 {
-    let s = aes128::encrypt_two(tables, keys, keys, a, b);
+    let s = block_cipher::encrypt_two(tables, keys, keys, a, b);
     put_block(pads, at, s.first);
     put_block(pads, at + 16, s.second);
 }

@@ -10,12 +10,12 @@ ghost use Rattle.sbox.specs.Inner.Tables.{RoundTables, mixed0, mixed1, mixed2, 
 ghost use Rattle.aes128.specs.State.{column, xorWord};
 ghost use Rattle.aes128.specs.Inner.Blocks.{cipherOf};
 ghost use Rattle.row_cipher.specs.Inner.Row.{mixedColumn, Lacks, firstOf, secondOf, IsShared};
-use aes128::TwoBlocks;
-use aes128::first_key;
-use aes128::full_round;
-use aes128::last_round;
-use aes128::rows;
 use aes128::wide_of;
+use block_cipher::TwoBlocks;
+use block_cipher::first_key;
+use block_cipher::full_round;
+use block_cipher::last_round;
+use block_cipher::rows;
 use field::Block;
 
 // Two words.

@@ -8,7 +8,7 @@ ghost use Rattle.tree.specs.Inner.Keys.{keysFor};
 ghost use Rattle.tree.specs.KeySchedules.{OfChildKeys};
 ghost use Rattle.tree.specs.Inner.Nodes.{nodeOf};
 use crate::powers::power;
-use aes128::TwoBlocks;
+use block_cipher::TwoBlocks;
 use field::Block;
 
 // The round keys of the child keys of a node's 2^branch_bits children, those of child c at place c.
@@ -34,7 +34,7 @@ pub fn children(tables: &[u64; 1536], keys: &[[u64; 40]; 8], c: usize, s: Block)
     requires { ⌜ RoundTables (now tables) × (c + 1 < 8) ⌝ }
     ensures { λ r. ⌜ (nodeOf (r .first) ≡ childBy (keysFor (now (keys .entry))) c (nodeOf s)) × (nodeOf (r .second) ≡ childBy (keysFor (now (keys .entry))) (c + 1) (nodeOf s)) ⌝ }
 {
-    let both = aes128::encrypt_two(tables, &keys[c], &keys[c + 1], s, s);
+    let both = block_cipher::encrypt_two(tables, &keys[c], &keys[c + 1], s, s);
     TwoBlocks {
         first: both.first.add(s),
         second: both.second.add(s),
@@ -46,7 +46,7 @@ pub fn child(tables: &[u64; 1536], keys: &[[u64; 40]; 8], c: usize, s: Block) ->
     requires { ⌜ RoundTables (now tables) × (c < 8) ⌝ }
     ensures { λ r. ⌜ nodeOf r ≡ childBy (keysFor (now (keys .entry))) c (nodeOf s) ⌝ }
 {
-    let e = aes128::encrypt(tables, &keys[c], s);
+    let e = block_cipher::encrypt(tables, &keys[c], s);
     e.add(s)
 }
 
@@ -61,7 +61,7 @@ pub fn child_of_both(
     requires { ⌜ RoundTables (now tables) × (c < 8) ⌝ }
     ensures { λ r. ⌜ (nodeOf (r .first) ≡ childBy (keysFor (now (keys .entry))) c (nodeOf a)) × (nodeOf (r .second) ≡ childBy (keysFor (now (keys .entry))) c (nodeOf b)) ⌝ }
 {
-    let both = aes128::encrypt_two(tables, &keys[c], &keys[c], a, b);
+    let both = block_cipher::encrypt_two(tables, &keys[c], &keys[c], a, b);
     TwoBlocks {
         first: both.first.add(a),
         second: both.second.add(b),

@@ -1,8 +1,8 @@
--- `aes128::round::last_column` meets its contract: the tables' rules at the four bytes. Assumes nothing.
+-- `block_cipher::round::last_column` meets its contract: the tables' rules at the four bytes. Assumes nothing.
 use borrow.Author.Needs.{needs}
 use Rattle.aes128.proofs.Last.{last-column}
-use Rattle.aes128.proofs.round.last_column.Statement.{statement}
-use Rattle.aes128.proofs.round.last_column.Tie as tie
+use Rattle.block_cipher.proofs.round.last_column.Statement.{statement}
+use Rattle.block_cipher.proofs.round.last_column.Tie as tie
 
 pub last-column-spec : {M : Type 1} → statement M
 last-column-spec =

@@ -1,10 +1,10 @@
--- `aes128::round::last_round` meets its contract. Assumes nothing.
+-- `block_cipher::round::last_round` meets its contract. Assumes nothing.
 use mathlib.Core.Path.{_∙_}
 use borrow.Author.Needs.{needs}
 use Rattle.aes128.specs.Cipher.{subBytes, shiftRows}
 use Rattle.aes128.proofs.Last.{last-state}
-use Rattle.aes128.proofs.round.last_round.Statement.{statement}
-use Rattle.aes128.proofs.round.last_round.Tie as tie
+use Rattle.block_cipher.proofs.round.last_round.Statement.{statement}
+use Rattle.block_cipher.proofs.round.last_round.Tie as tie
 
 pub last-round-spec : {M : Type 1} → statement M
 unfolding shiftRows subBytes

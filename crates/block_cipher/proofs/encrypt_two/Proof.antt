@@ -1,9 +1,9 @@
--- `aes128::encrypt_two` meets its contract: each block round by round. Assumes nothing.
+-- `block_cipher::encrypt_two` meets its contract: each block round by round. Assumes nothing.
 use native.Mathlib.Omega.{arith}
 use borrow.Author.Needs.{needs}
 use Rattle.aes128.proofs.Rounds.{ten-rounds}
-use Rattle.aes128.proofs.encrypt_two.Statement.{statement}
-use Rattle.aes128.proofs.encrypt_two.Tie as tie
+use Rattle.block_cipher.proofs.encrypt_two.Statement.{statement}
+use Rattle.block_cipher.proofs.encrypt_two.Tie as tie
 
 pub encrypt-two-spec : {M : Type 1} → statement M
 encrypt-two-spec =

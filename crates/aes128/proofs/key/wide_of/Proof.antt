@@ -1,8 +1,8 @@
--- `aes128::round::wide_of` meets its contract. Assumes nothing.
+-- `aes128::key::wide_of` meets its contract. Assumes nothing.
 use borrow.Author.Needs.{needs}
 use Rattle.aes128.proofs.Wide.{wide-made}
-use Rattle.aes128.proofs.round.wide_of.Statement.{statement}
-use Rattle.aes128.proofs.round.wide_of.Tie as tie
+use Rattle.aes128.proofs.key.wide_of.Statement.{statement}
+use Rattle.aes128.proofs.key.wide_of.Tie as tie
 
 pub wide-of-spec : {M : Type 1} → statement M
 wide-of-spec =

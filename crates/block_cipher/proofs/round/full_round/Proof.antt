@@ -1,9 +1,9 @@
--- `aes128::round::full_round` meets its contract. Assumes nothing.
+-- `block_cipher::round::full_round` meets its contract. Assumes nothing.
 use borrow.Author.Needs.{needs}
 use Rattle.aes128.specs.Cipher.{subBytes, shiftRows, mixColumns}
 use Rattle.aes128.proofs.Rounds.{with-key}
-use Rattle.aes128.proofs.round.full_round.Statement.{statement}
-use Rattle.aes128.proofs.round.full_round.Tie as tie
+use Rattle.block_cipher.proofs.round.full_round.Statement.{statement}
+use Rattle.block_cipher.proofs.round.full_round.Tie as tie
 
 pub full-round-spec : {M : Type 1} → statement M
 unfolding mixColumns shiftRows subBytes

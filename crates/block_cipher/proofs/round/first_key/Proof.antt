@@ -1,9 +1,9 @@
--- `aes128::round::first_key` meets its contract. Assumes nothing.
+-- `block_cipher::round::first_key` meets its contract. Assumes nothing.
 use mathlib.Core.Path.{_∙_}
 use borrow.Author.Needs.{needs}
 use Rattle.aes128.proofs.Columns.{columns-xor}
-use Rattle.aes128.proofs.round.first_key.Statement.{statement}
-use Rattle.aes128.proofs.round.first_key.Tie as tie
+use Rattle.block_cipher.proofs.round.first_key.Statement.{statement}
+use Rattle.block_cipher.proofs.round.first_key.Tie as tie
 
 pub first-key-spec : {M : Type 1} → statement M
 first-key-spec =

@@ -1,9 +1,9 @@
--- `aes128::round::rows` meets its contract. Assumes nothing.
+-- `block_cipher::round::rows` meets its contract. Assumes nothing.
 use mathlib.Core.Path.{refl}
 use borrow.Author.Needs.{needs}
 use Rattle.sbox.specs.Inner.Wide.{wideRows}
-use Rattle.aes128.proofs.round.rows.Statement.{statement}
-use Rattle.aes128.proofs.round.rows.Tie as tie
+use Rattle.block_cipher.proofs.round.rows.Statement.{statement}
+use Rattle.block_cipher.proofs.round.rows.Tie as tie
 
 pub rows-spec : {M : Type 1} → statement M
 unfolding wideRows

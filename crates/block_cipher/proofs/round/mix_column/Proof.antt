@@ -1,9 +1,9 @@
--- `aes128::round::mix_column` meets its contract: the tables' rules at the four bytes. Assumes nothing.
+-- `block_cipher::round::mix_column` meets its contract: the tables' rules at the four bytes. Assumes nothing.
 use mathlib.Core.Path.{_∙_}
 use borrow.Author.Needs.{needs}
 use Rattle.aes128.proofs.Wide.{mixed-column}
-use Rattle.aes128.proofs.round.mix_column.Statement.{statement}
-use Rattle.aes128.proofs.round.mix_column.Tie as tie
+use Rattle.block_cipher.proofs.round.mix_column.Statement.{statement}
+use Rattle.block_cipher.proofs.round.mix_column.Tie as tie
 
 pub mix-column-spec : {M : Type 1} → statement M
 mix-column-spec =

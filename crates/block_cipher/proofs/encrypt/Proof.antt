@@ -1,9 +1,9 @@
--- `aes128::encrypt` meets its contract: round by round. Assumes nothing.
+-- `block_cipher::encrypt` meets its contract: round by round. Assumes nothing.
 use native.Mathlib.Omega.{arith}
 use borrow.Author.Needs.{needs}
 use Rattle.aes128.proofs.Rounds.{ten-rounds}
-use Rattle.aes128.proofs.encrypt.Statement.{statement}
-use Rattle.aes128.proofs.encrypt.Tie as tie
+use Rattle.block_cipher.proofs.encrypt.Statement.{statement}
+use Rattle.block_cipher.proofs.encrypt.Tie as tie
 
 pub encrypt-spec : {M : Type 1} → statement M
 encrypt-spec =
