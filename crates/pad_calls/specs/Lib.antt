@@ -1,2 +1,2 @@
--- The definitions of `pad_calls`. What its functions promise is said in `pads`.
+-- The definitions of `pad_calls`, all of them inner: its contracts cite what `pads` says.
 pub mod Inner

@@ -1,2 +1,2 @@
--- The definitions of `stock_calls`. What its functions promise is said in `stock`.
+-- The definitions of `stock_calls`, all of them inner: its contracts cite what `stock` says.
 pub mod Inner

@@ -1,7 +1,7 @@
 -- What expanding a tree gives (document 01, 'Trees', 'Dealing', 'Offline and online'), for any number k of children and any child
--- function: the walk to a leaf, the leaves of a tree added into words, and those of a punctured tree. The contracts of `walk`, and
--- of `add_leaves` and `add_punctured` in crate `fill`, cite these with `childBy` the round keys that they are lent, whatever those
--- are (document 02, 3).
+-- function: the walk to a leaf, the leaves of a tree added into words, and those of a punctured tree. The contracts of `walk` in
+-- crate `tree_walk`, and of `add_leaves` and `add_punctured` in crate `fill`, cite these with `childBy` the round keys that they are
+-- lent, whatever those are (document 02, 3).
 use mathlib.Core.List.{List, []}
 use Prim.Native.Nat.{ℕ, _-_, _*_, _^_}
 use lib.Seq.{sets}

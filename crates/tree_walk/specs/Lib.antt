@@ -1,2 +1,2 @@
--- The definitions of `tree_walk`. What its functions promise is said in `tree`.
+-- The definitions of `tree_walk`, all of them inner: its contracts cite what `tree` says.
 pub mod Inner
