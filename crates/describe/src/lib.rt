@@ -12,8 +12,8 @@ use record::Front;
 use record::Opened;
 use record::fault_of;
 use record::leaves;
-use record::read_noise;
-use record::read_scalar;
+use record_reading::read_noise;
+use record_reading::read_scalar;
 
 // The answer: the number; the end, the field and the sizes of the record; N, and the words of an element; the label and the code
 // key. A refused record has zeros beside its number.

@@ -13,7 +13,7 @@ use field::element_width;
 use record::Opened;
 use record::fault_of;
 use record::leaves;
-use record::read_noise;
+use record_reading::read_noise;
 use window::vector_words;
 use window::window_number;
 use window::write_rows;

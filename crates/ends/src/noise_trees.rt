@@ -17,7 +17,7 @@ use fill::add_punctured;
 use fill::zero_words;
 use record::Front;
 use record::Tree;
-use record::known_tree;
+use record_reading::known_tree;
 use record::leaves;
 use record::sibling_count;
 use tree::Punctured;

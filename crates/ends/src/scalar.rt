@@ -14,7 +14,7 @@ use field::element_width;
 use record::Opened;
 use record::fault_of;
 use record::leaves;
-use record::read_scalar;
+use record_reading::read_scalar;
 use window::vector_words;
 use window::window_number;
 use window::write_rows;

@@ -14,8 +14,8 @@ use record::Front;
 use record::Opened;
 use record::fault_of;
 use record::leaves;
-use record::read_noise;
-use record::read_scalar;
+use record_reading::read_noise;
+use record_reading::read_scalar;
 
 // The leaves that there is memory for.
 const MOST_LEAVES: usize = 1024;

@@ -1,20 +1,13 @@
-// Key records: reading the noise record and the scalar record with every test, a second pass over what was accepted, and
-// writing both.
+// Key records: the head and a tree in numbers, what reading gives, sizes that follow, and writing. Reading is crate `record_reading`.
 ghost use mathlib.Core.Path.{_≡_};
 ghost use Rattle.record.specs.Answer.{recordFault};
 
-mod element;
-mod head;
-mod noise;
-mod scalar;
+mod sizes;
 mod writing;
 
-pub use head::leaves;
-pub use head::sibling_count;
-pub use head::smaller;
-pub use noise::known_tree;
-pub use noise::read_noise;
-pub use scalar::read_scalar;
+pub use sizes::leaves;
+pub use sizes::sibling_count;
+pub use sizes::smaller;
 pub use writing::front_length;
 pub use writing::head_length;
 pub use writing::noise_length;

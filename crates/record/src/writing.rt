@@ -10,7 +10,7 @@ ghost use Rattle.record.specs.Inner.Heads.{headFrom, scalarWith};
 ghost use Rattle.record.specs.Writing.{writeHead, writeValue, writeWords, writeScalar};
 ghost use Rattle.record.specs.Inner.Lengths.{Writable, afterDepthBytes, sizesBytes, frontBytes, headLength, frontLength, treeLength, noiseLength, scalarLength};
 use crate::Front;
-use crate::head::sibling_count;
+use crate::sizes::sibling_count;
 use field::Element;
 use field::element_length;
 use field::one_noise;

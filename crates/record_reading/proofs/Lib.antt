@@ -1,0 +1,3 @@
+-- The laws of `record_reading`.
+pub mod Records
+pub mod Trees
