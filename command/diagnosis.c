@@ -9,7 +9,7 @@
  *   corrections that disagree in every tree, and all call for one other Delta, say that Delta is wrong;
  *   a tree in which nothing agrees has a wrong root if some root that differs in one byte makes all of it agree; else its root
  *   or all of the tree is wrong, and nobody can tell which;
- *   the same holds of a tree that agrees with another root than its own, but where trees and roots agree one to one and the
+ *   the same holds of a tree that agrees with two roots in part, or with another root than its own, but where trees and roots agree one to one and the
  *   places rise: then the roots stand in another order, which changes nothing;
  *   where no tree agrees the records were not dealt together, or too much of them is altered.
  * Of two parts that may be wrong, one that needs few bytes changed is taken where the other needs many: what is altered in a
@@ -330,21 +330,28 @@ static void mend_root(const struct pair *pair, size_t k, struct judged *judged)
     companion_wipe(&tried, sizeof tried);
 }
 
+/* Holds a tree to its root and, where not all of it agrees with that, to the others. One that agrees with two in part is as good as
+ * moved: roots or siblings were copied. */
 static void judge(struct pair *pair, size_t k)
 {
     struct judged *judged = &pair->tree[k], other;
     memset(judged, 0, sizeof *judged);
+    memset(&other, 0, sizeof other);
     judge_from(pair, k, root_of(pair, k), judged);
     judged->root = k;
-    for (size_t j = 0; j < pair->n->trees && !judged->known; j++) {
-        memset(&other, 0, sizeof other);
+    for (size_t j = 0; j < pair->n->trees && judged->walk.agree < pair->shape.siblings && !judged->moved; j++) {
+        if (j == k)
+            continue;
         judge_from(pair, k, root_of(pair, j), &other);
-        if (other.walk.agree > 0) {
+        if (other.walk.agree > 0 && judged->known) {
+            judged->moved = 1;
+            judged->known = 0;
+        } else if (other.walk.agree > 0) {
             other.root = j;
             *judged = other;
         }
     }
-    if (!judged->known)
+    if (!judged->known && !judged->moved)
         mend_root(pair, k, judged);
     companion_wipe(&other, sizeof other);
 }
@@ -411,7 +418,7 @@ static void find_moved(struct pair *pair, struct diagnosis *to)
     last = SIZE_MAX;
     for (size_t k = 0; k < pair->n->trees; k++) {
         struct judged *judged = &pair->tree[k];
-        judged->moved = !rising && judged->known && judged->root != k;
+        judged->moved |= !rising && judged->known && judged->root != k;
         if (judged->moved || !judged->known || !leaf_known(pair, judged))
             continue;
         if (last != SIZE_MAX && judged->walk.place <= pair->tree[last].walk.place)
