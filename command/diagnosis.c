@@ -9,7 +9,7 @@
  *   corrections that disagree in every tree, and all call for one other Delta, say that Delta is wrong;
  *   a tree in which nothing agrees has a wrong root if some root that differs in one byte makes all of it agree; else its root
  *   or all of the tree is wrong, and nobody can tell which;
- *   the same holds of a tree that agrees with another root than its own, but where trees and roots agree one to one and the
+ *   the same holds of a tree that agrees with two roots in part, or with another root than its own, but where trees and roots agree one to one and the
  *   places rise: then the roots stand in another order, which changes nothing;
  *   where no tree agrees the records were not dealt together, or too much of them is altered.
  * Of two parts that may be wrong, one that needs few bytes changed is taken where the other needs many: what is altered in a
@@ -88,8 +88,9 @@ static void make_children(const uint8_t node[BLOCK], size_t branch_bits, uint8_t
 struct walk {
     size_t place, agree;
     int deepest; /* the deepest level at which a sibling agrees, or -1 */
-    int tied;    /* other paths agree as much: they part at the deepest level, in siblings that agree with none of them */
-    uint8_t agrees[SIBLINGS_MAX], due[SIBLINGS_MAX][BLOCK], leaf[BLOCK];
+    int tied;    /* other paths agree as much: they part at the deepest level */
+    uint8_t agrees[SIBLINGS_MAX], maybe[SIBLINGS_MAX]; /* maybe: with this path, or with one that is tied with it */
+    uint8_t due[SIBLINGS_MAX][BLOCK], leaf[BLOCK];
 };
 
 struct shape {
@@ -109,20 +110,25 @@ static size_t slot_of(size_t child, size_t digit)
 }
 
 /* Goes on from a node at a level. At each level the digit with which most siblings agree is taken, the hint's among equals;
- * others of the equals are tried too, and the walk that agrees most is kept. Where none agrees the hint's is taken. */
-static void go_down(const struct shape *shape, const uint8_t *siblings, size_t hint, size_t level, const uint8_t node[BLOCK],
-                    const struct walk *so_far, struct walk *best)
+ * others of the equals are tried too, and the walk that agrees most is kept. Where none agrees, and where it is to be followed, the
+ * hint's is taken. */
+static void go_down(const struct shape *shape, const uint8_t *siblings, size_t hint, int follow, size_t level,
+                    const uint8_t node[BLOCK], const struct walk *so_far, struct walk *best)
 {
     uint8_t children[BRANCHES_MAX][BLOCK];
     size_t shift, own, most = 0, count[BRANCHES_MAX] = {0}, first = level * (shape->branches - 1);
     struct walk here;
     if (level == shape->levels) {
         int tied = best->place != SIZE_MAX && so_far->agree <= best->agree && (so_far->agree == best->agree || best->tied);
+        uint8_t maybe[SIBLINGS_MAX];
+        for (size_t at = 0; at < SIBLINGS_MAX; at++)
+            maybe[at] = so_far->agree < best->agree ? best->maybe[at] : so_far->agrees[at] | (tied ? best->maybe[at] : 0);
         if (best->place == SIZE_MAX || so_far->agree > best->agree
             || (so_far->agree == best->agree && so_far->place == hint)) {
             *best = *so_far;
             memcpy(best->leaf, node, BLOCK);
         }
+        memcpy(best->maybe, maybe, sizeof maybe);
         best->tied = tied;
         return;
     }
@@ -136,32 +142,33 @@ static void go_down(const struct shape *shape, const uint8_t *siblings, size_t h
     }
     for (size_t turn = 0; turn < shape->branches; turn++) {
         size_t digit = turn == 0 ? own : turn <= own ? turn - 1 : turn; /* the hint's first */
-        if (count[digit] < most || (most == 0 && turn > 0))
+        if (follow ? turn > 0 : count[digit] < most || (most == 0 && turn > 0))
             continue;
         here = *so_far;
         here.place |= digit << shift;
         here.agree += count[digit];
-        here.deepest = most > 0 ? (int)level : here.deepest;
+        here.deepest = count[digit] > 0 ? (int)level : here.deepest;
         for (size_t c = 0; c < shape->branches; c++)
             if (c != digit) {
                 size_t at = first + slot_of(c, digit);
                 memcpy(here.due[at], children[c], BLOCK);
                 here.agrees[at] = memcmp(children[c], siblings + BLOCK * at, BLOCK) == 0;
             }
-        go_down(shape, siblings, hint, level + 1, children[digit], &here, best);
+        go_down(shape, siblings, hint, follow, level + 1, children[digit], &here, best);
     }
     companion_wipe(children, sizeof children);
     companion_wipe(&here, sizeof here);
 }
 
-static void walk_tree(const struct shape *shape, const uint8_t root[BLOCK], const uint8_t *siblings, size_t hint, struct walk *walk)
+static void walk_tree(const struct shape *shape, const uint8_t root[BLOCK], const uint8_t *siblings, size_t hint, int follow,
+                      struct walk *walk)
 {
     struct walk start;
     memset(&start, 0, sizeof start);
     start.deepest = -1;
     memset(walk, 0, sizeof *walk);
     walk->place = SIZE_MAX;
-    go_down(shape, siblings, hint & (((size_t)1 << shape->depth) - 1), 0, root, &start, walk);
+    go_down(shape, siblings, hint & (((size_t)1 << shape->depth) - 1), follow, 0, root, &start, walk);
 }
 
 /* ---- elements ---- */
@@ -280,17 +287,20 @@ static const uint8_t *root_of(const struct pair *pair, size_t root)
     return pair->scalar + pair->s->roots + BLOCK * root;
 }
 
-/* Walks a tree from a root, and holds the correction to the last node. */
+/* Walks a tree from a root, and holds the correction to the last node: along the position first, which a correction that fits confirms. */
 static void judge_from(const struct pair *pair, size_t k, const uint8_t *root, struct judged *judged)
 {
     const struct tree_layout *tree = &pair->n->tree[k];
     uint8_t field = pair->n->field;
     struct element product;
-    walk_tree(&pair->shape, root, pair->noise + tree->siblings, tree->place, &judged->walk);
-    judged->leaf = leaf_element(judged->walk.leaf, field);
     judged->correction = read_element(pair->noise + tree->correction.first, field);
-    product = minus(judged->leaf, judged->correction, field); /* Delta times the value */
-    judged->fits = same(product, times(pair->delta, tree->noise, field));
+    judged->fits = 0;
+    for (int follow = 1; follow >= 0 && !judged->fits; follow--) {
+        walk_tree(&pair->shape, root, pair->noise + tree->siblings, tree->place, follow, &judged->walk);
+        judged->leaf = leaf_element(judged->walk.leaf, field);
+        product = minus(judged->leaf, judged->correction, field); /* Delta times the value */
+        judged->fits = same(product, times(pair->delta, tree->noise, field));
+    }
     judged->wanted_delta = times(product, field == EXPANDER_PRIME ? prime_inverse(prime_of(tree->noise)) : 1, field);
     judged->known = judged->walk.agree > 0 || judged->fits;
 }
@@ -330,21 +340,28 @@ static void mend_root(const struct pair *pair, size_t k, struct judged *judged)
     companion_wipe(&tried, sizeof tried);
 }
 
+/* Holds a tree to its root and, where not all of it agrees with that, to the others. One that agrees with two in part is as good as
+ * moved: roots or siblings were copied. */
 static void judge(struct pair *pair, size_t k)
 {
     struct judged *judged = &pair->tree[k], other;
     memset(judged, 0, sizeof *judged);
+    memset(&other, 0, sizeof other);
     judge_from(pair, k, root_of(pair, k), judged);
     judged->root = k;
-    for (size_t j = 0; j < pair->n->trees && !judged->known; j++) {
-        memset(&other, 0, sizeof other);
+    for (size_t j = 0; j < pair->n->trees && judged->walk.agree < pair->shape.siblings && !judged->moved; j++) {
+        if (j == k)
+            continue;
         judge_from(pair, k, root_of(pair, j), &other);
-        if (other.walk.agree > 0) {
+        if (other.walk.agree > 0 && judged->known) {
+            judged->moved = 1;
+            judged->known = 0;
+        } else if (other.walk.agree > 0) {
             other.root = j;
             *judged = other;
         }
     }
-    if (!judged->known)
+    if (!judged->known && !judged->moved)
         mend_root(pair, k, judged);
     companion_wipe(&other, sizeof other);
 }
@@ -360,7 +377,7 @@ static void find_siblings(const struct pair *pair, size_t k, struct diagnosis *t
         size_t level = at / each, slot = at % each, first = tree->siblings + BLOCK * at;
         size_t digit = (judged->walk.place >> (pair->shape.depth - pair->shape.branch_bits * (level + 1))) & each;
         struct finding finding;
-        if (judged->walk.agrees[at])
+        if (judged->walk.agrees[at] || (judged->walk.maybe[at] && !judged->fits))
             continue;
         if (!judged->fits && (int)level > judged->walk.deepest) {
             rest.first = rest.len == 0 ? first : rest.first;
@@ -411,7 +428,7 @@ static void find_moved(struct pair *pair, struct diagnosis *to)
     last = SIZE_MAX;
     for (size_t k = 0; k < pair->n->trees; k++) {
         struct judged *judged = &pair->tree[k];
-        judged->moved = !rising && judged->known && judged->root != k;
+        judged->moved |= !rising && judged->known && judged->root != k;
         if (judged->moved || !judged->known || !leaf_known(pair, judged))
             continue;
         if (last != SIZE_MAX && judged->walk.place <= pair->tree[last].walk.place)
@@ -599,7 +616,7 @@ int prefix_agrees(const uint8_t *noise, size_t noise_len, const struct layout *n
         if (there == 0)
             break;
         memcpy(siblings, noise + tree->siblings, BLOCK * there);
-        walk_tree(&shape, scalar + root, siblings, tree->place, &walk);
+        walk_tree(&shape, scalar + root, siblings, tree->place, 0, &walk);
         well = walk.agree >= there && walk.place == tree->place;
         agreeing += walk.agree;
         companion_wipe(siblings, sizeof siblings);
@@ -627,7 +644,7 @@ static size_t position_len(const struct shape *shape, const uint8_t *noise, size
         size_t siblings = at + len + 16;
         if (siblings > noise_len || noise_len - siblings < BLOCK * shape->siblings)
             return 0;
-        walk_tree(shape, root, noise + siblings, 0, walk);
+        walk_tree(shape, root, noise + siblings, 0, 0, walk);
         if (walk->agree == shape->siblings)
             return len;
     }
