@@ -1,10 +1,12 @@
 -- `row_cipher::without_row0` meets its contract: the order of the sums. Assumes nothing.
 use borrow.Author.Needs.{needs}
+use Rattle.row_cipher.specs.Inner.Row.{Lacks}
 use Rattle.row_cipher.proofs.Sharing.{lacks-row0}
 use Rattle.row_cipher.proofs.without_row0.Statement.{statement}
 use Rattle.row_cipher.proofs.without_row0.Tie as tie
 
 pub without-row0-spec : {M : Type 1} → statement M
+unfolding Lacks
 without-row0-spec =
     tie.close
     (tie.spec
@@ -18,5 +20,5 @@ without-row0-spec =
     (λ c. search needs)  -- mul-rows-3
     (λ c. search needs)  -- element-copy-out-rows-3
     (λ c κs. search needs)  -- rows-requires
-    (λ c. lacks-row0 (c .before .before .before .before .pre) _ (search needs) (search needs) (search needs) (c .rows .ensures))  -- returns
+    (λ c. search lacks-row0)  -- returns
     )
