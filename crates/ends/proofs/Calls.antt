@@ -85,8 +85,10 @@ module _ (s : List ℕ) {r : Opened} (opens : opened s r ≡ frontOf (readNoise 
         v-short k = second-short _ _ _ _ (length noise) (length v) se h we k ∙ sym (noiseLaws.offline-whole s noise v (noiseContent.ready s opens e .read))
 
         pub noise-expanded : words ≤ length v → {a b : List ℕ}
-            → a ≡ flat (kindOf (f .field) .field .noiseValues) (2 ^ f .depth) (accumulate (kindOf (f .field) .field .ring .group) (mu (noiseReady.contentOf s f)))
-            → b ≡ flat (kindOf (f .field) .field .elements) (2 ^ f .depth) (accumulate (kindOf (f .field) .field .scaled .group) (v0 (noiseReady.contentOf s f)))
+            → a ≡ flat (kindOf (f .field) .field .noiseValues) (2 ^ f .depth)
+            (accumulate (kindOf (f .field) .field .ring .group) (mu (noiseReady.contentOf s f)))
+            → b ≡ flat (kindOf (f .field) .field .elements) (2 ^ f .depth)
+            (accumulate (kindOf (f .field) .field .scaled .group) (v0 (noiseReady.contentOf s f)))
             → wrote {Written = TwoWritten} (record { first = size; second = words }) (noiseOffline.offlineWith s (a ++ drop size noise) (b ++ drop words v))
             ≡ noiseOffline.offline s noise v
         unfolding noiseOffline.expanded
@@ -136,7 +138,8 @@ module _ (s noise v uOut vOut : List ℕ) (first count : ℕ) {r : Opened} (open
       noise-words we = count-fits (f .field) we first count (v-fitting .testing .within)
 
       -- the test of the words that the rows use, place by place and vector by vector
-      both-used : bothUsed (codeKeys (headOf s f)) (rowsOf f a count) noise v ≡ windowUsable (noiseOnline.usable (fieldOf (headOf s f)) l) (headOf s f) first count
+      both-used : bothUsed (codeKeys (headOf s f)) (rowsOf f a count) noise v
+          ≡ windowUsable (noiseOnline.usable (fieldOf (headOf s f)) l) (headOf s f) first count
       unfolding elementsUsed windowUsable noiseOnline.usable rowOfBlocks termBlock termBlockBy aes
       both-used = simp every-both
 
@@ -183,7 +186,8 @@ module _ (s : List ℕ) {r : Opened} (opens : opened s r ≡ frontOf (readScalar
         delta-short k = second-short _ _ _ _ (length w) (length d) we h refl k ∙ sym (scalarLaws.offline-whole s w d (scalarContent.ready s opens e .read))
 
         pub scalar-expanded : 2 ≤ length d → {a b : List ℕ}
-            → a ≡ flat (kindOf (f .field) .field .elements) (2 ^ f .depth) (accumulate (kindOf (f .field) .field .scaled .group) (w0 (scalarReady.contentOf s f)))
+            → a ≡ flat (kindOf (f .field) .field .elements) (2 ^ f .depth)
+            (accumulate (kindOf (f .field) .field .scaled .group) (w0 (scalarReady.contentOf s f)))
             → b ≡ deltaOut (scalarReady.contentOf s f) ++ drop 2 d
             → wrote {Written = TwoWritten} (record { first = words; second = 2 }) (scalarOffline.offlineWith s (a ++ drop words w) b)
             ≡ scalarOffline.offline s w d

@@ -155,7 +155,8 @@ stores : (field : ℕ) (l : List ℕ) (p x : ℕ) → p < length l
     → set l p x ≡ put (kindOf field .field .noiseValues) l p (kindOf field .field .noiseValues .read (x ∷ []) 0)
 stores field l p x h = of (eqb field 1)
   where
-    of : (b : Bool) → set l p x ≡ put (choose b binaryKind primeKind .field .noiseValues) l p (choose b binaryKind primeKind .field .noiseValues .read (x ∷ []) 0)
+    of : (b : Bool) → set l p x
+        ≡ put (choose b binaryKind primeKind .field .noiseValues) l p (choose b binaryKind primeKind .field .noiseValues .read (x ∷ []) 0)
     of true = sym (put-one (λ b. b) (λ w. w) l p x h)
     of false = sym (put-one (λ a. a .word) prime l p (prime x) h)
 
@@ -175,7 +176,9 @@ siblings-columns s place (suc n) = ap₂ (λ (b : List (List ℕ)) (bs : List (L
 
 -- the words of the noise after i trees
 unfoldable pub Noise : List ℕ → Front → ℕ → List ℕ
-Noise s f i = flat (kindOf (f .field) .field .noiseValues) (2 ^ f .depth) (noise (kindOf (f .field) .field .ring) i (λ k. treeIn (treesAt s f) k .position) (value (contentOf s f)))
+Noise s f i =
+    flat (kindOf (f .field) .field .noiseValues) (2 ^ f .depth)
+    (noise (kindOf (f .field) .field .ring) i (λ k. treeIn (treesAt s f) k .position) (value (contentOf s f)))
 
 -- a tree of it
 abbrev puncturedOf : Front → Tree → Punctured
@@ -211,7 +214,8 @@ module _ (s : List ℕ) (f : Front) where
       let K = kindOf (f .field) in
       trees-none (ofNoise (K .field)) (noise-laws (f .field)) (2 ^ f .depth) (λ k j. K .field .ring .group .zero) (zero-noise (f .field)) z
       (h ∙ sym (ap (λ (n : ℕ). 2 ^ f .depth * n) (kindLaws (f .field) .noise-width) ∙ mul-one (2 ^ f .depth)))
-      ∙ flat-cong (K .field .noiseValues) (kindLaws (f .field) .field .noiseValues) (2 ^ f .depth) _ _ (λ j b. sum-none (K .field .ring .group) (λ k. K .field .ring .group .zero))
+      ∙ flat-cong (K .field .noiseValues) (kindLaws (f .field) .field .noiseValues) (2 ^ f .depth) _ _
+      (λ j b. sum-none (K .field .ring .group) (λ k. K .field .ring .group .zero))
 
   noise-stored : (i : ℕ) {w : List ℕ} → w ≡ Noise s f i → (t : Tree) (n : ℕ) → treeIn (treesAt s f) i ≡ treeOf s (f .field) n t
       → t .position < 2 ^ f .depth → t .position < length w → set w (t .position) (t .value) ≡ Noise s f (i + 1)
@@ -288,7 +292,8 @@ module _ (s : List ℕ) (f : Front) where
               (puncturedElement (K .leaf) k child [] (siblingsAt s (t .siblings) (beside f)) d (t .position) c)
               (q ∙ punctured-by k (keysFor keys) (pow-pos (f .«branch_bits»)) (g .own) K (kindLaws (f .field) .field) (puncturedOf f t) s c v)
               (λ j b.
-              ap₂ (λ (x : Value (K .field)) (xs : List (List (List ℕ))). choose (eqb (t .position) j) x (K .leaf (fromSiblings k child [] xs d (t .position) j)))
+              ap₂ (λ (x : Value (K .field)) (xs : List (List (List ℕ))).
+              choose (eqb (t .position) j) x (K .leaf (fromSiblings k child [] xs d (t .position) j)))
               (correction-words (f .field) (t .low) (t .high))
               (ap (siblingsAt s (t .siblings)) (sym (g .siblings)) ∙ sym (siblings-columns s (t .siblings) n))
               ∙ ap (λ (x : NoiseTree). choose (eqb (x .position) j) (K .field .elements .read (x .correction) 0)
