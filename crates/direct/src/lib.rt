@@ -21,13 +21,8 @@ use answer::TwoLengths;
 use code::Window;
 use record::Opened;
 use record::fault_of;
-<<<<<<< ours
 use record_reading::read_noise;
 use record_reading::read_scalar;
-=======
-use record::read_noise;
-use record::read_scalar;
->>>>>>> theirs
 
 // Writes the window's outputs: u to the front of u_out, v to the front of v_out.
 pub fn noise_direct(
