@@ -17,11 +17,11 @@ use Rattle.aes128.proofs.Words.{four-eq}
 -- round key 0 and the next n stand
 pub record Held (k : List (List (List ℕ))) (words : List ℕ) (n : ℕ) : Type 0 where
   pub size : length words ≡ 40
-  pub first : blockKey words 0 ≡ getD k 0 []
+  pub key-0 : blockKey words 0 ≡ getD k 0 []
   pub wide : (j : ℕ) → j < n → wideKey words (4 * j + 2) ≡ getD k (j + 1) []
 
 pub held-none : {k : List (List (List ℕ))} {words : List ℕ} → length words ≡ 40 → blockKey words 0 ≡ getD k 0 [] → Held k words 0
-held-none e f = record { size = e; first = f; wide = λ j h. absurd (omega arith) }
+held-none e f = record { size = e; key-0 = f; wide = λ j h. absurd (omega arith) }
 
 -- four words written
 abbrev pub fourSet : List ℕ → ℕ → ℕ → ℕ → ℕ → ℕ → List ℕ
@@ -86,7 +86,7 @@ pub held-next : {k : List (List (List ℕ))} {words : List ℕ} (w : List ℕ) {
 held-next {k} {words} w {i} held hi e =
     record {
       size = four-size words (4 * i + 2) _ _ _ _ room ∙ held .size;
-      first = ap₂ columnsOf (other words (4 * i + 2) _ _ _ _ room 0 (omega arith)) (other words (4 * i + 2) _ _ _ _ room 1 (omega arith)) ∙ held .first;
+      key-0 = ap₂ columnsOf (other words (4 * i + 2) _ _ _ _ room 0 (omega arith)) (other words (4 * i + 2) _ _ _ _ room 1 (omega arith)) ∙ held .key-0;
       wide = λ j h. decide j h (eqb j i) refl;
     }
   where
@@ -115,7 +115,7 @@ module _ {k : List (List (List ℕ))} {words : List ℕ} {i : ℕ} (a b : ℕ) (
       ∙ rw e (held .wide j (omega arith))
 
   first-kept : blockKey ended 0 ≡ getD k 0 []
-  first-kept = ap₂ columnsOf (kept 0 (lit< tt)) (kept 1 (lit< tt)) ∙ held .first
+  first-kept = ap₂ columnsOf (kept 0 (lit< tt)) (kept 1 (lit< tt)) ∙ held .key-0
 
   last-kept : blockKey ended 38 ≡ getD k 10 []
   last-kept =

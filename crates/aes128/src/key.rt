@@ -121,11 +121,11 @@ fn block_key(k: [[u8; 4]; 4]) -> Block
 fn words_of(k: [[[u8; 4]; 4]; 11]) -> [u64; 40]
     ensures { λ r. ⌜ roundKeys r ≡ k ⌝ }
 {
-    let first = block_key(k[0]);
+    let key0 = block_key(k[0]);
     let last = block_key(k[10]);
     let mut words = [0u64; 40];
-    words[0] = first.low;
-    words[1] = first.high;
+    words[0] = key0.low;
+    words[1] = key0.high;
     let mut i: usize = 0;
     while i < 9 {
         let w = wide_key(k[i + 1]);

@@ -14,7 +14,7 @@ use Rattle.field.specs.declared.prime.Prime.{Prime}
 use Rattle.field.specs.declared.signed.FromSigned.{FromSigned}
 use Rattle.field.specs.declared.signed.FromSigned.the-variants.{Element, OutOfRange}
 use Rattle.field.specs.Prime.{modulus}
-use Rattle.field.specs.Signed.{greatest, signedOf, signedElement, fromSigned}
+use Rattle.field.specs.Signed.{greatestAmount, signedOf, signedElement, fromSigned}
 use Rattle.field.proofs.Around.{element-below, read-element, near-read, element-read, sum-element, negate-element, near-opposite}
 use Rattle.amounts.specs.declared.Amount.{Amount}
 use Rattle.amounts.specs.declared.WrittenAmount.{WrittenAmount}
@@ -22,32 +22,32 @@ use Rattle.amounts.specs.Calls.{read, written, readAmount, writtenAs, wr
 use Rattle.amounts.specs.Agree.{InRange, Agree}
 
 -- the range is the distance of 2^60 − 1 from zero
-near : (z : ℤ) → InRange z → natAbs z ≤ greatest
-near (pos n) r = leb→le n greatest (r .to-greatest .le)
+near : (z : ℤ) → InRange z → natAbs z ≤ greatestAmount
+near (pos n) r = leb→le n greatestAmount (r .to-greatest .le)
 near (negsuc n) r = let h : n ≤ 1152921504606846974 = leb→le n 1152921504606846974 (r .from-least .le) in omega arith
 
-ranges : (z : ℤ) → natAbs z ≤ greatest → InRange z
-ranges (pos n) h = record { from-least = record { le = tt }; to-greatest = record { le = le→leb n greatest h } }
+ranges : (z : ℤ) → natAbs z ≤ greatestAmount → InRange z
+ranges (pos n) h = record { from-least = record { le = tt }; to-greatest = record { le = le→leb n greatestAmount h } }
 ranges (negsuc n) h =
     record { from-least = record { le = le→leb n 1152921504606846974 (omega arith) }; to-greatest = record { le = tt } }
 
 -- a number of the range passes both tests of the way back, and no other does
-written-near : (z : ℤ) → natAbs z ≤ greatest → writeAmount z ≡ written accepted (signedElement z .word)
+written-near : (z : ℤ) → natAbs z ≤ greatestAmount → writeAmount z ≡ written accepted (signedElement z .word)
 unfolding writeAmount fromSigned
-written-near (pos n) h = rw (le-ltb greatest n h)
+written-near (pos n) h = rw (le-ltb greatestAmount n h)
 written-near (negsuc n) h = let k : n ≤ 1152921504606846974 = omega arith in rw (le-ltb 1152921504606846974 n k)
 
 far-by : (t : Bool) (a : FromSigned) → writtenAs (choose t OutOfRange a) .number ≡ accepted → t ≡ false
 far-by true a e = absurd (omega arith)
 far-by false a e = refl
 
-far : (z : ℤ) → writeAmount z .number ≡ accepted → natAbs z ≤ greatest
+far : (z : ℤ) → writeAmount z .number ≡ accepted → natAbs z ≤ greatestAmount
 unfolding writeAmount fromSigned
 far (pos n) e =
-    let t = far-by (ltZ (pos n) (negℤ (pos greatest)) || ltZ (pos greatest) (pos n)) (Element (signedElement (pos n))) e in
-    ltb-false greatest n t
+    let t = far-by (ltZ (pos n) (negℤ (pos greatestAmount)) || ltZ (pos greatestAmount) (pos n)) (Element (signedElement (pos n))) e in
+    ltb-false greatestAmount n t
 far (negsuc n) e =
-    let t = far-by (ltZ (negsuc n) (negℤ (pos greatest)) || ltZ (pos greatest) (negsuc n)) (Element (signedElement (negsuc n))) e in
+    let t = far-by (ltZ (negsuc n) (negℤ (pos greatestAmount)) || ltZ (pos greatestAmount) (negsuc n)) (Element (signedElement (negsuc n))) e in
     let h : n ≤ 1152921504606846974 = ltb-false 1152921504606846974 n (or-none _ _ t .0) in
     omega arith
 
@@ -65,7 +65,7 @@ unfolding readAmount
 below x e = ltb-true x modulus (below-by (ltb x modulus) (read accepted (signedOf x)) e)
 
 -- the element of a number of the range is read as that number
-read-near : (z : ℤ) → natAbs z ≤ greatest → readAmount (signedElement z .word) ≡ read accepted z
+read-near : (z : ℤ) → natAbs z ≤ greatestAmount → readAmount (signedElement z .word) ≡ read accepted z
 read-near z h = read-below (signedElement z .word) (element-below z h) ∙ ap (read accepted) (read-element z h)
 
 pub agree : Agree

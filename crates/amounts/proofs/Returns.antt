@@ -13,12 +13,12 @@ use Rattle.field.specs.declared.prime.Prime.{Prime}
 use Rattle.field.specs.declared.signed.FromSigned.{FromSigned}
 use Rattle.field.specs.declared.signed.FromSigned.the-variants.{Element, OutOfRange}
 use Rattle.field.specs.Prime.{modulus, prime, primeReduce}
-use Rattle.field.specs.Signed.{greatest, signedOf, toSigned, fromSigned}
+use Rattle.field.specs.Signed.{greatestAmount, signedOf, toSigned, fromSigned}
 use Rattle.field.proofs.Around.{near-read}
 use Rattle.amounts.specs.Calls.{read, readAmount, written, writtenAs, writeAmount}
 
 -- a number of the range fits 64 bits
-fits : (z : ℤ) → natAbs z ≤ greatest → SFits w64 z
+fits : (z : ℤ) → natAbs z ≤ greatestAmount → SFits w64 z
 fits (pos n) h = record { sfits = omega arith }
 fits (negsuc n) h = record { sfits = omega arith }
 

@@ -7,13 +7,13 @@ use lib.IntN.{ℤ, pos, negℤ, _+ℤ_}
 use lib.Signed.{_≤ℤ_}
 use Rattle.answer.specs.Numbers.{accepted}
 use Rattle.field.specs.Prime.{modulus, prime, primeAdd}
-use Rattle.field.specs.Signed.{greatest, primeNegate}
+use Rattle.field.specs.Signed.{greatestAmount, primeNegate}
 use Rattle.amounts.specs.Calls.{read, written, readAmount, writeAmount}
 
 -- from −(2^60 − 1) to 2^60 − 1
 pub record InRange (amount : ℤ) : Type 0 where
-  pub from-least : negℤ (pos greatest) ≤ℤ amount
-  pub to-greatest : amount ≤ℤ pos greatest
+  pub from-least : negℤ (pos greatestAmount) ≤ℤ amount
+  pub to-greatest : amount ≤ℤ pos greatestAmount
 
 pub record Agree : Type 0 where
   -- exactly the elements are read, and exactly the amounts in range are written

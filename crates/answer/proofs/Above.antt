@@ -10,7 +10,7 @@ use lib.ListN.{length, getD, drop, drop-of-length-le}
 use lib.Seq.{drop-cons}
 use borrow.Author.Tests.{ltb-true, ltb-false, lt-ltb, le-ltb}
 use Rattle.algebra.proofs.Tests.{or-none}
-use Rattle.answer.specs.Bytes.{anyAbove, Bits}
+use Rattle.answer.specs.Bytes.{anyAbove, AreBits}
 
 -- no byte is above the limit
 pub none-above : (limit : ℕ) (bytes : List ℕ) → anyAbove limit bytes ≡ false → (k : ℕ) → getD bytes k 0 ≤ limit
@@ -26,7 +26,7 @@ above-none limit (b ∷ bytes) all =
     rw (le-ltb limit b (all 0 (omega arith))) (above-none limit bytes (λ k h. all (suc k) (omega arith)))
 
 -- the bytes of a slice are bits everywhere, if those below its length are
-pub bits-all : (count : ℕ) (bytes : List ℕ) → length bytes ≡ count → Bits count bytes → (k : ℕ) → getD bytes k 0 ≤ 1
+pub bits-all : (count : ℕ) (bytes : List ℕ) → length bytes ≡ count → AreBits count bytes → (k : ℕ) → getD bytes k 0 ≤ 1
 bits-all count bytes e all = none-above 1 bytes (above-none 1 bytes (λ k h. all k (omega arith)))
 
 -- of two bytes the larger decides

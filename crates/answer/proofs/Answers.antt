@@ -82,8 +82,8 @@ module _ {Lent : Type 0} (lent : Lent) (tests : List Test) (n : ℕ) (e : n ≡ 
   refused-one acceptance = refused-is 0 lent tests acceptance n e h
 
   pub refused-two : (acceptance : Outcome TwoWritten Lent)
-      → record { number = n; written = record { first = 0; second = 0 }; lent = lent } ≡ answered tests (refusedTwo lent) acceptance
-  refused-two acceptance = refused-is (record { first = 0; second = 0 }) lent tests acceptance n e h
+      → record { number = n; written = record { firstWritten = 0; secondWritten = 0 }; lent = lent } ≡ answered tests (refusedTwo lent) acceptance
+  refused-two acceptance = refused-is (record { firstWritten = 0; secondWritten = 0 }) lent tests acceptance n e h
 
 -- closes each refused return
 pub ruleset refused = (refused-none, refused-one, refused-two, ne-eqb)

@@ -11,5 +11,5 @@ anyAbove limit [] = false
 anyAbove limit (byte ∷ bytes) = ltb limit byte || anyAbove limit bytes
 
 -- the bytes below a count are 0 or 1
-abbrev pub Bits : ℕ → List ℕ → Type 0
-Bits count bytes = (k : ℕ) → k < count → getD bytes k 0 ≤ 1
+abbrev pub AreBits : ℕ → List ℕ → Type 0
+AreBits count bytes = (k : ℕ) → k < count → getD bytes k 0 ≤ 1

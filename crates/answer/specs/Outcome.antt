@@ -26,8 +26,8 @@ pub record Outcome (Written Lent : Type 0) : Type 0 where
 
 -- the lengths written to two output buffers
 pub record TwoWritten : Type 0 where
-  pub first : ℕ
-  pub second : ℕ
+  pub firstWritten : ℕ
+  pub secondWritten : ℕ
 
 -- what a returned number, and all that is lent at exit, say
 abbrev pub outcomeNone : {Lent : Type 0} → ℕ → Lent → Outcome (Unit {0}) Lent
@@ -38,7 +38,7 @@ abbrev pub outcomeOne : {Lent : Type 0} → OneLength → Lent → Outcome ℕ L
 outcomeOne r lent = record { number = r .number; written = r .written; lent = lent }
 
 abbrev pub outcomeTwo : {Lent : Type 0} → TwoLengths → Lent → Outcome TwoWritten Lent
-outcomeTwo r lent = record { number = r .number; written = record { first = r .«first_written»; second = r .«second_written» }; lent = lent }
+outcomeTwo r lent = record { number = r .number; written = record { firstWritten = r .«first_written»; secondWritten = r .«second_written» }; lent = lent }
 
 -- a refused call: its number, zero for each length, and all that is lent as it was
 abbrev pub refusedNone : {Lent : Type 0} → Lent → ℕ → Outcome (Unit {0}) Lent
@@ -48,7 +48,7 @@ abbrev pub refusedOne : {Lent : Type 0} → Lent → ℕ → Outcome ℕ Lent
 refusedOne lent n = record { number = n; written = 0; lent = lent }
 
 abbrev pub refusedTwo : {Lent : Type 0} → Lent → ℕ → Outcome TwoWritten Lent
-refusedTwo lent n = record { number = n; written = record { first = 0; second = 0 }; lent = lent }
+refusedTwo lent n = record { number = n; written = record { firstWritten = 0; secondWritten = 0 }; lent = lent }
 
 -- an accepted call: 0, its lengths, and all that is lent as it leaves it
 abbrev pub wrote : {Written Lent : Type 0} → Written → Lent → Outcome Written Lent

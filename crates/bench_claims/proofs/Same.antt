@@ -34,9 +34,9 @@ use Rattle.ends.specs.Scalar.Offline as scalarOffline
 use Rattle.ends.specs.Scalar.Online as scalarOnline
 use Rattle.ends.proofs.scalar.Laws as scalarLaws
 use Rattle.bench_claims.specs.Bench.{noiseOnlineCall, scalarOnlineCall, noiseSeen, scalarSeen, Bench}
-use Rattle.direct.specs.Noise as noise
-use Rattle.direct.specs.Scalar as scalar
-use Rattle.direct.proofs.Laws.{noise-whole, scalar-whole}
+use Rattle.bench_expansion.specs.Noise as noise
+use Rattle.bench_expansion.specs.Scalar as scalar
+use Rattle.bench_expansion.proofs.Laws.{noise-whole, scalar-whole}
 
 -- row x's output on the words of an accumulated vector is row x of the code matrix times the vector
 row-same : (h : Head) → h .terms ≤ places h → (x : ℕ) (S : Scaled (fieldOf h .ring)) → ScaledLaws (fieldOf h .ring) S
@@ -114,11 +114,11 @@ module _ {h : Head} (E : noiseOffline.Expanded h) (first count : ℕ) (uOut vOut
       (flat-cong (fieldOf (part .head) .elements) (kindLaws (part .head .field) .field .elements) count _ _ (λ k l. sym (v-same k))) in
       λ i. record { source = E .source; uOut = u i; vOut = v i }
 
-  pub noise-same : noise.direct here first count ≡ noiseSeen (noiseOnlineCall E first count uOut vOut)
-  unfolding noise.window
+  pub noise-same : noise.benchExpansion here first count ≡ noiseSeen (noiseOnlineCall E first count uOut vOut)
+  unfolding noise.benchWindow
   noise-same =
       let tests : List Test = noiseLaws.listedTests (part .head) lent first count in
-      let words : TwoWritten = record { first = count; second = count * fieldOf (part .head) .elements .width } in
+      let words : TwoWritten = record { firstWritten = count; secondWritten = count * fieldOf (part .head) .elements .width } in
       noise-whole here first count (E .read)
       ∙ ap (λ (l : noise.Lent). answered tests (refusedTwo here) (wrote words l)) filled-same
       ∙ sym (ap noiseSeen listed ∙ answered-map noiseSeen tests (refusedTwo lent) (noiseLaws.written (part .head) lent first count))
@@ -176,8 +176,8 @@ module _ {h : Head} (D : scalarOffline.Expanded h) (first count : ℕ) (wOut : L
       (flat-cong (fieldOf (whole .head) .elements) (kindLaws (whole .head .field) .field .elements) count _ _ (λ k l. sym (w-same k))) in
       λ i. record { source = D .source; wOut = w i }
 
-  pub scalar-same : scalar.direct here-w first count ≡ scalarSeen (scalarOnlineCall D first count wOut)
-  unfolding scalar.window scalarOnline.filled
+  pub scalar-same : scalar.benchExpansion here-w first count ≡ scalarSeen (scalarOnlineCall D first count wOut)
+  unfolding scalar.benchWindow scalarOnline.filled
   scalar-same =
       let tests : List Test = scalarLaws.listedTests (whole .head) lent-w first count in
       let words : ℕ = count * fieldOf (whole .head) .elements .width in

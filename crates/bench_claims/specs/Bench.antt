@@ -10,8 +10,8 @@ use Rattle.ends.specs.Noise.Offline as noiseOffline
 use Rattle.ends.specs.Noise.Online as noiseOnline
 use Rattle.ends.specs.Scalar.Offline as scalarOffline
 use Rattle.ends.specs.Scalar.Online as scalarOnline
-use Rattle.direct.specs.Noise as noise
-use Rattle.direct.specs.Scalar as scalar
+use Rattle.bench_expansion.specs.Noise as noise
+use Rattle.bench_expansion.specs.Scalar as scalar
 
 -- the online call on the record and the words that its offline call wrote, with any output buffers
 abbrev pub noiseOnlineCall : {h : Head} → noiseOffline.Expanded h → ℕ → ℕ → List ℕ → List ℕ → Outcome TwoWritten noiseOnline.Lent
@@ -34,9 +34,9 @@ scalarSeen o = record { number = o .number; written = o .written; lent = scalar.
 pub record Bench : Type 0 where
   -- for every accepted record, window and output buffers the expansion is the online call, refusals by 7 and 13 too
   pub noise-same : (h : Head) (E : noiseOffline.Expanded h) (first count : ℕ) (uOut vOut : List ℕ)
-      → noise.direct (noise.lentWith (E .source) uOut vOut) first count ≡ noiseSeen (noiseOnlineCall E first count uOut vOut)
+      → noise.benchExpansion (noise.lentWith (E .source) uOut vOut) first count ≡ noiseSeen (noiseOnlineCall E first count uOut vOut)
   pub scalar-same : (h : Head) (D : scalarOffline.Expanded h) (first count : ℕ) (wOut : List ℕ)
-      → scalar.direct (scalar.lentWith (D .source) wOut) first count ≡ scalarSeen (scalarOnlineCall D first count wOut)
+      → scalar.benchExpansion (scalar.lentWith (D .source) wOut) first count ≡ scalarSeen (scalarOnlineCall D first count wOut)
   -- on those vectors the online call refuses neither by 3 nor by 8
   pub noise-vectors : (h : Head) (E : noiseOffline.Expanded h) (first count : ℕ) (uOut vOut : List ℕ)
       → (noiseOnlineCall E first count uOut vOut .number ≡ badLength → ⊥) × (noiseOnlineCall E first count uOut vOut .number ≡ notElement → ⊥)

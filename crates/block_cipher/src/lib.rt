@@ -13,8 +13,8 @@ pub use round::rows;
 
 // Two blocks.
 pub struct TwoBlocks {
-    pub first: Block,
-    pub second: Block,
+    pub one: Block,
+    pub other: Block,
 }
 
 // The cipher of a block.
@@ -39,38 +39,38 @@ pub fn encrypt(tables: &[u64; 1536], keys: &[u64; 40], s: Block) -> Block
 // The ciphers of two blocks, each under round keys of its own, in alternation.
 pub fn encrypt_two(
     tables: &[u64; 1536],
-    first_keys: &[u64; 40],
-    second_keys: &[u64; 40],
-    first: Block,
-    second: Block,
+    one_keys: &[u64; 40],
+    other_keys: &[u64; 40],
+    one: Block,
+    other: Block,
 ) -> TwoBlocks
     requires { ⌜ RoundTables (now tables) ⌝ }
-    ensures { λ r. ⌜ (r .first ≡ cipherOf (now («first_keys» .entry)) first) × (r .second ≡ cipherOf (now («second_keys» .entry)) second) ⌝ }
+    ensures { λ r. ⌜ (r .one ≡ cipherOf (now («one_keys» .entry)) one) × (r .other ≡ cipherOf (now («other_keys» .entry)) other) ⌝ }
 {
-    let a0 = first_key(first, first_keys);
-    let a1 = full_round(tables, a0, first_keys, 2);
-    let b0 = first_key(second, second_keys);
-    let b1 = full_round(tables, b0, second_keys, 2);
-    let a2 = full_round(tables, a1, first_keys, 6);
-    let b2 = full_round(tables, b1, second_keys, 6);
-    let a3 = full_round(tables, a2, first_keys, 10);
-    let b3 = full_round(tables, b2, second_keys, 10);
-    let a4 = full_round(tables, a3, first_keys, 14);
-    let b4 = full_round(tables, b3, second_keys, 14);
-    let a5 = full_round(tables, a4, first_keys, 18);
-    let b5 = full_round(tables, b4, second_keys, 18);
-    let a6 = full_round(tables, a5, first_keys, 22);
-    let b6 = full_round(tables, b5, second_keys, 22);
-    let a7 = full_round(tables, a6, first_keys, 26);
-    let b7 = full_round(tables, b6, second_keys, 26);
-    let a8 = full_round(tables, a7, first_keys, 30);
-    let b8 = full_round(tables, b7, second_keys, 30);
-    let a9 = full_round(tables, a8, first_keys, 34);
-    let b9 = full_round(tables, b8, second_keys, 34);
-    let a10 = last_round(tables, a9, first_keys);
-    let b10 = last_round(tables, b9, second_keys);
+    let a0 = first_key(one, one_keys);
+    let a1 = full_round(tables, a0, one_keys, 2);
+    let b0 = first_key(other, other_keys);
+    let b1 = full_round(tables, b0, other_keys, 2);
+    let a2 = full_round(tables, a1, one_keys, 6);
+    let b2 = full_round(tables, b1, other_keys, 6);
+    let a3 = full_round(tables, a2, one_keys, 10);
+    let b3 = full_round(tables, b2, other_keys, 10);
+    let a4 = full_round(tables, a3, one_keys, 14);
+    let b4 = full_round(tables, b3, other_keys, 14);
+    let a5 = full_round(tables, a4, one_keys, 18);
+    let b5 = full_round(tables, b4, other_keys, 18);
+    let a6 = full_round(tables, a5, one_keys, 22);
+    let b6 = full_round(tables, b5, other_keys, 22);
+    let a7 = full_round(tables, a6, one_keys, 26);
+    let b7 = full_round(tables, b6, other_keys, 26);
+    let a8 = full_round(tables, a7, one_keys, 30);
+    let b8 = full_round(tables, b7, other_keys, 30);
+    let a9 = full_round(tables, a8, one_keys, 34);
+    let b9 = full_round(tables, b8, other_keys, 34);
+    let a10 = last_round(tables, a9, one_keys);
+    let b10 = last_round(tables, b9, other_keys);
     TwoBlocks {
-        first: Block::of_columns(a10),
-        second: Block::of_columns(b10),
+        one: Block::of_columns(a10),
+        other: Block::of_columns(b10),
     }
 }

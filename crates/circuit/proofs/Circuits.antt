@@ -10,35 +10,35 @@ use mir.Syntax.{w64}
 use mir.Val.{Fits}
 use Rattle.number.proofs.Places.{refused-whole, whole-is}
 use Rattle.number.specs.Answer.{numberRead, numberFault}
-use Rattle.number.specs.Reading.{Whole, Refused, Step}
+use Rattle.number.specs.Reading.{Whole, Refused, Parsed}
 use Rattle.number.specs.declared.Number.{Number}
 use Rattle.number.specs.declared.Number.the-variants.{Value, Fault}
 use Rattle.circuit.proofs.Fields.{within-parts}
 use Rattle.circuit.proofs.Lists.{gates-length, wires-length}
 use Rattle.circuit.specs.Content.{Gate, Circuit, andsIn}
-use Rattle.circuit.specs.Inner.Fronts.{countedAnds, placed}
-use Rattle.circuit.specs.Answer.{content, circuitOf, HasFront}
+use Rattle.circuit.specs.Inner.GateNumbers.{countedAnds, placed}
+use Rattle.circuit.specs.Answer.{content, circuitOf, HasLayout}
 use Rattle.circuit.specs.Reading.{readWithin, readGates, readWires, readCircuit}
-use Rattle.circuit.specs.declared.Front.{Front}
+use Rattle.circuit.specs.declared.Layout.{Layout}
 
-counted-refused : (n : ℕ) (x : Step (List Gate)) {k : ℕ} → countedAnds n x ≡ Refused k → x ≡ Refused k
+counted-refused : (n : ℕ) (x : Parsed (List Gate)) {k : ℕ} → countedAnds n x ≡ Refused k → x ≡ Refused k
 counted-refused n (Whole r) e = absurd (refused-whole (sym e) refl)
 counted-refused n (Refused j) e = cc
 
-counted-whole : (n : ℕ) (x : Step (List Gate)) {a end : ℕ} → countedAnds n x ≡ Whole (a, end) → (gs : List Gate) × (x ≡ Whole (gs, end)) × (a ≡ n + andsIn gs)
+counted-whole : (n : ℕ) (x : Parsed (List Gate)) {a end : ℕ} → countedAnds n x ≡ Whole (a, end) → (gs : List Gate) × (x ≡ Whole (gs, end)) × (a ≡ n + andsIn gs)
 counted-whole n (Whole r) e = let z = whole-is e in (r .0, ap (λ (p : ℕ × ℕ). Whole (r .0, p .1)) z, ap (λ (p : ℕ × ℕ). p .0) (sym z))
 counted-whole n (Refused j) e = absurd (refused-whole refl e)
 
-placed-refused : (x : Step (List ℕ)) {k : ℕ} → placed x ≡ Refused k → x ≡ Refused k
+placed-refused : (x : Parsed (List ℕ)) {k : ℕ} → placed x ≡ Refused k → x ≡ Refused k
 placed-refused (Whole r) e = absurd (refused-whole (sym e) refl)
 placed-refused (Refused j) e = cc
 
-placed-whole : (x : Step (List ℕ)) {a end : ℕ} → placed x ≡ Whole (a, end) → (ws : List ℕ) × (x ≡ Whole (ws, end))
+placed-whole : (x : Parsed (List ℕ)) {a end : ℕ} → placed x ≡ Whole (a, end) → (ws : List ℕ) × (x ≡ Whole (ws, end))
 placed-whole (Whole r) e = let z = whole-is e in (r .0, ap (λ (p : ℕ × ℕ). Whole (r .0, p .1)) z)
 placed-whole (Refused j) e = absurd (refused-whole refl e)
 
-abbrev pub frontWith : ℕ → ℕ → ℕ → ℕ → ℕ → ℕ → Front
-frontWith inputs gates outputs ands body tail =
+abbrev pub layoutWith : ℕ → ℕ → ℕ → ℕ → ℕ → ℕ → Layout
+layoutWith inputs gates outputs ands body tail =
     record { inputs = inputs; gates = gates; outputs = outputs; ands = ands; body = body; tail = tail }
 
 module _ (s : List ℕ) {r0 : Number} (read0 : numberRead r0 ≡ readWithin 1 4096 s 0) where
@@ -93,7 +93,7 @@ module _ (s : List ℕ) {r0 : Number} (read0 : numberRead r0 ≡ readWithin 1 40
                     let y = placed-whole (readWires outputs (inputs + gates) s tail) (sym read4 ∙ ap numberRead v4) in
                     simp (← read0, v0, ← read1, v1, ← read2, v2, x .1, y .1, lt-ltb _ _ h)
 
-                pub opened : length s ≤ end → HasFront s (frontWith inputs gates outputs ands body tail)
+                pub opened : length s ≤ end → HasLayout s (layoutWith inputs gates outputs ands body tail)
                 unfolding readCircuit
                 opened h =
                     let x = counted-whole 0 (readGates gates inputs s body) (sym read3 ∙ ap numberRead v3) in

@@ -163,7 +163,7 @@ module _ (s : List ℕ) (bytes : Bytes s) where
       (has-is s at (sym (ap writeGates (p .0))) (nothing at h .0), p .1 ∙ nothing at h .1 ∙ ap (λ (l : List Gate). after at (writeGates l)) (sym (p .0)))
   gates-exact (suc n) wire at {gs} {end} e h =
       let p = first-gate n wire s at e in
-      let g = gate-exact wire at (p .first) in
+      let g = gate-exact wire at (p .reads) in
       subst (λ (l : List Gate). Stood at (writeGates l) end) (sym (p .all))
       (joined at (writeGate (p .gate)) (writeGates (p .later)) g (gates-exact n (wire + 1) (p .next) (p .rest) (inside at (writeGate (p .gate)) g)))
 
@@ -174,7 +174,7 @@ module _ (s : List ℕ) (bytes : Bytes s) where
       (has-is s at (sym (ap writeWires (p .0))) (nothing at h .0), p .1 ∙ nothing at h .1 ∙ ap (λ (l : List ℕ). after at (writeWires l)) (sym (p .0)))
   wires-exact (suc n) limit at {ws} {end} e h =
       let p = first-wire n limit s at e in
-      let g = num-exact at (wire-parts limit s at (p .first) .0) in
+      let g = num-exact at (wire-parts limit s at (p .reads) .0) in
       subst (λ (l : List ℕ). Stood at (writeWires l) end) (sym (p .all))
       (joined at (N (p .wire)) (writeWires (p .later)) g (wires-exact n limit (p .next) (p .rest) (inside at (N (p .wire)) g)))
 

@@ -9,13 +9,13 @@ use Rattle.algebra.proofs.Tests.{and-left, and-right}
 use Rattle.number.proofs.Places.{either, whole-is, then-whole, tested-whole, choose-yes, choose-no}
 use Rattle.number.specs.Number.{readNumber}
 use Rattle.number.specs.Answer.{numberRead}
-use Rattle.number.specs.Reading.{Whole, Refused, Step, then, choose, tested}
+use Rattle.number.specs.Reading.{Whole, Refused, Parsed, then, choose, tested}
 use Rattle.number.specs.declared.Number.{Number}
 use Rattle.number.specs.declared.Number.the-variants.{Value, Fault}
-use Rattle.circuit.specs.Admitted.{within}
+use Rattle.circuit.specs.Admitted.{isWithin}
 use Rattle.circuit.specs.Content.{Gate, Xor, And, Not}
 use Rattle.circuit.specs.Inner.GateKinds.{kindNumber}
-use Rattle.circuit.specs.Inner.Fronts.{gateKind, andOf}
+use Rattle.circuit.specs.Inner.GateNumbers.{gateKind, andOf}
 use Rattle.circuit.specs.Reading.{readWithin, readWire, readGate}
 
 -- ---- a number with a test
@@ -56,7 +56,7 @@ pub within-parts : (least most : ℕ) (s : List ℕ) (at : ℕ) {n next : ℕ} �
     → (readNumber s at ≡ Whole (n, next)) × (least ≤ n) × (n ≤ most)
 unfolding readWithin
 within-parts least most s at {n} e =
-    let t = tested-whole (readNumber s at) (λ m. within least most m) 17 e in
+    let t = tested-whole (readNumber s at) (λ m. isWithin least most m) 17 e in
     (t .0, leb-true _ _ (and-left (leb least n) (leb n most) (t .1)), leb-true _ _ (and-right (leb least n) (leb n most) (t .1)))
 
 pub wire-parts : (limit : ℕ) (s : List ℕ) (at : ℕ) {w next : ℕ} → readWire limit s at ≡ Whole (w, next)
@@ -116,13 +116,13 @@ gate-parts wire s at {g} {next} e =
     let q = then-whole (readWire wire s (p .1)) _ (p .3) in
     let kind : ℕ = p .0 in
     let a : ℕ = q .0 in
-    let rest : Step Gate = then (readWire wire s (q .1)) λ b at3. Whole (twoWires kind a b, at3) in
+    let rest : Parsed Gate = then (readWire wire s (q .1)) λ b at3. Whole (twoWires kind a b, at3) in
     either kind 3
     (λ k.
-    let z = whole-is (sym (choose-yes {A = Step Gate} (Whole (Not a, q .1)) rest (eq-eqb kind 3 k)) ∙ q .3) in
+    let z = whole-is (sym (choose-yes {A = Parsed Gate} (Whole (Not a, q .1)) rest (eq-eqb kind 3 k)) ∙ q .3) in
     one a (p .1) (p .2 ∙ ap (λ (n : ℕ). Whole (n, p .1)) k) (q .2 ∙ ap (λ (y : Gate × ℕ). Whole (a, y .1)) z) (ap (λ (y : Gate × ℕ). y .0) (sym z)))
     (λ k.
-    let f = sym (choose-no {A = Step Gate} (Whole (Not a, q .1)) rest (ne-eqb kind 3 k)) ∙ q .3 in
+    let f = sym (choose-no {A = Parsed Gate} (Whole (Not a, q .1)) rest (ne-eqb kind 3 k)) ∙ q .3 in
     let t = then-whole (readWire wire s (q .1)) _ f in
     let z = whole-is (t .3) in
     two kind a (t .0) (p .1) (q .1) k (p .2) (q .2) (t .2 ∙ ap (λ (y : Gate × ℕ). Whole (t .0, y .1)) z) (ap (λ (y : Gate × ℕ). y .0) (sym z)))

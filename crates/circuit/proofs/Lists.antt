@@ -19,7 +19,7 @@ pub record FirstGate (n wire : ℕ) (s : List ℕ) (at : ℕ) (gs : List Gate) (
   pub gate : Gate
   pub next : ℕ
   pub later : List Gate
-  pub first : readGate wire s at ≡ Whole (gate, next)
+  pub reads : readGate wire s at ≡ Whole (gate, next)
   pub rest : readGates n (wire + 1) s next ≡ Whole (later, end)
   pub all : gs ≡ gate ∷ later
 
@@ -33,7 +33,7 @@ first-gate n wire s at {gs} {end} e =
       gate = p .0;
       next = p .1;
       later = q .0;
-      first = p .2;
+      reads = p .2;
       rest = q .2 ∙ ap (λ (y : List Gate × ℕ). Whole (q .0, y .1)) z;
       all = ap (λ (y : List Gate × ℕ). y .0) (sym z);
     }
@@ -43,7 +43,7 @@ pub record FirstWire (n limit : ℕ) (s : List ℕ) (at : ℕ) (ws : List ℕ) (
   pub wire : ℕ
   pub next : ℕ
   pub later : List ℕ
-  pub first : readWire limit s at ≡ Whole (wire, next)
+  pub reads : readWire limit s at ≡ Whole (wire, next)
   pub rest : readWires n limit s next ≡ Whole (later, end)
   pub all : ws ≡ wire ∷ later
 
@@ -57,7 +57,7 @@ first-wire n limit s at {ws} {end} e =
       wire = p .0;
       next = p .1;
       later = q .0;
-      first = p .2;
+      reads = p .2;
       rest = q .2 ∙ ap (λ (y : List ℕ × ℕ). Whole (q .0, y .1)) z;
       all = ap (λ (y : List ℕ × ℕ). y .0) (sym z);
     }
@@ -106,11 +106,11 @@ unfolding GatesBelow
 gates-below zero wire s at e = subst (GatesBelow wire) (sym (no-gate wire s at e .0)) tt
 gates-below (suc n) wire s at e =
     let p = first-gate n wire s at e in
-    subst (GatesBelow wire) (sym (p .all)) (gate-below wire s at (p .first), gates-below n (wire + 1) s (p .next) (p .rest))
+    subst (GatesBelow wire) (sym (p .all)) (gate-below wire s at (p .reads), gates-below n (wire + 1) s (p .next) (p .rest))
 
 pub wires-below : (n limit : ℕ) (s : List ℕ) (at : ℕ) {ws : List ℕ} {end : ℕ} → readWires n limit s at ≡ Whole (ws, end) → WiresBelow limit ws
 unfolding WiresBelow
 wires-below zero limit s at e = subst (WiresBelow limit) (sym (no-wire limit s at e .0)) tt
 wires-below (suc n) limit s at e =
     let p = first-wire n limit s at e in
-    subst (WiresBelow limit) (sym (p .all)) (wire-parts limit s at (p .first) .1, wires-below n limit s (p .next) (p .rest))
+    subst (WiresBelow limit) (sym (p .all)) (wire-parts limit s at (p .reads) .1, wires-below n limit s (p .next) (p .rest))

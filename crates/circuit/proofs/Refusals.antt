@@ -7,7 +7,7 @@ use native.Mathlib.Omega.{arith}
 use lib.Dec.{ltb, eqb}
 use lib.ListN.{length}
 use Rattle.number.specs.Number.{lastGroup, readNumber}
-use Rattle.number.specs.Reading.{Reading, Whole, Refused, Step, then, choose, tested, readByte}
+use Rattle.number.specs.Reading.{Reading, Whole, Refused, Parsed, then, choose, tested, readByte}
 use Rattle.circuit.specs.Admitted.{mostWires}
 use Rattle.circuit.specs.Content.{Circuit}
 use Rattle.circuit.specs.Reading.{readWithin, readWire, readGate, readGates, readWires, readCircuit}
@@ -25,7 +25,7 @@ refused : (A : Type 0) (k : ℕ) → Numbered {A = A} (Refused (suc k))
 unfolding Numbered
 refused A k = omega arith
 
-then-numbered : {A B : Type 0} (r : Step A) (f : A → ℕ → Reading B) → Numbered r → ((x : A) (next : ℕ) → Numbered (f x next)) → Numbered (then r f)
+then-numbered : {A B : Type 0} (r : Parsed A) (f : A → ℕ → Reading B) → Numbered r → ((x : A) (next : ℕ) → Numbered (f x next)) → Numbered (then r f)
 unfolding Numbered
 then-numbered (Whole r) f h g = g (r .0) (r .1)
 then-numbered (Refused k) f h g = h
@@ -34,7 +34,7 @@ choose-numbered : {A : Type 0} (b : Bool) (x y : Reading A) → Numbered x → N
 choose-numbered true x y h g = h
 choose-numbered false x y h g = g
 
-tested-numbered : {A : Type 0} (r : Step A) (ok : A → Bool) (k : ℕ) → Numbered r → Numbered (tested r ok (suc k))
+tested-numbered : {A : Type 0} (r : Parsed A) (ok : A → Bool) (k : ℕ) → Numbered r → Numbered (tested r ok (suc k))
 unfolding tested
 tested-numbered {A} r ok k h =
     then-numbered r (λ x next. choose (ok x) (Whole (x, next)) (Refused (suc k))) h

@@ -12,12 +12,12 @@ use Rattle.number.specs.Inner.Known.{isWhole}
 use Rattle.circuit.proofs.Fields.{GateParts, one, two, gate-parts, within-parts, wire-parts, two-kind}
 use Rattle.circuit.specs.Content.{Gate}
 use Rattle.circuit.specs.Inner.GateKinds.{kindNumber}
-use Rattle.circuit.specs.Inner.Fronts.{gateOf}
+use Rattle.circuit.specs.Inner.GateNumbers.{gateOf}
 use Rattle.circuit.specs.Reading.{readWithin, readWire, readGate}
 use Rattle.circuit.specs.declared.GateRead.{GateRead}
 
 abbrev pub gateWith : ℕ → ℕ → ℕ → ℕ → GateRead
-gateWith kind first second next = record { kind = kind; first = first; second = second; next = next }
+gateWith kind first second next = record { kind = kind; «first_wire» = first; «second_wire» = second; next = next }
 
 -- a field whose number is known
 same-within : (least most : ℕ) (s : List ℕ) (at : ℕ) {y z : ℕ × ℕ} → readWithin least most s at ≡ Whole z → Whole y ≡ readNumber s at

@@ -9,22 +9,22 @@ use mir.Syntax.{w64}
 use mir.Val.{Fits}
 use Rattle.number.proofs.Places.{either, refused-whole, whole-is}
 use Rattle.number.specs.Answer.{numberRead}
-use Rattle.number.specs.Reading.{Whole, Refused, Step, then, choose}
+use Rattle.number.specs.Reading.{Whole, Refused, Parsed, then, choose}
 use Rattle.number.specs.declared.Number.{Number}
 use Rattle.number.specs.declared.Number.the-variants.{Value, Fault}
 use Rattle.circuit.specs.Content.{Gate, Xor, And, Not, isAnd, andsIn}
 use Rattle.circuit.specs.Inner.GateKinds.{kindNumber}
-use Rattle.circuit.specs.Inner.Fronts.{andOf, gateKind, countedAnds, placed}
+use Rattle.circuit.specs.Inner.GateNumbers.{andOf, gateKind, countedAnds, placed}
 use Rattle.circuit.specs.Reading.{readWire, readGate, readGates, readWires}
 
 -- ---- gates
 
 -- a gate by its kind
-kind-refused : (x : Step Gate) {k : ℕ} → gateKind x ≡ Refused k → x ≡ Refused k
+kind-refused : (x : Parsed Gate) {k : ℕ} → gateKind x ≡ Refused k → x ≡ Refused k
 kind-refused (Whole r) e = absurd (refused-whole (sym e) refl)
 kind-refused (Refused n) e = cc
 
-kind-read : (x : Step Gate) {p next : ℕ} → gateKind x ≡ Whole (p, next) → (g : Gate) × (x ≡ Whole (g, next)) × (kindNumber g ≡ p)
+kind-read : (x : Parsed Gate) {p next : ℕ} → gateKind x ≡ Whole (p, next) → (g : Gate) × (x ≡ Whole (g, next)) × (kindNumber g ≡ p)
 kind-read (Whole r) e = let z = whole-is e in (r .0, ap (λ (n : ℕ × ℕ). Whole (r .0, n .1)) z, ap (λ (n : ℕ × ℕ). n .0) z)
 kind-read (Refused n) e = absurd (refused-whole refl e)
 
@@ -33,7 +33,7 @@ and-kind (Xor a b) = refl
 and-kind (And a b) = refl
 and-kind (Not a) = refl
 
-counted-more : (n : ℕ) (g : Gate) (x : Step (List Gate)) → countedAnds n (then x λ gs end. Whole (g ∷ gs, end)) ≡ countedAnds (n + andOf (kindNumber g)) x
+counted-more : (n : ℕ) (g : Gate) (x : Parsed (List Gate)) → countedAnds n (then x λ gs end. Whole (g ∷ gs, end)) ≡ countedAnds (n + andOf (kindNumber g)) x
 unfolding andsIn
 counted-more n g (Whole r) = ap (λ (m : ℕ). Whole (m, r .1)) (omega (arith, and-kind g))
 counted-more n g (Refused k) = refl
@@ -53,14 +53,14 @@ gates-start s body gates inputs =
 
 module _ {s : List ℕ} {body gates inputs at ands i : ℕ} (turn : GatesTurn s body gates inputs at ands i) where
   module _ (more : i < gates) where
-    step : (x : Step Gate) → readGate (inputs + i) s at ≡ x
+    step : (x : Parsed Gate) → readGate (inputs + i) s at ≡ x
         → countedAnds 0 (readGates gates inputs s body)
         ≡ countedAnds ands (then x λ g next. then (readGates (gates - (i + 1)) (inputs + i + 1) s next) λ gs end. Whole (g ∷ gs, end))
     unfolding readGates
     step x e =
         turn .answer
         ∙ ap (λ (n : ℕ). countedAnds ands (readGates n (inputs + i) s at)) {x = gates - i} {y = suc (gates - (i + 1))} (omega arith)
-        ∙ ap (λ (y : Step Gate). countedAnds ands (then y λ g next. then (readGates (gates - (i + 1)) (inputs + i + 1) s next) λ gs end. Whole (g ∷ gs, end))) e
+        ∙ ap (λ (y : Parsed Gate). countedAnds ands (then y λ g next. then (readGates (gates - (i + 1)) (inputs + i + 1) s next) λ gs end. Whole (g ∷ gs, end))) e
 
     pub gates-fits : (kind : ℕ) {n : ℕ} → n ≡ andOf kind → inputs + gates ≤ 4096 → Fits w64 (ands + n)
     gates-fits kind w h = record { fits = omega (arith, turn .few, and-small kind, w) }
@@ -93,7 +93,7 @@ module _ {s : List ℕ} {body gates inputs at ands i : ℕ} (turn : GatesTurn s 
 
 -- ---- wires
 
-placed-more : (w : ℕ) (x : Step (List ℕ)) → placed (then x λ ws end. Whole (w ∷ ws, end)) ≡ placed x
+placed-more : (w : ℕ) (x : Parsed (List ℕ)) → placed (then x λ ws end. Whole (w ∷ ws, end)) ≡ placed x
 placed-more w (Whole r) = refl
 placed-more w (Refused k) = refl
 
@@ -106,13 +106,13 @@ wires-start s tail count limit = record { answer = rw (sub-zero count); turns = 
 
 module _ {s : List ℕ} {tail count limit at i : ℕ} (turn : WiresTurn s tail count limit at i) where
   module _ (more : i < count) where
-    wires-step : (x : Step ℕ) → readWire limit s at ≡ x
+    wires-step : (x : Parsed ℕ) → readWire limit s at ≡ x
         → placed (readWires count limit s tail) ≡ placed (then x λ w next. then (readWires (count - (i + 1)) limit s next) λ ws end. Whole (w ∷ ws, end))
     unfolding readWires
     wires-step x e =
         turn .answer
         ∙ ap (λ (n : ℕ). placed (readWires n limit s at)) {x = count - i} {y = suc (count - (i + 1))} (omega arith)
-        ∙ ap (λ (y : Step ℕ). placed (then y λ w next. then (readWires (count - (i + 1)) limit s next) λ ws end. Whole (w ∷ ws, end))) e
+        ∙ ap (λ (y : Parsed ℕ). placed (then y λ w next. then (readWires (count - (i + 1)) limit s next) λ ws end. Whole (w ∷ ws, end))) e
 
     pub wires-fault : {r : Number} → numberRead r ≡ readWire limit s at → {k : ℕ} → r ≡ Fault k → numberRead r ≡ placed (readWires count limit s tail)
     wires-fault read {k} e = ap numberRead e ∙ sym (wires-step (Refused k) (sym read ∙ ap numberRead e))

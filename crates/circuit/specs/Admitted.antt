@@ -12,8 +12,8 @@ abbrev pub mostWires : ℕ
 mostWires = 4096
 
 -- a number from the least to the most
-abbrev pub within : ℕ → ℕ → ℕ → Bool
-within least most n = leb least n && leb n most
+abbrev pub isWithin : ℕ → ℕ → ℕ → Bool
+isWithin least most n = leb least n && leb n most
 
 -- a gate's wires come before it: they are below its own wire
 unfoldable pub GateBelow : ℕ → Gate → Type 0

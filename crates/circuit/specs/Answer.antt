@@ -1,4 +1,4 @@
--- What each case of the answer `Opened` stands for (document 02, 9): its number, and its values where the circuit is accepted.
+-- What each case of the answer `Answer` stands for (document 02, 9): its number, and its values where the circuit is accepted.
 use Prim.Native.Nat.{ℕ, _+_, _≤_}
 use mathlib.Core.List.{List, []}
 use mathlib.Core.Path.{_≡_}
@@ -8,9 +8,9 @@ use Rattle.number.specs.Reading.{Reading, Whole, Refused}
 use Rattle.circuit.specs.Admitted.{mostWires}
 use Rattle.circuit.specs.Content.{Circuit, andsIn}
 use Rattle.circuit.specs.Reading.{readGates, readWires, readCircuit}
-use Rattle.circuit.specs.declared.Front.{Front}
-use Rattle.circuit.specs.declared.Opened.{Opened}
-use Rattle.circuit.specs.declared.Opened.the-variants.{Accepted, Fault}
+use Rattle.circuit.specs.declared.Layout.{Layout}
+use Rattle.circuit.specs.declared.Answer.{Answer}
+use Rattle.circuit.specs.declared.Answer.the-variants.{Accepted, Fault}
 
 -- the circuit, where one was read
 abbrev pub circuitOf : Reading Circuit → Circuit
@@ -21,7 +21,7 @@ abbrev pub content : List ℕ → Circuit
 content s = circuitOf (readCircuit s)
 
 -- the numbers of a circuit that was read: inputs, gates, outputs and ANDs, and the places of its first gate and first output wire
-pub record HasFront (s : List ℕ) (f : Front) : Type 0 where
+pub record HasLayout (s : List ℕ) (f : Layout) : Type 0 where
   pub whole : readCircuit s ≡ Whole (content s)
   pub inputs : f .inputs ≡ content s .inputs
   pub gates : f .gates ≡ length (content s .gates)
@@ -33,11 +33,11 @@ pub record HasFront (s : List ℕ) (f : Front) : Type 0 where
   pub most : f .inputs + f .gates ≤ mostWires
 
 -- `Accepted` stands for a circuit that was read, and its numbers; `Fault` for a refusal with its number, without values
-abbrev pub OpenedAs : List ℕ → Opened → Type 0
-OpenedAs s (Accepted f) = HasFront s f
-OpenedAs s (Fault k) = readCircuit s ≡ Refused k
+abbrev pub CircuitRead : List ℕ → Answer → Type 0
+CircuitRead s (Accepted f) = HasLayout s f
+CircuitRead s (Fault k) = readCircuit s ≡ Refused k
 
 -- the number of the answer: 0, or that of the refusal
-abbrev pub refusalOf : Opened → ℕ
-refusalOf (Accepted f) = accepted
-refusalOf (Fault k) = k
+abbrev pub circuitFault : Answer → ℕ
+circuitFault (Accepted f) = accepted
+circuitFault (Fault k) = k

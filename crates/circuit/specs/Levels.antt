@@ -38,8 +38,8 @@ abbrev pub depth : Circuit → ℕ
 depth c = greatest (levels c)
 
 -- the rounds that a run takes
-abbrev pub rounds : Circuit → ℕ
-rounds c = depth c + 1
+abbrev pub roundCount : Circuit → ℕ
+roundCount c = depth c + 1
 
 -- how many of gates, whose levels are given, are ANDs of a level
 unfoldable pub andsOf : ℕ → List Gate → List ℕ → ℕ

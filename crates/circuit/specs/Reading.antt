@@ -4,21 +4,21 @@ use mathlib.Core.List.{List, [], _∷_}
 use lib.Dec.{ltb, eqb}
 use Rattle.answer.specs.Numbers.{badCircuit}
 use Rattle.number.specs.Number.{readNumber}
-use Rattle.number.specs.Reading.{Reading, Whole, Step, then, choose, tested}
+use Rattle.number.specs.Reading.{Reading, Whole, Parsed, then, choose, tested}
 use Rattle.record.specs.Reading.{ended}
-use Rattle.circuit.specs.Admitted.{mostWires, within}
+use Rattle.circuit.specs.Admitted.{mostWires, isWithin}
 use Rattle.circuit.specs.Content.{Gate, Xor, And, Not, Circuit}
 
 -- a size or a kind, from the least to the most; 17: not admitted
-unfoldable pub readWithin : ℕ → ℕ → List ℕ → ℕ → Step ℕ
-readWithin least most s at = tested (readNumber s at) (λ n. within least most n) badCircuit
+unfoldable pub readWithin : ℕ → ℕ → List ℕ → ℕ → Parsed ℕ
+readWithin least most s at = tested (readNumber s at) (λ n. isWithin least most n) badCircuit
 
 -- a wire below a limit; 17: not admitted
-unfoldable pub readWire : ℕ → List ℕ → ℕ → Step ℕ
+unfoldable pub readWire : ℕ → List ℕ → ℕ → Parsed ℕ
 readWire limit s at = tested (readNumber s at) (λ w. ltb w limit) badCircuit
 
 -- the gate at a wire: its kind (1 exclusive or, 2 AND, 3 NOT) and its one or two wires, which come before it
-unfoldable pub readGate : ℕ → List ℕ → ℕ → Step Gate
+unfoldable pub readGate : ℕ → List ℕ → ℕ → Parsed Gate
 readGate wire s at =
     then (readWithin 1 3 s at) λ kind at1.
     then (readWire wire s at1) λ a at2.
@@ -27,7 +27,7 @@ readGate wire s at =
     Whole (choose (eqb kind 1) (Xor a b) (And a b), at3))
 
 -- gates, one after the other, the first at a wire
-unfoldable pub readGates : ℕ → ℕ → List ℕ → ℕ → Step (List Gate)
+unfoldable pub readGates : ℕ → ℕ → List ℕ → ℕ → Parsed (List Gate)
 readGates zero wire s at = Whole ([], at)
 readGates (suc n) wire s at =
     then (readGate wire s at) λ g next.
@@ -35,7 +35,7 @@ readGates (suc n) wire s at =
     Whole (g ∷ gs, end)
 
 -- wires below a limit, one after the other
-unfoldable pub readWires : ℕ → ℕ → List ℕ → ℕ → Step (List ℕ)
+unfoldable pub readWires : ℕ → ℕ → List ℕ → ℕ → Parsed (List ℕ)
 readWires zero limit s at = Whole ([], at)
 readWires (suc n) limit s at =
     then (readWire limit s at) λ w next.

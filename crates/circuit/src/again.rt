@@ -5,7 +5,7 @@ ghost use Prim.Native.Nat.{_<_};
 ghost use Rattle.number.specs.Reading.{Whole};
 ghost use Rattle.number.specs.Inner.Known.{isWhole};
 ghost use Rattle.circuit.specs.Inner.GateKinds.{kindNumber};
-ghost use Rattle.circuit.specs.Inner.Fronts.{gateOf};
+ghost use Rattle.circuit.specs.Inner.GateNumbers.{gateOf};
 ghost use Rattle.circuit.specs.Reading.{readWire, readGate};
 use crate::GateRead;
 use number::Known;
@@ -14,24 +14,24 @@ use number::known_number;
 // The gate at a place of an accepted circuit, at a wire.
 pub fn known_gate(source: &[u8], at: usize, wire: usize) -> GateRead
     requires { ⌜ isWhole (readGate wire (now source) at) ≡ true ⌝ }
-    ensures { λ r. ⌜ (Whole (gateOf r, r .next) ≡ readGate wire (now (source .entry)) at) × (r .kind ≡ kindNumber (gateOf r)) × (r .first < wire) × (r .second < wire) ⌝ }
+    ensures { λ r. ⌜ (Whole (gateOf r, r .next) ≡ readGate wire (now (source .entry)) at) × (r .kind ≡ kindNumber (gateOf r)) × (r .«first_wire» < wire) × (r .«second_wire» < wire) ⌝ }
 {
     let kind = known_number(source, at);
-    let first = known_number(source, kind.next);
+    let first_wire = known_number(source, kind.next);
     if kind.number == 3 {
         return GateRead {
             kind: 3,
-            first: first.number,
-            second: 0,
-            next: first.next,
+            first_wire: first_wire.number,
+            second_wire: 0,
+            next: first_wire.next,
         };
     }
-    let second = known_number(source, first.next);
+    let second_wire = known_number(source, first_wire.next);
     GateRead {
         kind: kind.number,
-        first: first.number,
-        second: second.number,
-        next: second.next,
+        first_wire: first_wire.number,
+        second_wire: second_wire.number,
+        next: second_wire.next,
     }
 }
 

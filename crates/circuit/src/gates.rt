@@ -3,7 +3,7 @@ ghost use mathlib.Core.Path.{_≡_};
 ghost use Prim.Native.Nat.{_+_, _≤_};
 ghost use Rattle.number.specs.Answer.{numberRead};
 ghost use Rattle.circuit.specs.Admitted.{mostWires};
-ghost use Rattle.circuit.specs.Inner.Fronts.{gateKind, andOf, countedAnds, placed};
+ghost use Rattle.circuit.specs.Inner.GateNumbers.{gateKind, andOf, countedAnds, placed};
 ghost use Rattle.circuit.specs.Reading.{readWithin, readWire, readGate, readGates, readWires};
 use answer::BAD_CIRCUIT;
 use number::Number;

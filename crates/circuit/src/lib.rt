@@ -6,11 +6,11 @@ mod reading;
 pub use again::known_gate;
 pub use again::known_wire;
 pub use gates::and_of;
+pub use reading::circuit_fault;
 pub use reading::read_circuit;
-pub use reading::refusal_of;
 
 // The numbers of an accepted circuit: inputs, gates, outputs, ANDs, and the places of the first gate and the first output wire.
-pub struct Front {
+pub struct Layout {
     pub inputs: usize,
     pub gates: usize,
     pub outputs: usize,
@@ -20,9 +20,9 @@ pub struct Front {
 }
 
 // What reading a circuit gives.
-pub enum Opened {
+pub enum Answer {
     // A circuit that passed every test.
-    Accepted(Front),
+    Accepted(Layout),
     // The number that the circuit is refused with.
     Fault(u32),
 }
@@ -30,7 +30,7 @@ pub enum Opened {
 // A gate of an accepted circuit: kind, wires (the second of a NOT is 0), and the place after it.
 pub struct GateRead {
     pub kind: usize,
-    pub first: usize,
-    pub second: usize,
+    pub first_wire: usize,
+    pub second_wire: usize,
     pub next: usize,
 }

@@ -11,7 +11,7 @@ use lib.ListN.{length, getD, take, drop, length-append, List·getD-map}
 use lib.Seq.{getD-take, getD-drop, length-take-le}
 use Rattle.algebra.specs.Choice.{choose}
 use Rattle.circuit.specs.Content.{Gate, Xor, And, Not, Circuit}
-use Rattle.circuit.specs.Inner.Fronts.{gateBy, andOf}
+use Rattle.circuit.specs.Inner.GateNumbers.{gateBy, andOf}
 use Rattle.circuit.specs.Inner.GateKinds.{kindNumber}
 use Rattle.circuit.specs.Value.{overGates}
 use Rattle.circuit_run.proofs.Gates.{kind-range, by-1, by-2, by-3}

@@ -11,14 +11,14 @@ use Rattle.answer.proofs.Answers.{refused-with, accepted-with}
 use Rattle.answer.proofs.Faults.{admitted-by}
 use Rattle.answer.specs.Outcome.{answered}
 use Rattle.answer.specs.Tests.{firstFault}
-use Rattle.circuit.specs.Answer.{content, HasFront, OpenedAs, refusalOf}
+use Rattle.circuit.specs.Answer.{content, HasLayout, CircuitRead, circuitFault}
 use Rattle.circuit.specs.Content.{Circuit}
 use Rattle.circuit.specs.Reading.{readCircuit}
 use Rattle.circuit.specs.Value.{overGates, atWires}
-use Rattle.circuit.specs.declared.Front.{Front}
-use Rattle.circuit.specs.declared.Opened.{Opened}
-use Rattle.circuit.specs.declared.Opened.the-variants.{Accepted, Fault}
-use Rattle.circuit_run.proofs.Steps.{opened-front}
+use Rattle.circuit.specs.declared.Layout.{Layout}
+use Rattle.circuit.specs.declared.Answer.{Answer}
+use Rattle.circuit.specs.declared.Answer.the-variants.{Accepted, Fault}
+use Rattle.circuit_run.proofs.Steps.{layout-read}
 use Rattle.number.proofs.Places.{choose-yes, choose-no}
 use Rattle.number.proofs.Records.{read-refused, read-whole}
 use Rattle.circuit_round.proofs.Gates.{gates-same}
@@ -35,7 +35,7 @@ empty : (l : List ℕ) → length l ≡ 0 → l ≡ []
 empty [] e = refl
 empty (x ∷ l) e = absurd (omega arith)
 
-module _ {s : List ℕ} {f : Front} {shares triples : List ℕ} (output : List ℕ) {far : List ℕ} (bits : List ℕ) {before : List ℕ}
+module _ {s : List ℕ} {f : Layout} {shares triples : List ℕ} (output : List ℕ) {far : List ℕ} (bits : List ℕ) {before : List ℕ}
     (t : Tested s f shares triples (length output) far (length bits) before) where
   abbrev c : Circuit
   c = content s
@@ -44,8 +44,8 @@ module _ {s : List ℕ} {f : Front} {shares triples : List ℕ} (output : List �
     size : length (inputBytes shares before) ≡ f .inputs
     size = inputs-length shares before ∙ t .inputs
 
-    front : take (f .inputs) taken ≡ inputBytes shares before
-    front = ap (take (f .inputs)) e ∙ take-at (inputBytes shares before) (drop (length shares) before) (f .inputs) size
+    layout : take (f .inputs) taken ≡ inputBytes shares before
+    layout = ap (take (f .inputs)) e ∙ take-at (inputBytes shares before) (drop (length shares) before) (f .inputs) size
 
     back : drop (f .inputs) taken ≡ drop (f .inputs) before
     back =
@@ -53,7 +53,7 @@ module _ {s : List ℕ} {f : Front} {shares triples : List ℕ} (output : List �
         ∙ ap (λ (n : ℕ). drop n before) (t .inputs)
 
     same : drop (c .inputs) taken ≡ drop (c .inputs) before
-    same = subst (λ (n : ℕ). drop n taken ≡ drop n before) (t .opens .inputs) back
+    same = subst (λ (n : ℕ). drop n taken ≡ drop n before) (t .layout .inputs) back
 
     pub can-pass : CanPass s f triples far (length bits) taken
     can-pass =
@@ -65,7 +65,7 @@ module _ {s : List ℕ} {f : Front} {shares triples : List ℕ} (output : List �
           room = t .bits;
           long =
               ap length e ∙ length-append (inputBytes shares before) (drop (length shares) before)
-              ∙ omega (arith, size, t .inputs, length-drop (length shares) before, t .long, t .opens .most);
+              ∙ omega (arith, size, t .inputs, length-drop (length shares) before, t .long, t .layout .most);
         }
 
     module _ {role q : ℕ} {bits′ wires : List ℕ} (p : Passes s f role triples far bits taken q bits′ wires) where
@@ -75,14 +75,14 @@ module _ {s : List ℕ} {f : Front} {shares triples : List ℕ} (output : List �
       wires-are : wires ≡ wiresAfter c l before
       unfolding wiresAfter
       wires-are =
-          let n : f .inputs + f .gates ≡ c .inputs + length (c .gates) = omega (arith, t .opens .inputs, t .opens .gates) in
+          let n : f .inputs + f .gates ≡ c .inputs + length (c .gates) = omega (arith, t .layout .inputs, t .layout .gates) in
           let make = gateByte c (passedOn role s triples far) taken in
           let rest : drop (f .inputs + f .gates) taken ≡ drop (f .inputs + f .gates) before =
           sym (drop-drop (f .gates) (f .inputs) taken) ∙ ap (drop (f .gates)) back ∙ drop-drop (f .gates) (f .inputs) before in
           p .bytes
-          ∙ ap (λ (y : List ℕ). overGates make (c .gates) y ++ drop (f .inputs + f .gates) taken) front
+          ∙ ap (λ (y : List ℕ). overGates make (c .gates) y ++ drop (f .inputs + f .gates) taken) layout
           ∙ ap (λ (y : List ℕ). y ++ drop (f .inputs + f .gates) taken)
-          (gates-same c role s shares triples output far bits before taken same (c .gates) (inputBytes shares before) (omega (arith, size, t .opens .inputs)))
+          (gates-same c role s shares triples output far bits before taken same (c .gates) (inputBytes shares before) (omega (arith, size, t .layout .inputs)))
           ∙ ap (λ (y : List ℕ). overGates (gateByte c l before) (c .gates) (inputBytes shares before) ++ y)
           (rest ∙ ap (λ (k : ℕ). drop k before) n)
 
@@ -91,7 +91,7 @@ module _ {s : List ℕ} {f : Front} {shares triples : List ℕ} (output : List �
           ≡ acceptedOn (content s) (roundWith role s shares triples output far bits) before
       unfolding acceptedOn acceptedRound withOutputs
       round-finishes none {x} w =
-          let o = t .opens .outputs in
+          let o = t .layout .outputs in
           let kept : bits′ ≡ bits =
           p .sent ∙ ap (λ (y : List ℕ). y ++ drop q bits) (empty (bitsToSend c triples wires) (sym (p .counted) ∙ none)) ∙ ap (λ (n : ℕ). drop n bits) none in
           let g : roundWith role s shares triples x far bits′ ≡ withOutputs c l wires =
@@ -121,32 +121,32 @@ module _ {s : List ℕ} {f : Front} {shares triples : List ℕ} (output : List �
 
 -- ---- the call
 
-pub front-most : (s : List ℕ) (r : Opened) {f : Front} → OpenedAs s r → r ≡ Accepted f → f .inputs + f .gates ≤ 4096
-front-most s r h e = opened-front {s = s} {r = r} h e .most
+pub layout-most : (s : List ℕ) (r : Answer) {f : Layout} → CircuitRead s r → r ≡ Accepted f → f .inputs + f .gates ≤ 4096
+layout-most s r h e = layout-read {s = s} {r = r} h e .most
 
 -- a circuit that is refused
-pub circuit-refused : (role : ℕ) {s : List ℕ} (shares triples output far bits : List ℕ) {state : RoundState} {r : Opened} {j k : ℕ} {answer : Rounded}
-    → OpenedAs s r → r ≡ Fault j → k ≡ refusalOf r → answer ≡ roundedWith k 0 0 state
+pub circuit-refused : (role : ℕ) {s : List ℕ} (shares triples output far bits : List ℕ) {state : RoundState} {r : Answer} {j k : ℕ} {answer : Rounded}
+    → CircuitRead s r → r ≡ Fault j → k ≡ circuitFault r → answer ≡ roundedWith k 0 0 state
     → rounded answer (roundWith role s shares triples output far bits) ≡ round (roundWith role s shares triples output far bits) state
 unfolding round
 circuit-refused role {s} shares triples output far bits {state} {r} {j} {k} {answer} h e n w =
     let l : RoundLent = roundWith role s shares triples output far bits in
-    read-refused (readCircuit s) (refusedRound l state) _ (rounded answer l) j (subst (OpenedAs s) e h)
-    (ap (λ (x : Rounded). rounded x l) w ∙ ap (refusedRound l state) (n ∙ ap refusalOf e))
+    read-refused (readCircuit s) (refusedRound l state) _ (rounded answer l) j (subst (CircuitRead s) e h)
+    (ap (λ (x : Rounded). rounded x l) w ∙ ap (refusedRound l state) (n ∙ ap circuitFault e))
 
-counted-is : {s : List ℕ} {f : Front} → HasFront s f → (bytes : List ℕ) {waits : ℕ} → waits ≡ waiting (take (f .gates) (drop (f .inputs) bytes))
+counted-is : {s : List ℕ} {f : Layout} → HasLayout s f → (bytes : List ℕ) {waits : ℕ} → waits ≡ waiting (take (f .gates) (drop (f .inputs) bytes))
     → waits ≡ waitingIn (content s) bytes
 counted-is {s} {f} o bytes counted =
     counted ∙ ap (λ (k : ℕ). waiting (take k (drop (f .inputs) bytes))) (o .gates)
     ∙ ap (λ (k : ℕ). waiting (take (length (content s .gates)) (drop k bytes))) (o .inputs)
 
-pub round-tested : {s : List ℕ} {f : Front} (o : HasFront s f) (role : ℕ) (shares triples : List ℕ) (room : ℕ) (far : List ℕ) (space : ℕ)
+pub round-tested : {s : List ℕ} {f : Layout} (o : HasLayout s f) (role : ℕ) (shares triples : List ℕ) (room : ℕ) (far : List ℕ) (space : ℕ)
     (before : List ℕ) {waits n : ℕ} → waits ≡ waiting (take (f .gates) (drop (f .inputs) before)) → n ≡ firstFault (askedTests f waits role shares triples far room space) → n ≡ 0
     → length before ≡ 4096 → Tested s f shares triples room far space before
 round-tested {s} {f} o role shares triples room far space before {waits} {n} counted number none long =
     let m = admitted-by (askedTests f waits role shares triples far room space) n refl number none in
     record {
-      opens = o;
+      layout = o;
       inputs = omega (arith, m .all);
       places = omega (arith, m .all, counted-is o before counted);
       outputs = omega (arith, m .all);
@@ -158,7 +158,7 @@ round-tested {s} {f} o role shares triples room far space before {waits} {n} cou
       long = long;
     }
 
-module _ (role : ℕ) {s : List ℕ} (shares triples output far bits : List ℕ) (state : RoundState) {f : Front} (o : HasFront s f) {waits n : ℕ}
+module _ (role : ℕ) {s : List ℕ} (shares triples output far bits : List ℕ) (state : RoundState) {f : Layout} (o : HasLayout s f) {waits n : ℕ}
     (counted : waits ≡ waiting (take (f .gates) (drop (f .inputs) (state .wires))))
     (number : n ≡ firstFault (askedTests f waits role shares triples far (length output) (length bits))) where
   abbrev lent : RoundLent

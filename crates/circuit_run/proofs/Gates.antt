@@ -18,10 +18,10 @@ use Rattle.circuit.proofs.Lists.{FirstGate, first-gate}
 use Rattle.circuit.proofs.Turns.{and-kind}
 use Rattle.circuit.specs.Content.{Gate, Xor, And, Not, isAnd, andsIn}
 use Rattle.circuit.specs.Inner.GateKinds.{kindNumber}
-use Rattle.circuit.specs.Inner.Fronts.{andOf, gateBy}
-use Rattle.circuit.specs.Answer.{content, HasFront}
+use Rattle.circuit.specs.Inner.GateNumbers.{andOf, gateBy}
+use Rattle.circuit.specs.Answer.{content, HasLayout}
 use Rattle.circuit.specs.Reading.{readGate, readGates}
-use Rattle.circuit.specs.declared.Front.{Front}
+use Rattle.circuit.specs.declared.Layout.{Layout}
 use Rattle.number.proofs.Places.{either, whole-is, choose-yes, choose-no}
 use Rattle.number.specs.Reading.{Whole}
 use Rattle.number.specs.Inner.Known.{isWhole}
@@ -63,7 +63,7 @@ by-3 kind a b e = simp e
 abbrev pub gatesOf : List ℕ → List Gate
 gatesOf s = content s .gates
 
-pub left-start : {s : List ℕ} {f : Front} → HasFront s f → Left s (f .inputs) 0 (f .body)
+pub left-start : {s : List ℕ} {f : Layout} → HasLayout s f → Left s (f .inputs) 0 (f .body)
 left-start {s} {f} o =
     record {
       below = omega arith;
@@ -81,11 +81,11 @@ module _ {s : List ℕ} {inputs i at : ℕ} (left : Left s inputs i at) (more : 
       (ap (λ (n : ℕ). readGates n (inputs + i) s at) {x = suc (length (gatesOf s) - (i + 1))} {y = length (gatesOf s) - i} (omega arith) ∙ left .read)
 
   pub whole-gate : isWhole (readGate (inputs + i) s at) ≡ true
-  whole-gate = ap isWhole (first .first)
+  whole-gate = ap isWhole (first .reads)
 
   module _ (kind a b : ℕ) {next : ℕ} (read : Whole (gateBy kind a b, next) ≡ readGate (inputs + i) s at) where
     same : _≡_ {A = Gate × ℕ} (gateBy kind a b, next) (first .gate, first .next)
-    same = whole-is (read ∙ first .first)
+    same = whole-is (read ∙ first .reads)
 
     pub here : drop i (gatesOf s) ≡ gateBy kind a b ∷ first .later
     here = first .all ∙ ap (λ (z : Gate × ℕ). z .0 ∷ first .later) (sym same)
@@ -113,13 +113,13 @@ pub record RunTurn (s : List ℕ) (inputs role ands i₀ : ℕ) (wires₀ : List
   pub counted : ands ≡ andsBefore (content s) i
 
 abbrev pub reachedWith : Bool → ℕ → ℕ → ℕ → ℕ → Reached
-reachedWith waits gate first second ands = record { waits = waits; gate = gate; first = first; second = second; ands = ands }
+reachedWith waits gate first second ands = record { waits = waits; gate = gate; «first_wire» = first; «second_wire» = second; ands = ands }
 
-pub run-start : {s : List ℕ} {f : Front} {p : Place} (role : ℕ) (wires : List ℕ) → Stands s f p
+pub run-start : {s : List ℕ} {f : Layout} {p : Place} (role : ℕ) (wires : List ℕ) → Stands s f p
     → RunTurn s (f .inputs) role (p .ands) (p .gate) wires (p .at) (p .gate) wires
 run-start role wires st = record { left = st .left; run = refl; counted = st .ands }
 
-module _ {s : List ℕ} {f : Front} (o : HasFront s f) {role ands i₀ : ℕ} {wires₀ : List ℕ} {at i : ℕ} {wires : List ℕ}
+module _ {s : List ℕ} {f : Layout} (o : HasLayout s f) {role ands i₀ : ℕ} {wires₀ : List ℕ} {at i : ℕ} {wires : List ℕ}
     (turn : RunTurn s (f .inputs) role ands i₀ wires₀ at i wires) where
   pub gates-below : i ≤ f .gates
   gates-below = omega (arith, turn .left .below, o .gates)
@@ -154,8 +154,8 @@ module _ {s : List ℕ} {f : Front} (o : HasFront s f) {role ands i₀ : ℕ} {w
                 ∙ ap (λ (l : List Gate). runOn role (f .inputs) l i wires)
                 (h ∙ ap (λ (x : Gate). x ∷ first (turn .left) inside .later) (by-2 kind a b e));
             below = omega arith;
-            first = (sym (ap firstWire g), room-below p);
-            second = (sym (ap secondWire g), room-below q);
+            first-is = (sym (ap firstWire g), room-below p);
+            second-is = (sym (ap secondWire g), room-below q);
             ands = turn .counted;
             few =
                 λ _. omega (
@@ -212,8 +212,8 @@ module _ {s : List ℕ} {f : Front} (o : HasFront s f) {role ands i₀ : ℕ} {w
       record {
         run = turn .run ∙ ap (λ (l : List Gate). runOn role (f .inputs) l i wires) (drop-of-length-le (gatesOf s) all);
         below = gates-below;
-        first = (sym (ap firstWire none), omega arith);
-        second = (sym (ap secondWire none), omega arith);
+        first-is = (sym (ap firstWire none), omega arith);
+        second-is = (sym (ap secondWire none), omega arith);
         ands = turn .counted;
         few = λ e. absurd (true≢false (sym e));
       }
@@ -226,11 +226,11 @@ pub record PlaceTurn (s : List ℕ) (inputs gate at ands i : ℕ) : Type 0 where
   pub turns : i ≤ gate
   pub few : ands ≤ i
 
-pub place-start : {s : List ℕ} {f : Front} (gate : ℕ) → HasFront s f → PlaceTurn s (f .inputs) gate (f .body) 0 0
+pub place-start : {s : List ℕ} {f : Layout} (gate : ℕ) → HasLayout s f → PlaceTurn s (f .inputs) gate (f .body) 0 0
 unfolding andsIn
 place-start gate o = record { left = left-start o; counted = refl; turns = omega arith; few = omega arith }
 
-module _ {s : List ℕ} {f : Front} (o : HasFront s f) {gate : ℕ} (room : gate ≤ f .gates) {at ands i : ℕ}
+module _ {s : List ℕ} {f : Layout} (o : HasLayout s f) {gate : ℕ} (room : gate ≤ f .gates) {at ands i : ℕ}
     (turn : PlaceTurn s (f .inputs) gate at ands i) where
   module _ (more : i < gate) where
     within-gates : i < length (gatesOf s)
@@ -277,9 +277,9 @@ and-true false = refl
 
 abbrev pub spotWith : Bool → ℕ → ℕ → ℕ → ℕ → ℕ → Spot
 spotWith admitted gate first second ands next =
-    record { admitted = admitted; gate = gate; first = first; second = second; ands = ands; next = next }
+    record { admitted = admitted; gate = gate; «first_wire» = first; «second_wire» = second; ands = ands; next = next }
 
-module _ {s : List ℕ} {f : Front} (o : HasFront s f) (phase gate : ℕ) where
+module _ {s : List ℕ} {f : Layout} (o : HasLayout s f) (phase gate : ℕ) where
   pub spot-other : {r : Spot} → (phase ≡ 1 → ⊥) → r .admitted ≡ leb phase 2 → r .gate ≡ gate → Spots s f phase gate r
   spot-other n e g =
       record {
@@ -323,8 +323,8 @@ module _ {s : List ℕ} {f : Front} (o : HasFront s f) (phase gate : ℕ) where
                 record {
                   gate = g ∙ by-2 kind a b e;
                   below = more;
-                  first = omega (arith, o .most);
-                  second = omega (arith, o .most);
+                  first-below = omega (arith, o .most);
+                  second-below = omega (arith, o .most);
                   ands = before;
                   few =
                       omega (

@@ -17,57 +17,57 @@ use Rattle.answer.specs.Outcome.{answered}
 use Rattle.answer.specs.Tests.{firstFault}
 use Rattle.circuit.proofs.Ands.{before-few}
 use Rattle.circuit.specs.Content.{And, Circuit}
-use Rattle.circuit.specs.Answer.{content, HasFront, OpenedAs, refusalOf}
+use Rattle.circuit.specs.Answer.{content, HasLayout, CircuitRead, circuitFault}
 use Rattle.circuit.specs.Reading.{readCircuit}
 use Rattle.circuit.specs.Value.{atWires}
-use Rattle.circuit.specs.declared.Front.{Front}
-use Rattle.circuit.specs.declared.Opened.{Opened}
-use Rattle.circuit.specs.declared.Opened.the-variants.{Accepted, Fault}
+use Rattle.circuit.specs.declared.Layout.{Layout}
+use Rattle.circuit.specs.declared.Answer.{Answer}
+use Rattle.circuit.specs.declared.Answer.the-variants.{Accepted, Fault}
 use Rattle.number.proofs.Places.{either, choose-yes, choose-no}
 use Rattle.number.proofs.Records.{read-refused, read-whole}
 use Rattle.circuit_run.proofs.Gates.{gatesOf}
 use Rattle.circuit_run.proofs.Numbers.{state-phase}
 use Rattle.circuit_run.specs.Inner.Places.{Spots, Tested, Checks, Stops, givenAnd, proceeded, steppedWith, acceptedOn}
 use Rattle.circuit_run.specs.Inner.Tests.{askedTests}
-use Rattle.circuit_run.specs.Step.{StepLent, lentWith, StepOutcome, stepOutcome, stepped, runWith, stepTests, gateAt, freshWires, runOn}
-use Rattle.circuit_run.specs.Step.{maskedFirst, maskedSecond, waitingShare, withAnd, stepRun, withOutputs, acceptedStep, refusedStep, step}
-use Rattle.circuit_run.specs.declared.Run.{Run}
+use Rattle.circuit_run.specs.Step.{StepLent, lentWith, StepOutcome, stepOutcome, stepped, stepStateWith, stepTests, gateAt, freshWires, runOn}
+use Rattle.circuit_run.specs.Step.{maskedFirst, maskedSecond, waitingShare, withAnd, stateAfter, withOutputs, acceptedStep, refusedStep, step}
+use Rattle.circuit_run.specs.declared.StepState.{StepState}
 use Rattle.circuit_run.specs.declared.Stepped.{Stepped}
 use Rattle.circuit_run.specs.declared.places.Checked.{Checked}
 use Rattle.circuit_run.specs.declared.places.Asked.{Asked}
 use Rattle.circuit_run.specs.declared.places.Reached.{Reached}
 use Rattle.circuit_run.specs.declared.places.Spot.{Spot}
 
--- what a circuit that was read opens
-pub opened-front : {s : List ℕ} {r : Opened} {f : Front} → OpenedAs s r → r ≡ Accepted f → HasFront s f
-opened-front {s} h e = subst (OpenedAs s) e h
+-- the layout of a circuit that was read
+pub layout-read : {s : List ℕ} {r : Answer} {f : Layout} → CircuitRead s r → r ≡ Accepted f → HasLayout s f
+layout-read {s} h e = subst (CircuitRead s) e h
 
 abbrev pub askedWith : ℕ → Bool → ℕ → ℕ → Asked
 askedWith role waits first second = record { role = role; waits = waits; «far_first» = first; «far_second» = second }
 
 -- a circuit that is refused
-pub circuit-refused : (role : ℕ) {s : List ℕ} (shares triples output : List ℕ) (far1 far2 : ℕ) {state : Run} {r : Opened} {j k : ℕ} {answer : Stepped}
-    → OpenedAs s r → r ≡ Fault j → k ≡ refusalOf r → answer ≡ steppedWith k 0 0 0 state
+pub circuit-refused : (role : ℕ) {s : List ℕ} (shares triples output : List ℕ) (far1 far2 : ℕ) {state : StepState} {r : Answer} {j k : ℕ} {answer : Stepped}
+    → CircuitRead s r → r ≡ Fault j → k ≡ circuitFault r → answer ≡ steppedWith k 0 0 0 state
     → stepped answer (lentWith role s shares triples output far1 far2) ≡ step (lentWith role s shares triples output far1 far2) state
 unfolding step
 circuit-refused role {s} shares triples output far1 far2 {state} {r} {j} {k} {answer} h e n w =
     let l : StepLent = lentWith role s shares triples output far1 far2 in
-    read-refused (readCircuit s) (refusedStep l state) _ (stepped answer l) j (subst (OpenedAs s) e h)
-    (ap (λ (x : Stepped). stepped x l) w ∙ ap (refusedStep l state) (n ∙ ap refusalOf e))
+    read-refused (readCircuit s) (refusedStep l state) _ (stepped answer l) j (subst (CircuitRead s) e h)
+    (ap (λ (x : Stepped). stepped x l) w ∙ ap (refusedStep l state) (n ∙ ap circuitFault e))
 
 -- ---- a step that has passed every test
 
-module _ {s : List ℕ} {f : Front} {a : Asked} {r : Spot} {shares triples : List ℕ} {space phase gate : ℕ}
+module _ {s : List ℕ} {f : Layout} {a : Asked} {r : Spot} {shares triples : List ℕ} {space phase gate : ℕ}
     (t : Tested s f a r shares triples space phase gate) where
-  module _ {before : Run} {reached : Reached} {wires : List ℕ} (stops : Stops s f before reached wires) where
+  module _ {before : StepState} {reached : Reached} {wires : List ℕ} (stops : Stops s f before reached wires) where
     few : reached .ands ≤ 4096
     few =
         omega (
           arith,
           stops .below,
-          t .opens .most,
+          t .layout .most,
           stops .ands,
-          before-few (gatesOf s) (reached .gate) (omega (arith, stops .below, t .opens .gates)),
+          before-few (gatesOf s) (reached .gate) (omega (arith, stops .below, t .layout .gates)),
         )
 
     pub triple-fits : Fits w64 (reached .ands * 3)
@@ -83,7 +83,7 @@ module _ {s : List ℕ} {f : Front} {a : Asked} {r : Spot} {shares triples : Lis
       pub second-below : reached .ands * 3 + 1 < length triples
       second-below = omega (arith, stops .few waiting, t .ready .enough)
 
-module _ {s : List ℕ} {f : Front} {a : Asked} {r : Spot} {shares triples : List ℕ} (state : Run) (output : List ℕ)
+module _ {s : List ℕ} {f : Layout} {a : Asked} {r : Spot} {shares triples : List ℕ} (state : StepState) (output : List ℕ)
     (t : Tested s f a r shares triples (length output) (state .phase) (state .gate)) where
   abbrev c : Circuit
   c = content s
@@ -94,15 +94,15 @@ module _ {s : List ℕ} {f : Front} {a : Asked} {r : Spot} {shares triples : Lis
   abbrev wrote : List ℕ → StepLent
   wrote x = lentWith (a .role) s shares triples x (a .«far_first») (a .«far_second»)
 
-  finished-is : (after : Run) {x : List ℕ} → stepRun c l state ≡ after → (after .phase ≡ 1 → ⊥)
+  finished-is : (after : StepState) {x : List ℕ} → stateAfter c l state ≡ after → (after .phase ≡ 1 → ⊥)
       → x ≡ atWires (after .wires) (c .outputs) ++ drop (f .outputs) output
       → stepped (steppedWith 0 (f .outputs) 0 0 after) (wrote x) ≡ acceptedOn c l state
   unfolding acceptedOn acceptedStep withOutputs
   finished-is after {x} e n1 w =
       let g : wrote x ≡ withOutputs c l after =
-      ap wrote (w ∙ ap (λ (m : ℕ). atWires (after .wires) (c .outputs) ++ drop m output) (t .opens .outputs)) in
+      ap wrote (w ∙ ap (λ (m : ℕ). atWires (after .wires) (c .outputs) ++ drop m output) (t .layout .outputs)) in
       ap (λ (y : StepLent). stepOutcome 0 (f .outputs) 0 0 after y) g
-      ∙ ap (λ (m : ℕ). stepOutcome 0 m 0 0 after (withOutputs c l after)) (t .opens .outputs)
+      ∙ ap (λ (m : ℕ). stepOutcome 0 m 0 0 after (withOutputs c l after)) (t .layout .outputs)
       ∙ sym (choose-no {A = StepOutcome} _ (stepOutcome 0 (length (c .outputs)) 0 0 after (withOutputs c l after)) (ne-eqb (after .phase) 1 n1))
       ∙ ap (acceptedStep c l) (sym e)
 
@@ -110,11 +110,11 @@ module _ {s : List ℕ} {f : Front} {a : Asked} {r : Spot} {shares triples : Lis
       → x ≡ atWires (state .wires) (content s .outputs) ++ drop (f .outputs) output
       → stepped answer (lentWith (a .role) s shares triples x (a .«far_first») (a .«far_second»))
       ≡ acceptedOn (content s) (lentWith (a .role) s shares triples output (a .«far_first») (a .«far_second»)) state
-  unfolding stepRun
+  unfolding stateAfter
   step-again two {x} g w =
       ap (λ (r : Stepped). stepped r (wrote x)) g
       ∙ finished-is state
-      (choose-no {A = Run} _ _ (ne-eqb (state .phase) 0 (λ e. omega arith)) ∙ choose-no {A = Run} _ state (ne-eqb (state .phase) 1 (λ e. omega arith)))
+      (choose-no {A = StepState} _ _ (ne-eqb (state .phase) 0 (λ e. omega arith)) ∙ choose-no {A = StepState} _ state (ne-eqb (state .phase) 1 (λ e. omega arith)))
       (λ e. omega arith) w
 
   module _ (going : state .phase ≡ 2 → ⊥) where
@@ -123,52 +123,52 @@ module _ {s : List ℕ} {f : Front} {a : Asked} {r : Spot} {shares triples : Lis
     unfolding givenAnd withAnd waitingShare maskedFirst maskedSecond
     and-is one =
         let w = t .ready .waits (t .asks ∙ eq-eqb (state .phase) 1 one) in
-        let g : gateAt c (state .gate) ≡ And (r .first) (r .second) = ap (gateAt c) (sym (t .number)) ∙ w .gate in
-        rw (t .opens .inputs, w .ands, t .number, g)
+        let g : gateAt c (state .gate) ≡ And (r .«first_wire») (r .«second_wire») = ap (gateAt c) (sym (t .number)) ∙ w .gate in
+        rw (t .layout .inputs, w .ands, t .number, g)
 
-    proceeded-is : proceeded s f a r shares triples (state .wires) ≡ stepRun c l state
-    unfolding proceeded stepRun
+    proceeded-is : proceeded s f a r shares triples (state .wires) ≡ stateAfter c l state
+    unfolding proceeded stateAfter
     proceeded-is =
         either (state .phase) 1
         (λ one.
-        choose-yes {A = Run} _ _ (t .asks ∙ eq-eqb (state .phase) 1 one)
+        choose-yes {A = StepState} _ _ (t .asks ∙ eq-eqb (state .phase) 1 one)
         ∙ ap (λ (w : List ℕ). runOn (a .role) (f .inputs) (drop (r .gate + 1) (gatesOf s)) (r .gate + 1) w) (and-is one)
         ∙ ap (λ (g : ℕ). runOn (a .role) (f .inputs) (drop (g + 1) (gatesOf s)) (g + 1) (withAnd c l state)) (t .number)
-        ∙ ap (λ (i : ℕ). runOn (a .role) i (drop (state .gate + 1) (gatesOf s)) (state .gate + 1) (withAnd c l state)) (t .opens .inputs)
-        ∙ sym (choose-no {A = Run} _ _ (ne-eqb (state .phase) 0 (λ e. omega arith)) ∙ choose-yes {A = Run} _ _ (eq-eqb (state .phase) 1 one)))
+        ∙ ap (λ (i : ℕ). runOn (a .role) i (drop (state .gate + 1) (gatesOf s)) (state .gate + 1) (withAnd c l state)) (t .layout .inputs)
+        ∙ sym (choose-no {A = StepState} _ _ (ne-eqb (state .phase) 0 (λ e. omega arith)) ∙ choose-yes {A = StepState} _ _ (eq-eqb (state .phase) 1 one)))
         (λ other.
         let z : state .phase ≡ 0 = omega (arith, t .known) in
-        choose-no {A = Run} _ _ (t .asks ∙ ne-eqb (state .phase) 1 other)
-        ∙ ap (λ (i : ℕ). runOn (a .role) i (gatesOf s) 0 (freshWires shares)) (t .opens .inputs)
-        ∙ sym (choose-yes {A = Run} _ _ (eq-eqb (state .phase) 0 z)))
+        choose-no {A = StepState} _ _ (t .asks ∙ ne-eqb (state .phase) 1 other)
+        ∙ ap (λ (i : ℕ). runOn (a .role) i (gatesOf s) 0 (freshWires shares)) (t .layout .inputs)
+        ∙ sym (choose-yes {A = StepState} _ _ (eq-eqb (state .phase) 0 z)))
 
     module _ {reached : Reached} {wires : List ℕ} (stops : Stops s f (proceeded s f a r shares triples (state .wires)) reached wires) where
       pub step-waits : reached .waits ≡ true
           → stepped
           (steppedWith 0 0
-          (bitXor (getD wires (reached .first) 0) (getD triples (reached .ands * 3) 0))
-          (bitXor (getD wires (reached .second) 0) (getD triples (reached .ands * 3 + 1) 0))
-          (runWith 1 (reached .gate) wires))
+          (bitXor (getD wires (reached .«first_wire») 0) (getD triples (reached .ands * 3) 0))
+          (bitXor (getD wires (reached .«second_wire») 0) (getD triples (reached .ands * 3 + 1) 0))
+          (stepStateWith 1 (reached .gate) wires))
           (lentWith (a .role) s shares triples output (a .«far_first») (a .«far_second»))
           ≡ acceptedOn (content s) (lentWith (a .role) s shares triples output (a .«far_first») (a .«far_second»)) state
       unfolding acceptedOn acceptedStep maskedFirst maskedSecond
       step-waits stopped =
-          let after : Run = runWith 1 (reached .gate) wires in
-          let e : stepRun c l state ≡ after = sym proceeded-is ∙ stops .run ∙ ap (λ (b : Bool). runWith (choose b 1 2) (reached .gate) wires) stopped in
-          rw (stops .first .0, stops .second .0, stops .ands) (ap (acceptedStep c l) (sym e))
+          let after : StepState = stepStateWith 1 (reached .gate) wires in
+          let e : stateAfter c l state ≡ after = sym proceeded-is ∙ stops .run ∙ ap (λ (b : Bool). stepStateWith (choose b 1 2) (reached .gate) wires) stopped in
+          rw (stops .first-is .0, stops .second-is .0, stops .ands) (ap (acceptedStep c l) (sym e))
 
-      pub step-finishes : reached .waits ≡ false → {x : List ℕ} {answer : Stepped} → answer ≡ steppedWith 0 (f .outputs) 0 0 (runWith 2 (reached .gate) wires)
+      pub step-finishes : reached .waits ≡ false → {x : List ℕ} {answer : Stepped} → answer ≡ steppedWith 0 (f .outputs) 0 0 (stepStateWith 2 (reached .gate) wires)
           → x ≡ atWires wires (content s .outputs) ++ drop (f .outputs) output
           → stepped answer (lentWith (a .role) s shares triples x (a .«far_first») (a .«far_second»))
           ≡ acceptedOn (content s) (lentWith (a .role) s shares triples output (a .«far_first») (a .«far_second»)) state
       step-finishes ended {x} g w =
           ap (λ (r : Stepped). stepped r (wrote x)) g
-          ∙ finished-is (runWith 2 (reached .gate) wires)
-          (sym proceeded-is ∙ stops .run ∙ ap (λ (b : Bool). runWith (choose b 1 2) (reached .gate) wires) ended) (λ e. omega arith) w
+          ∙ finished-is (stepStateWith 2 (reached .gate) wires)
+          (sym proceeded-is ∙ stops .run ∙ ap (λ (b : Bool). stepStateWith (choose b 1 2) (reached .gate) wires) ended) (λ e. omega arith) w
 
 -- ---- the tests together
 
-module _ {s : List ℕ} {f : Front} (o : HasFront s f) {a : Asked} (phase : ℕ) (asks : a .waits ≡ eqb phase 1) {gate : ℕ} {r : Spot}
+module _ {s : List ℕ} {f : Layout} (o : HasLayout s f) {a : Asked} (phase : ℕ) (asks : a .waits ≡ eqb phase 1) {gate : ℕ} {r : Spot}
     (spots : Spots s f phase gate r) (shares triples : List ℕ) (space : ℕ) {n : ℕ}
     (number : n ≡ firstFault (askedTests f (r .admitted) a shares triples space)) where
   pub checks : Checks s f a phase gate shares triples space (record { number = n; spot = r })
@@ -180,7 +180,7 @@ module _ {s : List ℕ} {f : Front} (o : HasFront s f) {a : Asked} (phase : ℕ)
             let m = admitted-by (askedTests f (r .admitted) a shares triples space) n refl number none in
             let known : r .admitted ≡ true = search (m .all) in
             record {
-              opens = o;
+              layout = o;
               ready =
                   record {
                     few = omega (arith, m .all, o .most);
@@ -196,11 +196,11 @@ module _ {s : List ℕ} {f : Front} (o : HasFront s f) {a : Asked} (phase : ℕ)
 
 -- ---- the call
 
-pub checked-tested : {s : List ℕ} {f : Front} {a : Asked} {phase gate : ℕ} {shares triples : List ℕ} {space : ℕ} {r : Checked}
+pub checked-tested : {s : List ℕ} {f : Layout} {a : Asked} {phase gate : ℕ} {shares triples : List ℕ} {space : ℕ} {r : Checked}
     → Checks s f a phase gate shares triples space r → r .number ≡ 0 → Tested s f a (r .spot) shares triples space phase gate
 checked-tested ch none = ch .tested none
 
-module _ (role : ℕ) {s : List ℕ} {shares triples : List ℕ} (output : List ℕ) (far1 far2 : ℕ) (state : Run) {f : Front} (o : HasFront s f) {r : Checked}
+module _ (role : ℕ) {s : List ℕ} {shares triples : List ℕ} (output : List ℕ) (far1 far2 : ℕ) (state : StepState) {f : Layout} (o : HasLayout s f) {r : Checked}
     (ch : Checks s f (askedWith role (eqb (state .phase) 1) far1 far2) (state .phase) (state .gate) shares triples (length output) r) where
   abbrev lent : StepLent
   lent = lentWith role s shares triples output far1 far2

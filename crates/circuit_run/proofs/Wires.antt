@@ -12,10 +12,10 @@ use lib.Seq.{set-at, take-suc, take-length, take-all, drop-cons, drop-drop, leng
 use mir.Syntax.{w64}
 use mir.Val.{Fits}
 use Rattle.circuit.proofs.Lists.{FirstWire, first-wire}
-use Rattle.circuit.specs.Answer.{content, HasFront}
+use Rattle.circuit.specs.Answer.{content, HasLayout}
 use Rattle.circuit.specs.Reading.{readWire, readWires}
 use Rattle.circuit.specs.Value.{atWires}
-use Rattle.circuit.specs.declared.Front.{Front}
+use Rattle.circuit.specs.declared.Layout.{Layout}
 use Rattle.number.proofs.Places.{whole-is}
 use Rattle.number.specs.Reading.{Whole}
 use Rattle.number.specs.Inner.Known.{isWhole}
@@ -56,8 +56,8 @@ module _ (shares : List ℕ) (i : ℕ) (few : length shares ≤ 4096) where
 
 pub given : (a : Asked) (r : Spot) (wire : ℕ) (triples wires : List ℕ) (x : ℕ)
     → x ≡ andShare (a .role)
-    (bitXor (bitXor (getD wires (r .first) 0) (getD triples (r .ands * 3) 0)) (a .«far_first»))
-    (bitXor (bitXor (getD wires (r .second) 0) (getD triples (r .ands * 3 + 1) 0)) (a .«far_second»))
+    (bitXor (bitXor (getD wires (r .«first_wire») 0) (getD triples (r .ands * 3) 0)) (a .«far_first»))
+    (bitXor (bitXor (getD wires (r .«second_wire») 0) (getD triples (r .ands * 3 + 1) 0)) (a .«far_second»))
     (getD triples (r .ands * 3) 0) (getD triples (r .ands * 3 + 1) 0) (getD triples (r .ands * 3 + 2) 0)
     → set wires wire x ≡ givenAnd a r wire triples wires
 unfolding givenAnd
@@ -75,7 +75,7 @@ pub record OutputTurn (s : List ℕ) (wires output₀ : List ℕ) (outputs limit
   pub read : readWires (outputs - i) limit s at ≡ Whole (drop i (outputsOf s), end)
   pub written : output ≡ atWires wires (take i (outputsOf s)) ++ drop i output₀
 
-pub output-start : {s : List ℕ} {f : Front} (wires output : List ℕ) → HasFront s f
+pub output-start : {s : List ℕ} {f : Layout} (wires output : List ℕ) → HasLayout s f
     → OutputTurn s wires output (f .outputs) (f .inputs + f .gates) output (f .tail) 0
 output-start {s} {f} wires output o =
     record {
@@ -85,14 +85,14 @@ output-start {s} {f} wires output o =
       written = refl;
     }
 
-pub limit-fits : {s : List ℕ} {f : Front} → HasFront s f → Fits w64 (f .inputs + f .gates)
+pub limit-fits : {s : List ℕ} {f : Layout} → HasLayout s f → Fits w64 (f .inputs + f .gates)
 limit-fits o = record { fits = omega (arith, o .most) }
 
 map-append : (wires xs ys : List ℕ) → atWires wires (xs ++ ys) ≡ atWires wires xs ++ atWires wires ys
 map-append wires [] ys = refl
 map-append wires (x ∷ xs) ys = ap (λ (l : List ℕ). getD wires x 0 ∷ l) (map-append wires xs ys)
 
-module _ {s : List ℕ} {f : Front} (o : HasFront s f) {wires output₀ : List ℕ} (room : f .outputs ≤ length output₀) {output : List ℕ} {at i : ℕ}
+module _ {s : List ℕ} {f : Layout} (o : HasLayout s f) {wires output₀ : List ℕ} (room : f .outputs ≤ length output₀) {output : List ℕ} {at i : ℕ}
     (turn : OutputTurn s wires output₀ (f .outputs) (f .inputs + f .gates) output at i) where
   pub output-length : length output ≡ length output₀
   output-length =
@@ -116,7 +116,7 @@ module _ {s : List ℕ} {f : Front} (o : HasFront s f) {wires output₀ : List �
         (ap (λ (n : ℕ). readWires n (f .inputs + f .gates) s at) {x = suc (f .outputs - (i + 1))} {y = f .outputs - i} (omega arith) ∙ turn .read)
 
     pub output-known : isWhole (readWire (f .inputs + f .gates) s at) ≡ true
-    output-known = ap isWhole (first .first)
+    output-known = ap isWhole (first .reads)
 
     pub output-wire : {w : ℕ} → w < f .inputs + f .gates → w < 4096
     output-wire h = omega (arith, o .most)
@@ -124,7 +124,7 @@ module _ {s : List ℕ} {f : Front} (o : HasFront s f) {wires output₀ : List �
     pub output-next : {w next : ℕ} → Whole (w, next) ≡ readWire (f .inputs + f .gates) s at
         → OutputTurn s wires output₀ (f .outputs) (f .inputs + f .gates) (set output i (getD wires w 0)) next (i + 1)
     output-next {w} {next} read =
-        let z : _≡_ {A = ℕ × ℕ} (w, next) (first .wire, first .next) = whole-is (read ∙ first .first) in
+        let z : _≡_ {A = ℕ × ℕ} (w, next) (first .wire, first .next) = whole-is (read ∙ first .reads) in
         let h : drop i (outputsOf s) ≡ w ∷ first .later = first .all ∙ ap (λ (p : ℕ × ℕ). p .0 ∷ first .later) (sym z) in
         let t : drop (i + 1) (outputsOf s) ≡ first .later = sym (drop-drop 1 i (outputsOf s)) ∙ ap (drop 1) h in
         let g : getD (outputsOf s) i 0 ≡ w =

@@ -18,7 +18,7 @@ use Rattle.circuit.specs.Reading.{readCircuit}
 use Rattle.circuit.specs.Value.{atWires}
 use Rattle.number.specs.Reading.{afterReading}
 use Rattle.triples.specs.Triple.{tripleBytes}
-use Rattle.circuit_run.specs.declared.Run.{Run}
+use Rattle.circuit_run.specs.declared.StepState.{StepState}
 use Rattle.circuit_run.specs.declared.Stepped.{Stepped}
 
 -- ---- what a step gets and gives
@@ -52,10 +52,10 @@ pub record StepOutcome : Type 0 where
   pub written : ℕ
   pub firstBit : ℕ
   pub secondBit : ℕ
-  pub state : Run
+  pub state : StepState
   pub lent : StepLent
 
-abbrev pub stepOutcome : ℕ → ℕ → ℕ → ℕ → Run → StepLent → StepOutcome
+abbrev pub stepOutcome : ℕ → ℕ → ℕ → ℕ → StepState → StepLent → StepOutcome
 stepOutcome number written firstBit secondBit state lent =
     record { number = number; written = written; firstBit = firstBit; secondBit = secondBit; state = state; lent = lent }
 
@@ -65,14 +65,14 @@ stepped r lent = stepOutcome (r .number) (r .written) (r .«first_bit») (r .«s
 
 -- the state of a phase, a gate and the wires: phase 0 fresh, 1 waits for the far bits of the AND at the gate, 2 finished; the wires
 -- are this end's shares of the inputs and of the gates passed, zero past them
-abbrev pub runWith : ℕ → ℕ → List ℕ → Run
-runWith phase gate wires = record { phase = phase; gate = gate; wires = wires }
+abbrev pub stepStateWith : ℕ → ℕ → List ℕ → StepState
+stepStateWith phase gate wires = record { phase = phase; gate = gate; wires = wires }
 
 -- ---- tests
 
 -- far bits are bits where they are read, which is in phase 1 alone
 abbrev pub farAdmitted : Bool → ℕ → ℕ → Bool
-farAdmitted waits first second = not waits || (leb first 1 && leb second 1)
+farAdmitted waits farFirst farSecond = not waits || (leb farFirst 1 && leb farSecond 1)
 
 -- the gate of a number, from 0; past the last there is none, which a NOT stands for, since it is asked for ANDs alone
 abbrev pub gateAt : Circuit → ℕ → Gate
@@ -87,7 +87,7 @@ isRole role = eqb role 1 || eqb role 2
 
 -- the tests of a step on a circuit that was read: shares one an input, triple bits three each; room for the outputs; shares and
 -- triples are bits, unused triples too, and so are the far bits in phase 1; a triple for each AND; the state; the role
-abbrev pub stepTests : Circuit → StepLent → Run → List Test
+abbrev pub stepTests : Circuit → StepLent → StepState → List Test
 stepTests c l s =
     length (l .shares) is c .inputs or badLength
     ∷ length (l .triples) % 3 is 0 or badLength
@@ -111,13 +111,13 @@ unfoldable pub flipped : ℕ → ℕ → ℕ
 flipped role x = choose (eqb role 1) (bitXor x 1) x
 
 -- from gate i on, the gates from there given, to the next AND, which the run waits at, or to the end, where it has finished
-unfoldable pub runOn : ℕ → ℕ → List Gate → ℕ → List ℕ → Run
-runOn role inputs [] i wires = runWith 2 i wires
+unfoldable pub runOn : ℕ → ℕ → List Gate → ℕ → List ℕ → StepState
+runOn role inputs [] i wires = stepStateWith 2 i wires
 runOn role inputs (Xor a b ∷ gs) i wires = runOn role inputs gs (i + 1) (set wires (inputs + i) (bitXor (getD wires a 0) (getD wires b 0)))
-runOn role inputs (And a b ∷ gs) i wires = runWith 1 i wires
+runOn role inputs (And a b ∷ gs) i wires = stepStateWith 1 i wires
 runOn role inputs (Not a ∷ gs) i wires = runOn role inputs gs (i + 1) (set wires (inputs + i) (flipped role (getD wires a 0)))
 
-abbrev pub advance : ℕ → Circuit → ℕ → List ℕ → Run
+abbrev pub advance : ℕ → Circuit → ℕ → List ℕ → StepState
 advance role c i wires = runOn role (c .inputs) (drop i (c .gates)) i wires
 
 -- the AND with j ANDs before it takes triple j
@@ -126,13 +126,13 @@ andsBefore c i = andsIn (take i (c .gates))
 
 -- the first, second and third bit of triple j
 abbrev pub tripleFirst : List ℕ → ℕ → ℕ
-tripleFirst triples j = at tripleBytes triples j .first
+tripleFirst triples j = at tripleBytes triples j .bit1
 
 abbrev pub tripleSecond : List ℕ → ℕ → ℕ
-tripleSecond triples j = at tripleBytes triples j .second
+tripleSecond triples j = at tripleBytes triples j .bit2
 
 abbrev pub tripleThird : List ℕ → ℕ → ℕ
-tripleThird triples j = at tripleBytes triples j .third
+tripleThird triples j = at tripleBytes triples j .bit3
 
 -- the wires of an AND
 abbrev pub firstWire : Gate → ℕ
@@ -155,13 +155,13 @@ maskedSecond c triples wires i = bitXor (getD wires (secondWire (gateAt c i)) 0)
 -- the AND's share, with D and E the combined bits: the third bit, exclusive-or D AND the second, exclusive-or E AND the first; role 1
 -- also adds D AND E
 unfoldable pub andShare : ℕ → ℕ → ℕ → ℕ → ℕ → ℕ → ℕ
-andShare role d e first second third =
+andShare role d e a b c =
     choose (eqb role 1)
-    (bitXor (bitXor (bitXor third (bitAnd d second)) (bitAnd e first)) (bitAnd d e))
-    (bitXor (bitXor third (bitAnd d second)) (bitAnd e first))
+    (bitXor (bitXor (bitXor c (bitAnd d b)) (bitAnd e a)) (bitAnd d e))
+    (bitXor (bitXor c (bitAnd d b)) (bitAnd e a))
 
 -- the share of the AND that a run waits at, its masked bits combined with the far bits
-unfoldable pub waitingShare : Circuit → StepLent → Run → ℕ
+unfoldable pub waitingShare : Circuit → StepLent → StepState → ℕ
 waitingShare c l s =
     andShare (l .role)
     (bitXor (maskedFirst c (l .triples) (s .wires) (s .gate)) (l .farFirst))
@@ -171,36 +171,36 @@ waitingShare c l s =
     (tripleThird (l .triples) (andsBefore c (s .gate)))
 
 -- the wires of a run that waits at an AND, with the AND's share
-unfoldable pub withAnd : Circuit → StepLent → Run → List ℕ
+unfoldable pub withAnd : Circuit → StepLent → StepState → List ℕ
 withAnd c l s = set (s .wires) (c .inputs + s .gate) (waitingShare c l s)
 
 -- the state that an accepted step leaves: a fresh run takes the shares and runs from gate 0, one that waits gives its AND the share
 -- and runs on, a finished one stays
-unfoldable pub stepRun : Circuit → StepLent → Run → Run
-stepRun c l s =
+unfoldable pub stateAfter : Circuit → StepLent → StepState → StepState
+stateAfter c l s =
     choose (eqb (s .phase) 0) (advance (l .role) c 0 (freshWires (l .shares)))
     (choose (eqb (s .phase) 1) (advance (l .role) c (s .gate + 1) (withAnd c l s))
     s)
 
 -- the shares of the output wires, in front of what stood in the output buffer
-unfoldable pub withOutputs : Circuit → StepLent → Run → StepLent
+unfoldable pub withOutputs : Circuit → StepLent → StepState → StepLent
 withOutputs c l s =
     lentWith (l .role) (l .circuit) (l .shares) (l .triples) (atWires (s .wires) (c .outputs) ++ drop (length (c .outputs)) (l .output))
     (l .farFirst) (l .farSecond)
 
 -- an accepted step: one that waits gives the two bits to send, a finished one writes the outputs
-unfoldable pub acceptedStep : Circuit → StepLent → Run → StepOutcome
+unfoldable pub acceptedStep : Circuit → StepLent → StepState → StepOutcome
 acceptedStep c l s =
     choose (eqb (s .phase) 1)
     (stepOutcome accepted 0 (maskedFirst c (l .triples) (s .wires) (s .gate)) (maskedSecond c (l .triples) (s .wires) (s .gate)) s l)
     (stepOutcome accepted (length (c .outputs)) 0 0 s (withOutputs c l s))
 
 -- a refused step returns zeros, the state and all that is lent as it was
-abbrev pub refusedStep : StepLent → Run → ℕ → StepOutcome
+abbrev pub refusedStep : StepLent → StepState → ℕ → StepOutcome
 refusedStep l s number = stepOutcome number 0 0 0 s l
 
 -- the step: the reading's number, else that of the first test that is not met, else what an accepted step gives
-unfoldable pub step : StepLent → Run → StepOutcome
+unfoldable pub step : StepLent → StepState → StepOutcome
 step l s =
     afterReading (readCircuit (l .circuit)) (refusedStep l s)
-    (λ c. answered (stepTests c l s) (refusedStep l s) (acceptedStep c l (stepRun c l s)))
+    (λ c. answered (stepTests c l s) (refusedStep l s) (acceptedStep c l (stateAfter c l s)))

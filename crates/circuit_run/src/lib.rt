@@ -10,7 +10,7 @@ pub use places::Spot;
 
 // An end's run: 0 fresh, 1 waits for the far bits of the AND at `gate`, 2 finished; this end's shares of the wires passed.
 #[repr(C)]
-pub struct Run {
+pub struct StepState {
     pub phase: u32,
     pub gate: u32,
     pub wires: [u8; 4096],
@@ -23,5 +23,5 @@ pub struct Stepped {
     pub written: usize,
     pub first_bit: u8,
     pub second_bit: u8,
-    pub state: Run,
+    pub state: StepState,
 }

@@ -19,8 +19,8 @@ pub struct Place {
 pub struct Spot {
     pub admitted: bool,
     pub gate: usize,
-    pub first: usize,
-    pub second: usize,
+    pub first_wire: usize,
+    pub second_wire: usize,
     pub ands: usize,
     pub next: usize,
 }
@@ -35,7 +35,7 @@ pub struct Checked {
 pub struct Reached {
     pub waits: bool,
     pub gate: usize,
-    pub first: usize,
-    pub second: usize,
+    pub first_wire: usize,
+    pub second_wire: usize,
     pub ands: usize,
 }

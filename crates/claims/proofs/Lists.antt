@@ -105,7 +105,7 @@ module _ (S : Setting) where
   abbrev pub noiseListedBy : Call NoiseOut → (ℕ → NoiseValue F) → (ℕ → Value F) → Outcome TwoWritten noiseOnline.Lent
   noiseListedBy c u v =
       answered (noiseEnd S .tests c) (refusedTwo (noiseLent c))
-      (wrote (record { first = c .count; second = c .count * F .elements .width })
+      (wrote (record { firstWritten = c .count; secondWritten = c .count * F .elements .width })
       (noiseOnline.lentWith (noiseEnd S .start .source) (noiseEnd S .start .noise) (noiseEnd S .start .v)
       (over (F .noiseValues) (c .count) (λ k. u (c .first + k)) (c .out .uOut))
       (over (F .elements) (c .count) (λ k. v (c .first + k)) (c .out .vOut))))

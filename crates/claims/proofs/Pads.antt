@@ -11,7 +11,7 @@ use Rattle.field.specs.Kind.{kindOf}
 use Rattle.field.specs.ByNumber.{elementOf}
 use Rattle.pads.proofs.Choice.{choice}
 use Rattle.pads.specs.Calls.{noisePads, scalarPads}
-use Rattle.pads.specs.Choice.{InWindow, padAt, messageAt}
+use Rattle.pads.specs.Choice.{InWindow, padAt, oneOfTwoAt}
 use Rattle.pads.specs.Pad.{pad}
 use Rattle.dealing.specs.Admitted.{Admitted}
 use Rattle.dealing.specs.Input.{Input}
@@ -31,7 +31,7 @@ module _ (first count : ℕ) (vs choices pads : List ℕ) (noise-accepted : nois
       → kindOf f .field .elements .read (wordAt ws ((x - first′) * 16) ∷ wordAt ws ((x - first′) * 16 + 8) ∷ []) 0 ≡ w
       → kindOf f .field .elements .read (elementOf f (wordAt Δs 0) (wordAt Δs 8)) 0 ≡ Δ
       → padAt (noisePads first count vs choices pads .lent .pads) first x
-      ≡ messageAt (scalarPads first′ count′ ws Δs pads′ .lent .pads) first′ x (getD choices (x - first) 0)
+      ≡ oneOfTwoAt (scalarPads first′ count′ ws Δs pads′ .lent .pads) first′ x (getD choices (x - first) 0)
   by-field zero e u v w Δ c a b d g = absurd (omega arith)
   by-field (suc zero) e u v w Δ c a b d g =
       choice pad first count vs choices pads noise-accepted first′ count′ ws Δs pads′ scalar-accepted x in-noise in-scalar
@@ -47,7 +47,7 @@ module _ (first count : ℕ) (vs choices pads : List ℕ) (noise-accepted : nois
 
   pub admitted-pads : (I : Input) → Admitted I → I .field ≡ 1 → PadsLent I x first vs choices first′ ws Δs
       → padAt (noisePads first count vs choices pads .lent .pads) first x
-      ≡ messageAt (scalarPads first′ count′ ws Δs pads′ .lent .pads) first′ x (getD choices (x - first) 0)
+      ≡ oneOfTwoAt (scalarPads first′ count′ ws Δs pads′ .lent .pads) first′ x (getD choices (x - first) 0)
   admitted-pads I A one L =
       by-field (I .field) one (u I x) (v I x) (w I x) (delta I) (admitted-correlated I A x)
       (L .v-lent) (L .u-lent) (L .w-lent)

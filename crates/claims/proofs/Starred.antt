@@ -9,7 +9,7 @@ use Rattle.sbox.specs.Byte.{xtime, multiples, mulBytes, squares, inverse, fromB
 use Rattle.number.specs.Number.{writeNumber, lastGroup, readNumber}
 use Rattle.number.specs.Reading.{readByte}
 use Rattle.record.specs.Writing as writing
-use Rattle.record.specs.Writing.{writeHead, writeFront, writeTree, writeTrees, writeNoise, writeScalar}
+use Rattle.record.specs.Writing.{writeHead, writeTreeStart, writeTree, writeTrees, writeNoise, writeScalar}
 use Rattle.algebra.specs.Every.{every}
 use Rattle.answer.specs.Outcome.{answered, byNumber}
 use Rattle.answer.specs.Tests.{firstFault, isMet}
@@ -21,5 +21,5 @@ use Rattle.tree.specs.Tree.{path, listed, others, beside, siblings}
 use Rattle.claims.specs.Cases.{starred, Cases}
 
 pub starred-hold : Cases
-unfolding starred sBox affine fromBits inverse squares mulBytes multiples xtime writeNumber readNumber lastGroup readByte writeTrees writeTree writeFront writeNoise writeScalar writeHead writing.writeEach leBytes primeAdd primeSub primeMul primeReduce flat noise correction sum accumulate deal answered byNumber firstFault isMet positionsAdmitted rising every deltaAdmitted noiseTree listed path beside others siblings columnsBytes wordAt leNumber
+unfolding starred sBox affine fromBits inverse squares mulBytes multiples xtime writeNumber readNumber lastGroup readByte writeTrees writeTree writeTreeStart writeNoise writeScalar writeHead writing.writeEach leBytes primeAdd primeSub primeMul primeReduce flat noise correction sum accumulate deal answered byNumber firstFault isMet positionsAdmitted rising every deltaAdmitted noiseTree listed path beside others siblings columnsBytes wordAt leNumber
 starred-hold = refl

@@ -10,9 +10,9 @@ use Rattle.algebra.specs.Sum.{accumulate}
 use Rattle.field.specs.Binary.{binary}
 use Rattle.field.specs.Prime.{modulus, prime, primeMul, primeReduce, primes}
 use Rattle.sbox.specs.Byte.{sBox}
-use Rattle.dealing.specs.Deal.{Dealt, deal}
+use Rattle.dealing.specs.Deal.{DealOutcome, deal}
 use Rattle.number.specs.Number.{writeNumber, readNumber}
-use Rattle.number.specs.Reading.{Step, Whole, Refused}
+use Rattle.number.specs.Reading.{Parsed, Whole, Refused}
 use Rattle.record.specs.Content.{NoiseTree}
 use Rattle.record.specs.Writing.{writeTrees}
 
@@ -25,9 +25,9 @@ abbrev case : List ℕ → List ℕ → Case
 case given said = record { given = given; said = said }
 
 -- the number that a reading is refused with; 0 if it is whole
-abbrev refusedWith : Step ℕ → ℕ
-refusedWith (Whole r) = 0
-refusedWith (Refused k) = k
+abbrev readingFault : Parsed ℕ → ℕ
+readingFault (Whole r) = 0
+readingFault (Refused k) = k
 
 -- a tree of field 1 at a position, with nothing else in it
 abbrev bare : ℕ → NoiseTree
@@ -48,7 +48,7 @@ accumulatedPrime =
     (accumulate (primes .ring .group) (noise (primes .ring) 2 (two 1 4) (two (prime 5) (prime (modulus - 2)))))
 
 -- a dealing with d = g = t = ℓ = n = 1, position 0, noise value 1 and Δ = 1, all else zero, into buffers of 96 bytes
-abbrev smallDealing : ℕ → Dealt
+abbrev smallDealing : ℕ → DealOutcome
 smallDealing field =
     deal
     (record {
@@ -69,8 +69,8 @@ smallDealing field =
     (replicate 96 0)
 
 -- the number, and the lengths of both records
-abbrev dealtLengths : Dealt → List ℕ
-dealtLengths d = d .number ∷ d .written .first ∷ d .written .second ∷ []
+abbrev dealtLengths : DealOutcome → List ℕ
+dealtLengths d = d .number ∷ d .written .firstWritten ∷ d .written .secondWritten ∷ []
 
 -- the starred cases, in document 01's order; records have the 16 bytes of the label (document 02, 8) and the byte of g (document
 -- 02, 10) besides
@@ -81,7 +81,7 @@ starred =
     ∷ case (writeNumber 128) (0x80 ∷ 0x01 ∷ [])
     ∷ case (writeNumber 300) (0xac ∷ 0x02 ∷ [])
     ∷ case (writeNumber 16384) (0x80 ∷ 0x80 ∷ 0x01 ∷ [])
-    ∷ case (refusedWith (readNumber (0x80 ∷ 0x00 ∷ []) 0) ∷ []) (badNumber ∷ [])
+    ∷ case (readingFault (readNumber (0x80 ∷ 0x00 ∷ []) 0) ∷ []) (badNumber ∷ [])
     ∷ case (writeTrees 1 0 (bare 1 ∷ bare 4 ∷ bare 5 ∷ [])) (1 ∷ 2 ∷ 0 ∷ [])
     ∷ case (primeMul (prime (2 ^ 60)) (prime 2) .word ∷ []) (1 ∷ [])
     ∷ case (primeMul (prime (modulus - 1)) (prime (modulus - 1)) .word ∷ []) (1 ∷ [])

@@ -11,14 +11,14 @@ use Rattle.answer.specs.Numbers.{windowPastEnd, bufferShort}
 use Rattle.answer.specs.Tests.{Test, _atMost_, _or_, firstFault}
 use Rattle.answer.specs.Outcome.{Outcome, TwoWritten}
 use Rattle.dealing.specs.Admitted.{InMemory}
-use Rattle.dealing.specs.Deal.{Dealt, deal, noiseRecordOf, scalarRecordOf}
+use Rattle.dealing.specs.Deal.{DealOutcome, deal, noiseRecordOf, scalarRecordOf}
 use Rattle.dealing.specs.Input.{Input}
 use Rattle.dealing.specs.Vectors.{field, delta, u, v, w}
 use Rattle.field.specs.Bytes.{wordAt}
 use Rattle.ends.specs.Noise.Offline as noiseOffline
 use Rattle.ends.specs.Noise.Online as noiseOnline
 use Rattle.pads.specs.Calls.{noisePads, scalarPads}
-use Rattle.pads.specs.Choice.{InWindow, padAt, messageAt}
+use Rattle.pads.specs.Choice.{InWindow, padAt, oneOfTwoAt}
 use Rattle.ends.specs.Scalar.Offline as scalarOffline
 use Rattle.ends.specs.Scalar.Online as scalarOnline
 
@@ -49,7 +49,7 @@ pub record Setting : Type 0 where
       scalarOffline.offline (scalarRecordOf (deal input noiseRecord scalarRecord)) wBuffer deltaBuffer .number ≡ 0
 
 -- what the dealing left
-abbrev pub dealing : Setting → Dealt
+abbrev pub dealing : Setting → DealOutcome
 dealing S = deal (S .input) (S .noiseRecord) (S .scalarRecord)
 
 -- each end's own record: the front of its buffer, of the returned length
@@ -229,7 +229,7 @@ pub record PadsLent (I : Input) (x first : ℕ) (vs choices : List ℕ) (first�
   pub Δ-lent : Δ ≡ I .delta
 
 -- for any accepted pad call of each end, on one dealing of field 1, and any index x below n in both windows, the noise end's
--- 16 bytes for x are those of the message that the choice bit names: the byte lent for x, which by `u-lent` is u at x
+-- 16 bytes for x are those of the pad that the choice bit names: the byte lent for x, which by `u-lent` is u at x
 abbrev pub Pads : Type 0
 Pads =
     (I : Input) → I .field ≡ 1 → (a b : List ℕ) → deal I a b .number ≡ 0
@@ -238,7 +238,7 @@ Pads =
     → (x : ℕ) → x < I .outputs → InWindow first count x → InWindow first′ count′ x
     → PadsLent I x first vs choices first′ ws Δ
     → padAt (noisePads first count vs choices pads .lent .pads) first x
-    ≡ messageAt (scalarPads first′ count′ ws Δ pads′ .lent .pads) first′ x (getD choices (x - first) 0)
+    ≡ oneOfTwoAt (scalarPads first′ count′ ws Δ pads′ .lent .pads) first′ x (getD choices (x - first) 0)
 
 -- ---- demand 3, entire
 

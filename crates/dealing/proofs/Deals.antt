@@ -19,13 +19,13 @@ use Rattle.field.proofs.Elements.{at-words}
 use Rattle.number.specs.Inner.Written.{Room, Wrote}
 use Rattle.record.specs.Inner.Heads.{scalarWith}
 use Rattle.record.specs.Inner.Lengths.{Writable, headLength}
-use Rattle.record.specs.declared.Front.{Front}
+use Rattle.record.specs.declared.Layout.{Layout}
 use Rattle.record.specs.Writing.{writeNoise, writeScalar}
 use Rattle.dealing.specs.Admitted.{Admitted}
 use Rattle.dealing.specs.Deal.{lentDeal, dealTests, deal}
 use Rattle.dealing.specs.Input.{Input, wordsOf, deltaWords, sizeTests, lengthTests, contentTests}
 use Rattle.dealing.specs.Parts.{noisePart}
-use Rattle.dealing.specs.Inner.Steps.{inputFrom, frontFor, Lengths, Measured, measuredTests, NoisePlaced, ScalarPlaced}
+use Rattle.dealing.specs.Inner.Steps.{inputFrom, layoutFor, Lengths, Measured, measuredTests, NoisePlaced, ScalarPlaced}
 use Rattle.dealing.proofs.Faults.{admitted, size-says}
 use Rattle.dealing.proofs.Laws.{noiseWriting, scalarWriting, Accepted, tests-accepted}
 use Rattle.dealing.proofs.Lengths.{noise-bytes, scalar-bytes, roots-blocks}
@@ -35,7 +35,7 @@ use Rattle.dealing.proofs.Written.{sets-front}
 
 -- the scalar record as it is written: its roots are blocks of the input
 abbrev scalarBytes : Input → List ℕ
-scalarBytes I = writeScalar (scalarWith (frontFor I 0) (I .codeKey) (I .label) (deltaWords I) (I .roots))
+scalarBytes I = writeScalar (scalarWith (layoutFor I 0) (I .codeKey) (I .label) (deltaWords I) (I .roots))
 
 scalar-same : (I : Input) → Admitted I → scalarBytes I ≡ scalarWriting I
 scalar-same I A = rw (roots-blocks I A)
@@ -43,7 +43,7 @@ scalar-same I A = rw (roots-blocks I A)
 -- both records written
 pub deal-done : (I : Input) (a b : List ℕ) {n x y : ℕ} {a₁ b₁ : List ℕ} → n ≡ firstFault (dealTests I (length a) (length b)) → n ≡ 0
     → Wrote a 0 (noiseWriting I) x a₁ → Wrote b 0 (scalarBytes I) y b₁
-    → wrote {Written = TwoWritten} (record { first = x; second = y }) (lentDeal I a₁ b₁) ≡ deal I a b
+    → wrote {Written = TwoWritten} (record { firstWritten = x; secondWritten = y }) (lentDeal I a₁ b₁) ≡ deal I a b
 unfolding deal
 deal-done I a b {n} tested none w v =
     let A = tests-accepted I a b (admitted-by _ n refl tested none) in
@@ -53,10 +53,10 @@ deal-done I a b {n} tested none w v =
     (v′ .stored ∙ sets-front (scalarWriting I) b (A .scalar-room)))
   where
     wrote-same : {x y p q : ℕ} {a₁ b₁ c d : List ℕ} → x ≡ p → y ≡ q → a₁ ≡ c → b₁ ≡ d
-        → wrote {Written = TwoWritten} (record { first = x; second = y }) (lentDeal I a₁ b₁) ≡ wrote (record { first = p; second = q }) (lentDeal I c d)
+        → wrote {Written = TwoWritten} (record { firstWritten = x; secondWritten = y }) (lentDeal I a₁ b₁) ≡ wrote (record { firstWritten = p; secondWritten = q }) (lentDeal I c d)
     wrote-same e g h k = rw (e, g, h, k)
 
-module _ (f : Front) (roots positions values delta key label : List ℕ) where
+module _ (f : Layout) (roots positions values delta key label : List ℕ) where
   abbrev I : Input
   I = inputFrom f roots positions values delta key label
 
@@ -156,12 +156,12 @@ module _ (f : Front) (roots positions values delta key label : List ℕ) where
 -- ---- the scalar record
 
 -- `scalar-placed`, with what a goal does not show first
-pub scalar-ready : (positions values a : List ℕ) (f : Front) (roots delta key label b : List ℕ) {n : ℕ}
+pub scalar-ready : (positions values a : List ℕ) (f : Layout) (roots delta key label b : List ℕ) {n : ℕ}
     → n ≡ firstFault (dealTests (inputFrom f roots positions values delta key label) (length a) (length b)) → n ≡ 0
     → f .body ≡ headLength (f .depth) (f .«branch_bits») (f .trees) (f .terms) (f .outputs) → ScalarPlaced f key label delta roots (length b)
 scalar-ready positions values a f roots delta key label b = scalar-placed f roots positions values delta key label a b
 
-module _ (f : Front) (key label delta roots out : List ℕ) (P : ScalarPlaced f key label delta roots (length out)) where
+module _ (f : Layout) (key label delta roots out : List ℕ) (P : ScalarPlaced f key label delta roots (length out)) where
   pub scalar-room : 0 + elementLength (f .field) ≤ length delta
   scalar-room = delta-room (f .field) delta (P .delta-bytes)
 

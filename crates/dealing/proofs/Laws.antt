@@ -67,7 +67,7 @@ module _ (I : Input) (a b : List ℕ) where
 module _ (I : Input) (a b : List ℕ) (z : deal I a b .number ≡ 0) where
   -- the records of an accepted dealing
   dealt-whole : deal I a b
-      ≡ wrote {Written = TwoWritten} (record { first = length (noiseWriting I); second = length (scalarWriting I) })
+      ≡ wrote {Written = TwoWritten} (record { firstWritten = length (noiseWriting I); secondWritten = length (scalarWriting I) })
       (lentDeal I (front (noiseWriting I) a) (front (scalarWriting I) b))
   unfolding deal
   dealt-whole = outcome-is _ _ _ _ _ z

@@ -13,13 +13,13 @@ use Rattle.record.specs.Content.{NoiseTree}
 use Rattle.record.specs.Reading.{items, blockAt}
 use Rattle.record.specs.Writing.{writeEach, writeBlocks, writeHead, writeWords, writeTree, writeTrees, writeNoise, writeScalar}
 use Rattle.record.specs.Inner.Lengths.{headLength, treeLength, treesLength, noiseLength, scalarLength}
-use Rattle.record.specs.declared.Front.{Front}
+use Rattle.record.specs.declared.Layout.{Layout}
 use Rattle.tree.proofs.Blocks.{length-block}
 use Rattle.tree.proofs.Listed.{listed-none, listed-front, listed-cong, listed-getD}
 use Rattle.tree.specs.Columns.{columnsAt, columnsBytes}
 use Rattle.tree.specs.Tree.{listed}
 use Rattle.dealing.specs.Admitted.{Admitted}
-use Rattle.dealing.specs.Inner.Steps.{frontFor}
+use Rattle.dealing.specs.Inner.Steps.{layoutFor}
 use Rattle.dealing.specs.Input.{Input, deltaWords, position}
 use Rattle.dealing.specs.Parts.{noiseTree, noisePart, scalarPart}
 use Rattle.dealing.specs.Vectors.{head, root}
@@ -27,7 +27,7 @@ use Rattle.dealing.proofs.Written.{tree-length}
 
 -- ---- the noise record
 
-trees-length : (k : ℕ) (d : Front) (n base : ℕ) (f : ℕ → NoiseTree)
+trees-length : (k : ℕ) (d : Layout) (n base : ℕ) (f : ℕ → NoiseTree)
     → ((i : ℕ) → i < n → (b : ℕ) → length (writeTree k b (f i)) ≡ treeLength d b (f i .position))
     → length (writeTrees k base (listed n f)) ≡ treesLength d base (listed n (λ i. f i .position))
 unfolding writeTrees treesLength
@@ -44,14 +44,14 @@ module _ (I : Input) (A : Admitted I) where
   positions-listed = ap (λ n. listed n (position I)) (sym (A .positions)) ∙ listed-getD (I .positions) 0
 
   pub noise-bytes : {body : ℕ} → body ≡ headLength (I .depth) (I .branchBits) (I .trees) (I .terms) (I .outputs)
-      → noiseLength (frontFor I body) (I .positions) ≡ length (writeNoise (noisePart I))
+      → noiseLength (layoutFor I body) (I .positions) ≡ length (writeNoise (noisePart I))
   unfolding noiseLength writeNoise noiseTree
   noise-bytes {body} e =
       sym
       (length-append (writeHead 1 (head I)) (writeTrees (I .field) 0 (listed (I .trees) (noiseTree I)))
       ∙ ap₂ (λ a b. a + b) (length-head 1 (head I) (A .codeKey) (A .label) ∙ sym e)
-      (trees-length (I .field) (frontFor I body) (I .trees) 0 (noiseTree I) (λ i h b. tree-length I i b body)
-      ∙ ap (treesLength (frontFor I body) 0) positions-listed))
+      (trees-length (I .field) (layoutFor I body) (I .trees) 0 (noiseTree I) (λ i h b. tree-length I i b body)
+      ∙ ap (treesLength (layoutFor I body) 0) positions-listed))
 
 -- ---- the scalar record
 
@@ -65,7 +65,7 @@ blocks-length (suc n) f each =
     ∙ omega arith
 
 pub scalar-bytes : (I : Input) → Admitted I → {body : ℕ} → body ≡ headLength (I .depth) (I .branchBits) (I .trees) (I .terms) (I .outputs)
-    → scalarLength (frontFor I body) ≡ length (writeScalar (scalarPart I))
+    → scalarLength (layoutFor I body) ≡ length (writeScalar (scalarPart I))
 unfolding scalarLength writeScalar
 scalar-bytes I A e =
     let blocks = writeBlocks (listed (I .trees) (λ i. columnsBytes (root I i))) in

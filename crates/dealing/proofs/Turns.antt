@@ -16,11 +16,11 @@ use Rattle.record.specs.Content.{NoiseTree}
 use Rattle.record.specs.Writing.{writeHead, writeTree, writeNoise}
 use Rattle.record.proofs.Lengths.{length-head}
 use Rattle.record.specs.Inner.Heads.{headFrom}
-use Rattle.record.specs.declared.Front.{Front}
+use Rattle.record.specs.declared.Layout.{Layout}
 use Rattle.tree.specs.Columns.{columnsAt}
 use Rattle.dealing.specs.Input.{Input, position}
 use Rattle.dealing.specs.Parts.{noiseTree, noisePart}
-use Rattle.dealing.specs.Inner.Steps.{TablesAndKeys, inputFrom, planned, treeOf, treesBytes, Placed, TreesPlaced, NoisePlaced}
+use Rattle.dealing.specs.Inner.Steps.{TablesAndKeys, inputFrom, planned, plannedTree, treesBytes, Placed, TreesPlaced, NoisePlaced}
 use Rattle.dealing.specs.declared.noise.Planned.{Planned}
 use Rattle.dealing.proofs.Written.{first, baseAt, first-none, first-more, base-none, base-next, first-length, own-tree}
 
@@ -28,12 +28,12 @@ tree-position : (I : Input) (i : ℕ) → noiseTree I i .position ≡ position I
 unfolding noiseTree
 tree-position I i = refl
 
-pub plan-is : (f : Front) (positions values : List ℕ) (i base at : ℕ) {p : ℕ} → p ≡ getD positions i 0
+pub plan-is : (f : Layout) (positions values : List ℕ) (i base at : ℕ) {p : ℕ} → p ≡ getD positions i 0
     → record { field = f .field; depth = f .depth; «branch_bits» = f .«branch_bits»; position = p; value = getD values i 0; base = base; at = at }
     ≡ planned f positions values i base at
 plan-is f positions values i base at read = rw read
 
-module _ (f : Front) (roots positions values delta b : List ℕ) where
+module _ (f : Layout) (roots positions values delta b : List ℕ) where
   -- tree i
   abbrev tree : ℕ → NoiseTree
   tree i = noiseTree (inputFrom f roots positions values delta [] []) i
@@ -110,10 +110,10 @@ module _ (f : Front) (roots positions values delta b : List ℕ) where
         turn-tables = rw made (T .tables)
 
         module _ {root : List (List ℕ)} (node : root ≡ columnsAt roots (16 * i)) where
-          own : treeOf t root delta ≡ tree i
+          own : plannedTree t root delta ≡ tree i
           own = rw (made, node) (own-tree (inputFrom f roots positions values delta [] []) i base at)
 
-          more : first (f .field) tree (i + 1) ≡ first (f .field) tree i ++ writeTree (t .field) (t .base) (treeOf t root delta)
+          more : first (f .field) tree (i + 1) ≡ first (f .field) tree i ++ writeTree (t .field) (t .base) (plannedTree t root delta)
           more = first-more (f .field) tree i ∙ rw (own, made, T .next)
 
           pub turn-asks : Placed t root delta out
@@ -133,14 +133,14 @@ module _ (f : Front) (roots positions values delta b : List ℕ) where
                             enough (T .ready) (i + 1) (omega arith),
                             ap length more,
                             ap (λ x. x .at) made,
-                            length-append (first (f .field) tree i) (writeTree (t .field) (t .base) (treeOf t root delta)),
+                            length-append (first (f .field) tree i) (writeTree (t .field) (t .base) (plannedTree t root delta)),
                             T .wrote .place,
                             turn-long,
                           );
                     };
               }
 
-          pub turn-next : {after : ℕ} {out₁ : List ℕ} → Wrote out (t .at) (writeTree (t .field) (t .base) (treeOf t root delta)) after out₁
+          pub turn-next : {after : ℕ} {out₁ : List ℕ} → Wrote out (t .at) (writeTree (t .field) (t .base) (plannedTree t root delta)) after out₁
               → Turn tb keys out₁ after (t .position + 1) (i + 1)
           turn-next {after} {out₁} w =
               record {
@@ -152,12 +152,12 @@ module _ (f : Front) (roots positions values delta b : List ℕ) where
                     ∙ sym (base-next (f .field) tree i);
                 wrote =
                     rw more (wrote-then (T .wrote)
-                    (subst (λ n. Wrote out n (writeTree (t .field) (t .base) (treeOf t root delta)) after out₁) (ap (λ x. x .at) made) w));
+                    (subst (λ n. Wrote out n (writeTree (t .field) (t .base) (plannedTree t root delta)) after out₁) (ap (λ x. x .at) made) w));
               }
 
 -- ---- the head and the trees
 
-module _ (f : Front) (roots positions values delta key label : List ℕ) (out : List ℕ)
+module _ (f : Layout) (roots positions values delta key label : List ℕ) (out : List ℕ)
     (P : NoisePlaced f (inputFrom f roots positions values delta key label) (length out)) where
   -- the trees do not look at the code key and the label
   noise-bytes : writeNoise (noisePart (inputFrom f roots positions values delta key label))

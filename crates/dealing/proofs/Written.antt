@@ -18,9 +18,9 @@ use Rattle.field.specs.Inner.Elements.{noiseIn, elementIn, elementAt}
 use Rattle.field.specs.declared.element.Element.{Element}
 use Rattle.number.specs.Inner.Written.{Room, Wrote}
 use Rattle.record.specs.Content.{NoiseTree, siblingCount}
-use Rattle.record.specs.Writing.{writeEach, writeBlocks, writeFront, writeTree, writeTrees}
-use Rattle.record.specs.Inner.Lengths.{frontBytes, frontLength, treeLength}
-use Rattle.record.proofs.Lengths.{length-front}
+use Rattle.record.specs.Writing.{writeEach, writeBlocks, writeTreeStart, writeTree, writeTrees}
+use Rattle.record.specs.Inner.Lengths.{treeStartBytes, treeStartLength, treeLength}
+use Rattle.record.proofs.Lengths.{tree-start-long}
 use Rattle.tree.proofs.Blocks.{length-blocks}
 use Rattle.tree.proofs.ChildLaws.{key-schedules}
 use Rattle.tree.proofs.Laws.{length-siblings}
@@ -35,7 +35,7 @@ use Rattle.tree.specs.Tree.{listed, siblings, leafAt}
 use Rattle.dealing.specs.Input.{Input, position, wordsOf}
 use Rattle.dealing.specs.Parts.{noiseTree}
 use Rattle.dealing.specs.Vectors.{field, delta, root, leaf}
-use Rattle.dealing.specs.Inner.Steps.{TablesAndKeys, correctionWords, frontFor, planned, plannedBytes, treeOf, Placed}
+use Rattle.dealing.specs.Inner.Steps.{TablesAndKeys, correctionWords, layoutFor, planned, plannedBytes, plannedTree, Placed}
 use Rattle.dealing.specs.declared.noise.Planned.{Planned}
 
 -- ---- stores
@@ -137,14 +137,14 @@ module _ (t : Planned) (root : List (List ℕ)) (delta : List ℕ) where
   abbrev beside : List ℕ
   beside = blocksBytes (siblings (2 ^ t .«branch_bits») child (t .depth / t .«branch_bits») root (t .position))
 
-  tree-bytes : writeTree (t .field) (t .base) (treeOf t root delta) ≡ before ++ beside
-  unfolding writeTree writeFront plannedBytes
+  tree-bytes : writeTree (t .field) (t .base) (plannedTree t root delta) ≡ before ++ beside
+  unfolding writeTree writeTreeStart plannedBytes
   tree-bytes = ap (λ l. before ++ l) (sym (blocks-bytes (siblings (2 ^ t .«branch_bits») child (t .depth / t .«branch_bits») root (t .position))))
 
-  before-long : length before ≡ frontLength (t .base) (t .position)
-  unfolding writeFront correctionWords plannedBytes
+  before-long : length before ≡ treeStartLength (t .base) (t .position)
+  unfolding writeTreeStart correctionWords plannedBytes
   before-long =
-      length-front (t .field) (t .base) (t .position) (t .value) (treeOf t root delta .correction)
+      tree-start-long (t .field) (t .base) (t .position) (t .value) (plannedTree t root delta .correction)
       (kindLaws (t .field) .field .elements .length-words _)
 
   beside-long : length beside ≡ 16 * siblingCount (t .depth) (t .«branch_bits»)
@@ -154,11 +154,11 @@ module _ (t : Planned) (root : List (List ℕ)) (delta : List ℕ) where
       ∙ ap (λ n. n * 16) (length-siblings (2 ^ t .«branch_bits») child (pow-pos (t .«branch_bits»)) (t .depth / t .«branch_bits») root (t .position))
       ∙ mul-comm (siblingCount (t .depth) (t .«branch_bits»)) 16
 
-  pub tree-long : length (writeTree (t .field) (t .base) (treeOf t root delta))
-      ≡ frontLength (t .base) (t .position) + 16 * siblingCount (t .depth) (t .«branch_bits»)
+  pub tree-long : length (writeTree (t .field) (t .base) (plannedTree t root delta))
+      ≡ treeStartLength (t .base) (t .position) + 16 * siblingCount (t .depth) (t .«branch_bits»)
   tree-long = ap length tree-bytes ∙ length-append before beside ∙ ap₂ (λ a b. a + b) before-long beside-long
 
-pub own-tree : (I : Input) (i base at : ℕ) → treeOf (planned (frontFor I 0) (I .positions) (I .values) i base at) (root I i) (I .delta) ≡ noiseTree I i
+pub own-tree : (I : Input) (i base at : ℕ) → plannedTree (planned (layoutFor I 0) (I .positions) (I .values) i base at) (root I i) (I .delta) ≡ noiseTree I i
 unfolding noiseTree correctionWords
 own-tree I i base at =
     ap (λ y. record {
@@ -169,33 +169,33 @@ own-tree I i base at =
     })
     (sym (kindLaws (I .field) .noise-read (I .values) i))
 
-pub tree-length : (I : Input) (i base body : ℕ) → length (writeTree (I .field) base (noiseTree I i)) ≡ treeLength (frontFor I body) base (position I i)
+pub tree-length : (I : Input) (i base body : ℕ) → length (writeTree (I .field) base (noiseTree I i)) ≡ treeLength (layoutFor I body) base (position I i)
 unfolding treeLength
 tree-length I i base body =
     ap (λ t. length (writeTree (I .field) base t)) (sym (own-tree I i base 0))
-    ∙ tree-long (planned (frontFor I 0) (I .positions) (I .values) i base 0) (root I i) (I .delta)
+    ∙ tree-long (planned (layoutFor I 0) (I .positions) (I .values) i base 0) (root I i) (I .delta)
 
 -- ---- a tree at its place
 
 module _ (t : Planned) (leaf : List (List ℕ)) (delta words : List ℕ) (corrected : words ≡ correctionWords (t .field) leaf (t .value) delta) where
   pub planned-room : {out : List ℕ} → Room out (t .at) (plannedBytes t leaf delta)
-      → Room out (t .at) (frontBytes (t .field) (t .position - t .base) (t .value) words)
+      → Room out (t .at) (treeStartBytes (t .field) (t .position - t .base) (t .value) words)
   unfolding plannedBytes
   planned-room r = rw corrected r
 
-  pub planned-wrote : {out out₁ : List ℕ} {next : ℕ} → Wrote out (t .at) (frontBytes (t .field) (t .position - t .base) (t .value) words) next out₁
+  pub planned-wrote : {out out₁ : List ℕ} {next : ℕ} → Wrote out (t .at) (treeStartBytes (t .field) (t .position - t .base) (t .value) words) next out₁
       → Wrote out (t .at) (plannedBytes t leaf delta) next out₁
   unfolding plannedBytes
   planned-wrote w = rw (← corrected) w
 
 module _ (t : Planned) (root : List (List ℕ)) (delta : List ℕ) {out : List ℕ} (P : Placed t root delta out)
-    {f : ℕ} (front : f ≡ frontLength (t .base) (t .position)) where
+    {f : ℕ} (start : f ≡ treeStartLength (t .base) (t .position)) where
   -- the tree as its siblings are written
   abbrev place : Punctured
   place = record { «branch_bits» = t .«branch_bits»; levels = t .depth / t .«branch_bits»; position = t .position; at = t .at + f }
 
   tree-end : t .at + f + 16 * siblingCount (t .depth) (t .«branch_bits») ≤ length out
-  tree-end = omega (arith, P .room .fits, front, tree-long t root delta)
+  tree-end = omega (arith, P .room .fits, start, tree-long t root delta)
 
   pub siblings-fit : length out < 2 ^ 64 → Fits w64 (t .at + f)
   siblings-fit h = record { fits = omega (arith, tree-end) }
@@ -227,20 +227,20 @@ module _ (t : Planned) (root : List (List ℕ)) (delta : List ℕ) {out : List �
     unfolding walked
     same = ap (λ x. plannedBytes t (x .leaf) delta) own
 
-    pub front-room : Room out₁ (t .at) (plannedBytes t s delta)
-    front-room =
+    pub tree-start-room : Room out₁ (t .at) (plannedBytes t s delta)
+    tree-start-room =
         let kept = length-sets out (t .at + f) (beside t root delta) in
-        record { fits = omega (arith, tree-end, front, ap length same, before-long t root delta, ap length stored, kept) }
+        record { fits = omega (arith, tree-end, start, ap length same, before-long t root delta, ap length stored, kept) }
 
     pub tree-wrote : {n next : ℕ} {out₂ : List ℕ} → (n ≡ siblingCount (t .depth) (t .«branch_bits»)) × (n ≤ 112)
         → Wrote out₁ (t .at) (plannedBytes t s delta) next out₂
-        → Wrote out (t .at) (writeTree (t .field) (t .base) (treeOf t root delta)) (t .at + f + 16 * n) out₂
+        → Wrote out (t .at) (writeTree (t .field) (t .base) (plannedTree t root delta)) (t .at + f + 16 * n) out₂
     tree-wrote c w =
         record {
-          place = omega (arith, front, tree-long t root delta, c .0);
+          place = omega (arith, start, tree-long t root delta, c .0);
           stored =
               w .stored ∙ ap₂ (λ b e. sets b (t .at) e) stored same
               ∙ sets-before (before t root delta) (beside t root delta) out (t .at) (t .at + f)
-              (ap (λ n. t .at + n) (front ∙ sym (before-long t root delta)))
+              (ap (λ n. t .at + n) (start ∙ sym (before-long t root delta)))
               ∙ ap (sets out (t .at)) (sym (tree-bytes t root delta));
         }

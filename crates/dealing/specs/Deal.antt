@@ -20,15 +20,15 @@ abbrev pub lentDeal : Input → List ℕ → List ℕ → DealLent
 lentDeal input noiseRecord scalarRecord = record { input = input; noiseRecord = noiseRecord; scalarRecord = scalarRecord }
 
 -- the number, the bytes written to each record buffer, and all that is lent
-abbrev pub Dealt : Type 0
-Dealt = Outcome TwoWritten DealLent
+abbrev pub DealOutcome : Type 0
+DealOutcome = Outcome TwoWritten DealLent
 
 -- each end's record: the front of its buffer, of the returned length
-abbrev pub noiseRecordOf : Dealt → List ℕ
-noiseRecordOf d = take (d .written .first) (d .lent .noiseRecord)
+abbrev pub noiseRecordOf : DealOutcome → List ℕ
+noiseRecordOf d = take (d .written .firstWritten) (d .lent .noiseRecord)
 
-abbrev pub scalarRecordOf : Dealt → List ℕ
-scalarRecordOf d = take (d .written .second) (d .lent .scalarRecord)
+abbrev pub scalarRecordOf : DealOutcome → List ℕ
+scalarRecordOf d = take (d .written .secondWritten) (d .lent .scalarRecord)
 
 -- each record has room in its buffer
 abbrev pub roomTests : Input → ℕ → ℕ → List Test
@@ -46,8 +46,8 @@ abbrev pub front : List ℕ → List ℕ → List ℕ
 front bytes buffer = bytes ++ drop (length bytes) buffer
 
 -- the call: both records, each over the front of its buffer
-unfoldable pub deal : Input → List ℕ → List ℕ → Dealt
+unfoldable pub deal : Input → List ℕ → List ℕ → DealOutcome
 deal I a b =
     answered (dealTests I (length a) (length b)) (refusedTwo (lentDeal I a b))
-    (wrote (record { first = length (writeNoise (noisePart I)); second = length (writeScalar (scalarPart I)) })
+    (wrote (record { firstWritten = length (writeNoise (noisePart I)); secondWritten = length (writeScalar (scalarPart I)) })
     (lentDeal I (front (writeNoise (noisePart I)) a) (front (writeScalar (scalarPart I)) b)))

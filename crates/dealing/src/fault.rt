@@ -8,7 +8,7 @@ use crate::input::content_number;
 use crate::input::lengths_number;
 use crate::input::sizes_number;
 use answer::BUFFER_SHORT;
-use record::Front;
+use record::Layout;
 use record::noise_length;
 use record::scalar_length;
 
@@ -19,15 +19,15 @@ pub struct Rooms {
 }
 
 // 13 where a record has no room in its buffer, else 0.
-fn rooms_number(front: Front, rooms: Rooms, positions: &[u32]) -> u32
-    requires { ⌜ Measured front (now positions) ⌝ }
-    ensures { λ r. ⌜ r ≡ firstFault (measuredTests front (now (positions .entry)) (rooms .noise) (rooms .scalar)) ⌝ }
+fn rooms_number(layout: Layout, rooms: Rooms, positions: &[u32]) -> u32
+    requires { ⌜ Measured layout (now positions) ⌝ }
+    ensures { λ r. ⌜ r ≡ firstFault (measuredTests layout (now (positions .entry)) (rooms .noise) (rooms .scalar)) ⌝ }
 {
-    let noise_bytes = noise_length(front, positions);
+    let noise_bytes = noise_length(layout, positions);
     if rooms.noise < noise_bytes {
         return BUFFER_SHORT;
     }
-    let scalar_bytes = scalar_length(front);
+    let scalar_bytes = scalar_length(layout);
     if rooms.scalar < scalar_bytes {
         return BUFFER_SHORT;
     }
@@ -36,7 +36,7 @@ fn rooms_number(front: Front, rooms: Rooms, positions: &[u32]) -> u32
 
 // The number for an input and buffers of these lengths.
 pub fn deal_number(
-    front: Front,
+    layout: Layout,
     rooms: Rooms,
     roots: &[u8],
     positions: &[u32],
@@ -45,21 +45,21 @@ pub fn deal_number(
     code_key: &[u8],
     label: &[u8],
 ) -> u32
-    requires { ⌜ front .body ≡ headLength (front .depth) (front .«branch_bits») (front .trees) (front .terms) (front .outputs) ⌝ }
-    ensures { λ r. ⌜ r ≡ firstFault (dealTests (inputFrom front (now (roots .entry)) (now (positions .entry)) (now (values .entry))
+    requires { ⌜ layout .body ≡ headLength (layout .depth) (layout .«branch_bits») (layout .trees) (layout .terms) (layout .outputs) ⌝ }
+    ensures { λ r. ⌜ r ≡ firstFault (dealTests (inputFrom layout (now (roots .entry)) (now (positions .entry)) (now (values .entry))
         (now (delta .entry)) (now («code_key» .entry)) (now (label .entry))) (rooms .noise) (rooms .scalar)) ⌝ }
 {
-    let sizes = sizes_number(front);
+    let sizes = sizes_number(layout);
     if sizes != 0 {
         return sizes;
     }
-    let lengths = lengths_number(front, roots, positions, values, delta, code_key, label);
+    let lengths = lengths_number(layout, roots, positions, values, delta, code_key, label);
     if lengths != 0 {
         return lengths;
     }
-    let content = content_number(front, positions, values, delta);
+    let content = content_number(layout, positions, values, delta);
     if content != 0 {
         return content;
     }
-    rooms_number(front, rooms, positions)
+    rooms_number(layout, rooms, positions)
 }

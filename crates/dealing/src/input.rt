@@ -20,7 +20,7 @@ use field::is_noise;
 use field::is_scalar;
 use field::rest_zero;
 use field::word_at;
-use record::Front;
+use record::Layout;
 use record::leaves;
 use record::smaller;
 
@@ -58,25 +58,25 @@ fn is_outputs(depth: usize, outputs: usize) -> bool
 }
 
 // The number of the first fault of field, d, g, t, ℓ and n, or 0 where there is none.
-pub fn sizes_number(front: Front) -> u32
-    ensures { λ r. ⌜ r ≡ firstFault (sizeTests (inputFrom front [] [] [] [] [] [])) ⌝ }
+pub fn sizes_number(layout: Layout) -> u32
+    ensures { λ r. ⌜ r ≡ firstFault (sizeTests (inputFrom layout [] [] [] [] [] [])) ⌝ }
 {
-    if !is_field(front.field) {
+    if !is_field(layout.field) {
         return BAD_FIELD;
     }
-    if !is_size(16, front.depth) {
+    if !is_size(16, layout.depth) {
         return BAD_SIZE;
     }
-    if !is_branch(front.depth, front.branch_bits) {
+    if !is_branch(layout.depth, layout.branch_bits) {
         return BAD_SIZE;
     }
-    if !is_count(64, front.depth, front.trees) {
+    if !is_count(64, layout.depth, layout.trees) {
         return BAD_SIZE;
     }
-    if !is_count(32, front.depth, front.terms) {
+    if !is_count(32, layout.depth, layout.terms) {
         return BAD_SIZE;
     }
-    if !is_outputs(front.depth, front.outputs) {
+    if !is_outputs(layout.depth, layout.outputs) {
         return BAD_SIZE;
     }
     0
@@ -84,7 +84,7 @@ pub fn sizes_number(front: Front) -> u32
 
 // The number of the first slice that has not the length that the sizes call for, or 0 where there is none.
 pub fn lengths_number(
-    front: Front,
+    layout: Layout,
     roots: &[u8],
     positions: &[u32],
     values: &[u64],
@@ -92,16 +92,16 @@ pub fn lengths_number(
     code_key: &[u8],
     label: &[u8],
 ) -> u32
-    ensures { λ r. ⌜ r ≡ firstFault (lengthTests (inputFrom front (now (roots .entry)) (now (positions .entry)) (now (values .entry))
+    ensures { λ r. ⌜ r ≡ firstFault (lengthTests (inputFrom layout (now (roots .entry)) (now (positions .entry)) (now (values .entry))
         (now (delta .entry)) (now («code_key» .entry)) (now (label .entry)))) ⌝ }
 {
-    if !is_times(roots.len(), 16, front.trees) {
+    if !is_times(roots.len(), 16, layout.trees) {
         return BAD_LENGTH;
     }
-    if positions.len() != front.trees {
+    if positions.len() != layout.trees {
         return BAD_LENGTH;
     }
-    if values.len() != front.trees {
+    if values.len() != layout.trees {
         return BAD_LENGTH;
     }
     if delta.len() != 16 {
@@ -173,17 +173,17 @@ fn delta_admitted(field: usize, delta: &[u8]) -> bool
 }
 
 // The number of the first fault of positions, noise values and Δ, or 0 where there is none.
-pub fn content_number(front: Front, positions: &[u32], values: &[u64], delta: &[u8]) -> u32
-    requires { ⌜ Lengths front (length (now positions)) (length (now values)) (length (now delta)) ⌝ }
-    ensures { λ r. ⌜ r ≡ firstFault (contentTests (inputFrom front [] (now (positions .entry)) (now (values .entry)) (now (delta .entry)) [] [])) ⌝ }
+pub fn content_number(layout: Layout, positions: &[u32], values: &[u64], delta: &[u8]) -> u32
+    requires { ⌜ Lengths layout (length (now positions)) (length (now values)) (length (now delta)) ⌝ }
+    ensures { λ r. ⌜ r ≡ firstFault (contentTests (inputFrom layout [] (now (positions .entry)) (now (values .entry)) (now (delta .entry)) [] [])) ⌝ }
 {
-    if !rising(front.depth, front.trees, positions) {
+    if !rising(layout.depth, layout.trees, positions) {
         return BAD_POSITION;
     }
-    if !every_noise(front.field, front.trees, values) {
+    if !every_noise(layout.field, layout.trees, values) {
         return BAD_NOISE;
     }
-    if !delta_admitted(front.field, delta) {
+    if !delta_admitted(layout.field, delta) {
         return BAD_DELTA;
     }
     0

@@ -13,7 +13,7 @@ use answer::TwoLengths;
 use fault::Rooms;
 use fault::deal_number;
 use noise::write_noise;
-use record::Front;
+use record::Layout;
 use record::head_length;
 use scalar::write_scalar_part;
 
@@ -43,7 +43,7 @@ pub fn deal(
         (now (delta .entry)) (now («code_key» .entry)) (now (label .entry)))
         (now («noise_record» .entry)) (now («scalar_record» .entry)) ⌝ }
 {
-    let front = Front {
+    let layout = Layout {
         field: field as usize,
         depth: depth,
         branch_bits: branch_bits,
@@ -57,7 +57,7 @@ pub fn deal(
         scalar: scalar_record.len(),
     };
     let number = deal_number(
-        front,
+        layout,
         rooms,
         roots,
         positions,
@@ -75,7 +75,7 @@ pub fn deal(
     }
     let noise_bytes = write_noise(
         noise_record,
-        front,
+        layout,
         code_key,
         label,
         roots,
@@ -83,7 +83,7 @@ pub fn deal(
         values,
         delta,
     );
-    let scalar_bytes = write_scalar_part(scalar_record, front, code_key, label, delta, roots);
+    let scalar_bytes = write_scalar_part(scalar_record, layout, code_key, label, delta, roots);
     TwoLengths {
         number: 0,
         first_written: noise_bytes,

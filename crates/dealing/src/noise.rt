@@ -6,18 +6,18 @@ ghost use Rattle.field.specs.ByNumber.{elementOf};
 ghost use Rattle.number.specs.Inner.Written.{Room, Wrote};
 ghost use Rattle.record.specs.Writing.{writeTree, writeNoise};
 ghost use Rattle.dealing.specs.Parts.{noisePart};
-ghost use Rattle.dealing.specs.Inner.Steps.{TablesAndKeys, inputFrom, correctionWords, planned, plannedBytes, treeOf, treesBytes, Placed, TreesPlaced, NoisePlaced};
+ghost use Rattle.dealing.specs.Inner.Steps.{TablesAndKeys, inputFrom, correctionWords, planned, plannedBytes, plannedTree, treesBytes, Placed, TreesPlaced, NoisePlaced};
 use crate::input::wide;
 use field::Element;
 use field::element_at;
 use field::element_difference;
 use field::element_scaled;
 use field::leaf_element;
-use record::Front;
-use record::front_length;
+use record::Layout;
 use record::sibling_count;
-use record::write_front;
+use record::tree_start_length;
 use record::write_head;
+use record::write_tree_start;
 use sbox::fill_tables;
 use sbox::table;
 use tree::Punctured;
@@ -49,7 +49,7 @@ pub struct Planned {
 
 // Tree i, after positions below `base`, at a place.
 fn plan(
-    front: Front,
+    layout: Layout,
     positions: &[u32],
     values: &[u64],
     i: usize,
@@ -57,12 +57,12 @@ fn plan(
     at: usize,
 ) -> Planned
     requires { ⌜ (i < length (now positions)) × (i < length (now values)) ⌝ }
-    ensures { λ r. ⌜ r ≡ planned front (now (positions .entry)) (now (values .entry)) i base at ⌝ }
+    ensures { λ r. ⌜ r ≡ planned layout (now (positions .entry)) (now (values .entry)) i base at ⌝ }
 {
     Planned {
-        field: front.field,
-        depth: front.depth,
-        branch_bits: front.branch_bits,
+        field: layout.field,
+        depth: layout.depth,
+        branch_bits: layout.branch_bits,
         position: wide(positions[i]),
         value: values[i],
         base: base,
@@ -78,7 +78,7 @@ fn write_planned(leaf: [[u8; 4]; 4], tree: Planned, delta: &[u8], out: &mut [u8]
 {
     let words = correction(tree.field, leaf, tree.value, delta);
     let back = tree.position - tree.base;
-    write_front(out, tree.at, tree.field, back, tree.value, words)
+    write_tree_start(out, tree.at, tree.field, back, tree.value, words)
 }
 
 // Writes a tree at its place; the place after it. The walk to the leaf writes the siblings.
@@ -92,9 +92,9 @@ fn write_tree(
 ) -> usize
     requires { ⌜ TablesAndKeys (tree .«branch_bits») (now tables) (now keys) ⌝ }
     requires { ⌜ Placed tree root (now delta) (now out) ⌝ }
-    ensures { λ r. ⌜ Wrote (now (out .entry)) (tree .at) (writeTree (tree .field) (tree .base) (treeOf tree root (now (delta .entry)))) r (now (out .exit)) ⌝ }
+    ensures { λ r. ⌜ Wrote (now (out .entry)) (tree .at) (writeTree (tree .field) (tree .base) (plannedTree tree root (now (delta .entry)))) r (now (out .exit)) ⌝ }
 {
-    let siblings = tree.at + front_length(tree.base, tree.position);
+    let siblings = tree.at + tree_start_length(tree.base, tree.position);
     let next = siblings + 16 * sibling_count(tree.depth, tree.branch_bits);
     let place = Punctured {
         branch_bits: tree.branch_bits,
@@ -110,25 +110,25 @@ fn write_tree(
 // Writes the trees after the head; the place after them.
 fn write_trees(
     out: &mut [u8],
-    front: Front,
+    layout: Layout,
     roots: &[u8],
     positions: &[u32],
     values: &[u64],
     delta: &[u8],
 ) -> usize
-    requires { ⌜ TreesPlaced front (now roots) (now positions) (now values) (now delta) (now out) ⌝ }
-    ensures { λ r. ⌜ Wrote (now (out .entry)) (front .body)
-        (treesBytes front (now (roots .entry)) (now (positions .entry)) (now (values .entry)) (now (delta .entry))) r (now (out .exit)) ⌝ }
+    requires { ⌜ TreesPlaced layout (now roots) (now positions) (now values) (now delta) (now out) ⌝ }
+    ensures { λ r. ⌜ Wrote (now (out .entry)) (layout .body)
+        (treesBytes layout (now (roots .entry)) (now (positions .entry)) (now (values .entry)) (now (delta .entry))) r (now (out .exit)) ⌝ }
 {
     let sb = table();
     let mut tables = [0u64; 1536];
     fill_tables(&mut tables);
-    let keys = child_keys(&sb, front.branch_bits);
-    let mut at = front.body;
+    let keys = child_keys(&sb, layout.branch_bits);
+    let mut at = layout.body;
     let mut base: usize = 0;
     let mut i: usize = 0;
-    while i < front.trees {
-        let tree = plan(front, positions, values, i, base, at);
+    while i < layout.trees {
+        let tree = plan(layout, positions, values, i, base, at);
         let root = columns_at(roots, 16 * i);
         at = write_tree(&tables, &keys, root, tree, delta, out);
         base = tree.position + 1;
@@ -140,7 +140,7 @@ fn write_trees(
 // Writes the noise record at the buffer's front; its length.
 pub fn write_noise(
     out: &mut [u8],
-    front: Front,
+    layout: Layout,
     code_key: &[u8],
     label: &[u8],
     roots: &[u8],
@@ -148,12 +148,12 @@ pub fn write_noise(
     values: &[u64],
     delta: &[u8],
 ) -> usize
-    requires { ⌜ NoisePlaced front (inputFrom front (now roots) (now positions) (now values) (now delta) (now «code_key») (now label))
+    requires { ⌜ NoisePlaced layout (inputFrom layout (now roots) (now positions) (now values) (now delta) (now «code_key») (now label))
         (length (now out)) ⌝ }
     ensures { λ r. ⌜ Wrote (now (out .entry)) 0
-        (writeNoise (noisePart (inputFrom front (now (roots .entry)) (now (positions .entry)) (now (values .entry)) (now (delta .entry))
+        (writeNoise (noisePart (inputFrom layout (now (roots .entry)) (now (positions .entry)) (now (values .entry)) (now (delta .entry))
         (now («code_key» .entry)) (now (label .entry))))) r (now (out .exit)) ⌝ }
 {
-    write_head(out, 1, front, code_key, label);
-    write_trees(out, front, roots, positions, values, delta)
+    write_head(out, 1, layout, code_key, label);
+    write_trees(out, layout, roots, positions, values, delta)
 }

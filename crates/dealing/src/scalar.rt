@@ -7,23 +7,23 @@ ghost use Rattle.record.specs.Writing.{writeScalar};
 ghost use Rattle.dealing.specs.Input.{wordsOf};
 ghost use Rattle.dealing.specs.Inner.Steps.{ScalarPlaced};
 use field::element_at;
-use record::Front;
+use record::Layout;
 use record::write_scalar;
 
 // Writes the scalar record at the buffer's front; its length.
 pub fn write_scalar_part(
     out: &mut [u8],
-    front: Front,
+    layout: Layout,
     code_key: &[u8],
     label: &[u8],
     delta: &[u8],
     roots: &[u8],
 ) -> usize
-    requires { ⌜ ScalarPlaced front (now «code_key») (now label) (now delta) (now roots) (length (now out)) ⌝ }
+    requires { ⌜ ScalarPlaced layout (now «code_key») (now label) (now delta) (now roots) (length (now out)) ⌝ }
     ensures { λ r. ⌜ Wrote (now (out .entry)) 0
-        (writeScalar (scalarWith front (now («code_key» .entry)) (now (label .entry)) (wordsOf (front .field) (now (delta .entry))) (now (roots .entry))))
+        (writeScalar (scalarWith layout (now («code_key» .entry)) (now (label .entry)) (wordsOf (layout .field) (now (delta .entry))) (now (roots .entry))))
         r (now (out .exit)) ⌝ }
 {
-    let scalar = element_at(front.field, delta, 0);
-    write_scalar(out, front, code_key, label, scalar, roots)
+    let scalar = element_at(layout.field, delta, 0);
+    write_scalar(out, layout, code_key, label, scalar, roots)
 }

@@ -8,22 +8,22 @@ use borrow.Author.Tests.{lt-ltb, le-ltb, eq-eqb, ne-eqb}
 use lib.Dec.{eqb}
 use lib.ListN.{length, getD}
 use Rattle.field.specs.Kind.{elementWords}
-use Rattle.number.specs.Reading.{Reading, Whole, Refused, Step, tested, readByte, afterReading}
+use Rattle.number.specs.Reading.{Reading, Whole, Refused, Parsed, tested, readByte, afterReading}
 use Rattle.number.proofs.Records.{read-refused, read-whole}
 use Rattle.number.proofs.Places.{either}
 use Rattle.record.specs.Content.{Head, NoisePart, ScalarPart}
 use Rattle.record.specs.Reading.{blockAt, readHead, readNoise, readScalar}
-use Rattle.record.specs.Answer.{headOf, opened, frontOf, recordFault}
-use Rattle.record.specs.declared.Front.{Front}
-use Rattle.record.specs.declared.Opened.{Opened}
-use Rattle.record.specs.declared.Opened.the-variants.{Accepted, Fault}
-use Rattle.record.proofs.Callers.{head-ranges, noise-refused, noise-opened, scalar-refused, scalar-opened}
+use Rattle.record.specs.Answer.{headOf, recordRead, headIfWhole, recordFault}
+use Rattle.record.specs.declared.Layout.{Layout}
+use Rattle.record.specs.declared.RecordAnswer.{RecordAnswer}
+use Rattle.record.specs.declared.RecordAnswer.the-variants.{Accepted, Fault}
+use Rattle.record.proofs.Callers.{head-ranges, noise-refused, noise-content, scalar-refused, scalar-content}
 use Rattle.describe.specs.declared.Described.{Described}
-use Rattle.describe.specs.Describe.{head, refused, said, byEnd, description, describe}
+use Rattle.describe.specs.Describe.{describedHead, refused, said, byEnd, description, describe}
 use Rattle.window.proofs.Sizes.{head-sizes}
 
 -- the head of its numbers, N, the words of an element, the label and the code key
-pub with-sizes : (end : ℕ) (s : List ℕ) (f : Front) {n w : ℕ} {label key : List ℕ} → n ≡ 2 ^ f .depth → w ≡ elementWords (f .field)
+pub with-sizes : (end : ℕ) (s : List ℕ) (f : Layout) {n w : ℕ} {label key : List ℕ} → n ≡ 2 ^ f .depth → w ≡ elementWords (f .field)
     → label ≡ blockAt s (f .body - 16) → key ≡ blockAt s (f .body - 32)
     → record {
       number = 0;
@@ -39,17 +39,17 @@ pub with-sizes : (end : ℕ) (s : List ℕ) (f : Front) {n w : ℕ} {label key :
       label = label;
       «code_key» = key;
     }
-    ≡ head end (headOf s f)
+    ≡ describedHead end (headOf s f)
 with-sizes end s f e g l k = rw (e, g, l, k)
 
 -- what a head that was read says of its numbers, and that its code key and its label stand before the body
-record Reads (s : List ℕ) (f : Front) : Type 0 where
+record Reads (s : List ℕ) (f : Layout) : Type 0 where
   pub depth : f .depth ≤ 16
   pub field : f .field < 256
   pub key : 32 ≤ f .body
   pub room : f .body ≤ length s
 
-head-reads : (end : ℕ) (s : List ℕ) (f : Front) → readHead end s ≡ Whole (headOf s f, f .body) → Reads s f
+head-reads : (end : ℕ) (s : List ℕ) (f : Layout) → readHead end s ≡ Whole (headOf s f, f .body) → Reads s f
 head-reads end s f e =
     let r = head-ranges end s e in
     let z = head-sizes end s e in
@@ -62,63 +62,63 @@ head-reads end s f e =
 
 -- ---- the noise record
 
-module _ (s : List ℕ) {r : Opened} (opens : opened s r ≡ frontOf (readNoise s) (readHead 1 s)) where
+module _ (s : List ℕ) {r : RecordAnswer} (opens : recordRead s r ≡ headIfWhole (readNoise s) (readHead 1 s)) where
   pub noise-fault : {j k : ℕ} → r ≡ Fault j → k ≡ recordFault r → {a : Described} → a ≡ refused k → a ≡ said 1 (λ P. P .head) (readNoise s)
   noise-fault {j} {k} e q g =
-      let y : Refused j ≡ frontOf (readNoise s) (readHead 1 s) = rw e at opens in
+      let y : Refused j ≡ headIfWhole (readNoise s) (readHead 1 s) = rw e at opens in
       read-refused _ _ _ _ j (noise-refused s (sym y)) (g ∙ ap refused (q ∙ ap recordFault e))
 
-  module _ {f : Front} (e : r ≡ Accepted f) where
-    noise-front : (p : NoisePart) × (readNoise s ≡ Whole p) × (p .head ≡ headOf s f) × Reads s f
-    noise-front =
-        let y : Whole (headOf s f, f .body) ≡ frontOf (readNoise s) (readHead 1 s) = rw e at opens in
-        let o = noise-opened s (sym y) in
+  module _ {f : Layout} (e : r ≡ Accepted f) where
+    noise-layout : (p : NoisePart) × (readNoise s ≡ Whole p) × (p .head ≡ headOf s f) × Reads s f
+    noise-layout =
+        let y : Whole (headOf s f, f .body) ≡ headIfWhole (readNoise s) (readHead 1 s) = rw e at opens in
+        let o = noise-content s (sym y) in
         (o .0, o .2 .whole, o .2 .same, head-reads 1 s f (o .2 .head))
 
     pub noise-depth : f .depth ≤ 16
-    noise-depth = noise-front .3 .depth
+    noise-depth = noise-layout .3 .depth
 
     pub noise-field : f .field < 256
-    noise-field = noise-front .3 .field
+    noise-field = noise-layout .3 .field
 
     pub noise-key : 32 ≤ f .body
-    noise-key = noise-front .3 .key
+    noise-key = noise-layout .3 .key
 
     pub noise-room : f .body ≤ length s
-    noise-room = noise-front .3 .room
+    noise-room = noise-layout .3 .room
 
-    pub noise-accepted : {a : Described} → a ≡ head 1 (headOf s f) → a ≡ said 1 (λ P. P .head) (readNoise s)
-    noise-accepted g = let o = noise-front in read-whole _ _ _ _ (o .0) (o .1) (g ∙ ap (head 1) (sym (o .2)))
+    pub noise-accepted : {a : Described} → a ≡ describedHead 1 (headOf s f) → a ≡ said 1 (λ P. P .head) (readNoise s)
+    noise-accepted g = let o = noise-layout in read-whole _ _ _ _ (o .0) (o .1) (g ∙ ap (describedHead 1) (sym (o .2)))
 
 -- ---- the scalar record
 
-module _ (s : List ℕ) {r : Opened} (opens : opened s r ≡ frontOf (readScalar s) (readHead 2 s)) where
+module _ (s : List ℕ) {r : RecordAnswer} (opens : recordRead s r ≡ headIfWhole (readScalar s) (readHead 2 s)) where
   pub scalar-fault : {j k : ℕ} → r ≡ Fault j → k ≡ recordFault r → {a : Described} → a ≡ refused k → a ≡ said 2 (λ P. P .head) (readScalar s)
   scalar-fault {j} {k} e q g =
-      let y : Refused j ≡ frontOf (readScalar s) (readHead 2 s) = rw e at opens in
+      let y : Refused j ≡ headIfWhole (readScalar s) (readHead 2 s) = rw e at opens in
       read-refused _ _ _ _ j (scalar-refused s (sym y)) (g ∙ ap refused (q ∙ ap recordFault e))
 
-  module _ {f : Front} (e : r ≡ Accepted f) where
-    scalar-front : (p : ScalarPart) × (readScalar s ≡ Whole p) × (p .head ≡ headOf s f) × Reads s f
-    scalar-front =
-        let y : Whole (headOf s f, f .body) ≡ frontOf (readScalar s) (readHead 2 s) = rw e at opens in
-        let o = scalar-opened s (sym y) in
+  module _ {f : Layout} (e : r ≡ Accepted f) where
+    scalar-layout : (p : ScalarPart) × (readScalar s ≡ Whole p) × (p .head ≡ headOf s f) × Reads s f
+    scalar-layout =
+        let y : Whole (headOf s f, f .body) ≡ headIfWhole (readScalar s) (readHead 2 s) = rw e at opens in
+        let o = scalar-content s (sym y) in
         (o .0, o .1 .whole, o .1 .same, head-reads 2 s f (o .1 .head))
 
     pub scalar-depth : f .depth ≤ 16
-    scalar-depth = scalar-front .3 .depth
+    scalar-depth = scalar-layout .3 .depth
 
     pub scalar-field : f .field < 256
-    scalar-field = scalar-front .3 .field
+    scalar-field = scalar-layout .3 .field
 
     pub scalar-key : 32 ≤ f .body
-    scalar-key = scalar-front .3 .key
+    scalar-key = scalar-layout .3 .key
 
     pub scalar-room : f .body ≤ length s
-    scalar-room = scalar-front .3 .room
+    scalar-room = scalar-layout .3 .room
 
-    pub scalar-accepted : {a : Described} → a ≡ head 2 (headOf s f) → a ≡ said 2 (λ P. P .head) (readScalar s)
-    scalar-accepted g = let o = scalar-front in read-whole _ _ _ _ (o .0) (o .1) (g ∙ ap (head 2) (sym (o .2)))
+    pub scalar-accepted : {a : Described} → a ≡ describedHead 2 (headOf s f) → a ≡ said 2 (λ P. P .head) (readScalar s)
+    scalar-accepted g = let o = scalar-layout in read-whole _ _ _ _ (o .0) (o .1) (g ∙ ap (describedHead 2) (sym (o .2)))
 
 -- ---- the end byte
 

@@ -12,7 +12,7 @@ use Rattle.answer.specs.Tests.{firstFault}
 use Rattle.answer.specs.Outcome.{Outcome, TwoWritten}
 use Rattle.answer.proofs.Answers.{outcome-number}
 use Rattle.answer.proofs.Faults.{last-not, last-only}
-use Rattle.number.specs.Reading.{Reading, Whole, Refused, Step, tested, readByte, afterReading}
+use Rattle.number.specs.Reading.{Reading, Whole, Refused, Parsed, tested, readByte, afterReading}
 use Rattle.record.specs.Content.{Head, NoisePart, ScalarPart}
 use Rattle.record.specs.Reading.{readNoise, readScalar}
 use Rattle.ends.specs.Noise.Offline as noiseOffline
@@ -22,7 +22,7 @@ use Rattle.ends.specs.Scalar.Offline as scalarOffline
 use Rattle.ends.specs.Scalar.Online as scalarOnline
 use Rattle.ends.proofs.scalar.Laws as scalarLaws
 use Rattle.describe.specs.declared.Described.{Described}
-use Rattle.describe.specs.Describe.{head, refused, said, byEnd, describe}
+use Rattle.describe.specs.Describe.{describedHead, refused, said, byEnd, describe}
 use Rattle.describe.specs.Sizing.{Sizing, answerFor, noiseLengths, scalarLengths, withoutEnd}
 
 -- ---- an end that is told is that of a record read whole
@@ -30,7 +30,7 @@ use Rattle.describe.specs.Sizing.{Sizing, answerFor, noiseLengths, scala
 module _ {A : Type 0} (end : ℕ) (headIn : A → Head) where
   -- what is said of a reading tells its end only where it is whole
   said-end : (x : Reading A) {e : ℕ} → (e ≡ 0 → ⊥) → said end headIn x .end ≡ e
-      → (p : A) × (x ≡ Whole p) × (end ≡ e) × (said end headIn x ≡ head end (headIn p))
+      → (p : A) × (x ≡ Whole p) × (end ≡ e) × (said end headIn x ≡ describedHead end (headIn p))
   unfolding afterReading
   said-end (Whole p) n q = (p, refl, q, refl)
   said-end (Refused k) n q = absurd (n (sym q))
@@ -40,29 +40,29 @@ module _ (s : List ℕ) where
   abbrev told : Bool → Described
   told b = choose b (said 1 (λ P. P .head) (readNoise s)) (said 2 (λ P. P .head) (readScalar s))
 
-  noise-end : (x : Step ℕ) → byEnd s x .end ≡ 1 → (P : NoisePart) × (readNoise s ≡ Whole P) × (byEnd s x ≡ head 1 (P .head))
+  noise-end : (x : Parsed ℕ) → byEnd s x .end ≡ 1 → (P : NoisePart) × (readNoise s ≡ Whole P) × (byEnd s x ≡ describedHead 1 (P .head))
   unfolding afterReading
   noise-end (Refused k) e = absurd (omega (arith, e))
   noise-end (Whole r) e = by (eqb (r .0) 1) e
     where
-      by : (b : Bool) → told b .end ≡ 1 → (P : NoisePart) × (readNoise s ≡ Whole P) × (told b ≡ head 1 (P .head))
+      by : (b : Bool) → told b .end ≡ 1 → (P : NoisePart) × (readNoise s ≡ Whole P) × (told b ≡ describedHead 1 (P .head))
       by true e = let o = said-end 1 (λ P. P .head) (readNoise s) (λ z. omega (arith, z)) e in (o .0, o .1, o .3)
       by false e = let o = said-end 2 (λ P. P .head) (readScalar s) (λ z. omega (arith, z)) e in absurd (omega (arith, o .2))
 
-  scalar-end : (x : Step ℕ) → byEnd s x .end ≡ 2 → (P : ScalarPart) × (readScalar s ≡ Whole P) × (byEnd s x ≡ head 2 (P .head))
+  scalar-end : (x : Parsed ℕ) → byEnd s x .end ≡ 2 → (P : ScalarPart) × (readScalar s ≡ Whole P) × (byEnd s x ≡ describedHead 2 (P .head))
   unfolding afterReading
   scalar-end (Refused k) e = absurd (omega (arith, e))
   scalar-end (Whole r) e = by (eqb (r .0) 1) e
     where
-      by : (b : Bool) → told b .end ≡ 2 → (P : ScalarPart) × (readScalar s ≡ Whole P) × (told b ≡ head 2 (P .head))
+      by : (b : Bool) → told b .end ≡ 2 → (P : ScalarPart) × (readScalar s ≡ Whole P) × (told b ≡ describedHead 2 (P .head))
       by true e = let o = said-end 1 (λ P. P .head) (readNoise s) (λ z. omega (arith, z)) e in absurd (omega (arith, o .2))
       by false e = let o = said-end 2 (λ P. P .head) (readScalar s) (λ z. omega (arith, z)) e in (o .0, o .1, o .3)
 
-  pub noise-told : answerFor s .end ≡ 1 → (P : NoisePart) × (readNoise s ≡ Whole P) × (answerFor s ≡ head 1 (P .head))
+  pub noise-told : answerFor s .end ≡ 1 → (P : NoisePart) × (readNoise s ≡ Whole P) × (answerFor s ≡ describedHead 1 (P .head))
   unfolding describe
   noise-told e = noise-end (tested (readByte s 0) (λ end. eqb end 1 || eqb end 2) wrongEnd) e
 
-  pub scalar-told : answerFor s .end ≡ 2 → (P : ScalarPart) × (readScalar s ≡ Whole P) × (answerFor s ≡ head 2 (P .head))
+  pub scalar-told : answerFor s .end ≡ 2 → (P : ScalarPart) × (readScalar s ≡ Whole P) × (answerFor s ≡ describedHead 2 (P .head))
   unfolding describe
   scalar-told e = scalar-end (tested (readByte s 0) (λ end. eqb end 1 || eqb end 2) wrongEnd) e
 
@@ -89,9 +89,9 @@ same-told s u a b P Q e g =
     let q = scalar-told u b in
     let p : o .0 .head ≡ P .head = ap headRead (sym (o .1) ∙ e) in
     let r : q .0 .head ≡ Q .head = ap headRead′ (sym (q .1) ∙ g) in
-    let x : answerFor s ≡ head 1 (P .head) = o .2 ∙ ap (head 1) p in
-    let y : answerFor u ≡ head 2 (Q .head) = q .2 ∙ ap (head 2) r in (
-      λ h. ap withoutEnd x ∙ ap (λ (k : Head). withoutEnd (head 1 k)) h ∙ sym (ap withoutEnd y),
+    let x : answerFor s ≡ describedHead 1 (P .head) = o .2 ∙ ap (describedHead 1) p in
+    let y : answerFor u ≡ describedHead 2 (Q .head) = q .2 ∙ ap (describedHead 2) r in (
+      λ h. ap withoutEnd x ∙ ap (λ (k : Head). withoutEnd (describedHead 1 k)) h ∙ sym (ap withoutEnd y),
       λ h. ap headTold (sym (ap withoutEnd x) ∙ h ∙ ap withoutEnd y),
     )
   where
@@ -111,7 +111,7 @@ module _ {A : Type 0} (end : ℕ) (headIn : A → Head) where
   said-none (Refused k) n = refl
 
 module _ (s : List ℕ) where
-  none : (x : Step ℕ) → (byEnd s x .end ≡ 1 → ⊥) → (byEnd s x .end ≡ 2 → ⊥) → byEnd s x ≡ refused (byEnd s x .number)
+  none : (x : Parsed ℕ) → (byEnd s x .end ≡ 1 → ⊥) → (byEnd s x .end ≡ 2 → ⊥) → byEnd s x ≡ refused (byEnd s x .number)
   unfolding afterReading
   none (Refused k) m n = refl
   none (Whole r) m n = by (eqb (r .0) 1) m n
@@ -146,11 +146,11 @@ module _ (P : NoisePart) (l : noiseOnline.Lent) (first count : ℕ) (e : readNoi
       ∙ outcome-number _ _ _ _ (noiseOnline.onlineTests (P .head) l first count)
 
   noise-window : (noiseOnline.online l first count .number ≡ notElement → ⊥)
-      → noiseOnline.online l first count .number ≡ firstFault (noiseLengths (head 1 (P .head)) l first count)
-  noise-window h = noise-number ∙ last-not _ notElement (noiseLengths (head 1 (P .head)) l first count) (λ g. h (noise-number ∙ g))
+      → noiseOnline.online l first count .number ≡ firstFault (noiseLengths (describedHead 1 (P .head)) l first count)
+  noise-window h = noise-number ∙ last-not _ notElement (noiseLengths (describedHead 1 (P .head)) l first count) (λ g. h (noise-number ∙ g))
 
-  noise-passed : noiseOnline.online l first count .number ≡ notElement → firstFault (noiseLengths (head 1 (P .head)) l first count) ≡ accepted
-  noise-passed g = last-only _ notElement (noiseLengths (head 1 (P .head)) l first count) refl (sym noise-number ∙ g)
+  noise-passed : noiseOnline.online l first count .number ≡ notElement → firstFault (noiseLengths (describedHead 1 (P .head)) l first count) ≡ accepted
+  noise-passed g = last-only _ notElement (noiseLengths (describedHead 1 (P .head)) l first count) refl (sym noise-number ∙ g)
 
 module _ (P : ScalarPart) (l : scalarOnline.Lent) (first count : ℕ) (e : readScalar (l .source) ≡ Whole P) where
   scalar-number : scalarOnline.online l first count .number ≡ firstFault (scalarOnline.onlineTests (P .head) l first count)
@@ -159,11 +159,11 @@ module _ (P : ScalarPart) (l : scalarOnline.Lent) (first count : ℕ) (e : readS
       ∙ outcome-number _ _ _ _ (scalarOnline.onlineTests (P .head) l first count)
 
   scalar-window : (scalarOnline.online l first count .number ≡ notElement → ⊥)
-      → scalarOnline.online l first count .number ≡ firstFault (scalarLengths (head 2 (P .head)) l first count)
-  scalar-window h = scalar-number ∙ last-not _ notElement (scalarLengths (head 2 (P .head)) l first count) (λ g. h (scalar-number ∙ g))
+      → scalarOnline.online l first count .number ≡ firstFault (scalarLengths (describedHead 2 (P .head)) l first count)
+  scalar-window h = scalar-number ∙ last-not _ notElement (scalarLengths (describedHead 2 (P .head)) l first count) (λ g. h (scalar-number ∙ g))
 
-  scalar-passed : scalarOnline.online l first count .number ≡ notElement → firstFault (scalarLengths (head 2 (P .head)) l first count) ≡ accepted
-  scalar-passed g = last-only _ notElement (scalarLengths (head 2 (P .head)) l first count) refl (sym scalar-number ∙ g)
+  scalar-passed : scalarOnline.online l first count .number ≡ notElement → firstFault (scalarLengths (describedHead 2 (P .head)) l first count) ≡ accepted
+  scalar-passed g = last-only _ notElement (scalarLengths (describedHead 2 (P .head)) l first count) refl (sym scalar-number ∙ g)
 
 pub sizing : Sizing
 sizing =

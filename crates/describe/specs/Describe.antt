@@ -8,7 +8,7 @@ use lib.ListN.{replicate}
 use Rattle.answer.specs.Numbers.{accepted, wrongEnd}
 use Rattle.algebra.specs.Choice.{choose}
 use Rattle.field.specs.Kind.{elementWords}
-use Rattle.number.specs.Reading.{Reading, Step, tested, readByte, afterReading}
+use Rattle.number.specs.Reading.{Reading, Parsed, tested, readByte, afterReading}
 use Rattle.record.specs.Content.{Head}
 use Rattle.record.specs.Reading.{readNoise, readScalar}
 use Rattle.window.specs.Head.{places}
@@ -16,8 +16,8 @@ use Rattle.describe.specs.declared.Described.{Described}
 
 -- the head of an accepted record of an end: its field and sizes, N, the words of an element, and the 16 bytes of its label and of its
 -- code key (circuits in rounds)
-abbrev pub head : ℕ → Head → Described
-head end h =
+abbrev pub describedHead : ℕ → Head → Described
+describedHead end h =
     record {
       number = accepted;
       end = end;
@@ -61,10 +61,10 @@ description answer source = record { answer = answer; source = source }
 
 -- the answer for what a record of an end is read as
 abbrev pub said : {A : Type 0} → ℕ → (A → Head) → Reading A → Described
-said end headIn r = afterReading r refused (λ part. head end (headIn part))
+said end headIn r = afterReading r refused (λ part. describedHead end (headIn part))
 
 -- the answer by the end byte: that of the noise record, or that of the scalar record
-abbrev pub byEnd : List ℕ → Step ℕ → Described
+abbrev pub byEnd : List ℕ → Parsed ℕ → Described
 byEnd s r =
     afterReading r refused
     (λ r. choose (eqb (r .0) 1) (said 1 (λ P. P .head) (readNoise s)) (said 2 (λ P. P .head) (readScalar s)))

@@ -4,14 +4,14 @@ ghost use Prim.Native.Nat.{_+_, _≤_, _<_};
 ghost use lib.ListN.{length};
 ghost use Rattle.record.specs.Answer.{headOf};
 ghost use Rattle.record.specs.Reading.{blockAt, readNoise, readScalar};
-ghost use Rattle.describe.specs.Describe.{head, refused, said, description, describe};
+ghost use Rattle.describe.specs.Describe.{describedHead, refused, said, description, describe};
 use answer::RECORD_ENDS;
 use answer::WRONG_END;
 use field::element_width;
-use record::Front;
-use record::Opened;
-use record::fault_of;
+use record::Layout;
+use record::RecordAnswer;
 use record::leaves;
+use record::record_fault;
 use record_reading::read_noise;
 use record_reading::read_scalar;
 
@@ -68,23 +68,23 @@ fn sixteen_at(source: &[u8], at: usize) -> [u8; 16]
 }
 
 // The answer for an accepted record of an end.
-fn accepted(end: u8, source: &[u8], front: Front) -> Described
-    requires { ⌜ (front .depth ≤ 16) × (front .field < 256) × (32 ≤ front .body) × (front .body ≤ length (now source)) ⌝ }
-    ensures { λ r. ⌜ r ≡ head end (headOf (now (source .entry)) front) ⌝ }
+fn accepted(end: u8, source: &[u8], layout: Layout) -> Described
+    requires { ⌜ (layout .depth ≤ 16) × (layout .field < 256) × (32 ≤ layout .body) × (layout .body ≤ length (now source)) ⌝ }
+    ensures { λ r. ⌜ r ≡ describedHead end (headOf (now (source .entry)) layout) ⌝ }
 {
     Described {
         number: 0,
         end: end,
-        field: front.field as u8,
-        depth: front.depth,
-        branch_bits: front.branch_bits,
-        trees: front.trees,
-        terms: front.terms,
-        outputs: front.outputs,
-        leaves: leaves(front.depth),
-        element_words: element_width(front.field),
-        label: sixteen_at(source, front.body - 16),
-        code_key: sixteen_at(source, front.body - 32),
+        field: layout.field as u8,
+        depth: layout.depth,
+        branch_bits: layout.branch_bits,
+        trees: layout.trees,
+        terms: layout.terms,
+        outputs: layout.outputs,
+        leaves: leaves(layout.depth),
+        element_words: element_width(layout.field),
+        label: sixteen_at(source, layout.body - 16),
+        code_key: sixteen_at(source, layout.body - 32),
     }
 }
 
@@ -93,10 +93,10 @@ fn noise_head(source: &[u8]) -> Described
     ensures { λ r. ⌜ r ≡ said 1 (λ P. P .head) (readNoise (now (source .entry))) ⌝ }
 {
     let r = read_noise(source);
-    let Opened::Accepted(front) = r else {
-        return refusal(fault_of(r));
+    let RecordAnswer::Accepted(layout) = r else {
+        return refusal(record_fault(r));
     };
-    accepted(1, source, front)
+    accepted(1, source, layout)
 }
 
 // The answer for a scalar record.
@@ -104,10 +104,10 @@ fn scalar_head(source: &[u8]) -> Described
     ensures { λ r. ⌜ r ≡ said 2 (λ P. P .head) (readScalar (now (source .entry))) ⌝ }
 {
     let r = read_scalar(source);
-    let Opened::Accepted(front) = r else {
-        return refusal(fault_of(r));
+    let RecordAnswer::Accepted(layout) = r else {
+        return refusal(record_fault(r));
     };
-    accepted(2, source, front)
+    accepted(2, source, layout)
 }
 
 // The head of a record that its end would accept, or that record's number. The end byte says whose tests apply.

@@ -13,14 +13,14 @@ use mir.Val.{Fits}
 use Rattle.algebra.specs.Choice.{choose}
 use Rattle.circuit.proofs.Folds.{fold-length, fold-last}
 use Rattle.circuit.proofs.Levels.{greater-is, greater-below, greatest-below}
-use Rattle.circuit.specs.Answer.{content, HasFront}
+use Rattle.circuit.specs.Answer.{content, HasLayout}
 use Rattle.circuit.specs.Content.{Gate, Xor, And, Not, Circuit}
-use Rattle.circuit.specs.Inner.Fronts.{gateBy}
+use Rattle.circuit.specs.Inner.GateNumbers.{gateBy}
 use Rattle.circuit.specs.Inner.GateKinds.{kindNumber}
 use Rattle.circuit.specs.Levels.{greater, gateLevel, greatest, levels, depth}
 use Rattle.circuit.specs.Reading.{readGate}
 use Rattle.circuit.specs.Value.{overGates}
-use Rattle.circuit.specs.declared.Front.{Front}
+use Rattle.circuit.specs.declared.Layout.{Layout}
 use Rattle.circuit_run.proofs.Gates.{gatesOf, left-start, whole-gate, first, here, left-next, by-1, by-2, by-3, kind-range}
 use Rattle.circuit_run.specs.Inner.Places.{Left}
 use Rattle.number.proofs.Places.{either, split}
@@ -125,7 +125,7 @@ append-small [] n limit (suc w) h k = omega arith
 append-small (x ∷ l) n limit zero h k = h 0
 append-small (x ∷ l) n limit (suc w) h k = append-small l n limit w (λ u. h (suc u)) k
 
-pub depth-start : {s : List ℕ} {f : Front} → HasFront s f → DepthTurn s (f .inputs) (replicate 4096 0) 0 (f .body) 0
+pub depth-start : {s : List ℕ} {f : Layout} → HasLayout s f → DepthTurn s (f .inputs) (replicate 4096 0) 0 (f .body) 0
 unfolding levelsTo overGates
 depth-start {s} {f} o =
     record {
@@ -139,7 +139,7 @@ depth-start {s} {f} o =
       small = λ w. omega (arith, zero-at (content s .inputs) w);
     }
 
-module _ {s : List ℕ} {f : Front} (o : HasFront s f) {array : List ℕ} {most at i : ℕ} (turn : DepthTurn s (f .inputs) array most at i) where
+module _ {s : List ℕ} {f : Layout} (o : HasLayout s f) {array : List ℕ} {most at i : ℕ} (turn : DepthTurn s (f .inputs) array most at i) where
   abbrev c : Circuit
   c = content s
 

@@ -5,7 +5,7 @@ use mathlib.Core.List.{List}
 use lib.ListN.{length}
 use Rattle.answer.specs.Numbers.{accepted}
 use Rattle.circuit.specs.Content.{Circuit, andsIn}
-use Rattle.circuit.specs.Levels.{rounds}
+use Rattle.circuit.specs.Levels.{roundCount}
 use Rattle.circuit.specs.Reading.{readCircuit}
 use Rattle.number.specs.Reading.{afterReading}
 use Rattle.describe_circuit.specs.declared.DescribedCircuit.{DescribedCircuit}
@@ -25,7 +25,7 @@ descriptionOf answer source = record { answer = answer; source = source }
 
 -- a circuit that was read
 abbrev pub said : Circuit → DescribedCircuit
-said c = answerWith accepted (c .inputs) (length (c .gates)) (length (c .outputs)) (andsIn (c .gates)) (rounds c)
+said c = answerWith accepted (c .inputs) (length (c .gates)) (length (c .outputs)) (andsIn (c .gates)) (roundCount c)
 
 -- a refused circuit: its number and zeros
 abbrev pub refused : ℕ → DescribedCircuit

@@ -1,15 +1,15 @@
 // What a circuit is, so that a run's triples, messages and buffers are known before it starts.
 ghost use mathlib.Core.Path.{_≡_};
 ghost use Prim.Native.Nat.{_≤_};
-ghost use Rattle.circuit.specs.Answer.{content, HasFront};
+ghost use Rattle.circuit.specs.Answer.{content, HasLayout};
 ghost use Rattle.circuit.specs.Levels.{greater, depth};
 ghost use Rattle.describe_circuit.specs.Describe.{refused, descriptionOf, describeCircuit};
 ghost use Rattle.describe_circuit.specs.Inner.Levels.{levelBy};
-use circuit::Front;
-use circuit::Opened;
+use circuit::Answer;
+use circuit::Layout;
+use circuit::circuit_fault;
 use circuit::known_gate;
 use circuit::read_circuit;
-use circuit::refusal_of;
 
 // The answer: the number, and how many inputs, gates, outputs, ANDs and rounds the circuit has. A refused circuit has zeros beside
 // its number.
@@ -45,14 +45,14 @@ fn greater_of(a: u16, b: u16) -> u16
 }
 
 // The level of a gate of a kind, from those of its wires.
-fn level_of(kind: usize, first: u16, second: u16) -> u16
-    requires { ⌜ (first ≤ 4096) × (second ≤ 4096) ⌝ }
-    ensures { λ r. ⌜ r ≡ levelBy kind first second ⌝ }
+fn level_of(kind: usize, a: u16, b: u16) -> u16
+    requires { ⌜ (a ≤ 4096) × (b ≤ 4096) ⌝ }
+    ensures { λ r. ⌜ r ≡ levelBy kind a b ⌝ }
 {
     if kind == 3 {
-        return first;
+        return a;
     }
-    let most = greater_of(first, second);
+    let most = greater_of(a, b);
     if kind == 2 {
         return 1 + most;
     }
@@ -60,22 +60,22 @@ fn level_of(kind: usize, first: u16, second: u16) -> u16
 }
 
 // The greatest level of any wire.
-fn depth_of(source: &[u8], front: Front) -> usize
-    requires { ⌜ HasFront (now source) front ⌝ }
+fn depth_of(source: &[u8], layout: Layout) -> usize
+    requires { ⌜ HasLayout (now source) layout ⌝ }
     ensures { λ r. ⌜ (r ≡ depth (content (now (source .entry)))) × (r ≤ 4096) ⌝ }
 {
-    let inputs = front.inputs;
-    let gates = front.gates;
+    let inputs = layout.inputs;
+    let gates = layout.gates;
     let mut levels = [0u16; 4096];
     let mut most: u16 = 0;
-    let mut at = front.body;
+    let mut at = layout.body;
     let mut i: usize = 0;
     while i < gates {
         let wire = inputs + i;
         let g = known_gate(source, at, wire);
-        let first = g.first;
-        let second = g.second;
-        let level = level_of(g.kind, levels[first], levels[second]);
+        let first_wire = g.first_wire;
+        let second_wire = g.second_wire;
+        let level = level_of(g.kind, levels[first_wire], levels[second_wire]);
         levels[wire] = level;
         most = greater_of(most, level);
         at = g.next;
@@ -88,16 +88,16 @@ fn depth_of(source: &[u8], front: Front) -> usize
 pub fn describe_circuit(source: &[u8]) -> DescribedCircuit
     ensures { λ r. ⌜ descriptionOf r (now (source .exit)) ≡ describeCircuit (now (source .entry)) ⌝ }
 {
-    let opened = read_circuit(source);
-    let Opened::Accepted(front) = opened else {
-        return refusal(refusal_of(opened));
+    let read = read_circuit(source);
+    let Answer::Accepted(layout) = read else {
+        return refusal(circuit_fault(read));
     };
     DescribedCircuit {
         number: 0,
-        inputs: front.inputs,
-        gates: front.gates,
-        outputs: front.outputs,
-        ands: front.ands,
-        rounds: depth_of(source, front) + 1,
+        inputs: layout.inputs,
+        gates: layout.gates,
+        outputs: layout.outputs,
+        ands: layout.ands,
+        rounds: depth_of(source, layout) + 1,
     }
 }

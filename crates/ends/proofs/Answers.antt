@@ -15,7 +15,7 @@ use Rattle.answer.proofs.Faults.{held, broken, given-at-most, given-above, faul
 -- room for a words in one buffer and b words in another, which the code has as m and n
 module _ {Lent : Type 0} (lent after : Lent) (a b x y : ℕ) where
   abbrev rooms : Outcome TwoWritten Lent
-  rooms = answered (a atMost x or bufferShort ∷ b atMost y or bufferShort ∷ []) (refusedTwo lent) (wrote (record { first = a; second = b }) after)
+  rooms = answered (a atMost x or bufferShort ∷ b atMost y or bufferShort ∷ []) (refusedTwo lent) (wrote (record { firstWritten = a; secondWritten = b }) after)
 
   module _ {m : ℕ} (me : m ≡ a) where
     pub first-short : x < m → refusedTwo lent bufferShort ≡ rooms
@@ -26,7 +26,7 @@ module _ {Lent : Type 0} (lent after : Lent) (a b x y : ℕ) where
       second-short k =
           refused-two _ _ bufferShort (fault-later _ _ _ bufferShort (given-at-most a x m me h) (fault-here _ bufferShort _ (given-above b y n ne k))) refl _
 
-      pub both-written : n ≤ y → {l : Lent} → l ≡ after → wrote {Written = TwoWritten} (record { first = m; second = n }) l ≡ rooms
+      pub both-written : n ≤ y → {l : Lent} → l ≡ after → wrote {Written = TwoWritten} (record { firstWritten = m; secondWritten = n }) l ≡ rooms
       both-written k e =
           accepted-now _ _ _ _ (fault-later _ _ _ 0 (given-at-most a x m me h) (fault-later _ _ [] 0 (given-at-most b y n ne k) fault-nowhere)) (cc (me, ne, e))
 

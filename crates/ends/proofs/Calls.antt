@@ -17,10 +17,10 @@ use Rattle.algebra.specs.Sum.{accumulate}
 use Rattle.field.specs.Kind.{kindOf, elementWords}
 use Rattle.number.proofs.Records.{read-refused}
 use Rattle.record.specs.Reading.{readHead, readNoise, readScalar}
-use Rattle.record.specs.Answer.{headOf, opened, frontOf, recordFault}
-use Rattle.record.specs.declared.Front.{Front}
-use Rattle.record.specs.declared.Opened.{Opened}
-use Rattle.record.specs.declared.Opened.the-variants.{Accepted, Fault}
+use Rattle.record.specs.Answer.{headOf, recordRead, headIfWhole, recordFault}
+use Rattle.record.specs.declared.Layout.{Layout}
+use Rattle.record.specs.declared.RecordAnswer.{RecordAnswer}
+use Rattle.record.specs.declared.RecordAnswer.the-variants.{Accepted, Fault}
 use Rattle.aes128.specs.Cipher.{aes}
 use Rattle.algebra.specs.Every.{every}
 use Rattle.algebra.proofs.Every.{every-both}
@@ -64,11 +64,11 @@ front-written C N f l p e = rw (p, e)
 
 -- ---- the noise end
 
-module _ (s : List ℕ) {r : Opened} (opens : opened s r ≡ frontOf (readNoise s) (readHead 1 s)) where
-  pub noise-depth : {f : Front} → r ≡ Accepted f → f .depth ≤ 16
+module _ (s : List ℕ) {r : RecordAnswer} (opens : recordRead s r ≡ headIfWhole (readNoise s) (readHead 1 s)) where
+  pub noise-depth : {f : Layout} → r ≡ Accepted f → f .depth ≤ 16
   noise-depth e = noiseContent.ready s opens e .sizes .depth
 
-  pub noise-sizes : {f : Front} → r ≡ Accepted f → Sizes s (headOf s f) (f .body)
+  pub noise-sizes : {f : Layout} → r ≡ Accepted f → Sizes s (headOf s f) (f .body)
   noise-sizes e = noiseContent.ready s opens e .sizes
 
   module _ (noise v : List ℕ) where
@@ -76,7 +76,7 @@ module _ (s : List ℕ) {r : Opened} (opens : opened s r ≡ frontOf (readNoise 
     unfolding noiseOffline.offline
     noise-fault {j} {k} e q = read-refused _ _ _ _ k (noiseContent.refused-is s opens e q) refl
 
-    module _ {f : Front} (e : r ≡ Accepted f) {size : ℕ} (se : size ≡ 2 ^ f .depth) where
+    module _ {f : Layout} (e : r ≡ Accepted f) {size : ℕ} (se : size ≡ 2 ^ f .depth) where
       pub noise-short : length noise < size → refusedTwo (noiseOffline.offlineWith s noise v) 13 ≡ noiseOffline.offline s noise v
       noise-short h = first-short _ _ _ _ (length noise) (length v) se h ∙ sym (noiseLaws.offline-whole s noise v (noiseContent.ready s opens e .read))
 
@@ -89,7 +89,7 @@ module _ (s : List ℕ) {r : Opened} (opens : opened s r ≡ frontOf (readNoise 
             (accumulate (kindOf (f .field) .field .ring .group) (mu (noiseReady.contentOf s f)))
             → b ≡ flat (kindOf (f .field) .field .elements) (2 ^ f .depth)
             (accumulate (kindOf (f .field) .field .scaled .group) (v0 (noiseReady.contentOf s f)))
-            → wrote {Written = TwoWritten} (record { first = size; second = words }) (noiseOffline.offlineWith s (a ++ drop size noise) (b ++ drop words v))
+            → wrote {Written = TwoWritten} (record { firstWritten = size; secondWritten = words }) (noiseOffline.offlineWith s (a ++ drop size noise) (b ++ drop words v))
             ≡ noiseOffline.offline s noise v
         unfolding noiseOffline.expanded
         noise-expanded k {a} {b} p q =
@@ -99,13 +99,13 @@ module _ (s : List ℕ) {r : Opened} (opens : opened s r ≡ frontOf (readNoise 
             ∙ sym (noiseLaws.offline-whole s noise v (noiseContent.ready s opens e .read))
 
 -- a window of the accumulated vectors
-module _ (s noise v uOut vOut : List ℕ) (first count : ℕ) {r : Opened} (opens : opened s r ≡ frontOf (readNoise s) (readHead 1 s)) where
+module _ (s noise v uOut vOut : List ℕ) (first count : ℕ) {r : RecordAnswer} (opens : recordRead s r ≡ headIfWhole (readNoise s) (readHead 1 s)) where
   pub noise-online-fault : {j k : ℕ} → r ≡ Fault j → k ≡ recordFault r
       → refusedTwo (noiseOnline.lentWith s noise v uOut vOut) k ≡ noiseOnline.online (noiseOnline.lentWith s noise v uOut vOut) first count
   unfolding noiseOnline.online
   noise-online-fault {j} {k} e q = read-refused _ _ _ _ k (noiseContent.refused-is s opens e q) refl
 
-  module _ {f : Front} (e : r ≡ Accepted f) {n : ℕ}
+  module _ {f : Layout} (e : r ≡ Accepted f) {n : ℕ}
       (number : n ≡ firstFault (lengthTests f (length noise) (length v) (record { first = first; count = count }) (length uOut) (length vOut))) where
     abbrev a : Window
     a = record { first = first; count = count }
@@ -153,23 +153,23 @@ module _ (s noise v uOut vOut : List ℕ) (first count : ℕ) {r : Opened} (open
             rw (p, q) (words-refused _ _ _ _ _ _ number refl z (w .told ∙ both-used) g ∙ sym (noiseLaws.online-whole l first count (accepted .read)))
 
         pub noise-written : not t ≡ false → {width : ℕ} → width ≡ elementWords (f .field) → {both : TwoWritten}
-            → both ≡ record { first = count; second = count * width }
+            → both ≡ record { firstWritten = count; secondWritten = count * width }
             → wrote both (noiseOnline.lentWith s noise v x y) ≡ noiseOnline.online (noiseOnline.lentWith s noise v uOut vOut) first count
         unfolding noiseOnline.filled termBlock termBlockBy aes
         noise-written g we be =
             let p : x ≡ uOver (codeKeys (headOf s f)) (rowsOf f a count) noise uOut = w .u-is ∙ rw (not-false t g) in
             let q : y ≡ vOver (codeKeys (headOf s f)) (rowsOf f a count) v vOut = w .v-is ∙ rw (not-false t g) in
             words-written _ _ _ _ _ _ number refl z (w .told ∙ both-used) g
-            (be ∙ λ i. record { first = count; second = count * we i }) (λ i. record { source = s; noise = noise; v = v; uOut = p i; vOut = q i })
+            (be ∙ λ i. record { firstWritten = count; secondWritten = count * we i }) (λ i. record { source = s; noise = noise; v = v; uOut = p i; vOut = q i })
             ∙ sym (noiseLaws.online-whole l first count (accepted .read))
 
 -- ---- the scalar end
 
-module _ (s : List ℕ) {r : Opened} (opens : opened s r ≡ frontOf (readScalar s) (readHead 2 s)) where
-  pub scalar-depth : {f : Front} → r ≡ Accepted f → f .depth ≤ 16
+module _ (s : List ℕ) {r : RecordAnswer} (opens : recordRead s r ≡ headIfWhole (readScalar s) (readHead 2 s)) where
+  pub scalar-depth : {f : Layout} → r ≡ Accepted f → f .depth ≤ 16
   scalar-depth e = scalarContent.ready s opens e .sizes .depth
 
-  pub scalar-sizes : {f : Front} → r ≡ Accepted f → Sizes s (headOf s f) (f .body)
+  pub scalar-sizes : {f : Layout} → r ≡ Accepted f → Sizes s (headOf s f) (f .body)
   scalar-sizes e = scalarContent.ready s opens e .sizes
 
   module _ (w d : List ℕ) where
@@ -177,7 +177,7 @@ module _ (s : List ℕ) {r : Opened} (opens : opened s r ≡ frontOf (readScalar
     unfolding scalarOffline.offline
     scalar-fault {j} {k} e q = read-refused _ _ _ _ k (scalarContent.refused-is s opens e q) refl
 
-    module _ {f : Front} (e : r ≡ Accepted f) {words : ℕ} (we : words ≡ 2 ^ f .depth * elementWords (f .field)) where
+    module _ {f : Layout} (e : r ≡ Accepted f) {words : ℕ} (we : words ≡ 2 ^ f .depth * elementWords (f .field)) where
       pub w-short : length w < words → refusedTwo (scalarOffline.offlineWith s w d) 13 ≡ scalarOffline.offline s w d
       w-short h = first-short _ _ _ _ (length w) (length d) we h ∙ sym (scalarLaws.offline-whole s w d (scalarContent.ready s opens e .read))
 
@@ -189,7 +189,7 @@ module _ (s : List ℕ) {r : Opened} (opens : opened s r ≡ frontOf (readScalar
             → a ≡ flat (kindOf (f .field) .field .elements) (2 ^ f .depth)
             (accumulate (kindOf (f .field) .field .scaled .group) (w0 (scalarReady.contentOf s f)))
             → b ≡ deltaOut (scalarReady.contentOf s f) ++ drop 2 d
-            → wrote {Written = TwoWritten} (record { first = words; second = 2 }) (scalarOffline.offlineWith s (a ++ drop words w) b)
+            → wrote {Written = TwoWritten} (record { firstWritten = words; secondWritten = 2 }) (scalarOffline.offlineWith s (a ++ drop words w) b)
             ≡ scalarOffline.offline s w d
         unfolding scalarOffline.expanded
         scalar-expanded k {a} {b} p q =
@@ -198,13 +198,13 @@ module _ (s : List ℕ) {r : Opened} (opens : opened s r ≡ frontOf (readScalar
             ∙ sym (scalarLaws.offline-whole s w d (scalarContent.ready s opens e .read))
 
 -- a window of the accumulated vector; the code has the tests of the noise too, which it meets
-module _ (s w out : List ℕ) (first count : ℕ) {r : Opened} (opens : opened s r ≡ frontOf (readScalar s) (readHead 2 s)) where
+module _ (s w out : List ℕ) (first count : ℕ) {r : RecordAnswer} (opens : recordRead s r ≡ headIfWhole (readScalar s) (readHead 2 s)) where
   pub scalar-online-fault : {j k : ℕ} → r ≡ Fault j → k ≡ recordFault r
       → refusedOne (scalarOnline.lentWith s w out) k ≡ scalarOnline.online (scalarOnline.lentWith s w out) first count
   unfolding scalarOnline.online
   scalar-online-fault {j} {k} e q = read-refused _ _ _ _ k (scalarContent.refused-is s opens e q) refl
 
-  module _ {f : Front} (e : r ≡ Accepted f) {size : ℕ} (se : size ≡ 2 ^ f .depth) {n : ℕ}
+  module _ {f : Layout} (e : r ≡ Accepted f) {size : ℕ} (se : size ≡ 2 ^ f .depth) {n : ℕ}
       (number : n ≡ firstFault (lengthTests f size (length w) (record { first = first; count = count }) count (length out))) where
     abbrev a′ : Window
     a′ = record { first = first; count = count }

@@ -21,13 +21,13 @@ use Rattle.field.specs.Kind.{kindOf, binaryKind, primeKind, elementWords}
 use Rattle.field.specs.Prime.{prime}
 use Rattle.field.proofs.BothKinds.{kindLaws}
 use Rattle.field.proofs.Words.{put-one}
-use Rattle.number.specs.Reading.{Whole, Refused, Step}
+use Rattle.number.specs.Reading.{Whole, Refused, Parsed}
 use Rattle.number.specs.Inner.Known.{isWhole}
 use Rattle.field.specs.ByNumber.{elementOf}
 use Rattle.record.specs.Content.{NoiseTree, treeIn, siblingCount}
 use Rattle.record.specs.Reading.{items, blockAt, readTree, readTrees}
 use Rattle.record.specs.Inner.Answers.{treeOf}
-use Rattle.record.specs.declared.Front.{Front}
+use Rattle.record.specs.declared.Layout.{Layout}
 use Rattle.record.specs.declared.Tree.{Tree}
 use Rattle.record.proofs.Callers.{again-asks, again-at, tree-ranges}
 use Rattle.tree.specs.Added.{added, leafElement, puncturedElement}
@@ -50,19 +50,19 @@ use Rattle.field.proofs.KindOf.{zero-elements, zero-noise}
 use Rattle.tree.proofs.Sums.{treesSum, length-trees, trees-none, trees-more}
 use Rattle.ends.specs.Noise.Vectors.{value, correction, leaf, mu, v0}
 use Rattle.ends.specs.Scalar.Vectors as scalarVectors
-use Rattle.ends.specs.Inner.Noise.{Ready, TreeRead, beside, treesAt, contentOf}
+use Rattle.ends.specs.Inner.Noise.{Ready, TreeRead, treeSiblings, treesAt, contentOf}
 use Rattle.ends.specs.Inner.Scalar as scalar
 use Rattle.ends.proofs.noise.Content.{trees-at}
 
 -- ---- the trees of either end
 
 -- a buffer after i trees: at each place the sum of their leaves there
-pub record Added (f : Front) (leaf : ℕ → ℕ → Value (kindOf (f .field) .field)) (i : ℕ) (v : List ℕ) : Type 0 where
+pub record Added (f : Layout) (leaf : ℕ → ℕ → Value (kindOf (f .field) .field)) (i : ℕ) (v : List ℕ) : Type 0 where
   pub within : i ≤ f .trees
   pub words : v ≡ treesSum (kindOf (f .field) .field) (2 ^ f .depth) leaf i
   pub size : length v ≡ 2 ^ f .depth * elementWords (f .field)
 
-module _ (f : Front) (leaf : ℕ → ℕ → Value (kindOf (f .field) .field)) where
+module _ (f : Layout) (leaf : ℕ → ℕ → Value (kindOf (f .field) .field)) where
   after : (i : ℕ) → i ≤ f .trees → {v : List ℕ} → v ≡ treesSum (kindOf (f .field) .field) (2 ^ f .depth) leaf i → Added f leaf i v
   after i h e =
       record { within = h; words = e; size = ap length e ∙ length-trees (kindOf (f .field) .field) (kindLaws (f .field) .field) (2 ^ f .depth) leaf i }
@@ -86,17 +86,17 @@ module _ (f : Front) (leaf : ℕ → ℕ → Value (kindOf (f .field) .field)) w
 
 -- ---- the scalar end's
 
-pub root-is : (s : List ℕ) (f : Front) (i : ℕ) → i < f .trees → {width : ℕ} → width ≡ elementWords (f .field) → {root : List (List ℕ)}
+pub root-is : (s : List ℕ) (f : Layout) (i : ℕ) → i < f .trees → {width : ℕ} → width ≡ elementWords (f .field) → {root : List (List ℕ)}
     → root ≡ columnsAt s (f .body + 8 * width + 16 * i) → root ≡ columnsAt (getD (scalar.contentOf s f .roots) i []) 0
 root-is s f i h we e = e ∙ rw we (sym (columns-item s (scalar.rootsAt f) (f .trees) i h))
 
 -- after i trees, under the child keys' round keys
-pub record Rooted (s : List ℕ) (f : Front) (keys : List (List ℕ)) (i : ℕ) (v : List ℕ) : Type 0 where
+pub record Rooted (s : List ℕ) (f : Layout) (keys : List (List ℕ)) (i : ℕ) (v : List ℕ) : Type 0 where
   pub ready : scalar.Ready s f
   pub own : OfChildKeys (2 ^ f .«branch_bits») (keysFor keys)
   pub added : Added f (scalarVectors.leaf (scalar.contentOf s f)) i v
 
-module _ (s : List ℕ) (f : Front) where
+module _ (s : List ℕ) (f : Layout) where
   pub rooted-none : scalar.Ready s f → {keys : List (List ℕ)} → OfChildKeys (2 ^ f .«branch_bits») (keysFor keys)
       → {n : ℕ} → n ≡ 2 ^ f .depth * elementWords (f .field) → {v : List ℕ} → v ≡ replicate n 0 → Rooted s f keys 0 v
   rooted-none ready own size z = record { ready = ready; own = own; added = added-none f (scalarVectors.leaf (scalar.contentOf s f)) size z }
@@ -124,7 +124,7 @@ module _ (s : List ℕ) (f : Front) where
 
 -- ---- a tree of the noise end
 
-pub tree-read : (s : List ℕ) (f : Front) (n place base : ℕ) (t : Tree) → f .depth ≤ 16 → n ≡ beside f → length s < 2 ^ 64
+pub tree-read : (s : List ℕ) (f : Layout) (n place base : ℕ) (t : Tree) → f .depth ≤ 16 → n ≡ treeSiblings f → length s < 2 ^ 64
     → Whole (treeOf s (f .field) n t, t .siblings + 16 * n) ≡ readTree (f .field) (f .depth) n base s place → TreeRead s f n place base t
 tree-read s f n place base t levels count size e =
     let r = tree-ranges (f .field) (f .depth) n base s place (sym e) in
@@ -175,25 +175,25 @@ siblings-columns s place (suc n) = ap₂ (λ (b : List (List ℕ)) (bs : List (L
 -- ---- all its trees
 
 -- the words of the noise after i trees
-unfoldable pub Noise : List ℕ → Front → ℕ → List ℕ
+unfoldable pub Noise : List ℕ → Layout → ℕ → List ℕ
 Noise s f i =
     flat (kindOf (f .field) .field .noiseValues) (2 ^ f .depth)
     (noise (kindOf (f .field) .field .ring) i (λ k. treeIn (treesAt s f) k .position) (value (contentOf s f)))
 
 -- a tree of it
-abbrev puncturedOf : Front → Tree → Punctured
+abbrev puncturedOf : Layout → Tree → Punctured
 puncturedOf f t = record { «branch_bits» = f .«branch_bits»; levels = f .depth / f .«branch_bits»; position = t .position; at = t .siblings }
 
 -- the leaf j of tree i, the correction standing in for the punctured leaf
-abbrev puncturedLeaves : (s : List ℕ) (f : Front) → ℕ → ℕ → Value (kindOf (f .field) .field)
+abbrev puncturedLeaves : (s : List ℕ) (f : Layout) → ℕ → ℕ → Value (kindOf (f .field) .field)
 puncturedLeaves s f i j = choose (eqb (treeIn (treesAt s f) i .position) j) (correction (contentOf s f) i) (leaf (contentOf s f) i j)
 
 -- after i trees of so many siblings, under the child keys' round keys: what is left of the record from a place on, after positions
 -- below `base`, the noise values stored, the trees added
-pub record Grown (s : List ℕ) (f : Front) (keys : List (List ℕ)) (n place base i : ℕ) (w v : List ℕ) : Type 0 where
+pub record Grown (s : List ℕ) (f : Layout) (keys : List (List ℕ)) (n place base i : ℕ) (w v : List ℕ) : Type 0 where
   pub ready : Ready s f
   pub own : OfChildKeys (2 ^ f .«branch_bits») (keysFor keys)
-  pub siblings : n ≡ beside f
+  pub siblings : n ≡ treeSiblings f
   pub few : n ≤ 112
   pub end : ℕ
   pub rest : readTrees (f .field) (f .depth) n (f .trees - i) base s place ≡ Whole (drop i (treesAt s f), end)
@@ -201,7 +201,7 @@ pub record Grown (s : List ℕ) (f : Front) (keys : List (List ℕ)) (n place ba
   pub noise-size : length w ≡ 2 ^ f .depth
   pub added : Added f (puncturedLeaves s f) i v
 
-module _ (s : List ℕ) (f : Front) where
+module _ (s : List ℕ) (f : Layout) where
   length-noise : (i : ℕ) → length (Noise s f i) ≡ 2 ^ f .depth
   unfolding Noise
   length-noise i =
@@ -232,20 +232,20 @@ module _ (s : List ℕ) (f : Front) where
       ∙ put-flat C (kindLaws (f .field) .field .noiseValues) (2 ^ f .depth) g (treeIn (treesAt s f) i .position) (value (contentOf s f) i) (rw (← p) below)
       ∙ ap (λ (n : ℕ). flat C (2 ^ f .depth) (noise R n (λ k. treeIn (treesAt s f) k .position) (value (contentOf s f)))) (sym (add-one i))
 
-  pub all-left : isWhole (readTrees (f .field) (f .depth) (beside f) (f .trees) 0 s (f .body)) ≡ true
-      → (end : ℕ) × (readTrees (f .field) (f .depth) (beside f) (f .trees - 0) 0 s (f .body) ≡ Whole (treesAt s f, end))
-  all-left known = cases (readTrees (f .field) (f .depth) (beside f) (f .trees) 0 s (f .body)) refl known
+  pub all-left : isWhole (readTrees (f .field) (f .depth) (treeSiblings f) (f .trees) 0 s (f .body)) ≡ true
+      → (end : ℕ) × (readTrees (f .field) (f .depth) (treeSiblings f) (f .trees - 0) 0 s (f .body) ≡ Whole (treesAt s f, end))
+  all-left known = cases (readTrees (f .field) (f .depth) (treeSiblings f) (f .trees) 0 s (f .body)) refl known
     where
-      cases : (r : Step (List NoiseTree)) → readTrees (f .field) (f .depth) (beside f) (f .trees) 0 s (f .body) ≡ r → isWhole r ≡ true
-          → (end : ℕ) × (readTrees (f .field) (f .depth) (beside f) (f .trees - 0) 0 s (f .body) ≡ Whole (treesAt s f, end))
+      cases : (r : Parsed (List NoiseTree)) → readTrees (f .field) (f .depth) (treeSiblings f) (f .trees) 0 s (f .body) ≡ r → isWhole r ≡ true
+          → (end : ℕ) × (readTrees (f .field) (f .depth) (treeSiblings f) (f .trees - 0) 0 s (f .body) ≡ Whole (treesAt s f, end))
       cases (Whole z) e k = (
         z .1,
-        ap (λ (n : ℕ). readTrees (f .field) (f .depth) (beside f) n 0 s (f .body)) {x = f .trees - 0} {y = f .trees} (omega arith)
+        ap (λ (n : ℕ). readTrees (f .field) (f .depth) (treeSiblings f) n 0 s (f .body)) {x = f .trees - 0} {y = f .trees} (omega arith)
             ∙ e ∙ ap (λ (l : List NoiseTree). Whole (l, z .1)) (sym (trees-at s f e)),
       )
       cases (Refused m) e k = absurd (false≢true k)
 
-  pub grown-none : Ready s f → {keys : List (List ℕ)} → OfChildKeys (2 ^ f .«branch_bits») (keysFor keys) → {k : ℕ} → (k ≡ beside f) × (k ≤ 112)
+  pub grown-none : Ready s f → {keys : List (List ℕ)} → OfChildKeys (2 ^ f .«branch_bits») (keysFor keys) → {k : ℕ} → (k ≡ treeSiblings f) × (k ≤ 112)
       → {n m : ℕ} → n ≡ 2 ^ f .depth → m ≡ 2 ^ f .depth * elementWords (f .field)
       → {w v : List ℕ} → w ≡ replicate n 0 → v ≡ replicate m 0 → Grown s f keys k (f .body) 0 0 w v
   grown-none ready own {k} count values size wz vz =
@@ -289,7 +289,7 @@ module _ (s : List ℕ) (f : Front) where
           noise = z;
           noise-size = ap length z ∙ length-noise (i + 1);
           added = added-more f (puncturedLeaves s f) (g .added) more (g .ready .sizes .divides)
-              (puncturedElement (K .leaf) k child [] (siblingsAt s (t .siblings) (beside f)) d (t .position) c)
+              (puncturedElement (K .leaf) k child [] (siblingsAt s (t .siblings) (treeSiblings f)) d (t .position) c)
               (q ∙ punctured-by k (keysFor keys) (pow-pos (f .«branch_bits»)) (g .own) K (kindLaws (f .field) .field) (puncturedOf f t) s c v)
               (λ j b.
               ap₂ (λ (x : Value (K .field)) (xs : List (List (List ℕ))).

@@ -10,9 +10,9 @@ use answer::NOT_ELEMENT;
 use answer::TwoLengths;
 use code::Window;
 use field::element_width;
-use record::Opened;
-use record::fault_of;
+use record::RecordAnswer;
 use record::leaves;
+use record::record_fault;
 use record_reading::read_noise;
 use window::vector_words;
 use window::window_number;
@@ -24,14 +24,14 @@ pub fn offline(source: &[u8], noise: &mut [u64], v: &mut [u64]) -> TwoLengths
         ≡ offline (now (source .entry)) (now (noise .entry)) (now (v .entry)) ⌝ }
 {
     let r = read_noise(source);
-    let Opened::Accepted(front) = r else {
+    let RecordAnswer::Accepted(layout) = r else {
         return TwoLengths {
-            number: fault_of(r),
+            number: record_fault(r),
             first_written: 0,
             second_written: 0,
         };
     };
-    let size = leaves(front.depth);
+    let size = leaves(layout.depth);
     if noise.len() < size {
         return TwoLengths {
             number: BUFFER_SHORT,
@@ -39,7 +39,7 @@ pub fn offline(source: &[u8], noise: &mut [u64], v: &mut [u64]) -> TwoLengths
             second_written: 0,
         };
     }
-    let words = vector_words(front);
+    let words = vector_words(layout);
     if v.len() < words {
         return TwoLengths {
             number: BUFFER_SHORT,
@@ -47,7 +47,7 @@ pub fn offline(source: &[u8], noise: &mut [u64], v: &mut [u64]) -> TwoLengths
             second_written: 0,
         };
     }
-    write_accumulated(source, front, &mut noise[..size], &mut v[..words]);
+    write_accumulated(source, layout, &mut noise[..size], &mut v[..words]);
     TwoLengths {
         number: 0,
         first_written: size,
@@ -69,16 +69,16 @@ pub fn online(
         ≡ online (lentWith (now (source .entry)) (now (noise .entry)) (now (v .entry)) (now («u_out» .entry)) (now («v_out» .entry))) first count ⌝ }
 {
     let r = read_noise(source);
-    let Opened::Accepted(front) = r else {
+    let RecordAnswer::Accepted(layout) = r else {
         return TwoLengths {
-            number: fault_of(r),
+            number: record_fault(r),
             first_written: 0,
             second_written: 0,
         };
     };
     let window = Window { first, count };
     let number = window_number(
-        front,
+        layout,
         noise.len(),
         v.len(),
         window,
@@ -92,7 +92,7 @@ pub fn online(
             second_written: 0,
         };
     }
-    if !write_rows(source, front, window, count, noise, v, u_out, v_out) {
+    if !write_rows(source, layout, window, count, noise, v, u_out, v_out) {
         return TwoLengths {
             number: NOT_ELEMENT,
             first_written: 0,
@@ -102,6 +102,6 @@ pub fn online(
     TwoLengths {
         number: 0,
         first_written: count,
-        second_written: count * element_width(front.field),
+        second_written: count * element_width(layout.field),
     }
 }

@@ -11,9 +11,9 @@ use answer::OneLength;
 use answer::TwoLengths;
 use code::Window;
 use field::element_width;
-use record::Opened;
-use record::fault_of;
+use record::RecordAnswer;
 use record::leaves;
+use record::record_fault;
 use record_reading::read_scalar;
 use window::vector_words;
 use window::window_number;
@@ -25,14 +25,14 @@ pub fn offline(source: &[u8], w: &mut [u64], delta: &mut [u64]) -> TwoLengths
         ≡ offline (now (source .entry)) (now (w .entry)) (now (delta .entry)) ⌝ }
 {
     let r = read_scalar(source);
-    let Opened::Accepted(front) = r else {
+    let RecordAnswer::Accepted(layout) = r else {
         return TwoLengths {
-            number: fault_of(r),
+            number: record_fault(r),
             first_written: 0,
             second_written: 0,
         };
     };
-    let words = vector_words(front);
+    let words = vector_words(layout);
     if w.len() < words {
         return TwoLengths {
             number: BUFFER_SHORT,
@@ -47,8 +47,8 @@ pub fn offline(source: &[u8], w: &mut [u64], delta: &mut [u64]) -> TwoLengths
             second_written: 0,
         };
     }
-    write_accumulated(source, front, &mut w[..words]);
-    write_delta(source, front, delta);
+    write_accumulated(source, layout, &mut w[..words]);
+    write_delta(source, layout, delta);
     TwoLengths {
         number: 0,
         first_written: words,
@@ -62,16 +62,16 @@ pub fn online(source: &[u8], w: &[u64], first: usize, count: usize, w_out: &mut 
         ≡ online (lentWith (now (source .entry)) (now (w .entry)) (now («w_out» .entry))) first count ⌝ }
 {
     let r = read_scalar(source);
-    let Opened::Accepted(front) = r else {
+    let RecordAnswer::Accepted(layout) = r else {
         return OneLength {
-            number: fault_of(r),
+            number: record_fault(r),
             written: 0,
         };
     };
     let window = Window { first, count };
     let number = window_number(
-        front,
-        leaves(front.depth),
+        layout,
+        leaves(layout.depth),
         w.len(),
         window,
         count,
@@ -83,9 +83,9 @@ pub fn online(source: &[u8], w: &[u64], first: usize, count: usize, w_out: &mut 
             written: 0,
         };
     }
-    let words = count * element_width(front.field);
+    let words = count * element_width(layout.field);
     let mut no_u = [0u64; 1];
-    if !write_rows(source, front, window, 0, w, w, &mut no_u, w_out) {
+    if !write_rows(source, layout, window, 0, w, w, &mut no_u, w_out) {
         return OneLength {
             number: NOT_ELEMENT,
             written: 0,

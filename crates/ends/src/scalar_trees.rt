@@ -14,38 +14,41 @@ use field::element_width;
 use field::word_at;
 use fill::add_leaves;
 use fill::zero_words;
-use record::Front;
+use record::Layout;
 use record::leaves;
 use tree_walk::child_keys;
 use tree_walk::columns_at;
 
 // Root i of an accepted record.
-fn root_at(source: &[u8], front: Front, i: usize) -> [[u8; 4]; 4]
-    requires { ⌜ Ready (now source) front × (i < front .trees) ⌝ }
-    ensures { λ r. ⌜ r ≡ columnsAt (getD (contentOf (now (source .entry)) front .roots) i []) 0 ⌝ }
+fn root_at(source: &[u8], layout: Layout, i: usize) -> [[u8; 4]; 4]
+    requires { ⌜ Ready (now source) layout × (i < layout .trees) ⌝ }
+    ensures { λ r. ⌜ r ≡ columnsAt (getD (contentOf (now (source .entry)) layout .roots) i []) 0 ⌝ }
 {
-    columns_at(source, front.body + 8 * element_width(front.field) + 16 * i)
+    columns_at(
+        source,
+        layout.body + 8 * element_width(layout.field) + 16 * i,
+    )
 }
 
 // Writes w0: the leaves of all trees, of 2^g children a node (document 02, 10).
-fn write_trees(source: &[u8], front: Front, w: &mut [u64])
-    requires { ⌜ Ready (now source) front × (length (now w) ≡ 2 ^ front .depth * elementWords (front .field)) ⌝ }
-    ensures { λ _. ⌜ now (w .exit) ≡ flat (kindOf (front .field) .field .elements) (2 ^ front .depth) (w0 (contentOf (now (source .entry)) front)) ⌝ }
+fn write_trees(source: &[u8], layout: Layout, w: &mut [u64])
+    requires { ⌜ Ready (now source) layout × (length (now w) ≡ 2 ^ layout .depth * elementWords (layout .field)) ⌝ }
+    ensures { λ _. ⌜ now (w .exit) ≡ flat (kindOf (layout .field) .field .elements) (2 ^ layout .depth) (w0 (contentOf (now (source .entry)) layout)) ⌝ }
 {
     let sb = sbox::table();
     let mut tables = [0u64; 1536];
     sbox::fill_tables(&mut tables);
-    let keys = child_keys(&sb, front.branch_bits);
+    let keys = child_keys(&sb, layout.branch_bits);
     zero_words(w);
     let mut i: usize = 0;
-    while i < front.trees {
-        let root = root_at(source, front, i);
-        let levels = front.depth / front.branch_bits;
+    while i < layout.trees {
+        let root = root_at(source, layout, i);
+        let levels = layout.depth / layout.branch_bits;
         add_leaves(
             &tables,
             &keys,
-            front.field,
-            front.branch_bits,
+            layout.field,
+            layout.branch_bits,
             levels,
             root,
             w,
@@ -55,23 +58,23 @@ fn write_trees(source: &[u8], front: Front, w: &mut [u64])
 }
 
 // Writes the accumulated w0.
-pub fn write_accumulated(source: &[u8], front: Front, w: &mut [u64])
-    requires { ⌜ Ready (now source) front × (length (now w) ≡ 2 ^ front .depth * elementWords (front .field)) ⌝ }
-    ensures { λ _. ⌜ now (w .exit) ≡ flat (kindOf (front .field) .field .elements) (2 ^ front .depth)
-        (accumulate (kindOf (front .field) .field .scaled .group) (w0 (contentOf (now (source .entry)) front))) ⌝ }
+pub fn write_accumulated(source: &[u8], layout: Layout, w: &mut [u64])
+    requires { ⌜ Ready (now source) layout × (length (now w) ≡ 2 ^ layout .depth * elementWords (layout .field)) ⌝ }
+    ensures { λ _. ⌜ now (w .exit) ≡ flat (kindOf (layout .field) .field .elements) (2 ^ layout .depth)
+        (accumulate (kindOf (layout .field) .field .scaled .group) (w0 (contentOf (now (source .entry)) layout))) ⌝ }
 {
-    write_trees(source, front, w);
-    accumulate_elements(front.field, leaves(front.depth), w);
+    write_trees(source, layout, w);
+    accumulate_elements(layout.field, leaves(layout.depth), w);
 }
 
 // Writes the two words of Δ of an accepted record.
-pub fn write_delta(source: &[u8], front: Front, delta: &mut [u64])
-    requires { ⌜ Ready (now source) front × (2 ≤ length (now delta)) ⌝ }
-    ensures { λ _. ⌜ now (delta .exit) ≡ deltaOut (contentOf (now (source .entry)) front) ++ drop 2 (now (delta .entry)) ⌝ }
+pub fn write_delta(source: &[u8], layout: Layout, delta: &mut [u64])
+    requires { ⌜ Ready (now source) layout × (2 ≤ length (now delta)) ⌝ }
+    ensures { λ _. ⌜ now (delta .exit) ≡ deltaOut (contentOf (now (source .entry)) layout) ++ drop 2 (now (delta .entry)) ⌝ }
 {
-    delta[0] = word_at(source, front.body);
-    if front.field == 1 {
-        delta[1] = word_at(source, front.body + 8);
+    delta[0] = word_at(source, layout.body);
+    if layout.field == 1 {
+        delta[1] = word_at(source, layout.body + 8);
     } else {
         delta[1] = 0;
     }

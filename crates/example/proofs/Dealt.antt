@@ -7,7 +7,7 @@ use Rattle.algebra.specs.Expansion.{rising}
 use Rattle.field.specs.Bytes.{leNumber, leBytes, wordAt}
 use Rattle.number.specs.Number.{writeNumber}
 use Rattle.record.specs.Writing as writing
-use Rattle.record.specs.Writing.{writeHead, writeFront, writeTree, writeTrees, writeNoise, writeScalar}
+use Rattle.record.specs.Writing.{writeHead, writeTreeStart, writeTree, writeTrees, writeNoise, writeScalar}
 use Rattle.tree.specs.Columns.{columnsBytes}
 use Rattle.tree.specs.Tree.{path, listed, others, beside, siblings}
 use Rattle.dealing.proofs.Laws.{deal-number}
@@ -20,21 +20,21 @@ use Rattle.dealing.specs.Parts.{noiseTree}
 use Rattle.example.specs.Worked.{binaryInput, primeInput, secondInput}
 
 pub binary-dealt : deal binaryInput (replicate 256 0) (replicate 256 0) .number ≡ 0
-unfolding rising every leNumber leBytes wordAt writeNumber writing.writeEach writeHead writeFront writeTree writeTrees writeNoise writeScalar columnsBytes path listed others beside siblings deal answered byNumber firstFault isMet positionsAdmitted deltaAdmitted noiseTree
+unfolding rising every leNumber leBytes wordAt writeNumber writing.writeEach writeHead writeTreeStart writeTree writeTrees writeNoise writeScalar columnsBytes path listed others beside siblings deal answered byNumber firstFault isMet positionsAdmitted deltaAdmitted noiseTree
 binary-dealt = refl
 
 pub binary-admitted : Admitted binaryInput
 binary-admitted = deal-number binaryInput (replicate 256 0) (replicate 256 0) binary-dealt .admitted
 
 pub prime-dealt : deal primeInput (replicate 256 0) (replicate 256 0) .number ≡ 0
-unfolding rising every leNumber leBytes wordAt writeNumber writing.writeEach writeHead writeFront writeTree writeTrees writeNoise writeScalar columnsBytes path listed others beside siblings deal answered byNumber firstFault isMet positionsAdmitted deltaAdmitted noiseTree
+unfolding rising every leNumber leBytes wordAt writeNumber writing.writeEach writeHead writeTreeStart writeTree writeTrees writeNoise writeScalar columnsBytes path listed others beside siblings deal answered byNumber firstFault isMet positionsAdmitted deltaAdmitted noiseTree
 prime-dealt = refl
 
 pub prime-admitted : Admitted primeInput
 prime-admitted = deal-number primeInput (replicate 256 0) (replicate 256 0) prime-dealt .admitted
 
 pub second-dealt : deal secondInput (replicate 256 0) (replicate 256 0) .number ≡ 0
-unfolding rising every leNumber leBytes wordAt writeNumber writing.writeEach writeHead writeFront writeTree writeTrees writeNoise writeScalar columnsBytes path listed others beside siblings deal answered byNumber firstFault isMet positionsAdmitted deltaAdmitted noiseTree
+unfolding rising every leNumber leBytes wordAt writeNumber writing.writeEach writeHead writeTreeStart writeTree writeTrees writeNoise writeScalar columnsBytes path listed others beside siblings deal answered byNumber firstFault isMet positionsAdmitted deltaAdmitted noiseTree
 second-dealt = refl
 
 pub second-admitted : Admitted secondInput

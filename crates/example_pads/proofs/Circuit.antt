@@ -16,12 +16,12 @@ use Rattle.triples.specs.Call.{triples}
 use Rattle.triples.specs.Triple.{tripleFrom, tripleOf}
 use Rattle.circuit.specs.Content.{andsIn}
 use Rattle.circuit.specs.Reading.{readWithin, readWire, readGate, readGates, readWires, readCircuit}
-use Rattle.circuit_run.specs.Step.{freshWires, flipped, runOn, maskedFirst, maskedSecond, andShare, waitingShare, withAnd, stepRun, withOutputs, acceptedStep, step}
-use Rattle.evaluation.specs.Evaluation.{combined, Own, Receives, Ends}
-use Rattle.evaluation.specs.Calls.{acceptedCalls}
-use Rattle.evaluation.specs.Runs.{fresh, StepMade, runOf, IsStep}
-use Rattle.dealt_pads.proofs.CircuitRuns.{circuits}
-use Rattle.dealt_pads.specs.Formed.{GatheredAt}
+use Rattle.circuit_run.specs.Step.{freshWires, flipped, runOn, maskedFirst, maskedSecond, andShare, waitingShare, withAnd, stateAfter, withOutputs, acceptedStep, step}
+use Rattle.circuit_claims.specs.Evaluation.{combined, Own, Receives, Ends}
+use Rattle.circuit_claims.specs.Calls.{acceptedCalls}
+use Rattle.circuit_claims.specs.Runs.{fresh, StepMade, stepsOf, IsStep}
+use Rattle.pad_claims.proofs.CircuitRuns.{circuits}
+use Rattle.pad_claims.specs.Formed.{GatheredAt}
 use Rattle.example_pads.specs.Triples.{lent₁, lent₂}
 use Rattle.example_pads.specs.Circuit.{circuit, circuitBytes, shares₁, shares₂, triple₁, triple₂, step₁, step₂, calls₁, calls₂, Finished, CircuitExample}
 use Rattle.example_pads.proofs.Triples.{formed}
@@ -59,16 +59,16 @@ made₂ = record { got = step₂ 2 0 0; gave = step (step₂ 2 0 0) fresh }
 last₂ : StepMade
 last₂ = record { got = step₂ 2 0 0; gave = step (step₂ 2 0 0) (made₂ .gave .state) }
 
-run₁ : runOf calls₁ ≡ made₁ ∷ last₁ ∷ []
-unfolding readWithin readWire readGate readGates readWires readCircuit tested readByte readNumber lastGroup andsIn anyAbove isMet firstFault freshWires flipped runOn maskedFirst maskedSecond andShare waitingShare withAnd stepRun withOutputs acceptedStep byNumber answered afterReading step fresh acceptedCalls made₁ last₁
+run₁ : stepsOf calls₁ ≡ made₁ ∷ last₁ ∷ []
+unfolding readWithin readWire readGate readGates readWires readCircuit tested readByte readNumber lastGroup andsIn anyAbove isMet firstFault freshWires flipped runOn maskedFirst maskedSecond andShare waitingShare withAnd stateAfter withOutputs acceptedStep byNumber answered afterReading step fresh acceptedCalls made₁ last₁
 run₁ = refl
 
-run₂ : runOf calls₂ ≡ made₂ ∷ last₂ ∷ []
-unfolding readWithin readWire readGate readGates readWires readCircuit tested readByte readNumber lastGroup andsIn anyAbove isMet firstFault freshWires flipped runOn maskedFirst maskedSecond andShare waitingShare withAnd stepRun withOutputs acceptedStep byNumber answered afterReading step fresh acceptedCalls made₂ last₂
+run₂ : stepsOf calls₂ ≡ made₂ ∷ last₂ ∷ []
+unfolding readWithin readWire readGate readGates readWires readCircuit tested readByte readNumber lastGroup andsIn anyAbove isMet firstFault freshWires flipped runOn maskedFirst maskedSecond andShare waitingShare withAnd stateAfter withOutputs acceptedStep byNumber answered afterReading step fresh acceptedCalls made₂ last₂
 run₂ = refl
 
-ends : Ends circuitBytes shares₁ triple₁ shares₂ triple₂ (runOf calls₁) (runOf calls₂)
-unfolding readWithin readWire readGate readGates readWires readCircuit tested readByte readNumber lastGroup andsIn anyAbove isMet firstFault freshWires flipped runOn maskedFirst maskedSecond andShare waitingShare withAnd stepRun withOutputs acceptedStep byNumber answered afterReading step fresh acceptedCalls made₁ last₁ made₂ last₂
+ends : Ends circuitBytes shares₁ triple₁ shares₂ triple₂ (stepsOf calls₁) (stepsOf calls₂)
+unfolding readWithin readWire readGate readGates readWires readCircuit tested readByte readNumber lastGroup andsIn anyAbove isMet firstFault freshWires flipped runOn maskedFirst maskedSecond andShare waitingShare withAnd stateAfter withOutputs acceptedStep byNumber answered afterReading step fresh acceptedCalls made₁ last₁ made₂ last₂
 ends =
     rw (run₁, run₂)
     (record {
@@ -83,11 +83,11 @@ ends =
     })
 
 finished₁ : Finished calls₁ (0 ∷ 0 ∷ [])
-unfolding readWithin readWire readGate readGates readWires readCircuit tested readByte readNumber lastGroup andsIn anyAbove isMet firstFault freshWires flipped runOn maskedFirst maskedSecond andShare waitingShare withAnd stepRun withOutputs acceptedStep byNumber answered afterReading step fresh acceptedCalls made₁ last₁
+unfolding readWithin readWire readGate readGates readWires readCircuit tested readByte readNumber lastGroup andsIn anyAbove isMet firstFault freshWires flipped runOn maskedFirst maskedSecond andShare waitingShare withAnd stateAfter withOutputs acceptedStep byNumber answered afterReading step fresh acceptedCalls made₁ last₁
 finished₁ = record { made = last₁; step = ap (λ (l : List StepMade). getElem? l 1) run₁; phase = refl; written = refl }
 
 finished₂ : Finished calls₂ (0 ∷ 1 ∷ [])
-unfolding readWithin readWire readGate readGates readWires readCircuit tested readByte readNumber lastGroup andsIn anyAbove isMet firstFault freshWires flipped runOn maskedFirst maskedSecond andShare waitingShare withAnd stepRun withOutputs acceptedStep byNumber answered afterReading step fresh acceptedCalls made₂ last₂
+unfolding readWithin readWire readGate readGates readWires readCircuit tested readByte readNumber lastGroup andsIn anyAbove isMet firstFault freshWires flipped runOn maskedFirst maskedSecond andShare waitingShare withAnd stateAfter withOutputs acceptedStep byNumber answered afterReading step fresh acceptedCalls made₂ last₂
 finished₂ = record { made = last₂; step = ap (λ (l : List StepMade). getElem? l 1) run₂; phase = refl; written = refl }
 
 -- the circuit's one AND takes triple 0, which is the triple at place 1 of both calls

@@ -4,16 +4,16 @@ use Prim.Native.Nat.{ℕ, zero, suc, _<_}
 use native.Mathlib.Omega.{arith}
 use lib.Dec.{lit≤}
 use Rattle.algebra.specs.Coding.{flat, over}
-use Rattle.answer.specs.Bytes.{anyAbove, Bits}
+use Rattle.answer.specs.Bytes.{anyAbove, AreBits}
 use Rattle.answer.specs.Outcome.{byNumber, answered}
 use Rattle.answer.specs.Tests.{isMet, firstFault}
 use Rattle.messages.specs.Calls.{correctionBits, answerOf, maskMessages, openedOf, unmaskMessages}
 use Rattle.messages.specs.Opening.{BatchFits}
-use Rattle.dealt_pads.proofs.Messages.{messages}
+use Rattle.pad_claims.proofs.Messages.{messages}
 use Rattle.example_pads.specs.Messages.{batch, MessagesExample}
 use Rattle.example_pads.proofs.Pads.{firstDealing, first-taken}
 
-wanted-bits : Bits 2 (batch .wanted)
+wanted-bits : AreBits 2 (batch .wanted)
 wanted-bits zero h = lit≤ tt
 wanted-bits (suc zero) h = lit≤ tt
 wanted-bits (suc (suc k)) h = absurd (omega arith)

@@ -17,11 +17,11 @@ use Rattle.field.specs.Bytes.{leBytes, leNumber, wordAt, columnsOf, lowOf, high
 use Rattle.record.specs.Writing as writing
 use Rattle.record.specs.Writing.{writeWords}
 use Rattle.pads.specs.Calls.{lentNoise, lentScalar, noisePadsBy, scalarPadsBy, noisePads, scalarPads}
-use Rattle.pads.specs.Choice.{padAt, messageAt}
-use Rattle.pads.specs.Pad.{padKey, messagePair}
+use Rattle.pads.specs.Choice.{padAt, oneOfTwoAt}
+use Rattle.pads.specs.Pad.{padKey, padPair}
 use Rattle.claims.proofs.Entire.{pads}
 use Rattle.claims.specs.Correlation.{PadsLent}
-use Rattle.dealt_pads.specs.Taken.{Dealing, TakenAt}
+use Rattle.pad_claims.specs.Taken.{Dealing, TakenAt}
 use Rattle.by_table.proofs.Cipher.{looked, lookedFrom, mixBy, subBy, roundBy, roundsBy, cipherBy, tempBy, wordsBy, lookedCipher, lookedWords, lookedKeys}
 use Rattle.by_table.proofs.Made.{lookedAes, lookedUnder, padBy, lookedPad, pad-looked}
 use Rattle.example.proofs.Dealt.{binary-dealt, second-dealt}
@@ -44,14 +44,14 @@ module _ (D : Dealing) (N : Numbers) (noise scalar : List ℕ)
     (lent : (x : ℕ) → x < 2 → PadsLent (D .input) x 0 (writeWords (N .vs)) (N .us) 0 (writeWords (N .ws)) (D .input .delta))
     (outputs : D .input .outputs ≡ 2) where
   -- the pad that the choice names, by `Pads`
-  named : (x : ℕ) → x < 2 → padAt noise 0 x ≡ messageAt scalar 0 x (getD (N .us) x 0)
+  named : (x : ℕ) → x < 2 → padAt noise 0 x ≡ oneOfTwoAt scalar 0 x (getD (N .us) x 0)
   named x h =
       ap (λ o. padAt (o .lent .pads) 0 x) (sym noise-call)
       ∙ pads (D .input) (D .binary) (D .noiseRecord) (D .scalarRecord) (D .dealt)
       0 2 (writeWords (N .vs)) (N .us) (replicate 32 0) (ap (λ o. o .number) noise-call)
       0 2 (writeWords (N .ws)) (D .input .delta) (replicate 64 0) (ap (λ o. o .number) scalar-call)
       x (rw outputs h) (omega arith, omega arith) (omega arith, omega arith) (lent x h)
-      ∙ ap₂ (λ o (i : ℕ). messageAt (o .lent .pads) 0 x (getD (N .us) i 0)) scalar-call (sub-zero x)
+      ∙ ap₂ (λ o (i : ℕ). oneOfTwoAt (o .lent .pads) 0 x (getD (N .us) i 0)) scalar-call (sub-zero x)
 
   -- what is taken for place x is that of output x
   taken : (x : ℕ) → x < 2 → TakenAt D (N .us) noise scalar x
@@ -76,19 +76,19 @@ module _ (D : Dealing) (N : Numbers) (noise scalar : List ℕ)
         lent = lent x h;
         choice = rw (sub-zero x) at (lent x h .u-lent);
         pad = ap (λ o. padAt (o .lent .pads) 0 x) (sym noise-call);
-        both = λ bit b. ap (λ o. messageAt (o .lent .pads) 0 x bit) (sym scalar-call);
+        both = λ bit b. ap (λ o. oneOfTwoAt (o .lent .pads) 0 x bit) (sym scalar-call);
       }
 
 -- ---- the first dealing
 
 first-noise : noisePads 0 2 (writeWords (binaryNumbers .vs)) (binaryNumbers .us) (replicate 32 0)
     ≡ wrote tt (lentNoise (writeWords (binaryNumbers .vs)) (binaryNumbers .us) firstNoise)
-unfolding looked lookedFrom mixBy subBy roundBy roundsBy cipherBy tempBy wordsBy lookedCipher lookedWords lookedKeys lookedAes lookedUnder padBy lookedPad xtime xorWord xorState shiftRows power keysOf leBytes leNumber wordAt columnsOf lowOf highOf padKey writing.writeEach flat over anyAbove isMet firstFault byNumber answered noisePadsBy scalarPadsBy messagePair
+unfolding looked lookedFrom mixBy subBy roundBy roundsBy cipherBy tempBy wordsBy lookedCipher lookedWords lookedKeys lookedAes lookedUnder padBy lookedPad xtime xorWord xorState shiftRows power keysOf leBytes leNumber wordAt columnsOf lowOf highOf padKey writing.writeEach flat over anyAbove isMet firstFault byNumber answered noisePadsBy scalarPadsBy padPair
 first-noise = ap (λ rule. noisePadsBy rule 0 2 (writeWords (binaryNumbers .vs)) (binaryNumbers .us) (replicate 32 0)) pad-looked
 
 first-scalar : scalarPads 0 2 (writeWords (binaryNumbers .ws)) (binaryInput .delta) (replicate 64 0)
     ≡ wrote tt (lentScalar (writeWords (binaryNumbers .ws)) (binaryInput .delta) firstScalar)
-unfolding looked lookedFrom mixBy subBy roundBy roundsBy cipherBy tempBy wordsBy lookedCipher lookedWords lookedKeys lookedAes lookedUnder padBy lookedPad xtime xorWord xorState shiftRows power keysOf leBytes leNumber wordAt columnsOf lowOf highOf padKey writing.writeEach flat over anyAbove isMet firstFault byNumber answered noisePadsBy scalarPadsBy messagePair
+unfolding looked lookedFrom mixBy subBy roundBy roundsBy cipherBy tempBy wordsBy lookedCipher lookedWords lookedKeys lookedAes lookedUnder padBy lookedPad xtime xorWord xorState shiftRows power keysOf leBytes leNumber wordAt columnsOf lowOf highOf padKey writing.writeEach flat over anyAbove isMet firstFault byNumber answered noisePadsBy scalarPadsBy padPair
 first-scalar = ap (λ rule. scalarPadsBy rule 0 2 (writeWords (binaryNumbers .ws)) (binaryInput .delta) (replicate 64 0)) pad-looked
 
 first-lent : (x : ℕ) → x < 2
@@ -110,7 +110,7 @@ first-lent (suc zero) h =
     }
 first-lent (suc (suc x)) h = absurd (omega arith)
 
-first-apart : (x : ℕ) → x < 2 → padAt firstNoise 0 x ≡ messageAt firstScalar 0 x (1 - getD (binaryNumbers .us) x 0) → ⊥
+first-apart : (x : ℕ) → x < 2 → padAt firstNoise 0 x ≡ oneOfTwoAt firstScalar 0 x (1 - getD (binaryNumbers .us) x 0) → ⊥
 first-apart zero h e = eqb-false _ _ refl (ap (λ (l : List ℕ). getD l 0 0) e)
 first-apart (suc zero) h e = eqb-false _ _ refl (ap (λ (l : List ℕ). getD l 0 0) e)
 first-apart (suc (suc x)) h e = absurd (omega arith)
@@ -122,12 +122,12 @@ first-taken = taken firstDealing binaryNumbers firstNoise firstScalar first-nois
 
 second-noise : noisePads 0 2 (writeWords (secondNumbers .vs)) (secondNumbers .us) (replicate 32 0)
     ≡ wrote tt (lentNoise (writeWords (secondNumbers .vs)) (secondNumbers .us) secondNoise)
-unfolding looked lookedFrom mixBy subBy roundBy roundsBy cipherBy tempBy wordsBy lookedCipher lookedWords lookedKeys lookedAes lookedUnder padBy lookedPad xtime xorWord xorState shiftRows power keysOf leBytes leNumber wordAt columnsOf lowOf highOf padKey writing.writeEach flat over anyAbove isMet firstFault byNumber answered noisePadsBy scalarPadsBy messagePair
+unfolding looked lookedFrom mixBy subBy roundBy roundsBy cipherBy tempBy wordsBy lookedCipher lookedWords lookedKeys lookedAes lookedUnder padBy lookedPad xtime xorWord xorState shiftRows power keysOf leBytes leNumber wordAt columnsOf lowOf highOf padKey writing.writeEach flat over anyAbove isMet firstFault byNumber answered noisePadsBy scalarPadsBy padPair
 second-noise = ap (λ rule. noisePadsBy rule 0 2 (writeWords (secondNumbers .vs)) (secondNumbers .us) (replicate 32 0)) pad-looked
 
 second-scalar : scalarPads 0 2 (writeWords (secondNumbers .ws)) (secondInput .delta) (replicate 64 0)
     ≡ wrote tt (lentScalar (writeWords (secondNumbers .ws)) (secondInput .delta) secondScalar)
-unfolding looked lookedFrom mixBy subBy roundBy roundsBy cipherBy tempBy wordsBy lookedCipher lookedWords lookedKeys lookedAes lookedUnder padBy lookedPad xtime xorWord xorState shiftRows power keysOf leBytes leNumber wordAt columnsOf lowOf highOf padKey writing.writeEach flat over anyAbove isMet firstFault byNumber answered noisePadsBy scalarPadsBy messagePair
+unfolding looked lookedFrom mixBy subBy roundBy roundsBy cipherBy tempBy wordsBy lookedCipher lookedWords lookedKeys lookedAes lookedUnder padBy lookedPad xtime xorWord xorState shiftRows power keysOf leBytes leNumber wordAt columnsOf lowOf highOf padKey writing.writeEach flat over anyAbove isMet firstFault byNumber answered noisePadsBy scalarPadsBy padPair
 second-scalar = ap (λ rule. scalarPadsBy rule 0 2 (writeWords (secondNumbers .ws)) (secondInput .delta) (replicate 64 0)) pad-looked
 
 second-lent : (x : ℕ) → x < 2
@@ -149,7 +149,7 @@ second-lent (suc zero) h =
     }
 second-lent (suc (suc x)) h = absurd (omega arith)
 
-second-apart : (x : ℕ) → x < 2 → padAt secondNoise 0 x ≡ messageAt secondScalar 0 x (1 - getD (secondNumbers .us) x 0) → ⊥
+second-apart : (x : ℕ) → x < 2 → padAt secondNoise 0 x ≡ oneOfTwoAt secondScalar 0 x (1 - getD (secondNumbers .us) x 0) → ⊥
 second-apart zero h e = eqb-false _ _ refl (ap (λ (l : List ℕ). getD l 0 0) e)
 second-apart (suc zero) h e = eqb-false _ _ refl (ap (λ (l : List ℕ). getD l 0 0) e)
 second-apart (suc (suc x)) h e = absurd (omega arith)
@@ -160,7 +160,7 @@ second-taken = taken secondDealing secondNumbers secondNoise secondScalar second
 pub pads-example : PadsExample
 pads-example =
     record {
-      first =
+      first-dealing =
           record {
             dealing = firstDealing;
             input = refl;
@@ -170,7 +170,7 @@ pads-example =
             named = named firstDealing binaryNumbers firstNoise firstScalar first-noise first-scalar first-lent refl;
             apart = first-apart;
           };
-      second =
+      second-dealing =
           record {
             dealing = secondDealing;
             input = refl;

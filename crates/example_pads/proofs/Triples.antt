@@ -7,8 +7,8 @@ use Rattle.answer.specs.Outcome.{byNumber, answered}
 use Rattle.answer.specs.Tests.{isMet, firstFault}
 use Rattle.triples.specs.Call.{triples}
 use Rattle.triples.specs.Triple.{tripleFrom, tripleOf}
-use Rattle.dealt_pads.proofs.Triples as dealt
-use Rattle.dealt_pads.specs.Formed.{FormedAt}
+use Rattle.pad_claims.proofs.Triples as dealt
+use Rattle.pad_claims.specs.Formed.{FormedAt}
 use Rattle.example_pads.specs.Triples.{lent₁, lent₂, TriplesExample}
 use Rattle.example_pads.proofs.Pads.{firstDealing, secondDealing, first-taken, second-taken}
 
@@ -16,8 +16,8 @@ pub formed : (i : ℕ) → i < 2 → FormedAt lent₁ lent₂ i
 unfolding anyAbove isMet firstFault byNumber answered triples
 formed i h =
     record {
-      first = firstDealing;
-      second = secondDealing;
+      dealing = firstDealing;
+      dealing′ = secondDealing;
       accepted = refl;
       accepted′ = refl;
       taken = first-taken i h;

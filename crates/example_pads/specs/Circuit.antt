@@ -8,10 +8,10 @@ use Rattle.circuit.specs.Content.{And, Not, Xor, Circuit, andsIn}
 use Rattle.circuit.specs.Reading.{readCircuit}
 use Rattle.circuit.specs.Value.{valueOf}
 use Rattle.circuit_run.specs.Step.{StepLent, lentWith}
-use Rattle.evaluation.specs.Evaluation.{combined, Ends}
-use Rattle.evaluation.specs.Runs.{StepMade, runOf, IsStep, writtenBy}
+use Rattle.circuit_claims.specs.Evaluation.{combined, Ends}
+use Rattle.circuit_claims.specs.Runs.{StepMade, stepsOf, IsStep, writtenBy}
 use Rattle.number.specs.Reading.{Whole}
-use Rattle.dealt_pads.specs.Formed.{GatheredAt}
+use Rattle.pad_claims.specs.Formed.{GatheredAt}
 
 -- two inputs, wires 0 and 1; wire 2 is their AND, wire 3 its NOT, wire 4 the exclusive or of wires 3 and 0; the outputs are wires 2
 -- and 4
@@ -52,13 +52,13 @@ calls₂ = step₂ 1 0 0 ∷ step₂ 2 0 0 ∷ step₂ 2 0 0 ∷ []
 -- the second accepted step of a run finishes it, and writes these outputs
 pub record Finished (calls : List StepLent) (outputs : List ℕ) : Type 0 where
   pub made : StepMade
-  pub step : IsStep (runOf calls) 1 made
+  pub step : IsStep (stepsOf calls) 1 made
   pub phase : made .gave .state .phase ≡ 2
   pub written : writtenBy (made .gave) ≡ outputs
 
 pub record CircuitExample : Type 0 where
   pub read : readCircuit circuitBytes ≡ Whole circuit
-  pub ends : Ends circuitBytes shares₁ triple₁ shares₂ triple₂ (runOf calls₁) (runOf calls₂)
+  pub ends : Ends circuitBytes shares₁ triple₁ shares₂ triple₂ (stepsOf calls₁) (stepsOf calls₂)
   pub gathered : (j : ℕ) → j < andsIn (circuit .gates) → GatheredAt triple₁ triple₂ j
   pub finished₁ : Finished calls₁ (0 ∷ 0 ∷ [])
   pub finished₂ : Finished calls₂ (0 ∷ 1 ∷ [])

@@ -3,8 +3,8 @@
 use mathlib.Core.Path.{_≡_}
 use mathlib.Core.List.{List, [], _∷_, _++_}
 use lib.ListN.{replicate}
-use Rattle.messages.specs.Opening.{Batch, BatchFits, sentBits, sentAnswers, openedBatch, Opens}
-use Rattle.dealt_pads.specs.Taken.{Dealing, Taken}
+use Rattle.messages.specs.Opening.{Batch, BatchFits, sentCorrectionBits, sentAnswers, openedBatch, Opens}
+use Rattle.pad_claims.specs.Taken.{Dealing, Taken}
 use Rattle.example.specs.Worked.{bytesFrom, binaryInput, binaryNumbers}
 use Rattle.example_pads.specs.Pads.{firstNoise, firstScalar}
 
@@ -29,7 +29,7 @@ pub record MessagesExample : Type 0 where
   pub fits : BatchFits batch
   pub taken : Taken dealing 2 (batch .choices) (batch .noisePads) (batch .scalarPads)
   -- what is sent, and what is opened: message 1 of each output
-  pub bits : sentBits batch ≡ 1 ∷ 0 ∷ []
+  pub bits : sentCorrectionBits batch ≡ 1 ∷ 0 ∷ []
   pub answers :
       sentAnswers batch
       ≡ 0xd5 ∷ 0xb2 ∷ 0x3a ∷ 0x62 ∷ 0x89 ∷ 0x3d ∷ 0xe5 ∷ 0xc4 ∷ 0x40 ∷ 0xb4 ∷ 0xd3 ∷ 0x85 ∷ 0xbf ∷ 0x88 ∷ 0x1a ∷ 0x92

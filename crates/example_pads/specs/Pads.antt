@@ -8,9 +8,9 @@ use Rattle.answer.specs.Outcome.{wrote}
 use Rattle.record.specs.Writing.{writeWords}
 use Rattle.dealing.specs.Input.{Input}
 use Rattle.pads.specs.Calls.{lentNoise, lentScalar, noisePads, scalarPads}
-use Rattle.pads.specs.Choice.{padAt, messageAt}
+use Rattle.pads.specs.Choice.{padAt, oneOfTwoAt}
 use Rattle.claims.specs.Correlation.{PadsLent}
-use Rattle.dealt_pads.specs.Taken.{Dealing}
+use Rattle.pad_claims.specs.Taken.{Dealing}
 use Rattle.example.specs.Worked.{Numbers, binaryInput, secondInput, binaryNumbers, secondNumbers}
 
 -- a dealing of this input with these numbers; its v and w are lent as bytes, each word as 8 bytes LE
@@ -22,9 +22,9 @@ pub record PadsRan (I : Input) (N : Numbers) (noise scalar : List ℕ) : Type 0 
   pub scalar-call : scalarPads 0 2 (writeWords (N .ws)) (I .delta) (replicate 64 0) ≡ wrote tt (lentScalar (writeWords (N .ws)) (I .delta) scalar)
   -- the bytes lent for each output are the dealing's
   pub lent : (x : ℕ) → x < 2 → PadsLent I x 0 (writeWords (N .vs)) (N .us) 0 (writeWords (N .ws)) (I .delta)
-  -- the noise end's pad is the message that the choice names, and not the other
-  pub named : (x : ℕ) → x < 2 → padAt noise 0 x ≡ messageAt scalar 0 x (getD (N .us) x 0)
-  pub apart : (x : ℕ) → x < 2 → padAt noise 0 x ≡ messageAt scalar 0 x (1 - getD (N .us) x 0) → ⊥
+  -- the noise end's pad is the one that the choice names, and not the other
+  pub named : (x : ℕ) → x < 2 → padAt noise 0 x ≡ oneOfTwoAt scalar 0 x (getD (N .us) x 0)
+  pub apart : (x : ℕ) → x < 2 → padAt noise 0 x ≡ oneOfTwoAt scalar 0 x (1 - getD (N .us) x 0) → ⊥
 
 -- the first dealing, where the choices are 0 and 1: 16 bytes an output at the noise end, 32 at the scalar end
 abbrev pub firstNoise : List ℕ
@@ -57,5 +57,5 @@ secondScalar =
     ∷ []
 
 pub record PadsExample : Type 0 where
-  pub first : PadsRan binaryInput binaryNumbers firstNoise firstScalar
-  pub second : PadsRan secondInput secondNumbers secondNoise secondScalar
+  pub first-dealing : PadsRan binaryInput binaryNumbers firstNoise firstScalar
+  pub second-dealing : PadsRan secondInput secondNumbers secondNoise secondScalar

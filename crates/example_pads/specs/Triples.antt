@@ -8,17 +8,17 @@ use Rattle.algebra.specs.Coding.{at}
 use Rattle.triples.specs.Call.{TriplesLent}
 use Rattle.triples.specs.Matching.{MatchingAt, triplesOf}
 use Rattle.triples.specs.Triple.{tripleBytes}
-use Rattle.dealt_pads.specs.Formed.{FormedAt}
+use Rattle.pad_claims.specs.Formed.{FormedAt}
 use Rattle.example.specs.Worked.{binaryNumbers, secondNumbers}
 use Rattle.example_pads.specs.Pads.{firstNoise, firstScalar, secondNoise, secondScalar}
 
 -- one end is the noise end of the first dealing and the scalar end of the second
 abbrev pub lent₁ : TriplesLent
-lent₁ = record { choices = binaryNumbers .us; pads = firstNoise; messages = secondScalar; triples = replicate 6 7 }
+lent₁ = record { choices = binaryNumbers .us; pads = firstNoise; padPairs = secondScalar; triples = replicate 6 7 }
 
 -- the other is the noise end of the second and the scalar end of the first
 abbrev pub lent₂ : TriplesLent
-lent₂ = record { choices = secondNumbers .us; pads = secondNoise; messages = firstScalar; triples = replicate 6 7 }
+lent₂ = record { choices = secondNumbers .us; pads = secondNoise; padPairs = firstScalar; triples = replicate 6 7 }
 
 pub record TriplesExample : Type 0 where
   -- what is lent for each place is that of an output of each dealing, and both calls are accepted

@@ -7,8 +7,8 @@ use Rattle.field.specs.Bytes.{leNumber}
 use Rattle.stock.specs.Label.{numberOf}
 use Rattle.stock.specs.Stock.{isCaller, remaining, sumOf, held, entries, shareBlocks}
 use Rattle.stock.specs.Calls.{openStock, advanced, draw, preview, pass}
-use Rattle.stock_lists.proofs.Claims.{lists}
-use Rattle.stock_lists.specs.Lists.{make, run, last, handed}
+use Rattle.stock_claims.proofs.Claims.{lists}
+use Rattle.stock_claims.specs.Lists.{make, callsMade, last, handed}
 use Rattle.example_stock.specs.Stock.{label, shares, calls, StockExample}
 
 opened : openStock (label 5) 10 shares .opened .number ≡ accepted
@@ -16,7 +16,7 @@ unfolding isMet firstFault byNumber answered sumOf openStock
 opened = refl
 
 pub stock-example : StockExample
-unfolding isMet firstFault byNumber answered leNumber numberOf isCaller remaining sumOf held entries shareBlocks openStock advanced draw preview pass make run last handed
+unfolding isMet firstFault byNumber answered leNumber numberOf isCaller remaining sumOf held entries shareBlocks openStock advanced draw preview pass make callsMade last handed
 stock-example =
     record {
       opened = opened;

@@ -1,4 +1,4 @@
--- Nothing is vacuous: after an accepted opening a list of draws, previews and passages on one stock, some of them refused, run by `run`
+-- Nothing is vacuous: after an accepted opening a list of draws, previews and passages on one stock, some of them refused, made by `callsMade`
 -- itself, through what `StockLists` asks (document 02, 2, 5 and 14).
 use mathlib.Core.Path.{_≡_}
 use mathlib.Core.List.{List, [], _∷_, map}
@@ -9,7 +9,7 @@ use Rattle.stock.specs.declared.Label.{Label}
 use Rattle.stock.specs.declared.Stock.{Stock}
 use Rattle.stock.specs.Calls.{openStock}
 use Rattle.stock.specs.Stock.{remaining}
-use Rattle.stock_lists.specs.Lists.{Call, draws, previews, passes, Made, run, last, aDraw, handed, StockClaim}
+use Rattle.stock_claims.specs.Lists.{Call, draws, previews, passes, StockMade, callsMade, last, aDraw, handed, StockClaim}
 
 -- the label of a small number
 abbrev pub label : ℕ → Label
@@ -38,14 +38,14 @@ calls =
     ∷ []
 
 -- the number and the window of a reply
-abbrev pub shown : Made → List ℕ
+abbrev pub shown : StockMade → List ℕ
 shown m = m .reply .number ∷ m .reply .first ∷ m .reply .count ∷ []
 
 pub record StockExample : Type 0 where
   pub opened : openStock (label 5) 10 shares .opened .number ≡ accepted
   -- what each call of the list replies, in turn
   pub replies :
-      map shown (run stock calls)
+      map shown (callsMade stock calls)
       ≡ (accepted ∷ 0 ∷ 2 ∷ [])
       ∷ (accepted ∷ 3 ∷ 3 ∷ [])
       ∷ (accepted ∷ 3 ∷ 1 ∷ [])
@@ -58,7 +58,7 @@ pub record StockExample : Type 0 where
       ∷ (accepted ∷ 0 ∷ 1 ∷ [])
       ∷ []
   -- six outputs are handed out, and caller 1 still holds one
-  pub handed-out : handed aDraw (run stock calls) ≡ 6
+  pub handed-out : handed aDraw (callsMade stock calls) ≡ 6
   pub kept : map (remaining (last stock calls)) (0 ∷ 1 ∷ []) ≡ 0 ∷ 1 ∷ []
   -- so the claim holds of this list
   pub claimed : StockClaim 10 shares stock calls

@@ -1,8 +1,8 @@
 // The expansion for the bench under its exported names. Each meets the contract of the call that it passes on to.
 ghost use mathlib.Core.Path.{_≡_};
 ghost use Rattle.answer.specs.Outcome.{outcomeOne, outcomeTwo};
-ghost use Rattle.direct.specs.Noise as noise;
-ghost use Rattle.direct.specs.Scalar as scalar;
+ghost use Rattle.bench_expansion.specs.Noise as noise;
+ghost use Rattle.bench_expansion.specs.Scalar as scalar;
 use answer::OneLength;
 use answer::TwoLengths;
 
@@ -16,9 +16,9 @@ pub extern "C" fn expander_noise_direct(
     v_out: &mut [u64],
 ) -> TwoLengths
     ensures { λ r. ⌜ outcomeTwo r (noise.lentWith (now (source .exit)) (now («u_out» .exit)) (now («v_out» .exit)))
-        ≡ noise.direct (noise.lentWith (now (source .entry)) (now («u_out» .entry)) (now («v_out» .entry))) first count ⌝ }
+        ≡ noise.benchExpansion (noise.lentWith (now (source .entry)) (now («u_out» .entry)) (now («v_out» .entry))) first count ⌝ }
 {
-    direct::noise_direct(source, first, count, u_out, v_out)
+    bench_expansion::noise_bench(source, first, count, u_out, v_out)
 }
 
 // Writes a window of w from a scalar record alone.
@@ -30,7 +30,7 @@ pub extern "C" fn expander_scalar_direct(
     w_out: &mut [u64],
 ) -> OneLength
     ensures { λ r. ⌜ outcomeOne r (scalar.lentWith (now (source .exit)) (now («w_out» .exit)))
-        ≡ scalar.direct (scalar.lentWith (now (source .entry)) (now («w_out» .entry))) first count ⌝ }
+        ≡ scalar.benchExpansion (scalar.lentWith (now (source .entry)) (now («w_out» .entry))) first count ⌝ }
 {
-    direct::scalar_direct(source, first, count, w_out)
+    bench_expansion::scalar_bench(source, first, count, w_out)
 }

@@ -5,7 +5,7 @@ ghost use Rattle.circuit_run.specs.Step.{lentWith, stepped, step};
 ghost use Rattle.describe_circuit.specs.Describe.{descriptionOf, describeCircuit};
 use circuit_round::RoundState;
 use circuit_round::Rounded;
-use circuit_run::Run;
+use circuit_run::StepState;
 use circuit_run::Stepped;
 use describe_circuit::DescribedCircuit;
 
@@ -19,7 +19,7 @@ pub extern "C" fn expander_circuit_step(
     output: &mut [u8],
     far_first: u8,
     far_second: u8,
-    state: Run,
+    state: StepState,
 ) -> Stepped
     ensures { λ r. ⌜ stepped r (lentWith role (now (circuit .exit)) (now (shares .exit)) (now (triples .exit)) (now (output .exit)) «far_first» «far_second»)
         ≡ step (lentWith role (now (circuit .entry)) (now (shares .entry)) (now (triples .entry)) (now (output .entry)) «far_first» «far_second») state ⌝ }

@@ -9,41 +9,41 @@ use borrow.Author.Tests.{lt-ltb, le-leb, lt-leb, leb-true, leb-false, ltb-true, 
 use lib.Dec.{leb, ltb}
 use lib.IntN.{ℤ, pos, negsuc, negℤ, natAbs, _+ℤ_, _-ℤ_, subℕ}
 use Rattle.field.specs.Prime.{modulus, prime, primeAdd, primeSub}
-use Rattle.field.specs.Signed.{greatest, signedOf, primeNegate, signedElement}
+use Rattle.field.specs.Signed.{greatestAmount, signedOf, primeNegate, signedElement}
 
 -- an element less p
 pub less : (x : ℕ) → x < modulus → pos x -ℤ pos modulus ≡ negsuc (modulus - suc x)
 less x h = rw (lt-ltb x modulus h)
 
 -- what is written is an element, and reading it returns the number
-pub element-below : (z : ℤ) → natAbs z ≤ greatest → signedElement z .word < modulus
+pub element-below : (z : ℤ) → natAbs z ≤ greatestAmount → signedElement z .word < modulus
 unfolding signedElement
 element-below (pos n) h = omega arith
 element-below (negsuc n) h = omega arith
 
-pub read-element : (z : ℤ) → natAbs z ≤ greatest → signedOf (signedElement z .word) ≡ z
+pub read-element : (z : ℤ) → natAbs z ≤ greatestAmount → signedOf (signedElement z .word) ≡ z
 unfolding signedElement signedOf
-read-element (pos n) h = rw (le-leb n greatest h)
+read-element (pos n) h = rw (le-leb n greatestAmount h)
 read-element (negsuc n) h =
-    let above : greatest < modulus - suc n = omega arith in
-    rw (lt-leb (modulus - suc n) greatest above) (less (modulus - suc n) (omega arith) ∙ ap negsuc (omega arith))
+    let above : greatestAmount < modulus - suc n = omega arith in
+    rw (lt-leb (modulus - suc n) greatestAmount above) (less (modulus - suc n) (omega arith) ∙ ap negsuc (omega arith))
 
 -- what is read is in the range, and writing it returns the element
-read-by : (x : ℕ) → x < modulus → (t : Bool) → leb x greatest ≡ t → (natAbs (signedOf x) ≤ greatest) × (signedElement (signedOf x) ≡ prime x)
+read-by : (x : ℕ) → x < modulus → (t : Bool) → leb x greatestAmount ≡ t → (natAbs (signedOf x) ≤ greatestAmount) × (signedElement (signedOf x) ≡ prime x)
 unfolding signedElement signedOf
-read-by x h true e = let k : x ≤ greatest = leb-true x greatest e in rw e (k, refl)
+read-by x h true e = let k : x ≤ greatestAmount = leb-true x greatestAmount e in rw e (k, refl)
 read-by x h false e =
-    let k : greatest < x = leb-false x greatest e in
+    let k : greatestAmount < x = leb-false x greatestAmount e in
     rw (e, less x h) (omega arith, ap prime (omega arith))
 
-pub near-read : (x : ℕ) → x < modulus → natAbs (signedOf x) ≤ greatest
-near-read x h = read-by x h (leb x greatest) refl .0
+pub near-read : (x : ℕ) → x < modulus → natAbs (signedOf x) ≤ greatestAmount
+near-read x h = read-by x h (leb x greatestAmount) refl .0
 
 pub element-read : (x : ℕ) → x < modulus → signedElement (signedOf x) ≡ prime x
-element-read x h = read-by x h (leb x greatest) refl .1
+element-read x h = read-by x h (leb x greatestAmount) refl .1
 
 -- the sum of two elements is the element of the sum, while that is in the range
-mixed-by : (a b : ℕ) → a ≤ greatest → suc b ≤ greatest → (t : Bool) → ltb a (suc b) ≡ t
+mixed-by : (a b : ℕ) → a ≤ greatestAmount → suc b ≤ greatestAmount → (t : Bool) → ltb a (suc b) ≡ t
     → prime ((a + (modulus - suc b)) % modulus) ≡ signedElement (subℕ a (suc b))
 unfolding signedElement
 mixed-by a b h k true e =
@@ -54,10 +54,10 @@ mixed-by a b h k false e =
     let s : a + (modulus - suc b) ≡ (a - suc b) + modulus = omega arith in
     rw (e, s) (ap prime (add-mod-right (a - suc b) modulus ∙ mod-eq-of-lt (omega arith)))
 
-mixed : (a b : ℕ) → a ≤ greatest → suc b ≤ greatest → prime ((a + (modulus - suc b)) % modulus) ≡ signedElement (subℕ a (suc b))
+mixed : (a b : ℕ) → a ≤ greatestAmount → suc b ≤ greatestAmount → prime ((a + (modulus - suc b)) % modulus) ≡ signedElement (subℕ a (suc b))
 mixed a b h k = mixed-by a b h k (ltb a (suc b)) refl
 
-pub sum-element : (y z : ℤ) → natAbs y ≤ greatest → natAbs z ≤ greatest → natAbs (y +ℤ z) ≤ greatest
+pub sum-element : (y z : ℤ) → natAbs y ≤ greatestAmount → natAbs z ≤ greatestAmount → natAbs (y +ℤ z) ≤ greatestAmount
     → primeAdd (signedElement y) (signedElement z) ≡ signedElement (y +ℤ z)
 unfolding primeAdd signedElement
 sum-element (pos a) (pos b) h k s = ap prime (mod-eq-of-lt (omega arith))
@@ -74,7 +74,7 @@ negate-suc n h =
     let e : suc n % modulus ≡ suc n = mod-eq-of-lt h in
     ap prime (ap (λ (k : ℕ). (0 + (modulus - k)) % modulus) e ∙ mod-eq-of-lt (omega arith) ∙ omega arith)
 
-pub negate-element : (z : ℤ) → natAbs z ≤ greatest → primeNegate (signedElement z) ≡ signedElement (negℤ z)
+pub negate-element : (z : ℤ) → natAbs z ≤ greatestAmount → primeNegate (signedElement z) ≡ signedElement (negℤ z)
 unfolding primeNegate primeSub signedElement
 negate-element (pos zero) h = refl
 negate-element (pos (suc n)) h = negate-suc n (omega arith)
@@ -82,7 +82,7 @@ negate-element (negsuc n) h =
     let e : (modulus - suc n) % modulus ≡ modulus - suc n = mod-eq-of-lt (omega arith) in
     ap prime (ap (λ (k : ℕ). (0 + (modulus - k)) % modulus) e ∙ mod-eq-of-lt (omega arith) ∙ omega arith)
 
-pub near-opposite : (z : ℤ) → natAbs z ≤ greatest → natAbs (negℤ z) ≤ greatest
+pub near-opposite : (z : ℤ) → natAbs z ≤ greatestAmount → natAbs (negℤ z) ≤ greatestAmount
 near-opposite (pos zero) h = h
 near-opposite (pos (suc n)) h = h
 near-opposite (negsuc n) h = h

@@ -14,7 +14,7 @@ use mir.Facts.{toZ-ofZ, toZ-pos}
 use Rattle.field.specs.declared.prime.Prime.{Prime}
 use Rattle.field.specs.declared.signed.FromSigned.the-variants.{Element, OutOfRange}
 use Rattle.field.specs.Prime.{modulus, prime, primeReduce}
-use Rattle.field.specs.Signed.{greatest, signedOf, toSigned, primeNegate, signedElement, fromSigned}
+use Rattle.field.specs.Signed.{greatestAmount, signedOf, toSigned, primeNegate, signedElement, fromSigned}
 use Rattle.field.proofs.Around.{less, negate-suc}
 
 or-right : (a : Bool) {b : Bool} → b ≡ true → (a || b) ≡ true
@@ -31,20 +31,20 @@ module _ {z : ℤ} (fits : SFits w64 z) where
   unfolding fromSigned
   too-low t = let e : ltZ z least ≡ true = rw (toZ-ofZ fits) at t in rw e
 
-  pub too-high : ltZ (pos greatest) (toZ w64 (ofZ w64 z)) ≡ true → OutOfRange ≡ fromSigned z
+  pub too-high : ltZ (pos greatestAmount) (toZ w64 (ofZ w64 z)) ≡ true → OutOfRange ≡ fromSigned z
   unfolding fromSigned
   too-high t =
-      let e : ltZ (pos greatest) z ≡ true = rw (toZ-ofZ fits) at t in
-      let o : (ltZ z least || ltZ (pos greatest) z) ≡ true = or-right (ltZ z least) e in
+      let e : ltZ (pos greatestAmount) z ≡ true = rw (toZ-ofZ fits) at t in
+      let o : (ltZ z least || ltZ (pos greatestAmount) z) ≡ true = or-right (ltZ z least) e in
       rw o
 
 -- a number of the range is at most 2^60 − 1 from zero
-near : (z : ℤ) → ltZ z least ≡ false → ltZ (pos greatest) z ≡ false → natAbs z ≤ greatest
-near (pos n) low high = ltb-false greatest n high
+near : (z : ℤ) → ltZ z least ≡ false → ltZ (pos greatestAmount) z ≡ false → natAbs z ≤ greatestAmount
+near (pos n) low high = ltb-false greatestAmount n high
 near (negsuc n) low high = let h : n ≤ 1152921504606846974 = ltb-false 1152921504606846974 n low in omega arith
 
 -- a number of the range has its element
-ranged : (z : ℤ) → ltZ z least ≡ false → ltZ (pos greatest) z ≡ false → Element (signedElement z) ≡ fromSigned z
+ranged : (z : ℤ) → ltZ z least ≡ false → ltZ (pos greatestAmount) z ≡ false → Element (signedElement z) ≡ fromSigned z
 unfolding fromSigned
 ranged z low high = rw (low, high)
 
@@ -53,7 +53,7 @@ opposite : (z : ℤ) → ltZ z (pos 0) ≡ true → pos 0 -ℤ z ≡ pos (natAbs
 opposite (pos n) t = let h : n < 0 = ltb-true n 0 t in absurd (omega arith)
 opposite (negsuc n) t = ap pos (omega arith)
 
-opposite-element : (z : ℤ) → ltZ z (pos 0) ≡ true → natAbs z ≤ greatest → primeNegate (prime (natAbs z)) ≡ signedElement z
+opposite-element : (z : ℤ) → ltZ z (pos 0) ≡ true → natAbs z ≤ greatestAmount → primeNegate (prime (natAbs z)) ≡ signedElement z
 unfolding signedElement
 opposite-element (pos n) t h = let k : n < 0 = ltb-true n 0 t in absurd (omega arith)
 opposite-element (negsuc n) t h = negate-suc n (omega arith)
@@ -69,8 +69,8 @@ not-below (negsuc n) t = absurd (true≢false t)
 
 -- what `from_signed` asks and returns of a number of the range
 module _ {z : ℤ} (fits : SFits w64 z)
-    (low : ltZ (toZ w64 (ofZ w64 z)) least ≡ false) (high : ltZ (pos greatest) (toZ w64 (ofZ w64 z)) ≡ false) where
-  in-range : natAbs z ≤ greatest
+    (low : ltZ (toZ w64 (ofZ w64 z)) least ≡ false) (high : ltZ (pos greatestAmount) (toZ w64 (ofZ w64 z)) ≡ false) where
+  in-range : natAbs z ≤ greatestAmount
   in-range = near z (rw (toZ-ofZ fits) at low) (rw (toZ-ofZ fits) at high)
 
   its-element : Element (signedElement z) ≡ fromSigned z
@@ -116,15 +116,15 @@ module _ (a r : Prime) (reduced : r ≡ primeReduce (a .word)) where
   pub less-fits : SFits w64 (toZ w64 (r .word) -ℤ pos modulus)
   less-fits = rw (read-word, less (r .word) word-below) (record { sfits = omega arith })
 
-  pub read-low : leZ (toZ w64 (r .word)) (pos greatest) ≡ true → toZ w64 (r .word) ≡ toSigned a
+  pub read-low : leZ (toZ w64 (r .word)) (pos greatestAmount) ≡ true → toZ w64 (r .word) ≡ toSigned a
   unfolding toSigned signedOf
   read-low t =
-      let e : leb (r .word) greatest ≡ true = rw read-word at t in
+      let e : leb (r .word) greatestAmount ≡ true = rw read-word at t in
       read-word ∙ sym (rw (← reduced, e))
 
-  pub read-high : leZ (toZ w64 (r .word)) (pos greatest) ≡ false
+  pub read-high : leZ (toZ w64 (r .word)) (pos greatestAmount) ≡ false
       → toZ w64 (ofZ w64 (toZ w64 (r .word) -ℤ pos modulus)) ≡ toSigned a
   unfolding toSigned signedOf
   read-high t =
-      let e : leb (r .word) greatest ≡ false = rw read-word at t in
+      let e : leb (r .word) greatestAmount ≡ false = rw read-word at t in
       toZ-ofZ less-fits ∙ rw (read-word, ← reduced, e)

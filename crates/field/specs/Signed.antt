@@ -11,12 +11,12 @@ use Rattle.field.specs.declared.signed.FromSigned.the-variants.{Element,
 use Rattle.field.specs.Prime.{modulus, prime, primeZero, primeReduce, primeSub}
 
 -- 2^60 − 1, the greatest amount
-abbrev pub greatest : ℕ
-greatest = 2 ^ 60 - 1
+abbrev pub greatestAmount : ℕ
+greatestAmount = 2 ^ 60 - 1
 
 -- a number below p read as a signed one: up to 2^60 − 1 as itself, above that as element − p
 unfoldable pub signedOf : ℕ → ℤ
-signedOf element = choose (leb element greatest) (pos element) (pos element -ℤ pos modulus)
+signedOf element = choose (leb element greatestAmount) (pos element) (pos element -ℤ pos modulus)
 
 -- an element read so; any other word is reduced first
 unfoldable pub toSigned : Prime → ℤ
@@ -34,4 +34,4 @@ signedElement (negsuc n) = prime (modulus - suc n)
 -- the way back: no element for a number below −(2^60 − 1) or above 2^60 − 1
 unfoldable pub fromSigned : ℤ → FromSigned
 fromSigned amount =
-    choose (ltZ amount (negℤ (pos greatest)) || ltZ (pos greatest) amount) OutOfRange (Element (signedElement amount))
+    choose (ltZ amount (negℤ (pos greatestAmount)) || ltZ (pos greatestAmount) amount) OutOfRange (Element (signedElement amount))

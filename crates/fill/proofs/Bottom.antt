@@ -103,7 +103,7 @@ module _ (ρ : Range) (ok : IsRange ρ) where
   pub bottom-branch : IsBranch (ρ .bits)
   bottom-branch = record { two = ok .two; eight = omega (arith, ok .most, ok .branch .eight) }
 
-  pub bottom-keys : ρ .first + 2 ^ ρ .bits ≤ 8
+  pub bottom-keys : ρ .from + 2 ^ ρ .bits ≤ 8
   bottom-keys = omega (arith, ok .within, eight (ρ .«branch_bits») (ok .branch))
 
   module _ (last : ρ .levels ≡ 1) where
@@ -115,21 +115,21 @@ module _ (ρ : Range) (ok : IsRange ρ) where
     bottom-length xs w e = e ∙ ap (λ n. n * w) size
 
     pub filled-bottom : (field : ℕ) (child : ℕ → List (List ℕ) → List (List ℕ)) (s : List (List ℕ)) (xs : List ℕ) {ys : List ℕ}
-        → ys ≡ childrenAdded field child (ρ .first) (2 ^ ρ .bits) s xs
+        → ys ≡ childrenAdded field child (ρ .from) (2 ^ ρ .bits) s xs
         → ys ≡ added (kindOf field .field) (sizeOf ρ) (rangeElement (kindOf field .leaf) child ρ s) xs
     unfolding childrenAdded rangeElement leafElement
     filled-bottom field child s xs ey =
         added-same (kindOf field .field) (kindLaws field .field) (sizeOf ρ) (2 ^ ρ .bits) (rangeElement (kindOf field .leaf) child ρ s)
-        (λ j. kindOf field .leaf (child (ρ .first + j) s)) xs ey size
+        (λ j. kindOf field .leaf (child (ρ .from + j) s)) xs ey size
         (λ j h. ap (kindOf field .leaf) (sym (leaf j h)))
       where
         number : (first j p : ℕ) → p ≡ 1 → first * p + j ≡ (first + j) * p + 0
         number first j p e = rw e (omega arith)
 
         leaf : (j : ℕ) → j < 2 ^ ρ .bits
-            → leafAt (childCount ρ) child (ρ .levels) s (ρ .first * childCount ρ ^ (ρ .levels - 1) + j) ≡ child (ρ .first + j) s
+            → leafAt (childCount ρ) child (ρ .levels) s (ρ .from * childCount ρ ^ (ρ .levels - 1) + j) ≡ child (ρ .from + j) s
         leaf j h =
-            ap (λ n. leafAt (childCount ρ) child n s (ρ .first * childCount ρ ^ (n - 1) + j)) last
-            ∙ ap (leafAt (childCount ρ) child 1 s) (number (ρ .first) j (childCount ρ ^ 0) (pow-zero (childCount ρ)))
-            ∙ leaf-child (childCount ρ) child (pow-pos (ρ .«branch_bits»)) 0 s (ρ .first + j) 0 (omega (arith, ok .within)) (rw pow-zero (omega arith))
-            ∙ leaf-none (childCount ρ) child (child (ρ .first + j) s) 0
+            ap (λ n. leafAt (childCount ρ) child n s (ρ .from * childCount ρ ^ (n - 1) + j)) last
+            ∙ ap (leafAt (childCount ρ) child 1 s) (number (ρ .from) j (childCount ρ ^ 0) (pow-zero (childCount ρ)))
+            ∙ leaf-child (childCount ρ) child (pow-pos (ρ .«branch_bits»)) 0 s (ρ .from + j) 0 (omega (arith, ok .within)) (rw pow-zero (omega arith))
+            ∙ leaf-none (childCount ρ) child (child (ρ .from + j) s) 0

@@ -79,7 +79,7 @@ module _ (field : ℕ) (child : ℕ → List (List ℕ) → List (List ℕ)) whe
     abbrev one : Range
     one = allChildren (ρ .«branch_bits») (ρ .levels - 1)
 
-    pub both-below : {x y : List (List ℕ)} {ys : List ℕ} → ρ .levels ≢ 0 → IsRange ρ → ρ .bits ≡ 1 → x ≡ child (ρ .first) s → y ≡ child (ρ .first + 1) s
+    pub both-below : {x y : List (List ℕ)} {ys : List ℕ} → ρ .levels ≢ 0 → IsRange ρ → ρ .bits ≡ 1 → x ≡ child (ρ .from) s → y ≡ child (ρ .from + 1) s
         → ys ≡ bothAdded field child one x y xs → ys ≡ added F (sizeOf ρ) (rangeElement leaf child ρ s) xs
     unfolding bothAdded
     both-below {x} {y} h ok b ex ey e =
@@ -139,7 +139,7 @@ module _ (ρ : Range) (levels : ρ .levels ≡ 3) (two : ρ .«branch_bits» ≡
   three-length xs w e = e ∙ ap (λ n. n * w) three-size
 
   pub three-below : (field : ℕ) (child : ℕ → List (List ℕ) → List (List ℕ)) (s : List (List ℕ)) (xs : List ℕ) {x y : List (List ℕ)} {ys : List ℕ}
-      → IsRange ρ → x ≡ child (ρ .first) s → y ≡ child (ρ .first + 1) s → ys ≡ bothAdded field child (allChildren 1 2) x y xs
+      → IsRange ρ → x ≡ child (ρ .from) s → y ≡ child (ρ .from + 1) s → ys ≡ bothAdded field child (allChildren 1 2) x y xs
       → ys ≡ added (kindOf field .field) (sizeOf ρ) (rangeElement (kindOf field .leaf) child ρ s) xs
   three-below field child s xs {x} {y} ok ex ey e =
       both-below field child ρ s xs (λ z. absurd (omega (arith, z, levels))) ok b ex ey

@@ -14,7 +14,7 @@ use Rattle.algebra.specs.Choice.{choose}
 use Rattle.tree.specs.Tree.{leafAt, rank, fromSiblings}
 use Rattle.tree.specs.Columns.{columnsAt, siblingsAt}
 use Rattle.tree.specs.Added.{leafElement, puncturedElement}
-use Rattle.fill.specs.Inner.Ranges.{childCount, below, sizeOf, IsRange, allChildren, front, back, above, rangeElement, runElement, pathElement}
+use Rattle.fill.specs.Inner.Ranges.{childCount, below, sizeOf, IsRange, allChildren, firstHalf, secondHalf, above, rangeElement, runElement, pathElement}
 use Rattle.fill.specs.declared.range.Range.{Range}
 use Rattle.fill.specs.declared.range.Path.{Path}
 use Rattle.tree.proofs.Paths.{power-some, digit, digit-first}
@@ -51,26 +51,26 @@ module _ {A E : Type 0} (element : A → E) (child : ℕ → A → A) where
 
     -- the first child of a pair, and the second
     pub first-child : (j : ℕ) → IsRange ρ → j < below ρ
-        → rangeElement element child ρ s j ≡ rangeElement element child (allChildren (ρ .«branch_bits») (ρ .levels - 1)) (child (ρ .first) s) j
+        → rangeElement element child ρ s j ≡ rangeElement element child (allChildren (ρ .«branch_bits») (ρ .levels - 1)) (child (ρ .from) s) j
     unfolding rangeElement
-    first-child j ok l = one-below (ρ .first) j (omega (arith, ok .within, pow-pos (ρ .bits))) l
+    first-child j ok l = one-below (ρ .from) j (omega (arith, ok .within, pow-pos (ρ .bits))) l
 
     pub second-child : (j : ℕ) → IsRange ρ → ρ .bits ≡ 1 → j < below ρ
         → rangeElement element child ρ s (below ρ + j)
-        ≡ rangeElement element child (allChildren (ρ .«branch_bits») (ρ .levels - 1)) (child (ρ .first + 1) s) j
+        ≡ rangeElement element child (allChildren (ρ .«branch_bits») (ρ .levels - 1)) (child (ρ .from + 1) s) j
     unfolding rangeElement
     second-child j ok e l =
-        ap (leafElement element (childCount ρ) child (ρ .levels) s) (next (ρ .first) (below ρ) j)
-        ∙ one-below (ρ .first + 1) j (omega (arith, ok .within, ap (λ n. 2 ^ n) e)) l
+        ap (leafElement element (childCount ρ) child (ρ .levels) s) (next (ρ .from) (below ρ) j)
+        ∙ one-below (ρ .from + 1) j (omega (arith, ok .within, ap (λ n. 2 ^ n) e)) l
       where
         next : (c b j : ℕ) → c * b + (b + j) ≡ (c + 1) * b + j
         next c b j = omega arith
 
     -- the second half of the children
-    pub back-element : (j : ℕ) → rangeElement element child ρ s (sizeOf (back ρ) + j) ≡ rangeElement element child (back ρ) s j
+    pub back-element : (j : ℕ) → rangeElement element child ρ s (sizeOf (secondHalf ρ) + j) ≡ rangeElement element child (secondHalf ρ) s j
     unfolding rangeElement
     back-element j =
-        ap (leafElement element (childCount ρ) child (ρ .levels) s) (far (ρ .first) (2 ^ (ρ .bits - 1)) (below ρ) _ j (size-is (back ρ) h))
+        ap (leafElement element (childCount ρ) child (ρ .levels) s) (far (ρ .from) (2 ^ (ρ .bits - 1)) (below ρ) _ j (size-is (secondHalf ρ) h))
       where
         far : (c p b n j : ℕ) → n ≡ p * b → c * b + (n + j) ≡ (c + p) * b + j
         far c p b n j e = omega arith
@@ -84,22 +84,22 @@ module _ {E : Type 0} (element : List (List ℕ) → E) (child : ℕ → List (L
     (ρ : Range) (h : ρ .levels ≢ 0) where
   -- one sibling
   pub run-one : ρ .bits ≡ 0 → (j : ℕ) → j < sizeOf ρ
-      → rangeElement element child (allChildren (ρ .«branch_bits») (ρ .levels - 1)) (columnsAt bytes (at + 16 * ρ .first)) j
+      → rangeElement element child (allChildren (ρ .«branch_bits») (ρ .levels - 1)) (columnsAt bytes (at + 16 * ρ .from)) j
       ≡ runElement element child ρ bytes at j
   unfolding runElement
   run-one e j l =
       let b : j < below ρ = omega (arith, size-is ρ h, ap (λ n. 2 ^ n * below ρ) e) in
-      all-element element child (columnsAt bytes (at + 16 * ρ .first)) (ρ .«branch_bits») (ρ .levels - 1) j
+      all-element element child (columnsAt bytes (at + 16 * ρ .from)) (ρ .«branch_bits») (ρ .levels - 1) j
       ∙ ap₂ (λ q r. leafElement element (childCount ρ) child (ρ .levels - 1) (columnsAt bytes (at + 16 * q)) r)
-      (sym (ap (λ q. ρ .first + q) (div-eq-of-lt b) ∙ omega arith)) (sym (mod-eq-of-lt b))
+      (sym (ap (λ q. ρ .from + q) (div-eq-of-lt b) ∙ omega arith)) (sym (mod-eq-of-lt b))
 
   -- the second half
-  pub run-back : (j : ℕ) → runElement element child ρ bytes at (sizeOf (back ρ) + j) ≡ runElement element child (back ρ) bytes at j
+  pub run-back : (j : ℕ) → runElement element child ρ bytes at (sizeOf (secondHalf ρ) + j) ≡ runElement element child (secondHalf ρ) bytes at j
   unfolding runElement
   run-back j =
-      ap (runElement element child ρ bytes at) (ap (λ n. n + j) (size-is (back ρ) h))
+      ap (runElement element child ρ bytes at) (ap (λ n. n + j) (size-is (secondHalf ρ) h))
       ∙ ap₂ (λ q r. leafElement element (childCount ρ) child (ρ .levels - 1) (columnsAt bytes (at + 16 * q)) r)
-      (ap (λ q. ρ .first + q) (mul-add-div-right (some-below ρ) (2 ^ (ρ .bits - 1)) j) ∙ more (ρ .first) (2 ^ (ρ .bits - 1)) (j / below ρ))
+      (ap (λ q. ρ .from + q) (mul-add-div-right (some-below ρ) (2 ^ (ρ .bits - 1)) j) ∙ more (ρ .from) (2 ^ (ρ .bits - 1)) (j / below ρ))
       (mul-add-mod-self-right (2 ^ (ρ .bits - 1)) (below ρ) j)
     where
       more : (c p q : ℕ) → c + (p + q) ≡ c + p + q
@@ -194,7 +194,7 @@ module _ {E : Type 0} (element : List (List ℕ) → E) (child : ℕ → List (L
     within-half : (n : ℕ) → n < half → n / below ρ < pairs
     within-half n l = div-lt-iff-lt-mul (some-below ρ) .1 l
 
-    last : ρ .first + pairs + pairs ≤ childCount ρ
+    last : ρ .from + pairs + pairs ≤ childCount ρ
     last = omega (arith, ok .within, halved (ρ .bits) (ok .two))
 
     module _ (s j : ℕ) (hs : s < half) (hj : j < half) where
@@ -202,21 +202,21 @@ module _ {E : Type 0} (element : List (List ℕ) → E) (child : ℕ → List (L
       pub path-above : pathElement element child (At s) bytes correction (half + j) ≡ runElement element child (above ρ) bytes at j
       unfolding pathElement runElement
       path-above =
-          let a : ℕ = ρ .first + s / below ρ in
-          let b : ℕ = ρ .first + pairs + j / below ρ in
+          let a : ℕ = ρ .from + s / below ρ in
+          let b : ℕ = ρ .from + pairs + j / below ρ in
           let l : a < b = omega (arith, within-half s hs) in
-          ap₂ (Punctured (childCount ρ) at (ρ .levels)) (by-rest (ρ .first) (below ρ) s) (past (ρ .first) pairs (below ρ) j)
-          ∙ by-sibling a b s j (ρ .first + (pairs - 1) + j / below ρ) (omega (arith, last, within-half s hs)) (omega (arith, last, within-half j hj))
+          ap₂ (Punctured (childCount ρ) at (ρ .levels)) (by-rest (ρ .from) (below ρ) s) (past (ρ .from) pairs (below ρ) j)
+          ∙ by-sibling a b s j (ρ .from + (pairs - 1) + j / below ρ) (omega (arith, last, within-half s hs)) (omega (arith, last, within-half j hj))
           (λ e. omega arith) (rank-high a b l ∙ omega (arith, pow-pos (ρ .bits - 1)))
 
       -- the position lies in the second half
-      pub path-below : pathElement element child (At (half + s)) bytes correction j ≡ runElement element child (front ρ) bytes at j
+      pub path-below : pathElement element child (At (half + s)) bytes correction j ≡ runElement element child (firstHalf ρ) bytes at j
       unfolding pathElement runElement
       path-below =
-          let a : ℕ = ρ .first + pairs + s / below ρ in
-          let b : ℕ = ρ .first + j / below ρ in
+          let a : ℕ = ρ .from + pairs + s / below ρ in
+          let b : ℕ = ρ .from + j / below ρ in
           let l : b < a = omega (arith, within-half j hj) in
-          ap₂ (Punctured (childCount ρ) at (ρ .levels)) (past (ρ .first) pairs (below ρ) s) (by-rest (ρ .first) (below ρ) j)
+          ap₂ (Punctured (childCount ρ) at (ρ .levels)) (past (ρ .from) pairs (below ρ) s) (by-rest (ρ .from) (below ρ) j)
           ∙ by-sibling a b s j b (omega (arith, last, within-half s hs)) (omega (arith, last, within-half j hj)) (λ e. omega arith) (rank-low a b l)
 
     -- child c holds the position
@@ -239,17 +239,17 @@ module _ {E : Type 0} (element : List (List ℕ) → E) (child : ℕ → List (L
 
       pub path-first : pathElement element child (At s) bytes correction j ≡ pathElement element child (Below s) bytes correction j
       unfolding pathElement
-      path-first = one-within (ρ .first) s j (omega (arith, last, pow-pos (ρ .bits - 1))) (omega (arith, one)) (omega (arith, one))
+      path-first = one-within (ρ .from) s j (omega (arith, last, pow-pos (ρ .bits - 1))) (omega (arith, one)) (omega (arith, one))
 
       pub path-second : pathElement element child (At (half + s)) bytes correction (half + j) ≡ pathElement element child (Below s) bytes correction j
       unfolding pathElement
       path-second =
-          ap₂ (Punctured (childCount ρ) at (ρ .levels)) (far (ρ .first) pairs (below ρ) s) (far (ρ .first) pairs (below ρ) j)
-          ∙ one-within (ρ .first + pairs) s j (omega (arith, last, pow-pos (ρ .bits - 1))) (omega (arith, one)) (omega (arith, one))
+          ap₂ (Punctured (childCount ρ) at (ρ .levels)) (far (ρ .from) pairs (below ρ) s) (far (ρ .from) pairs (below ρ) j)
+          ∙ one-within (ρ .from + pairs) s j (omega (arith, last, pow-pos (ρ .bits - 1))) (omega (arith, one)) (omega (arith, one))
 
     -- the position lies in the second half of the children
     pub path-back : (s j : ℕ)
         → pathElement element child (At (half + s)) bytes correction (half + j)
-        ≡ pathElement element child (record { range = back ρ; position = s; at = at }) bytes correction j
+        ≡ pathElement element child (record { range = secondHalf ρ; position = s; at = at }) bytes correction j
     unfolding pathElement
-    path-back s j = ap₂ (Punctured (childCount ρ) at (ρ .levels)) (far (ρ .first) pairs (below ρ) s) (far (ρ .first) pairs (below ρ) j)
+    path-back s j = ap₂ (Punctured (childCount ρ) at (ρ .levels)) (far (ρ .from) pairs (below ρ) s) (far (ρ .from) pairs (below ρ) j)

@@ -18,7 +18,7 @@ use Rattle.tree.specs.Added.{added, leafElement, puncturedElement}
 use Rattle.tree.specs.Columns.{columnsAt, siblingsAt}
 use Rattle.tree.specs.Expanded.{leavesAdded, puncturedAdded}
 use Rattle.tree.specs.declared.punctured.Punctured.{Punctured}
-use Rattle.fill.specs.Inner.Ranges.{leafAdded, elementAdded, childCount, below, leftOf, sizeOf, IsRange, allChildren, halfFrom, front, back, rangeElement, IsRun, runElement, IsPath, pathIn, AreHalves, pathElement}
+use Rattle.fill.specs.Inner.Ranges.{leafAdded, elementAdded, childCount, below, leftOf, sizeOf, IsRange, allChildren, halfFrom, firstHalf, secondHalf, rangeElement, IsRun, runElement, IsPath, pathIn, AreHalves, pathElement}
 use Rattle.fill.specs.declared.range.Range.{Range}
 use Rattle.fill.specs.declared.range.Path.{Path}
 use Rattle.fill.specs.declared.range.Halves.{Halves}
@@ -63,11 +63,11 @@ module _ {X : Type 0} (ρ : Range) (at n w : ℕ) (ok : IsRun ρ at n) (xs : Lis
       → length (midOf (length xs / 2) (length l - length xs / 2) l) ≡ sizeOf (halfFrom ρ c) * w
   run-half-back c b e = half-back ρ xs w e (ok .some) c b
 
-module _ {X : Type 0} (path : Path) (n : ℕ) (ok : IsPath path n) (h : path .range .levels ≢ 0) {half : ℕ} (eh : half ≡ sizeOf (front (path .range)))
+module _ {X : Type 0} (path : Path) (n : ℕ) (ok : IsPath path n) (h : path .range .levels ≢ 0) {half : ℕ} (eh : half ≡ sizeOf (firstHalf (path .range)))
     (xs : List X) (w : ℕ) (e : length xs ≡ sizeOf (path .range) * w) (c s : ℕ) {r : Path} (er : r ≡ pathIn path c s) where
   held-twice : sizeOf (path .range) ≡ sizeOf (r .range) + sizeOf (r .range)
   held-twice =
-      half-twice (path .range) h (path .range .first) (two-some (path .range) (ok .range))
+      half-twice (path .range) h (path .range .from) (two-some (path .range) (ok .range))
       ∙ ap (λ m. m + m) (sym eh ∙ sym (held-size path n ok h eh c s er))
 
   held-front : length (take (length xs / 2) xs) ≡ sizeOf (r .range) * w
@@ -78,19 +78,19 @@ module _ {X : Type 0} (path : Path) (n : ℕ) (ok : IsPath path n) (h : path .ra
 
 module _ {X : Type 0} (path : Path) (n : ℕ) (ok : IsPath path n) (h : path .range .levels ≢ 0) (xs : List X) (w : ℕ)
     (e : length xs ≡ sizeOf (path .range) * w) (r : Halves) (parts : AreHalves path r) where
-  pub first-front : r .first ≡ true → length (take (length xs / 2) xs) ≡ sizeOf (r .below .range) * w
-  first-front t = held-front path n ok h refl xs w e (path .range .first) (path .position) (holds-first path parts t .on)
+  pub first-front : r .lower ≡ true → length (take (length xs / 2) xs) ≡ sizeOf (r .below .range) * w
+  first-front t = held-front path n ok h refl xs w e (path .range .from) (path .position) (holds-first path parts t .on)
 
-  pub first-back : r .first ≡ true → (l : List X) → length l ≡ length xs
+  pub first-back : r .lower ≡ true → (l : List X) → length l ≡ length xs
       → length (midOf (length xs / 2) (length l - length xs / 2) l) ≡ sizeOf (r .beside) * w
   first-back t = rw (holds-first path parts t .run) (half-back (path .range) xs w e h _ (two-some (path .range) (ok .range)))
 
-  pub second-front : r .first ≡ false → length (take (length xs / 2) xs) ≡ sizeOf (r .beside) * w
+  pub second-front : r .lower ≡ false → length (take (length xs / 2) xs) ≡ sizeOf (r .beside) * w
   second-front t = rw (holds-second path parts t .run) (half-front (path .range) xs w e h _ (two-some (path .range) (ok .range)))
 
-  pub second-back : r .first ≡ false → (l : List X) → length l ≡ length xs
+  pub second-back : r .lower ≡ false → (l : List X) → length l ≡ length xs
       → length (midOf (length xs / 2) (length l - length xs / 2) l) ≡ sizeOf (r .below .range) * w
-  second-back t = held-back path n ok h refl xs w e (path .range .first + 2 ^ (path .range .bits - 1)) _ (holds-second path parts t .on)
+  second-back t = held-back path n ok h refl xs w e (path .range .from + 2 ^ (path .range .bits - 1)) _ (holds-second path parts t .on)
 
 pub run-falls : (ρ : Range) (at n c : ℕ) {t : ℕ} → IsRun ρ at n → ρ .bits ≢ 0 → leftOf ρ ≡ t → leftOf (halfFrom ρ c) < t
 run-falls ρ at n c ok b l = half-falls ρ (ok .some) c b l
@@ -121,11 +121,11 @@ module _ (field : ℕ) (child : ℕ → List (List ℕ) → List (List ℕ)) whe
         (λ j h. ap leaf (sym (ap (λ n. leafAt (childCount ρ) child n s (number j)) e ∙ leaf-none (childCount ρ) child s (number j))))
       where
         number : ℕ → ℕ
-        number j = ρ .first * below ρ + j
+        number j = ρ .from * below ρ + j
 
     module _ (h : ρ .levels ≢ 0) (e : length xs ≡ sizeOf ρ * F .elements .width) where
       -- by two children
-      pub filled-children : {x y : List (List ℕ)} {ys zs : List ℕ} → IsRange ρ → ρ .bits ≡ 1 → x ≡ child (ρ .first) s → y ≡ child (ρ .first + 1) s
+      pub filled-children : {x y : List (List ℕ)} {ys zs : List ℕ} → IsRange ρ → ρ .bits ≡ 1 → x ≡ child (ρ .from) s → y ≡ child (ρ .from + 1) s
           → ys ≡ added F (sizeOf (allChildren (ρ .«branch_bits») (ρ .levels - 1))) (rangeElement leaf child (allChildren (ρ .«branch_bits») (ρ .levels - 1)) x) (take (length xs / 2) xs)
           → zs ≡ added F (sizeOf (allChildren (ρ .«branch_bits») (ρ .levels - 1))) (rangeElement leaf child (allChildren (ρ .«branch_bits») (ρ .levels - 1)) y) (second (length xs / 2) xs ys)
           → Both xs ys zs ≡ added F (sizeOf ρ) (rangeElement leaf child ρ s) xs
@@ -135,17 +135,17 @@ module _ (field : ℕ) (child : ℕ → List (List ℕ) → List (List ℕ)) whe
 
       -- by half as many children each
       pub filled-halves : {p : ℕ} {ys zs : List ℕ} → IsRange ρ → p ≡ 2 ^ (ρ .bits - 1)
-          → ys ≡ added F (sizeOf (front ρ)) (rangeElement leaf child (front ρ) s) (take (length xs / 2) xs)
-          → zs ≡ added F (sizeOf (halfFrom ρ (ρ .first + p))) (rangeElement leaf child (halfFrom ρ (ρ .first + p)) s) (second (length xs / 2) xs ys)
+          → ys ≡ added F (sizeOf (firstHalf ρ)) (rangeElement leaf child (firstHalf ρ) s) (take (length xs / 2) xs)
+          → zs ≡ added F (sizeOf (halfFrom ρ (ρ .from + p))) (rangeElement leaf child (halfFrom ρ (ρ .from + p)) s) (second (length xs / 2) xs ys)
           → Both xs ys zs ≡ added F (sizeOf ρ) (rangeElement leaf child ρ s) xs
       unfolding rangeElement leftOf
       filled-halves {p} {ys} ok q ey ez =
-          filled F laws (sizeOf ρ) (sizeOf (front ρ)) (rangeElement leaf child ρ s) (rangeElement leaf child (front ρ) s)
-          (rangeElement leaf child (back ρ) s) xs e (half-twice ρ h (ρ .first) (two-some ρ ok))
+          filled F laws (sizeOf ρ) (sizeOf (firstHalf ρ)) (rangeElement leaf child ρ s) (rangeElement leaf child (firstHalf ρ) s)
+          (rangeElement leaf child (secondHalf ρ) s) xs e (half-twice ρ h (ρ .from) (two-some ρ ok))
           (λ j l. refl)
           (λ j l. back-element leaf child s ρ h j)
           ey
-          (ez ∙ ap (λ n. added F (sizeOf (front ρ)) (rangeElement leaf child (halfFrom ρ (ρ .first + n)) s) (second (length xs / 2) xs ys)) q)
+          (ez ∙ ap (λ n. added F (sizeOf (firstHalf ρ)) (rangeElement leaf child (halfFrom ρ (ρ .from + n)) s) (second (length xs / 2) xs ys)) q)
 
   -- all children of s
   pub filled-all : (g levels : ℕ) (s : List (List ℕ)) (xs : List ℕ) {x : List (List ℕ)} {ys : List ℕ} → x ≡ s
@@ -183,11 +183,11 @@ module _ (field : ℕ) (child : ℕ → List (List ℕ) → List (List ℕ)) whe
   -- ---- runs of siblings
 
   module _ (bytes : List ℕ) (at n : ℕ) (ρ : Range) (xs : List ℕ) (ok : IsRun ρ at n) where
-    pub filled-sibling : {x : List (List ℕ)} {ys : List ℕ} → ρ .bits ≡ 0 → x ≡ columnsAt bytes (at + 16 * ρ .first)
+    pub filled-sibling : {x : List (List ℕ)} {ys : List ℕ} → ρ .bits ≡ 0 → x ≡ columnsAt bytes (at + 16 * ρ .from)
         → ys ≡ added F (sizeOf (allChildren (ρ .«branch_bits») (ρ .levels - 1))) (rangeElement leaf child (allChildren (ρ .«branch_bits») (ρ .levels - 1)) x) xs
         → ys ≡ added F (sizeOf ρ) (runElement leaf child ρ bytes at) xs
     filled-sibling {x} b ex ey =
-        added-same F laws (sizeOf ρ) (sizeOf one) (runElement leaf child ρ bytes at) (rangeElement leaf child one (columnsAt bytes (at + 16 * ρ .first))) xs
+        added-same F laws (sizeOf ρ) (sizeOf one) (runElement leaf child ρ bytes at) (rangeElement leaf child one (columnsAt bytes (at + 16 * ρ .from))) xs
         (ey ∙ ap (λ y. added F (sizeOf one) (rangeElement leaf child one y) xs) ex)
         (sibling-size ρ at n ok b)
         (λ j l. run-one leaf child bytes at ρ (ok .some) b j (omega (arith, sibling-size ρ at n ok b)))
@@ -196,17 +196,17 @@ module _ (field : ℕ) (child : ℕ → List (List ℕ) → List (List ℕ)) whe
         one = allChildren (ρ .«branch_bits») (ρ .levels - 1)
 
     pub filled-runs : {p : ℕ} {ys zs : List ℕ} → ρ .bits ≢ 0 → length xs ≡ sizeOf ρ * F .elements .width → p ≡ 2 ^ (ρ .bits - 1)
-        → ys ≡ added F (sizeOf (front ρ)) (runElement leaf child (front ρ) bytes at) (take (length xs / 2) xs)
-        → zs ≡ added F (sizeOf (halfFrom ρ (ρ .first + p))) (runElement leaf child (halfFrom ρ (ρ .first + p)) bytes at) (second (length xs / 2) xs ys)
+        → ys ≡ added F (sizeOf (firstHalf ρ)) (runElement leaf child (firstHalf ρ) bytes at) (take (length xs / 2) xs)
+        → zs ≡ added F (sizeOf (halfFrom ρ (ρ .from + p))) (runElement leaf child (halfFrom ρ (ρ .from + p)) bytes at) (second (length xs / 2) xs ys)
         → Both xs ys zs ≡ added F (sizeOf ρ) (runElement leaf child ρ bytes at) xs
     unfolding runElement leftOf
     filled-runs {p} {ys} b e q ey ez =
-        filled F laws (sizeOf ρ) (sizeOf (front ρ)) (runElement leaf child ρ bytes at) (runElement leaf child (front ρ) bytes at)
-        (runElement leaf child (back ρ) bytes at) xs e (half-twice ρ (ok .some) (ρ .first) b)
+        filled F laws (sizeOf ρ) (sizeOf (firstHalf ρ)) (runElement leaf child ρ bytes at) (runElement leaf child (firstHalf ρ) bytes at)
+        (runElement leaf child (secondHalf ρ) bytes at) xs e (half-twice ρ (ok .some) (ρ .from) b)
         (λ j l. refl)
         (λ j l. run-back leaf child bytes at ρ (ok .some) j)
         ey
-        (ez ∙ ap (λ m. added F (sizeOf (front ρ)) (runElement leaf child (halfFrom ρ (ρ .first + m)) bytes at) (second (length xs / 2) xs ys)) q)
+        (ez ∙ ap (λ m. added F (sizeOf (firstHalf ρ)) (runElement leaf child (halfFrom ρ (ρ .from + m)) bytes at) (second (length xs / 2) xs ys)) q)
 
   -- ---- ranges that hold a path
 
@@ -223,13 +223,13 @@ module _ (field : ℕ) (child : ℕ → List (List ℕ) → List (List ℕ)) whe
         (λ j l. rw (eq-eqb (start + path .position) (start + j) (omega (arith, ok .inside, one))))
       where
         start : ℕ
-        start = path .range .first * below (path .range)
+        start = path .range .from * below (path .range)
 
         one : sizeOf (path .range) ≡ 1
         one = size-none (path .range) e (ok .range)
 
     module _ {half p : ℕ} (h : path .range .levels ≢ 0) (e : length xs ≡ sizeOf (path .range) * F .elements .width)
-        (eh : half ≡ sizeOf (front (path .range))) (ep : p ≡ 2 ^ (path .range .bits - 1)) where
+        (eh : half ≡ sizeOf (firstHalf (path .range))) (ep : p ≡ 2 ^ (path .range .bits - 1)) where
       abbrev ρ : Range
       ρ = path .range
 
@@ -242,10 +242,10 @@ module _ (field : ℕ) (child : ℕ → List (List ℕ) → List (List ℕ)) whe
 
       -- half the leaves, as a product
       product : half ≡ 2 ^ (ρ .bits - 1) * below ρ
-      product = eh ∙ size-is (front ρ) h
+      product = eh ∙ size-is (firstHalf ρ) h
 
       twice-half : sizeOf ρ ≡ half + half
-      twice-half = half-twice ρ h (ρ .first) (two-some ρ (ok .range)) ∙ ap (λ m. m + m) (sym eh)
+      twice-half = half-twice ρ h (ρ .from) (two-some ρ (ok .range)) ∙ ap (λ m. m + m) (sym eh)
 
       one-half : ρ .bits ≡ 1 → sizeOf one ≡ half
       one-half b = omega (arith, one-twice ρ h b, twice-half)
@@ -294,11 +294,11 @@ module _ (field : ℕ) (child : ℕ → List (List ℕ) → List (List ℕ)) whe
 
       -- the position lies in the first half
       abbrev Above : ℕ → ℕ → Value F
-      Above c = byRun (ρ .first + (c - 1))
+      Above c = byRun (ρ .from + (c - 1))
 
-      above-words : (ys : List ℕ) {zs : List ℕ} → zs ≡ High (sizeOf (halfFrom ρ (ρ .first + (p - 1)))) (Above p) ys
+      above-words : (ys : List ℕ) {zs : List ℕ} → zs ≡ High (sizeOf (halfFrom ρ (ρ .from + (p - 1)))) (Above p) ys
           → zs ≡ High half (Above (2 ^ (ρ .bits - 1))) ys
-      above-words ys ez = ez ∙ ap₂ (λ m c. High m (Above c) ys) (from-half (ρ .first + (p - 1))) ep
+      above-words ys ez = ez ∙ ap₂ (λ m c. High m (Above c) ys) (from-half (ρ .from + (p - 1))) ep
 
       above-elements : path .position < half → (j : ℕ) → j < 2 ^ (ρ .bits - 1) * below ρ
           → here (path .position) (2 ^ (ρ .bits - 1) * below ρ + j) ≡ Above (2 ^ (ρ .bits - 1)) j
@@ -308,7 +308,7 @@ module _ (field : ℕ) (child : ℕ → List (List ℕ) → List (List ℕ)) whe
 
       filled-first : {next : ℕ} {ys zs : List ℕ} → path .position < half → ρ .bits ≡ 1 → next ≡ path .at + 16 * (childCount ρ - 1)
           → ys ≡ Low (sizeOf one) (inChild next (path .position))
-          → zs ≡ High (sizeOf (halfFrom ρ (ρ .first + (p - 1)))) (Above p) ys → Both xs ys zs ≡ Whole
+          → zs ≡ High (sizeOf (halfFrom ρ (ρ .from + (p - 1)))) (Above p) ys → Both xs ys zs ≡ Whole
       unfolding here
       filled-first {ys = ys} l b f ey ez =
           both (path .position) (inChild (path .at + 16 * (childCount ρ - 1)) (path .position)) (Above (2 ^ (ρ .bits - 1))) refl
@@ -317,14 +317,14 @@ module _ (field : ℕ) (child : ℕ → List (List ℕ) → List (List ℕ)) whe
           (ey ∙ ap₂ (λ m a. Low m (inChild a (path .position))) (one-half b) f)
           (above-words ys ez)
 
-      filled-front : {ys zs : List ℕ} → path .position < half → ys ≡ Low (sizeOf (front ρ)) (inHalf (ρ .first) (path .position))
-          → zs ≡ High (sizeOf (halfFrom ρ (ρ .first + (p - 1)))) (Above p) ys → Both xs ys zs ≡ Whole
+      filled-front : {ys zs : List ℕ} → path .position < half → ys ≡ Low (sizeOf (firstHalf ρ)) (inHalf (ρ .from) (path .position))
+          → zs ≡ High (sizeOf (halfFrom ρ (ρ .from + (p - 1)))) (Above p) ys → Both xs ys zs ≡ Whole
       unfolding here pathElement
       filled-front {ys} l ey ez =
-          both (path .position) (inHalf (ρ .first) (path .position)) (Above (2 ^ (ρ .bits - 1))) refl
+          both (path .position) (inHalf (ρ .from) (path .position)) (Above (2 ^ (ρ .bits - 1))) refl
           (λ j m. refl)
           (above-elements l)
-          (ey ∙ ap (λ m. Low m (inHalf (ρ .first) (path .position))) (from-half (ρ .first)))
+          (ey ∙ ap (λ m. Low m (inHalf (ρ .from) (path .position))) (from-half (ρ .from)))
           (above-words ys ez)
 
       -- the position lies in the second half
@@ -337,57 +337,57 @@ module _ (field : ℕ) (child : ℕ → List (List ℕ) → List (List ℕ)) whe
       position : half ≤ path .position → 2 ^ (ρ .bits - 1) * below ρ + rest ≡ path .position
       position l = omega (arith, product)
 
-      below-words : {ys : List ℕ} → ys ≡ Low (sizeOf (front ρ)) (byRun (ρ .first)) → ys ≡ Low half (byRun (ρ .first))
-      below-words ey = ey ∙ ap (λ m. Low m (byRun (ρ .first))) (from-half (ρ .first))
+      below-words : {ys : List ℕ} → ys ≡ Low (sizeOf (firstHalf ρ)) (byRun (ρ .from)) → ys ≡ Low half (byRun (ρ .from))
+      below-words ey = ey ∙ ap (λ m. Low m (byRun (ρ .from))) (from-half (ρ .from))
 
       below-elements : half ≤ path .position → (j : ℕ) → j < 2 ^ (ρ .bits - 1) * below ρ
-          → here (2 ^ (ρ .bits - 1) * below ρ + rest) j ≡ byRun (ρ .first) j
+          → here (2 ^ (ρ .bits - 1) * below ρ + rest) j ≡ byRun (ρ .from) j
       unfolding here
       below-elements l j m = path-below leaf child bytes correction (path .at) ρ (ok .range) h rest j (rest-below l) m
 
       filled-second : {next : ℕ} {ys zs : List ℕ} → half ≤ path .position → ρ .bits ≡ 1 → next ≡ path .at + 16 * (childCount ρ - 1)
-          → ys ≡ Low (sizeOf (front ρ)) (byRun (ρ .first)) → zs ≡ High (sizeOf one) (inChild next rest) ys → Both xs ys zs ≡ Whole
+          → ys ≡ Low (sizeOf (firstHalf ρ)) (byRun (ρ .from)) → zs ≡ High (sizeOf one) (inChild next rest) ys → Both xs ys zs ≡ Whole
       unfolding here
       filled-second {ys = ys} l b f ey ez =
-          both (2 ^ (ρ .bits - 1) * below ρ + rest) (byRun (ρ .first)) (inChild (path .at + 16 * (childCount ρ - 1)) rest) (position l)
+          both (2 ^ (ρ .bits - 1) * below ρ + rest) (byRun (ρ .from)) (inChild (path .at + 16 * (childCount ρ - 1)) rest) (position l)
           (below-elements l)
           (λ j m. path-second leaf child bytes correction (path .at) ρ (ok .range) h rest j b (rest-below l) m)
           (below-words ey)
           (ez ∙ ap₂ (λ m a. High m (inChild a rest) ys) (one-half b) f)
 
-      filled-back : {ys zs : List ℕ} → half ≤ path .position → ys ≡ Low (sizeOf (front ρ)) (byRun (ρ .first))
-          → zs ≡ High (sizeOf (halfFrom ρ (ρ .first + p))) (inHalf (ρ .first + p) rest) ys → Both xs ys zs ≡ Whole
+      filled-back : {ys zs : List ℕ} → half ≤ path .position → ys ≡ Low (sizeOf (firstHalf ρ)) (byRun (ρ .from))
+          → zs ≡ High (sizeOf (halfFrom ρ (ρ .from + p))) (inHalf (ρ .from + p) rest) ys → Both xs ys zs ≡ Whole
       unfolding here
       filled-back {ys} l ey ez =
-          both (2 ^ (ρ .bits - 1) * below ρ + rest) (byRun (ρ .first)) (inHalf (ρ .first + 2 ^ (ρ .bits - 1)) rest) (position l)
+          both (2 ^ (ρ .bits - 1) * below ρ + rest) (byRun (ρ .from)) (inHalf (ρ .from + 2 ^ (ρ .bits - 1)) rest) (position l)
           (below-elements l)
           (λ j m. path-back leaf child bytes correction (path .at) ρ (ok .range) h rest j)
           (below-words ey)
-          (ez ∙ ap₂ (λ m c. High m (inHalf (ρ .first + c) rest) ys) (from-half (ρ .first + p)) ep)
+          (ez ∙ ap₂ (λ m c. High m (inHalf (ρ .from + c) rest) ys) (from-half (ρ .from + p)) ep)
 
       -- the half that holds the path, as the path that goes on
-      filled-low : {r : Path} {ys zs : List ℕ} → path .position < half → r ≡ pathIn path (ρ .first) (path .position)
+      filled-low : {r : Path} {ys zs : List ℕ} → path .position < half → r ≡ pathIn path (ρ .from) (path .position)
           → ys ≡ Low (sizeOf (r .range)) (pathElement leaf child r bytes correction)
-          → zs ≡ High (sizeOf (halfFrom ρ (ρ .first + (p - 1)))) (Above p) ys → Both xs ys zs ≡ Whole
+          → zs ≡ High (sizeOf (halfFrom ρ (ρ .from + (p - 1)))) (Above p) ys → Both xs ys zs ≡ Whole
       filled-low {ys = ys} {zs} l er ey ez =
-          in-cases path (ρ .first) (path .position)
+          in-cases path (ρ .from) (path .position)
           (λ x. ys ≡ Low (sizeOf (x .range)) (pathElement leaf child x bytes correction) → Both xs ys zs ≡ Whole)
           (λ b k. filled-first l b refl k ez)
           (λ b k. filled-front l k ez)
           (rw er at ey)
 
-      filled-high : {r : Path} {ys zs : List ℕ} → half ≤ path .position → r ≡ pathIn path (ρ .first + p) rest
-          → ys ≡ Low (sizeOf (front ρ)) (byRun (ρ .first))
+      filled-high : {r : Path} {ys zs : List ℕ} → half ≤ path .position → r ≡ pathIn path (ρ .from + p) rest
+          → ys ≡ Low (sizeOf (firstHalf ρ)) (byRun (ρ .from))
           → zs ≡ High (sizeOf (r .range)) (pathElement leaf child r bytes correction) ys → Both xs ys zs ≡ Whole
       filled-high {ys = ys} {zs} l er ey ez =
-          in-cases path (ρ .first + p) rest
+          in-cases path (ρ .from + p) rest
           (λ x. zs ≡ High (sizeOf (x .range)) (pathElement leaf child x bytes correction) ys → Both xs ys zs ≡ Whole)
           (λ b k. filled-second l b refl ey k)
           (λ b k. filled-back l ey k)
           (rw er at ez)
 
     module _ (h : path .range .levels ≢ 0) (e : length xs ≡ sizeOf (path .range) * F .elements .width) (r : Halves) (parts : AreHalves path r) {ys zs : List ℕ} where
-      pub filled-first-holds : r .first ≡ true
+      pub filled-first-holds : r .lower ≡ true
           → ys ≡ added F (sizeOf (r .below .range)) (pathElement leaf child (r .below) bytes correction) (take (length xs / 2) xs)
           → zs ≡ added F (sizeOf (r .beside)) (runElement leaf child (r .beside) bytes (path .at)) (second (length xs / 2) xs ys)
           → Both xs ys zs ≡ added F (sizeOf (path .range)) (pathElement leaf child path bytes correction) xs
@@ -395,7 +395,7 @@ module _ (field : ℕ) (child : ℕ → List (List ℕ) → List (List ℕ)) whe
           let a = holds-first path parts t in
           filled-low h e refl refl (a .inside) (a .on) ey (rw (a .run) at ez)
 
-      pub filled-second-holds : r .first ≡ false
+      pub filled-second-holds : r .lower ≡ false
           → ys ≡ added F (sizeOf (r .beside)) (runElement leaf child (r .beside) bytes (path .at)) (take (length xs / 2) xs)
           → zs ≡ added F (sizeOf (r .below .range)) (pathElement leaf child (r .below) bytes correction) (second (length xs / 2) xs ys)
           → Both xs ys zs ≡ added F (sizeOf (path .range)) (pathElement leaf child path bytes correction) xs

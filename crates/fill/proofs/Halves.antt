@@ -24,7 +24,7 @@ use Rattle.field.proofs.PrimeField.{primeLaws}
 use Rattle.field.proofs.KindOf.{kind-1, kind-2, words-1, words-2}
 use Rattle.tree.specs.Added.{added}
 use Rattle.tree.specs.Inner.Nodes.{nodeOf}
-use Rattle.fill.specs.Inner.Ranges.{pairOf, leafAdded, elementAdded, childrenAdded}
+use Rattle.fill.specs.Inner.Ranges.{firstOrSecond, leafAdded, elementAdded, childrenAdded}
 use Rattle.tree.proofs.Nodes.{IsBlock, leaf-block, leaf-prime}
 use Rattle.tree.proofs.Added.{added-cong, added-parts, length-added}
 
@@ -128,7 +128,7 @@ abbrev summed : List ℕ → ℕ → ℕ → List ℕ
 summed xs i x = set xs i (bitXor (getD xs i 0) x)
 
 pub added-blocks : (xs : List ℕ) (a b : Block) → length xs ≡ 4
-    → summed (summed (summed (summed xs 0 (a .low)) 1 (a .high)) 2 (b .low)) 3 (b .high) ≡ added binary 2 (pairOf a b) xs
+    → summed (summed (summed (summed xs 0 (a .low)) 1 (a .high)) 2 (b .low)) 3 (b .high) ≡ added binary 2 (firstOrSecond a b) xs
 unfolding added flat
 added-blocks [] a b e = absurd (omega arith)
 added-blocks (x ∷ []) a b e = absurd (omega arith)
@@ -139,7 +139,7 @@ added-blocks (x ∷ y ∷ z ∷ w ∷ v ∷ xs) a b e = absurd (omega arith)
 
 pub added-primes : (xs : List ℕ) (a b : ℕ) {x y r t : Prime} → length xs ≡ 2 → x ≡ primeReduce a → y ≡ primeReduce b
     → r ≡ primeAdd (prime (getD xs 0 0)) x → t ≡ primeAdd (prime (getD xs 1 0)) y
-    → set (set xs 0 (r .word)) 1 (t .word) ≡ added primes 2 (pairOf (primeReduce a) (primeReduce b)) xs
+    → set (set xs 0 (r .word)) 1 (t .word) ≡ added primes 2 (firstOrSecond (primeReduce a) (primeReduce b)) xs
 unfolding added flat
 added-primes [] a b e ex ey er et = absurd (omega arith)
 added-primes (x ∷ []) a b e ex ey er et = absurd (omega arith)
@@ -159,20 +159,20 @@ module _ (field : ℕ) (xs : List ℕ) where
     here : child c s ≡ child (c + 0) s
     here = ap (λ n. child n s) (sym (add-zero c))
 
-    pub pair-1 : {ys : List ℕ} → field ≡ 1 → ys ≡ added binary 2 (pairOf a b) xs → ys ≡ childrenAdded field child c 2 s xs
+    pub pair-1 : {ys : List ℕ} → field ≡ 1 → ys ≡ added binary 2 (firstOrSecond a b) xs → ys ≡ childrenAdded field child c 2 s xs
     unfolding childrenAdded
-    pair-1 e ey = rw (kind-1 field e) (ey ∙ added-cong binary binaryLaws 2 (pairOf a b) (λ j. blockLeaf (child (c + j) s)) xs same)
+    pair-1 e ey = rw (kind-1 field e) (ey ∙ added-cong binary binaryLaws 2 (firstOrSecond a b) (λ j. blockLeaf (child (c + j) s)) xs same)
       where
-        same : (j : ℕ) → j < 2 → pairOf a b j ≡ blockLeaf (child (c + j) s)
+        same : (j : ℕ) → j < 2 → firstOrSecond a b j ≡ blockLeaf (child (c + j) s)
         same zero h = leaf-block ha (ea ∙ here)
         same (suc zero) h = leaf-block hb eb
         same (suc (suc j)) h = absurd (omega arith)
 
-    pub pair-2 : {ys : List ℕ} → field ≢ 1 → ys ≡ added primes 2 (pairOf (primeReduce (a .low)) (primeReduce (b .low))) xs → ys ≡ childrenAdded field child c 2 s xs
+    pub pair-2 : {ys : List ℕ} → field ≢ 1 → ys ≡ added primes 2 (firstOrSecond (primeReduce (a .low)) (primeReduce (b .low))) xs → ys ≡ childrenAdded field child c 2 s xs
     unfolding childrenAdded
-    pair-2 e ey = rw (kind-2 field e) (ey ∙ added-cong primes primeLaws 2 (pairOf (primeReduce (a .low)) (primeReduce (b .low))) (λ j. primeLeaf (child (c + j) s)) xs same)
+    pair-2 e ey = rw (kind-2 field e) (ey ∙ added-cong primes primeLaws 2 (firstOrSecond (primeReduce (a .low)) (primeReduce (b .low))) (λ j. primeLeaf (child (c + j) s)) xs same)
       where
-        same : (j : ℕ) → j < 2 → pairOf (primeReduce (a .low)) (primeReduce (b .low)) j ≡ primeLeaf (child (c + j) s)
+        same : (j : ℕ) → j < 2 → firstOrSecond (primeReduce (a .low)) (primeReduce (b .low)) j ≡ primeLeaf (child (c + j) s)
         same zero h = leaf-prime ha (ea ∙ here)
         same (suc zero) h = leaf-prime hb eb
         same (suc (suc j)) h = absurd (omega arith)

@@ -13,7 +13,7 @@ use borrow.Author.Tests.{eq-eqb, ne-eqb, eqb-true, eqb-false}
 use Rattle.algebra.specs.Choice.{choose}
 use Rattle.tree.specs.Inner.Branches.{IsBranch, IsPunctured}
 use Rattle.tree.specs.declared.punctured.Punctured.{Punctured}
-use Rattle.fill.specs.Inner.Ranges.{childCount, below, leftOf, sizeOf, IsRange, allChildren, halfFrom, front, IsRun, IsPath, pathIn, FirstHolds, SecondHolds, AreHalves}
+use Rattle.fill.specs.Inner.Ranges.{childCount, below, leftOf, sizeOf, IsRange, allChildren, halfFrom, firstHalf, IsRun, IsPath, pathIn, FirstHolds, SecondHolds, AreHalves}
 use Rattle.fill.specs.declared.range.Range.{Range}
 use Rattle.fill.specs.declared.range.Path.{Path}
 use Rattle.fill.specs.declared.range.Halves.{Halves}
@@ -92,26 +92,26 @@ module _ (ρ : Range) (ok : IsRange ρ) where
   pub one-range : IsRange (allChildren (ρ .«branch_bits») (ρ .levels - 1))
   one-range = all-range (ρ .«branch_bits») (ρ .levels - 1) (ok .branch)
 
-  half-range : (c : ℕ) → ρ .bits ≢ 1 → c + 2 ^ (ρ .bits - 1) ≤ ρ .first + 2 ^ ρ .bits → IsRange (halfFrom ρ c)
+  half-range : (c : ℕ) → ρ .bits ≢ 1 → c + 2 ^ (ρ .bits - 1) ≤ ρ .from + 2 ^ ρ .bits → IsRange (halfFrom ρ c)
   half-range c e l =
       record { two = omega (arith, ok .two); most = omega (arith, ok .most); within = omega (arith, ok .within); branch = ok .branch }
 
-  pub front-range : ρ .bits ≢ 1 → IsRange (front ρ)
-  front-range e = half-range (ρ .first) e (omega (arith, halved (ρ .bits) (ok .two)))
+  pub first-half-range : ρ .bits ≢ 1 → IsRange (firstHalf ρ)
+  first-half-range e = half-range (ρ .from) e (omega (arith, halved (ρ .bits) (ok .two)))
 
-  pub back-range : {p : ℕ} → ρ .bits ≢ 1 → p ≡ 2 ^ (ρ .bits - 1) → IsRange (halfFrom ρ (ρ .first + p))
-  back-range e q = half-range (ρ .first + _) e (omega (arith, halved (ρ .bits) (ok .two)))
+  pub back-range : {p : ℕ} → ρ .bits ≢ 1 → p ≡ 2 ^ (ρ .bits - 1) → IsRange (halfFrom ρ (ρ .from + p))
+  back-range e q = half-range (ρ .from + _) e (omega (arith, halved (ρ .bits) (ok .two)))
 
 -- ---- numbers that fit
 
 module _ (ρ : Range) (ok : IsRange ρ) where
-  pub pair-keys : ρ .bits ≡ 1 → ρ .first + 1 < 8
+  pub pair-keys : ρ .bits ≡ 1 → ρ .from + 1 < 8
   pair-keys e = omega (arith, ok .within, ap (λ n. 2 ^ n) e, eight (ρ .«branch_bits») (ok .branch))
 
   pub bits-few : ρ .bits - 1 < 64
   bits-few = omega (arith, ok .most, ok .branch .eight)
 
-  pub back-fits : {p : ℕ} → p ≡ 2 ^ (ρ .bits - 1) → Fits w64 (ρ .first + p)
+  pub back-fits : {p : ℕ} → p ≡ 2 ^ (ρ .bits - 1) → Fits w64 (ρ .from + p)
   back-fits q = record { fits = omega (arith, ok .within, halved (ρ .bits) (ok .two), eight (ρ .«branch_bits») (ok .branch)) }
 
 -- half of a range, by its exponent
@@ -125,16 +125,16 @@ module _ (ρ : Range) (ok : IsRange ρ) (h : ρ .levels ≢ 0) (short : ρ .leve
   pub exponent-fits : Fits w64 ((ρ .levels - 1) * ρ .«branch_bits» + (ρ .bits - 1))
   exponent-fits = record { fits = omega (arith, exponent-few) }
 
-  pub half-power : {r : ℕ} → r ≡ 2 ^ ((ρ .levels - 1) * ρ .«branch_bits» + (ρ .bits - 1)) → r ≡ sizeOf (front ρ)
+  pub half-power : {r : ℕ} → r ≡ 2 ^ ((ρ .levels - 1) * ρ .«branch_bits» + (ρ .bits - 1)) → r ≡ sizeOf (firstHalf ρ)
   half-power e =
       e
-      ∙ ap (λ n. 2 ^ n) {x = (ρ .levels - 1) * ρ .«branch_bits» + (ρ .bits - 1)} {y = leftOf (front ρ)} (omega (arith, left-is (front ρ) h))
+      ∙ ap (λ n. 2 ^ n) {x = (ρ .levels - 1) * ρ .«branch_bits» + (ρ .bits - 1)} {y = leftOf (firstHalf ρ)} (omega (arith, left-is (firstHalf ρ) h))
 
 -- ---- runs of siblings
 
 module _ (ρ : Range) (at n : ℕ) (ok : IsRun ρ at n) where
   module _ (e : ρ .bits ≡ 0) where
-    pub sibling-room : at + 16 * ρ .first + 16 ≤ n
+    pub sibling-room : at + 16 * ρ .from + 16 ≤ n
     sibling-room = omega (arith, ok .room, ap (λ m. 2 ^ m) e)
 
     pub sibling-range : IsRange (allChildren (ρ .«branch_bits») (ρ .levels - 1))
@@ -152,8 +152,8 @@ module _ (ρ : Range) (at n : ℕ) (ok : IsRun ρ at n) where
     halves-run : 2 ^ ρ .bits ≡ 2 ^ (ρ .bits - 1) + 2 ^ (ρ .bits - 1)
     halves-run = halved (ρ .bits) (omega arith)
 
-    pub front-run : IsRun (front ρ) at n
-    front-run =
+    pub first-half-run : IsRun (firstHalf ρ) at n
+    first-half-run =
         record {
           some = ok .some;
           branch = ok .branch;
@@ -163,10 +163,10 @@ module _ (ρ : Range) (at n : ℕ) (ok : IsRun ρ at n) where
         }
 
     module _ {p : ℕ} (q : p ≡ 2 ^ (ρ .bits - 1)) where
-      pub run-fits : Fits w64 (ρ .first + p)
+      pub run-fits : Fits w64 (ρ .from + p)
       run-fits = record { fits = omega (arith, ok .few, halves-run) }
 
-      pub back-run : IsRun (halfFrom ρ (ρ .first + p)) at n
+      pub back-run : IsRun (halfFrom ρ (ρ .from + p)) at n
       back-run =
           record {
             some = ok .some;
@@ -210,11 +210,11 @@ module _ (path : Path) (c s : ℕ) where
       decide false e = half (eqb-false (path .range .bits) 1 e)
 
 -- which half holds the path
-pub holds-first : (path : Path) {r : Halves} → AreHalves path r → r .first ≡ true → FirstHolds path (r .below) (r .beside)
+pub holds-first : (path : Path) {r : Halves} → AreHalves path r → r .lower ≡ true → FirstHolds path (r .below) (r .beside)
 unfolding AreHalves
 holds-first path a e = rw e at a
 
-pub holds-second : (path : Path) {r : Halves} → AreHalves path r → r .first ≡ false → SecondHolds path (r .below) (r .beside)
+pub holds-second : (path : Path) {r : Halves} → AreHalves path r → r .lower ≡ false → SecondHolds path (r .below) (r .beside)
 unfolding AreHalves
 holds-second path a e = rw e at a
 
@@ -234,11 +234,11 @@ module _ (path : Path) (n : ℕ) (ok : IsPath path n) (h : path .range .levels �
     pub count-some : 1 ≤ p
     count-some = omega (arith, pow-pos (path .range .bits - 1))
 
-    pub above-fits : Fits w64 (path .range .first + (p - 1))
+    pub above-fits : Fits w64 (path .range .from + (p - 1))
     above-fits = record { fits = omega (arith, ok .range .within, pairs-twice, eight (path .range .«branch_bits») (ok .range .branch)) }
 
   -- the other half as a run
-  run-of : (c : ℕ) → c + 2 ^ (path .range .bits - 1) + 1 ≤ path .range .first + 2 ^ path .range .bits → IsRun (halfFrom (path .range) c) (path .at) n
+  run-of : (c : ℕ) → c + 2 ^ (path .range .bits - 1) + 1 ≤ path .range .from + 2 ^ path .range .bits → IsRun (halfFrom (path .range) c) (path .at) n
   run-of c l =
       record {
         some = h;
@@ -248,16 +248,16 @@ module _ (path : Path) (n : ℕ) (ok : IsPath path n) (h : path .range .levels �
         room = omega (arith, ok .range .within, ok .room, levels-room);
       }
 
-  pub above-run : {p : ℕ} → p ≡ 2 ^ (path .range .bits - 1) → IsRun (halfFrom (path .range) (path .range .first + (p - 1))) (path .at) n
-  above-run q = run-of (path .range .first + _) (omega (arith, pairs-twice, pow-pos (path .range .bits - 1)))
+  pub above-run : {p : ℕ} → p ≡ 2 ^ (path .range .bits - 1) → IsRun (halfFrom (path .range) (path .range .from + (p - 1))) (path .at) n
+  above-run q = run-of (path .range .from + _) (omega (arith, pairs-twice, pow-pos (path .range .bits - 1)))
 
-  pub below-run : IsRun (front (path .range)) (path .at) n
-  below-run = run-of (path .range .first) (omega (arith, pairs-twice, pow-pos (path .range .bits - 1)))
+  pub below-run : IsRun (firstHalf (path .range)) (path .at) n
+  below-run = run-of (path .range .from) (omega (arith, pairs-twice, pow-pos (path .range .bits - 1)))
 
-  half-size : sizeOf (path .range) ≡ sizeOf (front (path .range)) + sizeOf (front (path .range))
-  half-size = half-twice (path .range) h (path .range .first) (two-some (path .range) (ok .range))
+  half-size : sizeOf (path .range) ≡ sizeOf (firstHalf (path .range)) + sizeOf (firstHalf (path .range))
+  half-size = half-twice (path .range) h (path .range .from) (two-some (path .range) (ok .range))
 
-  module _ {half : ℕ} (e : half ≡ sizeOf (front (path .range))) where
+  module _ {half : ℕ} (e : half ≡ sizeOf (firstHalf (path .range))) where
     pub past-half : half ≤ path .position → path .position - half < half
     past-half l = omega (arith, ok .inside, half-size)
 
@@ -300,46 +300,46 @@ module _ (path : Path) (n : ℕ) (ok : IsPath path n) (h : path .range .levels �
   pub wide-path : IsPath path (2 ^ 64 - 1)
   wide-path = record { range = ok .range; inside = ok .inside; short = ok .short; room = omega (arith, ok .room, ok .fits); fits = omega arith }
 
-  module _ (r : Halves) (parts : AreHalves path r) (e : r .first ≡ true) where
+  module _ (r : Halves) (parts : AreHalves path r) (e : r .lower ≡ true) where
     a : FirstHolds path (r .below) (r .beside)
     a = holds-first path parts e
 
     pub first-falls : {t : ℕ} → leftOf (path .range) ≡ t → leftOf (r .below .range) < t
-    first-falls l = held-falls refl (path .range .first) (path .position) (a .on) l
+    first-falls l = held-falls refl (path .range .from) (path .position) (a .on) l
 
     pub first-path : IsPath (r .below) n
-    first-path = held-path refl (path .range .first) (path .position) (a .on) (a .inside) (front-range (path .range) (ok .range))
+    first-path = held-path refl (path .range .from) (path .position) (a .on) (a .inside) (first-half-range (path .range) (ok .range))
 
     pub first-run : IsRun (r .beside) (path .at) n
     first-run = rw (a .run) (above-run refl)
 
-  module _ (r : Halves) (parts : AreHalves path r) (e : r .first ≡ false) where
+  module _ (r : Halves) (parts : AreHalves path r) (e : r .lower ≡ false) where
     b : SecondHolds path (r .below) (r .beside)
     b = holds-second path parts e
 
     pub second-falls : {t : ℕ} → leftOf (path .range) ≡ t → leftOf (r .below .range) < t
-    second-falls l = held-falls refl (path .range .first + 2 ^ (path .range .bits - 1)) _ (b .on) l
+    second-falls l = held-falls refl (path .range .from + 2 ^ (path .range .bits - 1)) _ (b .on) l
 
     pub second-path : IsPath (r .below) n
     second-path =
-        held-path refl (path .range .first + 2 ^ (path .range .bits - 1)) _ (b .on) (past-half refl (b .inside))
+        held-path refl (path .range .from + 2 ^ (path .range .bits - 1)) _ (b .on) (past-half refl (b .inside))
         (λ two. back-range (path .range) (ok .range) two refl)
 
     pub second-run : IsRun (r .beside) (path .at) n
     second-run = rw (b .run) below-run
 
 -- the halves made
-module _ (path : Path) {half p : ℕ} {below : Path} {beside : Range} (eh : half ≡ sizeOf (front (path .range))) (ep : p ≡ 2 ^ (path .range .bits - 1)) where
-  pub first-holds : path .position < half → below ≡ pathIn path (path .range .first) (path .position) → beside ≡ halfFrom (path .range) (path .range .first + (p - 1))
-      → AreHalves path (record { below = below; beside = beside; first = true })
+module _ (path : Path) {half p : ℕ} {below : Path} {beside : Range} (eh : half ≡ sizeOf (firstHalf (path .range))) (ep : p ≡ 2 ^ (path .range .bits - 1)) where
+  pub first-holds : path .position < half → below ≡ pathIn path (path .range .from) (path .position) → beside ≡ halfFrom (path .range) (path .range .from + (p - 1))
+      → AreHalves path (record { below = below; beside = beside; lower = true })
   unfolding AreHalves
-  first-holds l eb er = record { inside = rw (← eh) l; on = eb; run = er ∙ ap (λ m. halfFrom (path .range) (path .range .first + (m - 1))) ep }
+  first-holds l eb er = record { inside = rw (← eh) l; on = eb; run = er ∙ ap (λ m. halfFrom (path .range) (path .range .from + (m - 1))) ep }
 
-  pub second-holds : half ≤ path .position → below ≡ pathIn path (path .range .first + p) (path .position - half) → beside ≡ front (path .range)
-      → AreHalves path (record { below = below; beside = beside; first = false })
+  pub second-holds : half ≤ path .position → below ≡ pathIn path (path .range .from + p) (path .position - half) → beside ≡ firstHalf (path .range)
+      → AreHalves path (record { below = below; beside = beside; lower = false })
   unfolding AreHalves
   second-holds l eb er =
-      record { inside = rw (← eh) l; on = eb ∙ ap₂ (λ m k. pathIn path (path .range .first + m) (path .position - k)) ep eh; run = er }
+      record { inside = rw (← eh) l; on = eb ∙ ap₂ (λ m k. pathIn path (path .range .from + m) (path .position - k)) ep eh; run = er }
 
 -- ---- all children of a root
 

@@ -12,7 +12,7 @@ ghost use Rattle.tree.specs.Added.{added};
 ghost use Rattle.tree.specs.Expanded.{leavesAdded, puncturedAdded};
 ghost use Rattle.tree.specs.Inner.Nodes.{nodeOf};
 ghost use Rattle.tree.specs.Inner.Branches.{IsBranch, IsPunctured};
-ghost use Rattle.fill.specs.Inner.Ranges.{pairOf, leafAdded, childrenAdded, elementAdded, IsRange, IsRun, IsPath, sizeOf, rangeElement, runElement, pathElement, bothAdded, allChildren};
+ghost use Rattle.fill.specs.Inner.Ranges.{firstOrSecond, leafAdded, childrenAdded, elementAdded, IsRange, IsRun, IsPath, sizeOf, rangeElement, runElement, pathElement, bothAdded, allChildren};
 use crate::range::Path;
 use crate::range::Range;
 use crate::range::parted;
@@ -20,8 +20,8 @@ use block_cipher::TwoBlocks;
 use field::Block;
 use field::Prime;
 use tree::Punctured;
-use tree_walk::node_at;
 use tree_walk::children;
+use tree_walk::node_at;
 use tree_walk::power;
 
 // Adds an element of field 1 to the one that two words hold.
@@ -80,23 +80,23 @@ fn add_words(field: usize, words: [u64; 2], acc: &mut [u64])
 // Adds two elements of field 1 to those that four words hold.
 fn add_blocks(both: TwoBlocks, acc: &mut [u64])
     requires { ⌜ length (now acc) ≡ 4 ⌝ }
-    ensures { λ _. ⌜ now (acc .exit) ≡ added binary 2 (pairOf (both .first) (both .second)) (now (acc .entry)) ⌝ }
+    ensures { λ _. ⌜ now (acc .exit) ≡ added binary 2 (firstOrSecond (both .one) (both .other)) (now (acc .entry)) ⌝ }
 {
-    acc[0] = acc[0] ^ both.first.low;
-    acc[1] = acc[1] ^ both.first.high;
-    acc[2] = acc[2] ^ both.second.low;
-    acc[3] = acc[3] ^ both.second.high;
+    acc[0] = acc[0] ^ both.one.low;
+    acc[1] = acc[1] ^ both.one.high;
+    acc[2] = acc[2] ^ both.other.low;
+    acc[3] = acc[3] ^ both.other.high;
 }
 
 // Adds the elements of field 2 of two leaves to those that two words hold.
 fn add_primes(both: TwoBlocks, acc: &mut [u64])
     requires { ⌜ length (now acc) ≡ 2 ⌝ }
-    ensures { λ _. ⌜ now (acc .exit) ≡ added primes 2 (pairOf (primeReduce (both .first .low)) (primeReduce (both .second .low))) (now (acc .entry)) ⌝ }
+    ensures { λ _. ⌜ now (acc .exit) ≡ added primes 2 (firstOrSecond (primeReduce (both .one .low)) (primeReduce (both .other .low))) (now (acc .entry)) ⌝ }
 {
-    let first = Prime { word: acc[0] };
-    let second = Prime { word: acc[1] };
-    let a = first.add(Prime::reduce(both.first.low));
-    let b = second.add(Prime::reduce(both.second.low));
+    let word0 = Prime { word: acc[0] };
+    let word1 = Prime { word: acc[1] };
+    let a = word0.add(Prime::reduce(both.one.low));
+    let b = word1.add(Prime::reduce(both.other.low));
     acc[0] = a.word;
     acc[1] = b.word;
 }
@@ -115,8 +115,8 @@ fn add_pair(
 {
     let ciphers = block_cipher::encrypt_two(tables, &keys[c], &keys[c + 1], s, s);
     let both = TwoBlocks {
-        first: ciphers.first.add(s),
-        second: ciphers.second.add(s),
+        one: ciphers.one.add(s),
+        other: ciphers.other.add(s),
     };
     if field == 1 {
         add_blocks(both, acc);
@@ -175,11 +175,11 @@ fn add_couple(
     acc: &mut [u64],
 )
     requires { ⌜ RoundTables (now tables) × (length (now acc) ≡ 4 * elementWords field) ⌝ }
-    ensures { λ _. ⌜ now (acc .exit) ≡ bothAdded field (childBy (keysFor (now (keys .entry)))) (allChildren 1 1) (nodeOf (both .first)) (nodeOf (both .second)) (now (acc .entry)) ⌝ }
+    ensures { λ _. ⌜ now (acc .exit) ≡ bothAdded field (childBy (keysFor (now (keys .entry)))) (allChildren 1 1) (nodeOf (both .one)) (nodeOf (both .other)) (now (acc .entry)) ⌝ }
 {
     let mid = acc.len() / 2;
-    add_pair(tables, keys, field, 0, both.first, &mut acc[..mid]);
-    add_pair(tables, keys, field, 0, both.second, &mut acc[mid..]);
+    add_pair(tables, keys, field, 0, both.one, &mut acc[..mid]);
+    add_pair(tables, keys, field, 0, both.other, &mut acc[mid..]);
 }
 
 // Adds the leaves two levels below each of two nodes with two children a node: the children of both nodes are made before any
@@ -192,10 +192,10 @@ fn add_both(
     acc: &mut [u64],
 )
     requires { ⌜ RoundTables (now tables) × (length (now acc) ≡ 8 * elementWords field) ⌝ }
-    ensures { λ _. ⌜ now (acc .exit) ≡ bothAdded field (childBy (keysFor (now (keys .entry)))) (allChildren 1 2) (nodeOf (both .first)) (nodeOf (both .second)) (now (acc .entry)) ⌝ }
+    ensures { λ _. ⌜ now (acc .exit) ≡ bothAdded field (childBy (keysFor (now (keys .entry)))) (allChildren 1 2) (nodeOf (both .one)) (nodeOf (both .other)) (now (acc .entry)) ⌝ }
 {
-    let low = children(tables, keys, 0, both.first);
-    let high = children(tables, keys, 0, both.second);
+    let low = children(tables, keys, 0, both.one);
+    let high = children(tables, keys, 0, both.other);
     let mid = acc.len() / 2;
     add_couple(tables, keys, field, low, &mut acc[..mid]);
     add_couple(tables, keys, field, high, &mut acc[mid..]);
@@ -216,13 +216,13 @@ fn add_range(
     let branch_bits = range.branch_bits;
     let levels = range.levels;
     let bits = range.bits;
-    let first = range.first;
+    let from = range.from;
     if levels == 0 {
         add_leaf(field, s, acc);
     } else if levels == 1 {
-        add_bottom(tables, keys, field, bits, first, s, acc);
+        add_bottom(tables, keys, field, bits, from, s, acc);
     } else if bits == 1 {
-        let both = children(tables, keys, first, s);
+        let both = children(tables, keys, from, s);
         if levels == 3 {
             if branch_bits == 1 {
                 add_both(tables, keys, field, both, acc);
@@ -233,23 +233,23 @@ fn add_range(
             branch_bits,
             levels: levels - 1,
             bits: branch_bits,
-            first: 0,
+            from: 0,
         };
         let mid = acc.len() / 2;
-        add_range(tables, keys, field, all, both.first, &mut acc[..mid]);
-        add_range(tables, keys, field, all, both.second, &mut acc[mid..]);
+        add_range(tables, keys, field, all, both.one, &mut acc[..mid]);
+        add_range(tables, keys, field, all, both.other, &mut acc[mid..]);
     } else {
         let low = Range {
             branch_bits,
             levels,
             bits: bits - 1,
-            first,
+            from,
         };
         let high = Range {
             branch_bits,
             levels,
             bits: bits - 1,
-            first: first + power(bits - 1),
+            from: from + power(bits - 1),
         };
         let mid = acc.len() / 2;
         add_range(tables, keys, field, low, s, &mut acc[..mid]);
@@ -273,14 +273,14 @@ fn add_run(
     let branch_bits = run.branch_bits;
     let levels = run.levels;
     let bits = run.bits;
-    let first = run.first;
+    let from = run.from;
     if bits == 0 {
-        let sibling = node_at(bytes, at + 16 * first);
+        let sibling = node_at(bytes, at + 16 * from);
         let all = Range {
             branch_bits,
             levels: levels - 1,
             bits: branch_bits,
-            first: 0,
+            from: 0,
         };
         add_range(tables, keys, field, all, sibling, acc);
     } else {
@@ -288,13 +288,13 @@ fn add_run(
             branch_bits,
             levels,
             bits: bits - 1,
-            first,
+            from,
         };
         let high = Range {
             branch_bits,
             levels,
             bits: bits - 1,
-            first: first + power(bits - 1),
+            from: from + power(bits - 1),
         };
         let mid = acc.len() / 2;
         add_run(tables, keys, field, low, at, bytes, &mut acc[..mid]);
@@ -323,7 +323,7 @@ fn add_path(
     }
     let mid = acc.len() / 2;
     let parts = parted(path);
-    if parts.first {
+    if parts.lower {
         add_path(
             tables,
             keys,
@@ -381,7 +381,7 @@ pub fn add_leaves(
         branch_bits,
         levels,
         bits: branch_bits,
-        first: 0,
+        from: 0,
     };
     add_range(tables, keys, field, all, Block::of_columns(s), acc);
 }
@@ -405,7 +405,7 @@ pub fn add_punctured(
             branch_bits: tree.branch_bits,
             levels: tree.levels,
             bits: tree.branch_bits,
-            first: 0,
+            from: 0,
         },
         position: tree.position,
         at: tree.at,

@@ -2,16 +2,16 @@
 ghost use mathlib.Core.Logic.{_≢_};
 ghost use mathlib.Core.Path.{_≡_};
 ghost use Prim.Native.Nat.{_+_, _*_, _-_, _^_, _≤_, _<_};
-ghost use Rattle.fill.specs.Inner.Ranges.{IsRange, IsPath, childCount, sizeOf, halfFrom, front, pathIn, AreHalves};
+ghost use Rattle.fill.specs.Inner.Ranges.{IsRange, IsPath, childCount, sizeOf, halfFrom, firstHalf, pathIn, AreHalves};
 use tree_walk::power;
 
-// The 2^bits children from child `first` on of a node that has so many levels below it and 2^branch_bits children. Where no
+// The 2^bits children from child `from` on of a node that has so many levels below it and 2^branch_bits children. Where no
 // level is left it stands for the node itself.
 pub struct Range {
     pub branch_bits: usize,
     pub levels: usize,
     pub bits: usize,
-    pub first: usize,
+    pub from: usize,
 }
 
 // A range with a position among the leaves below it, and the place where the bytes of its level's siblings begin.
@@ -26,13 +26,13 @@ pub struct Path {
 pub struct Halves {
     pub below: Path,
     pub beside: Range,
-    pub first: bool,
+    pub lower: bool,
 }
 
 // How many leaves are below half of a range.
 fn half_size(range: Range) -> usize
     requires { ⌜ IsRange range × (range .levels ≢ 0) × (range .levels * range .«branch_bits» ≤ 64) ⌝ }
-    ensures { λ r. ⌜ r ≡ sizeOf (front range) ⌝ }
+    ensures { λ r. ⌜ r ≡ sizeOf (firstHalf range) ⌝ }
 {
     power((range.levels - 1) * range.branch_bits + (range.bits - 1))
 }
@@ -55,7 +55,7 @@ fn half_from(range: Range, c: usize) -> Range
         branch_bits: range.branch_bits,
         levels: range.levels,
         bits: range.bits - 1,
-        first: c,
+        from: c,
     }
 }
 
@@ -71,7 +71,7 @@ fn path_in(path: Path, c: usize, position: usize) -> Path
                 branch_bits: range.branch_bits,
                 levels: range.levels - 1,
                 bits: range.branch_bits,
-                first: 0,
+                from: 0,
             },
             position,
             at: next_level(range.branch_bits, path.at),
@@ -82,7 +82,7 @@ fn path_in(path: Path, c: usize, position: usize) -> Path
                 branch_bits: range.branch_bits,
                 levels: range.levels,
                 bits: range.bits - 1,
-                first: c,
+                from: c,
             },
             position,
             at: path.at,
@@ -97,24 +97,24 @@ pub fn parted(path: Path) -> Halves
 {
     let range = path.range;
     let position = path.position;
-    let first = range.first;
+    let from = range.from;
     let half = half_size(range);
     let count = power(range.bits - 1);
     if position < half {
-        let below = path_in(path, first, position);
-        let beside = half_from(range, first + (count - 1));
+        let below = path_in(path, from, position);
+        let beside = half_from(range, from + (count - 1));
         Halves {
             below,
             beside,
-            first: true,
+            lower: true,
         }
     } else {
-        let below = path_in(path, first + count, position - half);
-        let beside = half_from(range, first);
+        let below = path_in(path, from + count, position - half);
+        let beside = half_from(range, from);
         Halves {
             below,
             beside,
-            first: false,
+            lower: false,
         }
     }
 }

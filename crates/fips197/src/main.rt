@@ -129,11 +129,11 @@ fn pair_wrong(
 {
     let first_keys = aes128::schedule(sbox, keys[0]);
     let second_keys = aes128::schedule(sbox, keys[1]);
-    let first = Block::of_columns(blocks[0]);
-    let second = Block::of_columns(blocks[1]);
-    let mine = block_cipher::encrypt_two(tables, &first_keys, &second_keys, first, second);
-    differ(bytes(mine.first.columns()), bytes(want[0]))
-        | differ(bytes(mine.second.columns()), bytes(want[1]))
+    let one = Block::of_columns(blocks[0]);
+    let other = Block::of_columns(blocks[1]);
+    let mine = block_cipher::encrypt_two(tables, &first_keys, &second_keys, one, other);
+    differ(bytes(mine.one.columns()), bytes(want[0]))
+        | differ(bytes(mine.other.columns()), bytes(want[1]))
 }
 
 // Four encryptions against what is published, one at a time and two at a time.
@@ -206,8 +206,8 @@ fn chain_wrong(sbox: &[u8; 256], tables: &[u64; 1536], plain: &[u8; 256]) -> u8
             let two = block_cipher::encrypt_two(tables, &keys, &lasts, block, key);
             d = d
                 | apart(plain, &w, block, mine)
-                | apart(plain, &w, block, two.first)
-                | apart(plain, &v, key, two.second);
+                | apart(plain, &w, block, two.one)
+                | apart(plain, &v, key, two.other);
             block = mine;
             m += 1;
         }

@@ -10,13 +10,13 @@ use lib.Seq.{getD-drop, getD-take}
 use Rattle.algebra.specs.Coding.{over}
 use Rattle.algebra.proofs.Written.{flat-same, over-value, taken-length, taken-word}
 use Rattle.field.proofs.Xor.{xor-back}
-use Rattle.pads.specs.Choice.{padAt, messageAt}
+use Rattle.pads.specs.Choice.{padAt, oneOfTwoAt}
 use Rattle.answer.specs.Outcome.{Outcome}
 use Rattle.answer.proofs.Above.{bits-all}
 use Rattle.answer.proofs.Answers.{outcome-is}
 use Rattle.messages.specs.Bytes.{Two, byte, sixteen, thirtyTwo}
 use Rattle.messages.specs.Calls.{CorrectionLent, MaskLent, UnmaskLent, correctionBit, answerOf, openedOf, correctionBits, maskMessages, unmaskMessages}
-use Rattle.messages.specs.Opening.{Batch, BatchFits, NamedAt, Opening, correctedBatch, sentBits, maskedBatch, sentAnswers, openedBatch}
+use Rattle.messages.specs.Opening.{Batch, BatchFits, NamedAt, Opening, correctedBatch, sentCorrectionBits, maskedBatch, sentAnswers, openedBatch}
 use Rattle.messages.proofs.Accepts.{accepts}
 use Rattle.messages.proofs.Turns.{wide-byte, wide-sixteen, wide-two}
 use Rattle.messages.proofs.Fronts.{take-flat, byte-0, byte-1}
@@ -42,7 +42,7 @@ bit-back (suc (suc u)) h = absurd (omega arith)
 pub pad-from-0 : (l : List ℕ) (k : ℕ) → padAt l 0 k ≡ take 16 (drop (16 * k) l)
 pad-from-0 l k = let z : k - 0 ≡ k = omega arith in rw z
 
-pub message-from-0 : (l : List ℕ) (k u : ℕ) → messageAt l 0 k u ≡ take 16 (drop (32 * k + 16 * u) l)
+pub message-from-0 : (l : List ℕ) (k u : ℕ) → oneOfTwoAt l 0 k u ≡ take 16 (drop (32 * k + 16 * u) l)
 message-from-0 l k u = let z : k - 0 ≡ k = omega arith in rw z
 
 -- equal blocks are equal byte by byte
@@ -70,18 +70,18 @@ module _ (B : Batch) (F : BatchFits B) (N : (k : ℕ) → k < B .count → Named
       let wanted-all = bits-all (B .count) (B .wanted) (F .wanted-length) (F .wanted-bits) in
       accepts .correction (B .count) _ .0 (record { all = search })
 
-  bits-are : sentBits B ≡ take (B .count * 1) (over byte (B .count) (correctionBit (B .choices) (B .wanted)) (B .bitsOut))
+  bits-are : sentCorrectionBits B ≡ take (B .count * 1) (over byte (B .count) (correctionBit (B .choices) (B .wanted)) (B .bitsOut))
   unfolding correctionBits
   bits-are =
       ap (λ (o : Outcome ℕ CorrectionLent). take (o .written) (o .lent .bits)) (outcome-is _ _ _ _ _ corrected-zero)
       ∙ rw (mul-one (B .count))
 
-  bits-length : length (sentBits B) ≡ B .count
+  bits-length : length (sentCorrectionBits B) ≡ B .count
   bits-length =
       ap length bits-are ∙ taken-length byte wide-byte (B .count) (correctionBit (B .choices) (B .wanted)) (B .bitsOut) (omega (arith, F .bits-room))
       ∙ mul-one (B .count)
 
-  bit-is : (k : ℕ) → k < B .count → getD (sentBits B) k 0 ≡ bitXor (getD (B .choices) k 0) (getD (B .wanted) k 0)
+  bit-is : (k : ℕ) → k < B .count → getD (sentCorrectionBits B) k 0 ≡ bitXor (getD (B .choices) k 0) (getD (B .wanted) k 0)
   bit-is k h =
       let i : k ≡ k * 1 + 0 = omega arith in
       ap (λ (l : List ℕ). getD l k 0) bits-are
@@ -90,11 +90,11 @@ module _ (B : Batch) (F : BatchFits B) (N : (k : ℕ) → k < B .count → Named
 
   masked-zero : maskedBatch B .number ≡ 0
   masked-zero =
-      let bits-all = bits-all (B .count) (sentBits B) bits-length (λ k h. rw (bit-is k h) (bit-xor _ _ (N k h .bit) (F .wanted-bits k h))) in
+      let bits-all = bits-all (B .count) (sentCorrectionBits B) bits-length (λ k h. rw (bit-is k h) (bit-xor _ _ (N k h .bit) (F .wanted-bits k h))) in
       accepts .mask (B .count) _ .0 (record { all = search bits-length })
 
   abbrev answer-at : ℕ → Two
-  answer-at = answerOf (sentBits B) (B .scalarPads) (B .messages)
+  answer-at = answerOf (sentCorrectionBits B) (B .scalarPads) (B .messages)
 
   answers-are : sentAnswers B ≡ take (B .count * 32) (over thirtyTwo (B .count) answer-at (B .answersOut))
   unfolding maskMessages
@@ -124,7 +124,7 @@ module _ (B : Batch) (F : BatchFits B) (N : (k : ℕ) → k < B .count → Named
   opened-are = ap (λ (o : Outcome ℕ UnmaskLent). o .lent .messages) (outcome-is _ _ _ _ _ opened-zero)
 
   -- a byte of the block wanted: the message's, masked by the pad that the choice names
-  wanted-byte : (k i u w : ℕ) → k < B .count → i < 16 → u ≤ 1 → w ≤ 1 → getD (sentBits B) k 0 ≡ bitXor u w
+  wanted-byte : (k i u w : ℕ) → k < B .count → i < 16 → u ≤ 1 → w ≤ 1 → getD (sentCorrectionBits B) k 0 ≡ bitXor u w
       → getD (sentAnswers B) (32 * k + 16 * w + i) 0
       ≡ bitXor (getD (B .messages) (32 * k + 16 * w + i) 0) (getD (B .scalarPads) (32 * k + 16 * u + i) 0)
   unfolding answerOf
@@ -155,7 +155,7 @@ module _ (B : Batch) (F : BatchFits B) (N : (k : ℕ) → k < B .count → Named
             (getD (B .scalarPads) (32 * k + 16 * getD (B .choices) k 0 + i) 0),
       )
 
-  opens-at : (k : ℕ) → k < B .count → padAt (openedBatch B .lent .messages) 0 k ≡ messageAt (B .messages) 0 k (getD (B .wanted) k 0)
+  opens-at : (k : ℕ) → k < B .count → padAt (openedBatch B .lent .messages) 0 k ≡ oneOfTwoAt (B .messages) 0 k (getD (B .wanted) k 0)
   opens-at k h =
       let w = getD (B .wanted) k 0 in
       let bit : w ≤ 1 = F .wanted-bits k h in

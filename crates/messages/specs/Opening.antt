@@ -4,9 +4,9 @@ use mathlib.Core.Path.{_≡_}
 use mathlib.Core.List.{List}
 use Prim.Native.Nat.{ℕ, _*_, _≤_, _<_}
 use lib.ListN.{length, getD, take}
-use Rattle.answer.specs.Bytes.{Bits}
+use Rattle.answer.specs.Bytes.{AreBits}
 use Rattle.answer.specs.Outcome.{Outcome}
-use Rattle.pads.specs.Choice.{padAt, messageAt}
+use Rattle.pads.specs.Choice.{padAt, oneOfTwoAt}
 use Rattle.messages.specs.Calls.{CorrectionLent, MaskLent, UnmaskLent, lentCorrection, lentMask, lentUnmask}
 use Rattle.messages.specs.Calls.{correctionBits, maskMessages, unmaskMessages}
 
@@ -31,7 +31,7 @@ pub record BatchFits (B : Batch) : Type 0 where
   pub noisePads-length : length (B .noisePads) ≡ 16 * B .count
   pub scalarPads-length : length (B .scalarPads) ≡ 32 * B .count
   pub messages-length : length (B .messages) ≡ 32 * B .count
-  pub wanted-bits : Bits (B .count) (B .wanted)
+  pub wanted-bits : AreBits (B .count) (B .wanted)
   pub bits-room : B .count ≤ length (B .bitsOut)
   pub answers-room : 32 * B .count ≤ length (B .answersOut)
   pub messages-room : 16 * B .count ≤ length (B .messagesOut)
@@ -41,11 +41,11 @@ pub record BatchFits (B : Batch) : Type 0 where
 abbrev pub correctedBatch : Batch → Outcome ℕ CorrectionLent
 correctedBatch B = correctionBits (B .count) (lentCorrection (B .choices) (B .wanted) (B .bitsOut))
 
-abbrev pub sentBits : Batch → List ℕ
-sentBits B = take (correctedBatch B .written) (correctedBatch B .lent .bits)
+abbrev pub sentCorrectionBits : Batch → List ℕ
+sentCorrectionBits B = take (correctedBatch B .written) (correctedBatch B .lent .bits)
 
 abbrev pub maskedBatch : Batch → Outcome ℕ MaskLent
-maskedBatch B = maskMessages (B .count) (lentMask (sentBits B) (B .scalarPads) (B .messages) (B .answersOut))
+maskedBatch B = maskMessages (B .count) (lentMask (sentCorrectionBits B) (B .scalarPads) (B .messages) (B .answersOut))
 
 abbrev pub sentAnswers : Batch → List ℕ
 sentAnswers B = take (maskedBatch B .written) (maskedBatch B .lent .answers)
@@ -56,7 +56,7 @@ openedBatch B = unmaskMessages (B .count) (lentUnmask (B .wanted) (B .noisePads)
 -- the choice at k is 0 or 1, and the noise end's 16 bytes for k are those of the scalar end's pad that it names
 pub record NamedAt (choices noisePads scalarPads : List ℕ) (k : ℕ) : Type 0 where
   pub bit : getD choices k 0 ≤ 1
-  pub pad : padAt noisePads 0 k ≡ messageAt scalarPads 0 k (getD choices k 0)
+  pub pad : padAt noisePads 0 k ≡ oneOfTwoAt scalarPads 0 k (getD choices k 0)
 
 -- all three calls are accepted, and what is opened at each k is exactly the message wanted there
 pub record Opens (B : Batch) : Type 0 where
@@ -64,7 +64,7 @@ pub record Opens (B : Batch) : Type 0 where
   pub masked-accepted : maskedBatch B .number ≡ 0
   pub opened-accepted : openedBatch B .number ≡ 0
   pub opens : (k : ℕ) → k < B .count
-      → padAt (openedBatch B .lent .messages) 0 k ≡ messageAt (B .messages) 0 k (getD (B .wanted) k 0)
+      → padAt (openedBatch B .lent .messages) 0 k ≡ oneOfTwoAt (B .messages) 0 k (getD (B .wanted) k 0)
 
 abbrev pub Opening : Type 0
 Opening =

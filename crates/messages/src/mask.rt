@@ -41,13 +41,13 @@ fn put_answer(k: usize, bits: &[u8], pads: &[u8], messages: &[u8], answers: &mut
     ensures { λ _. ⌜ now (answers .exit)
         ≡ withValue thirtyTwo (now (answers .entry)) (32 * k) (answerOf (now (bits .entry)) (now (pads .entry)) (now (messages .entry)) k) ⌝ }
 {
-    let first = 32 * k;
-    let second = first + 16;
+    let block0 = 32 * k;
+    let block1 = block0 + 16;
     let bit = bits[k] as usize;
-    let named = first + 16 * bit;
-    let other = first + 16 * (1 - bit);
-    mask_block(messages, first, pads, named, answers, first);
-    mask_block(messages, second, pads, other, answers, second);
+    let named = block0 + 16 * bit;
+    let other = block0 + 16 * (1 - bit);
+    mask_block(messages, block0, pads, named, answers, block0);
+    mask_block(messages, block1, pads, other, answers, block1);
 }
 
 // Writes both masked messages of each output.

@@ -11,7 +11,7 @@ use Rattle.number.proofs.Steps.{ends-0, value-0, ends-1, zero-1, value-
 pub use Rattle.number.proofs.Steps.{length-number}
 use Rattle.number.specs.Number.{writeNumber, readNumber, numberLength}
 use Rattle.number.specs.Inner.Written.{numbers}
-use Rattle.number.specs.Reading.{Whole, Refused, Step, Bytes}
+use Rattle.number.specs.Reading.{Whole, Refused, Parsed, Bytes}
 use Rattle.number.specs.Inner.Known.{Has}
 
 positive : (b : ℕ) → (b ≡ 0 → ⊥) → 0 < b
@@ -72,7 +72,7 @@ module _ (s : List ℕ) (at : ℕ) where
       (sym (value-2 s at (w .0 .0) (sym (w .0 .1)) (omega arith) (w .1 .0) (sym (w .1 .1)) (omega arith) (w .2 .0) (sym (w .2 .1)) (omega arith) (λ z. omega arith))
       ∙ pair (omega arith) (omega arith))))
     where
-      pair : {a b p q : ℕ} → a ≡ b → p ≡ q → _≡_ {A = Step ℕ} (Whole (a, p)) (Whole (b, q))
+      pair : {a b p q : ℕ} → a ≡ b → p ≡ q → _≡_ {A = Parsed ℕ} (Whole (a, p)) (Whole (b, q))
       pair e f = cc
 
   -- what reads as a number is exactly its writing

@@ -11,7 +11,7 @@ use lib.Dec.{ltb, leb}
 use lib.ListN.{length, getD, take, drop, length-append, length-drop}
 use lib.Seq.{take-add, take-take, take-at, drop-at, drop-drop, drop-cons, take-length, length-take-le, length-sets}
 use Rattle.algebra.proofs.Written.{sets-append}
-use Rattle.number.specs.Reading.{Reading, Whole, Refused, Step, then, choose, tested, part, readBytes, readByte}
+use Rattle.number.specs.Reading.{Reading, Whole, Refused, Parsed, then, choose, tested, part, readBytes, readByte}
 use Rattle.number.specs.Inner.Known.{isWhole, Has}
 use Rattle.number.specs.Inner.Written.{Room, Wrote}
 
@@ -41,7 +41,7 @@ whole-of (Whole z) e = (z, refl)
 whole-of {A} (Refused k) e = absurd (refused-known {A = A} {k = k} refl e)
 
 -- what a whole field was, and that the rest was whole
-pub then-whole : {A B : Type 0} (r : Step A) (k : A → ℕ → Reading B) {z : B} → then r k ≡ Whole z
+pub then-whole : {A B : Type 0} (r : Parsed A) (k : A → ℕ → Reading B) {z : B} → then r k ≡ Whole z
     → (x : A) × (next : ℕ) × (r ≡ Whole (x, next)) × (k x next ≡ Whole z)
 then-whole (Whole r) k e = (r .0, r .1, refl, e)
 then-whole (Refused n) k e = absurd (refused-whole refl e)
@@ -62,7 +62,7 @@ pub ended-whole : {A : Type 0} (b : Bool) (x : A) (k : ℕ) {z : A} → choose b
 ended-whole true x k e = absurd (refused-whole refl e)
 ended-whole false x k e = (refl, cc)
 
-pub tested-whole : {A : Type 0} (r : Step A) (ok : A → Bool) (k : ℕ) {x : A} {next : ℕ} → tested r ok k ≡ Whole (x, next)
+pub tested-whole : {A : Type 0} (r : Parsed A) (ok : A → Bool) (k : ℕ) {x : A} {next : ℕ} → tested r ok k ≡ Whole (x, next)
     → (r ≡ Whole (x, next)) × (ok x ≡ true)
 unfolding tested
 tested-whole {A} (Whole r) ok k {x} {next} e =
@@ -70,7 +70,7 @@ tested-whole {A} (Whole r) ok k {x} {next} e =
     (ap (λ (z : A × ℕ). Whole z) (c .1), ap (λ (z : A × ℕ). ok (z .0)) (sym (c .1)) ∙ c .0)
 tested-whole (Refused n) ok k e = absurd (refused-whole refl e)
 
-pub tested-reads : {A : Type 0} {r : Step A} (ok : A → Bool) (k : ℕ) {x : A} {next : ℕ} → r ≡ Whole (x, next) → ok x ≡ true
+pub tested-reads : {A : Type 0} {r : Parsed A} (ok : A → Bool) (k : ℕ) {x : A} {next : ℕ} → r ≡ Whole (x, next) → ok x ≡ true
     → tested r ok k ≡ Whole (x, next)
 unfolding tested
 tested-reads ok k e t = simp (e, t)

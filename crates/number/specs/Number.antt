@@ -4,7 +4,7 @@ use Prim.Native.Nat.{ℕ, _+_, _-_, _*_, _/_, _%_}
 use mathlib.Core.List.{List, [], _∷_}
 use lib.Dec.{ltb, eqb}
 use Rattle.answer.specs.Numbers.{badNumber}
-use Rattle.number.specs.Reading.{Whole, Refused, Step, then, choose, readByte}
+use Rattle.number.specs.Reading.{Whole, Refused, Parsed, then, choose, readByte}
 
 -- the writing of a number
 unfoldable pub writeNumber : ℕ → List ℕ
@@ -18,11 +18,11 @@ unfoldable pub numberLength : ℕ → ℕ
 numberLength n = choose (ltb n 128) 1 (choose (ltb n 16384) 2 3)
 
 -- the last byte of several: 11: number not shortest, where it is 00
-unfoldable pub lastGroup : ℕ → ℕ → ℕ → Step ℕ
+unfoldable pub lastGroup : ℕ → ℕ → ℕ → Parsed ℕ
 lastGroup b n next = choose (eqb b 0) (Refused badNumber) (Whole (n, next))
 
 -- the reading of a number: the first byte without its top bit ends it; 11: its third byte's top bit set
-unfoldable pub readNumber : List ℕ → ℕ → Step ℕ
+unfoldable pub readNumber : List ℕ → ℕ → Parsed ℕ
 readNumber s at =
     then (readByte s at) λ a at1.
     choose (ltb a 128) (Whole (a, at1))

@@ -13,16 +13,16 @@ pub data Reading (A : Type 0) : Type 0 where
   Refused : ℕ → Reading A
 
 -- a field of the record, and the place after it
-abbrev pub Step : Type 0 → Type 0
-Step A = Reading (A × ℕ)
+abbrev pub Parsed : Type 0 → Type 0
+Parsed A = Reading (A × ℕ)
 
 -- front to back: after a field the next, from the place after it
-abbrev pub then : {A B : Type 0} → Step A → (A → ℕ → Reading B) → Reading B
+abbrev pub then : {A B : Type 0} → Parsed A → (A → ℕ → Reading B) → Reading B
 then (Whole r) k = k (r .0) (r .1)
 then (Refused n) k = Refused n
 
 -- each field whole and then tested: refused with k if the test fails
-unfoldable pub tested : {A : Type 0} → Step A → (A → Bool) → ℕ → Step A
+unfoldable pub tested : {A : Type 0} → Parsed A → (A → Bool) → ℕ → Parsed A
 tested r ok k = then r λ x next. choose (ok x) (Whole (x, next)) (Refused k)
 
 -- a call on a record: refused with the record's number, else what it answers on the content
@@ -35,11 +35,11 @@ abbrev pub part : List ℕ → ℕ → ℕ → List ℕ
 part s at n = take n (drop at s)
 
 -- n bytes; 10: record ends inside a field
-unfoldable pub readBytes : ℕ → List ℕ → ℕ → Step (List ℕ)
+unfoldable pub readBytes : ℕ → List ℕ → ℕ → Parsed (List ℕ)
 readBytes n s at = choose (leb (at + n) (length s)) (Whole (part s at n, at + n)) (Refused recordEnds)
 
 -- one byte; 10: record ends inside a field
-unfoldable pub readByte : List ℕ → ℕ → Step ℕ
+unfoldable pub readByte : List ℕ → ℕ → Parsed ℕ
 readByte s at = choose (ltb at (length s)) (Whole (getD s at 0, at + 1)) (Refused recordEnds)
 
 -- every element is a byte

@@ -19,7 +19,7 @@ pub enum Number {
 }
 
 // The number that a reading is refused with; 0 for a value.
-pub fn fault_of(r: Number) -> u32
+pub fn number_fault(r: Number) -> u32
     ensures { λ k. ⌜ k ≡ numberFault r ⌝ }
 {
     match r {

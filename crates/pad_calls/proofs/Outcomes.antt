@@ -10,10 +10,10 @@ use Rattle.answer.specs.Outcome.{outcomeNone}
 use Rattle.answer.proofs.Faults.{admitted-by}
 use Rattle.answer.proofs.Answers.{accepted-with}
 use Rattle.field.specs.declared.block.Block.{Block}
-use Rattle.pads.specs.Bytes.{blockBytes, messageBytes}
+use Rattle.pads.specs.Bytes.{blockBytes, padPairBytes}
 use Rattle.pads.specs.Calls.{lentNoise, lentScalar, noiseTests, scalarTests, noisePads, scalarPads, noisePadsBy, scalarPadsBy}
 use Rattle.pad_calls.specs.Inner.Steps.{WindowFits}
-use Rattle.pad_calls.proofs.Turns.{padOf, messagesOf}
+use Rattle.pad_calls.proofs.Turns.{padOf, bothPadsOf}
 
 module _ (first count : ℕ) (v choices pads : List ℕ) (n : ℕ) (e : n ≡ firstFault (noiseTests first count v choices (length pads))) (z : n ≡ 0) where
   pub noise-fits : WindowFits first count (length v) 16 (length pads)
@@ -35,8 +35,8 @@ module _ (first count : ℕ) (w delta pads : List ℕ) (n : ℕ) (e : n ≡ firs
   pub scalar-delta : 0 + 16 ≤ length delta
   scalar-delta = omega (arith, admitted-by _ n refl e z .all)
 
-  -- accepted, with the buffer as the messages leave it
-  pub scalar-accepted : (b : List ℕ) (Δ : Block) → Δ ≡ blockBytes .read delta 0 → b ≡ over messageBytes count (messagesOf first w Δ) pads
+  -- accepted, with the buffer as the pads leave it
+  pub scalar-accepted : (b : List ℕ) (Δ : Block) → Δ ≡ blockBytes .read delta 0 → b ≡ over padPairBytes count (bothPadsOf first w Δ) pads
       → outcomeNone 0 (lentScalar w delta b) ≡ scalarPads first count w delta pads
   unfolding scalarPadsBy
   scalar-accepted b Δ d g = accepted-with _ _ _ _ n e z (rw (g, d))

@@ -10,17 +10,17 @@ use Rattle.algebra.specs.Inner.Put.{withValue}
 use Rattle.algebra.proofs.Written.{front-more, read-past, two-passes}
 use Rattle.field.specs.declared.block.Block.{Block}
 use Rattle.field.specs.Binary.{blockAdd}
-use Rattle.pads.specs.Bytes.{MessagePair, blockBytes, messageBytes}
-use Rattle.pads.specs.Pad.{underPadKey, pad, messagePair}
-use Rattle.pads.specs.Inner.Passes.{secondStep, firstMessages, secondMessages}
-use Rattle.pads.proofs.Blocks.{wide-block, wide-messages, two-blocks, placed-block, placed-messages, back-messages, back-step}
+use Rattle.pads.specs.Bytes.{PadPair, blockBytes, padPairBytes}
+use Rattle.pads.specs.Pad.{underPadKey, pad, padPair}
+use Rattle.pads.specs.Inner.Passes.{secondStep, firstSteps, secondSteps}
+use Rattle.pads.proofs.Blocks.{wide-block, wide-pair, two-blocks, placed-block, placed-pair, back-pair, back-step}
 
--- the pad, and the messages, of output k of a window
+-- the pad, and both pads, of output k of a window
 abbrev pub padOf : ℕ → List ℕ → ℕ → Block
 padOf first vs k = pad (first + k) (at blockBytes vs k)
 
-abbrev pub messagesOf : ℕ → List ℕ → Block → ℕ → MessagePair
-messagesOf first ws Δ k = messagePair pad (first + k) (at blockBytes ws k) Δ
+abbrev pub bothPadsOf : ℕ → List ℕ → Block → ℕ → PadPair
+bothPadsOf first ws Δ k = padPair pad (first + k) (at blockBytes ws k) Δ
 
 -- two blocks more
 two-more : (f : ℕ → Block) (k pairs : ℕ) (b l l′ : List ℕ) (p q : Block) → k < pairs → pairs * 32 ≤ length b
@@ -63,35 +63,35 @@ pads-last first k count vs b l l′ w p h last room e we pe g =
     let all : count ≡ k + 1 = omega arith in
     rw all (front-more blockBytes wide-block (padOf first vs) b k (16 * k) l l′ (omega arith) (omega arith) e (g ∙ rw (pe, we, mul-comm 16 k)))
 
--- two messages more
-messages-more : (f : ℕ → MessagePair) (k count : ℕ) (b l l′ : List ℕ) (p q : Block) → k < count → count * 32 ≤ length b
-    → l ≡ over messageBytes k f b → p ≡ f k .message0 → q ≡ f k .message1
-    → l′ ≡ withValue blockBytes (withValue blockBytes l (32 * k) p) (32 * k + 16) q → l′ ≡ over messageBytes (k + 1) f b
-messages-more f k count b l l′ p q h room e pe qe g =
-    front-more messageBytes wide-messages f b k (32 * k) l l′ (omega arith) (omega arith) e (g ∙ rw (pe, qe) (two-blocks l (32 * k) (f k)))
+-- two pads more
+both-pads-more : (f : ℕ → PadPair) (k count : ℕ) (b l l′ : List ℕ) (p q : Block) → k < count → count * 32 ≤ length b
+    → l ≡ over padPairBytes k f b → p ≡ f k .pad0 → q ≡ f k .pad1
+    → l′ ≡ withValue blockBytes (withValue blockBytes l (32 * k) p) (32 * k + 16) q → l′ ≡ over padPairBytes (k + 1) f b
+both-pads-more f k count b l l′ p q h room e pe qe g =
+    front-more padPairBytes wide-pair f b k (32 * k) l l′ (omega arith) (omega arith) e (g ∙ rw (pe, qe) (two-blocks l (32 * k) (f k)))
 
--- the first steps of two messages more
-pub messages-started : (k count : ℕ) (ws b l l′ : List ℕ) (w s Δ : Block) → k < count → count * 32 ≤ length b
-    → l ≡ over messageBytes k (λ i. firstMessages (at blockBytes ws i) Δ) b → w ≡ blockBytes .read ws (16 * k) → s ≡ blockAdd w Δ
+-- the first steps of two pads more
+pub both-pads-started : (k count : ℕ) (ws b l l′ : List ℕ) (w s Δ : Block) → k < count → count * 32 ≤ length b
+    → l ≡ over padPairBytes k (λ i. firstSteps (at blockBytes ws i) Δ) b → w ≡ blockBytes .read ws (16 * k) → s ≡ blockAdd w Δ
     → l′ ≡ withValue blockBytes (withValue blockBytes l (32 * k) (underPadKey w)) (32 * k + 16) (underPadKey s)
-    → l′ ≡ over messageBytes (k + 1) (λ i. firstMessages (at blockBytes ws i) Δ) b
-unfolding firstMessages
-messages-started k count ws b l l′ w s Δ h room e we se =
-    messages-more (λ i. firstMessages (at blockBytes ws i) Δ) k count b l l′ _ _ h room e
+    → l′ ≡ over padPairBytes (k + 1) (λ i. firstSteps (at blockBytes ws i) Δ) b
+unfolding firstSteps
+both-pads-started k count ws b l l′ w s Δ h room e we se =
+    both-pads-more (λ i. firstSteps (at blockBytes ws i) Δ) k count b l l′ _ _ h room e
     (rw (we, mul-comm 16 k)) (rw (se, we, mul-comm 16 k))
 
--- two messages more finished
-pub messages-finished : (first k count x : ℕ) (b l l′ : List ℕ) → k < count → count * 32 ≤ length b
-    → l ≡ over messageBytes k (λ i. secondMessages (first + i) (at messageBytes b i)) b → x ≡ first + k
+-- two pads more finished
+pub both-pads-finished : (first k count x : ℕ) (b l l′ : List ℕ) → k < count → count * 32 ≤ length b
+    → l ≡ over padPairBytes k (λ i. secondSteps (first + i) (at padPairBytes b i)) b → x ≡ first + k
     → l′ ≡ withValue blockBytes (withValue blockBytes l (32 * k) (secondStep x (blockBytes .read l (32 * k)))) (32 * k + 16) (secondStep x (blockBytes .read l (32 * k + 16)))
-    → l′ ≡ over messageBytes (k + 1) (λ i. secondMessages (first + i) (at messageBytes b i)) b
-unfolding secondMessages
-messages-finished first k count x b l l′ h room e index =
-    let unfinished : messageBytes .read l (32 * k) ≡ at messageBytes b k =
-    read-past messageBytes wide-messages placed-messages k k (32 * k) _ b l (omega arith) (omega arith) e in
-    messages-more (λ i. secondMessages (first + i) (at messageBytes b i)) k count b l l′ _ _ h room e
-    (rw index (ap (λ (m : MessagePair). secondStep (first + k) (m .message0)) unfinished))
-    (rw index (ap (λ (m : MessagePair). secondStep (first + k) (m .message1)) unfinished))
+    → l′ ≡ over padPairBytes (k + 1) (λ i. secondSteps (first + i) (at padPairBytes b i)) b
+unfolding secondSteps
+both-pads-finished first k count x b l l′ h room e index =
+    let unfinished : padPairBytes .read l (32 * k) ≡ at padPairBytes b k =
+    read-past padPairBytes wide-pair placed-pair k k (32 * k) _ b l (omega arith) (omega arith) e in
+    both-pads-more (λ i. secondSteps (first + i) (at padPairBytes b i)) k count b l l′ _ _ h room e
+    (rw index (ap (λ (m : PadPair). secondStep (first + k) (m .pad0)) unfinished))
+    (rw index (ap (λ (m : PadPair). secondStep (first + k) (m .pad1)) unfinished))
 
 -- the pads in two passes
 pub pairs-passes : (first n : ℕ) (vs b l l′ : List ℕ) → l ≡ over blockBytes n (λ i. underPadKey (at blockBytes vs i)) b
@@ -101,13 +101,13 @@ pairs-passes first n vs b l l′ =
     two-passes blockBytes wide-block placed-block n (λ i. underPadKey (at blockBytes vs i)) (padOf first vs)
     (λ i. secondStep (first + i)) b l l′ (λ i. back-step (at blockBytes vs i)) (λ i. refl)
 
--- the messages in two passes
-pub messages-passes : (first n : ℕ) (ws b l l′ : List ℕ) (Δ : Block)
-    → l ≡ over messageBytes n (λ i. firstMessages (at blockBytes ws i) Δ) b
-    → l′ ≡ over messageBytes n (λ i. secondMessages (first + i) (at messageBytes l i)) l
-    → l′ ≡ over messageBytes n (messagesOf first ws Δ) b
-unfolding messagePair pad secondStep firstMessages secondMessages
-messages-passes first n ws b l l′ Δ =
-    two-passes messageBytes wide-messages placed-messages n (λ i. firstMessages (at blockBytes ws i) Δ) (messagesOf first ws Δ)
-    (λ i. secondMessages (first + i)) b l l′
-    (λ i. back-messages (firstMessages (at blockBytes ws i) Δ) (back-step _) (back-step _)) (λ i. refl)
+-- the pads in two passes
+pub both-pads-passes : (first n : ℕ) (ws b l l′ : List ℕ) (Δ : Block)
+    → l ≡ over padPairBytes n (λ i. firstSteps (at blockBytes ws i) Δ) b
+    → l′ ≡ over padPairBytes n (λ i. secondSteps (first + i) (at padPairBytes l i)) l
+    → l′ ≡ over padPairBytes n (bothPadsOf first ws Δ) b
+unfolding padPair pad secondStep firstSteps secondSteps
+both-pads-passes first n ws b l l′ Δ =
+    two-passes padPairBytes wide-pair placed-pair n (λ i. firstSteps (at blockBytes ws i) Δ) (bothPadsOf first ws Δ)
+    (λ i. secondSteps (first + i)) b l l′
+    (λ i. back-pair (firstSteps (at blockBytes ws i) Δ) (back-step _) (back-step _)) (λ i. refl)

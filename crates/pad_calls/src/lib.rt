@@ -11,7 +11,7 @@ use number::noise_number;
 use number::scalar_number;
 use pads::block_at;
 use rule::pad_keys;
-use write::write_messages;
+use write::write_both_pads;
 use write::write_pads;
 
 // The noise end's pads: of each block of v, 16 bytes an output. The first output's index is `first`.
@@ -45,6 +45,6 @@ pub fn scalar_pads(first: usize, count: usize, w: &[u8], delta: &[u8], pads: &mu
     sbox::fill_tables(&mut tables);
     let keys = pad_keys(&sb);
     let d = block_at(delta, 0);
-    write_messages(&tables, &keys, first, count, w, d, pads);
+    write_both_pads(&tables, &keys, first, count, w, d, pads);
     0
 }

@@ -28,7 +28,7 @@ pub fn second_steps(
     t: Block,
 ) -> TwoBlocks
     requires { ⌜ PadKeys (now tables) (now keys) ⌝ }
-    ensures { λ r. ⌜ (r .first ≡ secondStep x s) × (r .second ≡ secondStep y t) ⌝ }
+    ensures { λ r. ⌜ (r .one ≡ secondStep x s) × (r .other ≡ secondStep y t) ⌝ }
 {
     let p = s.add(Block {
         low: x as u64,
@@ -40,8 +40,8 @@ pub fn second_steps(
     });
     let e = block_cipher::encrypt_two(tables, keys, keys, p, q);
     TwoBlocks {
-        first: e.first.add(s),
-        second: e.second.add(t),
+        one: e.one.add(s),
+        other: e.other.add(t),
     }
 }
 
@@ -52,5 +52,5 @@ pub fn one_pad(tables: &[u64; 1536], keys: &[u64; 40], x: usize, a: Block) -> Bl
 {
     let s = block_cipher::encrypt(tables, keys, a);
     let p = second_steps(tables, keys, x, x, s, s);
-    p.first
+    p.one
 }

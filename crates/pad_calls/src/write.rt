@@ -5,10 +5,10 @@ ghost use Prim.Native.Nat.{_+_, _*_, _≤_};
 ghost use lib.ListN.{length};
 ghost use Rattle.algebra.specs.Coding.{at, over};
 ghost use Rattle.algebra.specs.Inner.Put.{withValue};
-ghost use Rattle.pads.specs.Bytes.{blockBytes, messageBytes};
-ghost use Rattle.pads.specs.Pad.{pad, messagePair, underPadKey};
+ghost use Rattle.pads.specs.Bytes.{blockBytes, padPairBytes};
+ghost use Rattle.pads.specs.Pad.{pad, padPair, underPadKey};
 ghost use Rattle.pad_calls.specs.Inner.Steps.{PadKeys, WindowFits};
-ghost use Rattle.pads.specs.Inner.Passes.{secondStep, firstMessages, secondMessages};
+ghost use Rattle.pads.specs.Inner.Passes.{secondStep, firstSteps, secondSteps};
 use crate::rule::one_pad;
 use crate::rule::second_steps;
 use field::Block;
@@ -22,8 +22,8 @@ fn start_two(tables: &[u64; 1536], keys: &[u64; 40], a: Block, b: Block, pads: &
         ≡ withValue blockBytes (withValue blockBytes (now (pads .entry)) at (underPadKey a)) (at + 16) (underPadKey b) ⌝ }
 {
     let s = block_cipher::encrypt_two(tables, keys, keys, a, b);
-    put_block(pads, at, s.first);
-    put_block(pads, at + 16, s.second);
+    put_block(pads, at, s.one);
+    put_block(pads, at + 16, s.other);
 }
 
 // Finishes the pads of indices x and y, whose first steps stand from a place on.
@@ -43,8 +43,8 @@ fn finish_two(
     let s = block_at(pads, at);
     let t = block_at(pads, at + 16);
     let p = second_steps(tables, keys, x, y, s, t);
-    put_block(pads, at, p.first);
-    put_block(pads, at + 16, p.second);
+    put_block(pads, at, p.one);
+    put_block(pads, at + 16, p.other);
 }
 
 // Writes the first steps of pairs of blocks of v.
@@ -114,8 +114,8 @@ pub fn write_pads(
     }
 }
 
-// Writes the first steps of messages 0 and 1 of each block of w.
-fn start_messages(
+// Writes the first steps of pads 0 and 1 of each block of w.
+fn start_both_pads(
     tables: &[u64; 1536],
     keys: &[u64; 40],
     count: usize,
@@ -124,7 +124,7 @@ fn start_messages(
     pads: &mut [u8],
 )
     requires { ⌜ PadKeys (now tables) (now keys) × (count * 16 ≤ length (now w)) × (count * 32 ≤ length (now pads)) ⌝ }
-    ensures { λ _. ⌜ now (pads .exit) ≡ over messageBytes count (λ k. firstMessages (at blockBytes (now (w .entry)) k) delta) (now (pads .entry)) ⌝ }
+    ensures { λ _. ⌜ now (pads .exit) ≡ over padPairBytes count (λ k. firstSteps (at blockBytes (now (w .entry)) k) delta) (now (pads .entry)) ⌝ }
 {
     let mut k: usize = 0;
     while k < count {
@@ -134,8 +134,8 @@ fn start_messages(
     }
 }
 
-// Finishes messages 0 and 1 of each output, whose first steps stand in the buffer.
-fn finish_messages(
+// Finishes pads 0 and 1 of each output, whose first steps stand in the buffer.
+fn finish_both_pads(
     tables: &[u64; 1536],
     keys: &[u64; 40],
     first: usize,
@@ -144,7 +144,7 @@ fn finish_messages(
 )
     requires { ⌜ PadKeys (now tables) (now keys) × (first + count ≤ 32768) × (count * 32 ≤ length (now pads)) ⌝ }
     ensures { λ _. ⌜ now (pads .exit)
-        ≡ over messageBytes count (λ k. secondMessages (first + k) (at messageBytes (now (pads .entry)) k)) (now (pads .entry)) ⌝ }
+        ≡ over padPairBytes count (λ k. secondSteps (first + k) (at padPairBytes (now (pads .entry)) k)) (now (pads .entry)) ⌝ }
 {
     let mut k: usize = 0;
     while k < count {
@@ -154,8 +154,8 @@ fn finish_messages(
     }
 }
 
-// Writes messages 0 and 1 of each block of w.
-pub fn write_messages(
+// Writes pads 0 and 1 of each block of w.
+pub fn write_both_pads(
     tables: &[u64; 1536],
     keys: &[u64; 40],
     first: usize,
@@ -166,8 +166,8 @@ pub fn write_messages(
 )
     requires { ⌜ PadKeys (now tables) (now keys) × WindowFits first count (length (now w)) 32 (length (now pads)) ⌝ }
     ensures { λ _. ⌜ now (pads .exit)
-        ≡ over messageBytes count (λ k. messagePair pad (first + k) (at blockBytes (now (w .entry)) k) delta) (now (pads .entry)) ⌝ }
+        ≡ over padPairBytes count (λ k. padPair pad (first + k) (at blockBytes (now (w .entry)) k) delta) (now (pads .entry)) ⌝ }
 {
-    start_messages(tables, keys, count, w, delta, pads);
-    finish_messages(tables, keys, first, count, pads);
+    start_both_pads(tables, keys, count, w, delta, pads);
+    finish_both_pads(tables, keys, first, count, pads);
 }

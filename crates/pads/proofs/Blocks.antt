@@ -1,4 +1,4 @@
--- Blocks and messages in bytes: a block is written as its two words, and messages as two blocks; both are read from their place on, and
+-- Blocks and pairs of pads in bytes: a block is written as its two words, and a pair as two blocks; both are read from their place on, and
 -- the results of a pad's first step are read back.
 use mathlib.Core.Path.{_≡_, refl, sym, ap, _∙_}
 use mathlib.Core.List.{List, _++_, append-assoc}
@@ -21,17 +21,17 @@ use Rattle.field.specs.Bytes.{leBytes, wordAt}
 use Rattle.field.specs.Inner.Written.{withWord}
 use Rattle.field.proofs.BinaryField.{block-eq}
 use Rattle.field.proofs.ByteWords.{length-leBytes, leNumber-leBytes-word, word-xor, lowOf-below, highOf-below}
-use Rattle.pads.specs.Bytes.{MessagePair, blockBytes, messageBytes}
+use Rattle.pads.specs.Bytes.{PadPair, blockBytes, padPairBytes}
 use Rattle.pads.specs.Pad.{padKey, state, underPadKey}
 
--- a block has 16 bytes, and messages 32
+-- a block has 16 bytes, and a pair of pads 32
 pub wide-block : Wide blockBytes
 unfolding leBytes
 wide-block b = refl
 
-pub wide-messages : Wide messageBytes
+pub wide-pair : Wide padPairBytes
 unfolding leBytes
-wide-messages m = refl
+wide-pair m = refl
 
 -- a block is written as its two words
 pub two-words : (l : List ℕ) (at : ℕ) (b : Block) → withWord (withWord l at (b .low)) (at + 8) (b .high) ≡ withValue blockBytes l at b
@@ -42,37 +42,37 @@ two-words l at b = sym (sets-append l at (leBytes 8 (b .low)) (leBytes 8 (b .hig
 pub put-words : (l l′ l″ : List ℕ) (at : ℕ) (b : Block) → l′ ≡ withWord l at (b .low) → l″ ≡ withWord l′ (at + 8) (b .high) → l″ ≡ withValue blockBytes l at b
 put-words l l′ l″ at b e g = g ∙ rw e (two-words l at b)
 
--- messages are written as two blocks
-pub two-blocks : (l : List ℕ) (at : ℕ) (m : MessagePair)
-    → withValue blockBytes (withValue blockBytes l at (m .message0)) (at + 16) (m .message1) ≡ withValue messageBytes l at m
+-- a pair of pads is written as two blocks
+pub two-blocks : (l : List ℕ) (at : ℕ) (m : PadPair)
+    → withValue blockBytes (withValue blockBytes l at (m .pad0)) (at + 16) (m .pad1) ≡ withValue padPairBytes l at m
 unfolding withValue leBytes
-two-blocks l at m = sym (sets-append l at (blockBytes .words (m .message0)) (blockBytes .words (m .message1)))
+two-blocks l at m = sym (sets-append l at (blockBytes .words (m .pad0)) (blockBytes .words (m .pad1)))
 
--- equal messages make equal pairs
-pair-eq : {a b x y : Block} → a ≡ x → b ≡ y → _≡_ {A = MessagePair} (record { message0 = a; message1 = b }) (record { message0 = x; message1 = y })
+-- equal pads make equal pairs
+pair-eq : {a b x y : Block} → a ≡ x → b ≡ y → _≡_ {A = PadPair} (record { pad0 = a; pad1 = b }) (record { pad0 = x; pad1 = y })
 pair-eq e g = rw (e, g)
 
--- blocks and messages are read from their place on
+-- blocks and pairs of pads are read from their place on
 pub placed-block : Placed blockBytes
 unfolding wordAt
 placed-block l i = simp (getD-drop, add-zero, add-assoc)
 
-pub placed-messages : Placed messageBytes
-placed-messages l i = pair-eq (placed-block l i) (placed-block l (i + 16) ∙ rw drop-drop at (sym (placed-block (drop i l) 16)))
+pub placed-pair : Placed padPairBytes
+placed-pair l i = pair-eq (placed-block l i) (placed-block l (i + 16) ∙ rw drop-drop at (sym (placed-block (drop i l) 16)))
 
 -- a block of two words is read back
 back-block : (b : Block) → b .low < 18446744073709551616 → b .high < 18446744073709551616 → Back blockBytes b
 unfolding wordAt leBytes
 back-block b low high rest = block-eq (leNumber-leBytes-word (b .low) low) (leNumber-leBytes-word (b .high) high)
 
--- and so are two messages that are read back
-pub back-messages : (m : MessagePair) → Back blockBytes (m .message0) → Back blockBytes (m .message1) → Back messageBytes m
-back-messages m back0 back1 rest =
-    let w0 = blockBytes .words (m .message0) in
-    let w1 = blockBytes .words (m .message1) in
+-- and so are two pads that are read back
+pub back-pair : (m : PadPair) → Back blockBytes (m .pad0) → Back blockBytes (m .pad1) → Back padPairBytes m
+back-pair m back0 back1 rest =
+    let w0 = blockBytes .words (m .pad0) in
+    let w1 = blockBytes .words (m .pad1) in
     rw (append-assoc w0 w1 rest) (pair-eq (back0 (w1 ++ rest))
     (placed-block (w0 ++ (w1 ++ rest)) 16
-    ∙ ap (λ (l : List ℕ). blockBytes .read l 0) (drop-at w0 (w1 ++ rest) 16 (wide-block (m .message0)))
+    ∙ ap (λ (l : List ℕ). blockBytes .read l 0) (drop-at w0 (w1 ++ rest) 16 (wide-block (m .pad0)))
     ∙ back1 rest))
 
 -- the bytes of a sum of two blocks, each read from its place, are the exclusive ors of their bytes

@@ -14,11 +14,11 @@ use Rattle.answer.proofs.Answers.{outcome-is}
 use Rattle.field.specs.declared.block.Block.{Block}
 use Rattle.field.specs.Binary.{blockAdd, blockScale}
 use Rattle.field.proofs.Xor.{xor-back}
-use Rattle.pads.specs.Bytes.{MessagePair, blockBytes, messageBytes}
-use Rattle.pads.specs.Pad.{Rule, messagePair}
+use Rattle.pads.specs.Bytes.{PadPair, blockBytes, padPairBytes}
+use Rattle.pads.specs.Pad.{Rule, padPair}
 use Rattle.pads.specs.Calls.{NoiseLent, ScalarLent, noisePadsBy, scalarPadsBy}
-use Rattle.pads.specs.Choice.{InWindow, padAt, messageAt, Choice}
-use Rattle.pads.proofs.Blocks.{wide-block, wide-messages}
+use Rattle.pads.specs.Choice.{InWindow, padAt, oneOfTwoAt, Choice}
+use Rattle.pads.proofs.Blocks.{wide-block, wide-pair}
 use Rattle.pads.proofs.Accepts.{accepts}
 
 -- the noise end's bytes for an index of its window are those of its pad
@@ -33,50 +33,50 @@ noise-bytes rule first count vs choices pads e x i =
     ∙ rw (mul-comm 16 (x - first)) (over-value blockBytes wide-block count f pads (x - first) (omega arith))
     ∙ ap (λ (y : ℕ). blockBytes .words (rule y (at blockBytes vs (x - first)))) here
 
--- message 0 or 1 of two
-abbrev named : ℕ → MessagePair → Block
-named zero m = m .message0
-named (suc u) m = m .message1
+-- pad 0 or 1 of two
+abbrev named : ℕ → PadPair → Block
+named zero m = m .pad0
+named (suc u) m = m .pad1
 
--- the 16 bytes of each of two messages
-message-bytes : (m : MessagePair) (rest : List ℕ) (u : ℕ) → u ≤ 1
-    → take 16 (drop (16 * u) (messageBytes .words m ++ rest)) ≡ blockBytes .words (named u m)
-message-bytes m rest zero h =
+-- the 16 bytes of each of two pads
+one-of-two-bytes : (m : PadPair) (rest : List ℕ) (u : ℕ) → u ≤ 1
+    → take 16 (drop (16 * u) (padPairBytes .words m ++ rest)) ≡ blockBytes .words (named u m)
+one-of-two-bytes m rest zero h =
     rw
-    (append-assoc (blockBytes .words (m .message0)) (blockBytes .words (m .message1)) rest)
-    (take-at (blockBytes .words (m .message0)) _ 16 (wide-block (m .message0)))
-message-bytes m rest (suc zero) h =
+    (append-assoc (blockBytes .words (m .pad0)) (blockBytes .words (m .pad1)) rest)
+    (take-at (blockBytes .words (m .pad0)) _ 16 (wide-block (m .pad0)))
+one-of-two-bytes m rest (suc zero) h =
     rw (
-      append-assoc (blockBytes .words (m .message0)) (blockBytes .words (m .message1)) rest,
-      drop-at (blockBytes .words (m .message0)) _ 16 (wide-block (m .message0)),
+      append-assoc (blockBytes .words (m .pad0)) (blockBytes .words (m .pad1)) rest,
+      drop-at (blockBytes .words (m .pad0)) _ 16 (wide-block (m .pad0)),
     )
-    (take-at (blockBytes .words (m .message1)) rest 16 (wide-block (m .message1)))
-message-bytes m rest (suc (suc u)) h = absurd (omega arith)
+    (take-at (blockBytes .words (m .pad1)) rest 16 (wide-block (m .pad1)))
+one-of-two-bytes m rest (suc (suc u)) h = absurd (omega arith)
 
--- the scalar end's bytes of message u for an index of its window are those of that message
+-- the scalar end's bytes of pad u for an index of its window are those of that pad
 pub scalar-bytes : (rule : Rule) (first count : ℕ) (ws delta pads : List ℕ) → scalarPadsBy rule first count ws delta pads .number ≡ 0
     → (x : ℕ) → InWindow first count x → (u : ℕ) → u ≤ 1
-    → messageAt (scalarPadsBy rule first count ws delta pads .lent .pads) first x u
-    ≡ blockBytes .words (named u (messagePair rule x (at blockBytes ws (x - first)) (at blockBytes delta 0)))
+    → oneOfTwoAt (scalarPadsBy rule first count ws delta pads .lent .pads) first x u
+    ≡ blockBytes .words (named u (padPair rule x (at blockBytes ws (x - first)) (at blockBytes delta 0)))
 unfolding scalarPadsBy
 scalar-bytes rule first count ws delta pads e x i u h =
     let Δ = at blockBytes delta 0 in
-    let f : ℕ → MessagePair = λ k. messagePair rule (first + k) (at blockBytes ws k) Δ in
+    let f : ℕ → PadPair = λ k. padPair rule (first + k) (at blockBytes ws k) Δ in
     let here : first + (x - first) ≡ x = omega arith in
     let place : 32 * (x - first) ≡ (x - first) * 32 = omega arith in
-    ap (λ (o : Outcome (Unit {0}) ScalarLent). messageAt (o .lent .pads) first x u) (outcome-is _ _ _ _ _ e)
+    ap (λ (o : Outcome (Unit {0}) ScalarLent). oneOfTwoAt (o .lent .pads) first x u) (outcome-is _ _ _ _ _ e)
     ∙ rw
-    (place, ← drop-drop (16 * u), over-from messageBytes wide-messages count f pads (x - first) (omega arith))
-    (message-bytes (f (x - first)) _ u h)
-    ∙ ap (λ (y : ℕ). blockBytes .words (named u (messagePair rule y (at blockBytes ws (x - first)) Δ))) here
+    (place, ← drop-drop (16 * u), over-from padPairBytes wide-pair count f pads (x - first) (omega arith))
+    (one-of-two-bytes (f (x - first)) _ u h)
+    ∙ ap (λ (y : ℕ). blockBytes .words (named u (padPair rule y (at blockBytes ws (x - first)) Δ))) here
 
 -- Δ added twice is nothing added
 cancel : (d v : ℕ) → bitXor (bitXor d v) d ≡ v
 cancel d v = xor-comm (bitXor d v) d ∙ ap (bitXor d) (xor-comm d v) ∙ xor-back v d
 
--- where w = Δu + v, the pad of v is message u
-named-pad : (rule : Rule) (x : ℕ) (v Δ : Block) (u : ℕ) → u ≤ 1 → rule x v ≡ named u (messagePair rule x (blockAdd (blockScale u Δ) v) Δ)
-unfolding messagePair blockScale
+-- where w = Δu + v, the pad of v is pad u
+named-pad : (rule : Rule) (x : ℕ) (v Δ : Block) (u : ℕ) → u ≤ 1 → rule x v ≡ named u (padPair rule x (blockAdd (blockScale u Δ) v) Δ)
+unfolding padPair blockScale
 named-pad rule x v Δ zero h = simp xor-zero-l
 named-pad rule x v Δ (suc zero) h = simp cancel
 named-pad rule x v Δ (suc (suc u)) h = absurd (omega arith)

@@ -15,16 +15,16 @@ blockBytes =
       read = λ l k. block (wordAt l k) (wordAt l (k + 8));
     }
 
--- messages 0 and 1 of an output
-pub record MessagePair : Type 0 where
-  pub message0 : Block
-  pub message1 : Block
+-- pads 0 and 1 of an output
+pub record PadPair : Type 0 where
+  pub pad0 : Block
+  pub pad1 : Block
 
--- they take 32 bytes: message 0, then message 1
-abbrev pub messageBytes : Coding MessagePair
-messageBytes =
+-- they take 32 bytes: pad 0, then pad 1
+abbrev pub padPairBytes : Coding PadPair
+padPairBytes =
     record {
       width = 32;
-      words = λ m. blockBytes .words (m .message0) ++ blockBytes .words (m .message1);
-      read = λ l k. record { message0 = blockBytes .read l k; message1 = blockBytes .read l (k + 16) };
+      words = λ m. blockBytes .words (m .pad0) ++ blockBytes .words (m .pad1);
+      read = λ l k. record { pad0 = blockBytes .read l k; pad1 = blockBytes .read l (k + 16) };
     }

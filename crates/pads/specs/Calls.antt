@@ -12,8 +12,8 @@ use Rattle.answer.specs.Bytes.{anyAbove}
 use Rattle.answer.specs.Tests.{Test, _is_, _atMost_, allAtMost, holds, _or_, AllMet}
 use Rattle.answer.specs.Outcome.{Outcome, answered, refusedNone, wrote}
 use Rattle.field.specs.Binary.{blockZero}
-use Rattle.pads.specs.Bytes.{blockBytes, messageBytes}
-use Rattle.pads.specs.Pad.{Rule, pad, messagePair}
+use Rattle.pads.specs.Bytes.{blockBytes, padPairBytes}
+use Rattle.pads.specs.Pad.{Rule, pad, padPair}
 
 -- ---- the noise end
 
@@ -69,7 +69,7 @@ unfoldable pub scalarPadsBy : Rule → ℕ → ℕ → List ℕ → List ℕ →
 scalarPadsBy rule first count w delta pads =
     answered (scalarTests first count w delta (length pads)) (refusedNone (lentScalar w delta pads))
     (wrote tt
-    (lentScalar w delta (over messageBytes count (λ k. messagePair rule (first + k) (at blockBytes w k) (at blockBytes delta 0)) pads)))
+    (lentScalar w delta (over padPairBytes count (λ k. padPair rule (first + k) (at blockBytes w k) (at blockBytes delta 0)) pads)))
 
 -- ---- both calls
 

@@ -1,5 +1,5 @@
 -- The choice law (document 01, 'Lists of calls at both ends', on pads), for any rule: the choice bit at x is u at x, and it
--- names message 0 or 1.
+-- names pad 0 or 1.
 use mathlib.Core.Path.{_≡_}
 use mathlib.Core.List.{List}
 use Prim.Native.Nat.{ℕ, _+_, _-_, _*_, _≤_, _<_}
@@ -19,9 +19,9 @@ InWindow first count x = (first ≤ x) × (x < first + count)
 abbrev pub padAt : List ℕ → ℕ → ℕ → List ℕ
 padAt pads first x = take 16 (drop (16 * (x - first)) pads)
 
--- the 16 bytes of message u in the scalar end's 32 bytes for index x
-abbrev pub messageAt : List ℕ → ℕ → ℕ → ℕ → List ℕ
-messageAt pads first x u = take 16 (drop (32 * (x - first) + 16 * u) pads)
+-- the 16 bytes of pad u in the scalar end's 32 bytes for index x
+abbrev pub oneOfTwoAt : List ℕ → ℕ → ℕ → ℕ → List ℕ
+oneOfTwoAt pads first x u = take 16 (drop (32 * (x - first) + 16 * u) pads)
 
 -- the bytes lent for index x are v and u at the noise end, and w and Δ at the scalar end, with w = Δu + v
 pub record LentAt (vs choices : List ℕ) (first : ℕ) (ws delta : List ℕ) (first′ x : ℕ) (v w Δ : Block) (u : ℕ) : Type 0 where
@@ -32,7 +32,7 @@ pub record LentAt (vs choices : List ℕ) (first : ℕ) (ws delta : List ℕ) (f
   pub correlated : w ≡ blockAdd (blockScale u Δ) v
 
 -- take any accepted pad call of each end, and any index x in both windows: where the bytes lent for x are such, the noise
--- end's 16 bytes for x are those of message u
+-- end's 16 bytes for x are those of pad u
 abbrev pub Choice : Rule → Type 0
 Choice rule =
     (first count : ℕ) (vs choices pads : List ℕ)
@@ -42,4 +42,4 @@ Choice rule =
     → (x : ℕ) → InWindow first count x → InWindow first′ count′ x
     → (v w Δ : Block) (u : ℕ) → LentAt vs choices first ws delta first′ x v w Δ u
     → padAt (noisePadsBy rule first count vs choices pads .lent .pads) first x
-    ≡ messageAt (scalarPadsBy rule first′ count′ ws delta pads′ .lent .pads) first′ x u
+    ≡ oneOfTwoAt (scalarPadsBy rule first′ count′ ws delta pads′ .lent .pads) first′ x u

@@ -6,10 +6,10 @@ use Prim.Native.Nat.{ℕ, _^_, _≤_, _<_}
 use borrow.Author.Tests.{not-true, not-false}
 use Rattle.record.specs.Content.{Head}
 use Rattle.record.specs.Reading.{readHead, readNoise, readScalar}
-use Rattle.record.specs.Answer.{headOf, opened, frontOf, recordFault}
-use Rattle.record.specs.declared.Front.{Front}
-use Rattle.record.specs.declared.Opened.{Opened}
-use Rattle.record.specs.declared.Opened.the-variants.{Accepted, Fault}
+use Rattle.record.specs.Answer.{headOf, recordRead, headIfWhole, recordFault}
+use Rattle.record.specs.declared.Layout.{Layout}
+use Rattle.record.specs.declared.RecordAnswer.{RecordAnswer}
+use Rattle.record.specs.declared.RecordAnswer.the-variants.{Accepted, Fault}
 use Rattle.ends.specs.Inner.Noise as noise
 use Rattle.ends.proofs.noise.Content as noiseContent
 use Rattle.ends.specs.Inner.Scalar as scalar
@@ -23,23 +23,23 @@ use Rattle.pairing.proofs.Same.{dealing-equal}
 
 -- ---- reading
 
-module _ (s t : List ℕ) {a : Opened} (read : opened s a ≡ frontOf (readNoise s) (readHead 1 s)) where
+module _ (s t : List ℕ) {a : RecordAnswer} (read : recordRead s a ≡ headIfWhole (readNoise s) (readHead 1 s)) where
   pub noise-number : {j k : ℕ} → a ≡ Fault j → k ≡ recordFault a → verdictOf (finding.Refused k) ≡ verdict s t
   noise-number e q = sym (noise-refusal s t (noiseContent.refused-is s read e q))
 
-  pub scalar-number : {p : Front} → a ≡ Accepted p → {b : Opened} → opened t b ≡ frontOf (readScalar t) (readHead 2 t) → {j k : ℕ} → b ≡ Fault j
+  pub scalar-number : {p : Layout} → a ≡ Accepted p → {b : RecordAnswer} → recordRead t b ≡ headIfWhole (readScalar t) (readHead 2 t) → {j k : ℕ} → b ≡ Fault j
       → k ≡ recordFault b → verdictOf (finding.Refused k) ≡ verdict s t
   scalar-number is other e q = sym (scalar-refusal s t (noiseContent.ready s read is .read) (scalarContent.refused-is t other e q))
 
 -- ---- two accepted records
 
-pub noise-key : {s : List ℕ} {p : Front} → noise.Ready s p → KeyIn s p
+pub noise-key : {s : List ℕ} {p : Layout} → noise.Ready s p → KeyIn s p
 noise-key here = record { key = here .sizes .key; room = here .sizes .room }
 
-pub scalar-key : {t : List ℕ} {q : Front} → scalar.Ready t q → KeyIn t q
+pub scalar-key : {t : List ℕ} {q : Layout} → scalar.Ready t q → KeyIn t q
 scalar-key there = record { key = there .sizes .key; room = there .sizes .room }
 
-module _ (s : List ℕ) (p : Front) (t : List ℕ) (q : Front) (here : noise.Ready s p) (there : scalar.Ready t q) {n : ℕ} (leaves : n ≡ 2 ^ p .depth) where
+module _ (s : List ℕ) (p : Layout) (t : List ℕ) (q : Layout) (here : noise.Ready s p) (there : scalar.Ready t q) {n : ℕ} (leaves : n ≡ 2 ^ p .depth) where
   pub first-large : 1024 < n → verdictOf finding.TooLarge ≡ verdict s t
   first-large h = sym (noise-large s t (here .read) (there .read) (rw leaves at h))
 

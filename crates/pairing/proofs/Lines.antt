@@ -47,11 +47,11 @@ module _ (out : List ℕ) (room : 64 ≤ length out) where
 
   module _ (n : ℕ) {b c : List ℕ} {middle : ℕ} (first : b ≡ sets out 0 checkedText) (end : middle ≡ 8 + length (digits 9 n))
       (tried : c ≡ sets b 8 (digits 9 n)) where
-    front : c ≡ sets out 0 (checkedText ++ decimal n)
-    front = after out 0 checkedText (digits 9 n) first refl tried
+    layout : c ≡ sets out 0 (checkedText ++ decimal n)
+    layout = after out 0 checkedText (digits 9 n) first refl tried
 
     same-length : length c ≡ length out
-    same-length = ap length front ∙ length-sets out 0 (checkedText ++ decimal n)
+    same-length = ap length layout ∙ length-sets out 0 (checkedText ++ decimal n)
 
     pub middle-room : middle + 6 ≤ length c
     middle-room = let m = digits-most 9 n in let l = same-length in omega arith
@@ -74,7 +74,7 @@ module _ (out : List ℕ) (room : 64 ≤ length out) where
           let k = digits-most 9 held in
           let t : length (text (Checked n held)) ≡ 8 + (length (digits 9 n) + (6 + length (digits 9 held))) = simp length-append (omega arith) in
           let third : d ≡ sets out 0 ((checkedText ++ decimal n) ++ heldText) =
-          after out 0 (checkedText ++ decimal n) heldText front (simp length-append (omega arith)) word in
+          after out 0 (checkedText ++ decimal n) heldText layout (simp length-append (omega arith)) word in
           let all : x ≡ sets out 0 (((checkedText ++ decimal n) ++ heldText) ++ decimal held) =
           after out 0 ((checkedText ++ decimal n) ++ heldText) (decimal held) third (simp length-append (omega arith)) w in
           stored out (Checked n held)

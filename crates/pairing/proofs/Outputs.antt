@@ -23,7 +23,7 @@ use Rattle.answer.specs.declared.TwoLengths.{TwoLengths}
 use Rattle.field.proofs.BothKinds.{kindLaws}
 use Rattle.field.specs.Kind.{binaryKind, primeKind, kindOf, elementWords}
 use Rattle.record.specs.Content.{Head, ScalarPart}
-use Rattle.record.specs.declared.Front.{Front}
+use Rattle.record.specs.declared.Layout.{Layout}
 use Rattle.record.specs.Answer.{headOf}
 use Rattle.record.proofs.Callers.{head-ranges}
 use Rattle.record.proofs.Parts.{noise-parts, scalar-parts}
@@ -61,10 +61,10 @@ unfolding accumulate
 value-element h f j = sum-element (fieldOf h .scaled .group) (kindLaws (h .field) .field .scaled .group) (suc j) f
 
 -- N elements of at most 1,024 places, and the elements of at most 512 outputs
-wide : (f : Front) → 2 ^ f .depth ≤ 1024 → 2 ^ f .depth * elementWords (f .field) ≤ 2048
+wide : (f : Layout) → 2 ^ f .depth ≤ 1024 → 2 ^ f .depth * elementWords (f .field) ≤ 2048
 wide f small = let m = mul-le-mul-left (2 ^ f .depth) (width-most (f .field)) in omega arith
 
-room : (f : Front) → f .outputs ≤ 512 → f .outputs * elementWords (f .field) ≤ 1024
+room : (f : Layout) → f .outputs ≤ 512 → f .outputs * elementWords (f .field) ≤ 1024
 room f few = let m = mul-le-mul-left (f .outputs) (width-most (f .field)) in omega arith
 
 -- Δ is read from its two words as from its own
@@ -79,7 +79,7 @@ delta-read f l = of (eqb f 1)
 
 -- ---- the noise end
 
-module _ (s : List ℕ) (f : Front) (ready : noise.Ready s f) (small : 2 ^ f .depth ≤ 1024) where
+module _ (s : List ℕ) (f : Layout) (ready : noise.Ready s f) (small : 2 ^ f .depth ≤ 1024) where
   pub noise-few : f .outputs ≤ 512
   noise-few =
       let a = noise-parts s (ready .read) in
@@ -149,7 +149,7 @@ module _ (s : List ℕ) (f : Front) (ready : noise.Ready s f) (small : 2 ^ f .de
 
 -- ---- the scalar end
 
-module _ (t : List ℕ) (f : Front) (ready : scalar.Ready t f) (small : 2 ^ f .depth ≤ 1024) where
+module _ (t : List ℕ) (f : Layout) (ready : scalar.Ready t f) (small : 2 ^ f .depth ≤ 1024) where
   pub scalar-few : f .outputs ≤ 512
   scalar-few =
       let a = scalar-parts t (ready .read) in
@@ -201,7 +201,7 @@ module _ (t : List ℕ) (f : Front) (ready : scalar.Ready t f) (small : 2 ^ f .d
 
 -- ---- held
 
-module _ (s : List ℕ) (p : Front) (t : List ℕ) (q : Front) (here : noise.Ready s p) (there : scalar.Ready t q) (A : Paired s p t q) where
+module _ (s : List ℕ) (p : Layout) (t : List ℕ) (q : Layout) (here : noise.Ready s p) (there : scalar.Ready t q) (A : Paired s p t q) where
   -- room in the output arrays
   pub u-room : (l : List ℕ) → length l ≡ 512 → p .outputs ≤ length l
   u-room l e = omega (arith, noise-few s p here (A .small))

@@ -12,7 +12,7 @@ use borrow.Author.Tests.{eqb-true, eq-eqb, ne-eqb, not-true, not-false}
 use Rattle.algebra.proofs.Tests.{and-left, and-right, and-both}
 use Rattle.number.specs.Reading.{part}
 use Rattle.record.specs.Content.{Head}
-use Rattle.record.specs.declared.Front.{Front}
+use Rattle.record.specs.declared.Layout.{Layout}
 use Rattle.record.specs.Answer.{headOf}
 use Rattle.record.specs.Inner.Heads.{headWith}
 use Rattle.pairing.specs.Inner.Steps.{sameSizes}
@@ -111,7 +111,7 @@ same-dealing h =
     (same-refl (h .label))
 
 -- the sizes, one after the other
-module _ (p q : Front) where
+module _ (p q : Layout) where
   pub field-differs : (p .field ≡ q .field → ⊥) → false ≡ sameSizes p q
   field-differs n = sym (rw (ne-eqb (p .field) (q .field) n))
 
@@ -141,7 +141,7 @@ module _ (p q : Front) where
           sizes-same e n = sym (three ∙ rw (eq-eqb (p .trees) (q .trees) trees, eq-eqb (p .terms) (q .terms) e, eq-eqb (p .outputs) (q .outputs) n))
 
 -- the sizes, then the code key, then the label
-module _ (s : List ℕ) (p : Front) (t : List ℕ) (q : Front) {sizes : Bool} (se : sizes ≡ sameSizes p q) where
+module _ (s : List ℕ) (p : Layout) (t : List ℕ) (q : Layout) {sizes : Bool} (se : sizes ≡ sameSizes p q) where
   pub sizes-differ : not sizes ≡ true → false ≡ sameDealing (headOf s p) (headOf t q)
   unfolding sameDealing
   sizes-differ e = sym (rw (← se, not-true sizes e))

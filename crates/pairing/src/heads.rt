@@ -6,7 +6,7 @@ ghost use Rattle.record.specs.Answer.{headOf};
 ghost use Rattle.record.specs.Reading.{blockAt};
 ghost use Rattle.pairing.specs.Inner.Steps.{KeyIn, sameSizes};
 ghost use Rattle.pairing.specs.Verdict.{sameList, sameDealing};
-use record::Front;
+use record::Layout;
 use window::code_key_at;
 
 // Whether the 16 bytes at a place of each record are equal.
@@ -25,7 +25,7 @@ fn same_block(a: &[u8], x: usize, b: &[u8], y: usize) -> bool
 }
 
 // Whether field and sizes are all equal.
-fn same_sizes(p: Front, q: Front) -> bool
+fn same_sizes(p: Layout, q: Layout) -> bool
     ensures { λ r. ⌜ r ≡ sameSizes p q ⌝ }
 {
     if p.field != q.field {
@@ -50,7 +50,7 @@ fn same_sizes(p: Front, q: Front) -> bool
 }
 
 // Whether field, sizes, code key and label are all equal (document 02, 8).
-pub fn same_dealing(noise_record: &[u8], p: Front, scalar_record: &[u8], q: Front) -> bool
+pub fn same_dealing(noise_record: &[u8], p: Layout, scalar_record: &[u8], q: Layout) -> bool
     requires { ⌜ KeyIn (now «noise_record») p × KeyIn (now «scalar_record») q ⌝ }
     ensures { λ r. ⌜ r ≡ sameDealing (headOf (now («noise_record» .entry)) p) (headOf (now («scalar_record» .entry)) q) ⌝ }
 {

@@ -10,10 +10,10 @@ ghost use Rattle.pairing.specs.Verdict.{Checked, verdict};
 use crate::Finding;
 use crate::heads::same_dealing;
 use crate::held::count_held;
-use record::Front;
-use record::Opened;
-use record::fault_of;
+use record::Layout;
+use record::RecordAnswer;
 use record::leaves;
+use record::record_fault;
 use record_reading::read_noise;
 use record_reading::read_scalar;
 
@@ -21,9 +21,9 @@ use record_reading::read_scalar;
 const MOST_LEAVES: usize = 1024;
 
 // Writes u and v at every output of an accepted noise record.
-fn noise_outputs(source: &[u8], front: Front, u_out: &mut [u64], v_out: &mut [u64])
-    requires { ⌜ noise.Ready (now source) front × (2 ^ front .depth ≤ 1024) × (length (now «u_out») ≡ 512) × (length (now «v_out») ≡ 1024) ⌝ }
-    ensures { λ _. ⌜ NoiseOutputs (now (source .entry)) front (now («u_out» .exit)) (now («v_out» .exit)) ⌝ }
+fn noise_outputs(source: &[u8], layout: Layout, u_out: &mut [u64], v_out: &mut [u64])
+    requires { ⌜ noise.Ready (now source) layout × (2 ^ layout .depth ≤ 1024) × (length (now «u_out») ≡ 512) × (length (now «v_out») ≡ 1024) ⌝ }
+    ensures { λ _. ⌜ NoiseOutputs (now (source .entry)) layout (now («u_out» .exit)) (now («v_out» .exit)) ⌝ }
 {
     let mut noise = [0u64; 1024];
     let mut v = [0u64; 2048];
@@ -35,25 +35,25 @@ fn noise_outputs(source: &[u8], front: Front, u_out: &mut [u64], v_out: &mut [u6
         &noise[..noise_words],
         &v[..v_words],
         0,
-        front.outputs,
+        layout.outputs,
         u_out,
         v_out,
     );
 }
 
 // Writes w at every output of an accepted scalar record, and Δ.
-fn scalar_outputs(source: &[u8], front: Front, w_out: &mut [u64], delta: &mut [u64])
-    requires { ⌜ scalar.Ready (now source) front × (2 ^ front .depth ≤ 1024) × (length (now «w_out») ≡ 1024) × (length (now delta) ≡ 2) ⌝ }
-    ensures { λ _. ⌜ ScalarOutputs (now (source .entry)) front (now («w_out» .exit)) (now (delta .exit)) ⌝ }
+fn scalar_outputs(source: &[u8], layout: Layout, w_out: &mut [u64], delta: &mut [u64])
+    requires { ⌜ scalar.Ready (now source) layout × (2 ^ layout .depth ≤ 1024) × (length (now «w_out») ≡ 1024) × (length (now delta) ≡ 2) ⌝ }
+    ensures { λ _. ⌜ ScalarOutputs (now (source .entry)) layout (now («w_out» .exit)) (now (delta .exit)) ⌝ }
 {
     let mut w = [0u64; 2048];
     let lengths = ends::scalar::offline(source, &mut w, delta);
     let w_words = lengths.first_written;
-    ends::scalar::online(source, &w[..w_words], 0, front.outputs, w_out);
+    ends::scalar::online(source, &w[..w_words], 0, layout.outputs, w_out);
 }
 
 // How many outputs hold, for two accepted records of one dealing.
-fn held_outputs(noise_record: &[u8], p: Front, scalar_record: &[u8], q: Front) -> usize
+fn held_outputs(noise_record: &[u8], p: Layout, scalar_record: &[u8], q: Layout) -> usize
     requires { ⌜ noise.Ready (now «noise_record») p × scalar.Ready (now «scalar_record») q ⌝ }
     requires { ⌜ Paired (now «noise_record») p (now «scalar_record») q ⌝ }
     ensures { λ r. ⌜ Checked (p .outputs) r ≡ verdict (now («noise_record» .entry)) (now («scalar_record» .entry)) ⌝ }
@@ -68,7 +68,7 @@ fn held_outputs(noise_record: &[u8], p: Front, scalar_record: &[u8], q: Front) -
 }
 
 // Two accepted records are too large, of different dealings, or checked, in that order.
-fn compare(noise_record: &[u8], p: Front, scalar_record: &[u8], q: Front) -> Finding
+fn compare(noise_record: &[u8], p: Layout, scalar_record: &[u8], q: Layout) -> Finding
     requires { ⌜ noise.Ready (now «noise_record») p × scalar.Ready (now «scalar_record») q ⌝ }
     ensures { λ r. ⌜ verdictOf r ≡ verdict (now («noise_record» .entry)) (now («scalar_record» .entry)) ⌝ }
 {
@@ -89,12 +89,12 @@ pub fn judge(noise_record: &[u8], scalar_record: &[u8]) -> Finding
     ensures { λ r. ⌜ verdictOf r ≡ verdict (now («noise_record» .entry)) (now («scalar_record» .entry)) ⌝ }
 {
     let a = read_noise(noise_record);
-    let Opened::Accepted(p) = a else {
-        return Finding::Refused(fault_of(a));
+    let RecordAnswer::Accepted(p) = a else {
+        return Finding::Refused(record_fault(a));
     };
     let b = read_scalar(scalar_record);
-    let Opened::Accepted(q) = b else {
-        return Finding::Refused(fault_of(b));
+    let RecordAnswer::Accepted(q) = b else {
+        return Finding::Refused(record_fault(b));
     };
     compare(noise_record, p, scalar_record, q)
 }

@@ -20,7 +20,7 @@ use Rattle.field.specs.declared.element.Element.{Element}
 use Rattle.field.proofs.Elements.{at-words, at-second}
 use Rattle.number.proofs.Places.{either, whole-is, whole-of, then-whole, tested-whole, choose-whole, choose-yes, choose-no}
 use Rattle.number.specs.Number.{readNumber}
-use Rattle.number.specs.Reading.{Whole, Refused, Step, then, choose, tested}
+use Rattle.number.specs.Reading.{Whole, Refused, Parsed, then, choose, tested}
 use Rattle.number.specs.Inner.Known.{isWhole}
 use Rattle.record.proofs.Fields.{element-items}
 use Rattle.record.proofs.Items.{items-whole}
@@ -39,13 +39,13 @@ position-parts base all s at {p} {next} e =
     (c .0, c .2 ∙ ap (λ (y : ℕ × ℕ). Whole (c .0, y .1)) z, ap (λ (y : ℕ × ℕ). y .0) (sym z), ltb-true _ _ (b .1))
 
 -- a noise value in bytes
-abbrev wordField : List ℕ → ℕ → Step ℕ
+abbrev wordField : List ℕ → ℕ → Parsed ℕ
 wordField s at = choose (leb (at + 8) (length s)) (Whole (wordAt s at, at + 8)) (Refused 10)
 
 pub value-parts-1 : (field : ℕ) (s : List ℕ) (at : ℕ) {y next : ℕ} → oneNoise field ≡ true → readValue field s at ≡ Whole (y, next) → (y ≡ 1) × (next ≡ at)
 unfolding readValue
 value-parts-1 field s at f e =
-    let z = whole-is (sym (choose-yes {A = Step ℕ} (Whole (1, at)) (tested (wordField s at) (λ y. isNoise field y) 5) f) ∙ e) in
+    let z = whole-is (sym (choose-yes {A = Parsed ℕ} (Whole (1, at)) (tested (wordField s at) (λ y. isNoise field y) 5) f) ∙ e) in
     (ap (λ (x : ℕ × ℕ). x .0) (sym z), ap (λ (x : ℕ × ℕ). x .1) (sym z))
 
 pub value-parts-2 : (field : ℕ) (s : List ℕ) (at : ℕ) {y next : ℕ} → oneNoise field ≡ false → readValue field s at ≡ Whole (y, next)
@@ -53,7 +53,7 @@ pub value-parts-2 : (field : ℕ) (s : List ℕ) (at : ℕ) {y next : ℕ} → o
 unfolding readValue
 value-parts-2 field s at f e =
     let t = tested-whole (wordField s at) (λ y. isNoise field y) 5
-    (sym (choose-no {A = Step ℕ} (Whole (1, at)) (tested (wordField s at) (λ y. isNoise field y) 5) f) ∙ e) in
+    (sym (choose-no {A = Parsed ℕ} (Whole (1, at)) (tested (wordField s at) (λ y. isNoise field y) 5) f) ∙ e) in
     let c = choose-whole {A = ℕ × ℕ} (leb (at + 8) (length s)) (wordAt s at, at + 8) 10 (t .0) in
     (leb-true _ _ (c .0), ap (λ (x : ℕ × ℕ). x .0) (sym (c .1)), ap (λ (x : ℕ × ℕ). x .1) (sym (c .1)), t .1)
 
@@ -129,7 +129,7 @@ module _ (field depth beside base : ℕ) (s : List ℕ) (at : ℕ) (known : isWh
       where
         both : {t : NoiseTree} {p value : ℕ} {words : List ℕ} {blocks : List (List ℕ)} {a b : ℕ}
             → t .position ≡ p → t .value ≡ value → t .correction ≡ words → t .siblings ≡ blocks → a ≡ b
-            → _≡_ {A = Step NoiseTree} (Whole (t, a)) (Whole (record { position = p; value = value; correction = words; siblings = blocks }, b))
+            → _≡_ {A = Parsed NoiseTree} (Whole (t, a)) (Whole (record { position = p; value = value; correction = words; siblings = blocks }, b))
         both p v c s e = λ i. Whole (record { position = p i; value = v i; correction = c i; siblings = s i }, e i)
 
     -- what is read of a tree of this noise value and a correction of these words

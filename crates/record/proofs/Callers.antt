@@ -14,7 +14,7 @@ use Rattle.field.proofs.KindOf.{words-1, words-2}
 use Rattle.field.specs.Bytes.{wordAt}
 use Rattle.field.specs.Prime.{modulus}
 use Rattle.number.proofs.Places.{either, refused-whole, whole-is, tested-whole, choose-yes}
-use Rattle.number.specs.Reading.{Reading, Whole, Refused, Step}
+use Rattle.number.specs.Reading.{Reading, Whole, Refused, Parsed}
 use Rattle.number.specs.Inner.Known.{isWhole}
 use Rattle.record.proofs.Again.{position-parts, value-parts-1, value-parts-2, correction-parts}
 use Rattle.record.proofs.Exact.{field-exact}
@@ -26,7 +26,7 @@ use Rattle.record.specs.Admitted.{isSize, mostTrees, mostTerms, mostOutp
 use Rattle.field.specs.Kind.{elementWords}
 use Rattle.record.specs.Content.{Head, NoiseTree, NoisePart, ScalarPart, siblingCount}
 use Rattle.record.specs.Reading.{items, blockAt, readWords, readBlocks, readValue, readDelta, readHead, readTree, readTrees, readNoise, readScalar}
-use Rattle.record.specs.Answer.{frontOf}
+use Rattle.record.specs.Answer.{headIfWhole}
 
 -- ---- the head
 
@@ -79,32 +79,32 @@ head-ranges end s {h} e =
     }
 
 -- a record whose head was read, by the whole record's reading
-front-refused : {A : Type 0} (x : Reading A) (y : Step Head) {k : ℕ} → ((p : A) → x ≡ Whole p → (z : Head × ℕ) × (y ≡ Whole z))
-    → frontOf x y ≡ Refused k → x ≡ Refused k
-front-refused (Whole p) y w e = absurd (refused-whole (sym e) (w p refl .1))
-front-refused (Refused n) y {k} w e = let m : n ≡ k = cc in ap (λ (j : ℕ). Refused j) m
+whole-refused : {A : Type 0} (x : Reading A) (y : Parsed Head) {k : ℕ} → ((p : A) → x ≡ Whole p → (z : Head × ℕ) × (y ≡ Whole z))
+    → headIfWhole x y ≡ Refused k → x ≡ Refused k
+whole-refused (Whole p) y w e = absurd (refused-whole (sym e) (w p refl .1))
+whole-refused (Refused n) y {k} w e = let m : n ≡ k = cc in ap (λ (j : ℕ). Refused j) m
 
-front-opened : {A : Type 0} (x : Reading A) (y : Step Head) {z : Head × ℕ} → frontOf x y ≡ Whole z → (p : A) × (x ≡ Whole p) × (y ≡ Whole z)
-front-opened (Whole p) y e = (p, refl, e)
-front-opened (Refused n) y e = absurd (refused-whole refl e)
+head-if-whole : {A : Type 0} (x : Reading A) (y : Parsed Head) {z : Head × ℕ} → headIfWhole x y ≡ Whole z → (p : A) × (x ≡ Whole p) × (y ≡ Whole z)
+head-if-whole (Whole p) y e = (p, refl, e)
+head-if-whole (Refused n) y e = absurd (refused-whole refl e)
 
 -- ---- the noise record
 
 -- a refused record has the definition's number
-pub noise-refused : (s : List ℕ) {k : ℕ} → frontOf (readNoise s) (readHead 1 s) ≡ Refused k → readNoise s ≡ Refused k
-noise-refused s e = front-refused (readNoise s) (readHead 1 s) (λ p f. let a = noise-parts s f in ((p .head, a .0), a .2)) e
+pub noise-refused : (s : List ℕ) {k : ℕ} → headIfWhole (readNoise s) (readHead 1 s) ≡ Refused k → readNoise s ≡ Refused k
+noise-refused s e = whole-refused (readNoise s) (readHead 1 s) (λ p f. let a = noise-parts s f in ((p .head, a .0), a .2)) e
 
 -- an accepted one is whole: its head is the one that was read, and its trees are read from the body on
-pub record NoiseOpened (s : List ℕ) (h : Head) (body : ℕ) (p : NoisePart) (end : ℕ) : Type 0 where
+pub record NoiseRead (s : List ℕ) (h : Head) (body : ℕ) (p : NoisePart) (end : ℕ) : Type 0 where
   pub whole : readNoise s ≡ Whole p
   pub same : p .head ≡ h
   pub head : readHead 1 s ≡ Whole (h, body)
   pub trees : readTrees (h .field) (h .depth) (siblingCount (h .depth) (h .branchBits)) (h .trees) 0 s body ≡ Whole (p .trees, end)
 
-pub noise-opened : (s : List ℕ) {h : Head} {body : ℕ} → frontOf (readNoise s) (readHead 1 s) ≡ Whole (h, body)
-    → (p : NoisePart) × (end : ℕ) × NoiseOpened s h body p end
-noise-opened s {h} {body} e =
-    let o = front-opened (readNoise s) (readHead 1 s) e in
+pub noise-content : (s : List ℕ) {h : Head} {body : ℕ} → headIfWhole (readNoise s) (readHead 1 s) ≡ Whole (h, body)
+    → (p : NoisePart) × (end : ℕ) × NoiseRead s h body p end
+noise-content s {h} {body} e =
+    let o = head-if-whole (readNoise s) (readHead 1 s) e in
     let a = noise-parts s (o .1) in
     let z = whole-is (sym (a .2) ∙ o .2) in (
       o .0,
@@ -179,11 +179,11 @@ again-at field depth beside n base s at i more all d {end} left {t} {after} e =
 
 -- ---- the scalar record
 
-pub scalar-refused : (s : List ℕ) {k : ℕ} → frontOf (readScalar s) (readHead 2 s) ≡ Refused k → readScalar s ≡ Refused k
-scalar-refused s e = front-refused (readScalar s) (readHead 2 s) (λ p f. let a = scalar-parts s f in ((p .head, a .0), a .3)) e
+pub scalar-refused : (s : List ℕ) {k : ℕ} → headIfWhole (readScalar s) (readHead 2 s) ≡ Refused k → readScalar s ≡ Refused k
+scalar-refused s e = whole-refused (readScalar s) (readHead 2 s) (λ p f. let a = scalar-parts s f in ((p .head, a .0), a .3)) e
 
 -- an accepted one is whole: Δ begins the body and the roots follow it
-pub record ScalarOpened (s : List ℕ) (h : Head) (body : ℕ) (p : ScalarPart) : Type 0 where
+pub record ScalarRead (s : List ℕ) (h : Head) (body : ℕ) (p : ScalarPart) : Type 0 where
   pub whole : readScalar s ≡ Whole p
   pub same : p .head ≡ h
   pub head : readHead 2 s ≡ Whole (h, body)
@@ -192,10 +192,10 @@ pub record ScalarOpened (s : List ℕ) (h : Head) (body : ℕ) (p : ScalarPart) 
   pub scalar : isScalar (h .field) (p .delta) ≡ true
   pub roots : p .roots ≡ items blockAt 16 s (body + 8 * elementWords (h .field)) (h .trees)
 
-pub scalar-opened : (s : List ℕ) {h : Head} {body : ℕ} → frontOf (readScalar s) (readHead 2 s) ≡ Whole (h, body) → (p : ScalarPart) × ScalarOpened s h body p
+pub scalar-content : (s : List ℕ) {h : Head} {body : ℕ} → headIfWhole (readScalar s) (readHead 2 s) ≡ Whole (h, body) → (p : ScalarPart) × ScalarRead s h body p
 unfolding readDelta
-scalar-opened s {h} {body} e =
-    let o = front-opened (readScalar s) (readHead 2 s) e in
+scalar-content s {h} {body} e =
+    let o = head-if-whole (readScalar s) (readHead 2 s) e in
     let p : ScalarPart = o .0 in
     let a = scalar-parts s (o .1) in
     let z = whole-is (sym (a .3) ∙ o .2) in

@@ -19,7 +19,7 @@ use Rattle.number.proofs.Laws.{length-number, number-reads, number-whole}
 use Rattle.number.proofs.Places.{split, either, whole-is, then-whole, tested-whole, tested-reads, choose-yes, choose-no, has-front, has-back, has-next, has-is, part-has, byte-reads, byte-whole, bytes-reads, bytes-whole}
 use Rattle.number.specs.Number.{writeNumber, readNumber}
 use Rattle.number.specs.Inner.Written.{numbers}
-use Rattle.number.specs.Reading.{Whole, Refused, Step, then, choose, tested, part, readByte, Bytes}
+use Rattle.number.specs.Reading.{Whole, Refused, Parsed, then, choose, tested, part, readByte, Bytes}
 use Rattle.number.specs.Inner.Known.{Has}
 use Rattle.record.proofs.Again.{value-parts-1, value-parts-2}
 use Rattle.record.proofs.Fields.{and-both}
@@ -30,7 +30,7 @@ use Rattle.record.specs.Inner.Rising.{TreeFrom, TreesFrom}
 use Rattle.field.specs.Kind.{elementWords}
 use Rattle.record.specs.Content.{Head, NoiseTree}
 use Rattle.record.specs.Reading.{readWords, blockAt, readBlocks, readSize, readBranch, readPosition, readValue, readCorrection, readDelta, readField, readAfterDepth, readSizes, readHead, readTree, readTrees}
-use Rattle.record.specs.Writing.{writeWords, writeBlocks, writeHead, writeValue, writeFront, writeTree, writeTrees}
+use Rattle.record.specs.Writing.{writeWords, writeBlocks, writeHead, writeValue, writeTreeStart, writeTree, writeTrees}
 
 -- ---- words and blocks
 
@@ -165,10 +165,10 @@ module _ (s : List ℕ) where
       let back = word-back at y (omega arith) g in
       let room : at + 8 ≤ length s = omega (arith, g .0, length-leBytes 8 y) in
       let long : length (writeValue field y) ≡ 8 = ap length w ∙ length-leBytes 8 y in
-      choose-no {A = Step ℕ} (Whole (1, at)) (tested (choose (leb (at + 8) (length s)) (Whole (wordAt s at, at + 8)) (Refused 10)) (λ z. isNoise field z) 5) (ne-eqb field 1 f)
-      ∙ tested-reads (λ z. isNoise field z) 5 (choose-yes {A = Step ℕ} (Whole (wordAt s at, at + 8)) (Refused 10) (le-leb (at + 8) (length s) room) ∙ pair back (ap (λ (k : ℕ). at + k) (sym long))) ok)
+      choose-no {A = Parsed ℕ} (Whole (1, at)) (tested (choose (leb (at + 8) (length s)) (Whole (wordAt s at, at + 8)) (Refused 10)) (λ z. isNoise field z) 5) (ne-eqb field 1 f)
+      ∙ tested-reads (λ z. isNoise field z) 5 (choose-yes {A = Parsed ℕ} (Whole (wordAt s at, at + 8)) (Refused 10) (le-leb (at + 8) (length s) room) ∙ pair back (ap (λ (k : ℕ). at + k) (sym long))) ok)
     where
-      pair : {a b p q : ℕ} → a ≡ b → p ≡ q → _≡_ {A = Step ℕ} (Whole (a, p)) (Whole (b, q))
+      pair : {a b p q : ℕ} → a ≡ b → p ≡ q → _≡_ {A = Parsed ℕ} (Whole (a, p)) (Whole (b, q))
       pair e f = cc
 
   pub value-exact : Bytes s → (field at : ℕ) {y next : ℕ} → at ≤ length s → readValue field s at ≡ Whole (y, next)
@@ -342,7 +342,7 @@ module _ (s : List ℕ) where
 
   pub tree-reads : (field depth beside base at : ℕ) (t : NoiseTree) → depth ≤ 16 → TreeFrom field depth beside base t → Has s at (writeTree field base t)
       → readTree field depth beside base s at ≡ Whole (t, at + length (writeTree field base t))
-  unfolding writeTree writeFront readTree
+  unfolding writeTree writeTreeStart readTree
   tree-reads field depth beside base at t shallow ok g =
       let P : List ℕ = writeNumber (t .position - base) in
       let Y : List ℕ = writeValue field (t .value) in
@@ -365,7 +365,7 @@ module _ (s : List ℕ) where
 
   pub tree-exact : Bytes s → (field depth beside base at : ℕ) {t : NoiseTree} {next : ℕ} → readTree field depth beside base s at ≡ Whole (t, next)
       → TreeFrom field depth beside base t × Has s at (writeTree field base t) × (next ≡ at + length (writeTree field base t))
-  unfolding writeTree writeFront
+  unfolding writeTree writeTreeStart
   tree-exact bytes field depth beside base at {t} {next} e =
       let p = tree-parts field depth beside base s at e in
       let P : List ℕ = writeNumber (t .position - base) in

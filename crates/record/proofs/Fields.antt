@@ -21,7 +21,7 @@ use Rattle.field.specs.declared.element.Element.{Element}
 use Rattle.field.proofs.Elements.{element-first, at-words}
 use Rattle.number.specs.Number.{readNumber}
 use Rattle.number.specs.Answer.{numberRead}
-use Rattle.number.specs.Reading.{Whole, Refused, Step, choose, tested, readByte}
+use Rattle.number.specs.Reading.{Whole, Refused, Parsed, choose, tested, readByte}
 use Rattle.number.specs.declared.Number.{Number}
 use Rattle.number.specs.declared.Number.the-variants.{Value, Fault}
 use Rattle.number.proofs.Places.{choose-no, split, choose-whole, refused-whole}
@@ -82,7 +82,7 @@ module _ (count : ℕ) (s : List ℕ) (at : ℕ) where
 
 -- a field that is whole or not, and its test
 module _ {A : Type 0} (b : Bool) (x : A) (next : ℕ) (ok : A → Bool) (k : ℕ) where
-  abbrev asked : Step A
+  abbrev asked : Parsed A
   asked = tested (choose b (Whole (x, next)) (Refused 10)) ok k
 
   lacking : b ≡ false → Refused 10 ≡ asked
@@ -102,13 +102,13 @@ module _ (field : ℕ) (s : List ℕ) (at : ℕ) {o : Bool} (one : o ≡ oneNois
   unfolding readValue
   value-one e = rw (sym one ∙ e)
 
-  abbrev wordField : Step ℕ
+  abbrev wordField : Parsed ℕ
   wordField = asked (leb (at + 8) (length s)) (wordAt s at) (at + 8) (isNoise field) 5
 
   module _ (many : o ≡ false) where
-    written : {x : Step ℕ} → x ≡ wordField → x ≡ readValue field s at
+    written : {x : Parsed ℕ} → x ≡ wordField → x ≡ readValue field s at
     unfolding readValue
-    written e = e ∙ sym (choose-no {A = Step ℕ} (Whole (1, at)) wordField (sym one ∙ many))
+    written e = e ∙ sym (choose-no {A = Parsed ℕ} (Whole (1, at)) wordField (sym one ∙ many))
 
     module _ {b : Bool} (has : b ≡ leb (at + 8) (length s)) where
       pub value-ends : b ≡ false → Refused 10 ≡ readValue field s at

@@ -12,7 +12,7 @@ use lib.ListN.{length}
 use Rattle.number.proofs.Places.{tested-whole}
 use Rattle.number.specs.Number.{readNumber}
 use Rattle.number.specs.Answer.{numberRead, numberFault}
-use Rattle.number.specs.Reading.{Whole, Refused, Step, tested, readBytes}
+use Rattle.number.specs.Reading.{Whole, Refused, Parsed, tested, readBytes}
 use Rattle.number.specs.declared.Number.{Number}
 use Rattle.number.specs.declared.Number.the-variants.{Value, Fault}
 use Rattle.record.proofs.Fields.{and-both, skip-fault, skip-value}
@@ -22,7 +22,7 @@ use Rattle.record.specs.Content.{Head}
 use Rattle.record.specs.Reading.{readSize, readBranch, readField, readAfterDepth, readSizes, readHead}
 use Rattle.record.specs.Inner.Answers.{skipped}
 use Rattle.record.specs.Answer.{headOf}
-use Rattle.record.specs.declared.Front.{Front}
+use Rattle.record.specs.declared.Layout.{Layout}
 
 -- a size that was read is in its range
 pub size-range : (top : ℕ) (s : List ℕ) (at : ℕ) {n next : ℕ} → readSize top s at ≡ Whole (n, next) → (1 ≤ n) × (n ≤ top)
@@ -65,9 +65,9 @@ either-way : {X : Type 0} (b : Bool) → (b ≡ true → X) → (b ≡ false →
 either-way true f g = f refl
 either-way false f g = g refl
 
--- the front of a head that ends before its body
-abbrev pub frontWith : ℕ → ℕ → ℕ → ℕ → ℕ → ℕ → ℕ → Front
-frontWith field depth branchBits trees terms outputs body =
+-- the layout of a head that ends before its body
+abbrev pub layoutWith : ℕ → ℕ → ℕ → ℕ → ℕ → ℕ → ℕ → Layout
+layoutWith field depth branchBits trees terms outputs body =
     record { field = field; depth = depth; «branch_bits» = branchBits; trees = trees; terms = terms; outputs = outputs; body = body }
 
 -- the returns of `read_after_depth`
@@ -102,7 +102,7 @@ module _ (field d : ℕ) (s : List ℕ) (at2 : ℕ) {r2 : Number} (read2 : numbe
               (λ h. simp (← read2, v2, ← power, ← least, ← read3, v3, ← fewest, ← read4, v4, ← read5, v5, h, late, w, e, f .1))
               (λ h. simp (← read2, v2, ← power, ← least, ← read3, v3, ← fewest, ← read4, v4, ← read5, v5, h, w, e, f .1))
 
-          pub sizes-whole : {x body : ℕ} → r6 ≡ Value x body → Whole (headOf s (frontWith field d g t l n body), body) ≡ readAfterDepth field d s at2
+          pub sizes-whole : {x body : ℕ} → r6 ≡ Value x body → Whole (headOf s (layoutWith field d g t l n body), body) ≡ readAfterDepth field d s at2
           unfolding readAfterDepth readBytes
           sizes-whole e =
               let f = skip-value 32 s at6 read6 e in
@@ -119,7 +119,7 @@ module _ (field : ℕ) (s : List ℕ) (at1 : ℕ) {r : Number} (read : numberRea
   unfolding readSizes
   depth-fault e w = simp (← read, w, e)
 
-  pub depth-whole : {d at2 : ℕ} {x : Step Head} → r ≡ Value d at2 → x ≡ readAfterDepth field d s at2 → x ≡ readSizes field s at1
+  pub depth-whole : {d at2 : ℕ} {x : Parsed Head} → r ≡ Value d at2 → x ≡ readAfterDepth field d s at2 → x ≡ readSizes field s at1
   unfolding readSizes
   depth-whole v rest = simp (← read, v) rest
 
@@ -128,7 +128,7 @@ module _ (end : ℕ) (s : List ℕ) {r : Number} (read : numberRead r ≡ readFi
   unfolding readHead
   head-fault e w = simp (← read, w, e)
 
-  pub head-whole : {field at : ℕ} {x : Step Head} → r ≡ Value field at → x ≡ readSizes field s at → x ≡ readHead end s
+  pub head-whole : {field at : ℕ} {x : Parsed Head} → r ≡ Value field at → x ≡ readSizes field s at → x ≡ readHead end s
   unfolding readHead
   head-whole v sizes = simp (← read, v) sizes
 

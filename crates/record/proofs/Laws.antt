@@ -27,7 +27,7 @@ use Rattle.record.proofs.Rising.{trees-each, trees-rising, trees-from}
 use Rattle.field.specs.Kind.{elementWords}
 use Rattle.record.specs.Content.{Head, NoiseTree, NoisePart, ScalarPart, siblingCount}
 use Rattle.record.specs.Reading.{blockAt, readHead, readTrees, readNoise, readScalar}
-use Rattle.record.specs.Writing.{writeWords, writeBlocks, writeHead, writeValue, writeFront, writeTree, writeTrees, writeNoise, writeScalar}
+use Rattle.record.specs.Writing.{writeWords, writeBlocks, writeHead, writeValue, writeTreeStart, writeTree, writeTrees, writeNoise, writeScalar}
 
 -- the depth of an admitted head
 shallow : {h : Head} → AdmittedHead h → h .depth ≤ 16

@@ -23,10 +23,10 @@ use Rattle.number.specs.Number.{numberLength}
 use Rattle.number.specs.Reading.{part}
 use Rattle.record.specs.Inner.Rising.{RisesFrom}
 use Rattle.record.specs.Content.{Head, siblingCount}
-use Rattle.record.specs.declared.Front.{Front}
+use Rattle.record.specs.declared.Layout.{Layout}
 use Rattle.record.specs.Reading.{items, blockAt}
-use Rattle.record.specs.Writing.{writeEach, writeWords, writeBlocks, writeHead, writeFront}
-use Rattle.record.specs.Inner.Lengths.{Writable, headLength, frontLength, treeLength, treesLength, noiseLength, scalarLength}
+use Rattle.record.specs.Writing.{writeEach, writeWords, writeBlocks, writeHead, writeTreeStart}
+use Rattle.record.specs.Inner.Lengths.{Writable, headLength, treeStartLength, treeLength, treesLength, noiseLength, scalarLength}
 
 pub length-head : (end : ℕ) (h : Head) → length (h .codeKey) ≡ 16 → length (h .label) ≡ 16
     → length (writeHead end h) ≡ headLength (h .depth) (h .branchBits) (h .trees) (h .terms) (h .outputs)
@@ -42,10 +42,10 @@ pub length-element : (field low high : ℕ) → length (writeWords (elementOf fi
 length-element field low high = length-words (elementOf field low high) ∙ ap (λ n. 8 * n) (either field 1 (λ f. rw f) (λ f. rw (ne-eqb field 1 f, words-2 field f)))
 
 -- in both fields the noise value and the correction take 16 bytes together
-pub length-front : (field base position value : ℕ) (words : List ℕ) → length words ≡ elementWords field
-    → length (writeFront field base position value words) ≡ frontLength base position
-unfolding writeFront frontLength
-length-front field base position value words e =
+pub tree-start-long : (field base position value : ℕ) (words : List ℕ) → length words ≡ elementWords field
+    → length (writeTreeStart field base position value words) ≡ treeStartLength base position
+unfolding writeTreeStart treeStartLength
+tree-start-long field base position value words e =
     simp (length-append, length-number, length-words, e)
     (either field 1 (λ f. rw f) (λ f. rw (ne-eqb field 1 f, words-2 field f, length-leBytes)))
 
@@ -117,18 +117,18 @@ module _ (n o : ℕ) {a x : ℕ} (e : a ≡ numberLength n) (p : x ≡ numberLen
 pub number-fits : {r : ℕ} (n : ℕ) → r ≡ numberLength n → Fits w64 (r + 16)
 number-fits n e = record { fits = omega (arith, length-bounds n) }
 
-pub front-sum : {r : ℕ} (base position : ℕ) → r ≡ numberLength (position - base) → r + 16 ≡ frontLength base position
-unfolding frontLength
-front-sum base position e = rw e
+pub tree-start-sum : {r : ℕ} (base position : ℕ) → r ≡ numberLength (position - base) → r + 16 ≡ treeStartLength base position
+unfolding treeStartLength
+tree-start-sum base position e = rw e
 
-body-most : (f : Front) → Writable f → f .body ≤ 49
+body-most : (f : Layout) → Writable f → f .body ≤ 49
 unfolding headLength
 body-most f ok = omega (arith, ok .body, length-bounds (f .depth), length-bounds (f .«branch_bits»), length-bounds (f .trees), length-bounds (f .terms), length-bounds (f .outputs))
 
 element-most : (field : ℕ) → elementLength field ≤ 16
 element-most field = either field 1 (λ f. omega (arith, words-1 field f)) (λ f. omega (arith, words-2 field f))
 
-module _ (f : Front) (ok : Writable f) {e : ℕ} (element : e ≡ elementLength (f .field)) where
+module _ (f : Layout) (ok : Writable f) {e : ℕ} (element : e ≡ elementLength (f .field)) where
   pub scalar-sum-fits-1 : Fits w64 (e + 16 * f .trees)
   scalar-sum-fits-1 = record { fits = omega (arith, element-most (f .field), ok .trees) }
 
@@ -140,26 +140,26 @@ module _ (f : Front) (ok : Writable f) {e : ℕ} (element : e ≡ elementLength 
   scalar-sum = rw element
 
 -- a tree's length
-module _ (base position : ℕ) {n m : ℕ} (front : n ≡ frontLength base position) where
+module _ (base position : ℕ) {n m : ℕ} (layout : n ≡ treeStartLength base position) where
   pub tree-most : {k : ℕ} → (m ≡ k) × (m ≤ 112) → n + 16 * m ≤ 1811
-  unfolding frontLength
-  tree-most s = omega (arith, front, s .1, length-bounds (position - base))
+  unfolding treeStartLength
+  tree-most s = omega (arith, layout, s .1, length-bounds (position - base))
 
   pub tree-fits : {k : ℕ} → (m ≡ k) × (m ≤ 112) → Fits w64 (n + 16 * m)
   tree-fits s = record { fits = omega (arith, tree-most s) }
 
-  pub tree-sum : (f : Front) → (m ≡ siblingCount (f .depth) (f .«branch_bits»)) × (m ≤ 112) → n + 16 * m ≡ treeLength f base position
+  pub tree-sum : (f : Layout) → (m ≡ siblingCount (f .depth) (f .«branch_bits»)) × (m ≤ 112) → n + 16 * m ≡ treeLength f base position
   unfolding treeLength
-  tree-sum f s = rw (front, s .0)
+  tree-sum f s = rw (layout, s .0)
 
 -- the loop of `noise_length`: what is left of the positions is the sum's rest
-pub record Sum (f : Front) (ps : List ℕ) (total base i : ℕ) : Type 0 where
+pub record Sum (f : Layout) (ps : List ℕ) (total base i : ℕ) : Type 0 where
   pub sum : total + treesLength f base (drop i ps) ≡ noiseLength f ps
   pub rising : RisesFrom (2 ^ f .depth) base (drop i ps)
   pub turns : i ≤ length ps
   pub small : total ≤ 49 + i * 1811
 
-module _ (f : Front) (ok : Writable f) (ps : List ℕ) where
+module _ (f : Layout) (ok : Writable f) (ps : List ℕ) where
   pub sum-start : RisesFrom (2 ^ f .depth) 0 ps → Sum f ps (f .body) 0 0
   unfolding noiseLength
   sum-start r = record { sum = refl; rising = r; turns = omega arith; small = omega (arith, body-most f ok) }

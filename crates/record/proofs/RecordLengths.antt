@@ -14,13 +14,13 @@ use Rattle.number.specs.Number.{numberLength}
 use Rattle.record.proofs.Fields.{and-both}
 use Rattle.record.proofs.Items.{length-flat}
 use Rattle.record.proofs.Laws.{noise-exact, scalar-exact}
-use Rattle.record.proofs.Lengths.{length-head, length-words, length-front}
+use Rattle.record.proofs.Lengths.{length-head, length-words, tree-start-long}
 use Rattle.record.specs.Admitted.{isSize, mostTrees, mostTerms, Each, SixteenBytes, AdmittedHead, AdmittedTree, AdmittedNoise, AdmittedScalar}
 use Rattle.record.specs.Content.{Head, NoiseTree, NoisePart, ScalarPart, siblingCount}
-use Rattle.record.specs.Inner.Lengths.{headLength, frontLength}
+use Rattle.record.specs.Inner.Lengths.{headLength, treeStartLength}
 use Rattle.record.specs.Lengths.{headBytes, treeBytes, positionBytes, noiseBytes, scalarBytes, RecordLengths}
 use Rattle.record.specs.Reading.{blockAt}
-use Rattle.record.specs.Writing.{writeWords, writeBlocks, writeHead, writeFront, writeTree, writeTrees, writeNoise, writeScalar}
+use Rattle.record.specs.Writing.{writeWords, writeBlocks, writeHead, writeTreeStart, writeTree, writeTrees, writeNoise, writeScalar}
 
 -- a number below 128 is one byte
 one-byte : (n : ℕ) → n < 128 → numberLength n ≡ 1
@@ -53,17 +53,17 @@ module _ (h : Head) (ok : AdmittedHead h) where
 
 trees-bytes : (field depth beside base : ℕ) (ts : List NoiseTree) → Each (AdmittedTree field depth beside) ts
     → length (writeTrees field base ts) ≡ length ts * (16 + 16 * beside) + positionBytes base ts
-unfolding writeTrees writeTree positionBytes frontLength Each
+unfolding writeTrees writeTree positionBytes treeStartLength Each
 trees-bytes field depth beside base [] ok = omega arith
 trees-bytes field depth beside base (t ∷ ts) ok =
-    let front = length-front field base (t .position) (t .value) (t .correction) (ok .0 .words .0) in
+    let layout = tree-start-long field base (t .position) (t .value) (t .correction) (ok .0 .words .0) in
     let beneath = blocks (t .siblings) (ok .0 .siblings .1) in
     let rest = trees-bytes field depth beside (t .position + 1) ts (ok .1) in
     omega (
       arith,
       length-append (writeTree field base t) (writeTrees field (t .position + 1) ts),
-      length-append (writeFront field base (t .position) (t .value) (t .correction)) (writeBlocks (t .siblings)),
-      front,
+      length-append (writeTreeStart field base (t .position) (t .value) (t .correction)) (writeBlocks (t .siblings)),
+      layout,
       beneath,
       ok .0 .siblings .0,
       rest,

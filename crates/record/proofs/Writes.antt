@@ -21,7 +21,7 @@ use Rattle.number.specs.Inner.Written.{Room, Wrote}
 use Rattle.number.specs.Reading.{part}
 use Rattle.record.proofs.Lengths.{length-element, blocks-part}
 use Rattle.record.specs.Inner.Heads.{headFrom, scalarWith}
-use Rattle.record.specs.declared.Front.{Front}
+use Rattle.record.specs.declared.Layout.{Layout}
 use Rattle.record.specs.Reading.{items, blockAt}
 use Rattle.record.specs.Writing.{writeEach, writeWords, writeBlocks, writeHead, writeValue, writeScalar}
 use Rattle.record.specs.Inner.Lengths.{sizesBytes}
@@ -133,11 +133,11 @@ module _ (b₀ : List ℕ) (at : ℕ) (u v w x : List ℕ) (room : Room b₀ at 
 abbrev begun : List ℕ → ℕ → ℕ → List ℕ
 begun b end field = set (set b 0 end) 1 field
 
-head-bytes : (end : ℕ) (f : Front) (key label : List ℕ) → writeHead end (headFrom f key label) ≡ end ∷ f .field ∷ (sizesBytes f ++ (key ++ label))
+head-bytes : (end : ℕ) (f : Layout) (key label : List ℕ) → writeHead end (headFrom f key label) ≡ end ∷ f .field ∷ (sizesBytes f ++ (key ++ label))
 unfolding writeHead
 head-bytes end f key label = simp append-assoc
 
-module _ (b₀ : List ℕ) (end : ℕ) (f : Front) (key label : List ℕ) (room : Room b₀ 0 (writeHead end (headFrom f key label))) where
+module _ (b₀ : List ℕ) (end : ℕ) (f : Layout) (key label : List ℕ) (room : Room b₀ 0 (writeHead end (headFrom f key label))) where
   whole-head : length (sizesBytes f ++ (key ++ label)) + 2 ≤ length b₀
   whole-head = omega (arith, room .fits, ap length (head-bytes end f key label))
 
@@ -193,7 +193,7 @@ module _ (b₀ : List ℕ) (at : ℕ) (u v w : List ℕ) (room : Room b₀ at (u
 
 -- ---- the scalar record
 
-module _ (b₀ : List ℕ) (f : Front) (key label words roots : List ℕ) (room : Room b₀ 0 (writeScalar (scalarWith f key label words roots))) where
+module _ (b₀ : List ℕ) (f : Layout) (key label words roots : List ℕ) (room : Room b₀ 0 (writeScalar (scalarWith f key label words roots))) where
   pub scalar-head : Room b₀ 0 (writeHead 2 (headFrom f key label))
   unfolding writeScalar
   scalar-head = room-front (writeHead 2 (headFrom f key label)) _ room

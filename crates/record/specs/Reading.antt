@@ -9,7 +9,7 @@ use Rattle.field.specs.Bytes.{wordAt}
 use Rattle.field.specs.ByNumber.{isField, isNoise, oneNoise, isElement, isScalar}
 use Rattle.field.specs.Kind.{elementWords}
 use Rattle.number.specs.Number.{readNumber}
-use Rattle.number.specs.Reading.{Reading, Whole, Refused, Step, then, choose, tested, part, readByte, readBytes}
+use Rattle.number.specs.Reading.{Reading, Whole, Refused, Parsed, then, choose, tested, part, readByte, readBytes}
 use Rattle.record.specs.Admitted.{isSize, mostTrees, mostTerms, mostOutputs}
 use Rattle.record.specs.Content.{Head, NoiseTree, NoisePart, ScalarPart, siblingCount}
 
@@ -21,54 +21,54 @@ items item size s at zero = []
 items item size s at (suc n) = item s at ∷ items item size s (at + size) n
 
 -- the same as a field; 10: record ends inside it
-unfoldable pub readItems : {A : Type 0} → (List ℕ → ℕ → A) → ℕ → ℕ → List ℕ → ℕ → Step (List A)
+unfoldable pub readItems : {A : Type 0} → (List ℕ → ℕ → A) → ℕ → ℕ → List ℕ → ℕ → Parsed (List A)
 readItems item size n s at = choose (leb (at + size * n) (length s)) (Whole (items item size s at n, at + size * n)) (Refused recordEnds)
 
 -- words, 8 bytes LE each
-abbrev pub readWords : ℕ → List ℕ → ℕ → Step (List ℕ)
+abbrev pub readWords : ℕ → List ℕ → ℕ → Parsed (List ℕ)
 readWords n s at = readItems wordAt 8 n s at
 
 -- blocks, 16 bytes each
 abbrev pub blockAt : List ℕ → ℕ → List ℕ
 blockAt s at = part s at 16
 
-abbrev pub readBlocks : ℕ → List ℕ → ℕ → Step (List (List ℕ))
+abbrev pub readBlocks : ℕ → List ℕ → ℕ → Parsed (List (List ℕ))
 readBlocks n s at = readItems blockAt 16 n s at
 
 -- a size; 2: outside its range
-unfoldable pub readSize : ℕ → List ℕ → ℕ → Step ℕ
+unfoldable pub readSize : ℕ → List ℕ → ℕ → Parsed ℕ
 readSize top s at = tested (readNumber s at) (λ n. isSize top n) badSize
 
 -- g; 2: not 1, 2 or 3, or d is no multiple of it (document 02, 10)
-unfoldable pub readBranch : ℕ → List ℕ → ℕ → Step ℕ
+unfoldable pub readBranch : ℕ → List ℕ → ℕ → Parsed ℕ
 readBranch depth s at = tested (readSize 3 s at) (λ g. eqb (depth % g) 0) badSize
 
 -- a position, written less `base`; 4: N or more
-unfoldable pub readPosition : ℕ → ℕ → List ℕ → ℕ → Step ℕ
+unfoldable pub readPosition : ℕ → ℕ → List ℕ → ℕ → Parsed ℕ
 readPosition base all s at = tested (then (readNumber s at) λ x next. Whole (base + x, next)) (λ p. ltb p all) badPosition
 
 -- a noise value, in field 2 only; 5: not admitted
-unfoldable pub readValue : ℕ → List ℕ → ℕ → Step ℕ
+unfoldable pub readValue : ℕ → List ℕ → ℕ → Parsed ℕ
 readValue field s at =
     choose (oneNoise field) (Whole (1, at))
     (tested (choose (leb (at + 8) (length s)) (Whole (wordAt s at, at + 8)) (Refused recordEnds)) (λ y. isNoise field y) badNoise)
 
 -- a correction; 8: not an element
-unfoldable pub readCorrection : ℕ → List ℕ → ℕ → Step (List ℕ)
+unfoldable pub readCorrection : ℕ → List ℕ → ℕ → Parsed (List ℕ)
 readCorrection field s at = tested (readWords (elementWords field) s at) (λ c. isElement field c) notElement
 
 -- Δ; 6: zero, or not an element
-unfoldable pub readDelta : ℕ → List ℕ → ℕ → Step (List ℕ)
+unfoldable pub readDelta : ℕ → List ℕ → ℕ → Parsed (List ℕ)
 readDelta field s at = tested (readWords (elementWords field) s at) (λ c. isScalar field c) badDelta
 
 -- ---- records
 
 -- the end byte; 9: not this end's. The field byte; 1: not 1 or 2
-unfoldable pub readField : ℕ → List ℕ → Step ℕ
+unfoldable pub readField : ℕ → List ℕ → Parsed ℕ
 readField end s = then (tested (readByte s 0) (λ e. eqb e end) wrongEnd) λ e at. tested (readByte s at) isField badField
 
 -- g, t, ℓ, n, the code key and the label (document 02, 8), after d
-unfoldable pub readAfterDepth : ℕ → ℕ → List ℕ → ℕ → Step Head
+unfoldable pub readAfterDepth : ℕ → ℕ → List ℕ → ℕ → Parsed Head
 readAfterDepth field d s at2 =
     then (readBranch d s at2) λ g at3.
     then (readSize (mostTrees d) s at3) λ t at4.
@@ -79,15 +79,15 @@ readAfterDepth field d s at2 =
     Whole (record { field = field; depth = d; branchBits = g; trees = t; terms = l; outputs = n; codeKey = key; label = label }, at8)
 
 -- d, then the rest of the head, after the field byte
-unfoldable pub readSizes : ℕ → List ℕ → ℕ → Step Head
+unfoldable pub readSizes : ℕ → List ℕ → ℕ → Parsed Head
 readSizes field s at1 = then (readSize 16 s at1) λ d at2. readAfterDepth field d s at2
 
 -- the head
-unfoldable pub readHead : ℕ → List ℕ → Step Head
+unfoldable pub readHead : ℕ → List ℕ → Parsed Head
 readHead end s = then (readField end s) λ field at. readSizes field s at
 
 -- a tree with so many blocks beside its path, after positions below `base`
-unfoldable pub readTree : ℕ → ℕ → ℕ → ℕ → List ℕ → ℕ → Step NoiseTree
+unfoldable pub readTree : ℕ → ℕ → ℕ → ℕ → List ℕ → ℕ → Parsed NoiseTree
 readTree field depth beside base s at =
     then (readPosition base (2 ^ depth) s at) λ position at1.
     then (readValue field s at1) λ value at2.
@@ -96,7 +96,7 @@ readTree field depth beside base s at =
     Whole (record { position = position; value = value; correction = correction; siblings = siblings }, at4)
 
 -- n trees, one after the other
-unfoldable pub readTrees : ℕ → ℕ → ℕ → ℕ → ℕ → List ℕ → ℕ → Step (List NoiseTree)
+unfoldable pub readTrees : ℕ → ℕ → ℕ → ℕ → ℕ → List ℕ → ℕ → Parsed (List NoiseTree)
 readTrees field depth beside zero base s at = Whole ([], at)
 readTrees field depth beside (suc n) base s at =
     then (readTree field depth beside base s at) λ t next.

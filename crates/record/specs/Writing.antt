@@ -33,12 +33,12 @@ writeValue field value = choose (oneNoise field) [] (leBytes 8 value)
 
 -- a tree up to its siblings: the position less `base`, the noise value, the correction. `base` is 0 for the first tree, and
 -- for each later one the position before plus 1, so that its difference from the one before, less 1, is written
-unfoldable pub writeFront : ℕ → ℕ → ℕ → ℕ → List ℕ → List ℕ
-writeFront field base position value correction = writeNumber (position - base) ++ (writeValue field value ++ writeWords correction)
+unfoldable pub writeTreeStart : ℕ → ℕ → ℕ → ℕ → List ℕ → List ℕ
+writeTreeStart field base position value correction = writeNumber (position - base) ++ (writeValue field value ++ writeWords correction)
 
 -- a tree: position, noise value, correction, siblings
 unfoldable pub writeTree : ℕ → ℕ → NoiseTree → List ℕ
-writeTree field base t = writeFront field base (t .position) (t .value) (t .correction) ++ writeBlocks (t .siblings)
+writeTree field base t = writeTreeStart field base (t .position) (t .value) (t .correction) ++ writeBlocks (t .siblings)
 
 -- trees, one after the other
 unfoldable pub writeTrees : ℕ → ℕ → List NoiseTree → List ℕ

@@ -8,17 +8,17 @@ mod writing;
 pub use sizes::leaves;
 pub use sizes::sibling_count;
 pub use sizes::smaller;
-pub use writing::front_length;
 pub use writing::head_length;
 pub use writing::noise_length;
 pub use writing::scalar_length;
+pub use writing::tree_start_length;
 pub use writing::write_bytes;
-pub use writing::write_front;
 pub use writing::write_head;
 pub use writing::write_scalar;
+pub use writing::write_tree_start;
 
 // The head of a record in numbers: field, d, g, t, ℓ, n, and the place after it, where the body begins.
-pub struct Front {
+pub struct Layout {
     pub field: usize,
     pub depth: usize,
     pub branch_bits: usize,
@@ -29,9 +29,9 @@ pub struct Front {
 }
 
 // What reading a record gives.
-pub enum Opened {
+pub enum RecordAnswer {
     // A record that passed every test.
-    Accepted(Front),
+    Accepted(Layout),
     // The number that the record is refused with.
     Fault(u32),
 }
@@ -46,11 +46,11 @@ pub struct Tree {
 }
 
 // The number that a record is refused with.
-pub fn fault_of(r: Opened) -> u32
+pub fn record_fault(r: RecordAnswer) -> u32
     ensures { λ k. ⌜ k ≡ recordFault r ⌝ }
 {
     match r {
-        Opened::Accepted(_) => 0,
-        Opened::Fault(k) => k,
+        RecordAnswer::Accepted(_) => 0,
+        RecordAnswer::Fault(k) => k,
     }
 }

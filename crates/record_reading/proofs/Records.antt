@@ -13,7 +13,7 @@ use mir.Val.{Fits}
 use Rattle.number.proofs.Places.{refused-whole, whole-is, tested-whole}
 use Rattle.number.specs.Number.{readNumber}
 use Rattle.number.specs.Answer.{numberRead, numberFault}
-use Rattle.number.specs.Reading.{Whole, Refused, Step, then, choose}
+use Rattle.number.specs.Reading.{Whole, Refused, Parsed, then, choose}
 use Rattle.number.specs.declared.Number.{Number}
 use Rattle.number.specs.declared.Number.the-variants.{Value, Fault}
 use Rattle.record.proofs.Fields.{skip-fault, skip-value}
@@ -22,60 +22,60 @@ use Rattle.record.proofs.Parts.{tree-parts}
 use Rattle.record_reading.proofs.Trees.{first-refused, first-whole}
 use Rattle.record.specs.Content.{Head, NoiseTree, NoisePart, ScalarPart, siblingCount}
 use Rattle.record.specs.Reading.{readItems, readPosition, readDelta, readHead, readTree, readTrees, ended, readNoise, readScalar}
-use Rattle.record.specs.Inner.Answers.{skipped, treeFront, firstWord}
-use Rattle.record.specs.Answer.{headOf, opened, frontOf}
-use Rattle.record.specs.declared.Front.{Front}
-use Rattle.record.specs.declared.Opened.{Opened}
-use Rattle.record.specs.declared.Opened.the-variants.{Accepted, Fault as Refuse}
+use Rattle.record.specs.Inner.Answers.{skipped, treePosition, firstWord}
+use Rattle.record.specs.Answer.{headOf, recordRead, headIfWhole}
+use Rattle.record.specs.declared.Layout.{Layout}
+use Rattle.record.specs.declared.RecordAnswer.{RecordAnswer}
+use Rattle.record.specs.declared.RecordAnswer.the-variants.{Accepted, Fault as Refuse}
 
 -- ---- a head that was read
 
-module _ (end : ℕ) (s : List ℕ) {r : Opened} (read : opened s r ≡ readHead end s) where
-  pub accepted-head : {f : Front} → r ≡ Accepted f → readHead end s ≡ Whole (headOf s f, f .body)
-  accepted-head e = sym read ∙ ap (opened s) e
+module _ (end : ℕ) (s : List ℕ) {r : RecordAnswer} (read : recordRead s r ≡ readHead end s) where
+  pub accepted-head : {f : Layout} → r ≡ Accepted f → readHead end s ≡ Whole (headOf s f, f .body)
+  accepted-head e = sym read ∙ ap (recordRead s) e
 
   pub refused-head : {k : ℕ} → r ≡ Refuse k → readHead end s ≡ Refused k
-  refused-head e = sym read ∙ ap (opened s) e
+  refused-head e = sym read ∙ ap (recordRead s) e
 
 -- ---- a tree by its position
 
-tree-refused : (x : Step NoiseTree) {k : ℕ} → treeFront x ≡ Refused k → x ≡ Refused k
+tree-refused : (x : Parsed NoiseTree) {k : ℕ} → treePosition x ≡ Refused k → x ≡ Refused k
 tree-refused (Whole r) e = absurd (refused-whole (sym e) refl)
 tree-refused (Refused n) e = cc
 
-tree-read : (x : Step NoiseTree) {p next : ℕ} → treeFront x ≡ Whole (p, next) → (t : NoiseTree) × (x ≡ Whole (t, next)) × (t .position ≡ p)
+tree-read : (x : Parsed NoiseTree) {p next : ℕ} → treePosition x ≡ Whole (p, next) → (t : NoiseTree) × (x ≡ Whole (t, next)) × (t .position ≡ p)
 tree-read (Whole r) e = let z = whole-is e in (r .0, ap (λ (n : ℕ × ℕ). Whole (r .0, n .1)) z, ap (λ (n : ℕ × ℕ). n .0) z)
 tree-read (Refused n) e = absurd (refused-whole refl e)
 
 -- ---- the noise record
 
 -- what is answered once the trees are read
-unfoldable pub left : List ℕ → Head × ℕ → Step (List NoiseTree) → Step Head
+unfoldable pub left : List ℕ → Head × ℕ → Parsed (List NoiseTree) → Parsed Head
 left s z (Whole r) = choose (ltb (r .1) (length s)) (Refused 12) (Whole z)
 left s z (Refused k) = Refused k
 
-left-more : (s : List ℕ) (z : Head × ℕ) (t : NoiseTree) (x : Step (List NoiseTree)) → left s z (then x λ ts end. Whole (t ∷ ts, end)) ≡ left s z x
+left-more : (s : List ℕ) (z : Head × ℕ) (t : NoiseTree) (x : Parsed (List NoiseTree)) → left s z (then x λ ts end. Whole (t ∷ ts, end)) ≡ left s z x
 unfolding left
 left-more s z t (Whole r) = refl
 left-more s z t (Refused k) = refl
 
 -- a test at the end of a record, seen from its head
-ended-front : {A : Type 0} (b : Bool) (x : A) (z : Step Head) → frontOf (choose b (Refused 12) (Whole x)) z ≡ choose b (Refused 12) z
-ended-front true x z = refl
-ended-front false x z = refl
+ended-head : {A : Type 0} (b : Bool) (x : A) (z : Parsed Head) → headIfWhole (choose b (Refused 12) (Whole x)) z ≡ choose b (Refused 12) z
+ended-head true x z = refl
+ended-head false x z = refl
 
-noise-left : (s : List ℕ) (h : Head) (body : ℕ) (x : Step (List NoiseTree))
-    → frontOf {A = NoisePart} (then x λ trees end. ended s end (record { head = h; trees = trees })) (Whole (h, body)) ≡ left s (h, body) x
+noise-left : (s : List ℕ) (h : Head) (body : ℕ) (x : Parsed (List NoiseTree))
+    → headIfWhole {A = NoisePart} (then x λ trees end. ended s end (record { head = h; trees = trees })) (Whole (h, body)) ≡ left s (h, body) x
 unfolding left
-noise-left s h body (Whole r) = ended-front {A = NoisePart} (ltb (r .1) (length s)) (record { head = h; trees = r .0 }) (Whole (h, body))
+noise-left s h body (Whole r) = ended-head {A = NoisePart} (ltb (r .1) (length s)) (record { head = h; trees = r .0 }) (Whole (h, body))
 noise-left s h body (Refused k) = refl
 
 -- the answer of `read_noise`
-abbrev pub noiseAnswer : List ℕ → Step Head
-noiseAnswer s = frontOf (readNoise s) (readHead 1 s)
+abbrev pub noiseAnswer : List ℕ → Parsed Head
+noiseAnswer s = headIfWhole (readNoise s) (readHead 1 s)
 
 -- what an accepted head has for the number of siblings
-module _ (s : List ℕ) {r : Opened} {f : Front} (read : opened s r ≡ readHead 1 s) (e : r ≡ Accepted f) where
+module _ (s : List ℕ) {r : RecordAnswer} {f : Layout} (read : recordRead s r ≡ readHead 1 s) (e : r ≡ Accepted f) where
   pub deep : f .depth ≤ 16
   deep = head-depth 1 s (accepted-head 1 s read e)
 
@@ -86,7 +86,7 @@ module _ (s : List ℕ) {r : Opened} {f : Front} (read : opened s r ≡ readHead
   branch-few = head-branch 1 s (accepted-head 1 s read e) .1
 
 -- the loop's invariant: what is left of the trees is the answer
-pub record Turn (s : List ℕ) (f : Front) (beside at base i : ℕ) : Type 0 where
+pub record Turn (s : List ℕ) (f : Layout) (beside at base i : ℕ) : Type 0 where
   pub siblings : beside ≡ siblingCount (f .depth) (f .«branch_bits»)
   pub few : beside ≤ 112
   pub answer : noiseAnswer s ≡ left s (headOf s f, f .body) (readTrees (f .field) (f .depth) (siblingCount (f .depth) (f .«branch_bits»)) (f .trees - i) base s at)
@@ -95,11 +95,11 @@ pub record Turn (s : List ℕ) (f : Front) (beside at base i : ℕ) : Type 0 whe
   pub depth : f .depth ≤ 16
   pub trees : f .trees ≤ 64
 
-pub noise-refused : (s : List ℕ) {r : Opened} {k : ℕ} → opened s r ≡ readHead 1 s → r ≡ Refuse k → opened s r ≡ noiseAnswer s
+pub noise-refused : (s : List ℕ) {r : RecordAnswer} {k : ℕ} → recordRead s r ≡ readHead 1 s → r ≡ Refuse k → recordRead s r ≡ noiseAnswer s
 unfolding readNoise
 noise-refused s read e = let h = refused-head 1 s read e in simp (e, h)
 
-pub turn-start : (s : List ℕ) {r : Opened} {f : Front} → opened s r ≡ readHead 1 s → r ≡ Accepted f
+pub turn-start : (s : List ℕ) {r : RecordAnswer} {f : Layout} → recordRead s r ≡ readHead 1 s → r ≡ Accepted f
     → {beside : ℕ} → (beside ≡ siblingCount (f .depth) (f .«branch_bits»)) × (beside ≤ 112) → Turn s f beside (f .body) 0 0
 unfolding readNoise
 turn-start s {r} {f} read e {beside} b =
@@ -108,7 +108,7 @@ turn-start s {r} {f} read e {beside} b =
       siblings = b .0;
       few = b .1;
       answer =
-          ap (λ (x : Step Head). frontOf {A = NoisePart} (then x λ h body. then (readTrees (h .field) (h .depth) (siblingCount (h .depth) (h .branchBits)) (h .trees) 0 s body) λ trees end. ended s end (record { head = h; trees = trees })) x) h
+          ap (λ (x : Parsed Head). headIfWhole {A = NoisePart} (then x λ h body. then (readTrees (h .field) (h .depth) (siblingCount (h .depth) (h .branchBits)) (h .trees) 0 s body) λ trees end. ended s end (record { head = h; trees = trees })) x) h
           ∙ noise-left s (headOf s f) (f .body) (readTrees (f .field) (f .depth) (siblingCount (f .depth) (f .«branch_bits»)) (f .trees) 0 s (f .body))
           ∙ ap (λ (n : ℕ). left s (headOf s f, f .body) (readTrees (f .field) (f .depth) (siblingCount (f .depth) (f .«branch_bits»)) n 0 s (f .body))) {x = f .trees} {y = f .trees - 0} (omega arith);
       below = omega arith;
@@ -117,23 +117,23 @@ turn-start s {r} {f} read e {beside} b =
       trees = head-trees 1 s h;
     }
 
-module _ {s : List ℕ} {f : Front} {beside at base i : ℕ} (turn : Turn s f beside at base i) where
+module _ {s : List ℕ} {f : Layout} {beside at base i : ℕ} (turn : Turn s f beside at base i) where
   module _ (more : i < f .trees) where
     -- one turn of the definition
-    step : (x : Step NoiseTree) → readTree (f .field) (f .depth) (siblingCount (f .depth) (f .«branch_bits»)) base s at ≡ x
+    step : (x : Parsed NoiseTree) → readTree (f .field) (f .depth) (siblingCount (f .depth) (f .«branch_bits»)) base s at ≡ x
         → noiseAnswer s ≡ left s (headOf s f, f .body) (then x λ tree next. then (readTrees (f .field) (f .depth) (siblingCount (f .depth) (f .«branch_bits»)) (f .trees - (i + 1)) (tree .position + 1) s next) λ ts end. Whole (tree ∷ ts, end))
     unfolding readTrees
     step x e =
         turn .answer
         ∙ ap (λ (n : ℕ). left s (headOf s f, f .body) (readTrees (f .field) (f .depth) (siblingCount (f .depth) (f .«branch_bits»)) n base s at)) {x = f .trees - i} {y = suc (f .trees - (i + 1))} (omega arith)
-        ∙ ap (λ (y : Step NoiseTree). left s (headOf s f, f .body) (then y λ tree next. then (readTrees (f .field) (f .depth) (siblingCount (f .depth) (f .«branch_bits»)) (f .trees - (i + 1)) (tree .position + 1) s next) λ ts end. Whole (tree ∷ ts, end))) e
+        ∙ ap (λ (y : Parsed NoiseTree). left s (headOf s f, f .body) (then y λ tree next. then (readTrees (f .field) (f .depth) (siblingCount (f .depth) (f .«branch_bits»)) (f .trees - (i + 1)) (tree .position + 1) s next) λ ts end. Whole (tree ∷ ts, end))) e
 
   -- the tree by its head's number of siblings
-  seen : (t : Number) → numberRead t ≡ treeFront (readTree (f .field) (f .depth) beside base s at)
-      → numberRead t ≡ treeFront (readTree (f .field) (f .depth) (siblingCount (f .depth) (f .«branch_bits»)) base s at)
-  seen t given = given ∙ ap (λ (n : ℕ). treeFront (readTree (f .field) (f .depth) n base s at)) (turn .siblings)
+  seen : (t : Number) → numberRead t ≡ treePosition (readTree (f .field) (f .depth) beside base s at)
+      → numberRead t ≡ treePosition (readTree (f .field) (f .depth) (siblingCount (f .depth) (f .«branch_bits»)) base s at)
+  seen t given = given ∙ ap (λ (n : ℕ). treePosition (readTree (f .field) (f .depth) n base s at)) (turn .siblings)
 
-  module _ (more : i < f .trees) {t : Number} (given : numberRead t ≡ treeFront (readTree (f .field) (f .depth) beside base s at)) where
+  module _ (more : i < f .trees) {t : Number} (given : numberRead t ≡ treePosition (readTree (f .field) (f .depth) beside base s at)) where
     pub turn-fault : {j k : ℕ} → t ≡ Fault j → k ≡ numberFault t → Refused k ≡ noiseAnswer s
     unfolding left
     turn-fault {j} {k} e w =
@@ -183,14 +183,14 @@ module _ {s : List ℕ} {f : Front} {beside at base i : ℕ} (turn : Turn s f be
 
 -- ---- the scalar record
 
-abbrev pub scalarAnswer : List ℕ → Step Head
-scalarAnswer s = frontOf (readScalar s) (readHead 2 s)
+abbrev pub scalarAnswer : List ℕ → Parsed Head
+scalarAnswer s = headIfWhole (readScalar s) (readHead 2 s)
 
-pub scalar-refused : (s : List ℕ) {r : Opened} {k : ℕ} → opened s r ≡ readHead 2 s → r ≡ Refuse k → opened s r ≡ scalarAnswer s
+pub scalar-refused : (s : List ℕ) {r : RecordAnswer} {k : ℕ} → recordRead s r ≡ readHead 2 s → r ≡ Refuse k → recordRead s r ≡ scalarAnswer s
 unfolding readScalar
 scalar-refused s read e = let h = refused-head 2 s read e in simp (e, h)
 
-module _ (s : List ℕ) {r : Opened} {f : Front} (read : opened s r ≡ readHead 2 s) (e : r ≡ Accepted f) where
+module _ (s : List ℕ) {r : RecordAnswer} {f : Layout} (read : recordRead s r ≡ readHead 2 s) (e : r ≡ Accepted f) where
   pub roots-fit : Fits w64 (16 * f .trees)
   roots-fit = record { fits = omega (arith, head-trees 2 s (accepted-head 2 s read e)) }
 
@@ -218,7 +218,7 @@ module _ (s : List ℕ) {r : Opened} {f : Front} (read : opened s r ≡ readHead
             let h = accepted-head 2 s read e in
             let a = first-whole (readDelta (f .field) s (f .body)) (sym readD ∙ ap numberRead v) in
             let y = skip-value (16 * f .trees) s at readR u in
-            simp (h, a .1, y .0, y .1) (ended-front {A = ScalarPart} (ltb (at + 16 * f .trees) (length s)) _ (Whole (headOf s f, f .body)))
+            simp (h, a .1, y .0, y .1) (ended-head {A = ScalarPart} (ltb (at + 16 * f .trees) (length s)) _ (Whole (headOf s f, f .body)))
 
         pub scalar-after : end < length s → Refused 12 ≡ scalarAnswer s
         scalar-after h = sym (scalar-end ∙ simp (lt-ltb _ _ h))

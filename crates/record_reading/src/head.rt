@@ -6,19 +6,19 @@ ghost use lib.ListN.{length};
 ghost use Rattle.number.specs.Answer.{numberRead};
 ghost use Rattle.record.specs.Reading.{readSize, readBranch, readField, readAfterDepth, readSizes, readHead};
 ghost use Rattle.record.specs.Inner.Answers.{skipped};
-ghost use Rattle.record.specs.Answer.{opened};
-use record::Front;
-use record::Opened;
-use record::leaves;
-use record::smaller;
+ghost use Rattle.record.specs.Answer.{recordRead};
 use answer::BAD_FIELD;
 use answer::BAD_SIZE;
 use answer::RECORD_ENDS;
 use answer::WRONG_END;
 use field::is_field;
 use number::Number;
-use number::fault_of;
+use number::number_fault;
 use number::read_number;
+use record::Layout;
+use record::RecordAnswer;
+use record::leaves;
+use record::smaller;
 
 // Whether a record has a count of bytes from a place on.
 pub fn has_bytes(source: &[u8], at: usize, count: usize) -> bool
@@ -92,32 +92,32 @@ pub fn read_field(source: &[u8], end: u8) -> Number
 }
 
 // g, t, ℓ, n, the code key and the label, after d.
-fn read_after_depth(source: &[u8], at2: usize, field: usize, depth: usize) -> Opened
+fn read_after_depth(source: &[u8], at2: usize, field: usize, depth: usize) -> RecordAnswer
     requires { ⌜ depth ≤ 16 ⌝ }
-    ensures { λ r. ⌜ opened (now (source .entry)) r ≡ readAfterDepth field depth (now (source .entry)) at2 ⌝ }
+    ensures { λ r. ⌜ recordRead (now (source .entry)) r ≡ readAfterDepth field depth (now (source .entry)) at2 ⌝ }
 {
     let r2 = read_branch(source, at2, depth);
     let Number::Value(branch_bits, at3) = r2 else {
-        return Opened::Fault(fault_of(r2));
+        return RecordAnswer::Fault(number_fault(r2));
     };
     let all = leaves(depth);
     let r3 = read_size(source, at3, smaller(64, all));
     let Number::Value(trees, at4) = r3 else {
-        return Opened::Fault(fault_of(r3));
+        return RecordAnswer::Fault(number_fault(r3));
     };
     let r4 = read_size(source, at4, smaller(32, all));
     let Number::Value(terms, at5) = r4 else {
-        return Opened::Fault(fault_of(r4));
+        return RecordAnswer::Fault(number_fault(r4));
     };
     let r5 = read_size(source, at5, all / 2);
     let Number::Value(outputs, at6) = r5 else {
-        return Opened::Fault(fault_of(r5));
+        return RecordAnswer::Fault(number_fault(r5));
     };
     let r6 = skip(source, at6, 32);
     let Number::Value(_, body) = r6 else {
-        return Opened::Fault(fault_of(r6));
+        return RecordAnswer::Fault(number_fault(r6));
     };
-    Opened::Accepted(Front {
+    RecordAnswer::Accepted(Layout {
         field: field,
         depth: depth,
         branch_bits: branch_bits,
@@ -129,23 +129,23 @@ fn read_after_depth(source: &[u8], at2: usize, field: usize, depth: usize) -> Op
 }
 
 // d, then the rest of the head.
-fn read_sizes(source: &[u8], at1: usize, field: usize) -> Opened
-    ensures { λ r. ⌜ opened (now (source .entry)) r ≡ readSizes field (now (source .entry)) at1 ⌝ }
+fn read_sizes(source: &[u8], at1: usize, field: usize) -> RecordAnswer
+    ensures { λ r. ⌜ recordRead (now (source .entry)) r ≡ readSizes field (now (source .entry)) at1 ⌝ }
 {
     let r = read_size(source, at1, 16);
     let Number::Value(depth, at2) = r else {
-        return Opened::Fault(fault_of(r));
+        return RecordAnswer::Fault(number_fault(r));
     };
     read_after_depth(source, at2, field, depth)
 }
 
 // The head of a record of this end.
-pub fn read_head(source: &[u8], end: u8) -> Opened
-    ensures { λ r. ⌜ opened (now (source .entry)) r ≡ readHead end (now (source .entry)) ⌝ }
+pub fn read_head(source: &[u8], end: u8) -> RecordAnswer
+    ensures { λ r. ⌜ recordRead (now (source .entry)) r ≡ readHead end (now (source .entry)) ⌝ }
 {
     let r = read_field(source, end);
     let Number::Value(field, at) = r else {
-        return Opened::Fault(fault_of(r));
+        return RecordAnswer::Fault(number_fault(r));
     };
     read_sizes(source, at, field)
 }

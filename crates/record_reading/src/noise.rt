@@ -8,15 +8,11 @@ ghost use Rattle.number.specs.Answer.{numberRead};
 ghost use Rattle.number.specs.Reading.{Whole};
 ghost use Rattle.number.specs.Inner.Known.{isWhole};
 ghost use Rattle.record.specs.Reading.{readPosition, readTree, readHead, readNoise};
-ghost use Rattle.record.specs.Inner.Answers.{treeFront, treeOf};
-ghost use Rattle.record.specs.Answer.{frontOf, opened};
-use record::Opened;
-use record::Tree;
+ghost use Rattle.record.specs.Inner.Answers.{treePosition, treeOf};
+ghost use Rattle.record.specs.Answer.{headIfWhole, recordRead};
 use crate::element::read_correction;
 use crate::element::read_value;
-use record::leaves;
 use crate::head::read_head;
-use record::sibling_count;
 use crate::head::skip;
 use answer::BAD_POSITION;
 use answer::BYTES_AFTER;
@@ -24,9 +20,13 @@ use field::element_at;
 use field::one_noise;
 use field::word_at;
 use number::Number;
-use number::fault_of;
 use number::known_number;
+use number::number_fault;
 use number::read_number;
+use record::RecordAnswer;
+use record::Tree;
+use record::leaves;
+use record::sibling_count;
 
 // A position below `all`, after positions below `base`.
 fn read_position(source: &[u8], at: usize, base: usize, all: usize) -> Number
@@ -53,7 +53,7 @@ fn read_tree(
     beside: usize,
 ) -> Number
     requires { ⌜ (base ≤ 2 ^ depth) × (depth ≤ 16) × (beside ≤ 112) ⌝ }
-    ensures { λ r. ⌜ numberRead r ≡ treeFront (readTree field depth beside base (now (source .entry)) at) ⌝ }
+    ensures { λ r. ⌜ numberRead r ≡ treePosition (readTree field depth beside base (now (source .entry)) at) ⌝ }
 {
     let r0 = read_position(source, at, base, leaves(depth));
     let Number::Value(position, at1) = r0 else {
@@ -75,33 +75,33 @@ fn read_tree(
 }
 
 // The noise record, whole and tested.
-pub fn read_noise(source: &[u8]) -> Opened
-    ensures { λ r. ⌜ opened (now (source .entry)) r ≡ frontOf (readNoise (now (source .entry))) (readHead 1 (now (source .entry))) ⌝ }
+pub fn read_noise(source: &[u8]) -> RecordAnswer
+    ensures { λ r. ⌜ recordRead (now (source .entry)) r ≡ headIfWhole (readNoise (now (source .entry))) (readHead 1 (now (source .entry))) ⌝ }
 {
     let r = read_head(source, 1);
-    let Opened::Accepted(front) = r else {
+    let RecordAnswer::Accepted(layout) = r else {
         return r;
     };
-    let field = front.field;
-    let depth = front.depth;
-    let beside = sibling_count(depth, front.branch_bits);
-    let trees = front.trees;
-    let mut at = front.body;
+    let field = layout.field;
+    let depth = layout.depth;
+    let beside = sibling_count(depth, layout.branch_bits);
+    let trees = layout.trees;
+    let mut at = layout.body;
     let mut base: usize = 0;
     let mut i: usize = 0;
     while i < trees {
         let t = read_tree(source, at, base, field, depth, beside);
         let Number::Value(position, next) = t else {
-            return Opened::Fault(fault_of(t));
+            return RecordAnswer::Fault(number_fault(t));
         };
         base = position + 1;
         at = next;
         i += 1;
     }
     if at < source.len() {
-        return Opened::Fault(BYTES_AFTER);
+        return RecordAnswer::Fault(BYTES_AFTER);
     }
-    Opened::Accepted(front)
+    RecordAnswer::Accepted(layout)
 }
 
 // The tree at a place of an accepted noise record, after positions below `base`. The next tree follows its siblings.

@@ -15,13 +15,13 @@ use mir.Val.{Fits}
 use Rattle.algebra.specs.Choice.{choose}
 use Rattle.circuit.proofs.Ands.{tail-at, ands-split}
 use Rattle.circuit.proofs.Lists.{gates-below}
-use Rattle.circuit.specs.Answer.{content, HasFront}
+use Rattle.circuit.specs.Answer.{content, HasLayout}
 use Rattle.circuit.specs.Content.{Gate, And, Circuit, isAnd, andsIn}
-use Rattle.circuit.specs.Inner.Fronts.{andOf, gateBy}
+use Rattle.circuit.specs.Inner.GateNumbers.{andOf, gateBy}
 use Rattle.circuit.specs.Inner.GateKinds.{kindNumber}
 use Rattle.circuit.specs.Reading.{readGate}
 use Rattle.circuit.specs.Value.{overGates}
-use Rattle.circuit.specs.declared.Front.{Front}
+use Rattle.circuit.specs.declared.Layout.{Layout}
 use Rattle.circuit_run.proofs.Gates.{gatesOf, here, gate-here, by-2, PlaceTurn, place-start, place-wire, place-known, place-ands, place-next}
 use Rattle.circuit_run.specs.Step.{gateAt, andsBefore, tripleFirst, tripleSecond, maskedFirst, maskedSecond}
 use Rattle.number.proofs.Places.{either}
@@ -52,7 +52,7 @@ pub record PassTurn (s : List ℕ) (inputs gates role : ℕ) (triples far before
       ≡ overGates (make s role triples far before) (drop i (gatesOf s)) (take (inputs + i) wires)
   pub rest : drop (inputs + i) wires ≡ drop (inputs + i) before
 
-pub pass-start : {s : List ℕ} {f : Front} (role : ℕ) {triples far before : List ℕ} (bits : List ℕ) → HasFront s f
+pub pass-start : {s : List ℕ} {f : Layout} (role : ℕ) {triples far before : List ℕ} (bits : List ℕ) → HasLayout s f
     → CanPass s f triples far (length bits) before → PassTurn s (f .inputs) (f .gates) role triples far before bits before bits (f .body) 0 0 0 0
 unfolding openedBits
 pass-start {s} {f} role {triples} {far} {before} bits o can =
@@ -80,7 +80,7 @@ is-two x role kind byte y z triples ands far p e w =
     either kind 2 (λ k. k)
     (λ m. absurd (true≢false (sym (eq-eqb x 1 w) ∙ ap waits e ∙ byte-no-wait role kind byte y z triples ands far p m)))
 
-module _ {s : List ℕ} {f : Front} (o : HasFront s f) {role : ℕ} {triples far before bits₀ : List ℕ} (can : CanPass s f triples far (length bits₀) before)
+module _ {s : List ℕ} {f : Layout} (o : HasLayout s f) {role : ℕ} {triples far before bits₀ : List ℕ} (can : CanPass s f triples far (length bits₀) before)
     {wires bits : List ℕ} {at ands p q i : ℕ} (turn : PassTurn s (f .inputs) (f .gates) role triples far before bits₀ wires bits at ands p q i) where
   abbrev c : Circuit
   c = content s
@@ -186,8 +186,8 @@ module _ {s : List ℕ} {f : Front} (o : HasFront s f) {role : ℕ} {triples far
               (turn .passed ∙ ap (λ (k : ℕ). waitingUpTo k before i) (o .inputs))
               ∙ sym (byte-is c (passedOn role s triples far) before wires i (o .inputs) held (turn .rest) kind a b known (gate-is kind a b read) above beside)
 
-          front : take (f .inputs + (i + 1)) (set wires n x) ≡ take n wires ++ (x ∷ [])
-          front = ap (λ (k : ℕ). take k (set wires n x)) {x = f .inputs + (i + 1)} {y = suc n} (omega arith) ∙ take-suc-set wires n x held
+          layout : take (f .inputs + (i + 1)) (set wires n x) ≡ take n wires ++ (x ∷ [])
+          layout = ap (λ (k : ℕ). take k (set wires n x)) {x = f .inputs + (i + 1)} {y = suc n} (omega arith) ∙ take-suc-set wires n x held
 
           waits-after : waitingUpTo (f .inputs) (set wires n x) (i + 1) ≡ waitingUpTo (f .inputs) wires i + waitOf x
           waits-after =
@@ -254,7 +254,7 @@ module _ {s : List ℕ} {f : Front} (o : HasFront s f) {role : ℕ} {triples far
                       turn .run
                       ∙ ap (λ (gs : List Gate). overGates mk gs (take n wires)) (first-is kind a b read)
                       ∙ ap (λ (y : ℕ). overGates mk (drop (i + 1) (gatesOf s)) (take n wires ++ (y ∷ []))) (sym made)
-                      ∙ ap (overGates mk (drop (i + 1) (gatesOf s))) (sym front);
+                      ∙ ap (overGates mk (drop (i + 1) (gatesOf s))) (sym layout);
                   rest = drop-set-lt (f .inputs + (i + 1)) wires n x (omega arith) ∙ k;
                 }
 
@@ -321,7 +321,7 @@ module _ {s : List ℕ} {f : Front} (o : HasFront s f) {role : ℕ} {triples far
 
 -- a gate that waits has its triple, and room for its bits
 pub pass-puts : (x role kind byte y z : ℕ) (triples : List ℕ) (ands : ℕ) (far : List ℕ) (p : ℕ) → x ≡ byteBy role kind byte y z triples ands far p
-    → {s : List ℕ} {f : Front} → HasFront s f → {before bits₀ wires bits : List ℕ} → CanPass s f triples far (length bits₀) before
+    → {s : List ℕ} {f : Layout} → HasLayout s f → {before bits₀ wires bits : List ℕ} → CanPass s f triples far (length bits₀) before
     → {at q i : ℕ} → PassTurn s (f .inputs) (f .gates) role triples far before bits₀ wires bits at ands p q i → i < f .gates
     → (a b : ℕ) {next : ℕ} → Whole (gateBy kind a b, next) ≡ readGate (f .inputs + i) s at
     → (x ≡ 1 → ands * 3 + 1 < length triples) × (x ≡ 1 → q + 1 < length bits)

@@ -26,7 +26,7 @@ pub fn accepted_round(
     bits_out: &mut [u8],
     wires: &mut [u8; 4096],
 ) -> Lengths
-    requires { ⌜ Tested (now circuit) (frame .front) (now shares) (now triples) (length (now output)) (now «far_bits») (length (now «bits_out»)) (now wires) ⌝ }
+    requires { ⌜ Tested (now circuit) (frame .layout) (now shares) (now triples) (length (now output)) (now «far_bits») (length (now «bits_out»)) (now wires) ⌝ }
     ensures { λ r. ⌜ roundOutcome 0 (r .written) (r .«bits_written») (stateWith (now (wires .exit)))
         (roundWith (frame .role) (now (circuit .exit)) (now (shares .exit)) (now (triples .exit))
         (now (output .exit)) (now («far_bits» .exit)) (now («bits_out» .exit)))
@@ -37,9 +37,9 @@ pub fn accepted_round(
     take_inputs(shares, wires);
     let bits = pass_gates(circuit, frame, triples, far_bits, bits_out, wires);
     if bits == 0 {
-        write_shares(circuit, frame.front, wires, output);
+        write_shares(circuit, frame.layout, wires, output);
         return Lengths {
-            written: frame.front.outputs,
+            written: frame.layout.outputs,
             bits_written: 0,
         };
     }

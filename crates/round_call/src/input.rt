@@ -14,12 +14,12 @@ use answer::WRONG_END;
 use answer::any_above;
 use answer::is_short;
 use answer::is_times;
-use circuit::Front;
+use circuit::Layout;
 use step_call::is_role;
 
 // What a round has of its circuit, once read, and the role that it is run in.
 pub struct Frame {
-    pub front: Front,
+    pub layout: Layout,
     pub role: u8,
 }
 
@@ -45,7 +45,7 @@ pub fn waiting_gates(wires: &[u8; 4096], inputs: usize, gates: usize) -> usize
 }
 
 // The number by the bytes and the role of a round on a circuit of so many ANDs.
-fn byte_number(ands: usize, role: u8, shares: &[u8], triples: &[u8], far_bits: &[u8]) -> u32
+fn bits_number(ands: usize, role: u8, shares: &[u8], triples: &[u8], far_bits: &[u8]) -> u32
     ensures { λ r. ⌜ r ≡ firstFault (byteTests ands role (now (shares .entry)) (now (triples .entry)) (now («far_bits» .entry))) ⌝ }
 {
     if any_above(1, shares) {
@@ -68,7 +68,7 @@ fn byte_number(ands: usize, role: u8, shares: &[u8], triples: &[u8], far_bits: &
 
 // The number of a round whose state has so many gates that wait, with room for an output and for bits of so many bytes.
 pub fn round_number(
-    front: Front,
+    layout: Layout,
     waits: usize,
     role: u8,
     shares: &[u8],
@@ -77,9 +77,9 @@ pub fn round_number(
     room: usize,
     bits_room: usize,
 ) -> u32
-    ensures { λ r. ⌜ r ≡ firstFault (askedTests front waits role (now (shares .entry)) (now (triples .entry)) (now («far_bits» .entry)) room «bits_room») ⌝ }
+    ensures { λ r. ⌜ r ≡ firstFault (askedTests layout waits role (now (shares .entry)) (now (triples .entry)) (now («far_bits» .entry)) room «bits_room») ⌝ }
 {
-    if shares.len() != front.inputs {
+    if shares.len() != layout.inputs {
         return BAD_LENGTH;
     }
     if triples.len() % 3 != 0 {
@@ -88,11 +88,11 @@ pub fn round_number(
     if !is_times(far_bits.len(), 2, waits) {
         return BAD_LENGTH;
     }
-    if room < front.outputs {
+    if room < layout.outputs {
         return BUFFER_SHORT;
     }
-    if is_short(bits_room, 2, front.ands) {
+    if is_short(bits_room, 2, layout.ands) {
         return BUFFER_SHORT;
     }
-    byte_number(front.ands, role, shares, triples, far_bits)
+    bits_number(layout.ands, role, shares, triples, far_bits)
 }

@@ -9,9 +9,9 @@ mod passing;
 mod writing;
 
 use accepted::accepted_round;
-use circuit::Opened;
+use circuit::Answer;
+use circuit::circuit_fault;
 use circuit::read_circuit;
-use circuit::refusal_of;
 use circuit_round::RoundState;
 use circuit_round::Rounded;
 use input::Frame;
@@ -48,14 +48,14 @@ pub fn round_run(
         (roundWith role (now (circuit .entry)) (now (shares .entry)) (now (triples .entry))
         (now (output .entry)) (now («far_bits» .entry)) (now («bits_out» .entry))) state ⌝ }
 {
-    let opened = read_circuit(circuit);
-    let Opened::Accepted(front) = opened else {
-        return refused(refusal_of(opened), state);
+    let read = read_circuit(circuit);
+    let Answer::Accepted(layout) = read else {
+        return refused(circuit_fault(read), state);
     };
     let mut wires = state.wires;
-    let waits = waiting_gates(&wires, front.inputs, front.gates);
+    let waits = waiting_gates(&wires, layout.inputs, layout.gates);
     let number = round_number(
-        front,
+        layout,
         waits,
         role,
         shares,
@@ -68,7 +68,7 @@ pub fn round_run(
         return refused(number, state);
     }
     let frame = Frame {
-        front: front,
+        layout: layout,
         role: role,
     };
     let lengths = accepted_round(

@@ -3,7 +3,7 @@ ghost use mathlib.Core.List.{_++_};
 ghost use mathlib.Core.Path.{_≡_};
 ghost use Prim.Native.Nat.{ℕ, _+_, _*_, _<_, _≤_};
 ghost use lib.ListN.{length, getD, drop};
-ghost use Rattle.circuit.specs.Answer.{HasFront};
+ghost use Rattle.circuit.specs.Answer.{HasLayout};
 ghost use Rattle.circuit_round.specs.Inner.Gates.{inputByte, AndHas, openedBy, andByteBy, localByteBy, byteBy};
 ghost use Rattle.circuit_round.specs.Inner.Passes.{CanPass, Passes};
 ghost use Rattle.circuit_round.specs.Round.{inputBytes};
@@ -50,19 +50,19 @@ fn opened_share(
 {
     let at = ands * 3;
     let place = 2 * passed;
-    let first = triples[at];
-    let second = triples[at + 1];
-    let third = triples[at + 2];
-    let d = x % 2 ^ first ^ far_bits[place];
-    let e = y % 2 ^ second ^ far_bits[place + 1];
-    and_share(role, d, e, first, second, third)
+    let a = triples[at];
+    let b = triples[at + 1];
+    let c = triples[at + 2];
+    let d = x % 2 ^ a ^ far_bits[place];
+    let e = y % 2 ^ b ^ far_bits[place + 1];
+    and_share(role, d, e, a, b, c)
 }
 
 // The byte of a gate's own wire, and those of the wires that it takes.
 pub struct GateBytes {
     pub own: u8,
-    pub first: u8,
-    pub second: u8,
+    pub x: u8,
+    pub y: u8,
 }
 
 // The byte of an AND that is not known.
@@ -75,24 +75,15 @@ fn and_byte(
     passed: usize,
 ) -> u8
     requires { ⌜ (bytes .own ≡ 1 → AndHas (now triples) ands (now «far_bits») passed) ⌝ }
-    ensures { λ r. ⌜ r ≡ andByteBy role (bytes .own) (bytes .first) (bytes .second) (now (triples .entry)) ands (now («far_bits» .entry)) passed ⌝ }
+    ensures { λ r. ⌜ r ≡ andByteBy role (bytes .own) (bytes .x) (bytes .y) (now (triples .entry)) ands (now («far_bits» .entry)) passed ⌝ }
 {
     if bytes.own == 1 {
-        return 2
-            + opened_share(
-                role,
-                bytes.first,
-                bytes.second,
-                triples,
-                ands,
-                far_bits,
-                passed,
-            );
+        return 2 + opened_share(role, bytes.x, bytes.y, triples, ands, far_bits, passed);
     }
-    if bytes.first < 2 {
+    if bytes.x < 2 {
         return 0;
     }
-    if bytes.second < 2 {
+    if bytes.y < 2 {
         return 0;
     }
     1
@@ -125,7 +116,7 @@ fn gate_byte(
     passed: usize,
 ) -> u8
     requires { ⌜ (kind ≡ 2 → bytes .own ≡ 1 → AndHas (now triples) ands (now «far_bits») passed) ⌝ }
-    ensures { λ r. ⌜ r ≡ byteBy role kind (bytes .own) (bytes .first) (bytes .second) (now (triples .entry)) ands (now («far_bits» .entry)) passed ⌝ }
+    ensures { λ r. ⌜ r ≡ byteBy role kind (bytes .own) (bytes .x) (bytes .y) (now (triples .entry)) ands (now («far_bits» .entry)) passed ⌝ }
 {
     if 2 <= bytes.own {
         return bytes.own;
@@ -133,7 +124,7 @@ fn gate_byte(
     if kind == 2 {
         return and_byte(role, bytes, triples, ands, far_bits, passed);
     }
-    local_byte(role, kind, bytes.first, bytes.second)
+    local_byte(role, kind, bytes.x, bytes.y)
 }
 
 // Passes over the gates and puts the bits of those that wait afterwards; how many bits they are.
@@ -145,15 +136,15 @@ pub fn pass_gates(
     bits_out: &mut [u8],
     wires: &mut [u8; 4096],
 ) -> usize
-    requires { ⌜ HasFront (now source) (frame .front)
-        × CanPass (now source) (frame .front) (now triples) (now «far_bits») (length (now «bits_out»)) (now wires) ⌝ }
-    ensures { λ r. ⌜ Passes (now (source .entry)) (frame .front) (frame .role) (now (triples .entry)) (now («far_bits» .entry))
+    requires { ⌜ HasLayout (now source) (frame .layout)
+        × CanPass (now source) (frame .layout) (now triples) (now «far_bits») (length (now «bits_out»)) (now wires) ⌝ }
+    ensures { λ r. ⌜ Passes (now (source .entry)) (frame .layout) (frame .role) (now (triples .entry)) (now («far_bits» .entry))
         (now («bits_out» .entry)) (now (wires .entry)) r (now («bits_out» .exit)) (now (wires .exit)) ⌝ }
 {
     let role = frame.role;
-    let inputs = frame.front.inputs;
-    let gates = frame.front.gates;
-    let mut at = frame.front.body;
+    let inputs = frame.layout.inputs;
+    let gates = frame.layout.gates;
+    let mut at = frame.layout.body;
     let mut ands: usize = 0;
     let mut passed: usize = 0;
     let mut place: usize = 0;
@@ -161,15 +152,15 @@ pub fn pass_gates(
     while i < gates {
         let wire = inputs + i;
         let g = known_gate(source, at, wire);
-        let first = g.first;
-        let second = g.second;
+        let first_wire = g.first_wire;
+        let second_wire = g.second_wire;
         let before = wires[wire];
-        let x = wires[first];
-        let y = wires[second];
+        let x = wires[first_wire];
+        let y = wires[second_wire];
         let bytes = GateBytes {
             own: before,
-            first: x,
-            second: y,
+            x: x,
+            y: y,
         };
         let after = gate_byte(role, g.kind, bytes, triples, ands, far_bits, passed);
         wires[wire] = after;

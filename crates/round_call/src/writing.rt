@@ -3,11 +3,11 @@ ghost use mathlib.Core.List.{_++_};
 ghost use mathlib.Core.Path.{_≡_};
 ghost use Prim.Native.Nat.{_+_, _*_, _<_, _≤_};
 ghost use lib.ListN.{length, drop};
-ghost use Rattle.circuit.specs.Answer.{content, HasFront};
+ghost use Rattle.circuit.specs.Answer.{content, HasLayout};
 ghost use Rattle.circuit.specs.Value.{atWires};
 ghost use Rattle.circuit_round.specs.Inner.Gates.{placeAfter, putBits};
 ghost use Rattle.circuit_round.specs.Round.{sharesIn};
-use circuit::Front;
+use circuit::Layout;
 use circuit::known_wire;
 
 // Puts the two bits of a gate that waits, its wires' bytes given; the place after them.
@@ -33,14 +33,14 @@ pub fn put_bits(
 }
 
 // Writes the shares of the output wires.
-pub fn write_shares(source: &[u8], front: Front, wires: &[u8; 4096], output: &mut [u8])
-    requires { ⌜ HasFront (now source) front × (front .outputs ≤ length (now output)) ⌝ }
+pub fn write_shares(source: &[u8], layout: Layout, wires: &[u8; 4096], output: &mut [u8])
+    requires { ⌜ HasLayout (now source) layout × (layout .outputs ≤ length (now output)) ⌝ }
     ensures { λ _. ⌜ now (output .exit)
-        ≡ atWires (sharesIn (now (wires .entry))) (content (now (source .entry)) .outputs) ++ drop (front .outputs) (now (output .entry)) ⌝ }
+        ≡ atWires (sharesIn (now (wires .entry))) (content (now (source .entry)) .outputs) ++ drop (layout .outputs) (now (output .entry)) ⌝ }
 {
-    let outputs = front.outputs;
-    let limit = front.inputs + front.gates;
-    let mut at = front.tail;
+    let outputs = layout.outputs;
+    let limit = layout.inputs + layout.gates;
+    let mut at = layout.tail;
     let mut i: usize = 0;
     while i < outputs {
         let w = known_wire(source, at, limit);

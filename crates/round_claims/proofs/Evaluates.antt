@@ -15,11 +15,11 @@ use Rattle.circuit.specs.Value.{atWires}
 use Rattle.circuit_round.proofs.Gates.{share-at}
 use Rattle.circuit_round.specs.Round.{RoundLent, RoundOutcome, shareOf, sharesIn}
 use Rattle.circuit_run.specs.Step.{gateAt, andsBefore}
-use Rattle.evaluation.proofs.AndGates.{and-inside, gate-of}
-use Rattle.evaluation.proofs.Calls.{call-at, made-at}
-use Rattle.evaluation.proofs.Joins.{joined}
-use Rattle.evaluation.proofs.Transcripts.{outputs-same}
-use Rattle.evaluation.specs.Inner.Transcript.{BitsByAnd, wireShares, Transcript}
+use Rattle.circuit_claims.proofs.AndGates.{and-inside, gate-of}
+use Rattle.circuit_claims.proofs.Calls.{call-at, made-at}
+use Rattle.circuit_claims.proofs.Joins.{joined}
+use Rattle.circuit_claims.proofs.Transcripts.{outputs-same}
+use Rattle.circuit_claims.specs.Inner.Transcript.{BitsByAnd, wireShares, Transcript}
 use Rattle.number.specs.Reading.{Whole}
 use Rattle.round_claims.proofs.Progresses.{finished-outputs, progress}
 use Rattle.round_claims.proofs.Rounds.{share-bits, triple-bits, one-each, took-bytes}

@@ -23,7 +23,7 @@ use Rattle.circuit_round.specs.Round.{RoundLent, RoundOutcome, waits, isKnown, 
 use Rattle.circuit_round.specs.Round.{sharesIn, waitingBefore, waitingIn, ready, computed, wiresAfter, round}
 use Rattle.circuit_round.specs.declared.RoundState.{RoundState}
 use Rattle.circuit_run.specs.Step.{gateAt}
-use Rattle.evaluation.proofs.AndGates.{and-inside}
+use Rattle.circuit_claims.proofs.AndGates.{and-inside}
 use Rattle.number.proofs.Places.{split, either, choose-yes, choose-no}
 use Rattle.number.specs.Reading.{Whole}
 use Rattle.round_claims.proofs.Bytes.{outside, after-length, at-input, at-gate}
@@ -256,8 +256,8 @@ again l l′ s same e finished f =
 
 -- ---- the first round gets no far bits
 
-first : (l : RoundLent) → round l freshState .number ≡ 0 → length (l .far) ≡ 0
-first l e =
+first-round : (l : RoundLent) → round l freshState .number ≡ 0 → length (l .far) ≡ 0
+first-round l e =
     let t = took l freshState e in
     let far : length (l .far) ≡ 2 * waitingIn (t .0) (freshState .wires) = search (t .1 .met .all) in
     omega (arith, far, wait-none (length (t .0 .gates)) (t .0 .inputs) (freshState .wires) (λ j h. ap waits (fresh-byte (t .0 .inputs + j))))
@@ -268,7 +268,7 @@ progress =
     record {
       refused = round-refused;
       moves = λ c l s f e. moved (took-on l s f e);
-      first = first;
+      first-round = first-round;
       stands = stands;
       in-advance = in-advance;
       again = again;

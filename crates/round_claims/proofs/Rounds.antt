@@ -22,7 +22,7 @@ use Rattle.circuit_round.specs.declared.RoundState.{RoundState}
 use Rattle.number.proofs.Places.{choose-yes, choose-no}
 use Rattle.number.proofs.Records.{read-refused, read-whole}
 use Rattle.number.specs.Reading.{Reading, Whole, Refused}
-use Rattle.evaluation.proofs.Calls.{Keeps, first-made, next-made}
+use Rattle.circuit_claims.proofs.Calls.{Keeps, first-made, next-made}
 use Rattle.round_claims.specs.Runs.{freshState, RoundMade, roundsOf, IsRound}
 
 -- ---- an accepted round's outcome

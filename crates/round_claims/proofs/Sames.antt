@@ -16,15 +16,15 @@ use Rattle.circuit.specs.Content.{Circuit, isAnd, andsIn}
 use Rattle.circuit.specs.Levels.{levels}
 use Rattle.circuit_round.specs.Round.{RoundLent, knownAs}
 use Rattle.circuit_run.specs.Step.{StepLent, gateAt, andsBefore}
-use Rattle.circuit_run.specs.declared.Run.{Run}
-use Rattle.evaluation.proofs.AndGates.{and-inside, and-before, and-earlier, and-one, ands-rise}
-use Rattle.evaluation.proofs.Calls.{call-at, made-at}
-use Rattle.evaluation.proofs.Evaluates.{stood, step-sends, late, has-all, of-steps}
-use Rattle.evaluation.proofs.Progresses.{stands}
-use Rattle.evaluation.proofs.Reaches.{Standing, waiting, finished}
-use Rattle.evaluation.proofs.Transcripts.{SameTriples, outputs-same, determined, sent-determined}
-use Rattle.evaluation.specs.Inner.Transcript.{BitsByAnd, wireShares, farInSteps}
-use Rattle.evaluation.specs.Runs.{StepMade, runOf, IsStep, writtenBy}
+use Rattle.circuit_run.specs.declared.StepState.{StepState}
+use Rattle.circuit_claims.proofs.AndGates.{and-inside, and-before, and-earlier, and-one, ands-rise}
+use Rattle.circuit_claims.proofs.Calls.{call-at, made-at}
+use Rattle.circuit_claims.proofs.Evaluates.{stood, step-sends, late, has-all, of-steps}
+use Rattle.circuit_claims.proofs.Progresses.{stands}
+use Rattle.circuit_claims.proofs.Reaches.{Standing, waiting, finished}
+use Rattle.circuit_claims.proofs.Transcripts.{SameTriples, outputs-same, determined, sent-determined}
+use Rattle.circuit_claims.specs.Inner.Transcript.{BitsByAnd, wireShares, farInSteps}
+use Rattle.circuit_claims.specs.Runs.{StepMade, stepsOf, IsStep, writtenBy}
 use Rattle.number.proofs.Places.{split, choose-yes, choose-no}
 use Rattle.triples.proofs.Matching.{triple-eq}
 use Rattle.round_claims.proofs.Evaluates.{levels-passed, far-got, wrote-shares}
@@ -43,26 +43,26 @@ triples-same n t t′ e j h = triple-eq (byte (j * 3) (omega arith)) (byte (j * 
     byte k g = sym (getD-take (3 * n) t k 0 g) ∙ ap (λ (l : List ℕ). getD l k 0) e ∙ getD-take (3 * n) t′ k 0 g
 
 module _ (circuit : List ℕ) (c : Circuit) (role : ℕ) (shares triples₁ triples₂ : List ℕ)
-    (calls₁ : List StepLent) (calls₂ : List RoundLent) (alike : Alike circuit c role shares triples₁ triples₂ (runOf calls₁) (roundsOf calls₂)) where
+    (calls₁ : List StepLent) (calls₂ : List RoundLent) (alike : Alike circuit c role shares triples₁ triples₂ (stepsOf calls₁) (roundsOf calls₂)) where
   abbrev inSteps : BitsByAnd
-  inSteps = farInSteps (runOf calls₁)
+  inSteps = farInSteps (stepsOf calls₁)
 
   same : SameTriples (andsIn (c .gates)) triples₁ triples₂
   same = triples-same (andsIn (c .gates)) triples₁ triples₂ (alike .same-triples)
 
   -- the far bits of an AND in steps are those that its round got
-  far-same : (i : ℕ) → SameFar c (runOf calls₁) (roundsOf calls₂) i → (k : ℕ) (m : StepMade) → IsStep (runOf calls₁) k m → andsBefore c i < k
+  far-same : (i : ℕ) → SameFar c (stepsOf calls₁) (roundsOf calls₂) i → (k : ℕ) (m : StepMade) → IsStep (stepsOf calls₁) k m → andsBefore c i < k
       → (r : RoundMade) → IsRound (roundsOf calls₂) (levelAt c i) r → inSteps (andsBefore c i) ≡ pairAt (r .got .far) (placeAt c i)
   far-same i equal k m e h r f =
-      let b = call-at k (suc (andsBefore c i)) (runOf calls₁) e (omega arith) in
+      let b = call-at k (suc (andsBefore c i)) (stepsOf calls₁) e (omega arith) in
       let q = equal (b .0) r (b .1) f in
-      made-at (λ (x : StepMade). (x .got .farFirst, x .got .farSecond)) (0, 0) (runOf calls₁) (suc (andsBefore c i)) (b .1)
+      made-at (λ (x : StepMade). (x .got .farFirst, x .got .farSecond)) (0, 0) (stepsOf calls₁) (suc (andsBefore c i)) (b .1)
       ∙ ap₂ (λ (x y : ℕ). (x, y)) (q .0) (q .1)
 
   -- ---- the same outputs
 
-  module _ (equal : (i : ℕ) → isAnd (gateAt c i) ≡ true → SameFar c (runOf calls₁) (roundsOf calls₂) i) (k₁ k₂ : ℕ) (m : StepMade) (r : RoundMade)
-      (e₁ : IsStep (runOf calls₁) k₁ m) (e₂ : IsRound (roundsOf calls₂) k₂ r) (two : m .gave .state .phase ≡ 2) (done : Finished (r .gave)) where
+  module _ (equal : (i : ℕ) → isAnd (gateAt c i) ≡ true → SameFar c (stepsOf calls₁) (roundsOf calls₂) i) (k₁ k₂ : ℕ) (m : StepMade) (r : RoundMade)
+      (e₁ : IsStep (stepsOf calls₁) k₁ m) (e₂ : IsRound (roundsOf calls₂) k₂ r) (two : m .gave .state .phase ≡ 2) (done : Finished (r .gave)) where
     by : ByFar role c shares triples₂ inSteps (roundsOf calls₂)
     by =
         of-rounds circuit c (alike .reads) role shares triples₂ calls₂ (alike .in-rounds) inSteps
@@ -92,8 +92,8 @@ module _ (circuit : List ℕ) (c : Circuit) (role : ℕ) (shares triples₁ trip
   -- ---- the same bits
 
   module _ (i : ℕ) (a : isAnd (gateAt c i) ≡ true)
-      (equal : (n : ℕ) → n < i → isAnd (gateAt c n) ≡ true → SameFar c (runOf calls₁) (roundsOf calls₂) n)
-      (k : ℕ) (m : StepMade) (r : RoundMade) (level : levelAt c i ≡ suc k) (e₁ : IsStep (runOf calls₁) (andsBefore c i) m)
+      (equal : (n : ℕ) → n < i → isAnd (gateAt c n) ≡ true → SameFar c (stepsOf calls₁) (roundsOf calls₂) n)
+      (k : ℕ) (m : StepMade) (r : RoundMade) (level : levelAt c i ≡ suc k) (e₁ : IsStep (stepsOf calls₁) (andsBefore c i) m)
       (e₂ : IsRound (roundsOf calls₂) k r) where
     -- the far bits of the ANDs before it in steps, of the others in rounds
     abbrev mixed : BitsByAnd
@@ -123,7 +123,7 @@ module _ (circuit : List ℕ) (c : Circuit) (role : ℕ) (shares triples₁ trip
 
 -- ---- each AND once
 
-once-standing : {c : Circuit} {k i : ℕ} {r : Run} → isAnd (gateAt c i) ≡ true → Standing c 0 k r
+once-standing : {c : Circuit} {k i : ℕ} {r : StepState} → isAnd (gateAt c i) ≡ true → Standing c 0 k r
     → (((r .phase ≡ 1) × (r .gate ≡ i)) ↔ andsBefore c i ≡ k) × (r .phase ≡ 2 → andsBefore c i < k)
 once-standing {c} {k} {i} {r} a (waiting one l h and n) = (
   (λ p. sym (ap (andsBefore c) (p .1)) ∙ n, λ e. (one, and-one c (r .gate) i and a (n ∙ sym e))),

@@ -25,7 +25,7 @@ use Rattle.circuit_round.specs.Round.{RoundLent, RoundOutcome, waits, isKnown, 
 use Rattle.circuit_round.specs.Round.{waitingBefore, waitingIn, ready, openedShare, computed, wiresAfter, round}
 use Rattle.circuit_round.specs.declared.RoundState.{RoundState}
 use Rattle.circuit_run.specs.Step.{gateAt, flipped}
-use Rattle.evaluation.proofs.Calls.{call-before}
+use Rattle.circuit_claims.proofs.Calls.{call-before}
 use Rattle.number.proofs.Places.{split, choose-yes, choose-no}
 use Rattle.number.specs.Reading.{Whole}
 use Rattle.round_claims.proofs.Bytes.{at-input, at-gate}

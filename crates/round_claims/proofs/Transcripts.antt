@@ -21,9 +21,9 @@ use Rattle.circuit_round.specs.Round.{RoundLent, RoundOutcome, shareOf, knownAs
 use Rattle.circuit_round.specs.declared.RoundState.{RoundState}
 use Rattle.circuit_run.proofs.Bits.{xor-bit, flipped-bit, share-bit}
 use Rattle.circuit_run.specs.Step.{gateAt, andsBefore, firstWire, secondWire, tripleFirst, tripleSecond, flipped, maskedFirst, maskedSecond}
-use Rattle.evaluation.proofs.AndGates.{and-inside, and-below}
-use Rattle.evaluation.proofs.Transcripts.{shares-keep, shares-hold}
-use Rattle.evaluation.specs.Inner.Transcript.{BitsByAnd, opened, shareAt, wireShares, sentBits}
+use Rattle.circuit_claims.proofs.AndGates.{and-inside, and-below}
+use Rattle.circuit_claims.proofs.Transcripts.{shares-keep, shares-hold}
+use Rattle.circuit_claims.specs.Inner.Transcript.{BitsByAnd, shareWithFar, shareAt, wireShares, maskedBits}
 use Rattle.number.specs.Reading.{Whole}
 use Rattle.round_claims.proofs.Counts.{sent-at}
 use Rattle.round_claims.proofs.Gives.{bits-are}
@@ -49,13 +49,13 @@ and-lower c ok i a = of (gateAt c i) refl a
 module _ (c : Circuit) (i a b : ℕ) (g : gateAt c i ≡ And a b) (role : ℕ) (triples : List ℕ) where
   opened-round : (l : RoundLent) (p : ℕ) (bytes wires : List ℕ) (far : ℕ × ℕ) → l .role ≡ role → l .triples ≡ triples
       → getD (sharesIn bytes) a 0 ≡ getD wires a 0 → getD (sharesIn bytes) b 0 ≡ getD wires b 0 → far ≡ pairAt (l .far) (2 * p)
-      → openedShare c l i p bytes ≡ opened role c triples wires i far
-  unfolding openedShare opened maskedFirst maskedSecond
+      → openedShare c l i p bytes ≡ shareWithFar role c triples wires i far
+  unfolding openedShare shareWithFar maskedFirst maskedSecond
   opened-round l p bytes wires far own-role own-triples at-a at-b bits = rw (own-role, own-triples, g, at-a, at-b, bits)
 
   opened-bit : (wires : List ℕ) (far : ℕ × ℕ) → ((j : ℕ) → getD triples j 0 ≤ 1) → getD wires a 0 ≤ 1 → getD wires b 0 ≤ 1 → far .0 ≤ 1 → far .1 ≤ 1
-      → opened role c triples wires i far ≤ 1
-  unfolding opened maskedFirst maskedSecond
+      → shareWithFar role c triples wires i far ≤ 1
+  unfolding shareWithFar maskedFirst maskedSecond
   opened-bit wires far t x y f f′ = rw g (share-bit role (xor-bit (xor-bit x (t _)) f) (xor-bit (xor-bit y (t _)) f′) (t _) (t _) (t _))
 
 module _ (circuit : List ℕ) (c : Circuit) (read : readCircuit circuit ≡ Whole c) (role : ℕ) (shares triples : List ℕ) (calls : List RoundLent)
@@ -132,7 +132,7 @@ module _ (circuit : List ℕ) (c : Circuit) (read : readCircuit circuit ≡ Whol
         let bits : far (andsBefore c i) ≡ pairAt (m .got .far) (2 * place) =
         got i (ap isAnd g) m (subst (λ (n : ℕ). IsRound (roundsOf calls) n m) (sym lev) e)
         ∙ ap (pairAt (m .got .far)) (sym (place-is k (s .wires) before i h lev)) in
-        let is : getD S (c .inputs + i) 0 ≡ opened role c triples S i (far (andsBefore c i)) = at-gate i (And a b) h g in (
+        let is : getD S (c .inputs + i) 0 ≡ shareWithFar role c triples S i (far (andsBefore c i)) = at-gate i (And a b) h g in (
           ap knownAs (opened-round c i a b g role triples (m .got) place after S (far (andsBefore c i)) (o .own-role) (o .own-triples)
               (share-at after a ∙ stands-share a _ p) (share-at after b ∙ stands-share b _ q) bits ∙ sym is),
           omega (
@@ -172,7 +172,7 @@ module _ (circuit : List ℕ) (c : Circuit) (read : readCircuit circuit ≡ Whol
     share-is : (w : ℕ) → IsWire c w → levelOf c w ≤ k → getD (sharesIn bytes) w 0 ≡ getD S w 0
     share-is w h lev = share-at bytes w ∙ stands-share w _ (has w h lev)
 
-    sends : (i : ℕ) → isAnd (gateAt c i) ≡ true → levelAt c i ≡ suc k → pairAt (bitsBy (m .gave)) (placeAt c i) ≡ sentBits role c triples far shares i
+    sends : (i : ℕ) → isAnd (gateAt c i) ≡ true → levelAt c i ≡ suc k → pairAt (bitsBy (m .gave)) (placeAt c i) ≡ maskedBits role c triples far shares i
     unfolding maskedFirst maskedSecond
     sends i a lev =
         let h = and-inside c i a in

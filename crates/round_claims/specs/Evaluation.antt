@@ -7,7 +7,7 @@ use Rattle.circuit.specs.Content.{Circuit, andsIn}
 use Rattle.circuit.specs.Reading.{readCircuit}
 use Rattle.circuit.specs.Value.{valueOf}
 use Rattle.circuit_round.specs.Round.{RoundLent}
-use Rattle.evaluation.specs.Evaluation.{combined}
+use Rattle.circuit_claims.specs.Evaluation.{combined}
 use Rattle.number.specs.Reading.{Whole}
 use Rattle.triples.specs.Matching.{Matching}
 use Rattle.round_claims.specs.Runs.{RoundMade, roundsOf, IsRound, outputsBy, bitsBy, Finished}
@@ -28,11 +28,11 @@ abbrev pub ReceivesRounds : List RoundMade → List RoundMade → Type 0
 ReceivesRounds made far = (k : ℕ) (m f : RoundMade) → IsRound made (suc k) m → IsRound far k f → m .got .far ≡ bitsBy (f .gave)
 
 -- two runs of one circuit, one in each role
-pub record RoundEnds (circuit shares₁ triples₁ shares₂ triples₂ : List ℕ) (first second : List RoundMade) : Type 0 where
-  pub role-1 : UnalteredRounds 1 circuit shares₁ triples₁ first
-  pub role-2 : UnalteredRounds 2 circuit shares₂ triples₂ second
-  pub to-1 : ReceivesRounds first second
-  pub to-2 : ReceivesRounds second first
+pub record RoundEnds (circuit shares₁ triples₁ shares₂ triples₂ : List ℕ) (made₁ made₂ : List RoundMade) : Type 0 where
+  pub role-1 : UnalteredRounds 1 circuit shares₁ triples₁ made₁
+  pub role-2 : UnalteredRounds 2 circuit shares₂ triples₂ made₂
+  pub to-1 : ReceivesRounds made₁ made₂
+  pub to-2 : ReceivesRounds made₂ made₁
 
 -- the claim, about every two runs and every finished round of each
 abbrev pub RoundEvaluation : Type 0

@@ -8,7 +8,7 @@ use lib.Dec.{leb}
 use lib.ListN.{length, getD}
 use Rattle.answer.specs.Numbers.{accepted}
 use Rattle.circuit.specs.Content.{Circuit, isAnd}
-use Rattle.circuit.specs.Levels.{levelOf, rounds, andsAtLevel}
+use Rattle.circuit.specs.Levels.{levelOf, roundCount, andsAtLevel}
 use Rattle.circuit.specs.Reading.{readCircuit}
 use Rattle.circuit_round.specs.Round.{RoundLent, RoundOutcome, refusedRound, round}
 use Rattle.circuit_round.specs.declared.RoundState.{RoundState}
@@ -48,7 +48,7 @@ pub record StandsAt (c : Circuit) (k : ℕ) (o : RoundOutcome) : Type 0 where
   pub known : (w : ℕ) → IsWire c w → Known (o .state) w ↔ levelOf c w ≤ k
   pub waits : (w : ℕ) → IsWire c w → Waits (o .state) w ↔ ((isAndWire c w ≡ true) × (levelOf c w ≡ suc k))
   pub written : o .bitsWritten ≡ 2 * andsAtLevel c (suc k)
-  pub finished : Finished o ↔ rounds c ≤ suc k
+  pub finished : Finished o ↔ roundCount c ≤ suc k
 
 pub record RoundProgress : Type 0 where
   -- a refused round changes nothing, and gives zeros beside its number
@@ -56,7 +56,7 @@ pub record RoundProgress : Type 0 where
   -- an accepted round, on any state
   pub moves : (c : Circuit) (l : RoundLent) (s : RoundState) → readCircuit (l .circuit) ≡ Whole c → round l s .number ≡ accepted → Moves c s (round l s)
   -- the first round gets no far bits
-  pub first : (l : RoundLent) → round l freshState .number ≡ accepted → length (l .far) ≡ 0
+  pub first-round : (l : RoundLent) → round l freshState .number ≡ accepted → length (l .far) ≡ 0
   -- a run from the fresh state, while the circuit stays
   pub stands : (circuit : List ℕ) (c : Circuit) → readCircuit circuit ≡ Whole c → (calls : List RoundLent) → RoundsOn circuit (roundsOf calls)
       → (k : ℕ) (m : RoundMade) → IsRound (roundsOf calls) k m → StandsAt c k (m .gave)

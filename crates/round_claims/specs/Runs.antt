@@ -9,7 +9,7 @@ use Rattle.circuit.specs.Admitted.{mostWires}
 use Rattle.circuit.specs.Content.{Circuit}
 use Rattle.circuit_round.specs.Round.{RoundLent, RoundOutcome, waits, isKnown, stateWith, round}
 use Rattle.circuit_round.specs.declared.RoundState.{RoundState}
-use Rattle.evaluation.specs.Calls.{Made, acceptedCalls, IsCall}
+use Rattle.circuit_claims.specs.Calls.{CallMade, acceptedCalls, IsCall}
 
 -- a fresh state is all zero
 unfoldable pub freshState : RoundState
@@ -17,7 +17,7 @@ freshState = stateWith (replicate mostWires 0)
 
 -- a round: what it got, and what it gave
 abbrev pub RoundMade : Type 0
-RoundMade = Made RoundLent RoundOutcome
+RoundMade = CallMade RoundLent RoundOutcome
 
 -- the accepted rounds of a run
 abbrev pub roundsOf : List RoundLent → List RoundMade

@@ -12,9 +12,9 @@ use Rattle.circuit.specs.Levels.{levels, levelOf, andsOf}
 use Rattle.circuit.specs.Reading.{readCircuit}
 use Rattle.circuit_round.specs.Round.{RoundLent, knownAs}
 use Rattle.circuit_run.specs.Step.{StepLent, gateAt, andsBefore}
-use Rattle.evaluation.specs.Evaluation.{Unaltered}
-use Rattle.evaluation.specs.Progress.{OnCircuit}
-use Rattle.evaluation.specs.Runs.{StepMade, runOf, IsStep, writtenBy}
+use Rattle.circuit_claims.specs.Evaluation.{Unaltered}
+use Rattle.circuit_claims.specs.Progress.{OnCircuit}
+use Rattle.circuit_claims.specs.Runs.{StepMade, stepsOf, IsStep, writtenBy}
 use Rattle.number.specs.Reading.{Whole}
 use Rattle.round_claims.specs.Evaluation.{UnalteredRounds}
 use Rattle.round_claims.specs.Progress.{RoundsOn}
@@ -52,9 +52,9 @@ pub record Alike (circuit : List ℕ) (c : Circuit) (role : ℕ) (shares triples
 abbrev pub SameOutputs : Type 0
 SameOutputs =
     (circuit : List ℕ) (c : Circuit) (role : ℕ) (shares triples₁ triples₂ : List ℕ) (calls₁ : List StepLent) (calls₂ : List RoundLent)
-    → Alike circuit c role shares triples₁ triples₂ (runOf calls₁) (roundsOf calls₂)
-    → ((i : ℕ) → isAnd (gateAt c i) ≡ true → SameFar c (runOf calls₁) (roundsOf calls₂) i)
-    → (k₁ k₂ : ℕ) (m : StepMade) (r : RoundMade) → IsStep (runOf calls₁) k₁ m → IsRound (roundsOf calls₂) k₂ r
+    → Alike circuit c role shares triples₁ triples₂ (stepsOf calls₁) (roundsOf calls₂)
+    → ((i : ℕ) → isAnd (gateAt c i) ≡ true → SameFar c (stepsOf calls₁) (roundsOf calls₂) i)
+    → (k₁ k₂ : ℕ) (m : StepMade) (r : RoundMade) → IsStep (stepsOf calls₁) k₁ m → IsRound (roundsOf calls₂) k₂ r
     → m .gave .state .phase ≡ 2 → Finished (r .gave)
     → (writtenBy (m .gave) ≡ outputsBy (r .gave))
     × ((w : ℕ) → IsWire c w → byteOf (r .gave .state) w ≡ knownAs (getD (m .gave .state .wires) w 0))
@@ -63,15 +63,15 @@ SameOutputs =
 abbrev pub SameBits : Type 0
 SameBits =
     (circuit : List ℕ) (c : Circuit) (role : ℕ) (shares triples₁ triples₂ : List ℕ) (calls₁ : List StepLent) (calls₂ : List RoundLent)
-    → Alike circuit c role shares triples₁ triples₂ (runOf calls₁) (roundsOf calls₂)
+    → Alike circuit c role shares triples₁ triples₂ (stepsOf calls₁) (roundsOf calls₂)
     → (i : ℕ) → isAnd (gateAt c i) ≡ true
-    → ((n : ℕ) → n < i → isAnd (gateAt c n) ≡ true → SameFar c (runOf calls₁) (roundsOf calls₂) n)
-    → SameSent c (runOf calls₁) (roundsOf calls₂) i
+    → ((n : ℕ) → n < i → isAnd (gateAt c n) ≡ true → SameFar c (stepsOf calls₁) (roundsOf calls₂) n)
+    → SameSent c (stepsOf calls₁) (roundsOf calls₂) i
 
 -- each AND is opened by one step and by one round, while the circuit stays, and a finished run has opened it
 pub record OpenedOnce : Type 0 where
-  pub by-step : (circuit : List ℕ) (c : Circuit) → readCircuit circuit ≡ Whole c → (calls : List StepLent) → OnCircuit circuit (runOf calls)
-      → (k : ℕ) (m : StepMade) → IsStep (runOf calls) k m → (i : ℕ) → isAnd (gateAt c i) ≡ true
+  pub by-step : (circuit : List ℕ) (c : Circuit) → readCircuit circuit ≡ Whole c → (calls : List StepLent) → OnCircuit circuit (stepsOf calls)
+      → (k : ℕ) (m : StepMade) → IsStep (stepsOf calls) k m → (i : ℕ) → isAnd (gateAt c i) ≡ true
       → (((m .gave .state .phase ≡ 1) × (m .gave .state .gate ≡ i)) ↔ andsBefore c i ≡ k) × (m .gave .state .phase ≡ 2 → andsBefore c i < k)
   pub by-round : (circuit : List ℕ) (c : Circuit) → readCircuit circuit ≡ Whole c → (calls : List RoundLent) → RoundsOn circuit (roundsOf calls)
       → (k : ℕ) (m : RoundMade) → IsRound (roundsOf calls) k m → (i : ℕ) → isAnd (gateAt c i) ≡ true

@@ -61,8 +61,8 @@ module _ (keys : List ℕ) (x i : ℕ) where
   pub two-rounds : {s : List (List (List ℕ))} {s1 s2 : List (List ℕ)} → IsShared keys x s → i < 256
       → s1 ≡ firstOf (getD s 0 []) (bitXor i (getD keys 1 0) % 256) → s2 ≡ secondOf (getD s 1 []) (column s1 2) → s2 ≡ rowState keys 2 x i
   two-rounds {s} is h e1 e2 =
-      let f = e1 ∙ ap (firstOf (getD s 0 [])) start-byte ∙ is .first i h in
-      e2 ∙ ap (λ (v : List (List ℕ)). secondOf (getD s 1 []) (column v 2)) f ∙ is .second i h
+      let f = e1 ∙ ap (firstOf (getD s 0 [])) start-byte ∙ is .round1 i h in
+      e2 ∙ ap (λ (v : List (List ℕ)). secondOf (getD s 1 []) (column v 2)) f ∙ is .round2 i h
 
   -- rounds 3 to 9
   pub nine-rounds : {s2 s3 s4 s5 s6 s7 s8 s9 : List (List ℕ)} → s2 ≡ rowState keys 2 x i

@@ -131,10 +131,10 @@ module _ (keys : List ℕ) (x : ℕ) where
       let e0 : s ≡ rowState keys 0 x 0 = es in
       let e1 : t ≡ rowState keys 1 x 0 = et ∙ rw es in
       record {
-        first = λ i h.
+        round1 = λ i h.
             let one = rw (← e1) at (alike-1 h) in
             four-eq (one .column0) (one .column1) (made-2 (rw (← e0) at (alike-0 h)) _ _ lf) (one .column3);
-        second = λ i h.
+        round2 = λ i h.
             let one = rw (← e1) at (alike-1 h) in
             four-eq (made-0 one _ _ l0) (made-1 one _ _ l1) (made-2 one _ _ l2) (made-3 one _ _ l3);
       }

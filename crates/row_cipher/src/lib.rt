@@ -20,8 +20,8 @@ use field::Block;
 
 // Two words.
 pub struct TwoWords {
-    pub first: u64,
-    pub second: u64,
+    pub one: u64,
+    pub other: u64,
 }
 
 // A column of a round, with its round key's column, without what the byte in row 0 adds.
@@ -63,12 +63,12 @@ pub fn share(tables: &[u64; 1536], keys: &[u64; 40], x: u64) -> [[[u8; 4]; 4]; 2
 {
     let s = first_key(Block { low: x, high: 0 }, keys);
     let t = full_round(tables, s, keys, 2);
-    let first = without_row0(tables, s[3][1], s[0][2], s[1][3], keys[4]);
+    let column2 = without_row0(tables, s[3][1], s[0][2], s[1][3], keys[4]);
     let c0 = without_row2(tables, t[0][0], t[1][1], t[3][3], keys[6]);
     let c1 = without_row1(tables, t[1][0], t[3][2], t[0][3], keys[7]);
     let c2 = without_row0(tables, t[3][1], t[0][2], t[1][3], keys[8]);
     let c3 = without_row3(tables, t[3][0], t[0][1], t[1][2], keys[9]);
-    [[t[0], t[1], first, t[3]], [c0, c1, c2, c3]]
+    [[t[0], t[1], column2, t[3]], [c0, c1, c2, c3]]
 }
 
 // A column of four bytes with the entry for a byte of the table that begins at a place.
@@ -110,8 +110,8 @@ pub fn two_words(
     i: u64,
 ) -> TwoWords
     requires { ⌜ RoundTables (now tables) × IsShared (now keys) x shared × (i + 1 < 256) ⌝ }
-    ensures { λ r. ⌜ (r .first ≡ cipherOf (now (keys .entry)) (block x i) .low)
-        × (r .second ≡ cipherOf (now (keys .entry)) (block x (i + 1)) .low) ⌝ }
+    ensures { λ r. ⌜ (r .one ≡ cipherOf (now (keys .entry)) (block x i) .low)
+        × (r .other ≡ cipherOf (now (keys .entry)) (block x (i + 1)) .low) ⌝ }
 {
     let a1 = first_round(tables, keys, shared[0], i);
     let a2 = second_round(tables, shared[1], a1);
@@ -134,8 +134,8 @@ pub fn two_words(
     let a10 = last_round(tables, a9, keys);
     let b10 = last_round(tables, b9, keys);
     TwoWords {
-        first: Block::of_columns(a10).low,
-        second: Block::of_columns(b10).low,
+        one: Block::of_columns(a10).low,
+        other: Block::of_columns(b10).low,
     }
 }
 
@@ -148,8 +148,8 @@ pub fn two_blocks(
     i: u64,
 ) -> TwoBlocks
     requires { ⌜ RoundTables (now tables) × IsShared (now keys) x shared × (i + 1 < 256) ⌝ }
-    ensures { λ r. ⌜ (r .first ≡ cipherOf (now (keys .entry)) (block x i))
-        × (r .second ≡ cipherOf (now (keys .entry)) (block x (i + 1))) ⌝ }
+    ensures { λ r. ⌜ (r .one ≡ cipherOf (now (keys .entry)) (block x i))
+        × (r .other ≡ cipherOf (now (keys .entry)) (block x (i + 1))) ⌝ }
 {
     let a1 = first_round(tables, keys, shared[0], i);
     let a2 = second_round(tables, shared[1], a1);
@@ -172,7 +172,7 @@ pub fn two_blocks(
     let a10 = last_round(tables, a9, keys);
     let b10 = last_round(tables, b9, keys);
     TwoBlocks {
-        first: Block::of_columns(a10),
-        second: Block::of_columns(b10),
+        one: Block::of_columns(a10),
+        other: Block::of_columns(b10),
     }
 }

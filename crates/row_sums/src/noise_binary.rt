@@ -63,9 +63,9 @@ fn noise_turn_binary(
 {
     let shape = row.shape;
     let words = two_words(tables, keys, row.x, shared, i as u64);
-    let next = binary_term(shape, i, words.first, noise, v, sums);
+    let next = binary_term(shape, i, words.one, noise, v, sums);
     if i + 1 < shape.terms {
-        binary_term(shape, i + 1, words.second, noise, v, next)
+        binary_term(shape, i + 1, words.other, noise, v, next)
     } else {
         next
     }

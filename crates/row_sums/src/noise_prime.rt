@@ -74,9 +74,9 @@ fn noise_turn_prime(
 {
     let shape = row.shape;
     let pair = two_blocks(tables, keys, row.x, shared, i as u64);
-    let next = prime_term(shape, i, pair.first, noise, v, sums);
+    let next = prime_term(shape, i, pair.one, noise, v, sums);
     if i + 1 < shape.terms {
-        prime_term(shape, i + 1, pair.second, noise, v, next)
+        prime_term(shape, i + 1, pair.other, noise, v, next)
     } else {
         next
     }

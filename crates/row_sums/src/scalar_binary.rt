@@ -43,9 +43,9 @@ fn scalar_turn_binary(
 {
     let shape = row.shape;
     let words = two_words(tables, keys, row.x, shared, i as u64);
-    let next = block_term(shape, i, words.first, w, total);
+    let next = block_term(shape, i, words.one, w, total);
     if i + 1 < shape.terms {
-        block_term(shape, i + 1, words.second, w, next)
+        block_term(shape, i + 1, words.other, w, next)
     } else {
         next
     }

@@ -58,9 +58,9 @@ fn scalar_turn_prime(
 {
     let shape = row.shape;
     let pair = two_blocks(tables, keys, row.x, shared, i as u64);
-    let next = scalar_term(shape, i, pair.first, w, sum);
+    let next = scalar_term(shape, i, pair.one, w, sum);
     if i + 1 < shape.terms {
-        scalar_term(shape, i + 1, pair.second, w, next)
+        scalar_term(shape, i + 1, pair.other, w, next)
     } else {
         next
     }

@@ -11,13 +11,13 @@ use mir.Val.{Fits}
 use Rattle.algebra.specs.Choice.{choose}
 use Rattle.circuit.proofs.Ands.{ands-more, before-few}
 use Rattle.circuit.specs.Content.{Gate, Not, isAnd, andsIn}
-use Rattle.circuit.specs.Answer.{content, HasFront}
-use Rattle.circuit.specs.declared.Front.{Front}
+use Rattle.circuit.specs.Answer.{content, HasLayout}
+use Rattle.circuit.specs.declared.Layout.{Layout}
 use Rattle.number.proofs.Places.{choose-yes, choose-no}
 use Rattle.circuit_run.proofs.Gates.{gatesOf, left-start}
-use Rattle.circuit_run.specs.Inner.Places.{Stands, Waits, CanProceed, Stops, givenAnd, proceeded}
+use Rattle.circuit_run.specs.Inner.Places.{Stands, WaitsAt, CanProceed, Stops, givenAnd, proceeded}
 use Rattle.circuit_run.specs.Step.{gateAt, freshWires, runOn}
-use Rattle.circuit_run.specs.declared.Run.{Run}
+use Rattle.circuit_run.specs.declared.StepState.{StepState}
 use Rattle.circuit_run.specs.declared.places.Asked.{Asked}
 use Rattle.circuit_run.specs.declared.places.Reached.{Reached}
 use Rattle.circuit_run.specs.declared.places.Place.{Place}
@@ -28,19 +28,19 @@ placeWith gate at ands = record { gate = gate; at = at; ands = ands }
 
 -- ---- a run that waits
 
-module _ {s : List ℕ} {f : Front} {a : Asked} {r : Spot} {shares triples : List ℕ}
-    (o : HasFront s f) (ready : CanProceed s f a r shares triples) (yes : a .waits ≡ true) where
-  w : Waits s f r
+module _ {s : List ℕ} {f : Layout} {a : Asked} {r : Spot} {shares triples : List ℕ}
+    (o : HasLayout s f) (ready : CanProceed s f a r shares triples) (yes : a .waits ≡ true) where
+  w : WaitsAt s f r
   w = ready .waits yes
 
   pub and-wire : Fits w64 (f .inputs + r .gate)
   and-wire = record { fits = omega (arith, w .below, o .most) }
 
-  pub and-first : r .first < 4096
-  and-first = w .first
+  pub and-first : r .«first_wire» < 4096
+  and-first = w .first-below
 
-  pub and-second : r .second < 4096
-  and-second = w .second
+  pub and-second : r .«second_wire» < 4096
+  and-second = w .second-below
 
   pub and-triple : r .ands * 3 + 2 < length triples
   and-triple = omega (arith, w .few, ready .enough)
@@ -69,14 +69,14 @@ module _ {s : List ℕ} {f : Front} {a : Asked} {r : Spot} {shares triples : Lis
       → Stops s f (proceeded s f a r shares triples wires) reached after
   unfolding proceeded
   and-returns wires {before} {after} {reached} e st =
-      subst (λ (x : Run). Stops s f x reached after)
+      subst (λ (x : StepState). Stops s f x reached after)
       (ap (λ (l : List ℕ). runOn (a .role) (f .inputs) (drop (r .gate + 1) (gatesOf s)) (r .gate + 1) l) e
-      ∙ sym (choose-yes {A = Run} _ (runOn (a .role) (f .inputs) (drop 0 (gatesOf s)) 0 (freshWires shares)) yes))
+      ∙ sym (choose-yes {A = StepState} _ (runOn (a .role) (f .inputs) (drop 0 (gatesOf s)) 0 (freshWires shares)) yes))
       st
 
 -- ---- a fresh run
 
-module _ {s : List ℕ} {f : Front} (o : HasFront s f) where
+module _ {s : List ℕ} {f : Layout} (o : HasLayout s f) where
   pub fresh-start : Stands s f (placeWith 0 (f .body) 0)
   unfolding andsIn
   fresh-start = record { left = left-start o; ands = refl }
@@ -86,8 +86,8 @@ module _ {s : List ℕ} {f : Front} (o : HasFront s f) where
       → Stops s f (proceeded s f a r shares triples wires) reached after
   unfolding proceeded
   fresh-returns a r shares triples wires {before} {after} {reached} free e st =
-      subst (λ (x : Run). Stops s f x reached after)
+      subst (λ (x : StepState). Stops s f x reached after)
       (ap (λ (l : List ℕ). runOn (a .role) (f .inputs) (drop 0 (gatesOf s)) 0 l) e
-      ∙ sym (choose-no {A = Run}
+      ∙ sym (choose-no {A = StepState}
       (runOn (a .role) (f .inputs) (drop (r .gate + 1) (gatesOf s)) (r .gate + 1) (givenAnd a r (f .inputs + r .gate) triples wires)) _ free))
       st

@@ -11,20 +11,20 @@ use answer::TOO_FEW_TRIPLES;
 use answer::WRONG_END;
 use answer::any_above;
 use answer::is_short;
-use circuit::Front;
+use circuit::Layout;
 use circuit_run::Asked;
 
 // Whether the far bits of a run that waits are bits.
-fn are_far_bits(waits: bool, first: u8, second: u8) -> bool
-    ensures { λ r. ⌜ r ≡ farAdmitted waits first second ⌝ }
+fn are_far_bits(waits: bool, far_first: u8, far_second: u8) -> bool
+    ensures { λ r. ⌜ r ≡ farAdmitted waits «far_first» «far_second» ⌝ }
 {
     if !waits {
         return true;
     }
-    if 1 < first {
+    if 1 < far_first {
         return false;
     }
-    second <= 1
+    far_second <= 1
 }
 
 // Whether the role is 1 or 2.
@@ -39,22 +39,22 @@ pub fn is_role(role: u8) -> bool
 
 // The number of a step, with room for an output of `room` bytes.
 pub fn step_number(
-    front: Front,
+    layout: Layout,
     admitted: bool,
     asked: Asked,
     shares: &[u8],
     triples: &[u8],
     room: usize,
 ) -> u32
-    ensures { λ r. ⌜ r ≡ firstFault (askedTests front admitted asked (now (shares .entry)) (now (triples .entry)) room) ⌝ }
+    ensures { λ r. ⌜ r ≡ firstFault (askedTests layout admitted asked (now (shares .entry)) (now (triples .entry)) room) ⌝ }
 {
-    if shares.len() != front.inputs {
+    if shares.len() != layout.inputs {
         return BAD_LENGTH;
     }
     if triples.len() % 3 != 0 {
         return BAD_LENGTH;
     }
-    if room < front.outputs {
+    if room < layout.outputs {
         return BUFFER_SHORT;
     }
     if any_above(1, shares) {
@@ -66,7 +66,7 @@ pub fn step_number(
     if !are_far_bits(asked.waits, asked.far_first, asked.far_second) {
         return NOT_ELEMENT;
     }
-    if is_short(triples.len(), 3, front.ands) {
+    if is_short(triples.len(), 3, layout.ands) {
         return TOO_FEW_TRIPLES;
     }
     if !admitted {

@@ -11,18 +11,18 @@ mod waiting;
 
 use accepted::accepted_step;
 use checking::check;
-use circuit::Opened;
+use circuit::Answer;
+use circuit::circuit_fault;
 use circuit::read_circuit;
-use circuit::refusal_of;
 use circuit_run::Asked;
-use circuit_run::Run;
+use circuit_run::StepState;
 use circuit_run::Stepped;
 pub use input::is_role;
 pub use running::and_share;
 pub use running::flip;
 
 // A refused step: zeros, and the state as it was.
-fn refused(number: u32, state: Run) -> Stepped
+fn refused(number: u32, state: StepState) -> Stepped
     ensures { λ r. ⌜ r ≡ steppedWith number 0 0 0 state ⌝ }
 {
     Stepped {
@@ -43,14 +43,14 @@ pub fn step_run(
     output: &mut [u8],
     far_first: u8,
     far_second: u8,
-    state: Run,
+    state: StepState,
 ) -> Stepped
     ensures { λ r. ⌜ stepped r (lentWith role (now (circuit .exit)) (now (shares .exit)) (now (triples .exit)) (now (output .exit)) «far_first» «far_second»)
         ≡ step (lentWith role (now (circuit .entry)) (now (shares .entry)) (now (triples .entry)) (now (output .entry)) «far_first» «far_second») state ⌝ }
 {
-    let opened = read_circuit(circuit);
-    let Opened::Accepted(front) = opened else {
-        return refused(refusal_of(opened), state);
+    let read = read_circuit(circuit);
+    let Answer::Accepted(layout) = read else {
+        return refused(circuit_fault(read), state);
     };
     let phase = state.phase;
     let asked = Asked {
@@ -62,7 +62,7 @@ pub fn step_run(
     let gate = state.gate as usize;
     let checked = check(
         circuit,
-        front,
+        layout,
         asked,
         phase,
         gate,
@@ -74,5 +74,5 @@ pub fn step_run(
         return refused(checked.number, state);
     }
     let spot = checked.spot;
-    accepted_step(circuit, front, asked, spot, shares, triples, output, state)
+    accepted_step(circuit, layout, asked, spot, shares, triples, output, state)
 }

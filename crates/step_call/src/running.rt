@@ -3,11 +3,11 @@ ghost use mathlib.Core.List.{_++_};
 ghost use mathlib.Core.Path.{_≡_};
 ghost use Prim.Native.Nat.{_+_, _*_, _<_, _≤_};
 ghost use lib.ListN.{length, drop};
-ghost use Rattle.circuit.specs.Answer.{content, HasFront};
+ghost use Rattle.circuit.specs.Answer.{content, HasLayout};
 ghost use Rattle.circuit.specs.Value.{atWires};
 ghost use Rattle.circuit_run.specs.Inner.Places.{localShare, Stands, CanProceed, Stops, givenAnd, proceeded};
 ghost use Rattle.circuit_run.specs.Step.{flipped, andShare, freshWires, runOn};
-use circuit::Front;
+use circuit::Layout;
 use circuit::known_gate;
 use circuit::known_wire;
 use circuit_run::Asked;
@@ -33,66 +33,66 @@ fn local_share(role: u8, kind: usize, x: u8, y: u8) -> u8
 }
 
 // Runs from a place to the next AND or to the end.
-fn run_on(source: &[u8], front: Front, role: u8, from: Place, wires: &mut [u8; 4096]) -> Reached
-    requires { ⌜ HasFront (now source) front × Stands (now source) front from ⌝ }
-    ensures { λ r. ⌜ Stops (now (source .entry)) front
-        (runOn role (front .inputs) (drop (from .gate) (content (now (source .entry)) .gates)) (from .gate) (now (wires .entry)))
+fn run_on(source: &[u8], layout: Layout, role: u8, from: Place, wires: &mut [u8; 4096]) -> Reached
+    requires { ⌜ HasLayout (now source) layout × Stands (now source) layout from ⌝ }
+    ensures { λ r. ⌜ Stops (now (source .entry)) layout
+        (runOn role (layout .inputs) (drop (from .gate) (content (now (source .entry)) .gates)) (from .gate) (now (wires .entry)))
         r (now (wires .exit)) ⌝ }
 {
-    let inputs = front.inputs;
-    let gates = front.gates;
+    let inputs = layout.inputs;
+    let gates = layout.gates;
     let ands = from.ands;
     let mut at = from.at;
     let mut i = from.gate;
     while i < gates {
         let wire = inputs + i;
         let g = known_gate(source, at, wire);
-        let first = g.first;
-        let second = g.second;
+        let first_wire = g.first_wire;
+        let second_wire = g.second_wire;
         if g.kind == 2 {
             return Reached {
                 waits: true,
                 gate: i,
-                first: first,
-                second: second,
+                first_wire: first_wire,
+                second_wire: second_wire,
                 ands: ands,
             };
         }
-        wires[wire] = local_share(role, g.kind, wires[first], wires[second]);
+        wires[wire] = local_share(role, g.kind, wires[first_wire], wires[second_wire]);
         at = g.next;
         i += 1;
     }
     Reached {
         waits: false,
         gate: i,
-        first: 0,
-        second: 0,
+        first_wire: 0,
+        second_wire: 0,
         ands: ands,
     }
 }
 
 // The share of an AND, from the combined bits and a triple.
-pub fn and_share(role: u8, d: u8, e: u8, first: u8, second: u8, third: u8) -> u8
-    ensures { λ r. ⌜ r ≡ andShare role d e first second third ⌝ }
+pub fn and_share(role: u8, d: u8, e: u8, a: u8, b: u8, c: u8) -> u8
+    ensures { λ r. ⌜ r ≡ andShare role d e a b c ⌝ }
 {
-    let sum = third ^ (d & second) ^ (e & first);
+    let sum = c ^ (d & b) ^ (e & a);
     if role == 1 { sum ^ (d & e) } else { sum }
 }
 
 // Gives the AND that a run waits at its share.
 fn give_and(asked: Asked, spot: Spot, wire: usize, triples: &[u8], wires: &mut [u8; 4096])
-    requires { ⌜ (spot .first < 4096) × (spot .second < 4096) × (spot .ands * 3 + 2 < length (now triples)) × (wire < 4096) ⌝ }
+    requires { ⌜ (spot .«first_wire» < 4096) × (spot .«second_wire» < 4096) × (spot .ands * 3 + 2 < length (now triples)) × (wire < 4096) ⌝ }
     ensures { λ _. ⌜ now (wires .exit) ≡ givenAnd asked spot wire (now (triples .entry)) (now (wires .entry)) ⌝ }
 {
     let at = spot.ands * 3;
-    let x = spot.first;
-    let y = spot.second;
-    let first = triples[at];
-    let second = triples[at + 1];
-    let third = triples[at + 2];
-    let d = wires[x] ^ first ^ asked.far_first;
-    let e = wires[y] ^ second ^ asked.far_second;
-    wires[wire] = and_share(asked.role, d, e, first, second, third);
+    let x = spot.first_wire;
+    let y = spot.second_wire;
+    let a = triples[at];
+    let b = triples[at + 1];
+    let c = triples[at + 2];
+    let d = wires[x] ^ a ^ asked.far_first;
+    let e = wires[y] ^ b ^ asked.far_second;
+    wires[wire] = and_share(asked.role, d, e, a, b, c);
 }
 
 // The wires of a fresh run: the shares, and zero past them.
@@ -112,46 +112,46 @@ fn fresh_wires(shares: &[u8]) -> [u8; 4096]
 // Takes a fresh run, or one that waits, to the next AND or to the end.
 pub fn proceed(
     source: &[u8],
-    front: Front,
+    layout: Layout,
     asked: Asked,
     spot: Spot,
     shares: &[u8],
     triples: &[u8],
     wires: &mut [u8; 4096],
 ) -> Reached
-    requires { ⌜ HasFront (now source) front × CanProceed (now source) front asked spot (now shares) (now triples) ⌝ }
-    ensures { λ r. ⌜ Stops (now (source .entry)) front
-        (proceeded (now (source .entry)) front asked spot (now (shares .entry)) (now (triples .entry)) (now (wires .entry)))
+    requires { ⌜ HasLayout (now source) layout × CanProceed (now source) layout asked spot (now shares) (now triples) ⌝ }
+    ensures { λ r. ⌜ Stops (now (source .entry)) layout
+        (proceeded (now (source .entry)) layout asked spot (now (shares .entry)) (now (triples .entry)) (now (wires .entry)))
         r (now (wires .exit)) ⌝ }
 {
     if asked.waits {
-        give_and(asked, spot, front.inputs + spot.gate, triples, wires);
+        give_and(asked, spot, layout.inputs + spot.gate, triples, wires);
         let after = Place {
             gate: spot.gate + 1,
             at: spot.next,
             ands: spot.ands + 1,
         };
-        return run_on(source, front, asked.role, after, wires);
+        return run_on(source, layout, asked.role, after, wires);
     }
     let fresh = fresh_wires(shares);
     *wires = fresh;
     let start = Place {
         gate: 0,
-        at: front.body,
+        at: layout.body,
         ands: 0,
     };
-    run_on(source, front, asked.role, start, wires)
+    run_on(source, layout, asked.role, start, wires)
 }
 
 // Writes the shares of the output wires.
-pub fn write_outputs(source: &[u8], front: Front, wires: &[u8; 4096], output: &mut [u8])
-    requires { ⌜ HasFront (now source) front × (front .outputs ≤ length (now output)) ⌝ }
+pub fn write_outputs(source: &[u8], layout: Layout, wires: &[u8; 4096], output: &mut [u8])
+    requires { ⌜ HasLayout (now source) layout × (layout .outputs ≤ length (now output)) ⌝ }
     ensures { λ _. ⌜ now (output .exit)
-        ≡ atWires (now (wires .entry)) (content (now (source .entry)) .outputs) ++ drop (front .outputs) (now (output .entry)) ⌝ }
+        ≡ atWires (now (wires .entry)) (content (now (source .entry)) .outputs) ++ drop (layout .outputs) (now (output .entry)) ⌝ }
 {
-    let outputs = front.outputs;
-    let limit = front.inputs + front.gates;
-    let mut at = front.tail;
+    let outputs = layout.outputs;
+    let limit = layout.inputs + layout.gates;
+    let mut at = layout.tail;
     let mut i: usize = 0;
     while i < outputs {
         let w = known_wire(source, at, limit);

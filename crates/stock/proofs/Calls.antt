@@ -14,7 +14,7 @@ use Rattle.stock.specs.declared.Label.{Label}
 use Rattle.stock.specs.declared.Stock.{Stock}
 use Rattle.stock.specs.Label.{numberOf}
 use Rattle.stock.specs.Stock.{isCaller, nextOf, remaining, shareBlocks}
-use Rattle.stock.specs.Calls.{isUpTo, withStock, drawTests, advanced, takenDraw, refusedDraw, draw, preview, passTests, pass}
+use Rattle.stock.specs.Calls.{isCount, withStock, drawTests, advanced, acceptedDraw, refusedDraw, draw, preview, passTests, pass}
 
 -- ---- draws
 
@@ -38,7 +38,7 @@ pub taken-is : (s : Stock) (k c : ℕ)
       count = c;
       stock = record { callers = s .callers; label = s .label; next = set (s .next) k (nextOf s k + c); end = s .end };
     }
-    ≡ takenDraw s k c
+    ≡ acceptedDraw s k c
 unfolding advanced
 taken-is s k c = refl
 
@@ -53,9 +53,9 @@ preview-is s l k c d e = rw e
 
 module _ (s : Stock) (l : Label) (outputs : ℕ) where
   -- a label that is not above the one in use is refused before shares that sum to too much
-  pub above-first : isUpTo 32768 outputs ≡ true → ltb (numberOf (s .label)) (numberOf l) ≡ false → labelNotAbove ≡ firstFault (passTests s l outputs)
+  pub above-first : isCount 32768 outputs ≡ true → ltb (numberOf (s .label)) (numberOf l) ≡ false → labelNotAbove ≡ firstFault (passTests s l outputs)
   above-first size below =
-      fault-later _ _ _ _ (held _ (isUpTo 32768 outputs) refl size)
+      fault-later _ _ _ _ (held _ (isCount 32768 outputs) refl size)
       (fault-here _ _ _ (broken _ (ltb (numberOf (s .label)) (numberOf l)) refl below))
 
   pub pass-accepted : 0 ≡ firstFault (passTests s l outputs) → withStock (shareBlocks l (s .callers) (remaining s)) 0 ≡ pass s l outputs

@@ -17,8 +17,8 @@ use Rattle.stock.specs.Label.{numberOf, labelZero}
 use Rattle.stock.specs.Stock.{isCaller, nextOf, remaining, sumOf, held, shareBlocks}
 
 -- 1 to a largest number
-abbrev pub isUpTo : ℕ → ℕ → Bool
-isUpTo most n = leb 1 n && leb n most
+abbrev pub isCount : ℕ → ℕ → Bool
+isCount most n = leb 1 n && leb n most
 
 -- the answer of an opening or a passage: a stock, and a number
 abbrev pub withStock : Stock → ℕ → OpenedStock
@@ -27,8 +27,8 @@ withStock stock number = record { number = number; stock = stock }
 -- ---- opening
 
 -- caller k's share
-abbrev pub shareOf : List ℕ → ℕ → ℕ
-shareOf shares k = getD shares k 0
+abbrev pub openingShare : List ℕ → ℕ → ℕ
+openingShare shares k = getD shares k 0
 
 -- a stock without callers, under label 0
 unfoldable pub noCallers : Stock
@@ -45,9 +45,9 @@ stockOpening opened shares = record { opened = opened; shares = shares }
 -- its tests: one to eight callers, n from 1 to 32,768, and shares that sum to at most n
 abbrev pub openTests : ℕ → List ℕ → List Test
 openTests outputs shares =
-    holds (isUpTo 8 (length shares)) or badSize
-    ∷ holds (isUpTo 32768 outputs) or badSize
-    ∷ sumOf (length shares) (shareOf shares) atMost outputs or sharesAbove
+    holds (isCount 8 (length shares)) or badSize
+    ∷ holds (isCount 32768 outputs) or badSize
+    ∷ sumOf (length shares) (openingShare shares) atMost outputs or sharesAbove
     ∷ []
 
 -- opening a stock names a label, n and a share per caller; a refused opening gives a stock without callers
@@ -55,7 +55,7 @@ unfoldable pub openStock : Label → ℕ → List ℕ → StockOpening
 openStock label outputs shares =
     stockOpening
     (answered (openTests outputs shares) (withStock noCallers)
-    (withStock (shareBlocks label (length shares) (shareOf shares)) accepted))
+    (withStock (shareBlocks label (length shares) (openingShare shares)) accepted))
     shares
 
 -- ---- draws
@@ -73,14 +73,14 @@ unfoldable pub advanced : Stock → ℕ → ℕ → Stock
 advanced s k c = record { callers = s .callers; label = s .label; next = set (s .next) k (nextOf s k + c); end = s .end }
 
 -- an accepted draw of c returns the caller's next c indices, as a window; a refused draw names no index and changes nothing
-abbrev pub takenDraw : Stock → ℕ → ℕ → Drawn
-takenDraw s k c = record { number = accepted; first = nextOf s k; count = c; stock = advanced s k c }
+abbrev pub acceptedDraw : Stock → ℕ → ℕ → Drawn
+acceptedDraw s k c = record { number = accepted; first = nextOf s k; count = c; stock = advanced s k c }
 
 abbrev pub refusedDraw : Stock → ℕ → Drawn
 refusedDraw s number = record { number = number; first = 0; count = 0; stock = s }
 
 unfoldable pub draw : Stock → Label → ℕ → ℕ → Drawn
-draw s l k c = answered (drawTests s l k c) (refusedDraw s) (takenDraw s k c)
+draw s l k c = answered (drawTests s l k c) (refusedDraw s) (acceptedDraw s k c)
 
 -- ---- previews
 
@@ -100,7 +100,7 @@ preview s l k c =
 -- its tests: n from 1 to 32,768, a label above the one in use, and unspent shares that sum to at most n
 abbrev pub passTests : Stock → Label → ℕ → List Test
 passTests s l outputs =
-    holds (isUpTo 32768 outputs) or badSize
+    holds (isCount 32768 outputs) or badSize
     ∷ holds (ltb (numberOf (s .label)) (numberOf l)) or labelNotAbove
     ∷ held s atMost outputs or sharesAbove
     ∷ []

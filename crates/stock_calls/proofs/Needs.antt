@@ -13,16 +13,16 @@ use Rattle.algebra.proofs.Tests.{and-left}
 use Rattle.stock.specs.declared.Label.{Label}
 use Rattle.stock.specs.declared.Stock.{Stock}
 use Rattle.stock.specs.Stock.{isCaller, nextOf, endOf, remaining, sumOf, entries, shareBlocks}
-use Rattle.stock.specs.Calls.{isUpTo, shareOf}
+use Rattle.stock.specs.Calls.{isCount, openingShare}
 use Rattle.stock_calls.specs.Inner.Steps.{starts, ends}
 use Rattle.stock.proofs.Entries.{entries-none, entries-more, entries-min, sum-suc, sum-one-more, sum-grows}
 
--- ---- is_up_to
+-- ---- is_count
 
-pub up-to-none : (most n : ℕ) → n < 1 → false ≡ isUpTo most n
+pub up-to-none : (most n : ℕ) → n < 1 → false ≡ isCount most n
 up-to-none most n h = rw (lt-leb 1 n h)
 
-pub up-to-some : (most n : ℕ) → 1 ≤ n → leb n most ≡ isUpTo most n
+pub up-to-some : (most n : ℕ) → 1 ≤ n → leb n most ≡ isCount most n
 up-to-some most n h = rw (le-leb 1 n h)
 
 -- ---- is_caller
@@ -58,7 +58,7 @@ module _ (s : Stock) (k : ℕ) (t : Bool) (told : t ≡ isCaller s k) where
     unfolding remaining
     holds-rest h = rw (← told, not-false t is)
 
--- ---- taken
+-- ---- accepted_draw
 
 module _ (s : Stock) (k : ℕ) (is : isCaller s k ≡ true) where
   pub taken-below : k < 8
@@ -85,19 +85,19 @@ is-caller s k t told n = sym told ∙ not-false t n
 
 pub starts-none : (shares : List ℕ) → replicate 8 0 ≡ starts 0 shares
 unfolding starts
-starts-none shares = entries-none (λ j. sumOf j (shareOf shares))
+starts-none shares = entries-none (λ j. sumOf j (openingShare shares))
 
 pub ends-none : (shares : List ℕ) → replicate 8 0 ≡ ends 0 shares
 unfolding ends
-ends-none shares = entries-none (λ j. sumOf (suc j) (shareOf shares))
+ends-none shares = entries-none (λ j. sumOf (suc j) (openingShare shares))
 
 module _ (shares : List ℕ) (k : ℕ) where
-  pub padded-more : {each : List ℕ} → length shares ≤ 8 → k < length shares → each ≡ entries k (shareOf shares)
-      → set each k (getD shares k 0) ≡ entries (k + 1) (shareOf shares)
-  padded-more most h e = rw e (entries-more (shareOf shares) k (getD shares k 0) (omega arith) refl)
+  pub padded-more : {each : List ℕ} → length shares ≤ 8 → k < length shares → each ≡ entries k (openingShare shares)
+      → set each k (getD shares k 0) ≡ entries (k + 1) (openingShare shares)
+  padded-more most h e = rw e (entries-more (openingShare shares) k (getD shares k 0) (omega arith) refl)
 
-  pub padded-done : {each : List ℕ} → k ≤ length shares → length shares ≤ k → each ≡ entries k (shareOf shares)
-      → each ≡ entries (length shares) (shareOf shares)
+  pub padded-done : {each : List ℕ} → k ≤ length shares → length shares ≤ k → each ≡ entries k (openingShare shares)
+      → each ≡ entries (length shares) (openingShare shares)
   padded-done h w e = let all : k ≡ length shares = omega arith in e ∙ rw all
 
   pub total-fits : (sum : ℕ) → k ≤ 8 → sum ≤ 4294967295 * k → Fits w32 (getD shares k 0) → Fits w64 (sum + getD shares k 0)
@@ -106,37 +106,37 @@ module _ (shares : List ℕ) (k : ℕ) where
   pub total-bound : (sum : ℕ) → sum ≤ 4294967295 * k → Fits w32 (getD shares k 0) → sum + getD shares k 0 ≤ 4294967295 * (k + 1)
   total-bound sum w e = omega arith
 
-  pub total-more : (sum : ℕ) → sum ≡ sumOf k (shareOf shares) → sum + getD shares k 0 ≡ sumOf (k + 1) (shareOf shares)
-  total-more sum e = rw (e, sum-one-more k (shareOf shares))
+  pub total-more : (sum : ℕ) → sum ≡ sumOf k (openingShare shares) → sum + getD shares k 0 ≡ sumOf (k + 1) (openingShare shares)
+  total-more sum e = rw (e, sum-one-more k (openingShare shares))
 
-  pub total-done : (sum : ℕ) → sum ≡ sumOf k (shareOf shares) → k ≤ 8 → 8 ≤ k → sum ≡ sumOf 8 (shareOf shares)
+  pub total-done : (sum : ℕ) → sum ≡ sumOf k (openingShare shares) → k ≤ 8 → 8 ≤ k → sum ≡ sumOf 8 (openingShare shares)
   total-done sum e h w = let all : k ≡ 8 = omega arith in e ∙ rw all
 
   module _ (callers n : ℕ) (counted : n ≡ min 8 callers) where
-    pub blocks-fit : (at : ℕ) → at ≡ sumOf k (shareOf shares) → k < n → sumOf 8 (shareOf shares) ≤ 32768 → Fits w32 (at + getD shares k 0)
+    pub blocks-fit : (at : ℕ) → at ≡ sumOf k (openingShare shares) → k < n → sumOf 8 (openingShare shares) ≤ 32768 → Fits w32 (at + getD shares k 0)
     blocks-fit at e h most =
-        let more = sum-one-more k (shareOf shares) in
-        let grows = sum-grows (k + 1) 8 (shareOf shares) (omega arith) in
+        let more = sum-one-more k (openingShare shares) in
+        let grows = sum-grows (k + 1) 8 (openingShare shares) (omega arith) in
         omega arith
 
-    pub next-more : {next : List ℕ} (at : ℕ) → k < n → next ≡ starts k shares → at ≡ sumOf k (shareOf shares)
+    pub next-more : {next : List ℕ} (at : ℕ) → k < n → next ≡ starts k shares → at ≡ sumOf k (openingShare shares)
         → set next k at ≡ starts (k + 1) shares
     unfolding starts
-    next-more at h e w = rw e (entries-more (λ j. sumOf j (shareOf shares)) k at (omega arith) w)
+    next-more at h e w = rw e (entries-more (λ j. sumOf j (openingShare shares)) k at (omega arith) w)
 
-    pub end-more : {end : List ℕ} (at : ℕ) → k < n → end ≡ ends k shares → at ≡ sumOf k (shareOf shares)
+    pub end-more : {end : List ℕ} (at : ℕ) → k < n → end ≡ ends k shares → at ≡ sumOf k (openingShare shares)
         → set end k (at + getD shares k 0) ≡ ends (k + 1) shares
     unfolding ends
     end-more at h e w =
         rw e
-        (entries-more (λ j. sumOf (suc j) (shareOf shares)) k (at + getD shares k 0) (omega arith) (rw (w, sum-suc k (shareOf shares))))
+        (entries-more (λ j. sumOf (suc j) (openingShare shares)) k (at + getD shares k 0) (omega arith) (rw (w, sum-suc k (openingShare shares))))
 
     pub blocks-done : (label : Label) {next end : List ℕ} → k ≤ n → n ≤ k → next ≡ starts k shares → end ≡ ends k shares
-        → record { callers = callers; label = label; next = next; end = end } ≡ shareBlocks label callers (shareOf shares)
+        → record { callers = callers; label = label; next = next; end = end } ≡ shareBlocks label callers (openingShare shares)
     unfolding shareBlocks starts ends
     blocks-done label h w e q =
         let all : k ≡ min 8 callers = omega arith in
-        rw (e, q, all, entries-min callers (λ j. sumOf j (shareOf shares)), entries-min callers (λ j. sumOf (suc j) (shareOf shares)))
+        rw (e, q, all, entries-min callers (λ j. sumOf j (openingShare shares)), entries-min callers (λ j. sumOf (suc j) (openingShare shares)))
 
 -- ---- rest, turn by turn
 

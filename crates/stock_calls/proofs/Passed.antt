@@ -9,7 +9,7 @@ use Rattle.answer.proofs.Faults.{at-most, above}
 use Rattle.stock.specs.declared.Label.{Label}
 use Rattle.stock.specs.declared.Stock.{Stock}
 use Rattle.stock.specs.Stock.{isCaller, remaining, sumOf, held, entries, shareBlocks}
-use Rattle.stock.specs.Calls.{withStock, shareOf}
+use Rattle.stock.specs.Calls.{withStock, openingShare}
 use Rattle.stock.proofs.Cases.{by-order}
 use Rattle.stock.proofs.Entries.{entries-in, entries-past}
 
@@ -18,7 +18,7 @@ holds-none-past : (s : Stock) (k : ℕ) → 8 ≤ k → remaining s k ≡ 0
 unfolding remaining isCaller
 holds-none-past s k h = rw (le-ltb k 8 h)
 
-rest-holds : (s : Stock) → shareOf (entries 8 (remaining s)) ≡ remaining s
+rest-holds : (s : Stock) → openingShare (entries 8 (remaining s)) ≡ remaining s
 rest-holds s =
     fun-ext λ k.
     by-order k 8
@@ -26,15 +26,15 @@ rest-holds s =
     (λ a. entries-past 8 (remaining s) k a ∙ sym (holds-none-past s k a))
 
 module _ (s : Stock) (each : List ℕ) (kept : each ≡ entries 8 (remaining s)) where
-  same-rest : shareOf each ≡ remaining s
-  same-rest = ap shareOf kept ∙ rest-holds s
+  same-rest : openingShare each ≡ remaining s
+  same-rest = ap openingShare kept ∙ rest-holds s
 
-  pub pass-blocks : (l : Label) (b : Stock) → b ≡ shareBlocks l (s .callers) (shareOf each)
+  pub pass-blocks : (l : Label) (b : Stock) → b ≡ shareBlocks l (s .callers) (openingShare each)
       → withStock b 0 ≡ withStock (shareBlocks l (s .callers) (remaining s)) 0
   pass-blocks l b e = rw (e, same-rest)
 
   -- the sum of what is left is what is held
-  module _ (outputs sum : ℕ) (summed : sum ≡ sumOf 8 (shareOf each)) where
+  module _ (outputs sum : ℕ) (summed : sum ≡ sumOf 8 (openingShare each)) where
     sum-held : sum ≡ held s
     unfolding held
     sum-held = summed ∙ ap (sumOf 8) same-rest

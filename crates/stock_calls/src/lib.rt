@@ -3,7 +3,7 @@ ghost use mathlib.Core.Path.{_≡_};
 ghost use mathlib.Core.Bool.{true};
 ghost use Prim.Native.Nat.{_≤_};
 ghost use Rattle.stock.specs.Calls.{stockOpening, openStock, draw as drawStock, preview as previewStock, pass as passStock};
-ghost use Rattle.stock.specs.Calls.{noCallers, withStock, refusedDraw, takenDraw};
+ghost use Rattle.stock.specs.Calls.{noCallers, withStock, refusedDraw, acceptedDraw};
 ghost use Rattle.stock.specs.Stock.{isCaller, remaining};
 
 mod labels;
@@ -20,7 +20,7 @@ use labels::is_same;
 use shares::blocks_of;
 use shares::holding;
 use shares::is_caller;
-use shares::is_up_to;
+use shares::is_count;
 use shares::padded;
 use shares::rest;
 use shares::total;
@@ -40,10 +40,10 @@ const MOST_OUTPUTS: usize = 32768;
 pub fn open(label: Label, outputs: usize, shares: &[u32]) -> OpenedStock
     ensures { λ r. ⌜ stockOpening r (now (shares .exit)) ≡ openStock label outputs (now (shares .entry)) ⌝ }
 {
-    if !is_up_to(MOST_CALLERS, shares.len()) {
+    if !is_count(MOST_CALLERS, shares.len()) {
         return refused_opening(BAD_SIZE);
     }
-    if !is_up_to(MOST_OUTPUTS, outputs) {
+    if !is_count(MOST_OUTPUTS, outputs) {
         return refused_opening(BAD_SIZE);
     }
     let each = padded(shares);
@@ -81,13 +81,13 @@ pub fn draw(stock: Stock, label: Label, caller: usize, count: usize) -> Drawn
     if count > holding(stock, caller) as usize {
         return refused_draw(stock, SHARE_SPENT);
     }
-    taken(stock, caller, count)
+    accepted_draw(stock, caller, count)
 }
 
 // An accepted draw: a window from the caller's next index on, which is raised by the count.
-fn taken(stock: Stock, caller: usize, count: usize) -> Drawn
+fn accepted_draw(stock: Stock, caller: usize, count: usize) -> Drawn
     requires { ⌜ (isCaller stock caller ≡ true) × (count ≤ remaining stock caller) ⌝ }
-    ensures { λ r. ⌜ r ≡ takenDraw stock caller count ⌝ }
+    ensures { λ r. ⌜ r ≡ acceptedDraw stock caller count ⌝ }
 {
     let first = stock.next[caller];
     let mut after = stock;
@@ -130,7 +130,7 @@ pub fn preview(stock: Stock, label: Label, caller: usize, count: usize) -> Previ
 pub fn pass(stock: Stock, label: Label, outputs: usize) -> OpenedStock
     ensures { λ r. ⌜ r ≡ passStock stock label outputs ⌝ }
 {
-    if !is_up_to(MOST_OUTPUTS, outputs) {
+    if !is_count(MOST_OUTPUTS, outputs) {
         return refused_passage(stock, BAD_SIZE);
     }
     let used = stock.label;

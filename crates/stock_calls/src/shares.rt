@@ -3,13 +3,13 @@ ghost use mathlib.Core.Path.{_≡_};
 ghost use Prim.Native.Nat.{_≤_, min};
 ghost use lib.ListN.{length};
 ghost use Rattle.stock.specs.Stock.{isCaller, remaining, sumOf, entries, shareBlocks};
-ghost use Rattle.stock.specs.Calls.{isUpTo, shareOf};
+ghost use Rattle.stock.specs.Calls.{isCount, openingShare};
 use stock::Label;
 use stock::Stock;
 
 // Whether a number is 1 to a largest one.
-pub fn is_up_to(most: usize, n: usize) -> bool
-    ensures { λ r. ⌜ r ≡ isUpTo most n ⌝ }
+pub fn is_count(most: usize, n: usize) -> bool
+    ensures { λ r. ⌜ r ≡ isCount most n ⌝ }
 {
     if n < 1 {
         return false;
@@ -20,7 +20,7 @@ pub fn is_up_to(most: usize, n: usize) -> bool
 // The shares of a slice, with zeros past them.
 pub fn padded(shares: &[u32]) -> [u32; 8]
     requires { ⌜ length (now shares) ≤ 8 ⌝ }
-    ensures { λ r. ⌜ r ≡ entries (length (now (shares .entry))) (shareOf (now (shares .entry))) ⌝ }
+    ensures { λ r. ⌜ r ≡ entries (length (now (shares .entry))) (openingShare (now (shares .entry))) ⌝ }
 {
     let mut each = [0u32; 8];
     let mut k: usize = 0;
@@ -33,7 +33,7 @@ pub fn padded(shares: &[u32]) -> [u32; 8]
 
 // The sum of eight shares.
 pub fn total(shares: [u32; 8]) -> usize
-    ensures { λ r. ⌜ r ≡ sumOf 8 (shareOf shares) ⌝ }
+    ensures { λ r. ⌜ r ≡ sumOf 8 (openingShare shares) ⌝ }
 {
     let mut sum: usize = 0;
     let mut k: usize = 0;
@@ -56,8 +56,8 @@ fn at_most_eight(callers: u32) -> usize
 
 // Consecutive blocks of the outputs, from index 0 in caller order.
 pub fn blocks_of(label: Label, callers: u32, shares: [u32; 8]) -> Stock
-    requires { ⌜ sumOf 8 (shareOf shares) ≤ 32768 ⌝ }
-    ensures { λ r. ⌜ r ≡ shareBlocks label callers (shareOf shares) ⌝ }
+    requires { ⌜ sumOf 8 (openingShare shares) ≤ 32768 ⌝ }
+    ensures { λ r. ⌜ r ≡ shareBlocks label callers (openingShare shares) ⌝ }
 {
     let n = at_most_eight(callers);
     let mut next = [0u32; 8];

@@ -14,7 +14,7 @@ use Rattle.tree.specs.Tree.{leafAt, listed, others, siblings}
 use Rattle.tree.specs.Columns.{columnsBytes, blocksBytes}
 use Rattle.tree.specs.Expanded.{Walk, walk, walked}
 use Rattle.tree.specs.Inner.Branches.{IsBranch, IsPunctured}
-use Rattle.tree_walk.specs.Inner.Levels.{IsLevel, childrenFrom, childrenPut, twin, twinPut, frontPut, levelPassed}
+use Rattle.tree_walk.specs.Inner.Levels.{IsLevel, childrenFrom, childrenPut, twin, twinPut, beforePut, levelPassed}
 use Rattle.tree.specs.declared.punctured.Punctured.{Punctured}
 use Rattle.tree.proofs.Paths.{digit, digit-below}
 use Rattle.tree.proofs.Laws.{leaf-none, leaf-suc, siblings-none, siblings-suc, length-others}
@@ -194,8 +194,8 @@ module _ (child : ℕ → List (List ℕ) → List (List ℕ)) (s : List (List �
   -- the children before the pair, and the twin
   pub front-put : (digit : ℕ) {r : List (List ℕ)} {l₁ l₂ : List ℕ}
       → walk r l₂ ≡ twinPut child s digit (at + 32 * (digit / 2)) l₁ → l₁ ≡ childrenPut child s 0 (2 * (digit / 2)) at l
-      → walk r l₂ ≡ frontPut child s digit at l
-  unfolding twinPut frontPut childrenPut
+      → walk r l₂ ≡ beforePut child s digit at l
+  unfolding twinPut beforePut childrenPut
   front-put digit {r} e₂ e₁ =
       e₂
       ∙ ap (walk (child digit s))
@@ -209,10 +209,10 @@ module _ (child : ℕ → List (List ℕ) → List (List ℕ)) (s : List (List �
   -- a level: those, and the children after the pair
   pub level-passed : (g digit after : ℕ) {r : List (List ℕ)} {l₁ l₂ : List ℕ}
       → l₂ ≡ childrenPut child s (2 * (digit / 2) + 2) (2 * after) (at + 32 * (digit / 2) + 16) l₁
-      → walk r l₁ ≡ frontPut child s digit at l
+      → walk r l₁ ≡ beforePut child s digit at l
       → 2 ^ g ≡ 2 * (digit / 2) + (2 + 2 * after)
       → walk r l₂ ≡ levelPassed (2 ^ g) child s digit at l
-  unfolding levelPassed frontPut childrenPut
+  unfolding levelPassed beforePut childrenPut
   level-passed g digit n {r} {l₁} e₂ e₁ total =
       ap₂ walk (ap (λ w. w .leaf) e₁)
       (e₂

@@ -7,7 +7,7 @@ ghost use Rattle.tree.specs.Child.{childBy};
 ghost use Rattle.tree.specs.Inner.Keys.{keysFor};
 ghost use Rattle.tree.specs.Expanded.{walk, walked};
 ghost use Rattle.tree.specs.Inner.Branches.{IsBranch, IsPunctured};
-ghost use Rattle.tree_walk.specs.Inner.Levels.{IsLevel, childrenPut, twinPut, frontPut, levelPassed};
+ghost use Rattle.tree_walk.specs.Inner.Levels.{IsLevel, childrenPut, twinPut, beforePut, levelPassed};
 ghost use Rattle.tree.specs.Inner.Nodes.{nodeOf};
 use crate::columns::put_node;
 use crate::node::children;
@@ -15,26 +15,26 @@ use crate::powers::power;
 use field::Block;
 use tree::Punctured;
 
-// Writes so many pairs of children of s, from child `first` on, from a place on.
+// Writes so many pairs of children of s, from child `from` on, from a place on.
 fn put_children(
     tables: &[u64; 1536],
     keys: &[[u64; 40]; 8],
     s: Block,
-    first: usize,
+    from: usize,
     pairs: usize,
     at: usize,
     out: &mut [u8],
 )
-    requires { ⌜ RoundTables (now tables) × (first + 2 * pairs ≤ 8) × (at + 32 * pairs ≤ length (now out)) ⌝ }
-    ensures { λ _. ⌜ now (out .exit) ≡ childrenPut (childBy (keysFor (now (keys .entry)))) (nodeOf s) first (2 * pairs) at (now (out .entry)) ⌝ }
+    requires { ⌜ RoundTables (now tables) × (from + 2 * pairs ≤ 8) × (at + 32 * pairs ≤ length (now out)) ⌝ }
+    ensures { λ _. ⌜ now (out .exit) ≡ childrenPut (childBy (keysFor (now (keys .entry)))) (nodeOf s) from (2 * pairs) at (now (out .entry)) ⌝ }
 {
     if pairs == 0 {
         return;
     }
-    let both = children(tables, keys, first, s);
-    put_node(out, at, both.first);
-    put_node(out, at + 16, both.second);
-    put_children(tables, keys, s, first + 2, pairs - 1, at + 32, out);
+    let both = children(tables, keys, from, s);
+    put_node(out, at, both.one);
+    put_node(out, at + 16, both.other);
+    put_children(tables, keys, s, from + 2, pairs - 1, at + 32, out);
 }
 
 // The child of s that a digit names; writes the other of its pair from a place on.
@@ -51,16 +51,16 @@ fn put_twin(
 {
     let both = children(tables, keys, 2 * (digit / 2), s);
     if digit % 2 == 0 {
-        put_node(out, at, both.second);
-        both.first
+        put_node(out, at, both.other);
+        both.one
     } else {
-        put_node(out, at, both.first);
-        both.second
+        put_node(out, at, both.one);
+        both.other
     }
 }
 
 // The child of s that a digit names; writes the children before its pair and the other of its pair from a place on.
-fn put_front(
+fn put_before(
     tables: &[u64; 1536],
     keys: &[[u64; 40]; 8],
     s: Block,
@@ -69,7 +69,7 @@ fn put_front(
     out: &mut [u8],
 ) -> Block
     requires { ⌜ RoundTables (now tables) × (digit < 8) × (at + 32 * (digit / 2) + 16 ≤ length (now out)) ⌝ }
-    ensures { λ r. ⌜ walk (nodeOf r) (now (out .exit)) ≡ frontPut (childBy (keysFor (now (keys .entry)))) (nodeOf s) digit at (now (out .entry)) ⌝ }
+    ensures { λ r. ⌜ walk (nodeOf r) (now (out .exit)) ≡ beforePut (childBy (keysFor (now (keys .entry)))) (nodeOf s) digit at (now (out .entry)) ⌝ }
 {
     put_children(tables, keys, s, 0, digit / 2, at, out);
     put_twin(tables, keys, s, digit, at + 32 * (digit / 2), out)
@@ -98,7 +98,7 @@ fn pass_level(
     ensures { λ r. ⌜ walk (nodeOf r) (now (out .exit)) ≡ levelPassed (2 ^ «branch_bits») (childBy (keysFor (now (keys .entry)))) (nodeOf s) digit at (now (out .entry)) ⌝ }
 {
     let pair = digit / 2;
-    let next = put_front(tables, keys, s, digit, at, out);
+    let next = put_before(tables, keys, s, digit, at, out);
     let after = pairs_after(branch_bits, digit);
     put_children(
         tables,

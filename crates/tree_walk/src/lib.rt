@@ -5,8 +5,8 @@ mod leaf;
 mod node;
 mod powers;
 
-pub use columns::node_at;
 pub use columns::columns_at;
+pub use columns::node_at;
 pub use leaf::walk;
 pub use node::child;
 pub use node::child_keys;

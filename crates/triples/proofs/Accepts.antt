@@ -16,13 +16,13 @@ pub accepts : Accepts
 unfolding triples
 accepts l = outcome-accepts _ _ _ _ _ refl
 
-module _ (choices pads messages : List ℕ) where
+module _ (choices pads padPairs : List ℕ) where
   -- the length that is returned is a word
-  pub triples-fit : (room n : ℕ) → n ≡ firstFault (triplesTests choices pads messages room) → n ≡ 0 → Fits w64 room
+  pub triples-fit : (room n : ℕ) → n ≡ firstFault (triplesTests choices pads padPairs room) → n ≡ 0 → Fits w64 room
       → Fits w64 (3 * length choices)
   triples-fit room n e z f = omega (arith, admitted-by _ n refl e z .all)
 
   -- what is lent, with the buffer as the loop leaves it
   pub triples-left : (b b′ : List ℕ) (written : ℕ) → b ≡ b′
-      → wrote written (lentTriples choices pads messages b) ≡ wrote written (lentTriples choices pads messages b′)
+      → wrote written (lentTriples choices pads padPairs b) ≡ wrote written (lentTriples choices pads padPairs b′)
   triples-left b b′ written e = rw e

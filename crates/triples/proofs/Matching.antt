@@ -1,4 +1,4 @@
--- Both ends' triples match: each pad bit is the far end's message bit that the choice names, and for all bits so related the
+-- Both ends' triples match: each pad bit is the far end's pad bit that the choice names, and for all bits so related the
 -- third bits combined are the AND of the others, by one computed test.
 use mathlib.Core.Path.{_≡_, refl, ap, _∙_}
 use mathlib.Core.Bool.{Bool, true, _&&_}
@@ -18,7 +18,7 @@ use Rattle.algebra.proofs.Tests.{and-left, and-right}
 use Rattle.messages.specs.Opening.{NamedAt}
 use Rattle.algebra.proofs.Written.{taken-length, taken-word}
 use Rattle.messages.proofs.Opening.{named-byte}
-use Rattle.triples.specs.Triple.{Triple, tripleBytes, tripleFrom, messageBit, padBit, tripleOf}
+use Rattle.triples.specs.Triple.{Triple, tripleBytes, tripleFrom, padPairBit, padBit, tripleOf}
 use Rattle.triples.specs.Call.{TriplesLent, triples}
 use Rattle.triples.specs.Matching.{MatchingAt, Matching, Match, ZeroOrOne, triplesOf}
 use Rattle.triples.proofs.Accepts.{accepts}
@@ -39,7 +39,7 @@ abbrev named : ℕ → ℕ → ℕ → ℕ
 named zero x y = x
 named (suc n) x y = y
 
--- the triples of both ends, where each pad bit is that of the far end's message that the choice names
+-- the triples of both ends, where each pad bit is that of the far end's pad that the choice names
 abbrev near : ℕ → ℕ → ℕ → ℕ → ℕ → ℕ → Triple
 near a a′ r q r′ q′ = tripleFrom a (named a r′ q′) r q
 
@@ -47,7 +47,7 @@ abbrev far : ℕ → ℕ → ℕ → ℕ → ℕ → ℕ → Triple
 far a a′ r q r′ q′ = tripleFrom a′ (named a′ r q) r′ q′
 
 abbrev matches : Triple → Triple → Bool
-matches t t′ = eqb (bitXor (t .third) (t′ .third)) (bitAnd (bitXor (t .first) (t′ .first)) (bitXor (t .second) (t′ .second)))
+matches t t′ = eqb (bitXor (t .bit3) (t′ .bit3)) (bitAnd (bitXor (t .bit1) (t′ .bit1)) (bitXor (t .bit2) (t′ .bit2)))
 
 abbrev test : ℕ → ℕ → ℕ → ℕ → ℕ → ℕ → Bool
 test a a′ r q r′ q′ = matches (near a a′ r q r′ q′) (far a a′ r q r′ q′)
@@ -70,7 +70,7 @@ bits-match a a′ r q r′ q′ ha ha′ hr hq hr′ hq′ =
 
 -- triples are equal by their bits
 pub triple-eq : {a b c x y z : ℕ} → a ≡ x → b ≡ y → c ≡ z
-    → _≡_ {A = Triple} (record { first = a; second = b; third = c }) (record { first = x; second = y; third = z })
+    → _≡_ {A = Triple} (record { bit1 = a; bit2 = b; bit3 = c }) (record { bit1 = x; bit2 = y; bit3 = z })
 triple-eq p q r = cc
 
 -- each byte of a triple of bits is 0 or 1
@@ -91,25 +91,25 @@ bits-of a h r q ha hh hr hq =
 
 -- ---- the bits of output k
 
--- the pad bit is that of the message that the choice names
-pad-bit : (choices pads messages : List ℕ) (k : ℕ) → NamedAt choices pads messages k
-    → padBit pads k ≡ named (getD choices k 0) (messageBit messages k 0) (messageBit messages k 1)
-pad-bit choices pads messages k N =
+-- the pad bit is that of the far end's pad that the choice names
+pad-bit : (choices pads padPairs : List ℕ) (k : ℕ) → NamedAt choices pads padPairs k
+    → padBit pads k ≡ named (getD choices k 0) (padPairBit padPairs k 0) (padPairBit padPairs k 1)
+pad-bit choices pads padPairs k N =
     let s : 16 * k ≡ 16 * k + 0 = omega arith in
     ap (λ (n : ℕ). getD pads n 0 % 2) s
-    ∙ ap (λ (n : ℕ). n % 2) (named-byte choices pads messages k N 0 (omega arith))
+    ∙ ap (λ (n : ℕ). n % 2) (named-byte choices pads padPairs k N 0 (omega arith))
     ∙ by-choice (getD choices k 0) (N .bit)
   where
-    by-choice : (u : ℕ) → u ≤ 1 → getD messages (32 * k + 16 * u + 0) 0 % 2 ≡ named u (messageBit messages k 0) (messageBit messages k 1)
-    by-choice zero h = let z : 32 * k + 16 * 0 + 0 ≡ 32 * k + 16 * 0 = omega arith in ap (λ (n : ℕ). getD messages n 0 % 2) z
-    by-choice (suc zero) h = let z : 32 * k + 16 * 1 + 0 ≡ 32 * k + 16 * 1 = omega arith in ap (λ (n : ℕ). getD messages n 0 % 2) z
+    by-choice : (u : ℕ) → u ≤ 1 → getD padPairs (32 * k + 16 * u + 0) 0 % 2 ≡ named u (padPairBit padPairs k 0) (padPairBit padPairs k 1)
+    by-choice zero h = let z : 32 * k + 16 * 0 + 0 ≡ 32 * k + 16 * 0 = omega arith in ap (λ (n : ℕ). getD padPairs n 0 % 2) z
+    by-choice (suc zero) h = let z : 32 * k + 16 * 1 + 0 ≡ 32 * k + 16 * 1 = omega arith in ap (λ (n : ℕ). getD padPairs n 0 % 2) z
     by-choice (suc (suc u)) h = absurd (omega arith)
 
 -- ---- the bytes that an accepted call wrote
 
 module _ (l : TriplesLent) (e : triples l .number ≡ 0) where
   abbrev front : List ℕ
-  front = take (length (l .choices) * 3) (over tripleBytes (length (l .choices)) (tripleOf (l .choices) (l .pads) (l .messages)) (l .triples))
+  front = take (length (l .choices) * 3) (over tripleBytes (length (l .choices)) (tripleOf (l .choices) (l .pads) (l .padPairs)) (l .triples))
 
   written-is : triplesOf l ≡ front
   unfolding triples
@@ -118,13 +118,13 @@ module _ (l : TriplesLent) (e : triples l .number ≡ 0) where
       ∙ rw (mul-comm 3 (length (l .choices)))
 
   byte-is : (k m : ℕ) → k < length (l .choices) → m < 3
-      → getD (triplesOf l) (k * 3 + m) 0 ≡ getD (tripleBytes .words (tripleOf (l .choices) (l .pads) (l .messages) k)) m 0
+      → getD (triplesOf l) (k * 3 + m) 0 ≡ getD (tripleBytes .words (tripleOf (l .choices) (l .pads) (l .padPairs) k)) m 0
   byte-is k m h i =
       ap (λ (s : List ℕ). getD s (k * 3 + m) 0) written-is
-      ∙ taken-word tripleBytes wide-triple (length (l .choices)) (tripleOf (l .choices) (l .pads) (l .messages)) (l .triples) k m h i
+      ∙ taken-word tripleBytes wide-triple (length (l .choices)) (tripleOf (l .choices) (l .pads) (l .padPairs)) (l .triples) k m h i
 
   -- triple k
-  triple-is : (k : ℕ) → k < length (l .choices) → at tripleBytes (triplesOf l) k ≡ tripleOf (l .choices) (l .pads) (l .messages) k
+  triple-is : (k : ℕ) → k < length (l .choices) → at tripleBytes (triplesOf l) k ≡ tripleOf (l .choices) (l .pads) (l .padPairs) k
   triple-is k h =
       let z : k * 3 ≡ k * 3 + 0 = omega arith in
       triple-eq (ap (λ (n : ℕ). getD (triplesOf l) n 0) z ∙ byte-is k 0 h (omega arith)) (byte-is k 1 h (omega arith)) (byte-is k 2 h (omega arith))
@@ -133,10 +133,10 @@ module _ (l : TriplesLent) (e : triples l .number ≡ 0) where
   choice-bits = search (accepts l .1 e)
 
   -- its bytes are 0 or 1
-  byte-bit : (k m : ℕ) → k < length (l .choices) → getD (tripleBytes .words (tripleOf (l .choices) (l .pads) (l .messages) k)) m 0 ≤ 1
+  byte-bit : (k m : ℕ) → k < length (l .choices) → getD (tripleBytes .words (tripleOf (l .choices) (l .pads) (l .padPairs) k)) m 0 ≤ 1
   unfolding tripleOf
   byte-bit k m h =
-      bits-of (getD (l .choices) k 0) (padBit (l .pads) k) (messageBit (l .messages) k 0) (messageBit (l .messages) k 1)
+      bits-of (getD (l .choices) k 0) (padBit (l .pads) k) (padPairBit (l .padPairs) k 0) (padPairBit (l .padPairs) k 1)
       (choice-bits k) (omega arith) (omega arith) (omega arith) m
 
 pub zero-or-one : ZeroOrOne
@@ -156,19 +156,19 @@ unfolding tripleOf
 match l l′ e e′ k h h′ N N′ =
     let a = getD (l .choices) k 0 in
     let a′ = getD (l′ .choices) k 0 in
-    let r = messageBit (l .messages) k 0 in
-    let q = messageBit (l .messages) k 1 in
-    let r′ = messageBit (l′ .messages) k 0 in
-    let q′ = messageBit (l′ .messages) k 1 in
+    let r = padPairBit (l .padPairs) k 0 in
+    let q = padPairBit (l .padPairs) k 1 in
+    let r′ = padPairBit (l′ .padPairs) k 0 in
+    let q′ = padPairBit (l′ .padPairs) k 1 in
     match-at (at tripleBytes (triplesOf l) k) (at tripleBytes (triplesOf l′) k) (near a a′ r q r′ q′) (far a a′ r q r′ q′)
-    (triple-is l e k h ∙ ap (λ (p : ℕ). tripleFrom a p r q) (pad-bit (l .choices) (l .pads) (l′ .messages) k N))
-    (triple-is l′ e′ k h′ ∙ ap (λ (p : ℕ). tripleFrom a′ p r′ q′) (pad-bit (l′ .choices) (l′ .pads) (l .messages) k N′))
+    (triple-is l e k h ∙ ap (λ (p : ℕ). tripleFrom a p r q) (pad-bit (l .choices) (l .pads) (l′ .padPairs) k N))
+    (triple-is l′ e′ k h′ ∙ ap (λ (p : ℕ). tripleFrom a′ p r′ q′) (pad-bit (l′ .choices) (l′ .pads) (l .padPairs) k N′))
     (bits-match a a′ r q r′ q′ (N .bit) (N′ .bit) (omega arith) (omega arith) (omega arith) (omega arith))
 
 -- for equally many outputs, all of them
 pub match-all : (l l′ : TriplesLent) → length (l .choices) ≡ length (l′ .choices) → triples l .number ≡ 0 → triples l′ .number ≡ 0
-    → ((k : ℕ) → k < length (l .choices) → NamedAt (l .choices) (l .pads) (l′ .messages) k)
-    → ((k : ℕ) → k < length (l .choices) → NamedAt (l′ .choices) (l′ .pads) (l .messages) k)
+    → ((k : ℕ) → k < length (l .choices) → NamedAt (l .choices) (l .pads) (l′ .padPairs) k)
+    → ((k : ℕ) → k < length (l .choices) → NamedAt (l′ .choices) (l′ .pads) (l .padPairs) k)
     → Matching (length (l .choices)) (triplesOf l) (triplesOf l′)
 match-all l l′ equal e e′ N N′ k h = match l l′ e e′ k h (omega arith) (N k h) (N′ k h)
 
@@ -178,7 +178,7 @@ match-all l l′ equal e e′ N N′ k h = match l l′ e e′ k h (omega arith)
 pub length-triples : (l : TriplesLent) → triples l .number ≡ 0 → length (triplesOf l) ≡ length (l .choices) * 3
 length-triples l e =
     ap length (written-is l e)
-    ∙ taken-length tripleBytes wide-triple (length (l .choices)) (tripleOf (l .choices) (l .pads) (l .messages)) (l .triples)
+    ∙ taken-length tripleBytes wide-triple (length (l .choices)) (tripleOf (l .choices) (l .pads) (l .padPairs)) (l .triples)
     (omega (arith, accepts l .1 e .all))
 
 -- the triples of the front of a list, and those past it

@@ -11,21 +11,21 @@ use Rattle.answer.specs.Tests.{Test, _is_, _atMost_, allAtMost, _or_, AllMet}
 use Rattle.answer.specs.Outcome.{Outcome, answered, refusedOne, wrote}
 use Rattle.triples.specs.Triple.{tripleBytes, tripleOf}
 
--- what is lent: the choices and the pads of the first pairing, the messages of the second, and the output buffer
+-- what is lent: the choices and the pads of the first pairing, the pairs of pads of the second, and the output buffer
 pub record TriplesLent : Type 0 where
   pub choices : List ℕ
   pub pads : List ℕ
-  pub messages : List ℕ
+  pub padPairs : List ℕ
   pub triples : List ℕ
 
 abbrev pub lentTriples : List ℕ → List ℕ → List ℕ → List ℕ → TriplesLent
-lentTriples choices pads messages triples = record { choices = choices; pads = pads; messages = messages; triples = triples }
+lentTriples choices pads padPairs triples = record { choices = choices; pads = pads; padPairs = padPairs; triples = triples }
 
--- its tests: for c choices, a byte each, 16 c bytes of pads and 32 c of messages, and room is asked for 3 c
+-- its tests: for c choices, a byte each, 16 c bytes of pads and 32 c of pairs of pads, and room is asked for 3 c
 abbrev pub triplesTests : List ℕ → List ℕ → List ℕ → ℕ → List Test
-triplesTests choices pads messages room =
+triplesTests choices pads padPairs room =
     length pads is 16 * length choices or badLength
-    ∷ length messages is 32 * length choices or badLength
+    ∷ length padPairs is 32 * length choices or badLength
     ∷ 3 * length choices atMost room or bufferShort
     ∷ allAtMost 1 choices or notElement
     ∷ []
@@ -33,11 +33,11 @@ triplesTests choices pads messages room =
 -- the call: three bytes an output
 unfoldable pub triples : TriplesLent → Outcome ℕ TriplesLent
 triples l =
-    answered (triplesTests (l .choices) (l .pads) (l .messages) (length (l .triples))) (refusedOne l)
+    answered (triplesTests (l .choices) (l .pads) (l .padPairs) (length (l .triples))) (refusedOne l)
     (wrote (3 * length (l .choices))
-    (lentTriples (l .choices) (l .pads) (l .messages)
-    (over tripleBytes (length (l .choices)) (tripleOf (l .choices) (l .pads) (l .messages)) (l .triples))))
+    (lentTriples (l .choices) (l .pads) (l .padPairs)
+    (over tripleBytes (length (l .choices)) (tripleOf (l .choices) (l .pads) (l .padPairs)) (l .triples))))
 
 -- the call returns 0 exactly if its tests are all met
 abbrev pub Accepts : Type 0
-Accepts = (l : TriplesLent) → AllMet (triplesTests (l .choices) (l .pads) (l .messages) (length (l .triples))) ↔ triples l .number ≡ 0
+Accepts = (l : TriplesLent) → AllMet (triplesTests (l .choices) (l .pads) (l .padPairs) (length (l .triples))) ↔ triples l .number ≡ 0

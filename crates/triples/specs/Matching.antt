@@ -8,13 +8,13 @@ use lib.Bits.{bitAnd, bitXor}
 use lib.ListN.{length, take}
 use Rattle.algebra.specs.Coding.{at}
 use Rattle.messages.specs.Opening.{NamedAt}
-use Rattle.answer.specs.Bytes.{Bits}
+use Rattle.answer.specs.Bytes.{AreBits}
 use Rattle.triples.specs.Triple.{Triple, tripleBytes}
 use Rattle.triples.specs.Call.{TriplesLent, triples}
 
 -- two triples match
 abbrev pub MatchingAt : Triple → Triple → Type 0
-MatchingAt t t′ = bitXor (t .third) (t′ .third) ≡ bitAnd (bitXor (t .first) (t′ .first)) (bitXor (t .second) (t′ .second))
+MatchingAt t t′ = bitXor (t .bit3) (t′ .bit3) ≡ bitAnd (bitXor (t .bit1) (t′ .bit1)) (bitXor (t .bit2) (t′ .bit2))
 
 -- the first so many triples of two lists of bytes match
 abbrev pub Matching : ℕ → List ℕ → List ℕ → Type 0
@@ -26,7 +26,7 @@ triplesOf l = take (triples l .written) (triples l .lent .triples)
 
 -- a triple is written as three bytes, 0 or 1
 abbrev pub ZeroOrOne : Type 0
-ZeroOrOne = (l : TriplesLent) → triples l .number ≡ 0 → Bits (3 * length (l .choices)) (triplesOf l)
+ZeroOrOne = (l : TriplesLent) → triples l .number ≡ 0 → AreBits (3 * length (l .choices)) (triplesOf l)
 
 -- in the bytes that both ends' accepted calls write, the triples at a place of both match, if in each pairing the choice there
 -- names the noise end's pad among the scalar end's: one end is the noise end of the first pairing and the scalar end of the
@@ -35,6 +35,6 @@ abbrev pub Match : Type 0
 Match =
     (l l′ : TriplesLent) → triples l .number ≡ 0 → triples l′ .number ≡ 0
     → (k : ℕ) → k < length (l .choices) → k < length (l′ .choices)
-    → NamedAt (l .choices) (l .pads) (l′ .messages) k
-    → NamedAt (l′ .choices) (l′ .pads) (l .messages) k
+    → NamedAt (l .choices) (l .pads) (l′ .padPairs) k
+    → NamedAt (l′ .choices) (l′ .pads) (l .padPairs) k
     → MatchingAt (at tripleBytes (triplesOf l) k) (at tripleBytes (triplesOf l′) k)

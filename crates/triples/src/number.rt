@@ -10,13 +10,13 @@ use answer::is_short;
 use answer::is_times;
 
 // The number for a buffer of `room` bytes.
-pub fn triples_number(choices: &[u8], pads: &[u8], messages: &[u8], room: usize) -> u32
-    ensures { λ r. ⌜ r ≡ firstFault (triplesTests (now (choices .entry)) (now (pads .entry)) (now (messages .entry)) room) ⌝ }
+pub fn triples_number(choices: &[u8], pads: &[u8], pad_pairs: &[u8], room: usize) -> u32
+    ensures { λ r. ⌜ r ≡ firstFault (triplesTests (now (choices .entry)) (now (pads .entry)) (now («pad_pairs» .entry)) room) ⌝ }
 {
     if !is_times(pads.len(), 16, choices.len()) {
         return BAD_LENGTH;
     }
-    if !is_times(messages.len(), 32, choices.len()) {
+    if !is_times(pad_pairs.len(), 32, choices.len()) {
         return BAD_LENGTH;
     }
     if is_short(room, 3, choices.len()) {

@@ -14,7 +14,7 @@ use Rattle.answer.proofs.Faults.{is-so, at-most}
 use Rattle.code.specs.declared.Window.{Window}
 use Rattle.field.specs.Kind.{elementWords}
 use Rattle.field.proofs.Widths.{width-most}
-use Rattle.record.specs.declared.Front.{Front}
+use Rattle.record.specs.declared.Layout.{Layout}
 use Rattle.record.specs.Answer.{headOf}
 use Rattle.window.specs.Inner.Numbers.{lengthTests, elementTests}
 use Rattle.window.specs.Inner.Outputs.{rowsOf}
@@ -29,7 +29,7 @@ count-fits field {width} we first count within =
     record { fits = omega arith }
 
 -- so do N elements
-pub vector-fits : (f : Front) {width : ℕ} → width ≡ elementWords (f .field) → f .depth ≤ 16 → {size : ℕ} → size ≡ 2 ^ f .depth → Fits w64 (size * width)
+pub vector-fits : (f : Layout) {width : ℕ} → width ≡ elementWords (f .field) → f .depth ≤ 16 → {size : ℕ} → size ≡ 2 ^ f .depth → Fits w64 (size * width)
 vector-fits f {width} we depth {size} se =
     let z : 2 ^ f .depth ≤ 65536 = pow-mono depth in
     let m : size * width ≤ 65536 * 2 = rw (se, we) (mul-le-mul z (width-most (f .field))) in
@@ -41,7 +41,7 @@ pub room-lacks : (field count room : ℕ) {width : ℕ} → width ≡ elementWor
 room-lacks field count room {width} we q = q ∙ rw (mul-comm width count, we)
 
 -- a vector, a window and a buffer that pass all three tests fit each other
-pub passed-fits : (width : ℕ) (s : List ℕ) (f : Front) (vector : ℕ) (w : Window) (room pairs : ℕ) → Sizes s (headOf s f) (f .body)
+pub passed-fits : (width : ℕ) (s : List ℕ) (f : Layout) (vector : ℕ) (w : Window) (room pairs : ℕ) → Sizes s (headOf s f) (f .body)
     → vector ≡ 2 ^ f .depth * width → w .first + w .count ≤ f .outputs → w .count * width ≤ room
     → Fitting width (rowsOf f w pairs) vector room
 passed-fits width s f vector w room pairs sizes whole within enough =
@@ -55,14 +55,14 @@ passed-fits width s f vector w room pairs sizes whole within enough =
     }
 
 -- a word of u from every row, and from none
-pub all-pairs : (f : Front) (w : Window) {noise room : ℕ} → Fitting 1 (rowsOf f w (w .count)) noise room → NoiseFitting (rowsOf f w (w .count)) noise room
+pub all-pairs : (f : Layout) (w : Window) {noise room : ℕ} → Fitting 1 (rowsOf f w (w .count)) noise room → NoiseFitting (rowsOf f w (w .count)) noise room
 all-pairs f w fits = record { testing = record { few = omega arith; all = λ some. (refl, fits .testing) }; enough = omega (arith, fits .enough) }
 
-pub no-pairs : (f : Front) (w : Window) (noise room : ℕ) → NoiseFitting (rowsOf f w 0) noise room
+pub no-pairs : (f : Layout) (w : Window) (noise room : ℕ) → NoiseFitting (rowsOf f w 0) noise room
 no-pairs f w noise room = record { testing = record { few = omega arith; all = λ some. absurd (some refl) }; enough = omega arith }
 
 -- with as many words of noise as there are places, and as much room for u as the window's count, the tests of the elements are left
-pub elements-alone : (f : Front) (vector : ℕ) (w : Window) (room : ℕ) {noise : ℕ} → noise ≡ 2 ^ f .depth
+pub elements-alone : (f : Layout) (vector : ℕ) (w : Window) (room : ℕ) {noise : ℕ} → noise ≡ 2 ^ f .depth
     → firstFault (lengthTests f noise vector w (w .count) room) ≡ firstFault (elementTests f vector w room)
 unfolding firstFault
 elements-alone f vector w room e = rw (is-so _ _ e, at-most (w .count) (w .count) (omega arith))

@@ -18,7 +18,7 @@ use Rattle.field.specs.Prime.{primes}
 use Rattle.field.specs.Words.{oneWord}
 use Rattle.field.proofs.KindOf.{kind-2, words-1, words-2}
 use Rattle.field.proofs.Words.{put-one}
-use Rattle.record.specs.declared.Front.{Front}
+use Rattle.record.specs.declared.Layout.{Layout}
 use Rattle.window.specs.declared.WindowRows.{WindowRows}
 use Rattle.window.specs.Head.{ofNoise}
 use Rattle.window.specs.Inner.Outputs.{shapeOf, rowsOf, pairRows, windowOver}
@@ -71,10 +71,10 @@ module _ (keys : List (List (List ℕ))) (r : WindowRows) (w b : List ℕ) (fiel
 
 -- ---- rows of a shape that a function made
 
-abbrev rowsIn : Front → Window → ℕ → Shape → WindowRows
+abbrev rowsIn : Layout → Window → ℕ → Shape → WindowRows
 rowsIn f w pairs shape = record { field = f .field; shape = shape; window = w; pairs = pairs }
 
-module _ (f : Front) (w : Window) (pairs : ℕ) {shape : Shape} (e : shape ≡ shapeOf f) where
+module _ (f : Layout) (w : Window) (pairs : ℕ) {shape : Shape} (e : shape ≡ shapeOf f) where
   pub fits-rows : {vector room : ℕ} → Fitting (elementWords (f .field)) (rowsOf f w pairs) vector room
       → Fitting (elementWords (f .field)) (rowsIn f w pairs shape) vector room
   fits-rows {vector} {room} = subst (λ (s : Shape). Fitting (elementWords (f .field)) (rowsIn f w pairs s) vector room) (sym e)

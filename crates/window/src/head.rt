@@ -10,43 +10,43 @@ ghost use Rattle.window.specs.Inner.Outputs.{codeKeys, shapeOf};
 use aes128::schedule;
 use code::Shape;
 use field::element_width;
-use record::Front;
+use record::Layout;
 use record::leaves;
 use tree_walk::columns_at;
 
 // The code's shape.
-pub fn shape_of(front: Front) -> Shape
-    requires { ⌜ (front .depth ≤ 16) × (1 ≤ front .terms) ⌝ }
-    ensures { λ r. ⌜ r ≡ shapeOf front ⌝ }
+pub fn shape_of(layout: Layout) -> Shape
+    requires { ⌜ (layout .depth ≤ 16) × (1 ≤ layout .terms) ⌝ }
+    ensures { λ r. ⌜ r ≡ shapeOf layout ⌝ }
 {
-    let places = leaves(front.depth);
+    let places = leaves(layout.depth);
     Shape {
         places,
-        terms: front.terms,
-        strip: places / front.terms,
+        terms: layout.terms,
+        strip: places / layout.terms,
     }
 }
 
 // How many words N elements take.
-pub fn vector_words(front: Front) -> usize
-    requires { ⌜ front .depth ≤ 16 ⌝ }
-    ensures { λ r. ⌜ r ≡ 2 ^ front .depth * elementWords (front .field) ⌝ }
+pub fn vector_words(layout: Layout) -> usize
+    requires { ⌜ layout .depth ≤ 16 ⌝ }
+    ensures { λ r. ⌜ r ≡ 2 ^ layout .depth * elementWords (layout .field) ⌝ }
 {
-    leaves(front.depth) * element_width(front.field)
+    leaves(layout.depth) * element_width(layout.field)
 }
 
 // The place of the code key's 16 bytes, which the label's 16 follow (document 02, 8).
-pub fn code_key_at(front: Front) -> usize
-    requires { ⌜ 32 ≤ front .body ⌝ }
-    ensures { λ r. ⌜ r ≡ front .body - 32 ⌝ }
+pub fn code_key_at(layout: Layout) -> usize
+    requires { ⌜ 32 ≤ layout .body ⌝ }
+    ensures { λ r. ⌜ r ≡ layout .body - 32 ⌝ }
 {
-    front.body - 32
+    layout.body - 32
 }
 
 // The round keys of the code key.
-pub fn code_keys(sbox: &[u8; 256], source: &[u8], front: Front) -> [u64; 40]
-    requires { ⌜ SBoxTable (now sbox) × (32 ≤ front .body) × (front .body ≤ length (now source)) ⌝ }
-    ensures { λ r. ⌜ roundKeys r ≡ codeKeys (headOf (now (source .entry)) front) ⌝ }
+pub fn code_keys(sbox: &[u8; 256], source: &[u8], layout: Layout) -> [u64; 40]
+    requires { ⌜ SBoxTable (now sbox) × (32 ≤ layout .body) × (layout .body ≤ length (now source)) ⌝ }
+    ensures { λ r. ⌜ roundKeys r ≡ codeKeys (headOf (now (source .entry)) layout) ⌝ }
 {
-    schedule(sbox, columns_at(source, code_key_at(front)))
+    schedule(sbox, columns_at(source, code_key_at(layout)))
 }

@@ -13,7 +13,7 @@ use answer::is_past;
 use answer::is_short;
 use code::Window;
 use field::element_width;
-use record::Front;
+use record::Layout;
 use record::leaves;
 
 // Whether a buffer is too short for so many elements of a field.
@@ -26,29 +26,29 @@ fn lacks_room(field: usize, count: usize, room: usize) -> bool
 // The number of the tests 3, 7 and 13, from the lengths of the noise and of a vector of elements, and of the buffers for a window
 // of them. The scalar end, which has no noise, gives N for its length and the window's count for the room of u.
 pub fn window_number(
-    front: Front,
+    layout: Layout,
     noise: usize,
     vector: usize,
     window: Window,
     u_room: usize,
     room: usize,
 ) -> u32
-    requires { ⌜ front .depth ≤ 16 ⌝ }
-    ensures { λ r. ⌜ r ≡ firstFault (lengthTests front noise vector window «u_room» room) ⌝ }
+    requires { ⌜ layout .depth ≤ 16 ⌝ }
+    ensures { λ r. ⌜ r ≡ firstFault (lengthTests layout noise vector window «u_room» room) ⌝ }
 {
-    if noise != leaves(front.depth) {
+    if noise != leaves(layout.depth) {
         return BAD_LENGTH;
     }
-    if vector != vector_words(front) {
+    if vector != vector_words(layout) {
         return BAD_LENGTH;
     }
-    if is_past(window.first, window.count, front.outputs) {
+    if is_past(window.first, window.count, layout.outputs) {
         return WINDOW_PAST_END;
     }
     if u_room < window.count {
         return BUFFER_SHORT;
     }
-    if lacks_room(front.field, window.count, room) {
+    if lacks_room(layout.field, window.count, room) {
         return BUFFER_SHORT;
     }
     0

@@ -19,7 +19,7 @@ use crate::used::elements_used;
 use crate::used::noise_used;
 use code::Window;
 use field::element_width;
-use record::Front;
+use record::Layout;
 
 // Copies the first `count` words to the front of others.
 fn copy_front(words: &[u64], count: usize, out: &mut [u64])
@@ -90,7 +90,7 @@ fn write_tested(
 // The same under a record's code key, with a word of u from so many of the window's rows: from all or none.
 pub fn write_rows(
     source: &[u8],
-    front: Front,
+    layout: Layout,
     window: Window,
     pairs: usize,
     noise: &[u64],
@@ -98,19 +98,19 @@ pub fn write_rows(
     u_out: &mut [u64],
     v_out: &mut [u64],
 ) -> bool
-    requires { ⌜ Sizes (now source) (headOf (now source) front) (front .body) ⌝ }
-    requires { ⌜ NoiseFitting (rowsOf front window pairs) (length (now noise)) (length (now «u_out»))
-        × Fitting (elementWords (front .field)) (rowsOf front window pairs) (length (now v)) (length (now «v_out»)) ⌝ }
-    ensures { λ r. ⌜ WindowWritten (codeKeys (headOf (now (source .entry)) front)) (rowsOf front window pairs) (now (noise .entry)) (now (v .entry))
+    requires { ⌜ Sizes (now source) (headOf (now source) layout) (layout .body) ⌝ }
+    requires { ⌜ NoiseFitting (rowsOf layout window pairs) (length (now noise)) (length (now «u_out»))
+        × Fitting (elementWords (layout .field)) (rowsOf layout window pairs) (length (now v)) (length (now «v_out»)) ⌝ }
+    ensures { λ r. ⌜ WindowWritten (codeKeys (headOf (now (source .entry)) layout)) (rowsOf layout window pairs) (now (noise .entry)) (now (v .entry))
         (now («u_out» .entry)) (now («v_out» .entry)) r (now («u_out» .exit)) (now («v_out» .exit)) ⌝ }
 {
     let sb = sbox::table();
     let mut tables = [0u64; 1536];
     sbox::fill_tables(&mut tables);
-    let keys = code_keys(&sb, source, front);
+    let keys = code_keys(&sb, source, layout);
     let rows = WindowRows {
-        field: front.field,
-        shape: shape_of(front),
+        field: layout.field,
+        shape: shape_of(layout),
         window,
         pairs,
     };

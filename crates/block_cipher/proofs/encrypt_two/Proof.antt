@@ -34,8 +34,8 @@ encrypt-two-spec =
     (λ c κs. search needs)  -- of-columns-requires
     (λ c κs. search needs)  -- of-columns-requires-2
     (λ c.
-    let first = c .before in
-    let r22 = first .before in
+    let one = c .before in
+    let r22 = one .before in
     let r21 = r22 .before in
     let r20 = r21 .before in
     let r19 = r20 .before in
@@ -57,7 +57,7 @@ encrypt-two-spec =
     let r3 = r4 .before in
     let r2 = r3 .before in
     let r1 = r2 .before in (
-      ten-rounds _ _ (r1 .first-key .ensures) (r2 .full-round .ensures) (r5 .full-round3 .ensures) (r7 .full-round5 .ensures) (r9 .full-round7 .ensures) (r11 .full-round9 .ensures) (r13 .full-round11 .ensures) (r15 .full-round13 .ensures) (r17 .full-round15 .ensures) (r19 .full-round17 .ensures) (r21 .last-round .ensures) (first .of-columns .ensures),
+      ten-rounds _ _ (r1 .first-key .ensures) (r2 .full-round .ensures) (r5 .full-round3 .ensures) (r7 .full-round5 .ensures) (r9 .full-round7 .ensures) (r11 .full-round9 .ensures) (r13 .full-round11 .ensures) (r15 .full-round13 .ensures) (r17 .full-round15 .ensures) (r19 .full-round17 .ensures) (r21 .last-round .ensures) (one .of-columns .ensures),
       ten-rounds _ _ (r3 .first-key2 .ensures) (r4 .full-round2 .ensures) (r6 .full-round4 .ensures) (r8 .full-round6 .ensures) (r10 .full-round8 .ensures) (r12 .full-round10 .ensures) (r14 .full-round12 .ensures) (r16 .full-round14 .ensures) (r18 .full-round16 .ensures) (r20 .full-round18 .ensures) (r22 .last-round2 .ensures) (c .of-columns2 .ensures),
     ))  -- returns
     )

@@ -4,16 +4,16 @@ use mathlib.Core.List.{List, [], _++_}
 use mathlib.Core.Path.{_≡_}
 use lib.ListN.{length, getD, take, drop}
 use Rattle.circuit.specs.Content.{Circuit}
-use Rattle.circuit.specs.Answer.{content, HasFront}
+use Rattle.circuit.specs.Answer.{content, HasLayout}
 use Rattle.circuit.specs.Value.{overGates}
-use Rattle.circuit.specs.declared.Front.{Front}
+use Rattle.circuit.specs.declared.Layout.{Layout}
 use Rattle.circuit_round.specs.Round.{RoundLent, roundWith, RoundOutcome, waitingIn, gateByte, wiresAfter, bitsToSend, acceptedRound}
 use Rattle.circuit_round.specs.declared.RoundState.{RoundState}
 use Rattle.circuit_round.specs.declared.Rounded.{Rounded}
 
 -- what the pass over the gates rests on: a triple for each AND, far bits for each gate that waits, all of them bits, and room for two
 -- bits of each AND
-pub record CanPass (s : List ℕ) (f : Front) (triples far : List ℕ) (space : ℕ) (before : List ℕ) : Type 0 where
+pub record CanPass (s : List ℕ) (f : Layout) (triples far : List ℕ) (space : ℕ) (before : List ℕ) : Type 0 where
   pub enough : 3 * f .ands ≤ length triples
   pub places : length far ≡ 2 * waitingIn (content s) before
   pub tripleBits : (k : ℕ) → getD triples k 0 ≤ 1
@@ -26,7 +26,7 @@ abbrev pub passedOn : ℕ → List ℕ → List ℕ → List ℕ → RoundLent
 passedOn role s triples far = roundWith role s [] triples [] far []
 
 -- what the pass gives: the bytes of all gates, and the bits of those that wait, in front of what stood in their buffer
-pub record Passes (s : List ℕ) (f : Front) (role : ℕ) (triples far bits₀ before : List ℕ) (count : ℕ) (bits wires : List ℕ) : Type 0 where
+pub record Passes (s : List ℕ) (f : Layout) (role : ℕ) (triples far bits₀ before : List ℕ) (count : ℕ) (bits wires : List ℕ) : Type 0 where
   pub bytes : wires ≡ overGates (gateByte (content s) (passedOn role s triples far) before) (content s .gates) (take (f .inputs) before)
       ++ drop (f .inputs + f .gates) before
   pub waited : count ≡ 2 * waitingIn (content s) wires
@@ -34,8 +34,8 @@ pub record Passes (s : List ℕ) (f : Front) (role : ℕ) (triples far bits₀ b
   pub sent : bits ≡ bitsToSend (content s) triples wires ++ drop count bits₀
 
 -- what a round has once all tests are passed
-pub record Tested (s : List ℕ) (f : Front) (shares triples : List ℕ) (room : ℕ) (far : List ℕ) (bitsRoom : ℕ) (wires : List ℕ) : Type 0 where
-  pub opens : HasFront s f
+pub record Tested (s : List ℕ) (f : Layout) (shares triples : List ℕ) (room : ℕ) (far : List ℕ) (bitsRoom : ℕ) (wires : List ℕ) : Type 0 where
+  pub layout : HasLayout s f
   pub inputs : length shares ≡ f .inputs
   pub places : length far ≡ 2 * waitingIn (content s) wires
   pub outputs : f .outputs ≤ room

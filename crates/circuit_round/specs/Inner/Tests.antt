@@ -5,7 +5,7 @@ use lib.ListN.{length}
 use Rattle.algebra.specs.Choice.{choose}
 use Rattle.answer.specs.Numbers.{badLength, notElement, wrongEnd, bufferShort, tooFewTriples}
 use Rattle.answer.specs.Tests.{Test, _is_, _atMost_, allAtMost, holds, _or_}
-use Rattle.circuit.specs.declared.Front.{Front}
+use Rattle.circuit.specs.declared.Layout.{Layout}
 use Rattle.circuit_run.specs.Step.{isRole}
 use Rattle.circuit_round.specs.Round.{waits}
 
@@ -23,8 +23,8 @@ byteTests ands role shares triples far =
     ∷ holds (isRole role) or wrongEnd
     ∷ []
 
--- all of them, by the numbers of the circuit's front and how many gates wait
-abbrev pub askedTests : Front → ℕ → ℕ → List ℕ → List ℕ → List ℕ → ℕ → ℕ → List Test
+-- all of them, by the circuit's layout and how many gates wait
+abbrev pub askedTests : Layout → ℕ → ℕ → List ℕ → List ℕ → List ℕ → ℕ → ℕ → List Test
 askedTests f waiting role shares triples far room bitsRoom =
     length shares is f .inputs or badLength
     ∷ length triples % 3 is 0 or badLength

@@ -5,12 +5,12 @@ use mathlib.Core.List.{List, [], _∷_}
 use lib.ListN.{length}
 use Rattle.answer.specs.Numbers.{badLength, notElement, wrongEnd, bufferShort, badCircuit, tooFewTriples}
 use Rattle.answer.specs.Tests.{Test, _is_, _atMost_, allAtMost, holds, _or_}
-use Rattle.circuit.specs.declared.Front.{Front}
+use Rattle.circuit.specs.declared.Layout.{Layout}
 use Rattle.circuit_run.specs.Step.{farAdmitted, isRole}
 use Rattle.circuit_run.specs.declared.places.Asked.{Asked}
 
--- by the numbers of the circuit's front, whether the state is admitted being known
-abbrev pub askedTests : Front → Bool → Asked → List ℕ → List ℕ → ℕ → List Test
+-- by the circuit's layout, whether the state is admitted being known
+abbrev pub askedTests : Layout → Bool → Asked → List ℕ → List ℕ → ℕ → List Test
 askedTests f admitted a shares triples room =
     length shares is f .inputs or badLength
     ∷ length triples % 3 is 0 or badLength

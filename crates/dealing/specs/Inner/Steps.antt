@@ -12,8 +12,8 @@ use Rattle.record.specs.Content.{NoiseTree}
 use Rattle.record.specs.Writing.{writeTree, writeTrees, writeNoise, writeScalar}
 use Rattle.record.specs.Inner.Heads.{scalarWith}
 use Rattle.record.specs.Inner.Rising.{RisesFrom}
-use Rattle.record.specs.Inner.Lengths.{Writable, frontBytes, noiseLength, scalarLength}
-use Rattle.record.specs.declared.Front.{Front}
+use Rattle.record.specs.Inner.Lengths.{Writable, treeStartBytes, noiseLength, scalarLength}
+use Rattle.record.specs.declared.Layout.{Layout}
 use Rattle.sbox.specs.Inner.Tables.{RoundTables}
 use Rattle.tree.specs.Child.{child}
 use Rattle.tree.specs.Inner.Keys.{keysFor}
@@ -31,13 +31,13 @@ pub record TablesAndKeys (g : ℕ) (tables : List ℕ) (keys : List (List ℕ)) 
   pub child-keys : OfChildKeys (2 ^ g) (keysFor keys)
 
 -- the input of a head's numbers and the other parts
-abbrev pub inputFrom : Front → List ℕ → List ℕ → List ℕ → List ℕ → List ℕ → List ℕ → Input
+abbrev pub inputFrom : Layout → List ℕ → List ℕ → List ℕ → List ℕ → List ℕ → List ℕ → Input
 inputFrom f roots positions values delta codeKey label =
     inputWith (f .field) (f .depth) (f .«branch_bits») (f .trees) (f .terms) (f .outputs) roots positions values delta codeKey label
 
 -- the numbers of an input's head, which is written up to `body`
-abbrev pub frontFor : Input → ℕ → Front
-frontFor I body =
+abbrev pub layoutFor : Input → ℕ → Layout
+layoutFor I body =
     record {
       field = I .field;
       depth = I .depth;
@@ -49,25 +49,25 @@ frontFor I body =
     }
 
 -- the lengths that the tests of positions, noise values and Δ ask for
-pub record Lengths (f : Front) (positions values delta : ℕ) : Type 0 where
+pub record Lengths (f : Layout) (positions values delta : ℕ) : Type 0 where
   pub depth : f .depth ≤ 16
   pub position-count : positions ≡ f .trees
   pub value-count : values ≡ f .trees
   pub delta-bytes : delta ≡ 16
 
 -- the tests of room for both records, from the head's numbers and the positions
-abbrev pub measuredTests : Front → List ℕ → ℕ → ℕ → List Test
+abbrev pub measuredTests : Layout → List ℕ → ℕ → ℕ → List Test
 measuredTests f positions noiseRoom scalarRoom =
     noiseLength f positions atMost noiseRoom or bufferShort ∷ scalarLength f atMost scalarRoom or bufferShort ∷ []
 
 -- the noise record of an admitted input can be written at the front of a buffer of this length
-pub record NoisePlaced (f : Front) (I : Input) (n : ℕ) : Type 0 where
+pub record NoisePlaced (f : Layout) (I : Input) (n : ℕ) : Type 0 where
   pub writable : Writable f
   pub admitted : Admitted I
   pub room : length (writeNoise (noisePart I)) ≤ n
 
 -- the scalar record of these can be written at the front of a buffer of this length
-pub record ScalarPlaced (f : Front) (codeKey label delta roots : List ℕ) (n : ℕ) : Type 0 where
+pub record ScalarPlaced (f : Layout) (codeKey label delta roots : List ℕ) (n : ℕ) : Type 0 where
   pub writable : Writable f
   pub key-bytes : length codeKey ≡ 16
   pub label-bytes : length label ≡ 16
@@ -76,7 +76,7 @@ pub record ScalarPlaced (f : Front) (codeKey label delta roots : List ℕ) (n : 
   pub room : length (writeScalar (scalarWith f codeKey label (wordsOf (f .field) delta) roots)) ≤ n
 
 -- the numbers of a head that can be written, and positions of so many trees at most that rise
-pub record Measured (f : Front) (positions : List ℕ) : Type 0 where
+pub record Measured (f : Layout) (positions : List ℕ) : Type 0 where
   pub writable : Writable f
   pub few : length positions ≤ 64
   pub rising : RisesFrom (2 ^ f .depth) 0 positions
@@ -89,7 +89,7 @@ correctionWords field leaf value delta =
     (kindOf field .field .noiseValues .read (value ∷ []) 0))
 
 -- tree i of these positions and noise values, after positions below `base`, at a place
-abbrev pub planned : Front → List ℕ → List ℕ → ℕ → ℕ → ℕ → Planned
+abbrev pub planned : Layout → List ℕ → List ℕ → ℕ → ℕ → ℕ → Planned
 planned f positions values i base at =
     record {
       field = f .field;
@@ -103,11 +103,11 @@ planned f positions values i base at =
 
 -- a tree up to its siblings, from the leaf at its position
 unfoldable pub plannedBytes : Planned → List (List ℕ) → List ℕ → List ℕ
-plannedBytes t leaf delta = frontBytes (t .field) (t .position - t .base) (t .value) (correctionWords (t .field) leaf (t .value) delta)
+plannedBytes t leaf delta = treeStartBytes (t .field) (t .position - t .base) (t .value) (correctionWords (t .field) leaf (t .value) delta)
 
 -- the tree of these numbers, this root and Δ
-abbrev pub treeOf : Planned → List (List ℕ) → List ℕ → NoiseTree
-treeOf t root delta =
+abbrev pub plannedTree : Planned → List (List ℕ) → List ℕ → NoiseTree
+plannedTree t root delta =
     record {
       position = t .position;
       value = t .value;
@@ -123,15 +123,15 @@ pub record Placed (t : Planned) (root : List (List ℕ)) (delta out : List ℕ) 
   pub scalar : length delta ≡ 16
   pub rising : t .base ≤ t .position
   pub below : t .position < 65536
-  pub room : Room out (t .at) (writeTree (t .field) (t .base) (treeOf t root delta))
+  pub room : Room out (t .at) (writeTree (t .field) (t .base) (plannedTree t root delta))
 
 -- the trees of a noise record, one after the other
-abbrev pub treesBytes : Front → List ℕ → List ℕ → List ℕ → List ℕ → List ℕ
+abbrev pub treesBytes : Layout → List ℕ → List ℕ → List ℕ → List ℕ → List ℕ
 treesBytes f roots positions values delta =
     writeTrees (f .field) 0 (listed (f .trees) (noiseTree (inputFrom f roots positions values delta [] [])))
 
 -- the trees can be written after the head
-pub record TreesPlaced (f : Front) (roots positions values delta out : List ℕ) : Type 0 where
+pub record TreesPlaced (f : Layout) (roots positions values delta out : List ℕ) : Type 0 where
   pub depth : f .depth ≤ 16
   pub branch-least : 1 ≤ f .«branch_bits»
   pub branch-most : f .«branch_bits» ≤ 3

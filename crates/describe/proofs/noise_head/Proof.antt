@@ -11,7 +11,7 @@ noise-head-spec =
     (λ c κs. search needs)  -- read-noise-requires
     (λ c. search needs)  -- enum-known-r
     (λ c. search needs)  -- enum-told
-    (λ c κs. search needs)  -- fault-of-requires
+    (λ c κs. search needs)  -- record-fault-requires
     (λ c κs. search needs)  -- refusal-requires
     (λ c. search noise-fault)  -- returns
     (λ c κs. (search noise-depth, search noise-field, search noise-key, search noise-room))  -- accepted-requires

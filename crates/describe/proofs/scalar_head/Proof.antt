@@ -11,7 +11,7 @@ scalar-head-spec =
     (λ c κs. search needs)  -- read-scalar-requires
     (λ c. search needs)  -- enum-known-r
     (λ c. search needs)  -- enum-told
-    (λ c κs. search needs)  -- fault-of-requires
+    (λ c κs. search needs)  -- record-fault-requires
     (λ c κs. search needs)  -- refusal-requires
     (λ c. search scalar-fault)  -- returns
     (λ c κs. (search scalar-depth, search scalar-field, search scalar-key, search scalar-room))  -- accepted-requires

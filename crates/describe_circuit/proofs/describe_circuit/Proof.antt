@@ -1,7 +1,7 @@
 -- `describe_circuit::describe_circuit` meets its contract: one law for each return. Assumes nothing.
 use native.Mathlib.Omega.{arith}
 use borrow.Author.Needs.{needs}
-use Rattle.describe_circuit.proofs.Returns.{circuit-refused, circuit-front, circuit-said}
+use Rattle.describe_circuit.proofs.Returns.{circuit-refused, circuit-layout, circuit-said}
 use Rattle.describe_circuit.proofs.describe_circuit.Statement.{statement}
 use Rattle.describe_circuit.proofs.describe_circuit.Tie as tie
 
@@ -12,10 +12,10 @@ describe-circuit-spec =
     (λ c κs. search needs)  -- read-circuit-requires
     (λ c. search needs)  -- enum-known-opened
     (λ c. search needs)  -- enum-told
-    (λ c κs. search needs)  -- refusal-of-requires
+    (λ c κs. search needs)  -- circuit-fault-requires
     (λ c κs. search needs)  -- refusal-requires
     (λ c. search circuit-refused)  -- returns
-    (λ c κs. search circuit-front)  -- depth-of-requires
+    (λ c κs. search circuit-layout)  -- depth-of-requires
     (λ c. search needs)  -- add-result
     (λ c. search circuit-said)  -- returns-2
     )

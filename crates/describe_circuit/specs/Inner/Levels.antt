@@ -10,7 +10,7 @@ use Rattle.circuit.specs.Value.{overGates}
 
 -- the level of a gate by its kind, from the levels of its wires
 abbrev pub levelBy : ℕ → ℕ → ℕ → ℕ
-levelBy kind first second = choose (eqb kind 3) first (choose (eqb kind 2) (1 + greater first second) (greater first second))
+levelBy kind a b = choose (eqb kind 3) a (choose (eqb kind 2) (1 + greater a b) (greater a b))
 
 -- the levels of the inputs and of the first gates
 unfoldable pub levelsTo : Circuit → ℕ → List ℕ

@@ -39,11 +39,11 @@ use Rattle.ends.proofs.Vectors.{one-word, front-taken, vector-length, v
 pub record Accepted (P : NoisePart) (source : List ℕ) (o : Outcome TwoWritten OfflineLent) : Type 0 where
   pub record-kept : o .lent .source ≡ source
   pub number : o .number ≡ 0
-  pub firstWritten : o .written .first ≡ places (P .head)
-  pub secondWritten : o .written .second ≡ vectorWords (P .head)
-  pub noise : take (o .written .first) (o .lent .noise)
+  pub firstWritten : o .written .firstWritten ≡ places (P .head)
+  pub secondWritten : o .written .secondWritten ≡ vectorWords (P .head)
+  pub noise : take (o .written .firstWritten) (o .lent .noise)
       ≡ flat (fieldOf (P .head) .noiseValues) (places (P .head)) (accumulate (fieldOf (P .head) .ring .group) (mu P))
-  pub v : take (o .written .second) (o .lent .v)
+  pub v : take (o .written .secondWritten) (o .lent .v)
       ≡ flat (fieldOf (P .head) .elements) (places (P .head)) (accumulate (fieldOf (P .head) .scaled .group) (v0 P))
 
 -- a record that is refused gives its number, zero lengths, and all that is lent as it was
@@ -53,7 +53,7 @@ offline-refused source noise v k e = sym (read-refused (readNoise source) (refus
 
 module _ (source : List ℕ) {P : NoisePart} (noise v : List ℕ) (e : readNoise source ≡ Whole P) where
   abbrev done : Outcome TwoWritten OfflineLent
-  done = wrote (record { first = places (P .head); second = vectorWords (P .head) }) (expanded P source noise v)
+  done = wrote (record { firstWritten = places (P .head); secondWritten = vectorWords (P .head) }) (expanded P source noise v)
 
   pub offline-whole : offline source noise v ≡ answered (offlineTests P noise v) (refusedTwo (offlineWith source noise v)) done
   unfolding offline
@@ -93,7 +93,7 @@ listedTests h l first count =
     ∷ []
 
 abbrev pub written : Head → Lent → ℕ → ℕ → Outcome TwoWritten Lent
-written h l first count = wrote (record { first = count; second = count * fieldOf h .elements .width }) (filled h l first count)
+written h l first count = wrote (record { firstWritten = count; secondWritten = count * fieldOf h .elements .width }) (filled h l first count)
 
 pub online-whole : (l : Lent) {P : NoisePart} (first count : ℕ) → readNoise (l .source) ≡ Whole P
     → online l first count ≡ answered (onlineTests (P .head) l first count) (refusedTwo l) (written (P .head) l first count)

@@ -10,7 +10,7 @@ use Rattle.number.proofs.Places.{either}
 use Rattle.algebra.specs.Choice.{choose}
 use Rattle.field.specs.Bytes.{wordAt}
 use Rattle.field.proofs.KindOf.{words-1, words-2}
-use Rattle.record.specs.declared.Front.{Front}
+use Rattle.record.specs.declared.Layout.{Layout}
 use Rattle.record.proofs.Callers.{element-1, element-2}
 use Rattle.ends.specs.Scalar.Vectors.{deltaOut}
 use Rattle.ends.specs.Inner.Scalar.{contentOf, Ready}
@@ -20,7 +20,7 @@ two-stores [] a b h = absurd (omega arith)
 two-stores (x ∷ []) a b h = absurd (omega arith)
 two-stores (x ∷ y ∷ d) a b h = refl
 
-module _ (s : List ℕ) (f : Front) where
+module _ (s : List ℕ) (f : Layout) where
   pub first-room : Ready s f → f .body + 8 ≤ length s
   first-room r =
       either (f .field) 1 (λ e. omega (arith, r .room, words-1 (f .field) e)) (λ e. omega (arith, r .room, words-2 (f .field) e))

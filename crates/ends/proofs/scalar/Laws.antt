@@ -38,14 +38,14 @@ use Rattle.ends.proofs.Vectors.{front-taken, vector-length, vector-usab
 pub record Accepted (P : ScalarPart) (source : List ℕ) (o : Outcome TwoWritten OfflineLent) : Type 0 where
   pub record-kept : o .lent .source ≡ source
   pub number : o .number ≡ 0
-  pub firstWritten : o .written .first ≡ vectorWords (P .head)
-  pub secondWritten : o .written .second ≡ 2
-  pub w : take (o .written .first) (o .lent .w) ≡ flat (fieldOf (P .head) .elements) (places (P .head)) (accumulate (fieldOf (P .head) .scaled .group) (w0 P))
-  pub delta : take (o .written .second) (o .lent .delta) ≡ deltaOut P
+  pub firstWritten : o .written .firstWritten ≡ vectorWords (P .head)
+  pub secondWritten : o .written .secondWritten ≡ 2
+  pub w : take (o .written .firstWritten) (o .lent .w) ≡ flat (fieldOf (P .head) .elements) (places (P .head)) (accumulate (fieldOf (P .head) .scaled .group) (w0 P))
+  pub delta : take (o .written .secondWritten) (o .lent .delta) ≡ deltaOut P
 
 module _ (source : List ℕ) {P : ScalarPart} (w delta : List ℕ) (e : readScalar source ≡ Whole P) where
   abbrev done : Outcome TwoWritten OfflineLent
-  done = wrote (record { first = vectorWords (P .head); second = 2 }) (expanded P source w delta)
+  done = wrote (record { firstWritten = vectorWords (P .head); secondWritten = 2 }) (expanded P source w delta)
 
   pub offline-whole : offline source w delta ≡ answered (offlineTests P w delta) (refusedTwo (offlineWith source w delta)) done
   unfolding offline

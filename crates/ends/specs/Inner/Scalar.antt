@@ -8,15 +8,15 @@ use Rattle.number.specs.Reading.{Whole}
 use Rattle.record.specs.Content.{ScalarPart}
 use Rattle.record.specs.Reading.{items, blockAt, readScalar}
 use Rattle.record.specs.Answer.{headOf}
-use Rattle.record.specs.declared.Front.{Front}
+use Rattle.record.specs.declared.Layout.{Layout}
 use Rattle.window.specs.Inner.Sizes.{Sizes}
 use Rattle.field.specs.Kind.{elementWords}
 
-abbrev pub rootsAt : Front → ℕ
+abbrev pub rootsAt : Layout → ℕ
 rootsAt f = f .body + 8 * elementWords (f .field)
 
 -- the content of an accepted record
-abbrev pub contentOf : List ℕ → Front → ScalarPart
+abbrev pub contentOf : List ℕ → Layout → ScalarPart
 contentOf s f =
     record {
       head = headOf s f;
@@ -25,7 +25,7 @@ contentOf s f =
     }
 
 -- what a record that was accepted is known to be
-pub record Ready (s : List ℕ) (f : Front) : Type 0 where
+pub record Ready (s : List ℕ) (f : Layout) : Type 0 where
   pub read : readScalar s ≡ Whole (contentOf s f)
   pub sizes : Sizes s (headOf s f) (f .body)
   pub room : rootsAt f + 16 * f .trees ≤ length s

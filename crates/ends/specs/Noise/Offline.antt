@@ -44,14 +44,14 @@ unfoldable pub offline : List ℕ → List ℕ → List ℕ → Outcome TwoWritt
 offline source noise v =
     afterReading (readNoise source) (refusedTwo (offlineWith source noise v))
     (λ P. answered (offlineTests P noise v) (refusedTwo (offlineWith source noise v))
-    (wrote (record { first = places (P .head); second = vectorWords (P .head) }) (expanded P source noise v)))
+    (wrote (record { firstWritten = places (P .head); secondWritten = vectorWords (P .head) }) (expanded P source noise v)))
 
 -- the accumulated noise and the accumulated v that a call wrote: the fronts of its buffers, of the returned lengths
 abbrev pub noiseOf : Outcome TwoWritten OfflineLent → List ℕ
-noiseOf o = take (o .written .first) (o .lent .noise)
+noiseOf o = take (o .written .firstWritten) (o .lent .noise)
 
 abbrev pub vOf : Outcome TwoWritten OfflineLent → List ℕ
-vOf o = take (o .written .second) (o .lent .v)
+vOf o = take (o .written .secondWritten) (o .lent .v)
 
 -- an accepted record of a head, and an accepted call on it
 pub record Expanded (h : Head) : Type 0 where

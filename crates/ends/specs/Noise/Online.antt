@@ -58,4 +58,4 @@ unfoldable pub online : Lent → ℕ → ℕ → Outcome TwoWritten Lent
 online l first count =
     afterReading (readNoise (l .source)) (refusedTwo l)
     (λ P. answered (onlineTests (P .head) l first count) (refusedTwo l)
-    (wrote (record { first = count; second = count * fieldOf (P .head) .elements .width }) (filled (P .head) l first count)))
+    (wrote (record { firstWritten = count; secondWritten = count * fieldOf (P .head) .elements .width }) (filled (P .head) l first count)))

@@ -44,14 +44,14 @@ unfoldable pub offline : List ℕ → List ℕ → List ℕ → Outcome TwoWritt
 offline source w delta =
     afterReading (readScalar source) (refusedTwo (offlineWith source w delta))
     (λ P. answered (offlineTests P w delta) (refusedTwo (offlineWith source w delta))
-    (wrote (record { first = vectorWords (P .head); second = 2 }) (expanded P source w delta)))
+    (wrote (record { firstWritten = vectorWords (P .head); secondWritten = 2 }) (expanded P source w delta)))
 
 -- the accumulated w and the words of Δ that a call wrote: the fronts of its buffers, of the returned lengths
 abbrev pub wOf : Outcome TwoWritten OfflineLent → List ℕ
-wOf o = take (o .written .first) (o .lent .w)
+wOf o = take (o .written .firstWritten) (o .lent .w)
 
 abbrev pub deltaOf : Outcome TwoWritten OfflineLent → List ℕ
-deltaOf o = take (o .written .second) (o .lent .delta)
+deltaOf o = take (o .written .secondWritten) (o .lent .delta)
 
 -- an accepted record of a head, and an accepted call on it
 pub record Expanded (h : Head) : Type 0 where

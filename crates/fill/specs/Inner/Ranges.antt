@@ -16,9 +16,9 @@ use Rattle.fill.specs.declared.range.Halves.{Halves}
 -- ---- elements of leaves
 
 -- the first and the second of two
-abbrev pub pairOf : {A : Type 0} → A → A → ℕ → A
-pairOf a b zero = a
-pairOf a b (suc j) = b
+abbrev pub firstOrSecond : {A : Type 0} → A → A → ℕ → A
+firstOrSecond a b zero = a
+firstOrSecond a b (suc j) = b
 
 -- the words of an element after the element of a leaf is added, and after the one that words begin with
 unfoldable pub leafAdded : ℕ → List (List ℕ) → List ℕ → List ℕ
@@ -53,26 +53,26 @@ sizeOf ρ = 2 ^ leftOf ρ
 pub record IsRange (ρ : Range) : Type 0 where
   pub two : 1 ≤ ρ .bits
   pub most : ρ .bits ≤ ρ .«branch_bits»
-  pub within : ρ .first + 2 ^ ρ .bits ≤ childCount ρ
+  pub within : ρ .from + 2 ^ ρ .bits ≤ childCount ρ
   pub branch : IsBranch (ρ .«branch_bits»)
 
 abbrev pub allChildren : ℕ → ℕ → Range
-allChildren g levels = record { «branch_bits» = g; levels = levels; bits = g; first = 0 }
+allChildren g levels = record { «branch_bits» = g; levels = levels; bits = g; from = 0 }
 
 -- half as many children, from child c on
 abbrev pub halfFrom : Range → ℕ → Range
-halfFrom ρ c = record { «branch_bits» = ρ .«branch_bits»; levels = ρ .levels; bits = ρ .bits - 1; first = c }
+halfFrom ρ c = record { «branch_bits» = ρ .«branch_bits»; levels = ρ .levels; bits = ρ .bits - 1; from = c }
 
 -- the first and the second half of a range
-abbrev pub front : Range → Range
-front ρ = halfFrom ρ (ρ .first)
+abbrev pub firstHalf : Range → Range
+firstHalf ρ = halfFrom ρ (ρ .from)
 
-abbrev pub back : Range → Range
-back ρ = halfFrom ρ (ρ .first + 2 ^ (ρ .bits - 1))
+abbrev pub secondHalf : Range → Range
+secondHalf ρ = halfFrom ρ (ρ .from + 2 ^ (ρ .bits - 1))
 
 -- the element of leaf j below a range of the children of s
 unfoldable pub rangeElement : {A E : Type 0} → (A → E) → (ℕ → A → A) → Range → A → ℕ → E
-rangeElement element child ρ s j = leafElement element (childCount ρ) child (ρ .levels) s (ρ .first * below ρ + j)
+rangeElement element child ρ s j = leafElement element (childCount ρ) child (ρ .levels) s (ρ .from * below ρ + j)
 
 -- the words after the leaves below all children of x, and then those below all children of y, are added
 unfoldable pub bothAdded : ℕ → (ℕ → List (List ℕ) → List (List ℕ)) → Range → List (List ℕ) → List (List ℕ) → List ℕ → List ℕ
@@ -87,17 +87,17 @@ pub record IsRun (ρ : Range) (at n : ℕ) : Type 0 where
   pub some : ρ .levels ≢ 0
   pub branch : IsBranch (ρ .«branch_bits»)
   pub bits : ρ .bits ≤ 3
-  pub few : ρ .first + 2 ^ ρ .bits ≤ 8
-  pub room : at + 16 * (ρ .first + 2 ^ ρ .bits) ≤ n
+  pub few : ρ .from + 2 ^ ρ .bits ≤ 8
+  pub room : at + 16 * (ρ .from + 2 ^ ρ .bits) ≤ n
 
 -- the element of leaf j below a run
 unfoldable pub runElement : {E : Type 0} → (List (List ℕ) → E) → (ℕ → List (List ℕ) → List (List ℕ)) → Range → List ℕ → ℕ → ℕ → E
 runElement element child ρ bytes at j =
-    leafElement element (childCount ρ) child (ρ .levels - 1) (columnsAt bytes (at + 16 * (ρ .first + j / below ρ))) (j % below ρ)
+    leafElement element (childCount ρ) child (ρ .levels - 1) (columnsAt bytes (at + 16 * (ρ .from + j / below ρ))) (j % below ρ)
 
 -- the second half of a range as a run of siblings, where the first half holds the path: they stand one place lower
 abbrev pub above : Range → Range
-above ρ = halfFrom ρ (ρ .first + (2 ^ (ρ .bits - 1) - 1))
+above ρ = halfFrom ρ (ρ .from + (2 ^ (ρ .bits - 1) - 1))
 
 -- ---- paths: a range that holds the path of a punctured tree
 
@@ -122,17 +122,17 @@ pub record IsPath (path : Path) (n : ℕ) : Type 0 where
 
 -- the halves of a range that holds a path, where the first holds it and where the second does: the other as a run of siblings
 pub record FirstHolds (path : Path) (below : Path) (beside : Range) : Type 0 where
-  pub inside : path .position < sizeOf (front (path .range))
-  pub on : below ≡ pathIn path (path .range .first) (path .position)
+  pub inside : path .position < sizeOf (firstHalf (path .range))
+  pub on : below ≡ pathIn path (path .range .from) (path .position)
   pub run : beside ≡ above (path .range)
 
 pub record SecondHolds (path : Path) (below : Path) (beside : Range) : Type 0 where
-  pub inside : sizeOf (front (path .range)) ≤ path .position
-  pub on : below ≡ pathIn path (path .range .first + 2 ^ (path .range .bits - 1)) (path .position - sizeOf (front (path .range)))
-  pub run : beside ≡ front (path .range)
+  pub inside : sizeOf (firstHalf (path .range)) ≤ path .position
+  pub on : below ≡ pathIn path (path .range .from + 2 ^ (path .range .bits - 1)) (path .position - sizeOf (firstHalf (path .range)))
+  pub run : beside ≡ firstHalf (path .range)
 
 unfoldable pub AreHalves : Path → Halves → Type 0
-AreHalves path r = choose (r .first) (FirstHolds path (r .below) (r .beside)) (SecondHolds path (r .below) (r .beside))
+AreHalves path r = choose (r .lower) (FirstHolds path (r .below) (r .beside)) (SecondHolds path (r .below) (r .beside))
 
 -- the element of leaf j below a range that holds the position
 unfoldable pub pathElement : {E : Type 0} → (List (List ℕ) → E) → (ℕ → List (List ℕ) → List (List ℕ)) → Path → List ℕ → E → ℕ → E
@@ -140,6 +140,6 @@ pathElement element child path bytes correction j =
     puncturedElement element (childCount (path .range)) child []
     (siblingsAt bytes (path .at) (path .range .levels * (childCount (path .range) - 1)))
     (path .range .levels)
-    (path .range .first * below (path .range) + path .position)
+    (path .range .from * below (path .range) + path .position)
     correction
-    (path .range .first * below (path .range) + j)
+    (path .range .from * below (path .range) + j)

@@ -1,4 +1,4 @@
--- `pad_calls::scalar_pads` meets its contract: refused by its number, or accepted with the messages written.
+-- `pad_calls::scalar_pads` meets its contract: refused by its number, or accepted with the pads written.
 use borrow.Author.Needs.{needs}
 use borrow.Author.Tests.{ne-eqb}
 use Rattle.pads.proofs.Refused.{scalar-refused}
@@ -16,7 +16,7 @@ scalar-pads-spec =
     (λ c κs. search needs)  -- fill-tables-requires
     (λ c κs. search needs)  -- pad-keys-requires
     (λ c κs. search scalar-delta)  -- block-at-requires
-    (λ c κs. (search needs, search scalar-fits))  -- write-messages-requires
+    (λ c κs. (search needs, search scalar-fits))  -- write-both-pads-requires
     (λ c. search needs)  -- same-length
     (λ c. search scalar-accepted)  -- returns-2
     )

@@ -4,22 +4,22 @@ use mathlib.Core.List.{List}
 use lib.Dec.{leb}
 use lib.ListN.{length, getD}
 use Rattle.field.specs.ByNumber.{elementOf}
-use Rattle.number.specs.Reading.{Whole, Refused, Step, choose}
+use Rattle.number.specs.Reading.{Whole, Refused, Parsed, choose}
 use Rattle.record.specs.Content.{NoiseTree}
 use Rattle.record.specs.declared.Tree.{Tree}
 use Rattle.record.specs.Reading.{items, blockAt}
 
 -- a field of a count of bytes that are not looked at; 10: record ends inside it
-unfoldable pub skipped : ℕ → List ℕ → ℕ → Step ℕ
+unfoldable pub skipped : ℕ → List ℕ → ℕ → Parsed ℕ
 skipped count s at = choose (leb (at + count) (length s)) (Whole (at, at + count)) (Refused 10)
 
 -- a tree's position and the place after it
-abbrev pub treeFront : Step NoiseTree → Step ℕ
-treeFront (Whole r) = Whole (r .0 .position, r .1)
-treeFront (Refused k) = Refused k
+abbrev pub treePosition : Parsed NoiseTree → Parsed ℕ
+treePosition (Whole r) = Whole (r .0 .position, r .1)
+treePosition (Refused k) = Refused k
 
 -- an element's first word and the place after it
-abbrev pub firstWord : Step (List ℕ) → Step ℕ
+abbrev pub firstWord : Parsed (List ℕ) → Parsed ℕ
 firstWord (Whole r) = Whole (getD (r .0) 0 0, r .1)
 firstWord (Refused k) = Refused k
 

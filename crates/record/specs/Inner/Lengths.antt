@@ -6,19 +6,19 @@ use Rattle.number.specs.Number.{numberLength, writeNumber}
 use Rattle.field.specs.Inner.Elements.{elementLength}
 use Rattle.record.specs.Content.{siblingCount}
 use Rattle.record.specs.Writing.{writeValue, writeWords}
-use Rattle.record.specs.declared.Front.{Front}
+use Rattle.record.specs.declared.Layout.{Layout}
 
 -- g, t, ℓ and n
-abbrev pub afterDepthBytes : Front → List ℕ
+abbrev pub afterDepthBytes : Layout → List ℕ
 afterDepthBytes f = writeNumber (f .«branch_bits») ++ (writeNumber (f .trees) ++ (writeNumber (f .terms) ++ writeNumber (f .outputs)))
 
 -- d, g, t, ℓ and n
-abbrev pub sizesBytes : Front → List ℕ
+abbrev pub sizesBytes : Layout → List ℕ
 sizesBytes f = writeNumber (f .depth) ++ afterDepthBytes f
 
 -- a tree up to its siblings: how far its position lies behind the one before, the noise value, the correction
-abbrev pub frontBytes : ℕ → ℕ → ℕ → List ℕ → List ℕ
-frontBytes field back value words = writeNumber back ++ (writeValue field value ++ writeWords words)
+abbrev pub treeStartBytes : ℕ → ℕ → ℕ → List ℕ → List ℕ
+treeStartBytes field back value words = writeNumber back ++ (writeValue field value ++ writeWords words)
 
 -- the head: two bytes, d, g, t, ℓ, n, the code key and the label
 unfoldable pub headLength : ℕ → ℕ → ℕ → ℕ → ℕ → ℕ
@@ -26,7 +26,7 @@ headLength depth branchBits trees terms outputs =
     2 + (numberLength depth + numberLength branchBits + numberLength trees + (numberLength terms + numberLength outputs)) + 32
 
 -- the numbers of a head that can be written, and whose body begins after it
-pub record Writable (f : Front) : Type 0 where
+pub record Writable (f : Layout) : Type 0 where
   pub field : f .field < 256
   pub depth : f .depth ≤ 16
   pub branch-least : 1 ≤ f .«branch_bits»
@@ -37,22 +37,22 @@ pub record Writable (f : Front) : Type 0 where
   pub body : f .body ≡ headLength (f .depth) (f .«branch_bits») (f .trees) (f .terms) (f .outputs)
 
 -- a tree up to its siblings: the position, and in both fields 16 bytes for the noise value and the correction
-unfoldable pub frontLength : ℕ → ℕ → ℕ
-frontLength base position = numberLength (position - base) + 16
+unfoldable pub treeStartLength : ℕ → ℕ → ℕ
+treeStartLength base position = numberLength (position - base) + 16
 
 -- a tree with its siblings
-unfoldable pub treeLength : Front → ℕ → ℕ → ℕ
-treeLength f base position = frontLength base position + 16 * siblingCount (f .depth) (f .«branch_bits»)
+unfoldable pub treeLength : Layout → ℕ → ℕ → ℕ
+treeLength f base position = treeStartLength base position + 16 * siblingCount (f .depth) (f .«branch_bits»)
 
 -- trees at these positions
-unfoldable pub treesLength : Front → ℕ → List ℕ → ℕ
+unfoldable pub treesLength : Layout → ℕ → List ℕ → ℕ
 treesLength f base [] = 0
 treesLength f base (p ∷ ps) = treeLength f base p + treesLength f (p + 1) ps
 
 -- the noise record
-unfoldable pub noiseLength : Front → List ℕ → ℕ
+unfoldable pub noiseLength : Layout → List ℕ → ℕ
 noiseLength f positions = f .body + treesLength f 0 positions
 
 -- the scalar record
-unfoldable pub scalarLength : Front → ℕ
+unfoldable pub scalarLength : Layout → ℕ
 scalarLength f = f .body + (elementLength (f .field) + 16 * f .trees)

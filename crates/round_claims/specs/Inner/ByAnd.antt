@@ -9,7 +9,7 @@ use Rattle.circuit.specs.Content.{Circuit, isAnd}
 use Rattle.circuit.specs.Levels.{levelOf}
 use Rattle.circuit_round.specs.Round.{knownAs}
 use Rattle.circuit_run.specs.Step.{gateAt, andsBefore}
-use Rattle.evaluation.specs.Inner.Transcript.{BitsByAnd, andGate, wireShares, sentBits}
+use Rattle.circuit_claims.specs.Inner.Transcript.{BitsByAnd, andGate, wireShares, maskedBits}
 use Rattle.round_claims.specs.Runs.{RoundMade, IsRound, bitsBy, IsWire, byteOf}
 use Rattle.round_claims.specs.Same.{levelAt, placeAt}
 
@@ -48,4 +48,4 @@ pub record ByFar (role : ℕ) (c : Circuit) (shares triples : List ℕ) (far : B
   pub has : (k : ℕ) (m : RoundMade) → IsRound made k m → (w : ℕ) → IsWire c w → levelOf c w ≤ k
       → (byteOf (m .gave .state) w ≡ knownAs (getD (wireShares role c triples far shares) w 0)) × (getD (wireShares role c triples far shares) w 0 ≤ 1)
   pub sends : (k : ℕ) (m : RoundMade) → IsRound made k m → (i : ℕ) → isAnd (gateAt c i) ≡ true → levelAt c i ≡ suc k
-      → pairAt (bitsBy (m .gave)) (placeAt c i) ≡ sentBits role c triples far shares i
+      → pairAt (bitsBy (m .gave)) (placeAt c i) ≡ maskedBits role c triples far shares i

@@ -40,5 +40,5 @@ secondOf s w =
 
 -- two shared states: with what the bytes that differ add, each is the state after its round
 pub record IsShared (keys : List ℕ) (x : ℕ) (s : List (List (List ℕ))) : Type 0 where
-  pub first : (i : ℕ) → i < 256 → firstOf (getD s 0 []) (byteAt (rowState keys 0 x i) 0 2) ≡ rowState keys 1 x i
-  pub second : (i : ℕ) → i < 256 → secondOf (getD s 1 []) (column (rowState keys 1 x i) 2) ≡ rowState keys 2 x i
+  pub round1 : (i : ℕ) → i < 256 → firstOf (getD s 0 []) (byteAt (rowState keys 0 x i) 0 2) ≡ rowState keys 1 x i
+  pub round2 : (i : ℕ) → i < 256 → secondOf (getD s 1 []) (column (rowState keys 1 x i) 2) ≡ rowState keys 2 x i

@@ -1,6 +1,6 @@
 -- `step_call::step_run` meets its contract: one law for each return. Assumes nothing.
 use mathlib.Core.Path.{refl}
-use Rattle.circuit_run.proofs.Steps.{opened-front, circuit-refused, step-refused, checked-tested, step-accepted}
+use Rattle.circuit_run.proofs.Steps.{layout-read, circuit-refused, step-refused, checked-tested, step-accepted}
 use borrow.Author.Needs.{needs}
 use Rattle.step_call.proofs.step_run.Statement.{statement}
 use Rattle.step_call.proofs.step_run.Tie as tie
@@ -12,14 +12,14 @@ step-run-spec =
     (λ c κs. search needs)  -- read-circuit-requires
     (λ c. search needs)  -- enum-known-opened
     (λ c. search needs)  -- enum-told
-    (λ c κs. search needs)  -- refusal-of-requires
+    (λ c κs. search needs)  -- circuit-fault-requires
     (λ c κs. search needs)  -- refused-requires
     (λ c. search circuit-refused)  -- returns
     (λ c. search needs)  -- cast-gate
-    (λ c κs. (search opened-front, refl))  -- check-requires
+    (λ c κs. (search layout-read, refl))  -- check-requires
     (λ c κs. search needs)  -- refused-requires-2
-    (λ c. search (step-refused, opened-front))  -- returns-2
+    (λ c. search (step-refused, layout-read))  -- returns-2
     (λ c κs. search checked-tested)  -- accepted-step-requires
     (λ c. search needs)  -- same-length
-    (λ c. search (step-accepted, opened-front))  -- returns-3
+    (λ c. search (step-accepted, layout-read))  -- returns-3
     )

@@ -22,6 +22,6 @@ draw-spec =
     (λ c. search needs)  -- cast-if3
     (λ c κs. search needs)  -- refused-draw-requires-3
     (λ c. search (refused-with, chain, above-given) depth 9)  -- returns-3
-    (λ c κs. (is-caller _ _ _ (c .before .before .before .is-caller .ensures) (c .before .before .if2 .left), search needs))  -- taken-requires
+    (λ c κs. (is-caller _ _ _ (c .before .before .before .is-caller .ensures) (c .before .before .if2 .left), search needs))  -- accepted-draw-requires
     (λ c. search (accepted-now, chain, at-most-given) depth 9)  -- returns-4
     )

@@ -12,10 +12,10 @@ unfolding openStock
 open-spec =
     tie.close
     (tie.spec
-    (λ c κs. search needs)  -- is-up-to-requires
+    (λ c κs. search needs)  -- is-count-requires
     (λ c κs. search needs)  -- refused-opening-requires
     (λ c. search (same-opening, refused-with, chain) depth 9)  -- returns
-    (λ c κs. search needs)  -- is-up-to-requires-2
+    (λ c κs. search needs)  -- is-count-requires-2
     (λ c κs. search needs)  -- refused-opening-requires-2
     (λ c. search (same-opening, refused-with, chain) depth 9)  -- returns-2
     (λ c κs. search open-most)  -- padded-requires

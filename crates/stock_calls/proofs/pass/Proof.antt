@@ -13,7 +13,7 @@ unfolding pass
 pass-spec =
     tie.close
     (tie.spec
-    (λ c κs. search needs)  -- is-up-to-requires
+    (λ c κs. search needs)  -- is-count-requires
     (λ c κs. search needs)  -- refused-passage-requires
     (λ c. search (refused-with, chain) depth 9)  -- returns
     (λ c κs. search needs)  -- is-above-requires

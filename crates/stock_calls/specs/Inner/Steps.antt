@@ -2,11 +2,11 @@
 use mathlib.Core.List.{List}
 use Prim.Native.Nat.{ℕ, suc}
 use Rattle.stock.specs.Stock.{sumOf, entries}
-use Rattle.stock.specs.Calls.{shareOf}
+use Rattle.stock.specs.Calls.{openingShare}
 
 -- where the blocks of the first n callers begin and end, with zeros past them
 unfoldable pub starts : ℕ → List ℕ → List ℕ
-starts n shares = entries n (λ k. sumOf k (shareOf shares))
+starts n shares = entries n (λ k. sumOf k (openingShare shares))
 
 unfoldable pub ends : ℕ → List ℕ → List ℕ
-ends n shares = entries n (λ k. sumOf (suc k) (shareOf shares))
+ends n shares = entries n (λ k. sumOf (suc k) (openingShare shares))

@@ -31,8 +31,8 @@ unfoldable pub twinPut : (ℕ → List (List ℕ) → List (List ℕ)) → List 
 twinPut child s digit at bytes = walk (child digit s) (sets bytes at (columnsBytes (child (twin digit) s)))
 
 -- the same with the children before the pair too
-unfoldable pub frontPut : (ℕ → List (List ℕ) → List (List ℕ)) → List (List ℕ) → ℕ → ℕ → List ℕ → Walk
-frontPut child s digit at bytes =
+unfoldable pub beforePut : (ℕ → List (List ℕ) → List (List ℕ)) → List (List ℕ) → ℕ → ℕ → List ℕ → Walk
+beforePut child s digit at bytes =
     walk (child digit s) (sets bytes at (blocksBytes (childrenFrom child s 0 (2 * (digit / 2)) ++ (child (twin digit) s ∷ []))))
 
 -- the child that a digit names, and bytes with the others written from a place on

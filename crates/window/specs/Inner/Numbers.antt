@@ -5,10 +5,10 @@ use Rattle.answer.specs.Numbers.{badLength, windowPastEnd, bufferShort}
 use Rattle.answer.specs.Tests.{Test, _is_, _atMost_, _or_}
 use Rattle.code.specs.declared.Window.{Window}
 use Rattle.field.specs.Kind.{elementWords}
-use Rattle.record.specs.declared.Front.{Front}
+use Rattle.record.specs.declared.Layout.{Layout}
 
 -- from the lengths of the noise, of a vector of elements, and of the buffers for a window of both
-abbrev pub lengthTests : Front → ℕ → ℕ → Window → ℕ → ℕ → List Test
+abbrev pub lengthTests : Layout → ℕ → ℕ → Window → ℕ → ℕ → List Test
 lengthTests f noise vector w uRoom room =
     noise is 2 ^ f .depth or badLength
     ∷ vector is 2 ^ f .depth * elementWords (f .field) or badLength
@@ -18,7 +18,7 @@ lengthTests f noise vector w uRoom room =
     ∷ []
 
 -- those of them that concern the elements
-abbrev pub elementTests : Front → ℕ → Window → ℕ → List Test
+abbrev pub elementTests : Layout → ℕ → Window → ℕ → List Test
 elementTests f vector w room =
     vector is 2 ^ f .depth * elementWords (f .field) or badLength
     ∷ (w .first + w .count) atMost f .outputs or windowPastEnd

@@ -11,7 +11,7 @@ use Rattle.code.specs.Row.{strip, rowOfBlocks}
 use Rattle.code.specs.Inner.Rows.{termBlockBy}
 use Rattle.aes128.specs.Cipher.{keyExpansion}
 use Rattle.record.specs.Content.{Head}
-use Rattle.record.specs.declared.Front.{Front}
+use Rattle.record.specs.declared.Layout.{Layout}
 use Rattle.tree.specs.Columns.{columnsAt}
 use Rattle.window.specs.declared.WindowRows.{WindowRows}
 
@@ -20,11 +20,11 @@ abbrev pub codeKeys : Head → List (List (List ℕ))
 codeKeys h = keyExpansion (columnsAt (h .codeKey) 0)
 
 -- the code's shape
-abbrev pub shapeOf : Front → Shape
+abbrev pub shapeOf : Layout → Shape
 shapeOf f = record { places = 2 ^ f .depth; terms = f .terms; strip = strip (2 ^ f .depth) (f .terms) }
 
 -- the rows of a window, of which so many give a word of u too
-abbrev pub rowsOf : Front → Window → ℕ → WindowRows
+abbrev pub rowsOf : Layout → Window → ℕ → WindowRows
 rowsOf f w pairs = record { field = f .field; shape = shapeOf f; window = w; pairs = pairs }
 
 -- those that do

@@ -11,29 +11,29 @@ read-circuit-spec =
     (λ c κs. search needs)  -- read-within-requires
     (λ c. search needs)  -- enum-known-r0
     (λ c. search needs)  -- enum-told
-    (λ c κs. search needs)  -- fault-of-requires
+    (λ c κs. search needs)  -- number-fault-requires
     (λ c. search fault-0)  -- returns
     (λ c. search inputs-most)  -- sub-read-within
     (λ c κs. search needs)  -- read-within-requires-2
     (λ c. search needs)  -- enum-known-r1
     (λ c. search needs)  -- enum-told-2
-    (λ c κs. search needs)  -- fault-of-requires-2
+    (λ c κs. search needs)  -- number-fault-requires-2
     (λ c. search fault-1)  -- returns-2
     (λ c κs. search needs)  -- read-within-requires-3
     (λ c. search needs)  -- enum-known-r2
     (λ c. search needs)  -- enum-told-3
-    (λ c κs. search needs)  -- fault-of-requires-3
+    (λ c κs. search needs)  -- number-fault-requires-3
     (λ c. search fault-2)  -- returns-3
     (λ c κs. search wires-most)  -- read-gates-requires
     (λ c. search needs)  -- enum-known-r3
     (λ c. search needs)  -- enum-told-4
-    (λ c κs. search needs)  -- fault-of-requires-4
+    (λ c κs. search needs)  -- number-fault-requires-4
     (λ c. search fault-3)  -- returns-4
     (λ c. search wires-fit)  -- add-read-wires
     (λ c κs. search needs)  -- read-wires-requires
     (λ c. search needs)  -- enum-known-r4
     (λ c. search needs)  -- enum-told-5
-    (λ c κs. search needs)  -- fault-of-requires-5
+    (λ c κs. search needs)  -- number-fault-requires-5
     (λ c. search fault-4)  -- returns-5
     (λ c. search after-12)  -- returns-6
     (λ c. search opened)  -- returns-7

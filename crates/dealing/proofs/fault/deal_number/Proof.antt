@@ -14,12 +14,12 @@ deal-number-spec =
     (λ c. search number-lengths)  -- returns-2
     (λ c κs.
     let a = c .before .before .before .before .before .before .before .before .before .before .args in
-    search (content-lengths (a .front) (a .roots .now) (a .positions .now) (a .values .now) (a .delta .now) (a .code-key .now)
+    search (content-lengths (a .layout) (a .roots .now) (a .positions .now) (a .values .now) (a .delta .now) (a .code-key .now)
     (a .label .now)))  -- content-number-requires
     (λ c. search number-content)  -- returns-3
     (λ c κs.
     let a = c .before .before .before .before .before .before .before .before .before .before .before .before .args in
-    search (number-measured (a .front) (a .roots .now) (a .positions .now) (a .values .now) (a .delta .now) (a .code-key .now)
+    search (number-measured (a .layout) (a .roots .now) (a .positions .now) (a .values .now) (a .delta .now) (a .code-key .now)
     (a .label .now)))  -- rooms-number-requires
     (λ c. search number-rooms)  -- returns-4
     )

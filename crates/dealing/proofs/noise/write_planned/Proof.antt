@@ -10,7 +10,7 @@ write-planned-spec =
     (tie.spec
     (λ c κs. search needs)  -- correction-requires
     (λ c. search needs)  -- sub-back
-    (λ c κs. (search needs, search planned-room))  -- write-front-requires
+    (λ c κs. (search needs, search planned-room))  -- write-tree-start-requires
     (λ c. search needs)  -- same-length
     (λ c. search planned-wrote)  -- returns
     )

@@ -1,6 +1,6 @@
--- `dealing::noise::write_tree` meets its contract: the siblings, then the front before them. Assumes nothing.
+-- `dealing::noise::write_tree` meets its contract: the siblings, then what stands before them. Assumes nothing.
 use borrow.Author.Needs.{needs}
-use Rattle.dealing.proofs.Written.{siblings-fit, next-fits, walk-room, front-room, tree-wrote}
+use Rattle.dealing.proofs.Written.{siblings-fit, next-fits, walk-room, tree-start-room, tree-wrote}
 use Rattle.dealing.proofs.noise.write_tree.Statement.{statement}
 use Rattle.dealing.proofs.noise.write_tree.Tie as tie
 
@@ -8,14 +8,14 @@ pub write-tree-spec : {M : Type 1} → statement M
 write-tree-spec =
     tie.close
     (tie.spec
-    (λ c κs. search needs)  -- front-length-requires
+    (λ c κs. search needs)  -- tree-start-length-requires
     (λ c. search siblings-fit)  -- add-siblings
     (λ c κs. search needs)  -- sibling-count-requires
     (λ c. search needs)  -- mul-next
     (λ c. search next-fits)  -- add-next
     (λ c. search needs)  -- div-t12
     (λ c κs. (search needs, search walk-room))  -- walk-requires
-    (λ c κs. (search needs, search needs, search needs, search front-room))  -- write-planned-requires
+    (λ c κs. (search needs, search needs, search needs, search tree-start-room))  -- write-planned-requires
     (λ c. search needs)  -- same-length
     (λ c. search tree-wrote)  -- returns
     )

@@ -8,11 +8,11 @@ use Rattle.dealing.proofs.noise.write_trees.Statement.{statement}
 use Rattle.dealing.proofs.noise.write_trees.Tie as tie
 
 abbrev Inv-loop : tie.InvT-loop
-Inv-loop out₀ front roots positions values delta tables keys at₀ base₀ i₀ out at base i =
-    Turn front roots positions values delta out₀ tables keys out at base i
+Inv-loop out₀ layout roots positions values delta tables keys at₀ base₀ i₀ out at base i =
+    Turn layout roots positions values delta out₀ tables keys out at base i
 
 abbrev μ-loop : tie.MeasureT-loop
-μ-loop out₀ front roots positions values delta tables keys at₀ base₀ i₀ out at base i = front .trees - i
+μ-loop out₀ layout roots positions values delta tables keys at₀ base₀ i₀ out at base i = layout .trees - i
 
 pub write-trees-spec : {M : Type 1} → statement M
 write-trees-spec =

@@ -13,7 +13,7 @@ offline-spec =
     (λ c κs. search needs)  -- read-noise-requires
     (λ c. search needs)  -- enum-known-r
     (λ c. search needs)  -- enum-told
-    (λ c κs. search needs)  -- fault-of-requires
+    (λ c κs. search needs)  -- record-fault-requires
     (λ c. search noise-fault)  -- returns
     (λ c κs. search noise-depth)  -- leaves-requires
     (λ c. search noise-short)  -- returns-2

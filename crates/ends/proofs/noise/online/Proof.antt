@@ -11,7 +11,7 @@ online-spec =
     (λ c κs. search needs)  -- read-noise-requires
     (λ c. search needs)  -- enum-known-r
     (λ c. search needs)  -- enum-told
-    (λ c κs. search needs)  -- fault-of-requires
+    (λ c κs. search needs)  -- record-fault-requires
     (λ c. search noise-online-fault)  -- returns
     (λ c κs. search noise-depth)  -- window-number-requires
     (λ c. search noise-refused)  -- returns-2

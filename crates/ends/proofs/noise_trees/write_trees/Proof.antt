@@ -8,10 +8,10 @@ use Rattle.ends.proofs.noise_trees.write_trees.Statement.{statement}
 use Rattle.ends.proofs.noise_trees.write_trees.Tie as tie
 
 abbrev Inv-loop : tie.InvT-loop
-Inv-loop source front noise₀ v₀ tables keys beside at₀ base₀ i₀ noise v at base i = RoundTables tables × Grown source front keys beside at base i noise v
+Inv-loop source layout noise₀ v₀ tables keys beside at₀ base₀ i₀ noise v at base i = RoundTables tables × Grown source layout keys beside at base i noise v
 
 abbrev μ-loop : tie.MeasureT-loop
-μ-loop source front noise₀ v₀ tables keys beside at₀ base₀ i₀ noise v at base i = front .trees - i
+μ-loop source layout noise₀ v₀ tables keys beside at₀ base₀ i₀ noise v at base i = layout .trees - i
 
 pub write-trees-spec : {M : Type 1} → statement M
 write-trees-spec =

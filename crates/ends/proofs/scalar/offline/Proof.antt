@@ -13,7 +13,7 @@ offline-spec =
     (λ c κs. search needs)  -- read-scalar-requires
     (λ c. search needs)  -- enum-known-r
     (λ c. search needs)  -- enum-told
-    (λ c κs. search needs)  -- fault-of-requires
+    (λ c κs. search needs)  -- record-fault-requires
     (λ c. search scalar-fault)  -- returns
     (λ c κs. search scalar-depth)  -- vector-words-requires
     (λ c. search w-short)  -- returns-2

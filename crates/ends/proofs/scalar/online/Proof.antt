@@ -12,7 +12,7 @@ online-spec =
     (λ c κs. search needs)  -- read-scalar-requires
     (λ c. search needs)  -- enum-known-r
     (λ c. search needs)  -- enum-told
-    (λ c κs. search needs)  -- fault-of-requires
+    (λ c κs. search needs)  -- record-fault-requires
     (λ c. search scalar-online-fault)  -- returns
     (λ c κs. search scalar-depth)  -- leaves-requires
     (λ c κs. search scalar-depth)  -- window-number-requires

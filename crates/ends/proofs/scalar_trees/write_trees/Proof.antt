@@ -8,10 +8,10 @@ use Rattle.ends.proofs.scalar_trees.write_trees.Statement.{statement}
 use Rattle.ends.proofs.scalar_trees.write_trees.Tie as tie
 
 abbrev Inv-loop : tie.InvT-loop
-Inv-loop source front w₀ tables keys i₀ w i = RoundTables tables × Rooted source front keys i w
+Inv-loop source layout w₀ tables keys i₀ w i = RoundTables tables × Rooted source layout keys i w
 
 abbrev μ-loop : tie.MeasureT-loop
-μ-loop source front w₀ tables keys i₀ w i = front .trees - i
+μ-loop source layout w₀ tables keys i₀ w i = layout .trees - i
 
 pub write-trees-spec : {M : Type 1} → statement M
 write-trees-spec =

@@ -14,7 +14,7 @@ use Rattle.tree_walk.proofs.children.Reads as children-reads
 use Rattle.tree_walk.proofs.power.Reads as power-reads
 use Rattle.fill.specs.Inner.Ranges.{leftOf}
 use Rattle.fill.proofs.Halves.{front-count}
-use Rattle.fill.proofs.Ranges.{two-some, one-falls, half-falls, one-range, front-range, back-range, pair-keys, bits-few, back-fits}
+use Rattle.fill.proofs.Ranges.{two-some, one-falls, half-falls, one-range, first-half-range, back-range, pair-keys, bits-few, back-fits}
 use Rattle.fill.proofs.Filled.{leaf-length, one-front, one-back, half-front, half-back, filled-leaf, filled-children, filled-halves}
 use Rattle.fill.proofs.Bottom.{bottom-branch, bottom-keys, bottom-length, filled-bottom}
 use Rattle.fill.proofs.Couples.{three-length, three-below}
@@ -69,7 +69,7 @@ pub +add-range-spec : {M : Type 1} → statement M
     (λ c. search back-fits)  -- add-add-range
     (λ c. search needs)  -- slice-relend-prefix-add-range-2
     (λ c. search front-count)  -- slice-aggregate-add-range-2
-    (λ c κs. (search (half-falls, two-some), (search needs, search front-range, search (half-front, two-some))))  -- add-range-requires-3
+    (λ c κs. (search (half-falls, two-some), (search needs, search first-half-range, search (half-front, two-some))))  -- add-range-requires-3
     (λ c. search needs)  -- mul-add-range-2
     (λ c. search needs)  -- sub-add-range-2
     (λ c. search needs)  -- part-add-range-start-2

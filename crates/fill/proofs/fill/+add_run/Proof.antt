@@ -12,7 +12,7 @@ use Rattle.fill.proofs.fill.add_range.Reads as add-range-reads
 use Rattle.tree_walk.proofs.power.Reads as power-reads
 use Rattle.fill.specs.Inner.Ranges.{leftOf}
 use Rattle.fill.proofs.Halves.{front-count}
-use Rattle.fill.proofs.Ranges.{sibling-room, sibling-range, run-few, run-fits, front-run, back-run}
+use Rattle.fill.proofs.Ranges.{sibling-room, sibling-range, run-few, run-fits, first-half-run, back-run}
 use Rattle.fill.proofs.Filled.{sibling-length, run-falls, run-half-front, run-half-back, filled-sibling, filled-runs}
 use Rattle.fill.proofs.fill.+add_run.{statement}
 use Rattle.fill.proofs.fill.+add_run.Tie.{close}
@@ -51,7 +51,7 @@ pub +add-run-spec : {M : Type 1} → statement M
     (λ c. search run-fits)  -- add-add-run
     (λ c. search needs)  -- slice-relend-prefix-add-run
     (λ c. search front-count)  -- slice-aggregate-add-run
-    (λ c κs. (search run-falls, (search needs, search front-run, search run-half-front)))  -- add-run-requires
+    (λ c κs. (search run-falls, (search needs, search first-half-run, search run-half-front)))  -- add-run-requires
     (λ c. search needs)  -- mul-add-run
     (λ c. search needs)  -- sub-add-run
     (λ c. search needs)  -- part-add-run-start

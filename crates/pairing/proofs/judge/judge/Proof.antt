@@ -13,12 +13,12 @@ judge-spec =
     (λ c κs. search needs)  -- read-noise-requires
     (λ c. search needs)  -- enum-known-a
     (λ c. search needs)  -- enum-told
-    (λ c κs. search needs)  -- fault-of-requires
+    (λ c κs. search needs)  -- record-fault-requires
     (λ c. search noise-number)  -- returns
     (λ c κs. search needs)  -- read-scalar-requires
     (λ c. search needs)  -- enum-known-b
     (λ c. search needs)  -- enum-told-2
-    (λ c κs. search needs)  -- fault-of-requires-2
+    (λ c κs. search needs)  -- record-fault-requires-2
     (λ c. search scalar-number)  -- returns-2
     (λ c κs. (search noise.ready, search scalar.ready))  -- compare-requires
     (λ c. search needs)  -- returns-3

@@ -9,10 +9,10 @@ use Rattle.record.proofs.writing.noise_length.Statement.{statement}
 use Rattle.record.proofs.writing.noise_length.Tie as tie
 
 abbrev Inv-loop : tie.InvT-loop
-Inv-loop front positions total₀ base₀ i₀ total base i = Sum front positions total base i
+Inv-loop layout positions total₀ base₀ i₀ total base i = Sum layout positions total base i
 
 abbrev μ-loop : tie.MeasureT-loop
-μ-loop front positions total₀ base₀ i₀ total base i = length positions - i
+μ-loop layout positions total₀ base₀ i₀ total base i = length positions - i
 
 pub noise-length-spec : {M : Type 1} → statement M
 noise-length-spec =

@@ -8,12 +8,12 @@ pub tree-length-spec : {M : Type 1} → statement M
 tree-length-spec =
     tie.close
     (tie.spec
-    (λ c κs. search needs)  -- front-length-requires
+    (λ c κs. search needs)  -- tree-start-length-requires
     (λ c κs. search needs)  -- sibling-count-requires
     (λ c. search needs)  -- mul-result
-    (λ c. tree-fits _ _ (c .before .front-length .ensures) (c .sibling-count .ensures))  -- add-result
+    (λ c. tree-fits _ _ (c .before .tree-start-length .ensures) (c .sibling-count .ensures))  -- add-result
     (λ c. (
-      tree-sum _ _ (c .before .front-length .ensures) _ (c .sibling-count .ensures),
-      tree-most _ _ (c .before .front-length .ensures) (c .sibling-count .ensures),
+      tree-sum _ _ (c .before .tree-start-length .ensures) _ (c .sibling-count .ensures),
+      tree-most _ _ (c .before .tree-start-length .ensures) (c .sibling-count .ensures),
     ))  -- returns
     )

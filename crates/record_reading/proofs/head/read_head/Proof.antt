@@ -11,7 +11,7 @@ read-head-spec =
     (λ c κs. search needs)  -- read-field-requires
     (λ c. search needs)  -- enum-known-r
     (λ c. search needs)  -- enum-told
-    (λ c κs. search needs)  -- fault-of-requires
+    (λ c κs. search needs)  -- number-fault-requires
     (λ c. search head-fault)  -- returns
     (λ c κs. search needs)  -- read-sizes-requires
     (λ c. search head-whole)  -- returns-2

@@ -11,7 +11,7 @@ read-sizes-spec =
     (λ c κs. search needs)  -- read-size-requires
     (λ c. search needs)  -- enum-known-r
     (λ c. search needs)  -- enum-told
-    (λ c κs. search needs)  -- fault-of-requires
+    (λ c κs. search needs)  -- number-fault-requires
     (λ c. search depth-fault)  -- returns
     (λ c κs. search size-most)  -- read-after-depth-requires
     (λ c. search depth-whole)  -- returns-2

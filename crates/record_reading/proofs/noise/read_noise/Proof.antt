@@ -8,10 +8,10 @@ use Rattle.record_reading.proofs.noise.read_noise.Statement.{statement}
 use Rattle.record_reading.proofs.noise.read_noise.Tie as tie
 
 abbrev Inv-loop : tie.InvT-loop
-Inv-loop source front field depth beside trees at₀ base₀ i₀ at base i = Turn source front beside at base i
+Inv-loop source layout field depth beside trees at₀ base₀ i₀ at base i = Turn source layout beside at base i
 
 abbrev μ-loop : tie.MeasureT-loop
-μ-loop source front field depth beside trees at₀ base₀ i₀ at base i = trees - i
+μ-loop source layout field depth beside trees at₀ base₀ i₀ at base i = trees - i
 
 pub read-noise-spec : {M : Type 1} → statement M
 read-noise-spec =
@@ -28,7 +28,7 @@ read-noise-spec =
     (λ c κs. search needs)  -- read-tree-requires
     (λ c. search needs)  -- enum-known-t
     (λ c. search needs)  -- enum-told-2
-    (λ c κs. search needs)  -- fault-of-requires
+    (λ c κs. search needs)  -- number-fault-requires
     (λ c. search turn-fault)  -- returns-2
     (λ c. search (needs, turn-fits))  -- add-base
     (λ c. omega arith)  -- add-i

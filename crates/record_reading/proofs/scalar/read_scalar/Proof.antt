@@ -15,13 +15,13 @@ read-scalar-spec =
     (λ c κs. search needs)  -- read-delta-requires
     (λ c. search needs)  -- enum-known-d
     (λ c. search needs)  -- enum-told-2
-    (λ c κs. search needs)  -- fault-of-requires
+    (λ c κs. search needs)  -- number-fault-requires
     (λ c. search delta-refused)  -- returns-2
     (λ c. search roots-fit)  -- mul-skip
     (λ c κs. search needs)  -- skip-requires
     (λ c. search needs)  -- enum-known-roots
     (λ c. search needs)  -- enum-told-3
-    (λ c κs. search needs)  -- fault-of-requires-2
+    (λ c κs. search needs)  -- number-fault-requires-2
     (λ c. search roots-refused)  -- returns-3
     (λ c. search scalar-after)  -- returns-4
     (λ c. search scalar-whole)  -- returns-5

@@ -15,6 +15,6 @@ round-number-spec =
     (λ c. search chain depth 12 fits 4000)  -- returns-4
     (λ c κs. search needs)  -- is-short-requires
     (λ c. search chain depth 12 fits 4000)  -- returns-5
-    (λ c κs. search needs)  -- byte-number-requires
+    (λ c κs. search needs)  -- bits-number-requires
     (λ c. search chain depth 12 fits 4000)  -- returns-6
     )

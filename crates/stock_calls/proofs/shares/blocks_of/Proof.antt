@@ -7,7 +7,7 @@ use Prim.Native.Nat.{_≤_, _-_}
 use native.Mathlib.Omega.{arith}
 use borrow.Author.Needs.{needs}
 use Rattle.stock.specs.Stock.{sumOf}
-use Rattle.stock.specs.Calls.{shareOf}
+use Rattle.stock.specs.Calls.{openingShare}
 use Rattle.stock_calls.specs.Inner.Steps.{starts, ends}
 use Rattle.stock_calls.proofs.shares.blocks_of.Statement.{statement}
 use Rattle.stock_calls.proofs.shares.blocks_of.Tie as tie
@@ -17,7 +17,7 @@ Inv-loop label callers shares n next₀ end₀ at₀ k₀ next end at k =
     (k ≤ n)
     × (next ≡ starts k shares)
     × (end ≡ ends k shares)
-    × (at ≡ sumOf k (shareOf shares))
+    × (at ≡ sumOf k (openingShare shares))
 
 abbrev μ-loop : tie.MeasureT-loop
 μ-loop label callers shares n next₀ end₀ at₀ k₀ next end at k = n - k

@@ -7,12 +7,12 @@ use native.Mathlib.Omega.{arith}
 use borrow.Author.Needs.{needs}
 use lib.ListN.{length}
 use Rattle.stock.specs.Stock.{entries}
-use Rattle.stock.specs.Calls.{shareOf}
+use Rattle.stock.specs.Calls.{openingShare}
 use Rattle.stock_calls.proofs.shares.padded.Statement.{statement}
 use Rattle.stock_calls.proofs.shares.padded.Tie as tie
 
 abbrev Inv-loop : tie.InvT-loop
-Inv-loop shares each₀ k₀ each k = (k ≤ length shares) × (each ≡ entries k (shareOf shares))
+Inv-loop shares each₀ k₀ each k = (k ≤ length shares) × (each ≡ entries k (openingShare shares))
 
 abbrev μ-loop : tie.MeasureT-loop
 μ-loop shares each₀ k₀ each k = length shares - k

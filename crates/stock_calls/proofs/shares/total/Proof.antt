@@ -6,12 +6,12 @@ use Prim.Native.Nat.{_≤_, _-_, _*_}
 use native.Mathlib.Omega.{arith}
 use borrow.Author.Needs.{needs}
 use Rattle.stock.specs.Stock.{sumOf}
-use Rattle.stock.specs.Calls.{shareOf}
+use Rattle.stock.specs.Calls.{openingShare}
 use Rattle.stock_calls.proofs.shares.total.Statement.{statement}
 use Rattle.stock_calls.proofs.shares.total.Tie as tie
 
 abbrev Inv-loop : tie.InvT-loop
-Inv-loop shares sum₀ k₀ sum k = (k ≤ 8) × (sum ≡ sumOf k (shareOf shares)) × (sum ≤ 4294967295 * k)
+Inv-loop shares sum₀ k₀ sum k = (k ≤ 8) × (sum ≡ sumOf k (openingShare shares)) × (sum ≤ 4294967295 * k)
 
 abbrev μ-loop : tie.MeasureT-loop
 μ-loop shares sum₀ k₀ sum k = 8 - k

@@ -9,7 +9,7 @@ pub pass-level-spec : {M : Type 1} → statement M
 pass-level-spec =
     tie.close
     (tie.spec
-    (λ c κs. (search needs, omega arith, search (needs, other-room)))  -- put-front-requires
+    (λ c κs. (search needs, omega arith, search (needs, other-room)))  -- put-before-requires
     (λ c κs. search needs)  -- pairs-after-requires
     (λ c. search needs)  -- mul-put-children
     (λ c. search needs)  -- add-put-children

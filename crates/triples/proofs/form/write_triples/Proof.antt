@@ -13,11 +13,11 @@ use Rattle.triples.proofs.form.write_triples.Statement.{statement}
 use Rattle.triples.proofs.form.write_triples.Tie as tie
 
 abbrev Inv-loop : tie.InvT-loop
-Inv-loop choices pads messages triples₀ k₀ triples k =
-    (k ≤ length choices) × (length triples ≡ length triples₀) × (triples ≡ over tripleBytes k (tripleOf choices pads messages) triples₀)
+Inv-loop choices pads padPairs triples₀ k₀ triples k =
+    (k ≤ length choices) × (length triples ≡ length triples₀) × (triples ≡ over tripleBytes k (tripleOf choices pads padPairs) triples₀)
 
 abbrev μ-loop : tie.MeasureT-loop
-μ-loop choices pads messages triples₀ k₀ triples k = length choices - k
+μ-loop choices pads padPairs triples₀ k₀ triples k = length choices - k
 
 pub write-triples-spec : {M : Type 1} → statement M
 write-triples-spec =

@@ -1,7 +1,0 @@
--- The three calls on a dealing's pads open the message wanted: the law of `messages`, where the choice names the pad.
-use Rattle.messages.proofs.Opening.{opening}
-use Rattle.dealt_pads.specs.Messages.{Messages}
-use Rattle.dealt_pads.proofs.Taken.{named}
-
-pub messages : Messages
-messages D B F T = opening B F (λ k h. named D (B .choices) (B .noisePads) (B .scalarPads) k (T k h))

@@ -1,0 +1,183 @@
+-- Stocks whose blocks follow each other: what opening and passage make, and what a draw leaves.
+use mathlib.Core.Path.{_≡_, refl, sym, _∙_}
+use mathlib.Core.Bool.{true}
+use mathlib.Core.Logic.{_⊎_, inl, inr}
+use Prim.Native.Nat.{ℕ, suc, _+_, _-_, _≤_, _<_}
+use native.Mathlib.Omega.{arith}
+use lib.Dec.{ltb}
+use lib.ListN.{length, length-set}
+use lib.Seq.{getD-set-same, getD-set-other}
+use borrow.Author.Tests.{ltb-true, lt-ltb, le-ltb}
+use Rattle.algebra.proofs.Tests.{and-left, and-right}
+use Rattle.answer.proofs.Answers.{answered-cases}
+use Rattle.stock.specs.declared.Label.{Label}
+use Rattle.stock.specs.declared.Stock.{Stock}
+use Rattle.stock.specs.Label.{numberOf}
+use Rattle.stock.specs.Stock.{isCaller, nextOf, endOf, remaining, sumOf, held, shareBlocks}
+use Rattle.stock.specs.Calls.{withStock, drawTests, advanced, acceptedDraw, refusedDraw, draw, passTests, pass}
+use Rattle.stock.proofs.Cases.{by-order, by-equality}
+use Rattle.stock.proofs.Entries.{entries-length, entries-in, sum-suc, sum-grows, sum-same, sum-stays, sum-less}
+
+-- at most eight callers, each with its block, and the blocks one after the other
+pub record Well (s : Stock) : Type 0 where
+  pub size : length (s .next) ≡ 8
+  pub most : s .callers ≤ 8
+  pub ordered : (k : ℕ) → k < s .callers → nextOf s k ≤ endOf s k
+  pub apart : (j k : ℕ) → j < k → k < s .callers → endOf s j ≤ nextOf s k
+
+-- ---- what a caller holds
+
+pub is-caller : (s : Stock) (k : ℕ) → isCaller s k ≡ true → (k < 8) × (k < s .callers)
+unfolding isCaller
+is-caller s k e =
+    (ltb-true k 8 (and-left (ltb k 8) (ltb k (s .callers)) e), ltb-true k (s .callers) (and-right (ltb k 8) (ltb k (s .callers)) e))
+
+pub holds-in : (s : Stock) (k : ℕ) → s .callers ≤ 8 → k < s .callers → remaining s k ≡ endOf s k - nextOf s k
+unfolding remaining isCaller
+holds-in s k most h = rw (lt-ltb k 8 (omega arith), lt-ltb k (s .callers) h)
+
+pub holds-past : (s : Stock) (k : ℕ) → s .callers ≤ 8 → s .callers ≤ k → remaining s k ≡ 0
+unfolding remaining isCaller
+holds-past s k most h = by-order k 8 (λ b. rw (lt-ltb k 8 b, le-ltb k (s .callers) h)) (λ a. rw (le-ltb k 8 a))
+
+-- ---- blocks
+
+module _ (l : Label) (n : ℕ) (share : ℕ → ℕ) (most : n ≤ 8) where
+  pub blocks-next : (k : ℕ) → k < n → nextOf (shareBlocks l n share) k ≡ sumOf k share
+  unfolding shareBlocks
+  blocks-next k h = entries-in n (λ k. sumOf k share) k (omega arith) h
+
+  pub blocks-end : (k : ℕ) → k < n → endOf (shareBlocks l n share) k ≡ sumOf (suc k) share
+  unfolding shareBlocks
+  blocks-end k h = entries-in n (λ k. sumOf (suc k) share) k (omega arith) h
+
+  pub blocks-callers : shareBlocks l n share .callers ≡ n
+  unfolding shareBlocks
+  blocks-callers = refl
+
+  pub blocks-well : Well (shareBlocks l n share)
+  blocks-well =
+      record {
+        size = unfold shareBlocks in entries-length n (λ k. sumOf k share);
+        most = rw blocks-callers most;
+        ordered = λ k h. let w : k < n = rw (sym blocks-callers) h in rw (blocks-next k w, blocks-end k w) (sum-grows k (suc k) share (omega arith));
+        apart = λ j k b h.
+            let w : k < n = rw (sym blocks-callers) h in
+            rw (blocks-next k w, blocks-end j (omega arith)) (sum-grows (suc j) k share b);
+      }
+
+  pub blocks-holds : ((k : ℕ) → n ≤ k → share k ≡ 0) → (k : ℕ) → remaining (shareBlocks l n share) k ≡ share k
+  blocks-holds none k =
+      by-order k n
+      (λ b. holds-in (shareBlocks l n share) k (blocks-well .most) (rw blocks-callers b)
+      ∙ (let e = blocks-next k b in let f = blocks-end k b in let g = sum-suc k share in omega arith))
+      (λ a. holds-past (shareBlocks l n share) k (blocks-well .most) (rw blocks-callers a) ∙ sym (none k a))
+
+  pub blocks-held : ((k : ℕ) → n ≤ k → share k ≡ 0) → held (shareBlocks l n share) ≡ sumOf n share
+  unfolding held
+  blocks-held none = sum-same 8 (remaining (shareBlocks l n share)) share (λ k h. blocks-holds none k) ∙ sum-stays n 8 share most none
+
+-- ---- a draw
+
+-- an accepted draw raises the caller's next index; a refused one changes nothing
+pub record Accepted (s : Stock) (l : Label) (k c : ℕ) : Type 0 where
+  pub label : numberOf l ≡ numberOf (s .label)
+  pub caller : isCaller s k ≡ true
+  pub enough : c ≤ remaining s k
+  pub drawn : draw s l k c ≡ acceptedDraw s k c
+
+pub record Refused (s : Stock) (l : Label) (k c : ℕ) : Type 0 where
+  pub fault : ℕ
+  pub kept : draw s l k c ≡ refusedDraw s (suc fault)
+
+pub draw-cases : (s : Stock) (l : Label) (k c : ℕ) → Accepted s l k c ⊎ Refused s l k c
+unfolding draw
+draw-cases s l k c =
+    answered-cases (drawTests s l k c) (refusedDraw s) (acceptedDraw s k c) refl
+    (λ m e. inl (record { label = m .all .0; caller = m .all .1 .0; enough = m .all .1 .1 .0; drawn = e }))
+    (λ n e. inr (record { fault = n; kept = e }))
+
+module _ (s : Stock) (W : Well s) (l : Label) (k c : ℕ) (a : Accepted s l k c) where
+  below : (k < 8) × (k < s .callers)
+  below = is-caller s k (a .caller)
+
+  pub advanced-label : advanced s k c .label ≡ s .label
+  unfolding advanced
+  advanced-label = refl
+
+  pub advanced-callers : advanced s k c .callers ≡ s .callers
+  unfolding advanced
+  advanced-callers = refl
+
+  pub advanced-end : (j : ℕ) → endOf (advanced s k c) j ≡ endOf s j
+  unfolding advanced
+  advanced-end j = refl
+
+  pub advanced-next : nextOf (advanced s k c) k ≡ nextOf s k + c
+  unfolding advanced
+  advanced-next = getD-set-same (s .next) k (nextOf s k + c) 0 (let h = below in let e = W .size in omega arith)
+
+  pub advanced-other : (j : ℕ) → (j ≡ k → ⊥) → nextOf (advanced s k c) j ≡ nextOf s j
+  unfolding advanced
+  advanced-other j n = getD-set-other (s .next) k j (nextOf s k + c) 0 n
+
+  pub fits-block : nextOf s k + c ≤ endOf s k
+  fits-block = let h = holds-in s k (W .most) (below .1) in let o = W .ordered k (below .1) in let e = a .enough in omega arith
+
+  pub advanced-grows : (j : ℕ) → nextOf s j ≤ nextOf (advanced s k c) j
+  advanced-grows j =
+      by-equality j k (λ e. rw e (let n = advanced-next in omega arith)) (λ n. let o = advanced-other j n in omega arith)
+
+  pub advanced-well : Well (advanced s k c)
+  advanced-well =
+      record {
+        size = unfold advanced in (length-set (s .next) k (nextOf s k + c) ∙ W .size);
+        most = rw advanced-callers (W .most);
+        ordered = λ j h.
+            let w : j < s .callers = rw (sym advanced-callers) h in
+            by-equality j k
+            (λ e. rw e (let n = advanced-next in let b = fits-block in let d = advanced-end k in omega arith))
+            (λ n. let o = advanced-other j n in let b = W .ordered j w in let d = advanced-end j in omega arith);
+        apart = λ i j b h.
+            let w : j < s .callers = rw (sym advanced-callers) h in
+            let p = W .apart i j b w in let g = advanced-grows j in let d = advanced-end i in omega arith;
+      }
+
+  pub advanced-holds : remaining s k ≡ remaining (advanced s k c) k + c
+  advanced-holds =
+      let h = holds-in s k (W .most) (below .1) in
+      let g = holds-in (advanced s k c) k (advanced-well .most) (rw advanced-callers (below .1)) in
+      let n = advanced-next in let d = advanced-end k in let e = a .enough in
+      omega arith
+
+  pub advanced-keeps : (j : ℕ) → (j ≡ k → ⊥) → remaining s j ≡ remaining (advanced s k c) j
+  advanced-keeps j n =
+      by-order j (s .callers)
+      (λ b. let h = holds-in s j (W .most) b in
+      let g = holds-in (advanced s k c) j (advanced-well .most) (rw advanced-callers b) in
+      let o = advanced-other j n in let d = advanced-end j in omega arith)
+      (λ p. let h = holds-past s j (W .most) p in
+      let g = holds-past (advanced s k c) j (advanced-well .most) (rw advanced-callers p) in omega arith)
+
+  pub advanced-held : c + held (advanced s k c) ≡ held s
+  unfolding held
+  advanced-held = let l = sum-less 8 k c (remaining s) (remaining (advanced s k c)) (below .0) advanced-holds advanced-keeps in omega arith
+
+-- ---- a passage
+
+-- an accepted passage raises the label and lays the unspent shares out anew; a refused one changes nothing
+pub record Fresh (s : Stock) (l : Label) (n : ℕ) : Type 0 where
+  pub above : numberOf (s .label) < numberOf l
+  pub room : held s ≤ n
+  pub gave : pass s l n ≡ withStock (shareBlocks l (s .callers) (remaining s)) 0
+
+pub record Stale (s : Stock) (l : Label) (n : ℕ) : Type 0 where
+  pub fault : ℕ
+  pub kept : pass s l n ≡ withStock s (suc fault)
+
+pub pass-cases : (s : Stock) (l : Label) (n : ℕ) → Fresh s l n ⊎ Stale s l n
+unfolding pass
+pass-cases s l n =
+    answered-cases (passTests s l n) (withStock s) (withStock (shareBlocks l (s .callers) (remaining s)) 0) refl
+    (λ m e. inl (record { above = ltb-true (numberOf (s .label)) (numberOf l) (m .all .1 .0); room = m .all .1 .1 .0; gave = e }))
+    (λ n e. inr (record { fault = n; kept = e }))

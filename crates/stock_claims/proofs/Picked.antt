@@ -1,0 +1,102 @@
+-- Laws of picked calls, and of the last accepted passage in a list of made calls.
+use mathlib.Core.Path.{_≡_, refl, sym, ap, _∙_}
+use mathlib.Core.Bool.{Bool, true, false, _||_}
+use mathlib.Core.List.{List, [], _∷_, _++_}
+use Prim.Native.Nat.{ℕ, _+_}
+use native.Mathlib.Omega.{arith}
+use Rattle.algebra.specs.Choice.{choose}
+use Rattle.stock.proofs.Cases.{by-test}
+use Rattle.stock_claims.specs.Lists.{Call, StockMade, those, anyOf, acceptedPassage, handedBy, handed, upToPassage, sincePassage, outputsOf, outputsIn}
+
+-- ---- picked calls
+
+module _ {A : Type 0} (p : A → Bool) (a : A) (l : List A) where
+  pub those-in : p a ≡ true → those p (a ∷ l) ≡ a ∷ those p l
+  unfolding those
+  those-in e = rw e
+
+  pub those-out : p a ≡ false → those p (a ∷ l) ≡ those p l
+  unfolding those
+  those-out e = rw e
+
+  pub some-in : p a ≡ true → anyOf p (a ∷ l) ≡ true
+  unfolding anyOf
+  some-in e = rw e
+
+  pub some-out : p a ≡ false → anyOf p (a ∷ l) ≡ anyOf p l
+  unfolding anyOf
+  some-out e = rw e
+
+-- with one more at the end
+module _ {A : Type 0} (p : A → Bool) (a : A) where
+  some-more : (l : List A) → p a ≡ true → anyOf p (l ++ (a ∷ [])) ≡ true
+  unfolding anyOf
+  some-more [] e = rw e
+  some-more (b ∷ l) e = by-test (p b) (λ y. rw y) (λ n. rw n (some-more l e))
+
+  some-same : (l : List A) → p a ≡ false → anyOf p (l ++ (a ∷ [])) ≡ anyOf p l
+  unfolding anyOf
+  some-same [] e = rw e
+  some-same (b ∷ l) e = ap (λ (t : Bool). p b || t) (some-same l e)
+
+-- ---- the last accepted passage
+
+module _ (m : StockMade) (h : List StockMade) where
+  up-to-in : anyOf acceptedPassage (m ∷ h) ≡ true → upToPassage (m ∷ h) ≡ m ∷ upToPassage h
+  unfolding upToPassage
+  up-to-in e = ap (λ (t : Bool). choose t (m ∷ upToPassage h) []) e
+
+  up-to-out : anyOf acceptedPassage (m ∷ h) ≡ false → upToPassage (m ∷ h) ≡ []
+  unfolding upToPassage
+  up-to-out e = ap (λ (t : Bool). choose t (m ∷ upToPassage h) []) e
+
+  since-in : anyOf acceptedPassage (m ∷ h) ≡ true → sincePassage (m ∷ h) ≡ sincePassage h
+  unfolding sincePassage
+  since-in e = ap (λ (t : Bool). choose t (sincePassage h) (m ∷ h)) e
+
+  since-out : anyOf acceptedPassage (m ∷ h) ≡ false → sincePassage (m ∷ h) ≡ m ∷ h
+  unfolding sincePassage
+  since-out e = ap (λ (t : Bool). choose t (sincePassage h) (m ∷ h)) e
+
+-- with one more accepted passage
+module _ (m : StockMade) (y : acceptedPassage m ≡ true) where
+  pub up-to-passed : (h : List StockMade) → upToPassage (h ++ (m ∷ [])) ≡ h ++ (m ∷ [])
+  unfolding upToPassage
+  up-to-passed [] = up-to-in m [] (some-in acceptedPassage m [] y)
+  up-to-passed (a ∷ h) = up-to-in a (h ++ (m ∷ [])) (some-more acceptedPassage m (a ∷ h) y) ∙ ap (λ (l : List StockMade). a ∷ l) (up-to-passed h)
+
+  pub since-passed : (h : List StockMade) → sincePassage (h ++ (m ∷ [])) ≡ []
+  unfolding sincePassage
+  since-passed [] = since-in m [] (some-in acceptedPassage m [] y)
+  since-passed (a ∷ h) = since-in a (h ++ (m ∷ [])) (some-more acceptedPassage m (a ∷ h) y) ∙ since-passed h
+
+-- with one more call that is none
+module _ (m : StockMade) (n : acceptedPassage m ≡ false) where
+  pub up-to-not : (h : List StockMade) → upToPassage (h ++ (m ∷ [])) ≡ upToPassage h
+  unfolding upToPassage anyOf
+  up-to-not [] = up-to-out m [] (some-same acceptedPassage m [] n)
+  up-to-not (a ∷ h) =
+      let e = some-same acceptedPassage m (a ∷ h) n in
+      by-test (anyOf acceptedPassage (a ∷ h))
+      (λ t. up-to-in a (h ++ (m ∷ [])) (e ∙ t) ∙ ap (λ (l : List StockMade). a ∷ l) (up-to-not h) ∙ sym (up-to-in a h t))
+      (λ t. up-to-out a (h ++ (m ∷ [])) (e ∙ t) ∙ sym (up-to-out a h t))
+
+  pub since-not : (h : List StockMade) → sincePassage (h ++ (m ∷ [])) ≡ sincePassage h ++ (m ∷ [])
+  unfolding sincePassage anyOf
+  since-not [] = since-out m [] (some-same acceptedPassage m [] n)
+  since-not (a ∷ h) =
+      let e = some-same acceptedPassage m (a ∷ h) n in
+      by-test (anyOf acceptedPassage (a ∷ h))
+      (λ t. since-in a (h ++ (m ∷ [])) (e ∙ t) ∙ since-not h ∙ ap (λ (l : List StockMade). l ++ (m ∷ [])) (sym (since-in a h t)))
+      (λ t. since-out a (h ++ (m ∷ [])) (e ∙ t) ∙ ap (λ (l : List StockMade). l ++ (m ∷ [])) (sym (since-out a h t)))
+
+module _ (m : StockMade) where
+  pub outputs-more : (n : ℕ) (h : List StockMade) → outputsIn n (h ++ (m ∷ [])) ≡ choose (acceptedPassage m) (outputsOf (m .call)) (outputsIn n h)
+  unfolding outputsIn
+  outputs-more n [] = refl
+  outputs-more n (a ∷ h) = outputs-more (choose (acceptedPassage a) (outputsOf (a .call)) n) h
+
+  pub handed-more : (p : Call → Bool) (h : List StockMade) → handed p (h ++ (m ∷ [])) ≡ handed p h + handedBy p m
+  unfolding handed
+  handed-more p [] = omega arith
+  handed-more p (a ∷ h) = let ih = handed-more p h in omega arith

@@ -1,0 +1,277 @@
+-- What one call of a list does to a stock.
+use mathlib.Core.Path.{_≡_, refl, sym, ap, _∙_}
+use mathlib.Core.Bool.{Bool, true, false, _&&_, false≢true}
+use mathlib.Core.Logic.{_⊎_, inl, inr, ⊎-elim}
+use Prim.Native.Nat.{ℕ, suc, _+_, _≤_, _<_}
+use native.Mathlib.Omega.{arith}
+use lib.Dec.{eqb, eqb·suc-zero}
+use borrow.Author.Tests.{eq-eqb, ne-eqb, eqb-true}
+use Rattle.algebra.proofs.Choice.{choose-either}
+use Rattle.stock.specs.declared.Label.{Label}
+use Rattle.stock.specs.declared.Stock.{Stock}
+use Rattle.stock.specs.Label.{numberOf}
+use Rattle.stock.specs.Stock.{nextOf, endOf, remaining, sumOf, held, shareBlocks}
+use Rattle.stock.specs.Calls.{advanced}
+use Rattle.stock_claims.specs.Lists.{Call, draws, previews, passes, StockMade, make, aDraw, drawsOf, drawsUnder, acceptedPassage, handedBy, outputsOf, HandsOut}
+use Rattle.stock.proofs.Cases.{by-order, by-equality}
+use Rattle.stock_claims.proofs.Blocks.{Well, holds-past, blocks-next, blocks-end, blocks-callers, blocks-well, blocks-holds, Accepted, Refused, draw-cases, Fresh, Stale, pass-cases, is-caller, advanced-label, advanced-callers, advanced-end, advanced-next, advanced-other, fits-block, advanced-well, advanced-holds, advanced-keeps, advanced-held}
+use Rattle.stock.proofs.Entries.{sum-same}
+
+-- what every call keeps: the blocks follow each other, and what it hands out is what its caller, and all callers, hold less
+pub record Kept (s : Stock) (m : StockMade) : Type 0 where
+  pub well : Well (m .after)
+  pub callers : m .after .callers ≡ s .callers
+  pub remaining : (j : ℕ) → handedBy (drawsOf j) m + remaining (m .after) j ≡ remaining s j
+  pub held : handedBy aDraw m + held (m .after) ≡ held s
+
+-- a call under which the label stays: so do the blocks, and each caller's next index moves on by what the call hands it
+pub record Stayed (s : Stock) (m : StockMade) : Type 0 where
+  pub label : m .after .label ≡ s .label
+  pub end : (j : ℕ) → endOf (m .after) j ≡ endOf s j
+  pub next : (j : ℕ) → nextOf (m .after) j ≡ nextOf s j + handedBy (drawsOf j) m
+  pub under : handedBy (drawsUnder (numberOf (s .label))) m ≡ handedBy aDraw m
+  pub other : (L : ℕ) → (L ≡ numberOf (s .label) → ⊥) → handedBy (drawsUnder L) m ≡ 0
+  pub not-passed : acceptedPassage m ≡ false
+
+-- an accepted passage: the label rises, and the blocks are laid out anew
+pub record Moved (s : Stock) (m : StockMade) : Type 0 where
+  pub above : numberOf (s .label) < numberOf (m .after .label)
+  pub next : (j : ℕ) → j < s .callers → nextOf (m .after) j ≡ sumOf j (remaining (m .after))
+  pub end : (j : ℕ) → j < s .callers → endOf (m .after) j ≡ sumOf (suc j) (remaining (m .after))
+  pub room : held (m .after) ≤ outputsOf (m .call)
+  pub other : (L : ℕ) → handedBy (drawsUnder L) m ≡ 0
+  pub is-passed : acceptedPassage m ≡ true
+
+-- ---- the calls as they are made
+
+pub make-call : (s : Stock) (c : Call) → make s c .call ≡ c
+unfolding make
+make-call s (draws l k c) = refl
+make-call s (previews l k c) = refl
+make-call s (passes l n) = refl
+
+abbrev pub drawn : Stock → Label → ℕ → ℕ → StockMade
+drawn s l k c = record { call = draws l k c; reply = record { number = 0; first = nextOf s k; count = c }; after = advanced s k c }
+
+-- a refused call
+abbrev turned : Stock → Call → ℕ → StockMade
+turned s c n = record { call = c; reply = record { number = suc n; first = 0; count = 0 }; after = s }
+
+abbrev moved : Stock → Label → ℕ → StockMade
+moved s l n = record { call = passes l n; reply = record { number = 0; first = 0; count = 0 }; after = shareBlocks l (s .callers) (remaining s) }
+
+pub make-drawn : (s : Stock) (l : Label) (k c : ℕ) → Accepted s l k c → make s (draws l k c) ≡ drawn s l k c
+unfolding make
+make-drawn s l k c a = rw (a .drawn)
+
+make-turned : (s : Stock) (l : Label) (k c : ℕ) (r : Refused s l k c) → make s (draws l k c) ≡ turned s (draws l k c) (r .fault)
+unfolding make
+make-turned s l k c r = rw (r .kept)
+
+pub make-moved : (s : Stock) (l : Label) (n : ℕ) → Fresh s l n → make s (passes l n) ≡ moved s l n
+unfolding make
+make-moved s l n f = rw (f .gave)
+
+pub make-stale : (s : Stock) (l : Label) (n : ℕ) (t : Stale s l n) → make s (passes l n) ≡ turned s (passes l n) (t .fault)
+unfolding make
+make-stale s l n t = rw (t .kept)
+
+-- a refused call hands out nothing
+none-turned : (p : Call → Bool) (s : Stock) (c : Call) (n : ℕ) → handedBy p (turned s c n) ≡ 0
+none-turned p s c n = choose-either (λ (x : ℕ). x ≡ 0) (p c && eqb (suc n) 0) 0 0 refl refl
+
+module _ (s : Stock) (W : Well s) where
+  kept-turned : (c : Call) (n : ℕ) → Kept s (turned s c n)
+  kept-turned c n =
+      record {
+        well = W;
+        callers = refl;
+        remaining = λ j. let z = none-turned (drawsOf j) s c n in omega arith;
+        held = let z = none-turned aDraw s c n in omega arith;
+      }
+
+  stayed-turned : (c : Call) (n : ℕ) → acceptedPassage (turned s c n) ≡ false → Stayed s (turned s c n)
+  stayed-turned c n q =
+      record {
+        label = refl;
+        end = λ j. refl;
+        next = λ j. let z = none-turned (drawsOf j) s c n in omega arith;
+        under = none-turned (drawsUnder (numberOf (s .label))) s c n ∙ sym (none-turned aDraw s c n);
+        other = λ L d. none-turned (drawsUnder L) s c n;
+        not-passed = q;
+      }
+
+  kept-drawn : (l : Label) (k c : ℕ) → Accepted s l k c → Kept s (drawn s l k c)
+  kept-drawn l k c a =
+      record {
+        well = advanced-well s W l k c a;
+        callers = advanced-callers s W l k c a;
+        remaining = λ j. by-equality j k
+            (λ e. rw (e, eq-eqb k k refl) (let h = advanced-holds s W l k c a in omega arith))
+            (λ n. rw (ne-eqb j k n) (let o = advanced-keeps s W l k c a j n in omega arith));
+        held = advanced-held s W l k c a;
+      }
+
+  stayed-drawn : (l : Label) (k c : ℕ) → Accepted s l k c → Stayed s (drawn s l k c)
+  stayed-drawn l k c a =
+      record {
+        label = advanced-label s W l k c a;
+        end = advanced-end s W l k c a;
+        next = λ j. by-equality j k
+            (λ e. rw (e, eq-eqb k k refl) (advanced-next s W l k c a))
+            (λ n. rw (ne-eqb j k n) (let o = advanced-other s W l k c a j n in omega arith));
+        under = rw (eq-eqb (numberOf (s .label)) (numberOf l) (sym (a .label)));
+        other = λ L d. rw (ne-eqb L (numberOf l) (λ e. d (e ∙ a .label)));
+        not-passed = refl;
+      }
+
+  same-holds : (l : Label) (j : ℕ) → remaining (shareBlocks l (s .callers) (remaining s)) j ≡ remaining s j
+  same-holds l j = blocks-holds l (s .callers) (remaining s) (W .most) (λ k h. holds-past s k (W .most) h) j
+
+  same-held : (l : Label) → held (shareBlocks l (s .callers) (remaining s)) ≡ held s
+  unfolding held
+  same-held l = sum-same 8 _ _ (λ j h. same-holds l j)
+
+  kept-moved : (l : Label) (n : ℕ) → Kept s (moved s l n)
+  kept-moved l n =
+      record {
+        well = blocks-well l (s .callers) (remaining s) (W .most);
+        callers = blocks-callers l (s .callers) (remaining s) (W .most);
+        remaining = λ j. let e = same-holds l j in omega arith;
+        held = let e = same-held l in omega arith;
+      }
+
+  moved-moved : (l : Label) (n : ℕ) → Fresh s l n → Moved s (moved s l n)
+  moved-moved l n f =
+      record {
+        above = unfold shareBlocks in f .above;
+        next = λ j h. blocks-next l (s .callers) (remaining s) (W .most) j h ∙ sym (sum-same j _ _ (λ i b. same-holds l i));
+        end = λ j h. blocks-end l (s .callers) (remaining s) (W .most) j h ∙ sym (sum-same (suc j) _ _ (λ i b. same-holds l i));
+        room = let e = same-held l in let r = f .room in omega arith;
+        other = λ L. refl;
+        is-passed = refl;
+      }
+
+  kept-previewed : (l : Label) (k c : ℕ) → Kept s (make s (previews l k c))
+  unfolding make
+  kept-previewed l k c = record { well = W; callers = refl; remaining = λ j. omega arith; held = omega arith }
+
+  pub stayed-preview : (l : Label) (k c : ℕ) → Stayed s (make s (previews l k c))
+  unfolding make
+  stayed-preview l k c =
+      record { label = refl; end = λ j. refl; next = λ j. omega arith; under = refl; other = λ L d. refl; not-passed = refl }
+
+  pub kept : (c : Call) → Kept s (make s c)
+  kept (draws l k c) =
+      ⊎-elim
+      (λ a. rw (make-drawn s l k c a) (kept-drawn l k c a))
+      (λ r. rw (make-turned s l k c r) (kept-turned (draws l k c) (r .fault)))
+      (draw-cases s l k c)
+  kept (previews l k c) = kept-previewed l k c
+  kept (passes l n) =
+      ⊎-elim
+      (λ f. rw (make-moved s l n f) (kept-moved l n))
+      (λ t. rw (make-stale s l n t) (kept-turned (passes l n) (t .fault)))
+      (pass-cases s l n)
+
+  pub stayed-draw : (l : Label) (k c : ℕ) → Stayed s (make s (draws l k c))
+  stayed-draw l k c =
+      ⊎-elim
+      (λ a. rw (make-drawn s l k c a) (stayed-drawn l k c a))
+      (λ r. rw (make-turned s l k c r) (stayed-turned (draws l k c) (r .fault) refl))
+      (draw-cases s l k c)
+
+  pub stayed-stale : (l : Label) (n : ℕ) → Stale s l n → Stayed s (make s (passes l n))
+  stayed-stale l n t = rw (make-stale s l n t) (stayed-turned (passes l n) (t .fault) (eqb·suc-zero (t .fault)))
+
+  moved-fresh : (l : Label) (n : ℕ) → Fresh s l n → Moved s (make s (passes l n))
+  moved-fresh l n f = rw (make-moved s l n f) (moved-moved l n f)
+
+  pub moved-passed : (l : Label) (n : ℕ) → Fresh s l n → acceptedPassage (make s (passes l n)) ≡ true
+  moved-passed l n f = moved-fresh l n f .is-passed
+
+  pub step : (c : Call) → Stayed s (make s c) ⊎ Moved s (make s c)
+  step (draws l k c) = inl (stayed-draw l k c)
+  step (previews l k c) = inl (stayed-preview l k c)
+  step (passes l n) =
+      ⊎-elim (λ f. inr (moved-fresh l n f)) (λ t. inl (stayed-stale l n t)) (pass-cases s l n)
+
+  -- labels do not fall
+  pub label-rises : (c : Call) → numberOf (s .label) ≤ numberOf (make s c .after .label)
+  label-rises c =
+      ⊎-elim (λ S. let e = ap numberOf (S .label) in omega arith) (λ M. let a = M .above in omega arith) (step c)
+
+  -- ---- the indices that are not handed out yet
+
+  pub accepted-draw : (l : Label) (k c : ℕ) → make s (draws l k c) .reply .number ≡ 0 → Accepted s l k c
+  accepted-draw l k c z =
+      ⊎-elim
+      (λ a. a)
+      (λ r. let e = ap (λ (m : StockMade). m .reply .number) (make-turned s l k c r) in absurd (omega arith))
+      (draw-cases s l k c)
+
+-- an index of what a caller still holds
+pub record Free (s : Stock) (x : ℕ) : Type 0 where
+  pub k : ℕ
+  pub caller : k < s .callers
+  pub from : nextOf s k ≤ x
+  pub below : x < endOf s k
+
+-- a draw hands out, under the label in use, what was free before it and is not free after it
+module _ (s : Stock) (W : Well s) (l : Label) (k c L x : ℕ) (h : HandsOut (make s (draws l k c)) L x) where
+  accept : Accepted s l k c
+  accept = accepted-draw s W l k c (h .is-accepted)
+
+  pub hands-label : L ≡ numberOf (s .label)
+  hands-label =
+      let d : eqb L (numberOf l) ≡ true = rw (make-call s (draws l k c)) at (h .drawn) in
+      eqb-true L (numberOf l) d ∙ accept .label
+
+  window : (nextOf s k ≤ x) × (x < nextOf s k + c)
+  window =
+      let e = make-drawn s l k c accept in
+      (rw e at (h .from), rw e at (h .below))
+
+  pub hands-free : Free s x
+  hands-free =
+      record {
+        k = k;
+        caller = is-caller s k (accept .caller) .1;
+        from = window .0;
+        below = let f = fits-block s W l k c accept in let w = window in omega arith;
+      }
+
+  gone : Free (advanced s k c) x → ⊥
+  gone f =
+      let j = f .k in
+      let w = window in
+      let b = fits-block s W l k c accept in
+      let n = is-caller s k (accept .caller) .1 in
+      let d = advanced-end s W l k c accept j in
+      let u = advanced-callers s W l k c accept in
+      let lo = f .from in
+      let hi = f .below in
+      let cj = f .caller in
+      by-equality j k
+      (λ e. let g : nextOf (advanced s k c) j ≡ nextOf s k + c = rw e (advanced-next s W l k c accept) in omega arith)
+      (λ q. let o = advanced-other s W l k c accept j q in
+      by-order j k
+      (λ l. let p = W .apart j k l n in omega arith)
+      (λ l. let p = W .apart k j (by-order k j (λ r. r) (λ r. absurd (q (omega arith)))) (omega arith) in omega arith))
+
+  pub hands-gone : Free (make s (draws l k c) .after) x → ⊥
+  hands-gone f = gone (rw (make-drawn s l k c accept) at f)
+
+-- nothing but a draw hands out anything
+pub hands-none : (s : Stock) (c : Call) (L x : ℕ) → drawsUnder L c ≡ false → HandsOut (make s c) L x → ⊥
+hands-none s c L x n o = false≢true (sym (ap (drawsUnder L) (make-call s c) ∙ n) ∙ o .drawn)
+
+-- while the label stays, what is free after a call was free before it
+pub free-before : (s : Stock) (m : StockMade) → Kept s m → Stayed s m → (x : ℕ) → Free (m .after) x → Free s x
+free-before s m K S x f =
+    record {
+      k = f .k;
+      caller = rw (K .callers) at (f .caller);
+      from = let n = S .next (f .k) in let l = f .from in omega arith;
+      below = rw (S .end (f .k)) at (f .below);
+    }
