@@ -681,8 +681,8 @@ struct expander_one_length expander_unmask_messages(
  *  exchanged and the same indices, and then, at each output, both ends' third bits combined are the
  *  AND of both first bits combined and both second bits combined.
  *
- *  With a the choice and h the pad's bit in the first dealing, and r and q the bits of both
- *  messages' pads in the second, the triple is a, r ^ q, (a & (r ^ q)) ^ h ^ r. A pad's bit is the
+ *  With a the choice and h the pad's bit in the first dealing, and r and q the bits of both pads
+ *  in the second, the triple is a, r ^ q, (a & (r ^ q)) ^ h ^ r. A pad's bit is the
  *  lowest one of its first byte.
  *
  *  Returns:  a number, and the bytes written to triples_out (3 c, where c is choices_len).

@@ -39,7 +39,7 @@ use Rattle.ends.specs.Scalar.Offline as scalarOffline
 use Rattle.ends.specs.Scalar.Vectors as scalarEnd
 use Rattle.ends.specs.Scalar.Vectors.{delta, w0}
 use Rattle.claims.proofs.Dealt.{delta-told}
-use Rattle.claims.specs.Buffers.{AccumulatedAt, ExpandedAt, Below, Buffers}
+use Rattle.claims.specs.Buffers.{AccumulatedAt, VectorsAt, Below, Buffers}
 
 -- ---- what is admitted, tree by tree
 
@@ -158,16 +158,16 @@ module _ (h : Head) where
         (accumulate (fieldOf h .ring .group) (mu (noiseOffline.content E)) j)
         (accumulate (fieldOf h .scaled .group) (v0 (noiseOffline.content E)) j)
         (accumulate (fieldOf h .scaled .group) (w0 (scalarOffline.content D)) j))
-        ↔ Below k (ExpandedAt E D)
+        ↔ Below k (VectorsAt E D)
     tell =
         kindFacts (h .field) .accumulated .correlation (delta (scalarOffline.content D)) k
         (mu (noiseOffline.content E)) (v0 (noiseOffline.content E)) (w0 (scalarOffline.content D)) (λ j l. mu-element E bytes j) (λ j l. w0-element D j)
 
-    told-by-accumulated : Below k (AccumulatedAt E D) → Below k (ExpandedAt E D)
+    told-by-accumulated : Below k (AccumulatedAt E D) → Below k (VectorsAt E D)
     told-by-accumulated e =
         tell .0 (λ j l. rw (delta-at D, noise-at E j (omega arith), v-at E j (omega arith), w-at D j (omega arith)) at (e j l))
 
-    accumulated-by-told : Below k (ExpandedAt E D) → Below k (AccumulatedAt E D)
+    accumulated-by-told : Below k (VectorsAt E D) → Below k (AccumulatedAt E D)
     accumulated-by-told e j l =
         rw (delta-at D, noise-at E j (omega arith), v-at E j (omega arith), w-at D j (omega arith)) (tell .1 e j l)
 

@@ -21,9 +21,9 @@ AccumulatedAt {h} E D j =
     (at (fieldOf h .elements) (noiseOffline.vOf (noiseOffline.after E)) j)
     (at (fieldOf h .elements) (scalarOffline.wOf (scalarOffline.after D)) j)
 
--- w0 = Δμ + v0 at place j, of what their records hold
-abbrev pub ExpandedAt : {h : Head} → noiseOffline.Expanded h → scalarOffline.Expanded h → ℕ → Type 0
-ExpandedAt {h} E D j =
+-- w0 = Δμ + v0 at place j, of the vectors of both records before they are accumulated
+abbrev pub VectorsAt : {h : Head} → noiseOffline.Expanded h → scalarOffline.Expanded h → ℕ → Type 0
+VectorsAt {h} E D j =
     Correlated (fieldOf h .scaled) (delta (scalarOffline.content D))
     (mu (noiseOffline.content E) j) (v0 (noiseOffline.content E) j) (w0 (scalarOffline.content D) j)
 
@@ -33,9 +33,10 @@ Below k Holds = (j : ℕ) → j < k → Holds j
 
 pub record Buffers : Type 0 where
   -- for a noise and a scalar record whose heads agree but for the end byte, dealt together or not, the accumulated vectors
-  -- satisfy w = Δu + v at all places below k exactly when w0 = Δμ + v0 holds there; with k = N, at all N places
+  -- satisfy w = Δu + v at all places below k exactly when w0 = Δμ + v0 holds there; with k = N, at all N places (`Bytes`: a record is
+  -- a list of bytes, as whatever a call is lent)
   pub correlation : (h : Head) (E : noiseOffline.Expanded h) → Bytes (E .source) → (D : scalarOffline.Expanded h) (k : ℕ) → k ≤ places h
-      → Below k (AccumulatedAt E D) ↔ Below k (ExpandedAt E D)
+      → Below k (AccumulatedAt E D) ↔ Below k (VectorsAt E D)
   -- two noise records with equal heads give the same accumulated noise only if positions and noise values are equal
   pub noise : (h : Head) (E E′ : noiseOffline.Expanded h) → Bytes (E .source) → Bytes (E′ .source)
       → noiseOffline.noiseOf (noiseOffline.after E) ≡ noiseOffline.noiseOf (noiseOffline.after E′)

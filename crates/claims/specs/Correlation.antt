@@ -31,7 +31,7 @@ Outputs =
 -- ---- before the lists: an accepted dealing, and an accepted offline call of each end on its own record
 
 pub record Setting : Type 0 where
-  -- the dealing's input, and the buffers lent for its records
+  -- the dealing's input, whose numbers lie in lent memory, and the buffers lent for its records
   pub input : Input
   pub inMemory : InMemory input
   pub noiseRecord : List ℕ
@@ -110,7 +110,7 @@ pub record Hands (E : End) (calls : List (Call (E .Out))) (x : ℕ) (a : E .Outp
 
 -- what demand 3 says of the list of one end
 pub record EndClaim (E : End) (calls : List (Call (E .Out))) : Type 0 where
-  -- every call returns the number of the first test of a listed call that is not met, or 0
+  -- every call returns the number of the first of its `tests` that is not met, or 0
   pub numbers : (i : ℕ) (c : Call (E .Out)) (o : Outcome (E .Written) (E .Lent)) → getElem? (run E (E .start) calls) i ≡ some (c, o)
       → o .number ≡ firstFault (E .tests c)
   -- what is handed out at x is the dealing's at x
@@ -228,8 +228,8 @@ pub record PadsLent (I : Input) (x first : ℕ) (vs choices : List ℕ) (first�
   pub w-lent : lentElement I ws (x - first′) ≡ w I x
   pub Δ-lent : Δ ≡ I .delta
 
--- for any accepted pad call of each end, on one dealing of field 1, and any index x below n in both windows, the noise end's
--- 16 bytes for x are those of the pad that the choice bit names: the byte lent for x, which by `u-lent` is u at x
+-- for any accepted pad call of each end, on one dealing of field 1, and any index x below n in both windows, the noise end's 16 bytes
+-- for x are those of pad 0 or 1 (document 01's messages), as the choice bit says: the byte lent for x, which by `u-lent` is u at x
 abbrev pub Pads : Type 0
 Pads =
     (I : Input) → I .field ≡ 1 → (a b : List ℕ) → deal I a b .number ≡ 0

@@ -1,5 +1,5 @@
 -- What the calls of both ends are made of (document 01, 'Offline and online'): vectors of N values, in the words that stand for them.
--- F is the field for v and w, and its noise values in the place of elements (`ofNoise`) for u.
+-- For v and w F is the record's field, for u that field with its noise values in the place of elements (`ofNoise`).
 use mathlib.Core.Bool.{Bool}
 use mathlib.Core.List.{List}
 use Prim.Native.Nat.{ℕ, _+_, _*_}
@@ -10,7 +10,7 @@ use Rattle.algebra.specs.Sum.{accumulate}
 use Rattle.record.specs.Content.{Head}
 use Rattle.window.specs.Head.{fieldOf, places}
 
--- the words of N elements
+-- how many words N elements take
 abbrev pub vectorWords : Head → ℕ
 vectorWords h = places h * fieldOf h .elements .width
 
@@ -18,7 +18,7 @@ vectorWords h = places h * fieldOf h .elements .width
 abbrev pub accumulatedOver : (F : Field) → ℕ → (ℕ → Value F) → List ℕ → List ℕ
 accumulatedOver F n f buffer = over (F .elements) n (accumulate (F .scaled .group) f) buffer
 
--- 8: the words of a vector at a place are an element (as binary noise 0 or 1)
+-- 8: the words of a vector at a place are a value: an element, or, of binary noise, 0 or 1
 abbrev pub isValue : Field → List ℕ → ℕ → Bool
 isValue F words j = F .scaled .group .isElement (at (F .elements) words j)
 

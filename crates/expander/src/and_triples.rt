@@ -4,16 +4,16 @@ ghost use Rattle.answer.specs.Outcome.{outcomeOne};
 ghost use Rattle.triples.specs.Call.{lentTriples, triples};
 use answer::OneLength;
 
-// An end's triples, from its choices and pads in one pairing and its messages in another.
+// An end's triples, from its choices and pads in one pairing and its pairs of pads in another.
 #[no_mangle]
 pub extern "C" fn expander_triples(
     choices: &[u8],
     pads: &[u8],
-    messages: &[u8],
+    pad_pairs: &[u8],
     triples_out: &mut [u8],
 ) -> OneLength
-    ensures { λ r. ⌜ outcomeOne r (lentTriples (now (choices .exit)) (now (pads .exit)) (now (messages .exit)) (now («triples_out» .exit)))
-        ≡ triples (lentTriples (now (choices .entry)) (now (pads .entry)) (now (messages .entry)) (now («triples_out» .entry))) ⌝ }
+    ensures { λ r. ⌜ outcomeOne r (lentTriples (now (choices .exit)) (now (pads .exit)) (now («pad_pairs» .exit)) (now («triples_out» .exit)))
+        ≡ triples (lentTriples (now (choices .entry)) (now (pads .entry)) (now («pad_pairs» .entry)) (now («triples_out» .entry))) ⌝ }
 {
-    triples::triples(choices, pads, messages, triples_out)
+    triples::triples(choices, pads, pad_pairs, triples_out)
 }

@@ -1,4 +1,5 @@
 -- What a field's number says of noise values, elements and their words (document 01, 'Two fields', 'Dealing', 'Key records').
+-- Any number but 1 is taken for field 2, as by `kindOf`: every call tests `isField` before it asks.
 use mathlib.Core.Bool.{Bool, not, _&&_, _||_}
 use mathlib.Core.List.{List, [], _∷_}
 use Prim.Native.Nat.{ℕ, _-_}
@@ -14,11 +15,11 @@ isField field = eqb field 1 || eqb field 2
 
 -- ---- noise values
 
--- Dealing: a noise value is 1 in field 1, 1 to p − 1 in field 2
+-- Dealing: the noise values that are admitted: 1 in field 1, 1 to p − 1 in field 2
 abbrev pub isNoise : ℕ → ℕ → Bool
 isNoise field value = choose (eqb field 1) (eqb value 1) (leb 1 value && leb value (modulus - 1))
 
--- Key records: a noise value is not written where 1 is the only one that is admitted, in field 1
+-- Key records: in field 1, where 1 is the only noise value that is admitted, none is written
 abbrev pub oneNoise : ℕ → Bool
 oneNoise field = eqb field 1
 
@@ -32,11 +33,11 @@ elementOf field low high = choose (eqb field 1) (low ∷ high ∷ []) (low ∷ [
 abbrev pub restZero : ℕ → ℕ → Bool
 restZero field high = eqb field 1 || eqb high 0
 
--- Two fields: words that are an element of the field: in field 1 every block is one, in field 2 a word below p
+-- Two fields: whether words are an element: every block is one in field 1, a word below p in field 2
 abbrev pub isElement : ℕ → List ℕ → Bool
 isElement field words = kindOf field .field .scaled .group .isElement (kindOf field .field .elements .read words 0)
 
--- the element of these words is zero: both words in field 1, the one word in field 2
+-- whether the element of these words is zero: in field 1 both words are 0, in field 2 the one word is
 abbrev pub isZero : ℕ → List ℕ → Bool
 isZero field words = choose (eqb field 1) (eqb (getD words 0 0) 0 && eqb (getD words 1 0) 0) (eqb (getD words 0 0) 0)
 

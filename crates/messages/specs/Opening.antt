@@ -58,7 +58,8 @@ pub record NamedAt (choices noisePads scalarPads : List ℕ) (k : ℕ) : Type 0 
   pub bit : getD choices k 0 ≤ 1
   pub pad : padAt noisePads 0 k ≡ oneOfTwoAt scalarPads 0 k (getD choices k 0)
 
--- all three calls are accepted, and what is opened at each k is exactly the message wanted there
+-- all three calls are accepted, and what is opened at each k is exactly the message wanted there; messages lie as pads do, so `padAt`
+-- and `oneOfTwoAt` take their 16 bytes too
 pub record Opens (B : Batch) : Type 0 where
   pub corrected-accepted : correctedBatch B .number ≡ 0
   pub masked-accepted : maskedBatch B .number ≡ 0

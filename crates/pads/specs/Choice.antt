@@ -1,5 +1,5 @@
 -- The choice law (document 01, 'Lists of calls at both ends', on pads), for any rule: the choice bit at x is u at x, and it
--- names pad 0 or 1.
+-- names pad 0 or 1 (document 01's messages 0 and 1).
 use mathlib.Core.Path.{_≡_}
 use mathlib.Core.List.{List}
 use Prim.Native.Nat.{ℕ, _+_, _-_, _*_, _≤_, _<_}

@@ -9,7 +9,7 @@ use Rattle.record.specs.declared.Layout.{Layout}
 use Rattle.record.specs.declared.RecordAnswer.{RecordAnswer}
 use Rattle.record.specs.declared.RecordAnswer.the-variants.{Accepted, Fault}
 
--- the head that its numbers give: before the body stand the 16 bytes of the label, and before those the 16 of the code key
+-- the head that a layout's numbers give: before the body stand the 16 bytes of the label, and before those the 16 of the code key
 abbrev pub headOf : List ℕ → Layout → Head
 headOf s f =
     record {

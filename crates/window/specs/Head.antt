@@ -1,4 +1,4 @@
--- The field, N, and the rows of the code, from a record's head (document 01, 'Sizes', 'Offline and online').
+-- The field, N, and the rows of the code, from a record's head (document 01, 'Sizes', 'Offline and online'; document 02, 7).
 use Prim.Native.Nat.{ℕ, _^_}
 use Rattle.algebra.specs.Field.{Field}
 use Rattle.algebra.specs.Group.{itself}
@@ -15,7 +15,7 @@ kind h = kindOf (h .field)
 abbrev pub fieldOf : Head → Field
 fieldOf h = kind h .field
 
--- noise values in the place of elements: what is said of v and w is said of u
+-- the same field with its noise values in the place of elements, so that what is said of v and w is said of u too
 abbrev pub ofNoise : Field → Field
 ofNoise F = record { ring = F .ring; scaled = itself (F .ring); noiseValues = F .noiseValues; elements = F .noiseValues }
 

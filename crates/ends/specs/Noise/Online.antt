@@ -26,7 +26,8 @@ pub record Lent : Type 0 where
 abbrev pub lentWith : List ℕ → List ℕ → List ℕ → List ℕ → List ℕ → Lent
 lentWith source noise v uOut vOut = record { source = source; noise = noise; v = v; uOut = uOut; vOut = vOut }
 
--- 8: the words at a place are elements, those of the accumulated noise and those of v
+-- 8: at a place the words of v are an element, and the word of the accumulated noise is a noise value: 0 or 1 in field 1, below p in
+-- field 2
 unfoldable pub usable : Field → Lent → ℕ → Bool
 usable F l j = isValue (ofNoise F) (l .noise) j && isValue F (l .v) j
 
@@ -42,7 +43,7 @@ filled h l first count =
     }
 
 -- its tests: N words of noise and N elements of v; the window ends by n; room for c words of u and c elements of v; the words that
--- the window's rows use are elements
+-- the window's rows use are such
 abbrev pub onlineTests : Head → Lent → ℕ → ℕ → List Test
 onlineTests h l first count =
     length (l .noise) is places h or badLength
