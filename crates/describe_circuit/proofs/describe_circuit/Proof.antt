@@ -10,12 +10,12 @@ describe-circuit-spec =
     tie.close
     (tie.spec
     (λ c κs. search needs)  -- read-circuit-requires
-    (λ c. search needs)  -- enum-known-opened
+    (λ c. search needs)  -- enum-known-read
     (λ c. search needs)  -- enum-told
     (λ c κs. search needs)  -- circuit-fault-requires
     (λ c κs. search needs)  -- refusal-requires
     (λ c. search circuit-refused)  -- returns
     (λ c κs. search circuit-layout)  -- depth-of-requires
-    (λ c. search needs)  -- add-result
+    (λ c. search needs)  -- add-t6
     (λ c. search circuit-said)  -- returns-2
     )
