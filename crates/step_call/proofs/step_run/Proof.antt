@@ -10,7 +10,7 @@ step-run-spec =
     tie.close
     (tie.spec
     (λ c κs. search needs)  -- read-circuit-requires
-    (λ c. search needs)  -- enum-known-opened
+    (λ c. search needs)  -- enum-known-read
     (λ c. search needs)  -- enum-told
     (λ c κs. search needs)  -- circuit-fault-requires
     (λ c κs. search needs)  -- refused-requires
