@@ -10,8 +10,8 @@ use Rattle.field.specs.Binary.{block}
 use Rattle.field.specs.Bytes.{leBytes, leNumber, columnsOf, lowOf, highOf}
 use Rattle.pads.specs.Bytes.{blockBytes}
 use Rattle.pads.specs.Pad.{padKey, underPadKey, pad}
-use Rattle.by_table.proofs.Cipher.{looked, lookedFrom, mixBy, subBy, roundBy, roundsBy, cipherBy, tempBy, wordsBy, lookedCipher, lookedWords, lookedKeys}
-use Rattle.by_table.proofs.Made.{lookedAes, lookedUnder, under-looked, padBy, lookedPad, pad-looked}
+use Rattle.example.proofs.Cipher.{looked, lookedFrom, mixBy, subBy, roundBy, roundsBy, cipherBy, tempBy, wordsBy, lookedCipher, lookedWords, lookedKeys}
+use Rattle.example.proofs.Made.{lookedAes, lookedUnder, under-looked, padBy, lookedPad, pad-looked}
 
 pub first-step : blockBytes .words (underPadKey (block 0 0))
     ≡ 0xa1 ∷ 0xf6 ∷ 0x25 ∷ 0x8c ∷ 0x87 ∷ 0x7d ∷ 0x5f ∷ 0xcd ∷ 0x89 ∷ 0x64 ∷ 0x48 ∷ 0x45 ∷ 0x38 ∷ 0xbf ∷ 0xc9 ∷ 0x2c ∷ []

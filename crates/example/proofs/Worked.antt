@@ -34,8 +34,8 @@ use Rattle.window.specs.Head.{places, row}
 use Rattle.dealing.specs.Admitted.{Admitted}
 use Rattle.dealing.specs.Input.{Input, position}
 use Rattle.dealing.specs.Vectors.{head, field, value, leaf, delta, treeCorrection, mu, v0, w0, u, v, w}
-use Rattle.by_table.proofs.Cipher.{looked, lookedFrom, mixBy, subBy, roundBy, roundsBy, cipherBy, tempBy, wordsBy, lookedCipher, lookedWords, lookedKeys}
-use Rattle.by_table.proofs.Made.{lookedAes, lookedChild, leafBy, leaf-looked, rowBy, lookedRow, row-looked}
+use Rattle.example.proofs.Cipher.{looked, lookedFrom, mixBy, subBy, roundBy, roundsBy, cipherBy, tempBy, wordsBy, lookedCipher, lookedWords, lookedKeys}
+use Rattle.example.proofs.Made.{lookedAes, lookedChild, leafBy, leaf-looked, rowBy, lookedRow, row-looked}
 use Rattle.example.specs.Worked.{Numbers, Worked, binaryInput, primeInput, secondInput, binaryNumbers, primeNumbers, secondNumbers, WorkedDealings}
 use Rattle.example.proofs.Dealt.{binary-admitted, prime-admitted, second-admitted}
 

@@ -1,3 +1,4 @@
--- The computed examples in each field: the numbers of small dealings, and lists of calls.
+-- The computed examples: in each field the numbers of small dealings and lists of calls, and a list of calls on one stock.
 pub mod Worked
 pub mod Example
+pub mod Stock

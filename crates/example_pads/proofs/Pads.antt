@@ -22,8 +22,8 @@ use Rattle.pads.specs.Pad.{padKey, padPair}
 use Rattle.claims.proofs.Entire.{pads}
 use Rattle.claims.specs.Correlation.{PadsLent}
 use Rattle.pad_claims.specs.Taken.{Dealing, TakenAt}
-use Rattle.by_table.proofs.Cipher.{looked, lookedFrom, mixBy, subBy, roundBy, roundsBy, cipherBy, tempBy, wordsBy, lookedCipher, lookedWords, lookedKeys}
-use Rattle.by_table.proofs.Made.{lookedAes, lookedUnder, padBy, lookedPad, pad-looked}
+use Rattle.example.proofs.Cipher.{looked, lookedFrom, mixBy, subBy, roundBy, roundsBy, cipherBy, tempBy, wordsBy, lookedCipher, lookedWords, lookedKeys}
+use Rattle.example.proofs.Made.{lookedAes, lookedUnder, padBy, lookedPad, pad-looked}
 use Rattle.example.proofs.Dealt.{binary-dealt, second-dealt}
 use Rattle.example.proofs.Worked.{u-is, v-is, w-is, worked-dealings}
 use Rattle.example.specs.Worked.{Numbers, binaryInput, secondInput, binaryNumbers, secondNumbers}

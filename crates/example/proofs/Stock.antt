@@ -9,7 +9,7 @@ use Rattle.stock.specs.Stock.{isCaller, remaining, sumOf, held, entries, shareB
 use Rattle.stock.specs.Calls.{openStock, advanced, draw, preview, pass}
 use Rattle.stock_claims.proofs.Claims.{lists}
 use Rattle.stock_claims.specs.Lists.{make, callsMade, last, handed}
-use Rattle.example_stock.specs.Stock.{label, shares, calls, StockExample}
+use Rattle.example.specs.Stock.{label, shares, calls, StockExample}
 
 opened : openStock (label 5) 10 shares .opened .number ≡ accepted
 unfolding isMet firstFault byNumber answered sumOf openStock

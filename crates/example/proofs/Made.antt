@@ -19,7 +19,7 @@ use Rattle.window.specs.Head.{kind, fieldOf, places, row}
 use Rattle.dealing.specs.Input.{Input, position}
 use Rattle.dealing.specs.Vectors.{head, field, value, root, leaf, delta, treeCorrection, v0, w0}
 use Rattle.pads.specs.Pad.{padKey, indexBlock, state, underPadKey, pad}
-use Rattle.by_table.proofs.Cipher.{lookedCipher, lookedKeys, cipher-looked, keys-looked}
+use Rattle.example.proofs.Cipher.{lookedCipher, lookedKeys, cipher-looked, keys-looked}
 
 -- E(key, block)
 unfoldable pub lookedAes : List (List ℕ) → List (List ℕ) → List (List ℕ)

@@ -6,8 +6,8 @@ use lib.ListN.{getD}
 use Rattle.sbox.specs.Byte.{xtime}
 use Rattle.aes128.specs.State.{xorWord, xorState}
 use Rattle.aes128.specs.Cipher.{shiftRows, power, keysOf, keyExpansion, aes}
-use Rattle.by_table.proofs.Cipher.{looked, lookedFrom, mixBy, subBy, roundBy, roundsBy, cipherBy, tempBy, wordsBy, lookedCipher, lookedWords, lookedKeys, keys-looked}
-use Rattle.by_table.proofs.Made.{lookedAes, aes-looked}
+use Rattle.example.proofs.Cipher.{looked, lookedFrom, mixBy, subBy, roundBy, roundsBy, cipherBy, tempBy, wordsBy, lookedCipher, lookedWords, lookedKeys, keys-looked}
+use Rattle.example.proofs.Made.{lookedAes, aes-looked}
 
 -- A.1: the last round key of the key 2b7e1516 28aed2a6 abf71588 09cf4f3c
 a1 : getD (keyExpansion ((0x2b ∷ 0x7e ∷ 0x15 ∷ 0x16 ∷ []) ∷ (0x28 ∷ 0xae ∷ 0xd2 ∷ 0xa6 ∷ []) ∷ (0xab ∷ 0xf7 ∷ 0x15 ∷ 0x88 ∷ []) ∷ (0x09 ∷ 0xcf ∷ 0x4f ∷ 0x3c ∷ []) ∷ [])) 10 [] ≡ ((0xd0 ∷ 0x14 ∷ 0xf9 ∷ 0xa8 ∷ []) ∷ (0xc9 ∷ 0xee ∷ 0x25 ∷ 0x89 ∷ []) ∷ (0xe1 ∷ 0x3f ∷ 0x0c ∷ 0xc8 ∷ []) ∷ (0xb6 ∷ 0x63 ∷ 0x0c ∷ 0xa6 ∷ []) ∷ [])

@@ -1,2 +1,0 @@
--- The computed example.
-pub mod Stock

@@ -1,2 +1,0 @@
--- A computed example of a list of calls on one stock.
-pub mod Stock
