@@ -22,7 +22,7 @@ use Rattle.stock_claims.specs.Lists.{Call, draws, previews, passes, Repl
 use Rattle.stock.proofs.Cases.{by-test}
 use Rattle.stock_claims.proofs.Blocks.{Well, Fresh, pass-cases}
 use Rattle.stock_claims.proofs.Picked.{some-in, some-out}
-use Rattle.stock_claims.proofs.Steps.{Stayed, kept, stayed-draw, stayed-preview, stayed-stale, moved-passed, make-call, make-moved}
+use Rattle.stock_claims.proofs.Steps.{Stayed, kept, stayed-draw, stayed-preview, stayed-stale, moved-passed, make-call}
 
 -- ---- a caller alone
 
@@ -119,8 +119,8 @@ draw-part k s l c =
     handed-out (suc n) = rw (eqb·suc-zero n)
 
 moved-label : (s : Stock) (l : Label) (n : ℕ) → Fresh s l n → make s (passes l n) .after .label ≡ l
-unfolding shareBlocks
-moved-label s l n f = ap (λ (m : StockMade). m .after .label) (make-moved s l n f)
+unfolding make shareBlocks
+moved-label s l n f = rw (f .gave)
 
 -- ---- every list
 

@@ -19,7 +19,7 @@ use Rattle.stock.proofs.Entries.{sum-grows, sum-same}
 use Rattle.stock.proofs.Opened.{up-to-most}
 use Rattle.stock_claims.proofs.Callers.{preview-reply, numbers-alike, replies-alike}
 use Rattle.stock_claims.proofs.Runs.{last-well, sums-run, labels-run, hands-at, once-run, InUse, use-run}
-use Rattle.stock_claims.proofs.Steps.{kept, accepted-draw, make-call, make-drawn}
+use Rattle.stock_claims.proofs.Steps.{kept, accepted-draw, make-call}
 
 -- ---- the made call at a place
 
@@ -47,13 +47,14 @@ take-run s (c ∷ calls) (suc i) = cc (take-run (make s c .after) calls i)
 next-of : (outputs : ℕ) (shares : List ℕ) (s : Stock) → Well s → InUse outputs shares [] s → (calls : List Call) (l : Label) (k c : ℕ)
     → make (last s calls) (draws l k c) .reply .number ≡ accepted
     → NextOf outputs shares (callsMade s calls) k c (make (last s calls) (draws l k c) .reply)
+unfolding make
 next-of outputs shares s W I calls l k c z =
     let t = last s calls in
     let T = last-well s W calls in
     let a = accepted-draw t T l k c z in
     let b = is-caller t k (a .caller) in
     let N = use-run outputs shares [] s W I calls in
-    rw (make-drawn t l k c a)
+    rw (a .drawn)
     (record {
       count = refl;
       first = N .next k (b .1);

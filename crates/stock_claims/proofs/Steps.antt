@@ -14,7 +14,7 @@ use Rattle.stock.specs.Stock.{nextOf, endOf, remaining, sumOf, held, shareBlock
 use Rattle.stock.specs.Calls.{advanced}
 use Rattle.stock_claims.specs.Lists.{Call, draws, previews, passes, StockMade, make, aDraw, drawsOf, drawsUnder, acceptedPassage, handedBy, outputsOf, HandsOut}
 use Rattle.stock.proofs.Cases.{by-order, by-equality}
-use Rattle.stock_claims.proofs.Blocks.{Well, holds-past, blocks-next, blocks-end, blocks-well, blocks-holds, Accepted, Refused, draw-cases, Fresh, Stale, pass-cases, is-caller, advanced-next, advanced-other, fits-block, advanced-well, advanced-holds, advanced-keeps, advanced-held}
+use Rattle.stock_claims.proofs.Blocks.{Well, holds-past, blocks-next, blocks-end, blocks-well, blocks-holds, Accepted, draw-cases, Fresh, Stale, pass-cases, is-caller, advanced-next, advanced-other, fits-block, advanced-well, advanced-holds, advanced-keeps, advanced-held}
 use Rattle.stock.proofs.Entries.{sum-same}
 
 -- what every call keeps: the blocks follow each other, and what it hands out is what its caller, and all callers, hold less
@@ -50,31 +50,9 @@ make-call s (draws l k c) = refl
 make-call s (previews l k c) = refl
 make-call s (passes l n) = refl
 
-abbrev pub drawn : Stock → Label → ℕ → ℕ → StockMade
-drawn s l k c = record { call = draws l k c; reply = record { number = 0; first = nextOf s k; count = c }; after = advanced s k c }
-
 -- a refused call
 abbrev turned : Stock → Call → ℕ → StockMade
 turned s c n = record { call = c; reply = record { number = suc n; first = 0; count = 0 }; after = s }
-
-abbrev moved : Stock → Label → ℕ → StockMade
-moved s l n = record { call = passes l n; reply = record { number = 0; first = 0; count = 0 }; after = shareBlocks l (s .callers) (remaining s) }
-
-pub make-drawn : (s : Stock) (l : Label) (k c : ℕ) → Accepted s l k c → make s (draws l k c) ≡ drawn s l k c
-unfolding make
-make-drawn s l k c a = rw (a .drawn)
-
-make-turned : (s : Stock) (l : Label) (k c : ℕ) (r : Refused s l k c) → make s (draws l k c) ≡ turned s (draws l k c) (r .fault)
-unfolding make
-make-turned s l k c r = rw (r .kept)
-
-pub make-moved : (s : Stock) (l : Label) (n : ℕ) → Fresh s l n → make s (passes l n) ≡ moved s l n
-unfolding make
-make-moved s l n f = rw (f .gave)
-
-pub make-stale : (s : Stock) (l : Label) (n : ℕ) (t : Stale s l n) → make s (passes l n) ≡ turned s (passes l n) (t .fault)
-unfolding make
-make-stale s l n t = rw (t .kept)
 
 -- a refused call hands out nothing
 none-turned : (p : Call → Bool) (s : Stock) (c : Call) (n : ℕ) → handedBy p (turned s c n) ≡ 0
@@ -109,9 +87,10 @@ module _ (s : Stock) (W : Well s) where
   same-held l = sum-same 8 _ _ (λ j h. same-holds l j)
 
   pub kept : (c : Call) → Kept s (make s c)
+  unfolding make
   kept (draws l k c) =
       ⊎-elim
-      (λ a. rw (make-drawn s l k c a)
+      (λ a. rw (a .drawn)
       (record {
         well = advanced-well s W l k c a;
         callers = unfold advanced in refl;
@@ -120,25 +99,26 @@ module _ (s : Stock) (W : Well s) where
             (λ n. rw (ne-eqb j k n) (omega (arith, advanced-keeps s W l k c a j n)));
         held = advanced-held s W l k c a;
       }))
-      (λ r. rw (make-turned s l k c r) (kept-turned (draws l k c) (r .fault)))
+      (λ r. rw (r .kept) (kept-turned (draws l k c) (r .fault)))
       (draw-cases s l k c)
-  kept (previews l k c) = unfold make in (record { well = W; callers = refl; remaining = λ j. omega arith; held = omega arith })
+  kept (previews l k c) = record { well = W; callers = refl; remaining = λ j. omega arith; held = omega arith }
   kept (passes l n) =
       ⊎-elim
-      (λ f. rw (make-moved s l n f)
+      (λ f. rw (f .gave)
       (record {
         well = blocks-well l (s .callers) (remaining s) (W .most);
         callers = unfold shareBlocks in refl;
         remaining = λ j. omega (arith, same-holds l j);
         held = omega (arith, same-held l);
       }))
-      (λ t. rw (make-stale s l n t) (kept-turned (passes l n) (t .fault)))
+      (λ t. rw (t .kept) (kept-turned (passes l n) (t .fault)))
       (pass-cases s l n)
 
   pub stayed-draw : (l : Label) (k c : ℕ) → Stayed s (make s (draws l k c))
+  unfolding make
   stayed-draw l k c =
       ⊎-elim
-      (λ a. rw (make-drawn s l k c a)
+      (λ a. rw (a .drawn)
       (record {
         label = unfold advanced in refl;
         end = λ j. unfold advanced in refl;
@@ -149,7 +129,7 @@ module _ (s : Stock) (W : Well s) where
         other = λ L d. rw (ne-eqb L (numberOf l) (λ e. d (e ∙ a .label)));
         not-passed = refl;
       }))
-      (λ r. rw (make-turned s l k c r) (stayed-turned (draws l k c) (r .fault) refl))
+      (λ r. rw (r .kept) (stayed-turned (draws l k c) (r .fault) refl))
       (draw-cases s l k c)
 
   pub stayed-preview : (l : Label) (k c : ℕ) → Stayed s (make s (previews l k c))
@@ -158,11 +138,13 @@ module _ (s : Stock) (W : Well s) where
       record { label = refl; end = λ j. refl; next = λ j. omega arith; under = refl; other = λ L d. refl; not-passed = refl }
 
   pub stayed-stale : (l : Label) (n : ℕ) → Stale s l n → Stayed s (make s (passes l n))
-  stayed-stale l n t = rw (make-stale s l n t) (stayed-turned (passes l n) (t .fault) (eqb·suc-zero (t .fault)))
+  unfolding make
+  stayed-stale l n t = rw (t .kept) (stayed-turned (passes l n) (t .fault) (eqb·suc-zero (t .fault)))
 
   moved-fresh : (l : Label) (n : ℕ) → Fresh s l n → Moved s (make s (passes l n))
+  unfolding make
   moved-fresh l n f =
-      rw (make-moved s l n f)
+      rw (f .gave)
       (record {
         above = unfold shareBlocks in f .above;
         next = λ j h. blocks-next l (s .callers) (remaining s) (W .most) j h ∙ sym (sum-same j _ _ (λ i b. same-holds l i));
@@ -189,10 +171,11 @@ module _ (s : Stock) (W : Well s) where
   -- ---- the indices that are not handed out yet
 
   pub accepted-draw : (l : Label) (k c : ℕ) → make s (draws l k c) .reply .number ≡ 0 → Accepted s l k c
+  unfolding make
   accepted-draw l k c z =
       ⊎-elim
       (λ a. a)
-      (λ r. let e = ap (λ (m : StockMade). m .reply .number) (make-turned s l k c r) in absurd (omega arith))
+      (λ r. let e = rw (r .kept) at z in absurd (omega arith))
       (draw-cases s l k c)
 
 -- an index of what a caller still holds
@@ -225,20 +208,20 @@ module _ (s : Stock) (W : Well s) (l : Label) (k c x : ℕ) (a : Accepted s l k 
 
 -- only a draw hands out anything
 pub hands : (s : Stock) → Well s → (c : Call) (L x : ℕ) → HandsOut (make s c) L x → Gone s c L x
+unfolding make
 hands s W (draws l k c) L x h =
     let a = accepted-draw s W l k c (h .is-accepted) in
-    let e = make-drawn s l k c a in
-    let d : eqb L (numberOf l) ≡ true = rw (make-call s (draws l k c)) at (h .drawn) in
+    let e = a .drawn in
     let from : nextOf s k ≤ x = rw e at (h .from) in
     let below : x < nextOf s k + c = rw e at (h .below) in
     record {
-      label = eqb-true L (numberOf l) d ∙ a .label;
+      label = eqb-true L (numberOf l) (h .drawn) ∙ a .label;
       stays = stayed-draw s W l k c .label;
       free = record { k = k; caller = is-caller s k (a .caller) .1; from = from; below = omega (arith, fits-block s W l k c a) };
       gone = λ f. gone-drawn s W l k c x a from below (rw e at f);
     }
-hands s W (previews l k c) L x h = unfold make in absurd (false≢true (h .drawn))
-hands s W (passes l n) L x h = unfold make in absurd (false≢true (h .drawn))
+hands s W (previews l k c) L x h = absurd (false≢true (h .drawn))
+hands s W (passes l n) L x h = absurd (false≢true (h .drawn))
 
 -- while the label stays, what is free after a call was free before it
 pub free-before : (s : Stock) (m : StockMade) → Kept s m → Stayed s m → (x : ℕ) → Free (m .after) x → Free s x
