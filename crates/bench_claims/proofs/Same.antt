@@ -1,18 +1,16 @@
 -- The expansion for the bench is the online call on the record's offline vectors, at both ends.
 use mathlib.Core.Path.{_≡_, refl, sym, ap, _∙_}
 use mathlib.Core.Bool.{true, false}
-use mathlib.Core.List.{List, _++_}
+use mathlib.Core.List.{List}
 use Prim.Native.Nat.{ℕ, suc, _+_, _*_, _≤_, _<_}
 use native.Mathlib.Omega.{arith}
-use lib.ListN.{drop}
 use Rattle.answer.specs.Tests.{Test, holds, firstFault}
 use Rattle.answer.specs.Outcome.{TwoWritten, answered, refusedOne, refusedTwo, wrote}
 use Rattle.answer.specs.Inner.Numbered.{apart}
 use Rattle.answer.proofs.Answers.{answered-map}
 use Rattle.answer.proofs.Faults.{fault-before, last-only}
-use Rattle.algebra.specs.Coding.{CodingLaws, at, over}
-use Rattle.algebra.specs.Field.{Value}
-use Rattle.algebra.specs.Group.{Element, Scaled, ScaledLaws, itself}
+use Rattle.algebra.specs.Coding.{Coding, CodingLaws, at, flat, over}
+use Rattle.algebra.specs.Group.{Group, GroupLaws, Element, Scaled, ScaledLaws, itself}
 use Rattle.algebra.specs.Row.{output, entry, rowTimes}
 use Rattle.algebra.specs.Sum.{accumulate}
 use Rattle.algebra.proofs.Coding.{at-flat, flat-cong}
@@ -22,9 +20,8 @@ use Rattle.field.proofs.BothKinds.{kindLaws}
 use Rattle.record.specs.Content.{Head, NoisePart, ScalarPart}
 use Rattle.record.proofs.Callers.{head-ranges}
 use Rattle.record.proofs.Parts.{noise-parts, scalar-parts}
-use Rattle.window.specs.Head.{fieldOf, ofNoise, places, row}
+use Rattle.window.specs.Head.{fieldOf, places, row}
 use Rattle.window.proofs.Rows.{row-within, row-output}
-use Rattle.ends.specs.Parts.{valuesOver}
 use Rattle.ends.specs.Noise.Vectors.{mu, v0}
 use Rattle.ends.specs.Noise.Offline as noiseOffline
 use Rattle.ends.specs.Noise.Online as noiseOnline
@@ -40,21 +37,22 @@ use Rattle.bench_expansion.proofs.Laws.{noise-whole, scalar-whole}
 
 -- row x's output on the words of an accumulated vector is row x of the code matrix times the vector
 row-same : (h : Head) → h .terms ≤ places h → (x : ℕ) (S : Scaled (fieldOf h .ring)) → ScaledLaws (fieldOf h .ring) S
-    → (f g : ℕ → S .group .Of) → ((j : ℕ) → j < places h → g j ≡ accumulate (S .group) f j)
-    → output S (row h x) g ≡ rowTimes S (places h) (entry (row h x)) f
-row-same h full x S L f g e =
-    row-output h full x S g (accumulate (S .group) f) e
+    → (C : Coding (S .group .Of)) → CodingLaws C → (f : ℕ → S .group .Of) (words : List ℕ) → words ≡ flat C (places h) (accumulate (S .group) f)
+    → output S (row h x) (at C words) ≡ rowTimes S (places h) (entry (row h x)) f
+row-same h full x S L C K f words e =
+    row-output h full x S (at C words) (accumulate (S .group) f) (λ j l. rw e (at-flat C K (places h) (accumulate (S .group) f) j l))
     ∙ common-facts (fieldOf h .ring) S (kindLaws (h .field) .field .ring) L .matrix (places h) (row h x) (row-within h full x) f
 
 -- a number that is no test's is not returned
-never : (k : ℕ) (tests : List Test) → apart k tests ≡ true → (k ≡ 0 → ⊥) → firstFault tests ≡ k → ⊥
-never k tests r z e = z (sym e ∙ last-only (holds false) k tests r (sym (fault-before tests _ k (sym e) z)))
+never : (k : ℕ) (tests : List Test) → apart k tests ≡ true → (k ≡ 0 → ⊥) → {n : ℕ} → n ≡ firstFault tests → n ≡ k → ⊥
+never k tests r z told e =
+    let is = sym told ∙ e in z (sym is ∙ last-only (holds false) k tests r (sym (fault-before tests _ k (sym is) z)))
 
 -- ---- the noise end
 
-accumulated-elements : (h : Head) (f : ℕ → Value (fieldOf h)) (j : ℕ) → j < places h → Element (fieldOf h .scaled .group) (accumulate (fieldOf h .scaled .group) f j)
+accumulated-elements : (G : Group) → GroupLaws G → (n : ℕ) (f : ℕ → G .Of) (j : ℕ) → j < n → Element G (accumulate G f j)
 unfolding accumulate
-accumulated-elements h f j k = sum-element (fieldOf h .scaled .group) (kindLaws (h .field) .field .scaled .group) (suc j) f
+accumulated-elements G L n f j k = sum-element G L (suc j) f
 
 module _ {h : Head} (E : noiseOffline.Expanded h) (first count : ℕ) (uOut vOut : List ℕ) where
   abbrev part : NoisePart
@@ -66,36 +64,29 @@ module _ {h : Head} (E : noiseOffline.Expanded h) (first count : ℕ) (uOut vOut
   accepted : noiseLaws.Accepted part (E .source) (noiseOffline.after E)
   accepted = noiseLaws.offline-accepted (E .source) (E .noiseBuffer) (E .vBuffer) (E .read) (E .number)
 
-  noise-elements : (j : ℕ) → j < places (part .head) → Element (fieldOf (part .head) .ring .group) (accumulate (fieldOf (part .head) .ring .group) (mu part) j)
-  unfolding accumulate
-  noise-elements j k = sum-element (fieldOf (part .head) .ring .group) (kindLaws (part .head .field) .field .ring .group) (suc j) (mu part)
-
-  full : part .head .terms ≤ places (part .head)
+  full : h .terms ≤ places h
   full = head-ranges 1 (E .source) (noise-parts (E .source) (E .read) .2) .terms-leaves
 
   listed : noiseOnlineCall E first count uOut vOut
-      ≡ answered (noiseLaws.listedTests (part .head) lent first count) (refusedTwo lent) (noiseLaws.written (part .head) lent first count)
+      ≡ answered (noiseLaws.listedTests h lent first count) (refusedTwo lent) (noiseLaws.written h lent first count)
   listed =
-      noiseLaws.online-listed lent part (accumulate (fieldOf (part .head) .ring .group) (mu part)) (accumulate (fieldOf (part .head) .scaled .group) (v0 part))
-      (E .read) (accepted .noise) (accepted .v) noise-elements (accumulated-elements (part .head) (v0 part)) first count
+      noiseLaws.online-listed lent part (accumulate (fieldOf h .ring .group) (mu part)) (accumulate (fieldOf h .scaled .group) (v0 part))
+      (E .read) (accepted .noise) (accepted .v) (accumulated-elements _ (kindLaws (h .field) .field .ring .group) _ (mu part))
+      (accumulated-elements _ (kindLaws (h .field) .field .scaled .group) _ (v0 part)) first count
 
-  u-same : (k : ℕ) → output (itself (fieldOf (part .head) .ring)) (row (part .head) (first + k)) (at (fieldOf (part .head) .noiseValues) (lent .noise))
+  u-same : (k : ℕ) → output (itself (fieldOf h .ring)) (row h (first + k)) (at (fieldOf h .noiseValues) (lent .noise))
       ≡ noise.uAt part (first + k)
   unfolding noise.uAt
   u-same k =
-      row-same (part .head) full (first + k) (itself (fieldOf (part .head) .ring)) (itself-laws (fieldOf (part .head) .ring) (kindLaws (part .head .field) .field .ring)) (mu part)
-      (at (fieldOf (part .head) .noiseValues) (lent .noise))
-      (λ j l. ap (λ (x : List ℕ). at (fieldOf (part .head) .noiseValues) x j) (accepted .noise)
-      ∙ at-flat (fieldOf (part .head) .noiseValues) (kindLaws (part .head .field) .field .noiseValues) (places (part .head)) (accumulate (fieldOf (part .head) .ring .group) (mu part)) j l)
+      row-same h full (first + k) (itself (fieldOf h .ring)) (itself-laws (fieldOf h .ring) (kindLaws (h .field) .field .ring))
+      (fieldOf h .noiseValues) (kindLaws (h .field) .field .noiseValues) (mu part) (lent .noise) (accepted .noise)
 
-  v-same : (k : ℕ) → output (fieldOf (part .head) .scaled) (row (part .head) (first + k)) (at (fieldOf (part .head) .elements) (lent .v))
+  v-same : (k : ℕ) → output (fieldOf h .scaled) (row h (first + k)) (at (fieldOf h .elements) (lent .v))
       ≡ noise.vAt part (first + k)
   unfolding noise.vAt
   v-same k =
-      row-same (part .head) full (first + k) (fieldOf (part .head) .scaled) (kindLaws (part .head .field) .field .scaled) (v0 part)
-      (at (fieldOf (part .head) .elements) (lent .v))
-      (λ j l. ap (λ (x : List ℕ). at (fieldOf (part .head) .elements) x j) (accepted .v)
-      ∙ at-flat (fieldOf (part .head) .elements) (kindLaws (part .head .field) .field .elements) (places (part .head)) (accumulate (fieldOf (part .head) .scaled .group) (v0 part)) j l)
+      row-same h full (first + k) (fieldOf h .scaled) (kindLaws (h .field) .field .scaled)
+      (fieldOf h .elements) (kindLaws (h .field) .field .elements) (v0 part) (lent .v) (accepted .v)
 
   abbrev here : noise.Lent
   here = noise.lentWith (E .source) uOut vOut
@@ -103,36 +94,31 @@ module _ {h : Head} (E : noiseOffline.Expanded h) (first count : ℕ) (uOut vOut
   abbrev seenLent : noiseOnline.Lent → noise.Lent
   seenLent l = record { source = l .source; uOut = l .uOut; vOut = l .vOut }
 
-  filled-same : noise.filled part here first count ≡ seenLent (noiseOnline.filled (part .head) lent first count)
+  filled-same : noise.filled part here first count ≡ seenLent (noiseOnline.filled h lent first count)
   unfolding noise.filled noiseOnline.filled over
   filled-same =
-      let u : over (fieldOf (part .head) .noiseValues) count (λ k. noise.uAt part (first + k)) uOut ≡ valuesOver (ofNoise (fieldOf (part .head))) (row (part .head)) (lent .noise) first count uOut =
-      ap (λ (x : List ℕ). x ++ drop (count * fieldOf (part .head) .noiseValues .width) uOut)
-      (flat-cong (fieldOf (part .head) .noiseValues) (kindLaws (part .head .field) .field .noiseValues) count _ _ (λ k l. sym (u-same k))) in
-      let v : over (fieldOf (part .head) .elements) count (λ k. noise.vAt part (first + k)) vOut ≡ valuesOver (fieldOf (part .head)) (row (part .head)) (lent .v) first count vOut =
-      ap (λ (x : List ℕ). x ++ drop (count * fieldOf (part .head) .elements .width) vOut)
-      (flat-cong (fieldOf (part .head) .elements) (kindLaws (part .head .field) .field .elements) count _ _ (λ k l. sym (v-same k))) in
-      λ i. record { source = E .source; uOut = u i; vOut = v i }
+      let u = flat-cong (fieldOf h .noiseValues) (kindLaws (h .field) .field .noiseValues) count _ _ (λ k l. sym (u-same k)) in
+      let v = flat-cong (fieldOf h .elements) (kindLaws (h .field) .field .elements) count _ _ (λ k l. sym (v-same k)) in
+      cc
 
   pub noise-same : noise.benchExpansion here first count ≡ noiseSeen (noiseOnlineCall E first count uOut vOut)
   unfolding noise.benchWindow
   noise-same =
-      let tests : List Test = noiseLaws.listedTests (part .head) lent first count in
-      let words : TwoWritten = record { firstWritten = count; secondWritten = count * fieldOf (part .head) .elements .width } in
+      let tests : List Test = noiseLaws.listedTests h lent first count in
+      let words : TwoWritten = record { firstWritten = count; secondWritten = count * fieldOf h .elements .width } in
       noise-whole here first count (E .read)
       ∙ ap (λ (l : noise.Lent). answered tests (refusedTwo here) (wrote words l)) filled-same
-      ∙ sym (ap noiseSeen listed ∙ answered-map noiseSeen tests (refusedTwo lent) (noiseLaws.written (part .head) lent first count))
+      ∙ sym (ap noiseSeen listed ∙ answered-map noiseSeen tests (refusedTwo lent) (noiseLaws.written h lent first count))
 
-  numbers : noiseOnlineCall E first count uOut vOut .number ≡ firstFault (noiseLaws.listedTests (part .head) lent first count)
+  numbers : noiseOnlineCall E first count uOut vOut .number ≡ firstFault (noiseLaws.listedTests h lent first count)
   numbers =
-      noiseLaws.online-number lent part (accumulate (fieldOf (part .head) .ring .group) (mu part)) (accumulate (fieldOf (part .head) .scaled .group) (v0 part))
-      (E .read) (accepted .noise) (accepted .v) noise-elements (accumulated-elements (part .head) (v0 part)) first count
+      noiseLaws.online-number lent part (accumulate (fieldOf h .ring .group) (mu part)) (accumulate (fieldOf h .scaled .group) (v0 part))
+      (E .read) (accepted .noise) (accepted .v) (accumulated-elements _ (kindLaws (h .field) .field .ring .group) _ (mu part))
+      (accumulated-elements _ (kindLaws (h .field) .field .scaled .group) _ (v0 part)) first count
 
   pub noise-vectors : (noiseOnlineCall E first count uOut vOut .number ≡ 3 → ⊥) × (noiseOnlineCall E first count uOut vOut .number ≡ 8 → ⊥)
-  noise-vectors = (
-    λ e. never 3 (noiseLaws.listedTests (part .head) lent first count) refl (λ z. omega (arith, z)) (sym numbers ∙ e),
-    λ e. never 8 (noiseLaws.listedTests (part .head) lent first count) refl (λ z. omega (arith, z)) (sym numbers ∙ e),
-  )
+  noise-vectors =
+      let tests = noiseLaws.listedTests h lent first count in (never 3 tests refl (λ z. omega arith) numbers, never 8 tests refl (λ z. omega arith) numbers)
 
 -- ---- the scalar end
 
@@ -146,55 +132,48 @@ module _ {h : Head} (D : scalarOffline.Expanded h) (first count : ℕ) (wOut : L
   accepted-w : scalarLaws.Accepted whole (D .source) (scalarOffline.after D)
   accepted-w = scalarLaws.offline-accepted (D .source) (D .wBuffer) (D .deltaBuffer) (D .read) (D .number)
 
-  full-w : whole .head .terms ≤ places (whole .head)
+  full-w : h .terms ≤ places h
   full-w = head-ranges 2 (D .source) (scalar-parts (D .source) (D .read) .3) .terms-leaves
 
   listed-w : scalarOnlineCall D first count wOut
-      ≡ answered (scalarLaws.listedTests (whole .head) lent-w first count) (refusedOne lent-w) (scalarLaws.written (whole .head) lent-w first count)
+      ≡ answered (scalarLaws.listedTests h lent-w first count) (refusedOne lent-w) (scalarLaws.written h lent-w first count)
   listed-w =
-      scalarLaws.online-listed lent-w whole (accumulate (fieldOf (whole .head) .scaled .group) (w0 whole)) (D .read) (accepted-w .w)
-      (accumulated-elements (whole .head) (w0 whole)) first count
+      scalarLaws.online-listed lent-w whole (accumulate (fieldOf h .scaled .group) (w0 whole)) (D .read) (accepted-w .w)
+      (accumulated-elements _ (kindLaws (h .field) .field .scaled .group) _ (w0 whole)) first count
 
-  w-same : (k : ℕ) → output (fieldOf (whole .head) .scaled) (row (whole .head) (first + k)) (at (fieldOf (whole .head) .elements) (lent-w .w))
+  w-same : (k : ℕ) → output (fieldOf h .scaled) (row h (first + k)) (at (fieldOf h .elements) (lent-w .w))
       ≡ scalar.wAt whole (first + k)
   unfolding scalar.wAt
   w-same k =
-      row-same (whole .head) full-w (first + k) (fieldOf (whole .head) .scaled) (kindLaws (whole .head .field) .field .scaled) (w0 whole)
-      (at (fieldOf (whole .head) .elements) (lent-w .w))
-      (λ j l. ap (λ (x : List ℕ). at (fieldOf (whole .head) .elements) x j) (accepted-w .w)
-      ∙ at-flat (fieldOf (whole .head) .elements) (kindLaws (whole .head .field) .field .elements) (places (whole .head)) (accumulate (fieldOf (whole .head) .scaled .group) (w0 whole)) j l)
+      row-same h full-w (first + k) (fieldOf h .scaled) (kindLaws (h .field) .field .scaled)
+      (fieldOf h .elements) (kindLaws (h .field) .field .elements) (w0 whole) (lent-w .w) (accepted-w .w)
 
   abbrev here-w : scalar.Lent
   here-w = scalar.lentWith (D .source) wOut
 
   filled-w : scalar.filled whole here-w first count
-      ≡ record { source = D .source; wOut = scalarOnline.filled (whole .head) lent-w first count .wOut }
+      ≡ record { source = D .source; wOut = scalarOnline.filled h lent-w first count .wOut }
   unfolding scalar.filled scalarOnline.filled over
-  filled-w =
-      let w : over (fieldOf (whole .head) .elements) count (λ k. scalar.wAt whole (first + k)) wOut ≡ valuesOver (fieldOf (whole .head)) (row (whole .head)) (lent-w .w) first count wOut =
-      ap (λ (x : List ℕ). x ++ drop (count * fieldOf (whole .head) .elements .width) wOut)
-      (flat-cong (fieldOf (whole .head) .elements) (kindLaws (whole .head .field) .field .elements) count _ _ (λ k l. sym (w-same k))) in
-      λ i. record { source = D .source; wOut = w i }
+  filled-w = cc (flat-cong (fieldOf h .elements) (kindLaws (h .field) .field .elements) count _ _ (λ k l. sym (w-same k)))
 
   pub scalar-same : scalar.benchExpansion here-w first count ≡ scalarSeen (scalarOnlineCall D first count wOut)
   unfolding scalar.benchWindow scalarOnline.filled
   scalar-same =
-      let tests : List Test = scalarLaws.listedTests (whole .head) lent-w first count in
-      let words : ℕ = count * fieldOf (whole .head) .elements .width in
+      let tests : List Test = scalarLaws.listedTests h lent-w first count in
+      let words : ℕ = count * fieldOf h .elements .width in
       scalar-whole here-w first count (D .read)
       ∙ ap (λ (l : scalar.Lent). answered tests (refusedOne here-w) (wrote words l)) filled-w
-      ∙ sym (ap scalarSeen listed-w ∙ answered-map scalarSeen tests (refusedOne lent-w) (scalarLaws.written (whole .head) lent-w first count))
+      ∙ sym (ap scalarSeen listed-w ∙ answered-map scalarSeen tests (refusedOne lent-w) (scalarLaws.written h lent-w first count))
 
-  numbers-w : scalarOnlineCall D first count wOut .number ≡ firstFault (scalarLaws.listedTests (whole .head) lent-w first count)
+  numbers-w : scalarOnlineCall D first count wOut .number ≡ firstFault (scalarLaws.listedTests h lent-w first count)
   numbers-w =
-      scalarLaws.online-number lent-w whole (accumulate (fieldOf (whole .head) .scaled .group) (w0 whole)) (D .read) (accepted-w .w)
-      (accumulated-elements (whole .head) (w0 whole)) first count
+      scalarLaws.online-number lent-w whole (accumulate (fieldOf h .scaled .group) (w0 whole)) (D .read) (accepted-w .w)
+      (accumulated-elements _ (kindLaws (h .field) .field .scaled .group) _ (w0 whole)) first count
 
   pub scalar-vector : (scalarOnlineCall D first count wOut .number ≡ 3 → ⊥) × (scalarOnlineCall D first count wOut .number ≡ 8 → ⊥)
-  scalar-vector = (
-    λ e. never 3 (scalarLaws.listedTests (whole .head) lent-w first count) refl (λ z. omega (arith, z)) (sym numbers-w ∙ e),
-    λ e. never 8 (scalarLaws.listedTests (whole .head) lent-w first count) refl (λ z. omega (arith, z)) (sym numbers-w ∙ e),
-  )
+  scalar-vector =
+      let tests = scalarLaws.listedTests h lent-w first count in
+      (never 3 tests refl (λ z. omega arith) numbers-w, never 8 tests refl (λ z. omega arith) numbers-w)
 
 -- the statement
 pub bench : Bench

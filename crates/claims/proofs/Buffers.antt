@@ -55,21 +55,20 @@ two-fields : (f : ℕ) → isField f ≡ true → (f ≡ 1) ⊎ (f ≡ 2)
 two-fields f e = ⊎-elim (λ a. inl (eqb-true f 1 a)) (λ a. inr (eqb-true f 2 a)) (or-cases (eqb f 1) (eqb f 2) e)
 
 noise-is-element : (f y : ℕ) → (f ≡ 1) ⊎ (f ≡ 2) → isNoise f y ≡ true → Element (kindOf f .field .ring .group) (kindOf f .field .noiseValues .read (y ∷ []) 0)
-noise-is-element zero y h e = absurd (⊎-elim (λ q. omega arith) (λ q. omega arith) h)
-noise-is-element (suc zero) y h e = let k : y ≡ 1 = eqb-true y 1 e in lt-ltb y 2 (omega arith)
-noise-is-element (suc (suc zero)) y h e =
-    let k : y ≤ modulus - 1 = leb-true y (modulus - 1) (and-right (leb 1 y) (leb y (modulus - 1)) e) in
-    lt-ltb y modulus (omega arith)
-noise-is-element (suc (suc (suc f))) y h e = absurd (⊎-elim (λ q. omega arith) (λ q. omega arith) h)
+noise-is-element f y (inl q) e = let k : y ≡ 1 = eqb-true y 1 (rw q at e) in rw q (lt-ltb y 2 (omega arith))
+noise-is-element f y (inr q) e =
+    let k : y ≤ modulus - 1 = leb-true y (modulus - 1) (and-right (leb 1 y) (leb y (modulus - 1)) (rw q at e)) in
+    rw q (lt-ltb y modulus (omega arith))
 
 noise-nonzero : (f y : ℕ) → (f ≡ 1) ⊎ (f ≡ 2) → isNoise f y ≡ true → kindOf f .field .noiseValues .read (y ∷ []) 0 ≡ kindOf f .field .ring .group .zero → ⊥
-noise-nonzero zero y h e z = absurd (⊎-elim (λ q. omega arith) (λ q. omega arith) h)
-noise-nonzero (suc zero) y h e z = let k : y ≡ 1 = eqb-true y 1 e in omega arith
-noise-nonzero (suc (suc zero)) y h e z =
-    let k : 1 ≤ y = leb-true 1 y (and-left (leb 1 y) (leb y (modulus - 1)) e) in
-    let w : y ≡ 0 = ap (λ (a : Prime). a .word) z in
+noise-nonzero f y (inl q) e z =
+    let k : y ≡ 1 = eqb-true y 1 (rw q at e) in
+    let w : y ≡ 0 = rw q at z in
     omega arith
-noise-nonzero (suc (suc (suc f))) y h e z = absurd (⊎-elim (λ q. omega arith) (λ q. omega arith) h)
+noise-nonzero f y (inr q) e z =
+    let k : 1 ≤ y = leb-true 1 y (and-left (leb 1 y) (leb y (modulus - 1)) (rw q at e)) in
+    let w : y ≡ 0 = ap (λ (a : Prime). a .word) (rw q at z) in
+    omega arith
 
 -- a noise value read from its word tells the word
 word-told : (f x y : ℕ) → kindOf f .field .noiseValues .read (x ∷ []) 0 ≡ kindOf f .field .noiseValues .read (y ∷ []) 0 → x ≡ y
@@ -92,15 +91,11 @@ module _ (h : Head) where
 
     noise-at : (j : ℕ) → j < places h → at (fieldOf h .noiseValues) (noiseOffline.noiseOf (noiseOffline.after E)) j
         ≡ accumulate (fieldOf h .ring .group) (mu (noiseOffline.content E)) j
-    noise-at j l =
-        ap (λ (ws : List ℕ). at (fieldOf h .noiseValues) ws j) (left .noise)
-        ∙ at-flat (fieldOf h .noiseValues) (laws .field .noiseValues) (places h) (accumulate (fieldOf h .ring .group) (mu (noiseOffline.content E))) j l
+    noise-at j l = rw (left .noise) (at-flat (fieldOf h .noiseValues) (laws .field .noiseValues) (places h) _ j l)
 
     v-at : (j : ℕ) → j < places h → at (fieldOf h .elements) (noiseOffline.vOf (noiseOffline.after E)) j
         ≡ accumulate (fieldOf h .scaled .group) (v0 (noiseOffline.content E)) j
-    v-at j l =
-        ap (λ (ws : List ℕ). at (fieldOf h .elements) ws j) (left .v)
-        ∙ at-flat (fieldOf h .elements) (laws .field .elements) (places h) (accumulate (fieldOf h .scaled .group) (v0 (noiseOffline.content E))) j l
+    v-at j l = rw (left .v) (at-flat (fieldOf h .elements) (laws .field .elements) (places h) _ j l)
 
   module _ (E : noiseOffline.Expanded h) (bytes : Bytes (E .source)) where
     admitted : AdmittedNoise (noiseOffline.content E)
@@ -109,22 +104,16 @@ module _ (h : Head) where
     field-is : (h .field ≡ 1) ⊎ (h .field ≡ 2)
     field-is = two-fields (h .field) (admitted .head .field)
 
-    in-trees : (i : ℕ) → i < h .trees → i < length (E .trees)
-    in-trees i l = rw (admitted .count) l
-
     tree : (i : ℕ) → i < h .trees → AdmittedTree (h .field) (h .depth) (siblingCount (h .depth) (h .branchBits)) (treeIn (E .trees) i)
-    tree i l = tree-at (AdmittedTree (h .field) (h .depth) (siblingCount (h .depth) (h .branchBits))) (E .trees) (admitted .trees) i (in-trees i l)
-
-    valued : (i : ℕ) → i < h .trees → isNoise (h .field) (treeIn (E .trees) i .value) ≡ true
-    valued i l = tree i l .value
+    tree i l = tree-at (AdmittedTree (h .field) (h .depth) (siblingCount (h .depth) (h .branchBits))) (E .trees) (admitted .trees) i (rw (admitted .count) l)
 
     told : NoiseBelow (fieldOf h .ring) (places h) (h .trees) (λ i. treeIn (E .trees) i .position) (value (noiseOffline.content E))
     told =
         record {
           rising = admitted .rising;
           below = λ i l. ltb-true _ _ (tree i l .below);
-          element = λ i l. noise-is-element (h .field) (treeIn (E .trees) i .value) field-is (valued i l);
-          nonzero = λ i l. noise-nonzero (h .field) (treeIn (E .trees) i .value) field-is (valued i l);
+          element = λ i l. noise-is-element (h .field) (treeIn (E .trees) i .value) field-is (tree i l .value);
+          nonzero = λ i l. noise-nonzero (h .field) (treeIn (E .trees) i .value) field-is (tree i l .value);
         }
 
     mu-element : (j : ℕ) → Element (fieldOf h .ring .group) (mu (noiseOffline.content E) j)
@@ -144,9 +133,7 @@ module _ (h : Head) where
 
     w-at : (j : ℕ) → j < places h → at (fieldOf h .elements) (scalarOffline.wOf (scalarOffline.after D)) j
         ≡ accumulate (fieldOf h .scaled .group) (w0 (scalarOffline.content D)) j
-    w-at j l =
-        ap (λ (ws : List ℕ). at (fieldOf h .elements) ws j) (scalar-left .w)
-        ∙ at-flat (fieldOf h .elements) (laws .field .elements) (places h) (accumulate (fieldOf h .scaled .group) (w0 (scalarOffline.content D))) j l
+    w-at j l = rw (scalar-left .w) (at-flat (fieldOf h .elements) (laws .field .elements) (places h) _ j l)
 
     delta-at : at (fieldOf h .elements) (scalarOffline.deltaOf (scalarOffline.after D)) 0 ≡ delta (scalarOffline.content D)
     delta-at = ap (λ (ws : List ℕ). at (fieldOf h .elements) ws 0) (scalar-left .delta) ∙ delta-told (h .field) (D .delta)

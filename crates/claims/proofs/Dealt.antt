@@ -2,20 +2,18 @@
 use mathlib.Core.Path.{_≡_, refl, sym, ap, ap₂, _∙_, subst}
 use mathlib.Core.Bool.{Bool, true, false}
 use mathlib.Core.List.{List, [], _∷_, map, append-nil}
-use Prim.Native.Nat.{ℕ, zero, suc, _/_, _^_, _<_}
-use native.Mathlib.Omega.{arith}
+use Prim.Native.Nat.{ℕ, _/_, _^_, _<_}
 use lib.Dec.{eqb}
-use lib.ListN.{length, getD}
+use lib.ListN.{getD}
 use lib.Pow.{pow-pos}
 use Rattle.algebra.proofs.Same.{noise-same, punctured-same, whole-same}
 use Rattle.algebra.specs.Choice.{choose}
 use Rattle.algebra.specs.Coding.{Coding, CodingLaws, at}
 use Rattle.field.proofs.BothKinds.{kindLaws}
 use Rattle.field.specs.Kind.{KindLaws, binaryKind, primeKind, kindOf}
-use Rattle.aes128.specs.State.{column}
 use Rattle.aes128.specs.Cipher.{aes}
 use Rattle.window.specs.Head.{kind}
-use Rattle.tree.proofs.Blocks.{Square, columns-of, xor-square}
+use Rattle.tree.proofs.Blocks.{Square, columns-of, square-of, xor-square}
 use Rattle.tree.proofs.Listed.{listed-at}
 use Rattle.tree.proofs.Laws.{Each, from-siblings, siblings-have}
 use Rattle.tree.proofs.Levels.{level-leaves}
@@ -57,14 +55,7 @@ child-square c h s q = xor-square (aes (childKey c) s) s
 
 root-square : (I : Input) (i : ℕ) → Square (root I i)
 unfolding columnsAt
-root-square I i = record { size = refl; columns = four }
-  where
-    four : (c : ℕ) → c < 4 → length (column (root I i) c) ≡ 4
-    four zero h = refl
-    four (suc zero) h = refl
-    four (suc (suc zero)) h = refl
-    four (suc (suc (suc zero))) h = refl
-    four (suc (suc (suc (suc c)))) h = absurd (omega arith)
+root-square I i = square-of refl refl refl refl
 
 module _ (I : Input) (A : Admitted I) where
   laws : KindLaws (kind (head I))

@@ -51,8 +51,7 @@ module _ (E : End) (kept : (m : E .Memory) (c : Call (E .Out)) → E .memory (E 
   unfolding run
   made-first m [] i e = absurd (Option·none-ne-some _ e)
   made-first m (d ∷ calls) zero {c} {o} e =
-      let q = Option·some-injective (d, E .online m d) (c, o) e in
-      sym (ap (λ p. p .1) q) ∙ ap (E .online m) (ap (λ p. p .0) q)
+      let q = Option·some-injective (d, E .online m d) (c, o) e in cc (ap (λ p. p .0) q, ap (λ p. p .1) q)
   made-first m (d ∷ calls) (suc i) e = made-first m calls i (rw (kept m d) at e)
 
   last-kept : (m : E .Memory) (calls : List (Call (E .Out))) → last E m calls ≡ m
@@ -70,10 +69,8 @@ module _ (E : End) (kept : (m : E .Memory) (c : Call (E .Out)) → E .memory (E 
         numbers = λ i c o e. ap (λ p. p .number) (made-first (E .start) calls i e) ∙ number c;
         values = λ x a H.
             let made = made-first (E .start) calls (H .place) (H .made) in
-            H .stands
-            ∙ ap (λ o. E .standing (o .lent) (H .k)) made
-            ∙ value (H .call) (ap (λ o. o .number) (sym made) ∙ H .accepted) (H .k) (H .within)
-            ∙ ap (E .dealt) (sym (H .index));
+            let told = value (H .call) (ap (λ o. o .number) (sym made) ∙ H .accepted) (H .k) (H .within) in
+            cc (H .stands, H .index);
         memory = last-kept (E .start) calls;
       }
 

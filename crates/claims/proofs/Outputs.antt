@@ -1,8 +1,8 @@
 -- w = Δu + v at each output of an admitted dealing, from the one argument over any ring and any group that it scales.
-use mathlib.Core.Path.{_≡_, refl}
+use mathlib.Core.Path.{_≡_}
 use mathlib.Core.List.{List}
-use mathlib.Core.Logic.{_⊎_, ⊎-elim}
-use Prim.Native.Nat.{ℕ, zero, suc, _/_, _^_, _<_}
+use mathlib.Core.Logic.{_⊎_, inl, inr}
+use Prim.Native.Nat.{ℕ, _/_, _^_, _<_}
 use native.Mathlib.Omega.{arith}
 use borrow.Author.Tests.{lt-ltb}
 use lib.ListN.{getD}
@@ -25,18 +25,14 @@ use Rattle.dealing.specs.Vectors.{head, field, value, root, leaf, delta, mu, v0
 -- an admitted noise value is an element
 noise-element : (f : ℕ) (l : List ℕ) (i : ℕ) → (f ≡ 1) ⊎ (f ≡ 2) → NoiseAdmitted f (getD l i 0)
     → Element (kindOf f .field .ring .group) (kindOf f .field .noiseValues .read l i)
-noise-element zero l i h A = absurd (⊎-elim (λ e. omega arith) (λ e. omega arith) h)
-noise-element (suc zero) l i h A = lt-ltb (getD l i 0) 2 (omega (arith, A .binary refl))
-noise-element (suc (suc zero)) l i h A = lt-ltb (getD l i 0) modulus (omega (arith, A .prime refl .1))
-noise-element (suc (suc (suc n))) l i h A = absurd (⊎-elim (λ e. omega arith) (λ e. omega arith) h)
+noise-element f l i (inl e) A = rw e (lt-ltb (getD l i 0) 2 (omega (arith, A .binary e)))
+noise-element f l i (inr e) A = rw e (lt-ltb (getD l i 0) modulus (omega (arith, A .prime e .1)))
 
 -- Δ is an element
 delta-element : (f low high : ℕ) → (f ≡ 1) ⊎ (f ≡ 2) → (f ≡ 2 → low < modulus)
     → Element (kindOf f .field .scaled .group) (kindOf f .field .elements .read (elementOf f low high) 0)
-delta-element zero low high h A = absurd (⊎-elim (λ e. omega arith) (λ e. omega arith) h)
-delta-element (suc zero) low high h A = refl
-delta-element (suc (suc zero)) low high h A = lt-ltb low modulus (A refl)
-delta-element (suc (suc (suc n))) low high h A = absurd (⊎-elim (λ e. omega arith) (λ e. omega arith) h)
+delta-element f low high (inl e) A = rw e
+delta-element f low high (inr e) A = rw e (lt-ltb low modulus (A e))
 
 -- what an admitted input deals
 dealt : (I : Input) → Admitted I → Dealt (field I .scaled)

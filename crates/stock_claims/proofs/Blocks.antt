@@ -51,27 +51,22 @@ module _ (l : Label) (n : ℕ) (share : ℕ → ℕ) (most : n ≤ 8) where
   unfolding shareBlocks
   blocks-end k h = entries-in n (λ k. sumOf (suc k) share) k (omega arith) h
 
-  pub blocks-callers : shareBlocks l n share .callers ≡ n
-  unfolding shareBlocks
-  blocks-callers = refl
-
   pub blocks-well : Well (shareBlocks l n share)
+  unfolding shareBlocks
   blocks-well =
       record {
-        size = unfold shareBlocks in entries-length n (λ k. sumOf k share);
-        most = rw blocks-callers most;
-        ordered = λ k h. let w : k < n = rw (sym blocks-callers) h in rw (blocks-next k w, blocks-end k w) (sum-grows k (suc k) share (omega arith));
-        apart = λ j k b h.
-            let w : k < n = rw (sym blocks-callers) h in
-            rw (blocks-next k w, blocks-end j (omega arith)) (sum-grows (suc j) k share b);
+        size = entries-length n (λ k. sumOf k share);
+        most = most;
+        ordered = λ k h. rw (blocks-next k h, blocks-end k h) (sum-grows k (suc k) share (omega arith));
+        apart = λ j k b h. rw (blocks-next k h, blocks-end j (omega arith)) (sum-grows (suc j) k share b);
       }
 
   pub blocks-holds : ((k : ℕ) → n ≤ k → share k ≡ 0) → (k : ℕ) → remaining (shareBlocks l n share) k ≡ share k
+  unfolding shareBlocks
   blocks-holds none k =
       by-order k n
-      (λ b. holds-in (shareBlocks l n share) k (blocks-well .most) (rw blocks-callers b)
-      ∙ (let e = blocks-next k b in let f = blocks-end k b in let g = sum-suc k share in omega arith))
-      (λ a. holds-past (shareBlocks l n share) k (blocks-well .most) (rw blocks-callers a) ∙ sym (none k a))
+      (λ b. omega (arith, holds-in (shareBlocks l n share) k most b, blocks-next k b, blocks-end k b, sum-suc k share))
+      (λ a. holds-past (shareBlocks l n share) k most a ∙ sym (none k a))
 
   pub blocks-held : ((k : ℕ) → n ≤ k → share k ≡ 0) → held (shareBlocks l n share) ≡ sumOf n share
   unfolding held
@@ -101,18 +96,6 @@ module _ (s : Stock) (W : Well s) (l : Label) (k c : ℕ) (a : Accepted s l k c)
   below : (k < 8) × (k < s .callers)
   below = is-caller s k (a .caller)
 
-  pub advanced-label : advanced s k c .label ≡ s .label
-  unfolding advanced
-  advanced-label = refl
-
-  pub advanced-callers : advanced s k c .callers ≡ s .callers
-  unfolding advanced
-  advanced-callers = refl
-
-  pub advanced-end : (j : ℕ) → endOf (advanced s k c) j ≡ endOf s j
-  unfolding advanced
-  advanced-end j = refl
-
   pub advanced-next : nextOf (advanced s k c) k ≡ nextOf s k + c
   unfolding advanced
   advanced-next = getD-set-same (s .next) k (nextOf s k + c) 0 (let h = below in let e = W .size in omega arith)
@@ -122,42 +105,32 @@ module _ (s : Stock) (W : Well s) (l : Label) (k c : ℕ) (a : Accepted s l k c)
   advanced-other j n = getD-set-other (s .next) k j (nextOf s k + c) 0 n
 
   pub fits-block : nextOf s k + c ≤ endOf s k
-  fits-block = let h = holds-in s k (W .most) (below .1) in let o = W .ordered k (below .1) in let e = a .enough in omega arith
-
-  pub advanced-grows : (j : ℕ) → nextOf s j ≤ nextOf (advanced s k c) j
-  advanced-grows j =
-      by-equality j k (λ e. rw e (let n = advanced-next in omega arith)) (λ n. let o = advanced-other j n in omega arith)
+  fits-block = omega (arith, holds-in s k (W .most) (below .1), W .ordered k (below .1), a .enough)
 
   pub advanced-well : Well (advanced s k c)
+  unfolding advanced
   advanced-well =
       record {
-        size = unfold advanced in (length-set (s .next) k (nextOf s k + c) ∙ W .size);
-        most = rw advanced-callers (W .most);
+        size = length-set (s .next) k (nextOf s k + c) ∙ W .size;
+        most = W .most;
         ordered = λ j h.
-            let w : j < s .callers = rw (sym advanced-callers) h in
-            by-equality j k
-            (λ e. rw e (let n = advanced-next in let b = fits-block in let d = advanced-end k in omega arith))
-            (λ n. let o = advanced-other j n in let b = W .ordered j w in let d = advanced-end j in omega arith);
+            by-equality j k (λ e. rw e (omega (arith, advanced-next, fits-block))) (λ n. omega (arith, advanced-other j n, W .ordered j h));
         apart = λ i j b h.
-            let w : j < s .callers = rw (sym advanced-callers) h in
-            let p = W .apart i j b w in let g = advanced-grows j in let d = advanced-end i in omega arith;
+            let p = W .apart i j b h in
+            by-equality j k (λ e. rw e (omega (arith, advanced-next, rw e at p))) (λ n. omega (arith, advanced-other j n));
       }
 
   pub advanced-holds : remaining s k ≡ remaining (advanced s k c) k + c
+  unfolding advanced
   advanced-holds =
-      let h = holds-in s k (W .most) (below .1) in
-      let g = holds-in (advanced s k c) k (advanced-well .most) (rw advanced-callers (below .1)) in
-      let n = advanced-next in let d = advanced-end k in let e = a .enough in
-      omega arith
+      omega (arith, holds-in s k (W .most) (below .1), holds-in (advanced s k c) k (W .most) (below .1), advanced-next, a .enough)
 
   pub advanced-keeps : (j : ℕ) → (j ≡ k → ⊥) → remaining s j ≡ remaining (advanced s k c) j
+  unfolding advanced
   advanced-keeps j n =
       by-order j (s .callers)
-      (λ b. let h = holds-in s j (W .most) b in
-      let g = holds-in (advanced s k c) j (advanced-well .most) (rw advanced-callers b) in
-      let o = advanced-other j n in let d = advanced-end j in omega arith)
-      (λ p. let h = holds-past s j (W .most) p in
-      let g = holds-past (advanced s k c) j (advanced-well .most) (rw advanced-callers p) in omega arith)
+      (λ b. omega (arith, holds-in s j (W .most) b, holds-in (advanced s k c) j (W .most) b, advanced-other j n))
+      (λ p. holds-past s j (W .most) p ∙ sym (holds-past (advanced s k c) j (W .most) p))
 
   pub advanced-held : c + held (advanced s k c) ≡ held s
   unfolding held

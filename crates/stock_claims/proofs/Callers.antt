@@ -8,7 +8,7 @@ use Prim.Native.Nat.{ℕ, zero, suc, _+_, _-_}
 use native.Mathlib.Omega.{arith}
 use lib.Dec.{eqb, eqb·suc-zero}
 use borrow.Author.Tests.{eqb-true, eq-eqb}
-use Rattle.algebra.proofs.Tests.{and-left, or-neither}
+use Rattle.algebra.proofs.Tests.{and-left}
 use Rattle.algebra.specs.Choice.{choose}
 use Rattle.answer.specs.Numbers.{noCaller, shareSpent, labelNotInUse}
 use Rattle.answer.specs.Tests.{_is_, _atMost_, holds, _or_, firstFault}
@@ -21,13 +21,13 @@ use Rattle.stock.specs.Calls.{drawTests, refusedDraw, acceptedDraw, draw, previ
 use Rattle.stock_claims.specs.Lists.{Call, draws, previews, passes, Reply, StockMade, make, callsMade, those, anyOf, drawsOf, asksOf, aPassage, acceptedPassage, handedBy, replies, replyNumbers, callsOf, asked, concerns, AlikeFor}
 use Rattle.stock.proofs.Cases.{by-test}
 use Rattle.stock_claims.proofs.Blocks.{Well, Fresh, pass-cases}
-use Rattle.stock_claims.proofs.Picked.{those-in, those-out, some-in, some-out}
-use Rattle.stock_claims.proofs.Steps.{Stayed, kept, stayed-draw, stayed-preview, stayed-stale, moved-passed, make-call, make-moved}
+use Rattle.stock_claims.proofs.Picked.{some-in, some-out}
+use Rattle.stock_claims.proofs.Steps.{Stayed, kept, stayed-draw, stayed-preview, stayed-stale, moved-passed, make-call}
 
 -- ---- a caller alone
 
 -- the number of a caller's draw, by whether there is such a caller, the number of the label in use, and what the caller holds
-abbrev numberBy : Bool → ℕ → ℕ → Label → ℕ → ℕ
+numberBy : Bool → ℕ → ℕ → Label → ℕ → ℕ
 numberBy known L left l c = firstFault (numberOf l is L or labelNotInUse ∷ holds known or noCaller ∷ c atMost left or shareSpent ∷ [])
 
 -- what an accepted call hands out, by its number
@@ -44,11 +44,6 @@ replyBy known L next left l c =
     }
 
 module _ {A : Type 0} (look : Reply → A) where
-  -- what made calls show
-  looks : List StockMade → List A
-  looks [] = []
-  looks (m ∷ h) = look (m .reply) ∷ looks h
-
   -- what the draws and previews in a list of what concerns a caller show
   looksBy : Bool → ℕ → ℕ → ℕ → List Call → List A
   looksBy known L next left [] = []
@@ -75,10 +70,6 @@ module _ {A : Type 0} (look : Reply → A) where
   abbrev sees : ℕ → Stock → List Call → List A
   sees k s calls = looksBy (isCaller s k) (numberOf (s .label)) (nextOf s k) (remaining s k) calls
 
-  sees-by : (k : ℕ) (s : Stock) (known : Bool) (L next left : ℕ) → isCaller s k ≡ known → numberOf (s .label) ≡ L → nextOf s k ≡ next → remaining s k ≡ left
-      → (calls : List Call) → sees k s calls ≡ looksBy known L next left calls
-  sees-by k s known L next left a b c d calls = rw (a, b, c, d)
-
 -- ---- one call
 
 same-caller : (s t : Stock) (k : ℕ) → t .callers ≡ s .callers → isCaller t k ≡ isCaller s k
@@ -103,7 +94,7 @@ asks-passage k (passes l n) y = absurd (false≢true y)
 -- the reply to a draw and to a preview of it
 draw-reply : (k : ℕ) (s : Stock) (l : Label) (c : ℕ)
     → make s (draws l k c) .reply ≡ replyBy (isCaller s k) (numberOf (s .label)) (nextOf s k) (remaining s k) l c
-unfolding make draw answered byNumber
+unfolding make draw answered byNumber numberBy
 draw-reply k s l c = by-number (firstFault (drawTests s l k c))
   where
     by-number : (n : ℕ) → let d = byNumber n (refusedDraw s) (acceptedDraw s k c) in
@@ -128,117 +119,94 @@ draw-part k s l c =
     handed-out (suc n) = rw (eqb·suc-zero n)
 
 moved-label : (s : Stock) (l : Label) (n : ℕ) → Fresh s l n → make s (passes l n) .after .label ≡ l
-unfolding shareBlocks
-moved-label s l n f = ap (λ (m : StockMade). m .after .label) (make-moved s l n f)
+unfolding make shareBlocks
+moved-label s l n f = rw (f .gave)
 
 -- ---- every list
 
-module _ {A : Type 0} (look : Reply → A) (k : ℕ) where
+-- what made calls show: a list with what each reply shows
+module _ {A : Type 0} (look : Reply → A) (shown : List StockMade → List A) (none : shown [] ≡ [])
+    (more : (m : StockMade) (h : List StockMade) → shown (m ∷ h) ≡ look (m .reply) ∷ shown h) (k : ℕ) where
   -- caller k's replies show what the model gives
   abbrev ByModel : Stock → List Call → Type 0
-  ByModel s calls = looks look (those (asked k) (callsMade s calls)) ≡ sees look k s (callsOf (those (concerns k) (callsMade s calls)))
+  ByModel s calls = shown (those (asked k) (callsMade s calls)) ≡ sees look k s (callsOf (those (concerns k) (callsMade s calls)))
 
   module _ (s : Stock) (W : Well s) where
     -- a call that hands the caller nothing and keeps the label
     sees-on : (c : Call) → drawsOf k c ≡ false → Stayed s (make s c) → (calls : List Call) → sees look k (make s c .after) calls ≡ sees look k s calls
     sees-on c n S calls =
         let m = make s c in
-        let none : handedBy (drawsOf k) m ≡ 0 = rw (make-call s c, n) in
-        sees-by look k (m .after) _ _ _ _ (same-caller s (m .after) k (kept s W c .callers)) (ap numberOf (S .label))
-        (let e = S .next k in omega arith) (let h = kept s W c .remaining k in omega arith) calls
+        let nothing : handedBy (drawsOf k) m ≡ 0 = rw (make-call s c, n) in
+        let next : nextOf (m .after) k ≡ nextOf s k = let e = S .next k in omega arith in
+        let left : remaining (m .after) k ≡ remaining s k = let e = kept s W c .remaining k in omega arith in
+        cc (same-caller s (m .after) k (kept s W c .callers), S .label, next, left)
 
     -- a call that does not concern the caller
     by-skip : (c : Call) (calls : List Call) → asksOf k c ≡ false → Stayed s (make s c) → ByModel (make s c .after) calls → ByModel s (c ∷ calls)
-    unfolding callsMade
+    unfolding callsMade those
     by-skip c calls n S ih =
-        let m = make s c in
-        let h = callsMade (m .after) calls in
-        let out = asked-call k s c false n in
-        ap (looks look) (those-out (asked k) m h out) ∙ ih ∙ sees-on c (asks-draws k c n) S _
-        ∙ ap (λ (h : List StockMade). sees look k s (callsOf h)) (sym (those-out (concerns k) m h (or-neither out (S .not-passed))))
+        let rest = callsOf (those (concerns k) (callsMade (make s c .after) calls)) in
+        rw (asked-call k s c false n, S .not-passed) (ih ∙ sees-on c (asks-draws k c n) S rest)
 
     -- a draw and a preview of the caller
-    by-ask : (c : Call) (calls : List Call) → asksOf k c ≡ true
-        → look (make s c .reply) ∷ looks look (those (asked k) (callsMade (make s c .after) calls))
-        ≡ sees look k s (c ∷ callsOf (those (concerns k) (callsMade (make s c .after) calls)))
-        → ByModel s (c ∷ calls)
-    unfolding callsMade looks callsOf
-    by-ask c calls y e =
-        let m = make s c in
-        let h = callsMade (m .after) calls in
-        let mine = asked-call k s c true y in
-        let on : concerns k m ≡ true = rw mine in
-        ap (looks look) (those-in (asked k) m h mine) ∙ e
-        ∙ ap (λ (d : Call). sees look k s (d ∷ callsOf (those (concerns k) h))) (sym (make-call s c))
-        ∙ ap (λ (h : List StockMade). sees look k s (callsOf h)) (sym (those-in (concerns k) m h on))
-
-    by-draw : (l : Label) (c : ℕ) (calls : List Call) → asksOf k (draws l k c) ≡ true
-        → ByModel (make s (draws l k c) .after) calls → ByModel s (draws l k c ∷ calls)
-    unfolding looksBy
-    by-draw l c calls y ih =
+    by-draw : (l : Label) (c : ℕ) (calls : List Call) → ByModel (make s (draws l k c) .after) calls → ByModel s (draws l k c ∷ calls)
+    unfolding callsMade those callsOf looksBy
+    by-draw l c calls ih =
         let d = draws l k c in
         let m = make s d in
         let S = stayed-draw s W l k c in
         let p = draw-part k s l c in
         let n = numberBy (isCaller s k) (numberOf (s .label)) (remaining s k) l c in
         let left : remaining (m .after) k ≡ remaining s k - given n c = let h = kept s W d .remaining k in omega arith in
-        by-ask d calls y
-        (ap₂ (λ (a : A) (r : List A). a ∷ r) (ap look (draw-reply k s l c))
-        (ih ∙ sees-by look k (m .after) _ _ _ _ (same-caller s (m .after) k (kept s W d .callers)) (ap numberOf (S .label))
-        (S .next k ∙ ap (λ (x : ℕ). nextOf s k + x) p) left (callsOf (those (concerns k) (callsMade (m .after) calls)))))
+        let same = same-caller s (m .after) k (kept s W d .callers) in
+        let h = callsMade (m .after) calls in
+        rw (asked-call k s d true (eq-eqb k k refl), more m (those (asked k) h), make-call s d, draw-reply k s l c) (cc (S .label, S .next k))
 
-    by-preview : (l : Label) (c : ℕ) (calls : List Call) → asksOf k (previews l k c) ≡ true
-        → ByModel (make s (previews l k c) .after) calls → ByModel s (previews l k c ∷ calls)
-    unfolding looksBy
-    by-preview l c calls y ih =
+    by-preview : (l : Label) (c : ℕ) (calls : List Call) → ByModel (make s (previews l k c) .after) calls → ByModel s (previews l k c ∷ calls)
+    unfolding callsMade those callsOf looksBy
+    by-preview l c calls ih =
         let d = previews l k c in
-        by-ask d calls y
-        (ap₂ (λ (a : A) (r : List A). a ∷ r) (ap look (preview-reply k s l c ∙ draw-reply k s l c))
-        (ih ∙ sees-on d refl (stayed-preview s W l k c) (callsOf (those (concerns k) (callsMade (make s d .after) calls)))))
+        let m = make s d in
+        let h = callsMade (m .after) calls in
+        let on = sees-on d refl (stayed-preview s W l k c) (callsOf (those (concerns k) h)) in
+        rw (asked-call k s d true (eq-eqb k k refl), more m (those (asked k) h), make-call s d, preview-reply k s l c, draw-reply k s l c) (cc)
+
+    -- a draw or preview of any caller
+    by-asker : (d : ℕ → Call) (j : ℕ) (calls : List Call) → asksOf k (d j) ≡ eqb k j → Stayed s (make s (d j))
+        → (ByModel (make s (d k) .after) calls → ByModel s (d k ∷ calls)) → ByModel (make s (d j) .after) calls → ByModel s (d j ∷ calls)
+    by-asker d j calls e S own ih =
+        by-test (eqb k j)
+        (λ y. subst (λ (x : ℕ). ByModel (make s (d x) .after) calls → ByModel s (d x ∷ calls)) (eqb-true k j y) own ih)
+        (λ n. by-skip (d j) calls (e ∙ n) S ih)
 
     -- an accepted passage, after which the first index is another
     by-pass : (l : Label) (n : ℕ) (calls : List Call) → Fresh s l n → Blind look
         → ByModel (make s (passes l n) .after) calls → ByModel s (passes l n ∷ calls)
-    unfolding callsMade callsOf looksBy
+    unfolding callsMade those callsOf looksBy
     by-pass l n calls f b ih =
         let d = passes l n in
         let m = make s d in
-        let h = callsMade (m .after) calls in
-        let rest = callsOf (those (concerns k) h) in
-        let out = asked-call k s d false refl in
-        let on : concerns k m ≡ true = rw (out, moved-passed s W l n f) in
-        let none : handedBy (drawsOf k) m ≡ 0 = rw (make-call s d) in
+        let nothing : handedBy (drawsOf k) m ≡ 0 = rw (make-call s d) in
         let left : remaining (m .after) k ≡ remaining s k = let e = kept s W d .remaining k in omega arith in
-        ap (looks look) (those-out (asked k) m h out) ∙ ih
-        ∙ sees-by look k (m .after) _ _ _ _ (same-caller s (m .after) k (kept s W d .callers)) (ap numberOf (moved-label s l n f)) refl left rest
-        ∙ blind-by look b (isCaller s k) (numberOf l) (nextOf (m .after) k) (nextOf s k) (remaining s k) rest
-        ∙ ap (λ (d : Call). sees look k s (d ∷ callsOf (those (concerns k) h))) (sym (make-call s d))
-        ∙ ap (λ (h : List StockMade). sees look k s (callsOf h)) (sym (those-in (concerns k) m h on))
+        let rest = callsOf (those (concerns k) (callsMade (m .after) calls)) in
+        let blind = blind-by look b (isCaller s k) (numberOf l) (nextOf (m .after) k) (nextOf s k) (remaining s k) rest in
+        let same = same-caller s (m .after) k (kept s W d .callers) in
+        rw (asked-call k s d false refl, moved-passed s W l n f, make-call s d) (cc (ih, blind, same, left, moved-label s l n f))
 
   -- where a passage is accepted, no first index may show
   by-model : (s : Stock) → Well s → (calls : List Call) → (anyOf acceptedPassage (callsMade s calls) ≡ true → Blind look) → ByModel s calls
-  unfolding callsMade those callsOf looks looksBy
-  by-model s W [] b = refl
+  unfolding callsMade those callsOf looksBy
+  by-model s W [] b = none
   by-model s W (draws l j c ∷ calls) b =
       let d = draws l j c in
       let S = stayed-draw s W l j c in
-      let ih = by-model (make s d .after) (kept s W d .well) calls (λ e. b (some-out acceptedPassage (make s d) _ (S .not-passed) ∙ e)) in
-      by-test (asksOf k d)
-      (λ y. let e = sym (eqb-true k j y) in
-      subst (λ (x : ℕ). ByModel s (draws l x c ∷ calls)) (sym e)
-      (by-draw s W l c calls (subst (λ (x : ℕ). asksOf k (draws l x c) ≡ true) e y)
-      (subst (λ (x : ℕ). ByModel (make s (draws l x c) .after) calls) e ih)))
-      (λ n. by-skip s W d calls n S ih)
+      by-asker s W (λ x. draws l x c) j calls refl S (by-draw s W l c calls)
+      (by-model (make s d .after) (kept s W d .well) calls (λ e. b (some-out acceptedPassage (make s d) _ (S .not-passed) ∙ e)))
   by-model s W (previews l j c ∷ calls) b =
       let d = previews l j c in
       let S = stayed-preview s W l j c in
-      let ih = by-model (make s d .after) (kept s W d .well) calls (λ e. b (some-out acceptedPassage (make s d) _ (S .not-passed) ∙ e)) in
-      by-test (asksOf k d)
-      (λ y. let e = sym (eqb-true k j y) in
-      subst (λ (x : ℕ). ByModel s (previews l x c ∷ calls)) (sym e)
-      (by-preview s W l c calls (subst (λ (x : ℕ). asksOf k (previews l x c) ≡ true) e y)
-      (subst (λ (x : ℕ). ByModel (make s (previews l x c) .after) calls) e ih)))
-      (λ n. by-skip s W d calls n S ih)
+      by-asker s W (λ x. previews l x c) j calls refl S (by-preview s W l c calls)
+      (by-model (make s d .after) (kept s W d .well) calls (λ e. b (some-out acceptedPassage (make s d) _ (S .not-passed) ∙ e)))
   by-model s W (passes l n ∷ calls) b =
       let d = passes l n in
       let go = by-model (make s d .after) (kept s W d .well) calls in
@@ -255,47 +223,26 @@ some-passed : (k : ℕ) (h : List StockMade) → anyOf aPassage (callsOf (those 
 unfolding anyOf those callsOf
 some-passed k [] = refl
 some-passed k (m ∷ h) =
-    let rest = callsOf (those (concerns k) h) in
-    by-test (acceptedPassage m)
-    (λ y.
-    let on : concerns k m ≡ true = by-test (asked k m) (λ t. rw t) (λ t. rw (t, y)) in
-    ap (λ (g : List StockMade). anyOf aPassage (callsOf g)) (those-in (concerns k) m h on)
-    ∙ some-in aPassage (m .call) rest (and-left (aPassage (m .call)) _ y) ∙ sym (some-in acceptedPassage m h y))
-    (λ n.
+    let ih = some-passed k h in
     by-test (asked k m)
-    (λ t.
-    let on : concerns k m ≡ true = rw t in
-    ap (λ (g : List StockMade). anyOf aPassage (callsOf g)) (those-in (concerns k) m h on)
-    ∙ some-out aPassage (m .call) rest (asks-passage k (m .call) t) ∙ some-passed k h)
-    (λ t. ap (λ (g : List StockMade). anyOf aPassage (callsOf g)) (those-out (concerns k) m h (or-neither t n)) ∙ some-passed k h)
-    ∙ sym (some-out acceptedPassage m h n))
-
-looks-numbers : (h : List StockMade) → looks (λ r. r .number) h ≡ replyNumbers h
-unfolding looks replyNumbers
-looks-numbers [] = refl
-looks-numbers (m ∷ h) = ap (λ (l : List ℕ). m .reply .number ∷ l) (looks-numbers h)
-
-looks-replies : (h : List StockMade) → looks (λ r. r) h ≡ replies h
-unfolding looks replies
-looks-replies [] = refl
-looks-replies (m ∷ h) = ap (λ (l : List Reply). m .reply ∷ l) (looks-replies h)
+    (λ t. cc (asks-passage k (m .call) t))
+    (λ t. by-test (acceptedPassage m) (λ y. cc (and-left (aPassage (m .call)) _ y)) (λ n. cc))
 
 module _ (k : ℕ) (s : Stock) (W : Well s) (calls other : List Call) (same : AlikeFor k (callsMade s calls) (callsMade s other)) where
-  alike : {A : Type 0} (look : Reply → A) → (anyOf acceptedPassage (callsMade s calls) ≡ true → Blind look)
-      → looks look (those (asked k) (callsMade s calls)) ≡ looks look (those (asked k) (callsMade s other))
-  alike look b =
-      let model = by-model look k s W calls b ∙ ap (sees look k s) same in
+  alike : {A : Type 0} (look : Reply → A) (shown : List StockMade → List A) (none : shown [] ≡ [])
+      (more : (m : StockMade) (h : List StockMade) → shown (m ∷ h) ≡ look (m .reply) ∷ shown h)
+      → (anyOf acceptedPassage (callsMade s calls) ≡ true → Blind look)
+      → shown (those (asked k) (callsMade s calls)) ≡ shown (those (asked k) (callsMade s other))
+  alike look shown none more b =
+      let model = by-model look shown none more k s W calls b ∙ ap (sees look k s) same in
       let passages = sym (some-passed k (callsMade s calls)) ∙ ap (anyOf aPassage) same ∙ some-passed k (callsMade s other) in
-      model ∙ sym (by-model look k s W other (λ e. b (passages ∙ e)))
+      model ∙ sym (by-model look shown none more k s W other (λ e. b (passages ∙ e)))
 
   pub numbers-alike : replyNumbers (those (asked k) (callsMade s calls)) ≡ replyNumbers (those (asked k) (callsMade s other))
-  numbers-alike =
-      sym (looks-numbers (those (asked k) (callsMade s calls)))
-      ∙ alike (λ r. r .number) (λ e known L next from left l c. refl)
-      ∙ looks-numbers (those (asked k) (callsMade s other))
+  unfolding replyNumbers
+  numbers-alike = alike (λ r. r .number) replyNumbers refl (λ m h. refl) (λ e known L next from left l c. refl)
 
-  pub replies-alike : anyOf acceptedPassage (callsMade s calls) ≡ false → replies (those (asked k) (callsMade s calls)) ≡ replies (those (asked k) (callsMade s other))
-  replies-alike none =
-      sym (looks-replies (those (asked k) (callsMade s calls)))
-      ∙ alike (λ r. r) (λ e. absurd (false≢true (sym none ∙ e)))
-      ∙ looks-replies (those (asked k) (callsMade s other))
+  pub replies-alike : anyOf acceptedPassage (callsMade s calls) ≡ false
+      → replies (those (asked k) (callsMade s calls)) ≡ replies (those (asked k) (callsMade s other))
+  unfolding replies
+  replies-alike n = alike (λ r. r) replies refl (λ m h. refl) (λ e. absurd (false≢true (sym n ∙ e)))

@@ -1,9 +1,9 @@
 -- The claim about every list of calls after an accepted opening.
-use mathlib.Core.Path.{_≡_, refl, sym, ap, subst, _∙_}
+use mathlib.Core.Path.{_≡_, refl, sym, ap, _∙_}
 use mathlib.Core.List.{List, [], _∷_}
 use mathlib.Core.Logic.{_⊎_, ⊎-elim}
-use mathlib.Core.Option.{some, Option·none-ne-some, Option·some-injective}
-use Prim.Native.Nat.{ℕ, zero, suc, _≤_, _<_}
+use mathlib.Core.Option.{some, Option·none-ne-some}
+use Prim.Native.Nat.{ℕ, zero, suc, _≤_}
 use native.Mathlib.Omega.{arith}
 use lib.ListN.{length, getElem?, take, List·getD-eq-default}
 use Rattle.answer.specs.Numbers.{accepted}
@@ -13,20 +13,20 @@ use Rattle.stock.specs.declared.OpenedStock.{OpenedStock}
 use Rattle.stock.specs.declared.Stock.{Stock}
 use Rattle.stock.specs.Stock.{remaining, held, sumOf, shareBlocks}
 use Rattle.stock.specs.Calls.{withStock, openingShare, noCallers, openTests, openStock}
-use Rattle.stock_claims.specs.Lists.{Call, draws, previews, StockMade, make, callsMade, last, handed, upToPassage, sincePassage, outputsIn, shareIn, NextOf, StockClaim, StockLists}
-use Rattle.stock_claims.proofs.Blocks.{Well, blocks-next, blocks-end, blocks-callers, blocks-well, blocks-holds, blocks-held, is-caller, fits-block}
+use Rattle.stock_claims.specs.Lists.{Call, draws, previews, StockMade, make, callsMade, last, aDraw, drawsOf, handed, upToPassage, sincePassage, outputsIn, shareIn, NextOf, StockClaim, StockLists}
+use Rattle.stock_claims.proofs.Blocks.{Well, blocks-next, blocks-end, blocks-well, blocks-holds, blocks-held, is-caller, fits-block}
 use Rattle.stock.proofs.Entries.{sum-grows, sum-same}
 use Rattle.stock.proofs.Opened.{up-to-most}
 use Rattle.stock_claims.proofs.Callers.{preview-reply, numbers-alike, replies-alike}
-use Rattle.stock_claims.proofs.Runs.{last-well, sums-run, callers-run, labels-run, hands-at, once-run, InUse, use-run}
-use Rattle.stock_claims.proofs.Steps.{accepted-draw, make-call, make-drawn}
+use Rattle.stock_claims.proofs.Runs.{last-well, sums-run, labels-run, hands-at, once-run, InUse, use-run}
+use Rattle.stock_claims.proofs.Steps.{kept, accepted-draw, make-call}
 
 -- ---- the made call at a place
 
 made-at : (s : Stock) (calls : List Call) (i : ℕ) (m : StockMade) → getElem? (callsMade s calls) i ≡ some m → m ≡ make (last s (take i calls)) (m .call)
 unfolding callsMade last
 made-at s [] i m e = absurd (Option·none-ne-some m e)
-made-at s (c ∷ calls) zero m e = subst (λ (n : StockMade). n ≡ make s (n .call)) (Option·some-injective (make s c) m e) (ap (make s) (sym (make-call s c)))
+made-at s (c ∷ calls) zero m e = cc (make-call s c)
 made-at s (c ∷ calls) (suc i) m e = made-at (make s c .after) calls i m e
 
 -- a draw's reply, and that of a preview of it
@@ -34,29 +34,27 @@ reply-at : (s : Stock) (calls : List Call) (i : ℕ) (m : StockMade) → getElem
     → (m .call ≡ draws l k c) ⊎ (m .call ≡ previews l k c) → m .reply ≡ make (last s (take i calls)) (draws l k c) .reply
 reply-at s calls i m h l k c e =
     let t = last s (take i calls) in
-    ap (λ (m : StockMade). m .reply) (made-at s calls i m h)
-    ∙ ⊎-elim
-    (λ d. ap (λ (c : Call). make t c .reply) d)
-    (λ p. ap (λ (c : Call). make t c .reply) p ∙ preview-reply k t l c)
-    e
+    let w = made-at s calls i m h in
+    ⊎-elim (λ d. cc) (λ p. cc (preview-reply k t l c)) e
 
 take-run : (s : Stock) (calls : List Call) (i : ℕ) → take i (callsMade s calls) ≡ callsMade s (take i calls)
 unfolding callsMade
 take-run s calls zero = refl
 take-run s [] (suc i) = refl
-take-run s (c ∷ calls) (suc i) = ap (λ (h : List StockMade). make s c ∷ h) (take-run (make s c .after) calls i)
+take-run s (c ∷ calls) (suc i) = cc (take-run (make s c .after) calls i)
 
 -- an accepted draw after any list
 next-of : (outputs : ℕ) (shares : List ℕ) (s : Stock) → Well s → InUse outputs shares [] s → (calls : List Call) (l : Label) (k c : ℕ)
     → make (last s calls) (draws l k c) .reply .number ≡ accepted
     → NextOf outputs shares (callsMade s calls) k c (make (last s calls) (draws l k c) .reply)
+unfolding make
 next-of outputs shares s W I calls l k c z =
     let t = last s calls in
     let T = last-well s W calls in
     let a = accepted-draw t T l k c z in
     let b = is-caller t k (a .caller) in
     let N = use-run outputs shares [] s W I calls in
-    rw (make-drawn t l k c a)
+    rw (a .drawn)
     (record {
       count = refl;
       first = N .next k (b .1);
@@ -100,24 +98,22 @@ module _ (label : Label) (outputs : ℕ) (shares : List ℕ) (O : Opened label o
   first-shares j = omega arith
 
   in-use : InUse outputs shares [] start
-  unfolding handed held sincePassage outputsIn
+  unfolding handed held sincePassage outputsIn shareBlocks
   in-use =
       record {
         next = λ k h.
-            let b : k < length shares = rw (blocks-callers label (length shares) (openingShare shares) (O .most)) at h in
-            let e = blocks-next label (length shares) (openingShare shares) (O .most) k b in
+            let e = blocks-next label (length shares) (openingShare shares) (O .most) k h in
             let f = sum-same k (shareIn shares []) (openingShare shares) (λ j g. first-shares j) in
             omega arith;
         end = λ k h.
-            let b : k < length shares = rw (blocks-callers label (length shares) (openingShare shares) (O .most)) at h in
-            blocks-end label (length shares) (openingShare shares) (O .most) k b
+            blocks-end label (length shares) (openingShare shares) (O .most) k h
             ∙ sym (sum-same (suc k) (shareIn shares []) (openingShare shares) (λ j g. first-shares j));
         within =
             let e = start-held in
             let f = sum-same 8 (shareIn shares []) (remaining start) (λ j g. first-shares j ∙ sym (start-holds j)) in
             let w = O .sum in
             omega arith;
-        left = λ k. let e = start-holds k in omega arith;
+        left = λ k. omega (arith, start-holds k);
       }
 
   claim : (calls : List Call) → StockClaim outputs shares start calls
@@ -125,9 +121,9 @@ module _ (label : Label) (outputs : ℕ) (shares : List ℕ) (O : Opened label o
       record {
         once = λ i j m n e f L x o p.
             once-run start well calls i j L x (hands-at (callsMade start calls) i m e L x o) (hands-at (callsMade start calls) j n f L x p);
-        sums = sums-run start well calls ∙ start-held;
+        sums = sums-run aDraw held (λ s W c. kept s W c .held) start well calls ∙ start-held;
         labels = labels-run start well calls;
-        callers = λ k. callers-run start well calls k ∙ start-holds k;
+        callers = λ k. sums-run (drawsOf k) (λ s. remaining s k) (λ s W c. kept s W c .remaining k) start well calls ∙ start-holds k;
         next = λ i m h l k c e z.
             let r = reply-at start calls i m h l k c e in
             rw (r, take-run start calls i) (next-of outputs shares start well in-use (take i calls) l k c (rw r at z));

@@ -1,12 +1,10 @@
 -- What `StockLists` and `Previews` say of a caller's draws alone: its numbers and, before any accepted passage, its replies to draws
 -- do not depend on previews, its own among them.
-use mathlib.Core.Path.{_≡_, refl, sym, ap, ap₂, _∙_}
+use mathlib.Core.Path.{_≡_, refl, sym, ap, _∙_}
 use mathlib.Core.Bool.{Bool, true, false, _&&_, _||_, false≢true}
 use mathlib.Core.List.{List, [], _∷_}
 use Prim.Native.Nat.{ℕ}
-use native.Mathlib.Omega.{arith}
 use lib.Dec.{eqb}
-use Rattle.algebra.proofs.Tests.{or-neither}
 use Rattle.answer.specs.Numbers.{accepted}
 use Rattle.stock.specs.declared.Label.{Label}
 use Rattle.stock.specs.declared.Stock.{Stock}
@@ -14,7 +12,7 @@ use Rattle.stock.specs.Calls.{openStock}
 use Rattle.stock_claims.specs.Lists.{Call, draws, previews, passes, StockMade, make, callsMade, those, anyOf, drawsOf, asksOf, noPreview, aPassage, acceptedPassage, replies, replyNumbers, callsOf, asked, concerns}
 use Rattle.stock.proofs.Cases.{by-test}
 use Rattle.stock_claims.proofs.Claims.{lists}
-use Rattle.stock_claims.proofs.Picked.{those-in, those-out, some-in, some-out}
+use Rattle.stock_claims.proofs.Picked.{some-out}
 use Rattle.stock_claims.proofs.Runs.{previews-nothing}
 use Rattle.stock_claims.proofs.Steps.{make-call}
 
@@ -26,33 +24,20 @@ module _ {A : Type 0} where
   those-those p q r both [] = refl
   those-those p q r both (a ∷ l) =
       let ih = those-those p q r both l in
-      by-test (q a)
-      (λ y.
-      ap (those p) (those-in q a l y)
-      ∙ by-test (p a)
-      (λ t. those-in p a (those q l) t ∙ ap (λ (h : List A). a ∷ h) ih ∙ sym (those-in r a l (sym (both a) ∙ rw (y, t))))
-      (λ t. those-out p a (those q l) t ∙ ih ∙ sym (those-out r a l (sym (both a) ∙ rw (y, t)))))
-      (λ n. ap (those p) (those-out q a l n) ∙ ih ∙ sym (those-out r a l (sym (both a) ∙ rw n)))
+      let e = both a in
+      by-test (q a) (λ y. by-test (p a) (λ t. rw (← e, y, t, ih)) (λ t. rw (← e, y, t) ih)) (λ n. rw (← e, n) ih)
 
   some-none : (p : A → Bool) (l : List A) → those p l ≡ [] → anyOf p l ≡ false
   unfolding anyOf those
   some-none p [] e = refl
   some-none p (a ∷ l) e =
-      by-test (p a)
-      (λ y. let q = sym (those-in p a l y) ∙ e in let z : _≡_ {A = ℕ} 0 1 = cc in absurd (omega arith))
-      (λ n. some-out p a l n ∙ some-none p l (sym (those-out p a l n) ∙ e))
+      by-test (p a) (λ y. cc) (λ n. some-out p a l n ∙ some-none p l (cc))
 
   those-or : (p q : A → Bool) (l : List A) → anyOf q l ≡ false → those (λ a. p a || q a) l ≡ those p l
-  unfolding those
+  unfolding those anyOf
   those-or p q [] e = refl
   those-or p q (a ∷ l) e =
-      by-test (q a)
-      (λ y. absurd (false≢true (sym e ∙ some-in q a l y)))
-      (λ n.
-      let ih = those-or p q l (sym (some-out q a l n) ∙ e) in
-      by-test (p a)
-      (λ t. those-in (λ a. p a || q a) a l (rw t) ∙ ap (λ (h : List A). a ∷ h) ih ∙ sym (those-in p a l t))
-      (λ t. those-out (λ a. p a || q a) a l (or-neither t n) ∙ ih ∙ sym (those-out p a l t)))
+      by-test (q a) (λ y. cc) (λ n. let ih = those-or p q l (cc) in by-test (p a) (λ t. rw (t, ih)) (λ t. rw (t, n) ih))
 
 -- ---- the calls of a list that is made
 
@@ -60,28 +45,16 @@ calls-run : (p : Call → Bool) (s : Stock) (calls : List Call) → callsOf (tho
 unfolding callsMade those callsOf
 calls-run p s [] = refl
 calls-run p s (c ∷ calls) =
-    let m = make s c in
-    let h = callsMade (m .after) calls in
-    let ih = calls-run p (m .after) calls in
-    let e = ap p (make-call s c) in
-    by-test (p c)
-    (λ y.
-    ap callsOf (those-in (λ m. p (m .call)) m h (e ∙ y)) ∙ ap₂ (λ (c : Call) (l : List Call). c ∷ l) (make-call s c) ih ∙ sym (those-in p c calls y))
-    (λ n. ap callsOf (those-out (λ m. p (m .call)) m h (e ∙ n)) ∙ ih ∙ sym (those-out p c calls n))
+    let ih = calls-run p (make s c .after) calls in
+    let e = make-call s c in
+    by-test (p c) (λ y. rw (e, y, ih)) (λ n. rw (e, n) ih)
 
 -- a list of picked calls alone
 alone : (p : Call → Bool) (q : StockMade → Bool) → ((s : Stock) (c : Call) → p c ≡ true → q (make s c) ≡ true) → (s : Stock) (calls : List Call)
     → those q (callsMade s (those p calls)) ≡ callsMade s (those p calls)
 unfolding callsMade those
 alone p q all s [] = refl
-alone p q all s (c ∷ calls) =
-    by-test (p c)
-    (λ y.
-    let m = make s c in
-    let h = callsMade (m .after) (those p calls) in
-    let e = ap (callsMade s) (those-in p c calls y) in
-    ap (those q) e ∙ those-in q m h (all s c y) ∙ ap (λ (l : List StockMade). m ∷ l) (alone p q all (m .after) calls) ∙ sym e)
-    (λ n. let e = ap (callsMade s) (those-out p c calls n) in ap (those q) e ∙ alone p q all s calls ∙ sym e)
+alone p q all s (c ∷ calls) = by-test (p c) (λ y. rw (y, all s c y, alone p q all (make s c .after) calls)) (λ n. rw n (alone p q all s calls))
 
 -- ---- a caller's draws
 
@@ -121,20 +94,15 @@ module _ (label : Label) (outputs : ℕ) (shares : List ℕ) (opened : openStock
   first = openStock label outputs shares .opened .stock
 
   -- the list without previews
+  struck-run : (p r : StockMade → Bool) → ((m : StockMade) → (notPreviewed m && p m) ≡ r m) → (calls : List Call)
+      → those p (callsMade first (those noPreview calls)) ≡ those r (callsMade first calls)
+  struck-run p r both calls = cc (previews-nothing first calls .others, those-those p notPreviewed r both (callsMade first calls))
+
   drew-run : (calls : List Call) → those (asked k) (callsMade first (those noPreview calls)) ≡ those (drew k) (callsMade first calls)
-  drew-run calls =
-      ap (those (asked k)) (sym (previews-nothing first calls .others))
-      ∙ those-those (asked k) notPreviewed (drew k) (λ m. drew-both k (m .call)) (callsMade first calls)
+  drew-run = struck-run (asked k) (drew k) (λ m. drew-both k (m .call))
 
   concerns-run : (calls : List Call) → those (concerns k) (callsMade first (those noPreview calls)) ≡ those (drewOrPassed k) (callsMade first calls)
-  concerns-run calls =
-      ap (those (concerns k)) (sym (previews-nothing first calls .others))
-      ∙ those-those (concerns k) notPreviewed (drewOrPassed k) (λ m. passed-both k (m .call) (eqb (m .reply .number) accepted)) (callsMade first calls)
-
-  passed-run : (calls : List Call) → those acceptedPassage (callsMade first (those noPreview calls)) ≡ those acceptedPassage (callsMade first calls)
-  passed-run calls =
-      ap (those acceptedPassage) (sym (previews-nothing first calls .others))
-      ∙ those-those acceptedPassage notPreviewed acceptedPassage (λ m. passage-both (m .call) (eqb (m .reply .number) accepted)) (callsMade first calls)
+  concerns-run = struck-run (concerns k) (drewOrPassed k) (λ m. passed-both k (m .call) (eqb (m .reply .number) accepted))
 
   -- the accepted passages and its own draws, in their order, decide a caller's numbers for draws
   pub refusals-of-draws : (calls other : List Call)
@@ -142,9 +110,7 @@ module _ (label : Label) (outputs : ℕ) (shares : List ℕ) (opened : openStock
       → replyNumbers (those (drew k) (callsMade first calls)) ≡ replyNumbers (those (drew k) (callsMade first other))
   refusals-of-draws calls other same =
       let alike = ap callsOf (concerns-run calls) ∙ same ∙ sym (ap callsOf (concerns-run other)) in
-      ap replyNumbers (sym (drew-run calls))
-      ∙ lists label outputs shares opened (those noPreview calls) .refusals k (those noPreview other) alike
-      ∙ ap replyNumbers (drew-run other)
+      cc (drew-run calls, drew-run other, lists label outputs shares opened (those noPreview calls) .refusals k (those noPreview other) alike)
 
   -- before any accepted passage, a caller's replies to draws are those of the list with all but its own draws struck out
   pub own-of-draws : (calls : List Call) → those acceptedPassage (callsMade first calls) ≡ []
@@ -161,6 +127,6 @@ module _ (label : Label) (outputs : ℕ) (shares : List ℕ) (opened : openStock
       ap callsOf (concerns-run calls)
       ∙ ap callsOf (those-or (drew k) acceptedPassage (callsMade first calls) (some-none acceptedPassage (callsMade first calls) none))
       ∙ calls-run (drawsOf k) first calls ∙ sym kept in
-      ap replies (sym (drew-run calls))
-      ∙ lists label outputs shares opened (those noPreview calls) .own k struck alike (some-none acceptedPassage _ (passed-run calls ∙ none))
-      ∙ ap replies (alone (drawsOf k) (asked k) mine first calls)
+      let passed = struck-run acceptedPassage acceptedPassage (λ m. passage-both (m .call) (eqb (m .reply .number) accepted)) calls in
+      let same = lists label outputs shares opened (those noPreview calls) .own k struck alike (some-none acceptedPassage _ (passed ∙ none)) in
+      cc (drew-run calls, alone (drawsOf k) (asked k) mine first calls)

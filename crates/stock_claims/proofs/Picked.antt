@@ -1,24 +1,16 @@
 -- Laws of picked calls, and of the last accepted passage in a list of made calls.
-use mathlib.Core.Path.{_≡_, refl, sym, ap, _∙_}
+use mathlib.Core.Path.{_≡_, refl, ap}
 use mathlib.Core.Bool.{Bool, true, false, _||_}
 use mathlib.Core.List.{List, [], _∷_, _++_}
 use Prim.Native.Nat.{ℕ, _+_}
 use native.Mathlib.Omega.{arith}
 use Rattle.algebra.specs.Choice.{choose}
 use Rattle.stock.proofs.Cases.{by-test}
-use Rattle.stock_claims.specs.Lists.{Call, StockMade, those, anyOf, acceptedPassage, handedBy, handed, upToPassage, sincePassage, outputsOf, outputsIn}
+use Rattle.stock_claims.specs.Lists.{Call, StockMade, anyOf, acceptedPassage, handedBy, handed, upToPassage, sincePassage, outputsOf, outputsIn}
 
 -- ---- picked calls
 
 module _ {A : Type 0} (p : A → Bool) (a : A) (l : List A) where
-  pub those-in : p a ≡ true → those p (a ∷ l) ≡ a ∷ those p l
-  unfolding those
-  those-in e = rw e
-
-  pub those-out : p a ≡ false → those p (a ∷ l) ≡ those p l
-  unfolding those
-  those-out e = rw e
-
   pub some-in : p a ≡ true → anyOf p (a ∷ l) ≡ true
   unfolding anyOf
   some-in e = rw e
@@ -41,54 +33,31 @@ module _ {A : Type 0} (p : A → Bool) (a : A) where
 
 -- ---- the last accepted passage
 
-module _ (m : StockMade) (h : List StockMade) where
-  up-to-in : anyOf acceptedPassage (m ∷ h) ≡ true → upToPassage (m ∷ h) ≡ m ∷ upToPassage h
-  unfolding upToPassage
-  up-to-in e = ap (λ (t : Bool). choose t (m ∷ upToPassage h) []) e
-
-  up-to-out : anyOf acceptedPassage (m ∷ h) ≡ false → upToPassage (m ∷ h) ≡ []
-  unfolding upToPassage
-  up-to-out e = ap (λ (t : Bool). choose t (m ∷ upToPassage h) []) e
-
-  since-in : anyOf acceptedPassage (m ∷ h) ≡ true → sincePassage (m ∷ h) ≡ sincePassage h
-  unfolding sincePassage
-  since-in e = ap (λ (t : Bool). choose t (sincePassage h) (m ∷ h)) e
-
-  since-out : anyOf acceptedPassage (m ∷ h) ≡ false → sincePassage (m ∷ h) ≡ m ∷ h
-  unfolding sincePassage
-  since-out e = ap (λ (t : Bool). choose t (sincePassage h) (m ∷ h)) e
-
 -- with one more accepted passage
 module _ (m : StockMade) (y : acceptedPassage m ≡ true) where
   pub up-to-passed : (h : List StockMade) → upToPassage (h ++ (m ∷ [])) ≡ h ++ (m ∷ [])
   unfolding upToPassage
-  up-to-passed [] = up-to-in m [] (some-in acceptedPassage m [] y)
-  up-to-passed (a ∷ h) = up-to-in a (h ++ (m ∷ [])) (some-more acceptedPassage m (a ∷ h) y) ∙ ap (λ (l : List StockMade). a ∷ l) (up-to-passed h)
+  up-to-passed [] = cc (some-more acceptedPassage m [] y)
+  up-to-passed (a ∷ h) = cc (some-more acceptedPassage m (a ∷ h) y, up-to-passed h)
 
   pub since-passed : (h : List StockMade) → sincePassage (h ++ (m ∷ [])) ≡ []
   unfolding sincePassage
-  since-passed [] = since-in m [] (some-in acceptedPassage m [] y)
-  since-passed (a ∷ h) = since-in a (h ++ (m ∷ [])) (some-more acceptedPassage m (a ∷ h) y) ∙ since-passed h
+  since-passed [] = cc (some-more acceptedPassage m [] y)
+  since-passed (a ∷ h) = cc (some-more acceptedPassage m (a ∷ h) y, since-passed h)
 
 -- with one more call that is none
 module _ (m : StockMade) (n : acceptedPassage m ≡ false) where
   pub up-to-not : (h : List StockMade) → upToPassage (h ++ (m ∷ [])) ≡ upToPassage h
   unfolding upToPassage anyOf
-  up-to-not [] = up-to-out m [] (some-same acceptedPassage m [] n)
-  up-to-not (a ∷ h) =
-      let e = some-same acceptedPassage m (a ∷ h) n in
-      by-test (anyOf acceptedPassage (a ∷ h))
-      (λ t. up-to-in a (h ++ (m ∷ [])) (e ∙ t) ∙ ap (λ (l : List StockMade). a ∷ l) (up-to-not h) ∙ sym (up-to-in a h t))
-      (λ t. up-to-out a (h ++ (m ∷ [])) (e ∙ t) ∙ sym (up-to-out a h t))
+  up-to-not [] = cc (some-same acceptedPassage m [] n)
+  up-to-not (a ∷ h) = cc (some-same acceptedPassage m (a ∷ h) n, up-to-not h)
 
   pub since-not : (h : List StockMade) → sincePassage (h ++ (m ∷ [])) ≡ sincePassage h ++ (m ∷ [])
   unfolding sincePassage anyOf
-  since-not [] = since-out m [] (some-same acceptedPassage m [] n)
+  since-not [] = cc (some-same acceptedPassage m [] n)
   since-not (a ∷ h) =
       let e = some-same acceptedPassage m (a ∷ h) n in
-      by-test (anyOf acceptedPassage (a ∷ h))
-      (λ t. since-in a (h ++ (m ∷ [])) (e ∙ t) ∙ since-not h ∙ ap (λ (l : List StockMade). l ++ (m ∷ [])) (sym (since-in a h t)))
-      (λ t. since-out a (h ++ (m ∷ [])) (e ∙ t) ∙ ap (λ (l : List StockMade). l ++ (m ∷ [])) (sym (since-out a h t)))
+      by-test (anyOf acceptedPassage (a ∷ h)) (λ t. cc (e, t, since-not h)) (λ t. cc (e, t))
 
 module _ (m : StockMade) where
   pub outputs-more : (n : ℕ) (h : List StockMade) → outputsIn n (h ++ (m ∷ [])) ≡ choose (acceptedPassage m) (outputsOf (m .call)) (outputsIn n h)

@@ -14,7 +14,7 @@ use Rattle.stock.specs.Stock.{nextOf, endOf, remaining, sumOf, held, shareBlock
 use Rattle.stock.specs.Calls.{advanced}
 use Rattle.stock_claims.specs.Lists.{Call, draws, previews, passes, StockMade, make, aDraw, drawsOf, drawsUnder, acceptedPassage, handedBy, outputsOf, HandsOut}
 use Rattle.stock.proofs.Cases.{by-order, by-equality}
-use Rattle.stock_claims.proofs.Blocks.{Well, holds-past, blocks-next, blocks-end, blocks-callers, blocks-well, blocks-holds, Accepted, Refused, draw-cases, Fresh, Stale, pass-cases, is-caller, advanced-label, advanced-callers, advanced-end, advanced-next, advanced-other, fits-block, advanced-well, advanced-holds, advanced-keeps, advanced-held}
+use Rattle.stock_claims.proofs.Blocks.{Well, holds-past, blocks-next, blocks-end, blocks-well, blocks-holds, Accepted, draw-cases, Fresh, Stale, pass-cases, is-caller, advanced-next, advanced-other, fits-block, advanced-well, advanced-holds, advanced-keeps, advanced-held}
 use Rattle.stock.proofs.Entries.{sum-same}
 
 -- what every call keeps: the blocks follow each other, and what it hands out is what its caller, and all callers, hold less
@@ -50,31 +50,9 @@ make-call s (draws l k c) = refl
 make-call s (previews l k c) = refl
 make-call s (passes l n) = refl
 
-abbrev pub drawn : Stock → Label → ℕ → ℕ → StockMade
-drawn s l k c = record { call = draws l k c; reply = record { number = 0; first = nextOf s k; count = c }; after = advanced s k c }
-
 -- a refused call
 abbrev turned : Stock → Call → ℕ → StockMade
 turned s c n = record { call = c; reply = record { number = suc n; first = 0; count = 0 }; after = s }
-
-abbrev moved : Stock → Label → ℕ → StockMade
-moved s l n = record { call = passes l n; reply = record { number = 0; first = 0; count = 0 }; after = shareBlocks l (s .callers) (remaining s) }
-
-pub make-drawn : (s : Stock) (l : Label) (k c : ℕ) → Accepted s l k c → make s (draws l k c) ≡ drawn s l k c
-unfolding make
-make-drawn s l k c a = rw (a .drawn)
-
-make-turned : (s : Stock) (l : Label) (k c : ℕ) (r : Refused s l k c) → make s (draws l k c) ≡ turned s (draws l k c) (r .fault)
-unfolding make
-make-turned s l k c r = rw (r .kept)
-
-pub make-moved : (s : Stock) (l : Label) (n : ℕ) → Fresh s l n → make s (passes l n) ≡ moved s l n
-unfolding make
-make-moved s l n f = rw (f .gave)
-
-pub make-stale : (s : Stock) (l : Label) (n : ℕ) (t : Stale s l n) → make s (passes l n) ≡ turned s (passes l n) (t .fault)
-unfolding make
-make-stale s l n t = rw (t .kept)
 
 -- a refused call hands out nothing
 none-turned : (p : Call → Bool) (s : Stock) (c : Call) (n : ℕ) → handedBy p (turned s c n) ≡ 0
@@ -101,30 +79,6 @@ module _ (s : Stock) (W : Well s) where
         not-passed = q;
       }
 
-  kept-drawn : (l : Label) (k c : ℕ) → Accepted s l k c → Kept s (drawn s l k c)
-  kept-drawn l k c a =
-      record {
-        well = advanced-well s W l k c a;
-        callers = advanced-callers s W l k c a;
-        remaining = λ j. by-equality j k
-            (λ e. rw (e, eq-eqb k k refl) (let h = advanced-holds s W l k c a in omega arith))
-            (λ n. rw (ne-eqb j k n) (let o = advanced-keeps s W l k c a j n in omega arith));
-        held = advanced-held s W l k c a;
-      }
-
-  stayed-drawn : (l : Label) (k c : ℕ) → Accepted s l k c → Stayed s (drawn s l k c)
-  stayed-drawn l k c a =
-      record {
-        label = advanced-label s W l k c a;
-        end = advanced-end s W l k c a;
-        next = λ j. by-equality j k
-            (λ e. rw (e, eq-eqb k k refl) (advanced-next s W l k c a))
-            (λ n. rw (ne-eqb j k n) (let o = advanced-other s W l k c a j n in omega arith));
-        under = rw (eq-eqb (numberOf (s .label)) (numberOf l) (sym (a .label)));
-        other = λ L d. rw (ne-eqb L (numberOf l) (λ e. d (e ∙ a .label)));
-        not-passed = refl;
-      }
-
   same-holds : (l : Label) (j : ℕ) → remaining (shareBlocks l (s .callers) (remaining s)) j ≡ remaining s j
   same-holds l j = blocks-holds l (s .callers) (remaining s) (W .most) (λ k h. holds-past s k (W .most) h) j
 
@@ -132,60 +86,73 @@ module _ (s : Stock) (W : Well s) where
   unfolding held
   same-held l = sum-same 8 _ _ (λ j h. same-holds l j)
 
-  kept-moved : (l : Label) (n : ℕ) → Kept s (moved s l n)
-  kept-moved l n =
-      record {
-        well = blocks-well l (s .callers) (remaining s) (W .most);
-        callers = blocks-callers l (s .callers) (remaining s) (W .most);
-        remaining = λ j. let e = same-holds l j in omega arith;
-        held = let e = same-held l in omega arith;
-      }
-
-  moved-moved : (l : Label) (n : ℕ) → Fresh s l n → Moved s (moved s l n)
-  moved-moved l n f =
-      record {
-        above = unfold shareBlocks in f .above;
-        next = λ j h. blocks-next l (s .callers) (remaining s) (W .most) j h ∙ sym (sum-same j _ _ (λ i b. same-holds l i));
-        end = λ j h. blocks-end l (s .callers) (remaining s) (W .most) j h ∙ sym (sum-same (suc j) _ _ (λ i b. same-holds l i));
-        room = let e = same-held l in let r = f .room in omega arith;
-        other = λ L. refl;
-        is-passed = refl;
-      }
-
-  kept-previewed : (l : Label) (k c : ℕ) → Kept s (make s (previews l k c))
+  pub kept : (c : Call) → Kept s (make s c)
   unfolding make
-  kept-previewed l k c = record { well = W; callers = refl; remaining = λ j. omega arith; held = omega arith }
+  kept (draws l k c) =
+      ⊎-elim
+      (λ a. rw (a .drawn)
+      (record {
+        well = advanced-well s W l k c a;
+        callers = unfold advanced in refl;
+        remaining = λ j. by-equality j k
+            (λ e. rw (e, eq-eqb k k refl) (omega (arith, advanced-holds s W l k c a)))
+            (λ n. rw (ne-eqb j k n) (omega (arith, advanced-keeps s W l k c a j n)));
+        held = advanced-held s W l k c a;
+      }))
+      (λ r. rw (r .kept) (kept-turned (draws l k c) (r .fault)))
+      (draw-cases s l k c)
+  kept (previews l k c) = record { well = W; callers = refl; remaining = λ j. omega arith; held = omega arith }
+  kept (passes l n) =
+      ⊎-elim
+      (λ f. rw (f .gave)
+      (record {
+        well = blocks-well l (s .callers) (remaining s) (W .most);
+        callers = unfold shareBlocks in refl;
+        remaining = λ j. omega (arith, same-holds l j);
+        held = omega (arith, same-held l);
+      }))
+      (λ t. rw (t .kept) (kept-turned (passes l n) (t .fault)))
+      (pass-cases s l n)
+
+  pub stayed-draw : (l : Label) (k c : ℕ) → Stayed s (make s (draws l k c))
+  unfolding make
+  stayed-draw l k c =
+      ⊎-elim
+      (λ a. rw (a .drawn)
+      (record {
+        label = unfold advanced in refl;
+        end = λ j. unfold advanced in refl;
+        next = λ j. by-equality j k
+            (λ e. rw (e, eq-eqb k k refl) (advanced-next s W l k c a))
+            (λ n. rw (ne-eqb j k n) (omega (arith, advanced-other s W l k c a j n)));
+        under = rw (eq-eqb (numberOf (s .label)) (numberOf l) (sym (a .label)));
+        other = λ L d. rw (ne-eqb L (numberOf l) (λ e. d (e ∙ a .label)));
+        not-passed = refl;
+      }))
+      (λ r. rw (r .kept) (stayed-turned (draws l k c) (r .fault) refl))
+      (draw-cases s l k c)
 
   pub stayed-preview : (l : Label) (k c : ℕ) → Stayed s (make s (previews l k c))
   unfolding make
   stayed-preview l k c =
       record { label = refl; end = λ j. refl; next = λ j. omega arith; under = refl; other = λ L d. refl; not-passed = refl }
 
-  pub kept : (c : Call) → Kept s (make s c)
-  kept (draws l k c) =
-      ⊎-elim
-      (λ a. rw (make-drawn s l k c a) (kept-drawn l k c a))
-      (λ r. rw (make-turned s l k c r) (kept-turned (draws l k c) (r .fault)))
-      (draw-cases s l k c)
-  kept (previews l k c) = kept-previewed l k c
-  kept (passes l n) =
-      ⊎-elim
-      (λ f. rw (make-moved s l n f) (kept-moved l n))
-      (λ t. rw (make-stale s l n t) (kept-turned (passes l n) (t .fault)))
-      (pass-cases s l n)
-
-  pub stayed-draw : (l : Label) (k c : ℕ) → Stayed s (make s (draws l k c))
-  stayed-draw l k c =
-      ⊎-elim
-      (λ a. rw (make-drawn s l k c a) (stayed-drawn l k c a))
-      (λ r. rw (make-turned s l k c r) (stayed-turned (draws l k c) (r .fault) refl))
-      (draw-cases s l k c)
-
   pub stayed-stale : (l : Label) (n : ℕ) → Stale s l n → Stayed s (make s (passes l n))
-  stayed-stale l n t = rw (make-stale s l n t) (stayed-turned (passes l n) (t .fault) (eqb·suc-zero (t .fault)))
+  unfolding make
+  stayed-stale l n t = rw (t .kept) (stayed-turned (passes l n) (t .fault) (eqb·suc-zero (t .fault)))
 
   moved-fresh : (l : Label) (n : ℕ) → Fresh s l n → Moved s (make s (passes l n))
-  moved-fresh l n f = rw (make-moved s l n f) (moved-moved l n f)
+  unfolding make
+  moved-fresh l n f =
+      rw (f .gave)
+      (record {
+        above = unfold shareBlocks in f .above;
+        next = λ j h. blocks-next l (s .callers) (remaining s) (W .most) j h ∙ sym (sum-same j _ _ (λ i b. same-holds l i));
+        end = λ j h. blocks-end l (s .callers) (remaining s) (W .most) j h ∙ sym (sum-same (suc j) _ _ (λ i b. same-holds l i));
+        room = omega (arith, same-held l, f .room);
+        other = λ L. refl;
+        is-passed = refl;
+      })
 
   pub moved-passed : (l : Label) (n : ℕ) → Fresh s l n → acceptedPassage (make s (passes l n)) ≡ true
   moved-passed l n f = moved-fresh l n f .is-passed
@@ -204,10 +171,11 @@ module _ (s : Stock) (W : Well s) where
   -- ---- the indices that are not handed out yet
 
   pub accepted-draw : (l : Label) (k c : ℕ) → make s (draws l k c) .reply .number ≡ 0 → Accepted s l k c
+  unfolding make
   accepted-draw l k c z =
       ⊎-elim
       (λ a. a)
-      (λ r. let e = ap (λ (m : StockMade). m .reply .number) (make-turned s l k c r) in absurd (omega arith))
+      (λ r. let e = rw (r .kept) at z in absurd (omega arith))
       (draw-cases s l k c)
 
 -- an index of what a caller still holds
@@ -217,54 +185,43 @@ pub record Free (s : Stock) (x : ℕ) : Type 0 where
   pub from : nextOf s k ≤ x
   pub below : x < endOf s k
 
--- a draw hands out, under the label in use, what was free before it and is not free after it
-module _ (s : Stock) (W : Well s) (l : Label) (k c L x : ℕ) (h : HandsOut (make s (draws l k c)) L x) where
-  accept : Accepted s l k c
-  accept = accepted-draw s W l k c (h .is-accepted)
+-- what a call hands out is under the label in use, was free before it, and is not free after it
+pub record Gone (s : Stock) (c : Call) (L x : ℕ) : Type 0 where
+  pub label : L ≡ numberOf (s .label)
+  pub stays : make s c .after .label ≡ s .label
+  pub free : Free s x
+  pub gone : Free (make s c .after) x → ⊥
 
-  pub hands-label : L ≡ numberOf (s .label)
-  hands-label =
-      let d : eqb L (numberOf l) ≡ true = rw (make-call s (draws l k c)) at (h .drawn) in
-      eqb-true L (numberOf l) d ∙ accept .label
-
-  window : (nextOf s k ≤ x) × (x < nextOf s k + c)
-  window =
-      let e = make-drawn s l k c accept in
-      (rw e at (h .from), rw e at (h .below))
-
-  pub hands-free : Free s x
-  hands-free =
-      record {
-        k = k;
-        caller = is-caller s k (accept .caller) .1;
-        from = window .0;
-        below = let f = fits-block s W l k c accept in let w = window in omega arith;
-      }
-
-  gone : Free (advanced s k c) x → ⊥
-  gone f =
+module _ (s : Stock) (W : Well s) (l : Label) (k c x : ℕ) (a : Accepted s l k c) (from : nextOf s k ≤ x) (below : x < nextOf s k + c) where
+  gone-drawn : Free (advanced s k c) x → ⊥
+  unfolding advanced
+  gone-drawn f =
       let j = f .k in
-      let w = window in
-      let b = fits-block s W l k c accept in
-      let n = is-caller s k (accept .caller) .1 in
-      let d = advanced-end s W l k c accept j in
-      let u = advanced-callers s W l k c accept in
-      let lo = f .from in
-      let hi = f .below in
-      let cj = f .caller in
+      let b = fits-block s W l k c a in
+      let n = is-caller s k (a .caller) .1 in
       by-equality j k
-      (λ e. let g : nextOf (advanced s k c) j ≡ nextOf s k + c = rw e (advanced-next s W l k c accept) in omega arith)
-      (λ q. let o = advanced-other s W l k c accept j q in
+      (λ e. let g : nextOf (advanced s k c) j ≡ nextOf s k + c = rw e (advanced-next s W l k c a) in omega arith)
+      (λ q. let o = advanced-other s W l k c a j q in
       by-order j k
       (λ l. let p = W .apart j k l n in omega arith)
-      (λ l. let p = W .apart k j (by-order k j (λ r. r) (λ r. absurd (q (omega arith)))) (omega arith) in omega arith))
+      (λ l. let p = W .apart k j (omega arith) (f .caller) in omega arith))
 
-  pub hands-gone : Free (make s (draws l k c) .after) x → ⊥
-  hands-gone f = gone (rw (make-drawn s l k c accept) at f)
-
--- nothing but a draw hands out anything
-pub hands-none : (s : Stock) (c : Call) (L x : ℕ) → drawsUnder L c ≡ false → HandsOut (make s c) L x → ⊥
-hands-none s c L x n o = false≢true (sym (ap (drawsUnder L) (make-call s c) ∙ n) ∙ o .drawn)
+-- only a draw hands out anything
+pub hands : (s : Stock) → Well s → (c : Call) (L x : ℕ) → HandsOut (make s c) L x → Gone s c L x
+unfolding make
+hands s W (draws l k c) L x h =
+    let a = accepted-draw s W l k c (h .is-accepted) in
+    let e = a .drawn in
+    let from : nextOf s k ≤ x = rw e at (h .from) in
+    let below : x < nextOf s k + c = rw e at (h .below) in
+    record {
+      label = eqb-true L (numberOf l) (h .drawn) ∙ a .label;
+      stays = stayed-draw s W l k c .label;
+      free = record { k = k; caller = is-caller s k (a .caller) .1; from = from; below = omega (arith, fits-block s W l k c a) };
+      gone = λ f. gone-drawn s W l k c x a from below (rw e at f);
+    }
+hands s W (previews l k c) L x h = absurd (false≢true (h .drawn))
+hands s W (passes l n) L x h = absurd (false≢true (h .drawn))
 
 -- while the label stays, what is free after a call was free before it
 pub free-before : (s : Stock) (m : StockMade) → Kept s m → Stayed s m → (x : ℕ) → Free (m .after) x → Free s x
@@ -272,6 +229,6 @@ free-before s m K S x f =
     record {
       k = f .k;
       caller = rw (K .callers) at (f .caller);
-      from = let n = S .next (f .k) in let l = f .from in omega arith;
+      from = omega (arith, S .next (f .k), f .from);
       below = rw (S .end (f .k)) at (f .below);
     }

@@ -1,7 +1,7 @@
 -- Trees are document 01's trees by bits for g = 1.
-use mathlib.Core.Path.{_≡_, refl, ap, sym, _∙_}
+use mathlib.Core.Path.{_≡_, refl, ap}
 use mathlib.Core.List.{_∷_}
-use Prim.Native.Nat.{ℕ, zero, suc, _-_}
+use Prim.Native.Nat.{ℕ, zero, suc}
 use native.Mathlib.Nat.{div-one}
 use Rattle.tree.specs.Tree.{path, reach, leafAt, listed, siblings}
 use Rattle.tree.specs.Bits.{bits, leafByBits, siblingByBits, siblingsByBits, TwoChildren}
@@ -18,18 +18,10 @@ module _ {A : Type 0} (child : ℕ → A → A) where
   unfolding leafAt leafByBits
   same-leaf d root j = ap (reach child root) (same-path d j)
 
-  first-sibling : (d : ℕ) (root : A) (s : ℕ)
-      → siblingsByBits child (suc d) root s ≡ child (1 - bit d s) root ∷ siblingsByBits child d (child (bit d s) root) s
-  unfolding siblingsByBits siblingByBits bits reach
-  first-sibling d root s = listed-front d (siblingByBits child (suc d) root s)
-
   same-siblings : (d : ℕ) (root : A) (s : ℕ) → siblings 2 child d root s ≡ siblingsByBits child d root s
-  unfolding siblingsByBits listed
+  unfolding siblingsByBits siblingByBits bits reach listed
   same-siblings zero root s = siblings-none 2 child root s
-  same-siblings (suc d) root s =
-      siblings-two child d root s
-      ∙ ap (λ l. child (1 - bit d s) root ∷ l) (same-siblings d (child (bit d s) root) s)
-      ∙ sym (first-sibling d root s)
+  same-siblings (suc d) root s = cc (siblings-two child d root s, same-siblings d (child (bit d s) root) s, listed-front d (siblingByBits child (suc d) root s))
 
 pub two-children : TwoChildren
 two-children =

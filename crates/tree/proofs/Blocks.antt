@@ -1,5 +1,5 @@
 -- Blocks in bytes: what is written and what is read back.
-use mathlib.Core.Path.{_≡_, refl, ap, ap₂, sym, _∙_}
+use mathlib.Core.Path.{_≡_, refl, ap, sym, _∙_}
 use mathlib.Core.List.{List, [], _∷_, _++_}
 use Prim.Native.Nat.{ℕ, zero, suc, _+_, _*_, _<_}
 use native.Mathlib.Nat.{add-assoc, add-zero, zero-add, suc-add}
@@ -19,7 +19,7 @@ length-block s = refl
 pub length-blocks : (xs : List (List (List ℕ))) → length (blocksBytes xs) ≡ length xs * 16
 unfolding blocksBytes
 length-blocks [] = refl
-length-blocks (s ∷ xs) = length-append (columnsBytes s) (blocksBytes xs) ∙ ap (λ n. length (columnsBytes s) + n) (length-blocks xs) ∙ rw length-block (omega arith)
+length-blocks (s ∷ xs) = omega (arith, length-append (columnsBytes s) (blocksBytes xs), length-block s, length-blocks xs)
 
 -- ---- reading
 
@@ -58,17 +58,20 @@ columns-of p q at s e h =
     next : (j k : ℕ) → j + k < 16 → getD (p ++ (columnsBytes s ++ q)) (at + j + k) 0 ≡ getD (columnsBytes s) (j + k) 0
     next j k l = ap (λ i. getD (p ++ (columnsBytes s ++ q)) i 0) (add-assoc at j k) ∙ here (j + k) l
 
+pub square-of : {a b c d : List ℕ} → length a ≡ 4 → length b ≡ 4 → length c ≡ 4 → length d ≡ 4 → Square (a ∷ b ∷ c ∷ d ∷ [])
+square-of {a} {b} {c} {d} p q r s = record { size = refl; columns = sized }
+  where
+    sized : (i : ℕ) → i < 4 → length (column (a ∷ b ∷ c ∷ d ∷ []) i) ≡ 4
+    sized zero h = p
+    sized (suc zero) h = q
+    sized (suc (suc zero)) h = r
+    sized (suc (suc (suc zero))) h = s
+    sized (suc (suc (suc (suc i)))) h = absurd (omega arith)
+
 -- an exclusive or has four columns of four
 pub xor-square : (s t : List (List ℕ)) → Square (xorState s t)
 unfolding xorState xorWord
-xor-square s t = record { size = refl; columns = col }
-  where
-    col : (c : ℕ) → c < 4 → length (column (xorState s t) c) ≡ 4
-    col zero h = refl
-    col (suc zero) h = refl
-    col (suc (suc zero)) h = refl
-    col (suc (suc (suc zero))) h = refl
-    col (suc (suc (suc (suc c)))) h = absurd (omega arith)
+xor-square s t = square-of refl refl refl refl
 
 -- ---- siblings, one after another
 
@@ -82,15 +85,8 @@ sibling-at bytes (suc n) at (suc i) l = sibling-at bytes n (at + 16) i (omega ar
 -- the siblings after the first n
 pub siblings-past : (bytes : List ℕ) (n m at : ℕ) → drop n (siblingsAt bytes at (n + m)) ≡ siblingsAt bytes (at + 16 * n) m
 unfolding siblingsAt
-siblings-past bytes zero m at = ap₂ (siblingsAt bytes) (none at) (zero-add m)
-  where
-    none : (at : ℕ) → at ≡ at + 16 * 0
-    none at = omega arith
-siblings-past bytes (suc n) m at =
-    ap (λ i. drop (suc n) (siblingsAt bytes at i)) (suc-add n m) ∙ siblings-past bytes n m (at + 16) ∙ ap (λ a. siblingsAt bytes a m) (more at n)
-  where
-    more : (at n : ℕ) → at + 16 + 16 * n ≡ at + 16 * suc n
-    more at n = omega arith
+siblings-past bytes zero m at = let e : at + 16 * 0 ≡ at = omega arith in cc (zero-add m)
+siblings-past bytes (suc n) m at = let e : at + 16 + 16 * n ≡ at + 16 * suc n = omega arith in cc (suc-add n m, siblings-past bytes n m (at + 16))
 
 -- the columns of the 16 bytes at a place
 pub columns-part : (s : List ℕ) (at : ℕ) → columnsAt (take 16 (drop at s)) 0 ≡ columnsAt s at

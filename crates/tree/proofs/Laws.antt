@@ -75,9 +75,8 @@ module _ {A : Type 0} (k : ℕ) (child : ℕ → A → A) (s : A) where
     pub length-others : length (others k child s c) ≡ k - 1
     unfolding others children
     length-others =
-        length-append (take c children) (drop (suc c) children)
-        ∙ ap₂ (λ m n. m + n) length-front (length-drop (suc c) children ∙ ap (λ n. n - suc c) (length-listed k (λ b. child b s)))
-        ∙ omega arith
+        let all = length-listed k (λ b. child b s) in
+        omega (arith, length-append (take c children) (drop (suc c) children), length-front, length-drop (suc c) children)
 
     module _ (b : ℕ) (hb : b < k) (h : c ≢ b) where
       others-low : (none : A) → b < c → getD (others k child s c) b none ≡ child b s
@@ -136,30 +135,12 @@ module _ {A : Type 0} (k : ℕ) (child : ℕ → A → A) where
   unfolding siblings path beside
   siblings-suc d s j = refl
 
-  pub from-none : (none : A) (xs : List A) (s j : ℕ) → fromSiblings k child none xs 0 s j ≡ none
-  unfolding fromSiblings follow path
-  from-none none xs s j = refl
-
   pub from-suc : (none : A) (xs : List A) (d s j : ℕ)
       → fromSiblings k child none xs (suc d) s j
       ≡ choose (eqb (digit k d s) (digit k d j)) (fromSiblings k child none (drop (k - 1) xs) d s j)
       (leafAt k child d (getD xs (rank (digit k d s) (digit k d j)) none) j)
   unfolding fromSiblings follow path leafAt
   from-suc none xs d s j = refl
-
-  from-equal : (none : A) (xs : List A) (d s j : ℕ) → digit k d s ≡ digit k d j
-      → fromSiblings k child none xs (suc d) s j ≡ fromSiblings k child none (drop (k - 1) xs) d s j
-  from-equal none xs d s j e =
-      from-suc none xs d s j
-      ∙ ap (λ t. choose t (fromSiblings k child none (drop (k - 1) xs) d s j)
-      (leafAt k child d (getD xs (rank (digit k d s) (digit k d j)) none) j)) (eq-eqb (digit k d s) (digit k d j) e)
-
-  from-unequal : (none : A) (xs : List A) (d s j : ℕ) → digit k d s ≢ digit k d j
-      → fromSiblings k child none xs (suc d) s j ≡ leafAt k child d (getD xs (rank (digit k d s) (digit k d j)) none) j
-  from-unequal none xs d s j e =
-      from-suc none xs d s j
-      ∙ ap (λ t. choose t (fromSiblings k child none (drop (k - 1) xs) d s j)
-      (leafAt k child d (getD xs (rank (digit k d s) (digit k d j)) none) j)) (ne-eqb (digit k d s) (digit k d j) e)
 
   module _ (some : 0 < k) where
     -- the leaves of a node are those of its children, one child after another
@@ -174,13 +155,10 @@ module _ {A : Type 0} (k : ℕ) (child : ℕ → A → A) where
     pub length-siblings : (d : ℕ) (s : A) (j : ℕ) → length (siblings k child d s j) ≡ d * (k - 1)
     length-siblings zero s j = ap length (siblings-none s j) ∙ sym (zero-mul (k - 1))
     length-siblings (suc d) s j =
-        ap length (siblings-suc d s j)
-        ∙ length-append (others k child s (digit k d j)) (siblings k child d (child (digit k d j) s) j)
-        ∙ ap₂ (λ m n. m + n) (length-others k child s (digit k d j) (digit-below k some d j)) (length-siblings d (child (digit k d j) s) j)
-        ∙ more d (k - 1)
-      where
-        more : (d m : ℕ) → m + d * m ≡ suc d * m
-        more d m = omega arith
+        let e = digit k d j in
+        let rest = siblings k child d (child e s) j in
+        rw (siblings-suc d s j, length-append (others k child s e) rest)
+        (omega (arith, length-others k child s e (digit-below k some d j), length-siblings d (child e s) j))
 
     module _ (none : A) (xs : List A) (d s j : ℕ) (hs : s < k ^ d) (hj : j < k ^ d) where
       -- below the child that the position lies in, a leaf follows from the siblings of the further levels
@@ -188,9 +166,8 @@ module _ {A : Type 0} (k : ℕ) (child : ℕ → A → A) where
           → fromSiblings k child none xs (suc d) (c * k ^ d + s) (c * k ^ d + j) ≡ fromSiblings k child none (drop (k - 1) xs) d s j
       unfolding fromSiblings
       from-within c hc =
-          from-equal none xs d (c * k ^ d + s) (c * k ^ d + j)
-          (digit-first k some d c s hc hs ∙ sym (digit-first k some d c j hc hj))
-          ∙ ap₂ (λ a b. follow k child none (drop (k - 1) xs) a b) (path-past k some d c s) (path-past k some d c j)
+          let e = eq-eqb _ _ (digit-first k some d c s hc hs ∙ sym (digit-first k some d c j hc hj)) in
+          cc (from-suc none xs d (c * k ^ d + s) (c * k ^ d + j), path-past k some d c s, path-past k some d c j)
 
       -- below another child b, from that child among the first level's siblings
       pub from-beside : (c b : ℕ) → c < k → b < k → c ≢ b
@@ -199,45 +176,32 @@ module _ {A : Type 0} (k : ℕ) (child : ℕ → A → A) where
       from-beside c b hc hb h =
           let es = digit-first k some d c s hc hs in
           let ej = digit-first k some d b j hb hj in
-          from-unequal none xs d (c * k ^ d + s) (b * k ^ d + j) (λ e. h (sym es ∙ e ∙ ej))
-          ∙ ap₂ (λ n digits. reach child (getD xs n none) digits) (ap₂ rank es ej) (path-past k some d b j)
+          let n = ne-eqb _ _ (λ e. h (sym es ∙ e ∙ ej)) in
+          cc (from-suc none xs d (c * k ^ d + s) (b * k ^ d + j), path-past k some d b j)
 
     -- numbers that differ modulo k ^ d
     from-siblings-mod : (none : A) (d : ℕ) (root : A) (s j : ℕ) → s % k ^ d ≢ j % k ^ d
         → fromSiblings k child none (siblings k child d root s) d s j ≡ leafAt k child d root j
-    from-siblings-mod none zero root s j h = absurd (h (one s ∙ sym (one j)))
+    from-siblings-mod none zero root s j h = absurd (h (cc (pow-zero k, mod-one s, mod-one j)))
+    from-siblings-mod none (suc d) root s j h = decide (eqb (digit k d s) (digit k d j)) refl (from-siblings-mod none d (child (digit k d s) root) s j)
       where
-        one : (n : ℕ) → n % k ^ 0 ≡ 0
-        one n = ap (λ m. n % m) (pow-zero k) ∙ mod-one n
-    from-siblings-mod none (suc d) root s j h =
-        ap (λ l. fromSiblings k child none l (suc d) s j) (siblings-suc d root s)
-        ∙ from-suc none (first ++ rest) d s j
-        ∙ decide (eqb (digit k d s) (digit k d j)) refl (from-siblings-mod none d (child (digit k d s) root) s j)
-        ∙ sym (leaf-suc d root j)
-      where
-        first : List A
-        first = others k child root (digit k d s)
-
-        rest : List A
-        rest = siblings k child d (child (digit k d s) root) s
-
-        lower : digit k d s ≡ digit k d j → s % k ^ d ≢ j % k ^ d
-        lower e f = h (mod-suc-digit k some d s ∙ ap₂ (λ b r. b * k ^ d + r) e f ∙ sym (mod-suc-digit k some d j))
-
         decide : (t : Bool) → eqb (digit k d s) (digit k d j) ≡ t
-            → (s % k ^ d ≢ j % k ^ d → fromSiblings k child none rest d s j ≡ leafAt k child d (child (digit k d s) root) j)
-            → choose t (fromSiblings k child none (drop (k - 1) (first ++ rest)) d s j)
-            (leafAt k child d (getD (first ++ rest) (rank (digit k d s) (digit k d j)) none) j)
-            ≡ leafAt k child d (child (digit k d j) root) j
-        decide true e ih =
-            ap (λ l. fromSiblings k child none l d s j)
-            (drop-at first rest (k - 1) (length-others k child root (digit k d s) (digit-below k some d s)))
-            ∙ ih (lower (eqb-true (digit k d s) (digit k d j) e))
-            ∙ ap (λ b. leafAt k child d (child b root) j) (eqb-true (digit k d s) (digit k d j) e)
-        decide false e ih =
-            ap (λ x. leafAt k child d x j)
-            (others-front k child root (digit k d s) (digit-below k some d s) (digit k d j) (digit-below k some d j)
-            (eqb-false (digit k d s) (digit k d j) e) none rest)
+            → (s % k ^ d ≢ j % k ^ d
+            → fromSiblings k child none (siblings k child d (child (digit k d s) root) s) d s j ≡ leafAt k child d (child (digit k d s) root) j)
+            → fromSiblings k child none (siblings k child (suc d) root s) (suc d) s j ≡ leafAt k child (suc d) root j
+        decide true t ih =
+            let first = others k child root (digit k d s) in
+            let rest = siblings k child d (child (digit k d s) root) s in
+            let e = eqb-true (digit k d s) (digit k d j) t in
+            let low = ih (λ f. h (cc (mod-suc-digit k some d s, mod-suc-digit k some d j))) in
+            let past = drop-at first rest (k - 1) (length-others k child root (digit k d s) (digit-below k some d s)) in
+            cc (siblings-suc d root s, from-suc none (first ++ rest) d s j, leaf-suc d root j)
+        decide false t ih =
+            let first = others k child root (digit k d s) in
+            let rest = siblings k child d (child (digit k d s) root) s in
+            let e = eqb-false (digit k d s) (digit k d j) t in
+            let front = others-front k child root (digit k d s) (digit-below k some d s) (digit k d j) (digit-below k some d j) e none rest in
+            cc (siblings-suc d root s, from-suc none (first ++ rest) d s j, leaf-suc d root j)
 
     -- ---- what children keep, all nodes have
 
@@ -273,12 +237,9 @@ from-siblings child none (suc k) d root s j hs hj h =
 
 module _ {A : Type 0} (k : ℕ) (some : 0 < k) (f g : ℕ → A → A) (same : (c : ℕ) → c < k → (s : A) → f c s ≡ g c s) where
   pub leaf-same : (d : ℕ) (s : A) (j : ℕ) → leafAt k f d s j ≡ leafAt k g d s j
-  leaf-same zero s j = leaf-none k f s j ∙ sym (leaf-none k g s j)
-  leaf-same (suc d) s j =
-      leaf-suc k f d s j
-      ∙ ap (λ x. leafAt k f d x j) (same (digit k d j) (digit-below k some d j) s)
-      ∙ leaf-same d (g (digit k d j) s) j
-      ∙ sym (leaf-suc k g d s j)
+  unfolding leafAt path reach
+  leaf-same zero s j = refl
+  leaf-same (suc d) s j = cc (same (digit k d j) (digit-below k some d j) s, leaf-same d (g (digit k d j) s) j)
 
   others-same : (s : A) (c : ℕ) → others k f s c ≡ others k g s c
   unfolding others
@@ -286,20 +247,16 @@ module _ {A : Type 0} (k : ℕ) (some : 0 < k) (f g : ℕ → A → A) (same : (
       ap (λ l. take c l ++ drop (suc c) l) (listed-cong k (λ b. f b s) (λ b. g b s) (λ b h. same b h s))
 
   pub siblings-same : (d : ℕ) (s : A) (j : ℕ) → siblings k f d s j ≡ siblings k g d s j
-  siblings-same zero s j = siblings-none k f s j ∙ sym (siblings-none k g s j)
+  unfolding siblings path beside
+  siblings-same zero s j = refl
   siblings-same (suc d) s j =
-      siblings-suc k f d s j
-      ∙ ap₂ (λ l x. l ++ siblings k f d x j) (others-same s (digit k d j)) (same (digit k d j) (digit-below k some d j) s)
-      ∙ ap (λ l. others k g s (digit k d j) ++ l) (siblings-same d (g (digit k d j) s) j)
-      ∙ sym (siblings-suc k g d s j)
+      cc (others-same s (digit k d j), same (digit k d j) (digit-below k some d j) s, siblings-same d (g (digit k d j) s) j)
 
   pub from-same : (none : A) (xs : List A) (d s j : ℕ) → fromSiblings k f none xs d s j ≡ fromSiblings k g none xs d s j
-  from-same none xs zero s j = from-none k f none xs s j ∙ sym (from-none k g none xs s j)
+  unfolding fromSiblings follow path leafAt
+  from-same none xs zero s j = refl
   from-same none xs (suc d) s j =
-      from-suc k f none xs d s j
-      ∙ ap₂ (λ a b. choose (eqb (digit k d s) (digit k d j)) a b) (from-same none (drop (k - 1) xs) d s j)
-      (leaf-same d (getD xs (rank (digit k d s) (digit k d j)) none) j)
-      ∙ sym (from-suc k g none xs d s j)
+      cc (from-same none (drop (k - 1) xs) d s j, leaf-same d (getD xs (rank (digit k d s) (digit k d j)) none) j)
 
 -- ---- elements
 
@@ -324,9 +281,6 @@ bit d j = digit 2 d j
 pub two : 0 < 2
 two = omega arith
 
-pub bit-below : (d j : ℕ) → bit d j < 2
-bit-below d j = digit-below 2 two d j
-
 module _ {A : Type 0} (child : ℕ → A → A) where
   others-two : (s : A) (c : ℕ) → c < 2 → others 2 child s c ≡ child (1 - c) s ∷ []
   unfolding others listed
@@ -337,6 +291,4 @@ module _ {A : Type 0} (child : ℕ → A → A) where
   -- a level's one sibling
   pub siblings-two : (d : ℕ) (s : A) (j : ℕ)
       → siblings 2 child (suc d) s j ≡ child (1 - bit d j) s ∷ siblings 2 child d (child (bit d j) s) j
-  siblings-two d s j =
-      siblings-suc 2 child d s j
-      ∙ ap (λ l. l ++ siblings 2 child d (child (bit d j) s) j) (others-two s (bit d j) (bit-below d j))
+  siblings-two d s j = cc (siblings-suc 2 child d s j, others-two s (bit d j) (digit-below 2 two d j))

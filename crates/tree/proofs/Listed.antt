@@ -1,7 +1,7 @@
 -- Laws of lists by index.
 use mathlib.Core.Path.{_≡_, refl, ap, ap₂, _∙_}
 use mathlib.Core.List.{List, [], _∷_, _++_}
-use Prim.Native.Nat.{ℕ, zero, suc, _+_, _<_}
+use Prim.Native.Nat.{ℕ, zero, suc, _<_}
 use native.Mathlib.Nat.{not-suc-le-zero, le-of-suc-le-suc}
 use native.Mathlib.Omega.{arith}
 use lib.ListN.{length, getD, length-append}
@@ -10,10 +10,7 @@ use Rattle.tree.specs.Tree.{listed}
 pub length-listed : {A : Type 0} (n : ℕ) (f : ℕ → A) → length (listed n f) ≡ n
 unfolding listed
 length-listed zero f = refl
-length-listed (suc n) f = length-append (listed n f) (f n ∷ []) ∙ ap (λ k. k + 1) (length-listed n f) ∙ one-more n
-  where
-    one-more : (n : ℕ) → n + 1 ≡ suc n
-    one-more n = omega arith
+length-listed (suc n) f = omega (arith, length-append (listed n f) (f n ∷ []), length-listed n f)
 
 pub listed-none : {A : Type 0} (f : ℕ → A) → listed 0 f ≡ []
 unfolding listed

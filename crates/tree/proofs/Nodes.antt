@@ -23,7 +23,6 @@ use Rattle.field.specs.Inner.Written.{withWord}
 use Rattle.field.specs.declared.block.Block.{Block}
 use Rattle.field.proofs.block.Block.{the-type}
 use Rattle.field.proofs.ByteWords.{length-leBytes, leNumber-leBytes-word}
-use Rattle.aes128.specs.State.{xorState}
 use Rattle.aes128.specs.Inner.Sizes.{IsWord, IsState}
 use Rattle.aes128.specs.Inner.Blocks.{cipherOf}
 use Rattle.aes128.proofs.Columns.{columns-xor, columns-of-block}
@@ -33,7 +32,6 @@ use Rattle.tree.specs.Child.{childBy}
 use Rattle.tree.specs.Inner.Keys.{keysFor}
 use Rattle.tree.specs.Columns.{columnsAt, columnsBytes}
 use Rattle.tree.specs.Inner.Nodes.{nodeOf}
-use Rattle.tree.proofs.Blocks.{four-eq}
 
 -- ---- arrays of bytes
 
@@ -94,18 +92,15 @@ node-at bytes at {s} b el eh =
     ap₂ columnsOf (el ∙ eight at (omega arith)) (eh ∙ eight (at + 8) (omega arith)) ∙ columns-of-block (columnsAt bytes at) (columns-state bytes at b)
   where
     eight : (k : ℕ) {j : ℕ} → k + 4 ≡ j → wordAt bytes k ≡ leNumber (fourAt bytes k (fourAt bytes j []))
-    eight k e = rw (← e) (ap (λ l. leNumber (fourAt bytes k l)) (four-eq refl (past k 1) (past k 2) (past k 3)))
+    eight k e = rw (← e) (cc (past 1, past 2, past 3))
       where
-        past : (k n : ℕ) → getD bytes (k + (4 + n)) 0 ≡ getD bytes (k + 4 + n) 0
-        past k n = ap (λ i. getD bytes i 0) (omega arith)
+        past : (n : ℕ) → k + (4 + n) ≡ k + 4 + n
+        past n = omega arith
 
 -- the eight bytes of a word as two columns
 eight-bytes : (x : ℕ) → leBytes 8 x ≡ fourAt (leBytes 4 x) 0 (fourAt (leBytes 4 (x / 4294967296)) 0 [])
 unfolding leBytes
-eight-bytes x = ap (λ y. fourAt (leBytes 4 x) 0 (leBytes 4 y)) e
-  where
-    e : x / 256 / 256 / 256 / 256 ≡ x / 4294967296
-    e = omega arith
+eight-bytes x = let e : x / 256 / 256 / 256 / 256 ≡ x / 4294967296 = omega arith in cc
 
 -- the block of a block's node is the block
 low-of-node : (s : Block) → IsBlock s → lowOf (nodeOf s) ≡ s .low
@@ -141,6 +136,5 @@ pub child-block : (keys : List (List ℕ)) (c : ℕ) (s : Block) {r t : Block} �
     → nodeOf t ≡ childBy (keysFor keys) c (nodeOf s)
 unfolding childBy
 child-block keys c s er et =
-    ap nodeOf (et ∙ ap (λ b. blockAdd b s) er)
-    ∙ columns-xor (cipherOf (getD keys c []) s .low) (s .low) (cipherOf (getD keys c []) s .high) (s .high)
-    ∙ ap (λ l. xorState l (nodeOf s)) (columns-of-cipher (getD keys c []) s)
+    let r = cipherOf (getD keys c []) s in
+    cc (columns-xor (r .low) (s .low) (r .high) (s .high), columns-of-cipher (getD keys c []) s)

@@ -1,6 +1,5 @@
 -- Paths in base k: the digits of a number, and the numbers below k ^ (d + 1) by their highest digit.
-use mathlib.Core.Path.{_≡_, refl, ap, ap₂, sym, _∙_}
-use mathlib.Core.List.{[], _∷_}
+use mathlib.Core.Path.{_≡_, refl, ap, sym, _∙_}
 use Prim.Native.Nat.{ℕ, zero, suc, _+_, _*_, _/_, _%_, _^_, _<_}
 use native.Mathlib.Nat.{add-zero, div-eq-of-lt, mul-add-div-right, mul-add-mod-self-right, mod-eq-of-lt, one-le-pow, pow-succ', mul-assoc, mod-lt}
 use lib.Arith.{mod-mul}
@@ -9,14 +8,6 @@ use Rattle.tree.specs.Tree.{path}
 -- digit d of j in base k
 abbrev pub digit : ℕ → ℕ → ℕ → ℕ
 digit k d j = (j / k ^ d) % k
-
-pub path-none : (k j : ℕ) → path k 0 j ≡ []
-unfolding path
-path-none k j = refl
-
-pub path-suc : (k d j : ℕ) → path k (suc d) j ≡ digit k d j ∷ path k d j
-unfolding path
-path-suc k d j = refl
 
 module _ (k : ℕ) (some : 0 < k) where
   pub power-some : (d : ℕ) → 0 < k ^ d
@@ -39,12 +30,9 @@ module _ (k : ℕ) (some : 0 < k) where
 
   -- and their further digits are those of the leaf's number below child c
   pub path-past : (d c j : ℕ) → path k d (c * k ^ d + j) ≡ path k d j
-  path-past zero c j = path-none k (c * k ^ 0 + j) ∙ sym (path-none k j)
-  path-past (suc d) c j =
-      ap (λ n. path k (suc d) (n + j)) (up d c)
-      ∙ path-suc k d (c * k * k ^ d + j)
-      ∙ ap₂ (λ b digits. b ∷ digits) (digit-past d c j) (path-past d (c * k) j)
-      ∙ sym (path-suc k d j)
+  unfolding path
+  path-past zero c j = refl
+  path-past (suc d) c j = cc (up d c, digit-past d c j, path-past d (c * k) j)
 
   -- a number modulo k ^ (d + 1) by its digit d and the rest
   pub mod-suc-digit : (d j : ℕ) → j % k ^ suc d ≡ digit k d j * k ^ d + j % k ^ d

@@ -15,13 +15,7 @@ shifted d h = rw one-mul (mod-eq-of-lt (pow-lt {i = d} {j = 64} h))
 pub power-of-power : (g m : ℕ) → (2 ^ g) ^ m ≡ 2 ^ (m * g)
 power-of-power g zero = pow-zero (2 ^ g) ∙ ap (λ n. 2 ^ n) (sym (zero-mul g))
 power-of-power g (suc m) =
-    pow-suc (2 ^ g) m
-    ∙ ap (λ n. n * 2 ^ g) (power-of-power g m)
-    ∙ sym (pow-add 2 (m * g) g)
-    ∙ ap (λ n. 2 ^ n) (more m g)
-  where
-    more : (m g : ℕ) → m * g + g ≡ suc m * g
-    more m g = omega arith
+    let e : m * g + g ≡ suc m * g = omega arith in cc (pow-suc (2 ^ g) m, power-of-power g m, pow-add 2 (m * g) g)
 
 -- one less
 pub down : (n : ℕ) → n ≢ 0 → n ≡ suc (n - 1)
@@ -29,10 +23,7 @@ down n h = omega arith
 
 -- a level less, times a factor
 pub level-less : (levels g : ℕ) → levels ≢ 0 → levels * g ≡ (levels - 1) * g + g
-level-less levels g h = ap (λ n. n * g) (down levels h) ∙ more (levels - 1) g
-  where
-    more : (m g : ℕ) → suc m * g ≡ m * g + g
-    more m g = omega arith
+level-less levels g h = let e = ap (λ n. n * g) (down levels h) in omega arith
 
 pub halved : (r : ℕ) → 1 ≤ r → 2 ^ r ≡ 2 ^ (r - 1) + 2 ^ (r - 1)
 halved r h = ap (λ n. 2 ^ n) (down r (λ e. omega arith)) ∙ two-pow-succ (r - 1)

@@ -5,7 +5,7 @@ use Prim.Native.Nat.{ℕ, zero, suc, _+_, _*_, _<_}
 use native.Mathlib.Nat.{suc-mul, zero-mul, zero-add, suc-add}
 use native.Mathlib.Numerals.{add-one}
 use lib.ListN.{length, replicate}
-use Rattle.algebra.specs.Coding.{at, flat}
+use Rattle.algebra.specs.Coding.{flat}
 use Rattle.algebra.specs.Field.{Field, FieldLaws, Value}
 use Rattle.algebra.specs.Sum.{sum}
 use Rattle.algebra.proofs.Coding.{flat-none, flat-suc, flat-cong, length-flat, at-flat}
@@ -27,10 +27,8 @@ module _ (F : Field) (L : FieldLaws F) (N : ℕ) where
       → (n : ℕ) → replicate (n * F .elements .width) 0 ≡ flat (F .elements) n (λ j. F .scaled .group .zero)
   zeros-flat e zero = ap (λ (k : ℕ). replicate k 0) (zero-mul (F .elements .width)) ∙ sym (flat-none (F .elements) (L .elements) (λ j. F .scaled .group .zero))
   zeros-flat e (suc n) =
-      ap (λ (k : ℕ). replicate k 0) (suc-mul n (F .elements .width))
-      ∙ replicate-add (n * F .elements .width) (F .elements .width) 0
-      ∙ cc (zeros-flat e n, e)
-      ∙ sym (flat-suc (F .elements) (L .elements) n (λ j. F .scaled .group .zero))
+      let width = F .elements .width in
+      cc (suc-mul n width, replicate-add (n * width) width 0, zeros-flat e n, flat-suc (F .elements) (L .elements) n (λ j. F .scaled .group .zero))
 
   module _ (leaf : ℕ → ℕ → Value F) where
     pub length-trees : (i : ℕ) → length (treesSum F N leaf i) ≡ N * F .elements .width
@@ -49,12 +47,6 @@ module _ (F : Field) (L : FieldLaws F) (N : ℕ) where
     unfolding treesSum added
     trees-more i {w} {next} f e q same =
         q
-        ∙ flat-cong (F .elements) (L .elements) N (λ j. F .scaled .group .add (at (F .elements) w j) (f j)) (λ j. sum (F .scaled .group) (i + 1) (λ k. leaf k j))
-        (λ j b. turn j b)
-      where
-        turn : (j : ℕ) → j < N → F .scaled .group .add (at (F .elements) w j) (f j) ≡ sum (F .scaled .group) (i + 1) (λ k. leaf k j)
-        turn j b =
-            let here : at (F .elements) w j ≡ sum (F .scaled .group) i (λ k. leaf k j) =
-            ap (λ (l : List ℕ). at (F .elements) l j) e ∙ at-flat (F .elements) (L .elements) N (λ j. sum (F .scaled .group) i (λ k. leaf k j)) j b in
-            let there : f j ≡ leaf i j = same j b in
-            rw (here, there) (sym (ap (λ (k : ℕ). sum (F .scaled .group) k (λ k. leaf k j)) (add-one i) ∙ sum-suc (F .scaled .group) i (λ k. leaf k j)))
+        ∙ flat-cong (F .elements) (L .elements) N _ _ λ j b.
+        let here = at-flat (F .elements) (L .elements) N (λ j. sum (F .scaled .group) i (λ k. leaf k j)) j b in
+        cc (add-one i, sum-suc (F .scaled .group) i (λ k. leaf k j), same j b)
