@@ -47,7 +47,9 @@ pub +add-path-spec : {M : Type 1} → statement M
     (λ c. search needs)  -- slice-relend-prefix-add-path
     (λ c. search front-count)  -- slice-aggregate-add-path
     (λ c κs. (search first-falls, (search needs, search first-path, search first-front)))  -- add-path-requires
-    (λ c. middle-fits (now (c .before .before .before .before .before .before .before .before .before .before .args .acc)) (c .before .before .before .before .before .before .before .before .before .before .good .1 .1 .1 .1 .1 .1 .0 .1))  -- mul-add-run
+    (λ c.
+    let good = (let back = c .before .before .before in let front = back .before .before .before in let first = front .before .before .before in first .before .good) in
+    search middle-fits)  -- mul-add-run
     (λ c. search needs)  -- sub-add-run
     (λ c. search needs)  -- part-add-run-start
     (λ c. search needs)  -- part-add-run-end
@@ -55,7 +57,9 @@ pub +add-path-spec : {M : Type 1} → statement M
     (λ c. search needs)  -- slice-relend-prefix-add-run
     (λ c. search front-count)  -- slice-aggregate-add-run
     (λ c κs. (search needs, search second-run, search second-front))  -- add-run-requires-2
-    (λ c. middle-fits (now (c .before .before .before .before .before .before .before .before .before .before .args .acc)) (c .before .before .before .before .before .before .before .before .before .before .good .1 .1 .1 .1 .1 .1 .0 .1))  -- mul-add-path
+    (λ c.
+    let good = (let back = c .before .before .before in let front = back .before .before .before in let first = front .before .before .before in first .before .good) in
+    search middle-fits)  -- mul-add-path
     (λ c. search needs)  -- sub-add-path
     (λ c. search needs)  -- part-add-path-start
     (λ c. search needs)  -- part-add-path-end
