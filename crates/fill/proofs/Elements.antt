@@ -14,7 +14,8 @@ use Rattle.algebra.specs.Choice.{choose}
 use Rattle.tree.specs.Tree.{leafAt, rank, fromSiblings}
 use Rattle.tree.specs.Columns.{columnsAt, siblingsAt}
 use Rattle.tree.specs.Added.{leafElement, puncturedElement}
-use Rattle.fill.specs.Inner.Ranges.{childCount, below, sizeOf, IsRange, allChildren, ofChild, firstHalf, secondHalf, above, rangeElement, runElement, pathElement}
+use Rattle.fill.specs.Inner.Ranges.{childCount, below, sizeOf, allChildren, ofChild, firstHalf, secondHalf, above, IsRange}
+use Rattle.fill.specs.Inner.Ranges.{rangeElement, runElement, pathElement}
 use Rattle.fill.specs.declared.range.Range.{Range}
 use Rattle.fill.specs.declared.range.Path.{Path}
 use Rattle.tree.proofs.Paths.{power-some, digit, digit-first}

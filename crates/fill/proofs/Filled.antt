@@ -25,7 +25,8 @@ use Rattle.fill.specs.declared.range.Path.{Path}
 use Rattle.fill.specs.declared.range.Halves.{Halves}
 use Rattle.tree.proofs.Laws.{leaf-none}
 use Rattle.fill.proofs.Halves.{front-length, second, second-length, filled, added-same}
-use Rattle.fill.proofs.Ranges.{size-is, size-all, size-none, two-some, one-twice, half-twice, half-falls, sibling-size, in-cases, held-size, holds-first, holds-second}
+use Rattle.fill.proofs.Ranges.{size-is, size-all, size-none, two-some, one-twice, half-twice, half-falls, sibling-size}
+use Rattle.fill.proofs.Ranges.{in-cases, held-size, holds-first, holds-second}
 use Rattle.fill.proofs.Couples.{from-halves, both-below}
 use Rattle.fill.proofs.Elements.{all-element, back-element, run-one, run-back, path-above, path-below, path-first, path-second, path-back}
 
@@ -114,8 +115,7 @@ module _ (field : ℕ) (child : ℕ → List (List ℕ) → List (List ℕ)) whe
 
   module _ (ρ : Range) (s : List (List ℕ)) (xs : List ℕ) where
     -- at a leaf
-    pub filled-leaf : {ys : List ℕ} → ρ .levels ≡ 0 → IsRange ρ → ys ≡ leafAdded field s xs
-        → ys ≡ rangeAdded field child ρ s xs
+    pub filled-leaf : {ys : List ℕ} → ρ .levels ≡ 0 → IsRange ρ → ys ≡ leafAdded field s xs → ys ≡ rangeAdded field child ρ s xs
     unfolding leafAdded rangeElement leafElement
     filled-leaf e ok ey =
         added-same F laws (sizeOf ρ) 1 (rangeElement leaf child ρ s) (λ j. leaf s) xs ey (size-none ρ e ok)
@@ -128,8 +128,7 @@ module _ (field : ℕ) (child : ℕ → List (List ℕ) → List (List ℕ)) whe
       -- by two children
       pub filled-children : {x y : List (List ℕ)} {ys zs : List ℕ} → IsRange ρ → ρ .bits ≡ 1 → x ≡ child (ρ .from) s → y ≡ child (ρ .from + 1) s
           → ys ≡ rangeAdded field child (ofChild ρ) x (take (length xs / 2) xs)
-          → zs ≡ rangeAdded field child (ofChild ρ) y (second (length xs / 2) xs ys)
-          → Both xs ys zs ≡ rangeAdded field child ρ s xs
+          → zs ≡ rangeAdded field child (ofChild ρ) y (second (length xs / 2) xs ys) → Both xs ys zs ≡ rangeAdded field child ρ s xs
       filled-children {x} {y} ok b ex ey el eh =
           both-below field child ρ s xs h ok b ex ey
           (from-halves field child (ofChild ρ) x y xs (e ∙ ap (λ n. n * F .elements .width) (one-twice ρ h b)) el eh)
@@ -137,8 +136,7 @@ module _ (field : ℕ) (child : ℕ → List (List ℕ) → List (List ℕ)) whe
       -- by half as many children each
       pub filled-halves : {p : ℕ} {ys zs : List ℕ} → IsRange ρ → p ≡ 2 ^ (ρ .bits - 1)
           → ys ≡ rangeAdded field child (firstHalf ρ) s (take (length xs / 2) xs)
-          → zs ≡ rangeAdded field child (halfFrom ρ (ρ .from + p)) s (second (length xs / 2) xs ys)
-          → Both xs ys zs ≡ rangeAdded field child ρ s xs
+          → zs ≡ rangeAdded field child (halfFrom ρ (ρ .from + p)) s (second (length xs / 2) xs ys) → Both xs ys zs ≡ rangeAdded field child ρ s xs
       unfolding rangeElement leftOf
       filled-halves {p} {ys} ok q ey ez =
           filled F laws (sizeOf ρ) (sizeOf (firstHalf ρ)) (rangeElement leaf child ρ s) (rangeElement leaf child (firstHalf ρ) s)
@@ -158,8 +156,8 @@ module _ (field : ℕ) (child : ℕ → List (List ℕ) → List (List ℕ)) whe
       (ey ∙ ap (λ x. rangeAdded field child (allChildren g levels) x xs) ex) (sym (size-all g levels)) (λ j l. all-element leaf child s g levels j)
 
   pub filled-tree : (tree : Punctured) (bytes words : List ℕ) (xs : List ℕ) {ys : List ℕ}
-      → ys ≡ added F (sizeOf (allChildren (tree .«branch_bits») (tree .levels)))
-      (pathElement leaf child (record { range = allChildren (tree .«branch_bits») (tree .levels); position = tree .position; at = tree .at }) bytes (F .elements .read words 0)) xs
+      → ys ≡ pathAdded field child (record { range = allChildren (tree .«branch_bits») (tree .levels); position = tree .position; at = tree .at })
+      bytes words xs
       → ys ≡ puncturedAdded (kindOf field) (2 ^ tree .«branch_bits») child tree bytes (F .elements .read words 0) xs
   unfolding pathElement
   filled-tree tree bytes words xs ey =
@@ -185,8 +183,7 @@ module _ (field : ℕ) (child : ℕ → List (List ℕ) → List (List ℕ)) whe
 
   module _ (bytes : List ℕ) (at n : ℕ) (ρ : Range) (xs : List ℕ) (ok : IsRun ρ at n) where
     pub filled-sibling : {x : List (List ℕ)} {ys : List ℕ} → ρ .bits ≡ 0 → x ≡ columnsAt bytes (at + 16 * ρ .from)
-        → ys ≡ rangeAdded field child (ofChild ρ) x xs
-        → ys ≡ runAdded field child ρ bytes at xs
+        → ys ≡ rangeAdded field child (ofChild ρ) x xs → ys ≡ runAdded field child ρ bytes at xs
     filled-sibling {x} b ex ey =
         added-same F laws (sizeOf ρ) (sizeOf one) (runElement leaf child ρ bytes at) (rangeElement leaf child one (columnsAt bytes (at + 16 * ρ .from))) xs
         (ey ∙ ap (λ y. rangeAdded field child one y xs) ex)
@@ -198,8 +195,7 @@ module _ (field : ℕ) (child : ℕ → List (List ℕ) → List (List ℕ)) whe
 
     pub filled-runs : {p : ℕ} {ys zs : List ℕ} → ρ .bits ≢ 0 → length xs ≡ sizeOf ρ * F .elements .width → p ≡ 2 ^ (ρ .bits - 1)
         → ys ≡ runAdded field child (firstHalf ρ) bytes at (take (length xs / 2) xs)
-        → zs ≡ runAdded field child (halfFrom ρ (ρ .from + p)) bytes at (second (length xs / 2) xs ys)
-        → Both xs ys zs ≡ runAdded field child ρ bytes at xs
+        → zs ≡ runAdded field child (halfFrom ρ (ρ .from + p)) bytes at (second (length xs / 2) xs ys) → Both xs ys zs ≡ runAdded field child ρ bytes at xs
     unfolding runElement leftOf
     filled-runs {p} {ys} b e q ey ez =
         filled F laws (sizeOf ρ) (sizeOf (firstHalf ρ)) (runElement leaf child ρ bytes at) (runElement leaf child (firstHalf ρ) bytes at)
@@ -216,8 +212,7 @@ module _ (field : ℕ) (child : ℕ → List (List ℕ) → List (List ℕ)) whe
     abbrev correction : Value F
     correction = F .elements .read words 0
 
-    pub filled-correction : {ys : List ℕ} → path .range .levels ≡ 0 → ys ≡ elementAdded field words xs
-        → ys ≡ pathAdded field child path bytes words xs
+    pub filled-correction : {ys : List ℕ} → path .range .levels ≡ 0 → ys ≡ elementAdded field words xs → ys ≡ pathAdded field child path bytes words xs
     unfolding elementAdded pathElement puncturedElement
     filled-correction e ey =
         added-same F laws (sizeOf (path .range)) 1 (pathElement leaf child path bytes correction) (λ j. correction) xs ey one
@@ -387,19 +382,16 @@ module _ (field : ℕ) (child : ℕ → List (List ℕ) → List (List ℕ)) whe
           (λ b k. filled-back l ey k)
           (rw er at ez)
 
-    module _ (h : path .range .levels ≢ 0) (e : length xs ≡ sizeOf (path .range) * F .elements .width) (r : Halves) (parts : AreHalves path r) {ys zs : List ℕ} where
-      pub filled-first-holds : r .lower ≡ true
-          → ys ≡ pathAdded field child (r .below) bytes words (take (length xs / 2) xs)
-          → zs ≡ runAdded field child (r .beside) bytes (path .at) (second (length xs / 2) xs ys)
-          → Both xs ys zs ≡ pathAdded field child path bytes words xs
+    module _ (h : path .range .levels ≢ 0) (e : length xs ≡ sizeOf (path .range) * F .elements .width) (r : Halves) (parts : AreHalves path r)
+        {ys zs : List ℕ} where
+      pub filled-first-holds : r .lower ≡ true → ys ≡ pathAdded field child (r .below) bytes words (take (length xs / 2) xs)
+          → zs ≡ runAdded field child (r .beside) bytes (path .at) (second (length xs / 2) xs ys) → Both xs ys zs ≡ pathAdded field child path bytes words xs
       filled-first-holds t ey ez =
           let a = holds-first path parts t in
           filled-low h e refl refl (a .inside) (a .on) ey (rw (a .run) at ez)
 
-      pub filled-second-holds : r .lower ≡ false
-          → ys ≡ runAdded field child (r .beside) bytes (path .at) (take (length xs / 2) xs)
-          → zs ≡ pathAdded field child (r .below) bytes words (second (length xs / 2) xs ys)
-          → Both xs ys zs ≡ pathAdded field child path bytes words xs
+      pub filled-second-holds : r .lower ≡ false → ys ≡ runAdded field child (r .beside) bytes (path .at) (take (length xs / 2) xs)
+          → zs ≡ pathAdded field child (r .below) bytes words (second (length xs / 2) xs ys) → Both xs ys zs ≡ pathAdded field child path bytes words xs
       filled-second-holds t ey ez =
           let a = holds-second path parts t in
           filled-high h e refl refl (a .inside) (a .on) (rw (a .run) at ey) ez

@@ -331,8 +331,8 @@ module _ (path : Path) (n : ℕ) (ok : IsPath path n) (h : path .range .levels �
 
 -- the halves made
 module _ (path : Path) {half p : ℕ} {below : Path} {beside : Range} (eh : half ≡ sizeOf (firstHalf (path .range))) (ep : p ≡ 2 ^ (path .range .bits - 1)) where
-  pub first-holds : path .position < half → below ≡ pathIn path (path .range .from) (path .position) → beside ≡ halfFrom (path .range) (path .range .from + (p - 1))
-      → AreHalves path (record { below = below; beside = beside; lower = true })
+  pub first-holds : path .position < half → below ≡ pathIn path (path .range .from) (path .position)
+      → beside ≡ halfFrom (path .range) (path .range .from + (p - 1)) → AreHalves path (record { below = below; beside = beside; lower = true })
   unfolding AreHalves
   first-holds l eb er = record { inside = rw (← eh) l; on = eb; run = er ∙ ap (λ m. halfFrom (path .range) (path .range .from + (m - 1))) ep }
 

@@ -243,16 +243,12 @@ fn add_range(
         add_range(tables, keys, field, all, both.other, &mut acc[mid..]);
     } else {
         let low = Range {
-            branch_bits,
-            levels,
             bits: bits - 1,
-            from,
+            ..range
         };
         let high = Range {
-            branch_bits,
-            levels,
-            bits: bits - 1,
             from: from + power(bits - 1),
+            ..low
         };
         let mid = acc.len() / 2;
         add_range(tables, keys, field, low, s, &mut acc[..mid]);
@@ -288,16 +284,12 @@ fn add_run(
         add_range(tables, keys, field, all, sibling, acc);
     } else {
         let low = Range {
-            branch_bits,
-            levels,
             bits: bits - 1,
-            from,
+            ..run
         };
         let high = Range {
-            branch_bits,
-            levels,
-            bits: bits - 1,
             from: from + power(bits - 1),
+            ..low
         };
         let mid = acc.len() / 2;
         add_run(tables, keys, field, low, at, bytes, &mut acc[..mid]);
@@ -404,7 +396,7 @@ pub fn add_punctured(
         × (length (now acc) ≡ (2 ^ tree .«branch_bits») ^ tree .levels * elementWords field) ⌝ }
     ensures { λ _. ⌜ now (acc .exit)
         ≡ puncturedAdded (kindOf field) (2 ^ tree .«branch_bits») (childBy (keysFor (now (keys .entry)))) tree (now (bytes .entry))
-            (kindOf field .field .elements .read correction 0) (now (acc .entry)) ⌝ }
+        (kindOf field .field .elements .read correction 0) (now (acc .entry)) ⌝ }
 {
     let path = Path {
         range: Range {
