@@ -32,8 +32,7 @@ encrypt-spec =
     let r2 = r3 .before in
     let r1 = r2 .before in
     let r0 = r1 .before in
-    ten-rounds _ _ (c .of-columns .ensures) (last .last-round .ensures) (r9 .full-round9 .ensures) (r8 .full-round8 .ensures)
-    (r7 .full-round7 .ensures) (r6 .full-round6 .ensures)
-    (r5 .full-round5 .ensures) (r4 .full-round4 .ensures) (r3 .full-round3 .ensures) (r2 .full-round2 .ensures)
+    ten-rounds _ _ (c .of-columns .ensures) (last .last-round .ensures) (r9 .full-round9 .ensures) (r8 .full-round8 .ensures) (r7 .full-round7 .ensures)
+    (r6 .full-round6 .ensures) (r5 .full-round5 .ensures) (r4 .full-round4 .ensures) (r3 .full-round3 .ensures) (r2 .full-round2 .ensures)
     (r1 .full-round .ensures) (r0 .first-key .ensures))  -- returns
     )

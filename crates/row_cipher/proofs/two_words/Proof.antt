@@ -40,32 +40,23 @@ two-words-spec =
     (λ c κs. search needs)  -- of-columns-requires-2
     (λ c.
     let first = c .before in
-    let b10 = first .before in
-    let a10 = b10 .before in
-    let b9 = a10 .before in
-    let a9 = b9 .before in
-    let b8 = a9 .before in
-    let a8 = b8 .before in
-    let b7 = a8 .before in
-    let a7 = b7 .before in
-    let b6 = a7 .before in
-    let a6 = b6 .before in
-    let b5 = a6 .before in
-    let a5 = b5 .before in
-    let b4 = a5 .before in
-    let a4 = b4 .before in
-    let b3 = a4 .before in
-    let a3 = b3 .before in
+    let b10 = first .before in let a10 = b10 .before in
+    let b9 = a10 .before in let a9 = b9 .before in
+    let b8 = a9 .before in let a8 = b8 .before in
+    let b7 = a8 .before in let a7 = b7 .before in
+    let b6 = a7 .before in let a6 = b6 .before in
+    let b5 = a6 .before in let a5 = b5 .before in
+    let b4 = a5 .before in let a4 = b4 .before in
+    let b3 = a4 .before in let a3 = b3 .before in
     let b2 = a3 .before in
-    let b1 = b2 .before .before in
-    let a2 = b1 .before .before in
+    let b1 = b2 .before .before in let a2 = b1 .before .before in
     let a1 = a2 .before .before in
     let start = a1 .before .before .pre in (
       ap (λ (b : Block). b .low) (row-block _ _ _ (start .1) (omega (arith, start .2)) (first .of-columns .ensures) (a10 .last-round .ensures)
           (a9 .full-round13 .ensures) (a8 .full-round11 .ensures) (a7 .full-round9 .ensures) (a6 .full-round7 .ensures) (a5 .full-round5 .ensures)
           (a4 .full-round3 .ensures) (a3 .full-round .ensures) (a2 .second-round .ensures) (a1 .first-round .ensures)),
-      ap (λ (b : Block). b .low) (row-block _ _ _ (start .1) (start .2) (c .of-columns2 .ensures) (b10 .last-round2 .ensures)
-          (b9 .full-round14 .ensures) (b8 .full-round12 .ensures) (b7 .full-round10 .ensures) (b6 .full-round8 .ensures) (b5 .full-round6 .ensures)
-          (b4 .full-round4 .ensures) (b3 .full-round2 .ensures) (b2 .second-round2 .ensures) (b1 .first-round2 .ensures)),
+      ap (λ (b : Block). b .low) (row-block _ _ _ (start .1) (start .2) (c .of-columns2 .ensures) (b10 .last-round2 .ensures) (b9 .full-round14 .ensures)
+          (b8 .full-round12 .ensures) (b7 .full-round10 .ensures) (b6 .full-round8 .ensures) (b5 .full-round6 .ensures) (b4 .full-round4 .ensures)
+          (b3 .full-round2 .ensures) (b2 .second-round2 .ensures) (b1 .first-round2 .ensures)),
     ))  -- returns
     )
