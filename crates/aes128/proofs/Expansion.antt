@@ -5,6 +5,7 @@ use Prim.Native.Nat.{ℕ, zero, suc, _+_, _-_, _*_, _/_, _%_, _<_, _≤_}
 use native.Mathlib.Nat.{zero-add, suc-add}
 use native.Mathlib.Omega.{arith}
 use borrow.Author.Tests.{ne-eqb}
+use lib.Dec.{lit<}
 use lib.ListN.{length, getD, length-append, List·getD-append}
 use lib.Seq.{getD-at}
 use Rattle.sbox.specs.Byte.{xtime}
@@ -92,4 +93,6 @@ pub expanded : {key k1 k2 k3 k4 k5 k6 k7 k8 k9 k10 : List (List ℕ)} → length
     → key ∷ k1 ∷ k2 ∷ k3 ∷ k4 ∷ k5 ∷ k6 ∷ k7 ∷ k8 ∷ k9 ∷ k10 ∷ [] ≡ keyExpansion key
 unfolding xtime power keysOf keyExpansion
 expanded {key} size e1 e2 e3 e4 e5 e6 e7 e8 e9 e10 =
-    cc (zeroth key size, next key size 0 (omega arith), next key size 1 (omega arith), next key size 2 (omega arith), next key size 3 (omega arith), next key size 4 (omega arith), next key size 5 (omega arith), next key size 6 (omega arith), next key size 7 (omega arith), next key size 8 (omega arith), next key size 9 (omega arith))
+    let first = zeroth key size in
+    let k = next key size in
+    cc (k 0 (lit< tt), k 1 (lit< tt), k 2 (lit< tt), k 3 (lit< tt), k 4 (lit< tt), k 5 (lit< tt), k 6 (lit< tt), k 7 (lit< tt), k 8 (lit< tt), k 9 (lit< tt))

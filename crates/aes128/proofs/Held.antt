@@ -73,7 +73,9 @@ module _ (words : List ℕ) (at a b x y : ℕ) (room : at + 4 ≤ length words) 
   read-3 = getD-set-same w3 (at + 3) y 0 (omega (arith, size-3))
 
   wide-read : wideKey (fourSet words at a b x y) at ≡ wideRows a ∷ wideRows b ∷ wideRows x ∷ wideRows y ∷ []
-  wide-read = four-eq (ap wideRows (ap (λ n. getD (fourSet words at a b x y) n 0) (add-zero at) ∙ read-0)) (ap wideRows read-1) (ap wideRows read-2) (ap wideRows read-3)
+  wide-read =
+      four-eq (ap wideRows (ap (λ n. getD (fourSet words at a b x y) n 0) (add-zero at) ∙ read-0)) (ap wideRows read-1) (ap wideRows read-2)
+      (ap wideRows read-3)
 
   wide-other : (n : ℕ) → n + 4 ≤ at → wideKey (fourSet words at a b x y) n ≡ wideKey words n
   wide-other n h =

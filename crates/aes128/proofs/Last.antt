@@ -6,8 +6,10 @@ use native.Mathlib.Omega.{arith}
 use lib.Bits.{bitXor, xor-comm, xor-shifted, xor-shr, xor-zero-r}
 use Rattle.field.specs.Bytes.{leBytes, columnsOf}
 use Rattle.sbox.specs.Byte.{sBox}
+use Rattle.sbox.specs.Inner.Tables.{RoundTables}
 use Rattle.sbox.proofs.Bounds.{sbox-lt}
 use Rattle.aes128.specs.State.{xorWord, xorState}
+use Rattle.aes128.specs.Inner.Steps.{IsEntry}
 use Rattle.aes128.specs.Inner.Blocks.{IsHalf, LastWord}
 use Rattle.aes128.proofs.Words.{four-eq}
 use Rattle.aes128.proofs.Wide.{xor-swap}
@@ -28,12 +30,14 @@ four-placed p q r s hp hq hr =
     ∙ omega arith
 
 -- a column of the last round, from the tables' entries for its four bytes
-pub last-column : (a b x y : ℕ) {ta tb tx ty : ℕ} → ta ≡ sBox a → tb ≡ sBox b * 2 ^ 8 → tx ≡ sBox x * 2 ^ 16 → ty ≡ sBox y * 2 ^ 24
-    → IsHalf (bitXor (bitXor (bitXor ta ty) tb) tx) (sBox a ∷ sBox b ∷ sBox x ∷ sBox y ∷ [])
-last-column a b x y ea eb ex ey =
+pub last-column : {t : List ℕ} → RoundTables t → {a b x y ta tb tx ty : ℕ} → IsEntry t 1024 a ta → IsEntry t 1024 b tb
+    → IsEntry t 1280 x tx → IsEntry t 1280 y ty
+    → IsHalf (bitXor (bitXor (bitXor (ta % 2 ^ 32) (ty / 2 ^ 32)) (tb / 2 ^ 32)) (tx % 2 ^ 32)) (sBox a ∷ sBox b ∷ sBox x ∷ sBox y ∷ [])
+last-column tables {a} {b} {x} {y} ea eb ex ey =
     let e = four-placed (sBox a) (sBox b) (sBox x) (sBox y) (sbox-lt a) (sbox-lt b) (sbox-lt x) in
     let h = half-made {l = sBox a ∷ sBox b ∷ sBox x ∷ sBox y ∷ []} refl (refl, sbox-lt a) (refl, sbox-lt b) (refl, sbox-lt x) (refl, sbox-lt y) in
-    rw (ea, eb, ex, ey, e) h
+    rw (ea .word, eb .word, ex .word, ey .word)
+    (rw (tables .last0 a (ea .byte), tables .last1 b (eb .byte), tables .last2 x (ex .byte), tables .last3 y (ey .byte), e) h)
 
 module _ (k : ℕ) {c0 c1 : ℕ} (h0 : c0 < 2 ^ 32) (h1 : c1 < 2 ^ 32) where
   abbrev sum : ℕ
@@ -71,12 +75,12 @@ module _ (k : ℕ) {c0 c1 : ℕ} (h0 : c0 < 2 ^ 32) (h1 : c1 < 2 ^ 32) where
       rw e sum-is
 
 -- the state after the last round, from its four columns in two words
-pub last-state : {k h c0 c1 c2 c3 x y : ℕ} {w0 w1 w2 w3 : List ℕ} → IsHalf c0 w0 → IsHalf c1 w1 → IsHalf c2 w2 → IsHalf c3 w3
+pub last-state : {k h c0 c1 c2 c3 x y : ℕ} {w0 w1 w2 w3 : List ℕ} {r : List (List ℕ)} → r ≡ columnsOf x y
     → LastWord k (leBytes 4 c0) (leBytes 4 c1) x → LastWord h (leBytes 4 c2) (leBytes 4 c3) y
-    → columnsOf x y ≡ xorState (w0 ∷ w1 ∷ w2 ∷ w3 ∷ []) (columnsOf k h)
+    → IsHalf c0 w0 → IsHalf c1 w1 → IsHalf c2 w2 → IsHalf c3 w3 → r ≡ xorState (w0 ∷ w1 ∷ w2 ∷ w3 ∷ []) (columnsOf k h)
 unfolding xorState columnsOf
-last-state {k} {h} e0 e1 e2 e3 ex ey =
-    four-eq (ex .low ∙ ap (λ w. xorWord w (leBytes 4 k)) (e0 .bytes))
+last-state {k} {h} e ex ey e0 e1 e2 e3 =
+    e ∙ four-eq (ex .low ∙ ap (λ w. xorWord w (leBytes 4 k)) (e0 .bytes))
     (ex .high ∙ ap (λ w. xorWord w (leBytes 4 (k / 2 ^ 32))) (e1 .bytes))
     (ey .low ∙ ap (λ w. xorWord w (leBytes 4 h)) (e2 .bytes))
     (ey .high ∙ ap (λ w. xorWord w (leBytes 4 (h / 2 ^ 32))) (e3 .bytes))

@@ -2,17 +2,19 @@
 use mathlib.Core.Path.{_≡_, _∙_, sym, ap}
 use mathlib.Core.List.{List, [], _∷_}
 use Prim.Native.Nat.{ℕ, _+_, _*_, _/_, _%_, _^_, _<_}
+use native.Mathlib.Nat.{zero-add}
 use native.Mathlib.Omega.{arith}
 use lib.Bits.{bitXor, xor-shr, xor-mod, xor-comm}
 use lib.ListN.{length}
 use Rattle.field.proofs.Xor.{xor-assoc}
 use Rattle.sbox.specs.Byte.{sBox}
 use Rattle.sbox.specs.Inner.Wide.{wideRows}
-use Rattle.sbox.specs.Inner.Tables.{mixed0, mixed1, mixed2, mixed3}
+use Rattle.sbox.specs.Inner.Tables.{RoundTables, mixed0, mixed1, mixed2, mixed3}
 use Rattle.sbox.proofs.Columns.{rows-of-column}
 use Rattle.aes128.specs.State.{column, xorWord}
 use Rattle.aes128.specs.Cipher.{mixColumn}
 use Rattle.aes128.specs.Inner.Words.{wideKey}
+use Rattle.aes128.specs.Inner.Steps.{IsEntry}
 use Rattle.aes128.proofs.Words.{is-four, four-eq}
 
 -- the rows of an exclusive or
@@ -38,13 +40,27 @@ ordered k a b x y =
     ∙ ap (λ v. bitXor (bitXor v x) k) (xor-swap a y b)
     ∙ ap (λ v. bitXor v k) (xor-swap (bitXor a b) y x)
 
--- a column of MixColumns and AddRoundKey, from the tables' entries for its four bytes
-pub mixed-column : (a b x y k ta tb tx ty : ℕ) → wideRows ta ≡ mixed0 a → wideRows tb ≡ mixed1 b → wideRows tx ≡ mixed2 x
-    → wideRows ty ≡ mixed3 y
-    → wideRows (bitXor (bitXor (bitXor (bitXor k ta) ty) tb) tx) ≡ xorWord (mixColumn (sBox a ∷ sBox b ∷ sBox x ∷ sBox y ∷ [])) (wideRows k)
-unfolding xorWord mixColumn
-mixed-column a b x y k ta tb tx ty ea eb ex ey =
-    ap wideRows (ordered k ta tb tx ty) ∙ simp (wide-xor, ea, eb, ex, ey)
+-- the rows of the tables' entries for a byte
+module _ {t : List ℕ} (tables : RoundTables t) where
+  pub entry-0 : {x w : ℕ} → IsEntry t 0 x w → wideRows w ≡ mixed0 x
+  entry-0 {x} e = rw (e .word, zero-add) (tables .mix0 x (e .byte))
+
+  pub entry-1 : {x w : ℕ} → IsEntry t 256 x w → wideRows w ≡ mixed1 x
+  entry-1 {x} e = rw (e .word) (tables .mix1 x (e .byte))
+
+  pub entry-2 : {x w : ℕ} → IsEntry t 512 x w → wideRows w ≡ mixed2 x
+  entry-2 {x} e = rw (e .word) (tables .mix2 x (e .byte))
+
+  pub entry-3 : {x w : ℕ} → IsEntry t 768 x w → wideRows w ≡ mixed3 x
+  entry-3 {x} e = rw (e .word) (tables .mix3 x (e .byte))
+
+  -- a column of MixColumns and AddRoundKey, from the entries for its four bytes
+  pub mixed-column : (k : ℕ) {a b x y ta tb tx ty : ℕ} {r : List ℕ} → r ≡ wideRows (bitXor (bitXor (bitXor (bitXor k ta) ty) tb) tx)
+      → IsEntry t 0 a ta → IsEntry t 256 b tb → IsEntry t 512 x tx → IsEntry t 768 y ty
+      → r ≡ xorWord (mixColumn (sBox a ∷ sBox b ∷ sBox x ∷ sBox y ∷ [])) (wideRows k)
+  unfolding xorWord mixColumn
+  mixed-column k {ta = ta} {tb = tb} {tx = tx} {ty = ty} e ea eb ex ey =
+      e ∙ ap wideRows (ordered k ta tb tx ty) ∙ simp (wide-xor, entry-0 ea, entry-1 eb, entry-2 ex, entry-3 ey)
 
 -- a wide column that is made of four bytes
 pub wide-made : {a b x y : ℕ} → a < 256 → b < 256 → x < 256 → y < 256

@@ -6,6 +6,7 @@ use field::Block;
 
 mod round;
 
+pub use round::entry;
 pub use round::first_key;
 pub use round::full_round;
 pub use round::last_round;

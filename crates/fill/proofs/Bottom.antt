@@ -14,7 +14,7 @@ use Rattle.field.proofs.BothKinds.{kindLaws}
 use Rattle.tree.specs.Tree.{leafAt}
 use Rattle.tree.specs.Added.{added, leafElement}
 use Rattle.tree.specs.Inner.Branches.{IsBranch}
-use Rattle.fill.specs.Inner.Ranges.{IsRange, childCount, leftOf, sizeOf, rangeElement, childrenAdded}
+use Rattle.fill.specs.Inner.Ranges.{IsRange, childCount, leftOf, sizeOf, rangeElement, rangeAdded, childrenAdded}
 use Rattle.fill.specs.declared.range.Range.{Range}
 use Rattle.tree.proofs.Laws.{leaf-none, leaf-child}
 use Rattle.tree.proofs.PowerLaws.{eight}
@@ -116,7 +116,7 @@ module _ (ρ : Range) (ok : IsRange ρ) where
 
     pub filled-bottom : (field : ℕ) (child : ℕ → List (List ℕ) → List (List ℕ)) (s : List (List ℕ)) (xs : List ℕ) {ys : List ℕ}
         → ys ≡ childrenAdded field child (ρ .from) (2 ^ ρ .bits) s xs
-        → ys ≡ added (kindOf field .field) (sizeOf ρ) (rangeElement (kindOf field .leaf) child ρ s) xs
+        → ys ≡ rangeAdded field child ρ s xs
     unfolding childrenAdded rangeElement leafElement
     filled-bottom field child s xs ey =
         added-same (kindOf field .field) (kindLaws field .field) (sizeOf ρ) (2 ^ ρ .bits) (rangeElement (kindOf field .leaf) child ρ s)

@@ -15,7 +15,7 @@ use Rattle.algebra.specs.Field.{Field, FieldLaws, Value}
 use Rattle.field.specs.Kind.{kindOf, elementWords}
 use Rattle.field.proofs.BothKinds.{kindLaws}
 use Rattle.tree.specs.Added.{added}
-use Rattle.fill.specs.Inner.Ranges.{childrenAdded, below, leftOf, sizeOf, IsRange, allChildren, rangeElement, bothAdded}
+use Rattle.fill.specs.Inner.Ranges.{childrenAdded, below, leftOf, sizeOf, IsRange, allChildren, ofChild, rangeElement, rangeAdded, bothAdded}
 use Rattle.fill.specs.declared.range.Range.{Range}
 use Rattle.fill.proofs.Halves.{second, filled, added-same, front-length, second-length}
 use Rattle.fill.proofs.Ranges.{size-all, one-twice}
@@ -65,8 +65,8 @@ module _ (field : ℕ) (child : ℕ → List (List ℕ) → List (List ℕ)) whe
 
     -- from two halves
     pub from-halves : (xs : List ℕ) {ys zs : List ℕ} → length xs ≡ (sizeOf all + sizeOf all) * F .elements .width
-        → ys ≡ added F (sizeOf all) (rangeElement leaf child all x) (take (length xs / 2) xs)
-        → zs ≡ added F (sizeOf all) (rangeElement leaf child all y) (second (length xs / 2) xs ys)
+        → ys ≡ rangeAdded field child all x (take (length xs / 2) xs)
+        → zs ≡ rangeAdded field child all y (second (length xs / 2) xs ys)
         → putMid (length xs / 2) (length (ys ++ drop (length xs / 2) xs) - length xs / 2) (ys ++ drop (length xs / 2) xs) zs
         ≡ bothAdded field child all x y xs
     unfolding bothAdded
@@ -77,10 +77,10 @@ module _ (field : ℕ) (child : ℕ → List (List ℕ) → List (List ℕ)) whe
   -- two children are all that is below the node above
   module _ (ρ : Range) (s : List (List ℕ)) (xs : List ℕ) where
     abbrev one : Range
-    one = allChildren (ρ .«branch_bits») (ρ .levels - 1)
+    one = ofChild ρ
 
     pub both-below : {x y : List (List ℕ)} {ys : List ℕ} → ρ .levels ≢ 0 → IsRange ρ → ρ .bits ≡ 1 → x ≡ child (ρ .from) s → y ≡ child (ρ .from + 1) s
-        → ys ≡ bothAdded field child one x y xs → ys ≡ added F (sizeOf ρ) (rangeElement leaf child ρ s) xs
+        → ys ≡ bothAdded field child one x y xs → ys ≡ rangeAdded field child ρ s xs
     unfolding bothAdded
     both-below {x} {y} h ok b ex ey e =
         added-same F (kindLaws field .field) (sizeOf ρ) (sizeOf one + sizeOf one) (rangeElement leaf child ρ s) (element one x y) xs e (one-twice ρ h b)
@@ -140,7 +140,7 @@ module _ (ρ : Range) (levels : ρ .levels ≡ 3) (two : ρ .«branch_bits» ≡
 
   pub three-below : (field : ℕ) (child : ℕ → List (List ℕ) → List (List ℕ)) (s : List (List ℕ)) (xs : List ℕ) {x y : List (List ℕ)} {ys : List ℕ}
       → IsRange ρ → x ≡ child (ρ .from) s → y ≡ child (ρ .from + 1) s → ys ≡ bothAdded field child (allChildren 1 2) x y xs
-      → ys ≡ added (kindOf field .field) (sizeOf ρ) (rangeElement (kindOf field .leaf) child ρ s) xs
+      → ys ≡ rangeAdded field child ρ s xs
   three-below field child s xs {x} {y} ok ex ey e =
       both-below field child ρ s xs (λ z. absurd (omega (arith, z, levels))) ok b ex ey
       (e ∙ ap₂ (λ (g n : ℕ). bothAdded field child (allChildren g (n - 1)) x y xs) (sym two) (sym levels))

@@ -14,7 +14,8 @@ use Rattle.algebra.specs.Choice.{choose}
 use Rattle.tree.specs.Tree.{leafAt, rank, fromSiblings}
 use Rattle.tree.specs.Columns.{columnsAt, siblingsAt}
 use Rattle.tree.specs.Added.{leafElement, puncturedElement}
-use Rattle.fill.specs.Inner.Ranges.{childCount, below, sizeOf, IsRange, allChildren, firstHalf, secondHalf, above, rangeElement, runElement, pathElement}
+use Rattle.fill.specs.Inner.Ranges.{childCount, below, sizeOf, allChildren, ofChild, firstHalf, secondHalf, above, IsRange}
+use Rattle.fill.specs.Inner.Ranges.{rangeElement, runElement, pathElement}
 use Rattle.fill.specs.declared.range.Range.{Range}
 use Rattle.fill.specs.declared.range.Path.{Path}
 use Rattle.tree.proofs.Paths.{power-some, digit, digit-first}
@@ -43,7 +44,7 @@ module _ {A E : Type 0} (element : A → E) (child : ℕ → A → A) where
     -- child c of s, as the range of all its children
     one-below : (c j : ℕ) → c < childCount ρ → j < below ρ
         → leafElement element (childCount ρ) child (ρ .levels) s (c * below ρ + j)
-        ≡ rangeElement element child (allChildren (ρ .«branch_bits») (ρ .levels - 1)) (child c s) j
+        ≡ rangeElement element child (ofChild ρ) (child c s) j
     one-below c j hc hj =
         ap (λ n. leafElement element (childCount ρ) child n s (c * below ρ + j)) (down (ρ .levels) h)
         ∙ leaf-below s (childCount ρ) (ρ .levels - 1) c j (pow-pos (ρ .«branch_bits»)) hc hj
@@ -51,13 +52,13 @@ module _ {A E : Type 0} (element : A → E) (child : ℕ → A → A) where
 
     -- the first child of a pair, and the second
     pub first-child : (j : ℕ) → IsRange ρ → j < below ρ
-        → rangeElement element child ρ s j ≡ rangeElement element child (allChildren (ρ .«branch_bits») (ρ .levels - 1)) (child (ρ .from) s) j
+        → rangeElement element child ρ s j ≡ rangeElement element child (ofChild ρ) (child (ρ .from) s) j
     unfolding rangeElement
     first-child j ok l = one-below (ρ .from) j (omega (arith, ok .within, pow-pos (ρ .bits))) l
 
     pub second-child : (j : ℕ) → IsRange ρ → ρ .bits ≡ 1 → j < below ρ
         → rangeElement element child ρ s (below ρ + j)
-        ≡ rangeElement element child (allChildren (ρ .«branch_bits») (ρ .levels - 1)) (child (ρ .from + 1) s) j
+        ≡ rangeElement element child (ofChild ρ) (child (ρ .from + 1) s) j
     unfolding rangeElement
     second-child j ok e l =
         ap (leafElement element (childCount ρ) child (ρ .levels) s) (next (ρ .from) (below ρ) j)
@@ -84,7 +85,7 @@ module _ {E : Type 0} (element : List (List ℕ) → E) (child : ℕ → List (L
     (ρ : Range) (h : ρ .levels ≢ 0) where
   -- one sibling
   pub run-one : ρ .bits ≡ 0 → (j : ℕ) → j < sizeOf ρ
-      → rangeElement element child (allChildren (ρ .«branch_bits») (ρ .levels - 1)) (columnsAt bytes (at + 16 * ρ .from)) j
+      → rangeElement element child (ofChild ρ) (columnsAt bytes (at + 16 * ρ .from)) j
       ≡ runElement element child ρ bytes at j
   unfolding runElement
   run-one e j l =
@@ -165,7 +166,7 @@ module _ {E : Type 0} (element : List (List ℕ) → E) (child : ℕ → List (L
     abbrev Below : ℕ → Path
     Below p =
         record {
-          range = allChildren (ρ .«branch_bits») (ρ .levels - 1);
+          range = ofChild ρ;
           position = p;
           at = at + 16 * (childCount ρ - 1);
         }

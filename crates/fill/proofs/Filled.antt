@@ -18,13 +18,15 @@ use Rattle.tree.specs.Added.{added, leafElement, puncturedElement}
 use Rattle.tree.specs.Columns.{columnsAt, siblingsAt}
 use Rattle.tree.specs.Expanded.{leavesAdded, puncturedAdded}
 use Rattle.tree.specs.declared.punctured.Punctured.{Punctured}
-use Rattle.fill.specs.Inner.Ranges.{leafAdded, elementAdded, childCount, below, leftOf, sizeOf, IsRange, allChildren, halfFrom, firstHalf, secondHalf, rangeElement, IsRun, runElement, IsPath, pathIn, AreHalves, pathElement}
+use Rattle.fill.specs.Inner.Ranges.{leafAdded, elementAdded, childCount, below, leftOf, sizeOf, allChildren, ofChild, halfFrom, firstHalf, secondHalf}
+use Rattle.fill.specs.Inner.Ranges.{IsRange, rangeElement, rangeAdded, IsRun, runElement, runAdded, IsPath, pathIn, AreHalves, pathElement, pathAdded}
 use Rattle.fill.specs.declared.range.Range.{Range}
 use Rattle.fill.specs.declared.range.Path.{Path}
 use Rattle.fill.specs.declared.range.Halves.{Halves}
 use Rattle.tree.proofs.Laws.{leaf-none}
 use Rattle.fill.proofs.Halves.{front-length, second, second-length, filled, added-same}
-use Rattle.fill.proofs.Ranges.{size-is, size-all, size-none, two-some, one-twice, half-twice, half-falls, sibling-size, in-cases, held-size, holds-first, holds-second}
+use Rattle.fill.proofs.Ranges.{size-is, size-all, size-none, two-some, one-twice, half-twice, half-falls, sibling-size}
+use Rattle.fill.proofs.Ranges.{in-cases, held-size, holds-first, holds-second}
 use Rattle.fill.proofs.Couples.{from-halves, both-below}
 use Rattle.fill.proofs.Elements.{all-element, back-element, run-one, run-back, path-above, path-below, path-first, path-second, path-back}
 
@@ -35,11 +37,11 @@ module _ {X : Type 0} (ρ : Range) (xs : List X) (w : ℕ) (e : length xs ≡ si
   leaf-length h ok = e ∙ ap (λ n. n * w) (size-none ρ h ok) ∙ one-mul w
 
   module _ (h : ρ .levels ≢ 0) where
-    pub one-front : ρ .bits ≡ 1 → length (take (length xs / 2) xs) ≡ sizeOf (allChildren (ρ .«branch_bits») (ρ .levels - 1)) * w
+    pub one-front : ρ .bits ≡ 1 → length (take (length xs / 2) xs) ≡ sizeOf (ofChild ρ) * w
     one-front b = front-length xs (sizeOf ρ) _ w e (one-twice ρ h b)
 
     pub one-back : ρ .bits ≡ 1 → (l : List X) → length l ≡ length xs
-        → length (midOf (length xs / 2) (length l - length xs / 2) l) ≡ sizeOf (allChildren (ρ .«branch_bits») (ρ .levels - 1)) * w
+        → length (midOf (length xs / 2) (length l - length xs / 2) l) ≡ sizeOf (ofChild ρ) * w
     one-back b = second-length xs (sizeOf ρ) _ w e (one-twice ρ h b)
 
     pub half-front : (c : ℕ) → ρ .bits ≢ 0 → length (take (length xs / 2) xs) ≡ sizeOf (halfFrom ρ c) * w
@@ -53,7 +55,7 @@ pub all-length : {X : Type 0} (g levels w : ℕ) (xs : List X) → length xs ≡
 all-length g levels w xs e = e ∙ ap (λ n. n * w) (sym (size-all g levels))
 
 module _ {X : Type 0} (ρ : Range) (at n w : ℕ) (ok : IsRun ρ at n) (xs : List X) where
-  pub sibling-length : ρ .bits ≡ 0 → length xs ≡ sizeOf ρ * w → length xs ≡ sizeOf (allChildren (ρ .«branch_bits») (ρ .levels - 1)) * w
+  pub sibling-length : ρ .bits ≡ 0 → length xs ≡ sizeOf ρ * w → length xs ≡ sizeOf (ofChild ρ) * w
   sibling-length b e = e ∙ ap (λ m. m * w) (sibling-size ρ at n ok b)
 
   pub run-half-front : (c : ℕ) → ρ .bits ≢ 0 → length xs ≡ sizeOf ρ * w → length (take (length xs / 2) xs) ≡ sizeOf (halfFrom ρ c) * w
@@ -113,8 +115,7 @@ module _ (field : ℕ) (child : ℕ → List (List ℕ) → List (List ℕ)) whe
 
   module _ (ρ : Range) (s : List (List ℕ)) (xs : List ℕ) where
     -- at a leaf
-    pub filled-leaf : {ys : List ℕ} → ρ .levels ≡ 0 → IsRange ρ → ys ≡ leafAdded field s xs
-        → ys ≡ added F (sizeOf ρ) (rangeElement leaf child ρ s) xs
+    pub filled-leaf : {ys : List ℕ} → ρ .levels ≡ 0 → IsRange ρ → ys ≡ leafAdded field s xs → ys ≡ rangeAdded field child ρ s xs
     unfolding leafAdded rangeElement leafElement
     filled-leaf e ok ey =
         added-same F laws (sizeOf ρ) 1 (rangeElement leaf child ρ s) (λ j. leaf s) xs ey (size-none ρ e ok)
@@ -126,18 +127,16 @@ module _ (field : ℕ) (child : ℕ → List (List ℕ) → List (List ℕ)) whe
     module _ (h : ρ .levels ≢ 0) (e : length xs ≡ sizeOf ρ * F .elements .width) where
       -- by two children
       pub filled-children : {x y : List (List ℕ)} {ys zs : List ℕ} → IsRange ρ → ρ .bits ≡ 1 → x ≡ child (ρ .from) s → y ≡ child (ρ .from + 1) s
-          → ys ≡ added F (sizeOf (allChildren (ρ .«branch_bits») (ρ .levels - 1))) (rangeElement leaf child (allChildren (ρ .«branch_bits») (ρ .levels - 1)) x) (take (length xs / 2) xs)
-          → zs ≡ added F (sizeOf (allChildren (ρ .«branch_bits») (ρ .levels - 1))) (rangeElement leaf child (allChildren (ρ .«branch_bits») (ρ .levels - 1)) y) (second (length xs / 2) xs ys)
-          → Both xs ys zs ≡ added F (sizeOf ρ) (rangeElement leaf child ρ s) xs
+          → ys ≡ rangeAdded field child (ofChild ρ) x (take (length xs / 2) xs)
+          → zs ≡ rangeAdded field child (ofChild ρ) y (second (length xs / 2) xs ys) → Both xs ys zs ≡ rangeAdded field child ρ s xs
       filled-children {x} {y} ok b ex ey el eh =
           both-below field child ρ s xs h ok b ex ey
-          (from-halves field child (allChildren (ρ .«branch_bits») (ρ .levels - 1)) x y xs (e ∙ ap (λ n. n * F .elements .width) (one-twice ρ h b)) el eh)
+          (from-halves field child (ofChild ρ) x y xs (e ∙ ap (λ n. n * F .elements .width) (one-twice ρ h b)) el eh)
 
       -- by half as many children each
       pub filled-halves : {p : ℕ} {ys zs : List ℕ} → IsRange ρ → p ≡ 2 ^ (ρ .bits - 1)
-          → ys ≡ added F (sizeOf (firstHalf ρ)) (rangeElement leaf child (firstHalf ρ) s) (take (length xs / 2) xs)
-          → zs ≡ added F (sizeOf (halfFrom ρ (ρ .from + p))) (rangeElement leaf child (halfFrom ρ (ρ .from + p)) s) (second (length xs / 2) xs ys)
-          → Both xs ys zs ≡ added F (sizeOf ρ) (rangeElement leaf child ρ s) xs
+          → ys ≡ rangeAdded field child (firstHalf ρ) s (take (length xs / 2) xs)
+          → zs ≡ rangeAdded field child (halfFrom ρ (ρ .from + p)) s (second (length xs / 2) xs ys) → Both xs ys zs ≡ rangeAdded field child ρ s xs
       unfolding rangeElement leftOf
       filled-halves {p} {ys} ok q ey ez =
           filled F laws (sizeOf ρ) (sizeOf (firstHalf ρ)) (rangeElement leaf child ρ s) (rangeElement leaf child (firstHalf ρ) s)
@@ -149,16 +148,16 @@ module _ (field : ℕ) (child : ℕ → List (List ℕ) → List (List ℕ)) whe
 
   -- all children of s
   pub filled-all : (g levels : ℕ) (s : List (List ℕ)) (xs : List ℕ) {x : List (List ℕ)} {ys : List ℕ} → x ≡ s
-      → ys ≡ added F (sizeOf (allChildren g levels)) (rangeElement leaf child (allChildren g levels) x) xs
+      → ys ≡ rangeAdded field child (allChildren g levels) x xs
       → ys ≡ leavesAdded (kindOf field) (2 ^ g) child levels s xs
   filled-all g levels s xs ex ey =
       added-same F laws ((2 ^ g) ^ levels) (sizeOf (allChildren g levels)) (leafElement leaf (2 ^ g) child levels s)
       (rangeElement leaf child (allChildren g levels) s) xs
-      (ey ∙ ap (λ x. added F (sizeOf (allChildren g levels)) (rangeElement leaf child (allChildren g levels) x) xs) ex) (sym (size-all g levels)) (λ j l. all-element leaf child s g levels j)
+      (ey ∙ ap (λ x. rangeAdded field child (allChildren g levels) x xs) ex) (sym (size-all g levels)) (λ j l. all-element leaf child s g levels j)
 
   pub filled-tree : (tree : Punctured) (bytes words : List ℕ) (xs : List ℕ) {ys : List ℕ}
-      → ys ≡ added F (sizeOf (allChildren (tree .«branch_bits») (tree .levels)))
-      (pathElement leaf child (record { range = allChildren (tree .«branch_bits») (tree .levels); position = tree .position; at = tree .at }) bytes (F .elements .read words 0)) xs
+      → ys ≡ pathAdded field child (record { range = allChildren (tree .«branch_bits») (tree .levels); position = tree .position; at = tree .at })
+      bytes words xs
       → ys ≡ puncturedAdded (kindOf field) (2 ^ tree .«branch_bits») child tree bytes (F .elements .read words 0) xs
   unfolding pathElement
   filled-tree tree bytes words xs ey =
@@ -184,21 +183,19 @@ module _ (field : ℕ) (child : ℕ → List (List ℕ) → List (List ℕ)) whe
 
   module _ (bytes : List ℕ) (at n : ℕ) (ρ : Range) (xs : List ℕ) (ok : IsRun ρ at n) where
     pub filled-sibling : {x : List (List ℕ)} {ys : List ℕ} → ρ .bits ≡ 0 → x ≡ columnsAt bytes (at + 16 * ρ .from)
-        → ys ≡ added F (sizeOf (allChildren (ρ .«branch_bits») (ρ .levels - 1))) (rangeElement leaf child (allChildren (ρ .«branch_bits») (ρ .levels - 1)) x) xs
-        → ys ≡ added F (sizeOf ρ) (runElement leaf child ρ bytes at) xs
+        → ys ≡ rangeAdded field child (ofChild ρ) x xs → ys ≡ runAdded field child ρ bytes at xs
     filled-sibling {x} b ex ey =
         added-same F laws (sizeOf ρ) (sizeOf one) (runElement leaf child ρ bytes at) (rangeElement leaf child one (columnsAt bytes (at + 16 * ρ .from))) xs
-        (ey ∙ ap (λ y. added F (sizeOf one) (rangeElement leaf child one y) xs) ex)
+        (ey ∙ ap (λ y. rangeAdded field child one y xs) ex)
         (sibling-size ρ at n ok b)
         (λ j l. run-one leaf child bytes at ρ (ok .some) b j (omega (arith, sibling-size ρ at n ok b)))
       where
         one : Range
-        one = allChildren (ρ .«branch_bits») (ρ .levels - 1)
+        one = ofChild ρ
 
     pub filled-runs : {p : ℕ} {ys zs : List ℕ} → ρ .bits ≢ 0 → length xs ≡ sizeOf ρ * F .elements .width → p ≡ 2 ^ (ρ .bits - 1)
-        → ys ≡ added F (sizeOf (firstHalf ρ)) (runElement leaf child (firstHalf ρ) bytes at) (take (length xs / 2) xs)
-        → zs ≡ added F (sizeOf (halfFrom ρ (ρ .from + p))) (runElement leaf child (halfFrom ρ (ρ .from + p)) bytes at) (second (length xs / 2) xs ys)
-        → Both xs ys zs ≡ added F (sizeOf ρ) (runElement leaf child ρ bytes at) xs
+        → ys ≡ runAdded field child (firstHalf ρ) bytes at (take (length xs / 2) xs)
+        → zs ≡ runAdded field child (halfFrom ρ (ρ .from + p)) bytes at (second (length xs / 2) xs ys) → Both xs ys zs ≡ runAdded field child ρ bytes at xs
     unfolding runElement leftOf
     filled-runs {p} {ys} b e q ey ez =
         filled F laws (sizeOf ρ) (sizeOf (firstHalf ρ)) (runElement leaf child ρ bytes at) (runElement leaf child (firstHalf ρ) bytes at)
@@ -215,8 +212,7 @@ module _ (field : ℕ) (child : ℕ → List (List ℕ) → List (List ℕ)) whe
     abbrev correction : Value F
     correction = F .elements .read words 0
 
-    pub filled-correction : {ys : List ℕ} → path .range .levels ≡ 0 → ys ≡ elementAdded field words xs
-        → ys ≡ added F (sizeOf (path .range)) (pathElement leaf child path bytes correction) xs
+    pub filled-correction : {ys : List ℕ} → path .range .levels ≡ 0 → ys ≡ elementAdded field words xs → ys ≡ pathAdded field child path bytes words xs
     unfolding elementAdded pathElement puncturedElement
     filled-correction e ey =
         added-same F laws (sizeOf (path .range)) 1 (pathElement leaf child path bytes correction) (λ j. correction) xs ey one
@@ -234,7 +230,7 @@ module _ (field : ℕ) (child : ℕ → List (List ℕ) → List (List ℕ)) whe
       ρ = path .range
 
       abbrev one : Range
-      one = allChildren (ρ .«branch_bits») (ρ .levels - 1)
+      one = ofChild ρ
 
       -- a path at another position
       abbrev moved : ℕ → Path
@@ -263,7 +259,7 @@ module _ (field : ℕ) (child : ℕ → List (List ℕ) → List (List ℕ)) whe
           → ((j : ℕ) → j < 2 ^ (ρ .bits - 1) * below ρ → here s (2 ^ (ρ .bits - 1) * below ρ + j) ≡ high j)
           → ys ≡ added F half low (take (length xs / 2) xs)
           → zs ≡ added F half high (second (length xs / 2) xs ys)
-          → Both xs ys zs ≡ added F (sizeOf ρ) (pathElement leaf child path bytes correction) xs
+          → Both xs ys zs ≡ pathAdded field child path bytes words xs
       unfolding here
       both s low high es hl hh ey ez =
           filled F laws (sizeOf ρ) half (here s) low high xs e twice-half
@@ -290,7 +286,7 @@ module _ (field : ℕ) (child : ℕ → List (List ℕ) → List (List ℕ)) whe
       High m f ys = added F m f (second (length xs / 2) xs ys)
 
       abbrev Whole : List ℕ
-      Whole = added F (sizeOf ρ) (pathElement leaf child path bytes correction) xs
+      Whole = pathAdded field child path bytes words xs
 
       -- the position lies in the first half
       abbrev Above : ℕ → ℕ → Value F
@@ -386,19 +382,16 @@ module _ (field : ℕ) (child : ℕ → List (List ℕ) → List (List ℕ)) whe
           (λ b k. filled-back l ey k)
           (rw er at ez)
 
-    module _ (h : path .range .levels ≢ 0) (e : length xs ≡ sizeOf (path .range) * F .elements .width) (r : Halves) (parts : AreHalves path r) {ys zs : List ℕ} where
-      pub filled-first-holds : r .lower ≡ true
-          → ys ≡ added F (sizeOf (r .below .range)) (pathElement leaf child (r .below) bytes correction) (take (length xs / 2) xs)
-          → zs ≡ added F (sizeOf (r .beside)) (runElement leaf child (r .beside) bytes (path .at)) (second (length xs / 2) xs ys)
-          → Both xs ys zs ≡ added F (sizeOf (path .range)) (pathElement leaf child path bytes correction) xs
+    module _ (h : path .range .levels ≢ 0) (e : length xs ≡ sizeOf (path .range) * F .elements .width) (r : Halves) (parts : AreHalves path r)
+        {ys zs : List ℕ} where
+      pub filled-first-holds : r .lower ≡ true → ys ≡ pathAdded field child (r .below) bytes words (take (length xs / 2) xs)
+          → zs ≡ runAdded field child (r .beside) bytes (path .at) (second (length xs / 2) xs ys) → Both xs ys zs ≡ pathAdded field child path bytes words xs
       filled-first-holds t ey ez =
           let a = holds-first path parts t in
           filled-low h e refl refl (a .inside) (a .on) ey (rw (a .run) at ez)
 
-      pub filled-second-holds : r .lower ≡ false
-          → ys ≡ added F (sizeOf (r .beside)) (runElement leaf child (r .beside) bytes (path .at)) (take (length xs / 2) xs)
-          → zs ≡ added F (sizeOf (r .below .range)) (pathElement leaf child (r .below) bytes correction) (second (length xs / 2) xs ys)
-          → Both xs ys zs ≡ added F (sizeOf (path .range)) (pathElement leaf child path bytes correction) xs
+      pub filled-second-holds : r .lower ≡ false → ys ≡ runAdded field child (r .beside) bytes (path .at) (take (length xs / 2) xs)
+          → zs ≡ pathAdded field child (r .below) bytes words (second (length xs / 2) xs ys) → Both xs ys zs ≡ pathAdded field child path bytes words xs
       filled-second-holds t ey ez =
           let a = holds-second path parts t in
           filled-high h e refl refl (a .inside) (a .on) (rw (a .run) at ey) ez

@@ -168,11 +168,15 @@ module _ (field : ℕ) (xs : List ℕ) where
         same (suc zero) h = leaf-block hb eb
         same (suc (suc j)) h = absurd (omega arith)
 
-    pub pair-2 : {ys : List ℕ} → field ≢ 1 → ys ≡ added primes 2 (firstOrSecond (primeReduce (a .low)) (primeReduce (b .low))) xs → ys ≡ childrenAdded field child c 2 s xs
+    -- the elements of both leaves in field 2
+    abbrev reduced : ℕ → Prime
+    reduced = firstOrSecond (primeReduce (a .low)) (primeReduce (b .low))
+
+    pub pair-2 : {ys : List ℕ} → field ≢ 1 → ys ≡ added primes 2 reduced xs → ys ≡ childrenAdded field child c 2 s xs
     unfolding childrenAdded
-    pair-2 e ey = rw (kind-2 field e) (ey ∙ added-cong primes primeLaws 2 (firstOrSecond (primeReduce (a .low)) (primeReduce (b .low))) (λ j. primeLeaf (child (c + j) s)) xs same)
+    pair-2 e ey = rw (kind-2 field e) (ey ∙ added-cong primes primeLaws 2 reduced (λ j. primeLeaf (child (c + j) s)) xs same)
       where
-        same : (j : ℕ) → j < 2 → firstOrSecond (primeReduce (a .low)) (primeReduce (b .low)) j ≡ primeLeaf (child (c + j) s)
+        same : (j : ℕ) → j < 2 → reduced j ≡ primeLeaf (child (c + j) s)
         same zero h = leaf-prime ha (ea ∙ here)
         same (suc zero) h = leaf-prime hb eb
         same (suc (suc j)) h = absurd (omega arith)

@@ -13,7 +13,8 @@ use borrow.Author.Tests.{eq-eqb, ne-eqb, eqb-true, eqb-false}
 use Rattle.algebra.specs.Choice.{choose}
 use Rattle.tree.specs.Inner.Branches.{IsBranch, IsPunctured}
 use Rattle.tree.specs.declared.punctured.Punctured.{Punctured}
-use Rattle.fill.specs.Inner.Ranges.{childCount, below, leftOf, sizeOf, IsRange, allChildren, halfFrom, firstHalf, IsRun, IsPath, pathIn, FirstHolds, SecondHolds, AreHalves}
+use Rattle.fill.specs.Inner.Ranges.{childCount, below, leftOf, sizeOf, allChildren, ofChild, halfFrom, firstHalf}
+use Rattle.fill.specs.Inner.Ranges.{IsRange, IsRun, IsPath, pathIn, FirstHolds, SecondHolds, AreHalves}
 use Rattle.fill.specs.declared.range.Range.{Range}
 use Rattle.fill.specs.declared.range.Path.{Path}
 use Rattle.fill.specs.declared.range.Halves.{Halves}
@@ -42,7 +43,7 @@ left-half : (ρ : Range) (c : ℕ) → ρ .levels ≢ 0 → ρ .bits ≢ 0 → l
 left-half ρ c h b = left-is ρ h ∙ omega (arith, left-is (halfFrom ρ c) h)
 
 -- one child, as all its children
-left-one : (ρ : Range) → ρ .levels ≢ 0 → ρ .bits ≡ 1 → leftOf ρ ≡ suc (leftOf (allChildren (ρ .«branch_bits») (ρ .levels - 1)))
+left-one : (ρ : Range) → ρ .levels ≢ 0 → ρ .bits ≡ 1 → leftOf ρ ≡ suc (leftOf (ofChild ρ))
 left-one ρ h e = omega (arith, left-is ρ h, left-all (ρ .«branch_bits») (ρ .levels - 1))
 
 -- ---- leaves
@@ -70,7 +71,7 @@ two-some ρ ok e = omega (arith, ok .two)
 
 module _ (ρ : Range) (h : ρ .levels ≢ 0) where
   abbrev one : Range
-  one = allChildren (ρ .«branch_bits») (ρ .levels - 1)
+  one = ofChild ρ
 
   pub one-twice : ρ .bits ≡ 1 → sizeOf ρ ≡ sizeOf one + sizeOf one
   one-twice e = twice ρ one (left-one ρ h e)
@@ -89,7 +90,7 @@ pub all-range : (g levels : ℕ) → IsBranch g → IsRange (allChildren g level
 all-range g levels b = record { two = b .two; most = omega arith; within = omega arith; branch = b }
 
 module _ (ρ : Range) (ok : IsRange ρ) where
-  pub one-range : IsRange (allChildren (ρ .«branch_bits») (ρ .levels - 1))
+  pub one-range : IsRange (ofChild ρ)
   one-range = all-range (ρ .«branch_bits») (ρ .levels - 1) (ok .branch)
 
   half-range : (c : ℕ) → ρ .bits ≢ 1 → c + 2 ^ (ρ .bits - 1) ≤ ρ .from + 2 ^ ρ .bits → IsRange (halfFrom ρ c)
@@ -137,12 +138,12 @@ module _ (ρ : Range) (at n : ℕ) (ok : IsRun ρ at n) where
     pub sibling-room : at + 16 * ρ .from + 16 ≤ n
     sibling-room = omega (arith, ok .room, ap (λ m. 2 ^ m) e)
 
-    pub sibling-range : IsRange (allChildren (ρ .«branch_bits») (ρ .levels - 1))
+    pub sibling-range : IsRange (ofChild ρ)
     sibling-range = all-range (ρ .«branch_bits») (ρ .levels - 1) (ok .branch)
 
-    pub sibling-size : sizeOf ρ ≡ sizeOf (allChildren (ρ .«branch_bits») (ρ .levels - 1))
+    pub sibling-size : sizeOf ρ ≡ sizeOf (ofChild ρ)
     sibling-size =
-        ap (λ m. 2 ^ m) {x = leftOf ρ} {y = leftOf (allChildren (ρ .«branch_bits») (ρ .levels - 1))}
+        ap (λ m. 2 ^ m) {x = leftOf ρ} {y = leftOf (ofChild ρ)}
         (omega (arith, left-is ρ (ok .some), left-all (ρ .«branch_bits») (ρ .levels - 1)))
 
   pub run-few : ρ .bits - 1 < 64
@@ -183,7 +184,7 @@ module _ (path : Path) (c s : ℕ) where
   abbrev inChild : Path
   inChild =
       record {
-        range = allChildren (path .range .«branch_bits») (path .range .levels - 1);
+        range = ofChild (path .range);
         position = s;
         at = path .at + 16 * (childCount (path .range) - 1);
       }
@@ -192,7 +193,7 @@ module _ (path : Path) (c s : ℕ) where
   inHalf = record { range = halfFrom (path .range) c; position = s; at = path .at }
 
   pub is-child : {next : ℕ} → path .range .bits ≡ 1 → next ≡ path .at + 16 * (childCount (path .range) - 1)
-      → record { range = allChildren (path .range .«branch_bits») (path .range .levels - 1); position = s; at = next } ≡ pathIn path c s
+      → record { range = ofChild (path .range); position = s; at = next } ≡ pathIn path c s
   unfolding pathIn
   is-child b e = rw (eq-eqb (path .range .bits) 1 b, e)
 
@@ -330,8 +331,8 @@ module _ (path : Path) (n : ℕ) (ok : IsPath path n) (h : path .range .levels �
 
 -- the halves made
 module _ (path : Path) {half p : ℕ} {below : Path} {beside : Range} (eh : half ≡ sizeOf (firstHalf (path .range))) (ep : p ≡ 2 ^ (path .range .bits - 1)) where
-  pub first-holds : path .position < half → below ≡ pathIn path (path .range .from) (path .position) → beside ≡ halfFrom (path .range) (path .range .from + (p - 1))
-      → AreHalves path (record { below = below; beside = beside; lower = true })
+  pub first-holds : path .position < half → below ≡ pathIn path (path .range .from) (path .position)
+      → beside ≡ halfFrom (path .range) (path .range .from + (p - 1)) → AreHalves path (record { below = below; beside = beside; lower = true })
   unfolding AreHalves
   first-holds l eb er = record { inside = rw (← eh) l; on = eb; run = er ∙ ap (λ m. halfFrom (path .range) (path .range .from + (m - 1))) ep }
 

@@ -12,7 +12,8 @@ ghost use Rattle.tree.specs.Added.{added};
 ghost use Rattle.tree.specs.Expanded.{leavesAdded, puncturedAdded};
 ghost use Rattle.tree.specs.Inner.Nodes.{nodeOf};
 ghost use Rattle.tree.specs.Inner.Branches.{IsBranch, IsPunctured};
-ghost use Rattle.fill.specs.Inner.Ranges.{firstOrSecond, leafAdded, childrenAdded, elementAdded, IsRange, IsRun, IsPath, sizeOf, rangeElement, runElement, pathElement, bothAdded, allChildren};
+ghost use Rattle.fill.specs.Inner.Ranges.{firstOrSecond, leafAdded, childrenAdded, elementAdded, childUnder, allChildren, sizeOf};
+ghost use Rattle.fill.specs.Inner.Ranges.{IsRange, IsRun, IsPath, rangeAdded, bothAdded, runAdded, pathAdded};
 use crate::range::Path;
 use crate::range::Range;
 use crate::range::parted;
@@ -111,7 +112,7 @@ fn add_pair(
     acc: &mut [u64],
 )
     requires { ⌜ RoundTables (now tables) × (c + 2 ≤ 8) × (length (now acc) ≡ 2 * elementWords field) ⌝ }
-    ensures { λ _. ⌜ now (acc .exit) ≡ childrenAdded field (childBy (keysFor (now (keys .entry)))) c 2 (nodeOf s) (now (acc .entry)) ⌝ }
+    ensures { λ _. ⌜ now (acc .exit) ≡ childrenAdded field (childUnder (now (keys .entry))) c 2 (nodeOf s) (now (acc .entry)) ⌝ }
 {
     let ciphers = block_cipher::encrypt_two(tables, &keys[c], &keys[c + 1], s, s);
     let both = TwoBlocks {
@@ -135,7 +136,7 @@ fn add_four(
     acc: &mut [u64],
 )
     requires { ⌜ RoundTables (now tables) × (c + 4 ≤ 8) × (length (now acc) ≡ 4 * elementWords field) ⌝ }
-    ensures { λ _. ⌜ now (acc .exit) ≡ childrenAdded field (childBy (keysFor (now (keys .entry)))) c 4 (nodeOf s) (now (acc .entry)) ⌝ }
+    ensures { λ _. ⌜ now (acc .exit) ≡ childrenAdded field (childUnder (now (keys .entry))) c 4 (nodeOf s) (now (acc .entry)) ⌝ }
 {
     let mid = acc.len() / 2;
     add_pair(tables, keys, field, c, s, &mut acc[..mid]);
@@ -153,7 +154,7 @@ fn add_bottom(
     acc: &mut [u64],
 )
     requires { ⌜ RoundTables (now tables) × IsBranch bits × (c + 2 ^ bits ≤ 8) × (length (now acc) ≡ 2 ^ bits * elementWords field) ⌝ }
-    ensures { λ _. ⌜ now (acc .exit) ≡ childrenAdded field (childBy (keysFor (now (keys .entry)))) c (2 ^ bits) (nodeOf s) (now (acc .entry)) ⌝ }
+    ensures { λ _. ⌜ now (acc .exit) ≡ childrenAdded field (childUnder (now (keys .entry))) c (2 ^ bits) (nodeOf s) (now (acc .entry)) ⌝ }
 {
     if bits == 1 {
         add_pair(tables, keys, field, c, s, acc);
@@ -175,7 +176,8 @@ fn add_couple(
     acc: &mut [u64],
 )
     requires { ⌜ RoundTables (now tables) × (length (now acc) ≡ 4 * elementWords field) ⌝ }
-    ensures { λ _. ⌜ now (acc .exit) ≡ bothAdded field (childBy (keysFor (now (keys .entry)))) (allChildren 1 1) (nodeOf (both .one)) (nodeOf (both .other)) (now (acc .entry)) ⌝ }
+    ensures { λ _. ⌜ now (acc .exit)
+        ≡ bothAdded field (childUnder (now (keys .entry))) (allChildren 1 1) (nodeOf (both .one)) (nodeOf (both .other)) (now (acc .entry)) ⌝ }
 {
     let mid = acc.len() / 2;
     add_pair(tables, keys, field, 0, both.one, &mut acc[..mid]);
@@ -192,7 +194,8 @@ fn add_both(
     acc: &mut [u64],
 )
     requires { ⌜ RoundTables (now tables) × (length (now acc) ≡ 8 * elementWords field) ⌝ }
-    ensures { λ _. ⌜ now (acc .exit) ≡ bothAdded field (childBy (keysFor (now (keys .entry)))) (allChildren 1 2) (nodeOf (both .one)) (nodeOf (both .other)) (now (acc .entry)) ⌝ }
+    ensures { λ _. ⌜ now (acc .exit)
+        ≡ bothAdded field (childUnder (now (keys .entry))) (allChildren 1 2) (nodeOf (both .one)) (nodeOf (both .other)) (now (acc .entry)) ⌝ }
 {
     let low = children(tables, keys, 0, both.one);
     let high = children(tables, keys, 0, both.other);
@@ -211,7 +214,7 @@ fn add_range(
     acc: &mut [u64],
 )
     requires { ⌜ RoundTables (now tables) × IsRange range × (length (now acc) ≡ sizeOf range * elementWords field) ⌝ }
-    ensures { λ _. ⌜ now (acc .exit) ≡ added (kindOf field .field) (sizeOf range) (rangeElement (kindOf field .leaf) (childBy (keysFor (now (keys .entry)))) range (nodeOf s)) (now (acc .entry)) ⌝ }
+    ensures { λ _. ⌜ now (acc .exit) ≡ rangeAdded field (childUnder (now (keys .entry))) range (nodeOf s) (now (acc .entry)) ⌝ }
 {
     let branch_bits = range.branch_bits;
     let levels = range.levels;
@@ -240,16 +243,12 @@ fn add_range(
         add_range(tables, keys, field, all, both.other, &mut acc[mid..]);
     } else {
         let low = Range {
-            branch_bits,
-            levels,
             bits: bits - 1,
-            from,
+            ..range
         };
         let high = Range {
-            branch_bits,
-            levels,
-            bits: bits - 1,
             from: from + power(bits - 1),
+            ..low
         };
         let mid = acc.len() / 2;
         add_range(tables, keys, field, low, s, &mut acc[..mid]);
@@ -268,7 +267,7 @@ fn add_run(
     acc: &mut [u64],
 )
     requires { ⌜ RoundTables (now tables) × IsRun run at (length (now bytes)) × (length (now acc) ≡ sizeOf run * elementWords field) ⌝ }
-    ensures { λ _. ⌜ now (acc .exit) ≡ added (kindOf field .field) (sizeOf run) (runElement (kindOf field .leaf) (childBy (keysFor (now (keys .entry)))) run (now (bytes .entry)) at) (now (acc .entry)) ⌝ }
+    ensures { λ _. ⌜ now (acc .exit) ≡ runAdded field (childUnder (now (keys .entry))) run (now (bytes .entry)) at (now (acc .entry)) ⌝ }
 {
     let branch_bits = run.branch_bits;
     let levels = run.levels;
@@ -285,16 +284,12 @@ fn add_run(
         add_range(tables, keys, field, all, sibling, acc);
     } else {
         let low = Range {
-            branch_bits,
-            levels,
             bits: bits - 1,
-            from,
+            ..run
         };
         let high = Range {
-            branch_bits,
-            levels,
-            bits: bits - 1,
             from: from + power(bits - 1),
+            ..low
         };
         let mid = acc.len() / 2;
         add_run(tables, keys, field, low, at, bytes, &mut acc[..mid]);
@@ -314,7 +309,7 @@ fn add_path(
     acc: &mut [u64],
 )
     requires { ⌜ RoundTables (now tables) × IsPath path (length (now bytes)) × (length (now acc) ≡ sizeOf (path .range) * elementWords field) ⌝ }
-    ensures { λ _. ⌜ now (acc .exit) ≡ added (kindOf field .field) (sizeOf (path .range)) (pathElement (kindOf field .leaf) (childBy (keysFor (now (keys .entry)))) path (now (bytes .entry)) (kindOf field .field .elements .read correction 0)) (now (acc .entry)) ⌝ }
+    ensures { λ _. ⌜ now (acc .exit) ≡ pathAdded field (childUnder (now (keys .entry))) path (now (bytes .entry)) correction (now (acc .entry)) ⌝ }
 {
     let at = path.at;
     if path.range.levels == 0 {
@@ -397,8 +392,11 @@ pub fn add_punctured(
     correction: [u64; 2],
     acc: &mut [u64],
 )
-    requires { ⌜ RoundTables (now tables) × IsPunctured tree (length (now bytes)) × (tree .position < (2 ^ tree .«branch_bits») ^ tree .levels) × (length (now acc) ≡ (2 ^ tree .«branch_bits») ^ tree .levels * elementWords field) ⌝ }
-    ensures { λ _. ⌜ now (acc .exit) ≡ puncturedAdded (kindOf field) (2 ^ tree .«branch_bits») (childBy (keysFor (now (keys .entry)))) tree (now (bytes .entry)) (kindOf field .field .elements .read correction 0) (now (acc .entry)) ⌝ }
+    requires { ⌜ RoundTables (now tables) × IsPunctured tree (length (now bytes)) × (tree .position < (2 ^ tree .«branch_bits») ^ tree .levels)
+        × (length (now acc) ≡ (2 ^ tree .«branch_bits») ^ tree .levels * elementWords field) ⌝ }
+    ensures { λ _. ⌜ now (acc .exit)
+        ≡ puncturedAdded (kindOf field) (2 ^ tree .«branch_bits») (childBy (keysFor (now (keys .entry)))) tree (now (bytes .entry))
+        (kindOf field .field .elements .read correction 0) (now (acc .entry)) ⌝ }
 {
     let path = Path {
         range: Range {

@@ -52,10 +52,9 @@ fn half_from(range: Range, c: usize) -> Range
     ensures { λ r. ⌜ r ≡ halfFrom range c ⌝ }
 {
     Range {
-        branch_bits: range.branch_bits,
-        levels: range.levels,
         bits: range.bits - 1,
         from: c,
+        ..range
     }
 }
 
@@ -79,10 +78,9 @@ fn path_in(path: Path, c: usize, position: usize) -> Path
     } else {
         Path {
             range: Range {
-                branch_bits: range.branch_bits,
-                levels: range.levels,
                 bits: range.bits - 1,
                 from: c,
+                ..range
             },
             position,
             at: path.at,

@@ -1,55 +1,52 @@
 -- The rounds of the blocks of x and i: the first two from what the blocks share, and those after them. Assumes nothing.
-use mathlib.Core.Path.{_≡_, refl, _∙_, ap}
+use mathlib.Core.Path.{_≡_, refl, _∙_, ap, ap₂}
 use mathlib.Core.List.{List, [], _∷_}
 use Prim.Native.Nat.{ℕ, _+_, _%_, _<_}
-use native.Mathlib.Nat.{zero-add}
 use lib.Bits.{bitXor, xor-mod}
 use lib.ListN.{getD}
 use Rattle.field.specs.Binary.{block, blockOf}
 use Rattle.field.specs.Bytes.{leBytes, columnsOf}
 use Rattle.field.specs.declared.block.Block.{Block}
 use Rattle.sbox.specs.Inner.Wide.{wideRows}
-use Rattle.sbox.specs.Inner.Tables.{RoundTables, mixed0}
+use Rattle.sbox.specs.Inner.Tables.{RoundTables}
 use Rattle.aes128.specs.State.{column, byteAt, xorWord, xorState}
 use Rattle.aes128.specs.Cipher.{subBytes, shiftRows, addRoundKey, rounds, cipher}
 use Rattle.aes128.specs.Inner.Words.{wideKey, blockKey, roundKeys}
+use Rattle.aes128.specs.Inner.Steps.{IsEntry, Rounded}
 use Rattle.aes128.specs.Inner.Blocks.{cipherOf}
-use Rattle.row_cipher.specs.Inner.Row.{rowState, firstOf, secondOf, IsShared}
+use Rattle.row_cipher.specs.Inner.Row.{Entered, rowState, firstOf, secondOf, IsShared}
 use Rattle.aes128.proofs.Words.{four-eq}
-use Rattle.aes128.proofs.Wide.{wide-xor}
-use Rattle.aes128.proofs.Rounds.{roundOf}
-
--- the rows of a sum with a wide column of known rows
-pub wide-sum : (a b : ℕ) {v : List ℕ} → wideRows a ≡ v → wideRows (bitXor a b) ≡ xorWord v (wideRows b)
-wide-sum a b e = wide-xor a b ∙ ap (λ (w : List ℕ). xorWord w (wideRows b)) e
+use Rattle.aes128.proofs.Wide.{wide-xor, entry-0, entry-1, entry-2, entry-3}
 
 -- a column's four bytes are the column
 column-bytes : (w v : List ℕ) → xorWord (getD w 0 0 ∷ getD w 1 0 ∷ getD w 2 0 ∷ getD w 3 0 ∷ []) v ≡ xorWord w v
 unfolding xorWord
 column-bytes w v = refl
 
+-- a column with an entry, from the wide column of its four bytes
+pub entered : (s : List (List ℕ)) (c v : ℕ) {t : List ℕ} {at x w : ℕ} {r : List ℕ} → r ≡ wideRows (bitXor v w) → IsEntry t at x w
+    → wideRows v ≡ byteAt s 0 c ∷ byteAt s 1 c ∷ byteAt s 2 c ∷ byteAt s 3 c ∷ [] → Entered t s c at x r
+entered s c v {w = w} e h f =
+    record { byte = h .byte; sum = e ∙ wide-xor v w ∙ ap₂ xorWord f (ap wideRows (h .word)) ∙ column-bytes (column s c) _ }
+
 module _ {t : List ℕ} (tables : RoundTables t) (s : List (List ℕ)) where
-  -- c is column n of s with the entry for the byte b of the table that begins at a place
-  abbrev Entered : List ℕ → ℕ → ℕ → ℕ → Type 0
-  Entered c n at b =
-      (c ≡ xorWord (byteAt s 0 n ∷ byteAt s 1 n ∷ byteAt s 2 n ∷ byteAt s 3 n ∷ []) (wideRows (getD t (at + b) 0))) × (b < 256)
+  -- the entry that was added
+  entry-of : {c at x : ℕ} {r : List ℕ} → Entered t s c at x r → IsEntry t at x (getD t (at + x) 0)
+  entry-of e = record { byte = e .byte; word = refl }
 
-  entered : (n at : ℕ) {c v : List ℕ} {b : ℕ} → Entered c n at b → wideRows (getD t (at + b) 0) ≡ v → c ≡ xorWord (column s n) v
-  entered n at e f = e .0 ∙ column-bytes (column s n) _ ∙ ap (xorWord (column s n)) f
+  with-rows : (c : ℕ) {at x : ℕ} {r v : List ℕ} → Entered t s c at x r → wideRows (getD t (at + x) 0) ≡ v → r ≡ xorWord (column s c) v
+  with-rows c e f = e .sum ∙ ap (xorWord (column s c)) f
 
-  mix0-at : (b : ℕ) → b < 256 → wideRows (getD t (0 + b) 0) ≡ mixed0 b
-  mix0-at b h = rw zero-add (tables .mix0 b h)
-
-  pub one-entered : {b : ℕ} {c : List ℕ} → Entered c 2 0 b → column s 0 ∷ column s 1 ∷ c ∷ column s 3 ∷ [] ≡ firstOf s b
+  pub one-entered : {b : ℕ} {c : List ℕ} → Entered t s 2 0 b c → column s 0 ∷ column s 1 ∷ c ∷ column s 3 ∷ [] ≡ firstOf s b
   unfolding firstOf
-  one-entered e = four-eq refl refl (entered 2 0 e (mix0-at _ (e .1))) refl
+  one-entered e = four-eq refl refl (with-rows 2 e (entry-0 tables (entry-of e))) refl
 
-  pub four-entered : (w : List ℕ) {c0 c1 c2 c3 : List ℕ} → Entered c0 0 512 (getD w 2 0) → Entered c1 1 256 (getD w 1 0)
-      → Entered c2 2 0 (getD w 0 0) → Entered c3 3 768 (getD w 3 0) → c0 ∷ c1 ∷ c2 ∷ c3 ∷ [] ≡ secondOf s w
+  pub four-entered : (w : List ℕ) {c0 c1 c2 c3 : List ℕ} → Entered t s 0 512 (getD w 2 0) c0 → Entered t s 1 256 (getD w 1 0) c1
+      → Entered t s 2 0 (getD w 0 0) c2 → Entered t s 3 768 (getD w 3 0) c3 → c0 ∷ c1 ∷ c2 ∷ c3 ∷ [] ≡ secondOf s w
   unfolding secondOf
   four-entered w e0 e1 e2 e3 =
-      four-eq (entered 0 512 e0 (tables .mix2 _ (e0 .1))) (entered 1 256 e1 (tables .mix1 _ (e1 .1))) (entered 2 0 e2 (mix0-at _ (e2 .1)))
-      (entered 3 768 e3 (tables .mix3 _ (e3 .1)))
+      four-eq (with-rows 0 e0 (entry-2 tables (entry-of e0))) (with-rows 1 e1 (entry-1 tables (entry-of e1)))
+      (with-rows 2 e2 (entry-0 tables (entry-of e2))) (with-rows 3 e3 (entry-3 tables (entry-of e3)))
 
 module _ (keys : List ℕ) (x i : ℕ) where
   -- the one byte of the block after the first AddRoundKey that depends on i
@@ -58,27 +55,19 @@ module _ (keys : List ℕ) (x i : ℕ) where
   start-byte = xor-mod i (getD keys 1 0) 8
 
   -- rounds 1 and 2, from the shared states
-  pub two-rounds : {s : List (List (List ℕ))} {s1 s2 : List (List ℕ)} → IsShared keys x s → i < 256
+  two-rounds : {s : List (List (List ℕ))} {s1 s2 : List (List ℕ)} → IsShared keys x s → i < 256
       → s1 ≡ firstOf (getD s 0 []) (bitXor i (getD keys 1 0) % 256) → s2 ≡ secondOf (getD s 1 []) (column s1 2) → s2 ≡ rowState keys 2 x i
   two-rounds {s} is h e1 e2 =
       let f = e1 ∙ ap (firstOf (getD s 0 [])) start-byte ∙ is .round1 i h in
       e2 ∙ ap (λ (v : List (List ℕ)). secondOf (getD s 1 []) (column v 2)) f ∙ is .round2 i h
 
-  -- rounds 3 to 9
-  pub nine-rounds : {s2 s3 s4 s5 s6 s7 s8 s9 : List (List ℕ)} → s2 ≡ rowState keys 2 x i
-      → s3 ≡ roundOf s2 (wideKey keys 10)
-      → s4 ≡ roundOf s3 (wideKey keys 14)
-      → s5 ≡ roundOf s4 (wideKey keys 18)
-      → s6 ≡ roundOf s5 (wideKey keys 22)
-      → s7 ≡ roundOf s6 (wideKey keys 26)
-      → s8 ≡ roundOf s7 (wideKey keys 30)
-      → s9 ≡ roundOf s8 (wideKey keys 34)
-      → s9 ≡ rowState keys 9 x i
-  unfolding rounds roundKeys
-  nine-rounds e2 e3 e4 e5 e6 e7 e8 e9 = e9 ∙ rw (e8, e7, e6, e5, e4, e3, e2)
-
-  -- the last round and its block
-  pub whole-block : {s t : List (List ℕ)} {r : Block} → s ≡ rowState keys 9 x i
-      → t ≡ addRoundKey (shiftRows (subBytes s)) (blockKey keys 38) → r ≡ blockOf t → r ≡ cipherOf keys (block x i)
-  unfolding cipher roundKeys
-  whole-block e f g = g ∙ rw (f, e)
+  -- the cipher of the block, round by round from the last
+  pub row-block : {t : List ℕ} {s : List (List (List ℕ))} {s1 s2 s3 s4 s5 s6 s7 s8 s9 s10 : List (List ℕ)} {r : Block}
+      → IsShared keys x s → i < 256 → r ≡ blockOf s10 → s10 ≡ addRoundKey (shiftRows (subBytes s9)) (blockKey keys 38)
+      → Rounded t s8 (wideKey keys 34) s9 → Rounded t s7 (wideKey keys 30) s8 → Rounded t s6 (wideKey keys 26) s7
+      → Rounded t s5 (wideKey keys 22) s6 → Rounded t s4 (wideKey keys 18) s5 → Rounded t s3 (wideKey keys 14) s4
+      → Rounded t s2 (wideKey keys 10) s3 → s2 ≡ secondOf (getD s 1 []) (column s1 2)
+      → s1 ≡ firstOf (getD s 0 []) (bitXor i (getD keys 1 0) % 256) → r ≡ cipherOf keys (block x i)
+  unfolding rounds roundKeys cipher
+  row-block is h e e10 e9 e8 e7 e6 e5 e4 e3 e2 e1 =
+      e ∙ rw (e10, e9 .state, e8 .state, e7 .state, e6 .state, e5 .state, e4 .state, e3 .state, two-rounds is h e1 e2)

@@ -2,7 +2,7 @@
 -- for x and 0 serve each i. Assumes nothing.
 use mathlib.Core.Path.{_≡_, refl, _∙_, sym, ap}
 use mathlib.Core.List.{List, [], _∷_}
-use Prim.Native.Nat.{ℕ, _+_, _/_, _%_, _<_}
+use Prim.Native.Nat.{ℕ, _/_, _%_, _<_}
 use native.Mathlib.Omega.{arith}
 use lib.Bits.{bitXor, xor-comm}
 use lib.Dec.{lit<}
@@ -15,9 +15,10 @@ use Rattle.sbox.specs.Inner.Tables.{RoundTables, mixed0, mixed1, mixed2, mixed3
 use Rattle.aes128.specs.State.{column, byteAt, xorWord, xorState}
 use Rattle.aes128.specs.Cipher.{subBytes, shiftRows, mixColumn, mixColumns, addRoundKey, rounds}
 use Rattle.aes128.specs.Inner.Words.{wideKey, blockKey, roundKeys}
-use Rattle.row_cipher.specs.Inner.Row.{mixedColumn, Lacks, rowState, firstOf, secondOf, IsShared}
+use Rattle.aes128.specs.Inner.Steps.{IsEntry, Rounded}
+use Rattle.row_cipher.specs.Inner.Row.{mixedColumn, column0Of, column1Of, column2Of, column3Of, Lacks, rowState, firstOf, secondOf, IsShared}
 use Rattle.aes128.proofs.Words.{four-eq}
-use Rattle.aes128.proofs.Wide.{wide-xor}
+use Rattle.aes128.proofs.Wide.{wide-xor, entry-0, entry-1, entry-2, entry-3}
 
 word-comm : (a b : List ℕ) → xorWord a b ≡ xorWord b a
 unfolding xorWord
@@ -42,33 +43,29 @@ unfolding mixColumn xorWord
 mix-sum a b c d = refl
 
 module _ {t : List ℕ} (tables : RoundTables t) (k : ℕ) where
-  pub lacks-row0 : {b c d : ℕ} {w : List ℕ} → b < 256 → c < 256 → d < 256
-      → w ≡ wideRows (bitXor (bitXor (bitXor k (getD t (256 + b) 0)) (getD t (512 + c) 0)) (getD t (768 + d) 0))
-      → Lacks mixed0 (λ a. mixedColumn a b c d k) w
+  pub lacks-row0 : {b c d tb tc td : ℕ} {w : List ℕ} → w ≡ wideRows (bitXor (bitXor (bitXor k tb) tc) td) → IsEntry t 256 b tb
+      → IsEntry t 512 c tc → IsEntry t 768 d td → Lacks mixed0 (λ a. mixedColumn a b c d k) w
   unfolding Lacks
-  lacks-row0 hb hc hd e a =
-      rw e (simp (wide-xor, tables .mix1 _ hb, tables .mix2 _ hc, tables .mix3 _ hd, mix-sum, word-assoc, word-comm, word-left-comm))
+  lacks-row0 e eb ec ed a =
+      rw e (simp (wide-xor, entry-1 tables eb, entry-2 tables ec, entry-3 tables ed, mix-sum, word-assoc, word-comm, word-left-comm))
 
-  pub lacks-row1 : {a c d : ℕ} {w : List ℕ} → a < 256 → c < 256 → d < 256
-      → w ≡ wideRows (bitXor (bitXor (bitXor k (getD t a 0)) (getD t (512 + c) 0)) (getD t (768 + d) 0))
-      → Lacks mixed1 (λ b. mixedColumn a b c d k) w
+  pub lacks-row1 : {a c d ta tc td : ℕ} {w : List ℕ} → w ≡ wideRows (bitXor (bitXor (bitXor k ta) tc) td) → IsEntry t 0 a ta
+      → IsEntry t 512 c tc → IsEntry t 768 d td → Lacks mixed1 (λ b. mixedColumn a b c d k) w
   unfolding Lacks
-  lacks-row1 ha hc hd e b =
-      rw e (simp (wide-xor, tables .mix0 _ ha, tables .mix2 _ hc, tables .mix3 _ hd, mix-sum, word-assoc, word-comm, word-left-comm))
+  lacks-row1 e ea ec ed b =
+      rw e (simp (wide-xor, entry-0 tables ea, entry-2 tables ec, entry-3 tables ed, mix-sum, word-assoc, word-comm, word-left-comm))
 
-  pub lacks-row2 : {a b d : ℕ} {w : List ℕ} → a < 256 → b < 256 → d < 256
-      → w ≡ wideRows (bitXor (bitXor (bitXor k (getD t a 0)) (getD t (256 + b) 0)) (getD t (768 + d) 0))
-      → Lacks mixed2 (λ c. mixedColumn a b c d k) w
+  pub lacks-row2 : {a b d ta tb td : ℕ} {w : List ℕ} → w ≡ wideRows (bitXor (bitXor (bitXor k ta) tb) td) → IsEntry t 0 a ta
+      → IsEntry t 256 b tb → IsEntry t 768 d td → Lacks mixed2 (λ c. mixedColumn a b c d k) w
   unfolding Lacks
-  lacks-row2 ha hb hd e c =
-      rw e (simp (wide-xor, tables .mix0 _ ha, tables .mix1 _ hb, tables .mix3 _ hd, mix-sum, word-assoc, word-comm, word-left-comm))
+  lacks-row2 e ea eb ed c =
+      rw e (simp (wide-xor, entry-0 tables ea, entry-1 tables eb, entry-3 tables ed, mix-sum, word-assoc, word-comm, word-left-comm))
 
-  pub lacks-row3 : {a b c : ℕ} {w : List ℕ} → a < 256 → b < 256 → c < 256
-      → w ≡ wideRows (bitXor (bitXor (bitXor k (getD t a 0)) (getD t (256 + b) 0)) (getD t (512 + c) 0))
-      → Lacks mixed3 (λ d. mixedColumn a b c d k) w
+  pub lacks-row3 : {a b c ta tb tc : ℕ} {w : List ℕ} → w ≡ wideRows (bitXor (bitXor (bitXor k ta) tb) tc) → IsEntry t 0 a ta
+      → IsEntry t 256 b tb → IsEntry t 512 c tc → Lacks mixed3 (λ d. mixedColumn a b c d k) w
   unfolding Lacks
-  lacks-row3 ha hb hc e d =
-      rw e (simp (wide-xor, tables .mix0 _ ha, tables .mix1 _ hb, tables .mix2 _ hc, mix-sum, word-assoc, word-comm))
+  lacks-row3 e ea eb ec d =
+      rw e (simp (wide-xor, entry-0 tables ea, entry-1 tables eb, entry-2 tables ec, mix-sum, word-assoc, word-comm))
 
 -- the columns of a block whose second word is a byte
 byte-columns : (x i : ℕ) → i < 256
@@ -88,23 +85,23 @@ record Alike (s u : List (List ℕ)) : Type 0 where
 
 -- what a column lacks is made good by the byte of column 2
 module _ {s u : List (List ℕ)} (alike : Alike s u) (k : ℕ) (w : List ℕ) where
-  made-0 : Lacks mixed2 (λ c. mixedColumn (byteAt s 0 0) (byteAt s 1 1) c (byteAt s 3 3) k) w
-      → xorWord w (mixed2 (byteAt u 2 2)) ≡ mixedColumn (byteAt u 0 0) (byteAt u 1 1) (byteAt u 2 2) (byteAt u 3 3) k
+  made-0 : Lacks mixed2 (column0Of s k) w
+      → xorWord w (mixed2 (byteAt u 2 2)) ≡ column0Of u k (byteAt u 2 2)
   unfolding Lacks
   made-0 l = rw (← alike .column0, ← alike .column1, ← alike .column3) (l (byteAt u 2 2))
 
-  made-1 : Lacks mixed1 (λ b. mixedColumn (byteAt s 0 1) b (byteAt s 2 3) (byteAt s 3 0) k) w
-      → xorWord w (mixed1 (byteAt u 1 2)) ≡ mixedColumn (byteAt u 0 1) (byteAt u 1 2) (byteAt u 2 3) (byteAt u 3 0) k
+  made-1 : Lacks mixed1 (column1Of s k) w
+      → xorWord w (mixed1 (byteAt u 1 2)) ≡ column1Of u k (byteAt u 1 2)
   unfolding Lacks
   made-1 l = rw (← alike .column0, ← alike .column1, ← alike .column3) (l (byteAt u 1 2))
 
-  made-2 : Lacks mixed0 (λ a. mixedColumn a (byteAt s 1 3) (byteAt s 2 0) (byteAt s 3 1) k) w
-      → xorWord w (mixed0 (byteAt u 0 2)) ≡ mixedColumn (byteAt u 0 2) (byteAt u 1 3) (byteAt u 2 0) (byteAt u 3 1) k
+  made-2 : Lacks mixed0 (column2Of s k) w
+      → xorWord w (mixed0 (byteAt u 0 2)) ≡ column2Of u k (byteAt u 0 2)
   unfolding Lacks
   made-2 l = rw (← alike .column0, ← alike .column1, ← alike .column3) (l (byteAt u 0 2))
 
-  made-3 : Lacks mixed3 (λ d. mixedColumn (byteAt s 0 3) (byteAt s 1 0) (byteAt s 2 1) d k) w
-      → xorWord w (mixed3 (byteAt u 3 2)) ≡ mixedColumn (byteAt u 0 3) (byteAt u 1 0) (byteAt u 2 1) (byteAt u 3 2) k
+  made-3 : Lacks mixed3 (column3Of s k) w
+      → xorWord w (mixed3 (byteAt u 3 2)) ≡ column3Of u k (byteAt u 3 2)
   unfolding Lacks
   made-3 l = rw (← alike .column0, ← alike .column1, ← alike .column3) (l (byteAt u 3 2))
 
@@ -118,18 +115,15 @@ module _ (keys : List ℕ) (x : ℕ) where
   unfolding rounds roundKeys xorState xorWord mixColumns shiftRows subBytes
   alike-1 {i} h = rw (byte-columns x 0 (lit< tt), byte-columns x i h) (record { column0 = refl; column1 = refl; column3 = refl })
 
-  pub shared : {s t : List (List ℕ)} {first c0 c1 c2 c3 : List ℕ} → s ≡ addRoundKey (columnsOf x 0) (blockKey keys 0)
-      → t ≡ addRoundKey (mixColumns (shiftRows (subBytes s))) (wideKey keys 2)
-      → Lacks mixed0 (λ a. mixedColumn a (byteAt s 1 3) (byteAt s 2 0) (byteAt s 3 1) (getD keys 4 0)) first
-      → Lacks mixed2 (λ c. mixedColumn (byteAt t 0 0) (byteAt t 1 1) c (byteAt t 3 3) (getD keys 6 0)) c0
-      → Lacks mixed1 (λ b. mixedColumn (byteAt t 0 1) b (byteAt t 2 3) (byteAt t 3 0) (getD keys 7 0)) c1
-      → Lacks mixed0 (λ a. mixedColumn a (byteAt t 1 3) (byteAt t 2 0) (byteAt t 3 1) (getD keys 8 0)) c2
-      → Lacks mixed3 (λ d. mixedColumn (byteAt t 0 3) (byteAt t 1 0) (byteAt t 2 1) d (getD keys 9 0)) c3
-      → IsShared keys x ((column t 0 ∷ column t 1 ∷ first ∷ column t 3 ∷ []) ∷ (c0 ∷ c1 ∷ c2 ∷ c3 ∷ []) ∷ [])
+  pub shared : {t : List ℕ} {s0 s1 : List (List ℕ)} {first c0 c1 c2 c3 : List ℕ} → Rounded t s0 (wideKey keys 2) s1
+      → s0 ≡ addRoundKey (columnsOf x 0) (blockKey keys 0) → Lacks mixed0 (column2Of s0 (getD keys 4 0)) first
+      → Lacks mixed2 (column0Of s1 (getD keys 6 0)) c0 → Lacks mixed1 (column1Of s1 (getD keys 7 0)) c1
+      → Lacks mixed0 (column2Of s1 (getD keys 8 0)) c2 → Lacks mixed3 (column3Of s1 (getD keys 9 0)) c3
+      → IsShared keys x ((column s1 0 ∷ column s1 1 ∷ first ∷ column s1 3 ∷ []) ∷ (c0 ∷ c1 ∷ c2 ∷ c3 ∷ []) ∷ [])
   unfolding firstOf secondOf rounds roundKeys xorState mixColumns shiftRows subBytes
-  shared {s} {t} es et lf l0 l1 l2 l3 =
+  shared {s0 = s} {s1 = t} et es lf l0 l1 l2 l3 =
       let e0 : s ≡ rowState keys 0 x 0 = es in
-      let e1 : t ≡ rowState keys 1 x 0 = et ∙ rw es in
+      let e1 : t ≡ rowState keys 1 x 0 = et .state ∙ rw es in
       record {
         round1 = λ i h.
             let one = rw (← e1) at (alike-1 h) in

@@ -1,17 +1,16 @@
 // The cipher on the blocks of one row: of x and i, for one x and i below 256. They share most of the first two rounds.
 ghost use mathlib.Core.Path.{_≡_};
-ghost use mathlib.Core.List.{[], _∷_};
 ghost use Prim.Native.Nat.{_+_, _%_, _<_, _≤_};
 ghost use lib.Bits.{bitXor};
 ghost use lib.ListN.{getD};
 ghost use Rattle.field.specs.Binary.{block};
-ghost use Rattle.sbox.specs.Inner.Wide.{wideRows};
 ghost use Rattle.sbox.specs.Inner.Tables.{RoundTables, mixed0, mixed1, mixed2, mixed3};
-ghost use Rattle.aes128.specs.State.{column, xorWord};
+ghost use Rattle.aes128.specs.State.{column};
 ghost use Rattle.aes128.specs.Inner.Blocks.{cipherOf};
-ghost use Rattle.row_cipher.specs.Inner.Row.{mixedColumn, Lacks, firstOf, secondOf, IsShared};
+ghost use Rattle.row_cipher.specs.Inner.Row.{column0Of, column1Of, column2Of, column3Of, Lacks, Entered, firstOf, secondOf, IsShared};
 use aes128::wide_of;
 use block_cipher::TwoBlocks;
+use block_cipher::entry;
 use block_cipher::first_key;
 use block_cipher::full_round;
 use block_cipher::last_round;
@@ -24,36 +23,38 @@ pub struct TwoWords {
     pub other: u64,
 }
 
-// A column of a round, with its round key's column, without what the byte in row 0 adds.
-fn without_row0(tables: &[u64; 1536], b: u8, c: u8, d: u8, k: u64) -> [u8; 4]
+// Column 2 of a round of s, with its round key's column, without what the byte in row 0 adds, which comes of column 2 of s.
+fn without_row0(tables: &[u64; 1536], s: &[[u8; 4]; 4], k: u64) -> [u8; 4]
     requires { ⌜ RoundTables (now tables) ⌝ }
-    ensures { λ r. ⌜ Lacks mixed0 (λ a. mixedColumn a b c d k) r ⌝ }
+    ensures { λ r. ⌜ Lacks mixed0 (column2Of (now (s .entry)) k) r ⌝ }
 {
-    rows(k ^ tables[256 + (b as usize)] ^ tables[512 + (c as usize)] ^ tables[768 + (d as usize)])
+    rows(
+        k ^ entry(tables, 256, s[3][1]) ^ entry(tables, 512, s[0][2]) ^ entry(tables, 768, s[1][3]),
+    )
 }
 
-// The same without what the byte in row 1 adds.
-fn without_row1(tables: &[u64; 1536], a: u8, c: u8, d: u8, k: u64) -> [u8; 4]
+// Column 1 of it without what the byte in row 1 adds, which comes of column 2 too.
+fn without_row1(tables: &[u64; 1536], s: &[[u8; 4]; 4], k: u64) -> [u8; 4]
     requires { ⌜ RoundTables (now tables) ⌝ }
-    ensures { λ r. ⌜ Lacks mixed1 (λ b. mixedColumn a b c d k) r ⌝ }
+    ensures { λ r. ⌜ Lacks mixed1 (column1Of (now (s .entry)) k) r ⌝ }
 {
-    rows(k ^ tables[a as usize] ^ tables[512 + (c as usize)] ^ tables[768 + (d as usize)])
+    rows(k ^ entry(tables, 0, s[1][0]) ^ entry(tables, 512, s[3][2]) ^ entry(tables, 768, s[0][3]))
 }
 
-// The same without what the byte in row 2 adds.
-fn without_row2(tables: &[u64; 1536], a: u8, b: u8, d: u8, k: u64) -> [u8; 4]
+// Column 0 of it without what the byte in row 2 adds, which comes of column 2 too.
+fn without_row2(tables: &[u64; 1536], s: &[[u8; 4]; 4], k: u64) -> [u8; 4]
     requires { ⌜ RoundTables (now tables) ⌝ }
-    ensures { λ r. ⌜ Lacks mixed2 (λ c. mixedColumn a b c d k) r ⌝ }
+    ensures { λ r. ⌜ Lacks mixed2 (column0Of (now (s .entry)) k) r ⌝ }
 {
-    rows(k ^ tables[a as usize] ^ tables[256 + (b as usize)] ^ tables[768 + (d as usize)])
+    rows(k ^ entry(tables, 0, s[0][0]) ^ entry(tables, 256, s[1][1]) ^ entry(tables, 768, s[3][3]))
 }
 
-// The same without what the byte in row 3 adds.
-fn without_row3(tables: &[u64; 1536], a: u8, b: u8, c: u8, k: u64) -> [u8; 4]
+// Column 3 of it without what the byte in row 3 adds, which comes of column 2 too.
+fn without_row3(tables: &[u64; 1536], s: &[[u8; 4]; 4], k: u64) -> [u8; 4]
     requires { ⌜ RoundTables (now tables) ⌝ }
-    ensures { λ r. ⌜ Lacks mixed3 (λ d. mixedColumn a b c d k) r ⌝ }
+    ensures { λ r. ⌜ Lacks mixed3 (column3Of (now (s .entry)) k) r ⌝ }
 {
-    rows(k ^ tables[a as usize] ^ tables[256 + (b as usize)] ^ tables[512 + (c as usize)])
+    rows(k ^ entry(tables, 0, s[3][0]) ^ entry(tables, 256, s[0][1]) ^ entry(tables, 512, s[1][2]))
 }
 
 // The states after rounds 1 and 2 that the blocks of x and i share, for one x: each without what the bytes that differ add.
@@ -63,20 +64,20 @@ pub fn share(tables: &[u64; 1536], keys: &[u64; 40], x: u64) -> [[[u8; 4]; 4]; 2
 {
     let s = first_key(Block { low: x, high: 0 }, keys);
     let t = full_round(tables, s, keys, 2);
-    let column2 = without_row0(tables, s[3][1], s[0][2], s[1][3], keys[4]);
-    let c0 = without_row2(tables, t[0][0], t[1][1], t[3][3], keys[6]);
-    let c1 = without_row1(tables, t[1][0], t[3][2], t[0][3], keys[7]);
-    let c2 = without_row0(tables, t[3][1], t[0][2], t[1][3], keys[8]);
-    let c3 = without_row3(tables, t[3][0], t[0][1], t[1][2], keys[9]);
+    let column2 = without_row0(tables, &s, keys[4]);
+    let c0 = without_row2(tables, &t, keys[6]);
+    let c1 = without_row1(tables, &t, keys[7]);
+    let c2 = without_row0(tables, &t, keys[8]);
+    let c3 = without_row3(tables, &t, keys[9]);
     [[t[0], t[1], column2, t[3]], [c0, c1, c2, c3]]
 }
 
-// A column of four bytes with the entry for a byte of the table that begins at a place.
-fn with_entry(tables: &[u64; 1536], a: u8, b: u8, c: u8, d: u8, at: usize, x: u8) -> [u8; 4]
-    requires { ⌜ at + 256 ≤ 1536 ⌝ }
-    ensures { λ r. ⌜ (r ≡ xorWord (a ∷ b ∷ c ∷ d ∷ []) (wideRows (getD (now (tables .entry)) (at + x) 0))) × (x < 256) ⌝ }
+// Column c of a state with the entry for a byte of the table that begins at a place.
+fn with_entry(tables: &[u64; 1536], s: &[[u8; 4]; 4], c: usize, at: usize, x: u8) -> [u8; 4]
+    requires { ⌜ (c < 4) × (at + 256 ≤ 1536) ⌝ }
+    ensures { λ r. ⌜ Entered (now (tables .entry)) (now (s .entry)) c at x r ⌝ }
 {
-    rows(wide_of(a, b, c, d) ^ tables[at + (x as usize)])
+    rows(wide_of(s[c][0], s[c][1], s[c][2], s[c][3]) ^ entry(tables, at, x))
 }
 
 // The state of the block of x and i after round 1, from the state that the blocks share: one lookup, for column 2.
@@ -85,7 +86,7 @@ fn first_round(tables: &[u64; 1536], keys: &[u64; 40], s: [[u8; 4]; 4], i: u64) 
     ensures { λ r. ⌜ r ≡ firstOf s (bitXor i (getD (now (keys .entry)) 1 0) % 256) ⌝ }
 {
     let x = ((i ^ keys[1]) % 0x100) as u8;
-    let c = with_entry(tables, s[2][0], s[2][1], s[2][2], s[2][3], 0, x);
+    let c = with_entry(tables, &s, 2, 0, x);
     [s[0], s[1], c, s[3]]
 }
 
@@ -94,10 +95,10 @@ fn second_round(tables: &[u64; 1536], s: [[u8; 4]; 4], t: [[u8; 4]; 4]) -> [[u8;
     requires { ⌜ RoundTables (now tables) ⌝ }
     ensures { λ r. ⌜ r ≡ secondOf s (column t 2) ⌝ }
 {
-    let c0 = with_entry(tables, s[0][0], s[0][1], s[0][2], s[0][3], 512, t[2][2]);
-    let c1 = with_entry(tables, s[1][0], s[1][1], s[1][2], s[1][3], 256, t[2][1]);
-    let c2 = with_entry(tables, s[2][0], s[2][1], s[2][2], s[2][3], 0, t[2][0]);
-    let c3 = with_entry(tables, s[3][0], s[3][1], s[3][2], s[3][3], 768, t[2][3]);
+    let c0 = with_entry(tables, &s, 0, 512, t[2][2]);
+    let c1 = with_entry(tables, &s, 1, 256, t[2][1]);
+    let c2 = with_entry(tables, &s, 2, 0, t[2][0]);
+    let c3 = with_entry(tables, &s, 3, 768, t[2][3]);
     [c0, c1, c2, c3]
 }
 

@@ -1,5 +1,4 @@
 -- `block_cipher::encrypt_two` meets its contract: each block round by round. Assumes nothing.
-use native.Mathlib.Omega.{arith}
 use borrow.Author.Needs.{needs}
 use Rattle.aes128.proofs.Rounds.{ten-rounds}
 use Rattle.block_cipher.proofs.encrypt_two.Statement.{statement}
@@ -10,54 +9,48 @@ encrypt-two-spec =
     tie.close
     (tie.spec
     (λ c κs. search needs)  -- first-key-requires
-    (λ c κs. (c .before .pre, omega arith))  -- full-round-requires
+    (λ c κs. search needs)  -- full-round-requires
     (λ c κs. search needs)  -- first-key-requires-2
-    (λ c κs. (c .before .before .before .pre, omega arith))  -- full-round-requires-2
-    (λ c κs. (c .before .before .before .before .pre, omega arith))  -- full-round-requires-3
-    (λ c κs. (c .before .before .before .before .before .pre, omega arith))  -- full-round-requires-4
-    (λ c κs. (c .before .before .before .before .before .before .pre, omega arith))  -- full-round-requires-5
-    (λ c κs. (c .before .before .before .before .before .before .before .pre, omega arith))  -- full-round-requires-6
-    (λ c κs. (c .before .before .before .before .before .before .before .before .pre, omega arith))  -- full-round-requires-7
-    (λ c κs. (c .before .before .before .before .before .before .before .before .before .pre, omega arith))  -- full-round-requires-8
-    (λ c κs. (c .before .before .before .before .before .before .before .before .before .before .pre, omega arith))  -- full-round-requires-9
-    (λ c κs. (c .before .before .before .before .before .before .before .before .before .before .before .pre, omega arith))  -- full-round-requires-10
-    (λ c κs. (c .before .before .before .before .before .before .before .before .before .before .before .before .pre, omega arith))  -- full-round-requires-11
-    (λ c κs. (c .before .before .before .before .before .before .before .before .before .before .before .before .before .pre, omega arith))  -- full-round-requires-12
-    (λ c κs. (c .before .before .before .before .before .before .before .before .before .before .before .before .before .before .pre, omega arith))  -- full-round-requires-13
-    (λ c κs. (c .before .before .before .before .before .before .before .before .before .before .before .before .before .before .before .pre, omega arith))  -- full-round-requires-14
-    (λ c κs. (c .before .before .before .before .before .before .before .before .before .before .before .before .before .before .before .before .pre, omega arith))  -- full-round-requires-15
-    (λ c κs. (c .before .before .before .before .before .before .before .before .before .before .before .before .before .before .before .before .before .pre, omega arith))  -- full-round-requires-16
-    (λ c κs. (c .before .before .before .before .before .before .before .before .before .before .before .before .before .before .before .before .before .before .pre, omega arith))  -- full-round-requires-17
-    (λ c κs. (c .before .before .before .before .before .before .before .before .before .before .before .before .before .before .before .before .before .before .before .pre, omega arith))  -- full-round-requires-18
-    (λ c κs. c .before .before .before .before .before .before .before .before .before .before .before .before .before .before .before .before .before .before .before .before .pre)  -- last-round-requires
-    (λ c κs. c .before .before .before .before .before .before .before .before .before .before .before .before .before .before .before .before .before .before .before .before .before .pre)  -- last-round-requires-2
+    (λ c κs. search needs)  -- full-round-requires-2
+    (λ c κs. search needs)  -- full-round-requires-3
+    (λ c κs. search needs)  -- full-round-requires-4
+    (λ c κs. search needs)  -- full-round-requires-5
+    (λ c κs. search needs)  -- full-round-requires-6
+    (λ c κs. search needs)  -- full-round-requires-7
+    (λ c κs. search needs)  -- full-round-requires-8
+    (λ c κs. search needs)  -- full-round-requires-9
+    (λ c κs. search needs)  -- full-round-requires-10
+    (λ c κs. search needs)  -- full-round-requires-11
+    (λ c κs. search needs)  -- full-round-requires-12
+    (λ c κs. search needs)  -- full-round-requires-13
+    (λ c κs. search needs)  -- full-round-requires-14
+    (λ c κs. search needs)  -- full-round-requires-15
+    (λ c κs. search needs)  -- full-round-requires-16
+    (λ c κs. search needs)  -- full-round-requires-17
+    (λ c κs. search needs)  -- full-round-requires-18
+    (λ c κs. search needs)  -- last-round-requires
+    (λ c κs. search needs)  -- last-round-requires-2
     (λ c κs. search needs)  -- of-columns-requires
     (λ c κs. search needs)  -- of-columns-requires-2
     (λ c.
     let one = c .before in
-    let r22 = one .before in
-    let r21 = r22 .before in
-    let r20 = r21 .before in
-    let r19 = r20 .before in
-    let r18 = r19 .before in
-    let r17 = r18 .before in
-    let r16 = r17 .before in
-    let r15 = r16 .before in
-    let r14 = r15 .before in
-    let r13 = r14 .before in
-    let r12 = r13 .before in
-    let r11 = r12 .before in
-    let r10 = r11 .before in
-    let r9 = r10 .before in
-    let r8 = r9 .before in
-    let r7 = r8 .before in
-    let r6 = r7 .before in
-    let r5 = r6 .before in
-    let r4 = r5 .before in
-    let r3 = r4 .before in
-    let r2 = r3 .before in
-    let r1 = r2 .before in (
-      ten-rounds _ _ (r1 .first-key .ensures) (r2 .full-round .ensures) (r5 .full-round3 .ensures) (r7 .full-round5 .ensures) (r9 .full-round7 .ensures) (r11 .full-round9 .ensures) (r13 .full-round11 .ensures) (r15 .full-round13 .ensures) (r17 .full-round15 .ensures) (r19 .full-round17 .ensures) (r21 .last-round .ensures) (one .of-columns .ensures),
-      ten-rounds _ _ (r3 .first-key2 .ensures) (r4 .full-round2 .ensures) (r6 .full-round4 .ensures) (r8 .full-round6 .ensures) (r10 .full-round8 .ensures) (r12 .full-round10 .ensures) (r14 .full-round12 .ensures) (r16 .full-round14 .ensures) (r18 .full-round16 .ensures) (r20 .full-round18 .ensures) (r22 .last-round2 .ensures) (c .of-columns2 .ensures),
+    let b10 = one .before in let a10 = b10 .before in
+    let b9 = a10 .before in let a9 = b9 .before in
+    let b8 = a9 .before in let a8 = b8 .before in
+    let b7 = a8 .before in let a7 = b7 .before in
+    let b6 = a7 .before in let a6 = b6 .before in
+    let b5 = a6 .before in let a5 = b5 .before in
+    let b4 = a5 .before in let a4 = b4 .before in
+    let b3 = a4 .before in let a3 = b3 .before in
+    let b2 = a3 .before in let a2 = b2 .before in
+    let b1 = a2 .before in
+    let b0 = b1 .before in let a1 = b0 .before in
+    let a0 = a1 .before in (
+      ten-rounds _ _ (one .of-columns .ensures) (a10 .last-round .ensures) (a9 .full-round17 .ensures) (a8 .full-round15 .ensures) (a7 .full-round13 .ensures)
+          (a6 .full-round11 .ensures) (a5 .full-round9 .ensures) (a4 .full-round7 .ensures) (a3 .full-round5 .ensures) (a2 .full-round3 .ensures)
+          (a1 .full-round .ensures) (a0 .first-key .ensures),
+      ten-rounds _ _ (c .of-columns2 .ensures) (b10 .last-round2 .ensures) (b9 .full-round18 .ensures) (b8 .full-round16 .ensures) (b7 .full-round14 .ensures)
+          (b6 .full-round12 .ensures) (b5 .full-round10 .ensures) (b4 .full-round8 .ensures) (b3 .full-round6 .ensures) (b2 .full-round4 .ensures)
+          (b1 .full-round2 .ensures) (b0 .first-key2 .ensures),
     ))  -- returns
     )

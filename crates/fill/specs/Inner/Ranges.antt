@@ -6,14 +6,20 @@ use Prim.Native.Nat.{ℕ, zero, suc, _+_, _-_, _*_, _/_, _%_, _^_, _≤_, _<_}
 use lib.Dec.{eqb, ltb}
 use Rattle.algebra.specs.Choice.{choose}
 use Rattle.field.specs.Kind.{kindOf}
+use Rattle.tree.specs.Child.{childBy}
 use Rattle.tree.specs.Columns.{columnsAt, siblingsAt}
 use Rattle.tree.specs.Added.{added, leafElement, puncturedElement}
+use Rattle.tree.specs.Inner.Keys.{keysFor}
 use Rattle.tree.specs.Inner.Branches.{IsBranch}
 use Rattle.fill.specs.declared.range.Range.{Range}
 use Rattle.fill.specs.declared.range.Path.{Path}
 use Rattle.fill.specs.declared.range.Halves.{Halves}
 
 -- ---- elements of leaves
+
+-- the children of a node under eight keys, whose round keys words hold
+abbrev pub childUnder : List (List ℕ) → ℕ → List (List ℕ) → List (List ℕ)
+childUnder keys = childBy (keysFor keys)
 
 -- the first and the second of two
 abbrev pub firstOrSecond : {A : Type 0} → A → A → ℕ → A
@@ -59,6 +65,10 @@ pub record IsRange (ρ : Range) : Type 0 where
 abbrev pub allChildren : ℕ → ℕ → Range
 allChildren g levels = record { «branch_bits» = g; levels = levels; bits = g; from = 0 }
 
+-- all children of a child of a range
+abbrev pub ofChild : Range → Range
+ofChild ρ = allChildren (ρ .«branch_bits») (ρ .levels - 1)
+
 -- half as many children, from child c on
 abbrev pub halfFrom : Range → ℕ → Range
 halfFrom ρ c = record { «branch_bits» = ρ .«branch_bits»; levels = ρ .levels; bits = ρ .bits - 1; from = c }
@@ -73,6 +83,10 @@ secondHalf ρ = halfFrom ρ (ρ .from + 2 ^ (ρ .bits - 1))
 -- the element of leaf j below a range of the children of s
 unfoldable pub rangeElement : {A E : Type 0} → (A → E) → (ℕ → A → A) → Range → A → ℕ → E
 rangeElement element child ρ s j = leafElement element (childCount ρ) child (ρ .levels) s (ρ .from * below ρ + j)
+
+-- the words after the leaves below a range of the children of s are added
+abbrev pub rangeAdded : ℕ → (ℕ → List (List ℕ) → List (List ℕ)) → Range → List (List ℕ) → List ℕ → List ℕ
+rangeAdded field child ρ s acc = added (kindOf field .field) (sizeOf ρ) (rangeElement (kindOf field .leaf) child ρ s) acc
 
 -- the words after the leaves below all children of x, and then those below all children of y, are added
 unfoldable pub bothAdded : ℕ → (ℕ → List (List ℕ) → List (List ℕ)) → Range → List (List ℕ) → List (List ℕ) → List ℕ → List ℕ
@@ -95,6 +109,10 @@ unfoldable pub runElement : {E : Type 0} → (List (List ℕ) → E) → (ℕ �
 runElement element child ρ bytes at j =
     leafElement element (childCount ρ) child (ρ .levels - 1) (columnsAt bytes (at + 16 * (ρ .from + j / below ρ))) (j % below ρ)
 
+-- the words after the leaves below a run are added
+abbrev pub runAdded : ℕ → (ℕ → List (List ℕ) → List (List ℕ)) → Range → List ℕ → ℕ → List ℕ → List ℕ
+runAdded field child ρ bytes at acc = added (kindOf field .field) (sizeOf ρ) (runElement (kindOf field .leaf) child ρ bytes at) acc
+
 -- the second half of a range as a run of siblings, where the first half holds the path: they stand one place lower
 abbrev pub above : Range → Range
 above ρ = halfFrom ρ (ρ .from + (2 ^ (ρ .bits - 1) - 1))
@@ -106,7 +124,7 @@ unfoldable pub pathIn : Path → ℕ → ℕ → Path
 pathIn path c position =
     choose (eqb (path .range .bits) 1)
     (record {
-      range = allChildren (path .range .«branch_bits») (path .range .levels - 1);
+      range = ofChild (path .range);
       position = position;
       at = path .at + 16 * (childCount (path .range) - 1);
     })
@@ -143,3 +161,9 @@ pathElement element child path bytes correction j =
     (path .range .from * below (path .range) + path .position)
     correction
     (path .range .from * below (path .range) + j)
+
+-- the words after the leaves below a range that holds the position are added: at the position the element that words begin with
+abbrev pub pathAdded : ℕ → (ℕ → List (List ℕ) → List (List ℕ)) → Path → List ℕ → List ℕ → List ℕ → List ℕ
+pathAdded field child path bytes words acc =
+    added (kindOf field .field) (sizeOf (path .range))
+    (pathElement (kindOf field .leaf) child path bytes (kindOf field .field .elements .read words 0)) acc

@@ -10,19 +10,9 @@ first-round-spec =
     (tie.spec
     (λ c. search needs)  -- element-copy-out-x
     (λ c. search needs)  -- cast-x
-    (λ c. search needs)  -- index-1-with-entry
-    (λ c. search needs)  -- index-2-with-entry
-    (λ c. search needs)  -- index-1-with-entry-2
-    (λ c. search needs)  -- index-2-with-entry-2
-    (λ c. search needs)  -- index-1-with-entry-3
-    (λ c. search needs)  -- index-2-with-entry-3
-    (λ c. search needs)  -- index-1-with-entry-4
-    (λ c. search needs)  -- index-2-with-entry-4
     (λ c κs. search needs)  -- with-entry-requires
-    (λ c. search needs)  -- array-copy-out-t35
-    (λ c. search needs)  -- array-copy-out-t38
-    (λ c. search needs)  -- array-copy-out-t41
-    (λ c.
-    let entry = c .before .before .before in
-    one-entered (entry .before .before .before .before .before .before .pre) _ (entry .with-entry .ensures))  -- returns
+    (λ c. search needs)  -- array-copy-out-t16
+    (λ c. search needs)  -- array-copy-out-t19
+    (λ c. search needs)  -- array-copy-out-t22
+    (λ c. search one-entered)  -- returns
     )

@@ -10,14 +10,15 @@ unfolding Lacks
 without-row1-spec =
     tie.close
     (tie.spec
-    (λ c. search needs)  -- mul-rows
-    (λ c. search needs)  -- element-copy-out-rows
-    (λ c. search needs)  -- add-rows
-    (λ c. search needs)  -- mul-rows-2
-    (λ c. search needs)  -- element-copy-out-rows-2
-    (λ c. search needs)  -- add-rows-2
-    (λ c. search needs)  -- mul-rows-3
-    (λ c. search needs)  -- element-copy-out-rows-3
+    (λ c. search needs)  -- index-1-entry
+    (λ c. search needs)  -- index-2-entry
+    (λ c κs. search needs)  -- entry-requires
+    (λ c. search needs)  -- index-1-entry-2
+    (λ c. search needs)  -- index-2-entry-2
+    (λ c κs. search needs)  -- entry-requires-2
+    (λ c. search needs)  -- index-1-entry-3
+    (λ c. search needs)  -- index-2-entry-3
+    (λ c κs. search needs)  -- entry-requires-3
     (λ c κs. search needs)  -- rows-requires
     (λ c. search lacks-row1)  -- returns
     )

@@ -3,7 +3,7 @@
 -- go to one output column of round 2 each.
 use mathlib.Core.Path.{_≡_}
 use mathlib.Core.List.{List, [], _∷_}
-use Prim.Native.Nat.{ℕ, _<_}
+use Prim.Native.Nat.{ℕ, _+_, _<_}
 use lib.ListN.{getD}
 use Rattle.field.specs.Bytes.{columnsOf}
 use Rattle.sbox.specs.Byte.{sBox}
@@ -17,9 +17,27 @@ use Rattle.aes128.specs.Inner.Words.{roundKeys}
 abbrev pub mixedColumn : ℕ → ℕ → ℕ → ℕ → ℕ → List ℕ
 mixedColumn a b c d k = xorWord (mixColumn (sBox a ∷ sBox b ∷ sBox c ∷ sBox d ∷ [])) (wideRows k)
 
+-- column 0, 1, 2 or 3 of a round of a state, with the round key's column k and with x for the byte that comes of column 2
+abbrev pub column0Of : List (List ℕ) → ℕ → ℕ → List ℕ
+column0Of s k x = mixedColumn (byteAt s 0 0) (byteAt s 1 1) x (byteAt s 3 3) k
+
+abbrev pub column1Of : List (List ℕ) → ℕ → ℕ → List ℕ
+column1Of s k x = mixedColumn (byteAt s 0 1) x (byteAt s 2 3) (byteAt s 3 0) k
+
+abbrev pub column2Of : List (List ℕ) → ℕ → ℕ → List ℕ
+column2Of s k x = mixedColumn x (byteAt s 1 3) (byteAt s 2 0) (byteAt s 3 1) k
+
+abbrev pub column3Of : List (List ℕ) → ℕ → ℕ → List ℕ
+column3Of s k x = mixedColumn (byteAt s 0 3) (byteAt s 1 0) (byteAt s 2 1) x k
+
 -- a column lacks only what a byte adds: with that, for any byte, it is the column
 unfoldable pub Lacks : (ℕ → List ℕ) → (ℕ → List ℕ) → List ℕ → Type 0
 Lacks mixed column w = (x : ℕ) → xorWord w (mixed x) ≡ column x
+
+-- r is column c of a state with the entry for the byte x of the table that begins at a place of t
+pub record Entered (t : List ℕ) (s : List (List ℕ)) (c at x : ℕ) (r : List ℕ) : Type 0 where
+  pub byte : x < 256
+  pub sum : r ≡ xorWord (column s c) (wideRows (getD t (at + x) 0))
 
 -- the state of the block of x and i after the first AddRoundKey and n rounds
 abbrev pub rowState : List ℕ → ℕ → ℕ → ℕ → List (List ℕ)

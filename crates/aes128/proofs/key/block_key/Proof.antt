@@ -20,5 +20,5 @@ block-key-spec =
     (λ c. search needs)  -- add-t17
     (λ c. search needs)  -- mul-t18
     (λ c. search needs)  -- add-t19
-    (λ c. let start = c .before .before .before .before .before .before .before .before .good in block-made (search needs) (search needs) (search needs) (search needs) (search needs))  -- returns
+    (λ c. search block-made)  -- returns
     )

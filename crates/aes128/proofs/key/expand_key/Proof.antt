@@ -18,5 +18,10 @@ expand-key-spec =
     (λ c κs. search needs)  -- next-key-requires-8
     (λ c κs. search needs)  -- next-key-requires-9
     (λ c κs. search needs)  -- next-key-requires-10
-    (λ c. let start = c .before .before .before .before .before .before .before .before .before .before .good in expanded (search needs) (c .before .before .before .before .before .before .before .before .before .next-key .ensures) (c .before .before .before .before .before .before .before .before .next-key2 .ensures) (c .before .before .before .before .before .before .before .next-key3 .ensures) (c .before .before .before .before .before .before .next-key4 .ensures) (c .before .before .before .before .before .next-key5 .ensures) (c .before .before .before .before .next-key6 .ensures) (c .before .before .before .next-key7 .ensures) (c .before .before .next-key8 .ensures) (c .before .next-key9 .ensures) (c .next-key10 .ensures))  -- returns
+    (λ c.
+    let k7 = c .before .before .before in
+    let k4 = k7 .before .before .before in
+    let k1 = k4 .before .before .before in
+    let size = k1 .before .good in
+    search expanded)  -- returns
     )

@@ -22,5 +22,5 @@ half-word-spec =
     (λ c κs. search needs)  -- number-requires-4
     (λ c. search needs)  -- mul-result-3
     (λ c. search needs)  -- add-result-3
-    (λ c. let start = c .before .before .before .before .good in half-made (search needs) (search needs) (search needs) (search needs) (search needs))  -- returns
+    (λ c. search half-made)  -- returns
     )

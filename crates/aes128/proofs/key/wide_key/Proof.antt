@@ -16,5 +16,5 @@ wide-key-spec =
     (λ c κs. search needs)  -- wide-column-requires-3
     (λ c. search needs)  -- array-copy-out-wide-column-4
     (λ c κs. search needs)  -- wide-column-requires-4
-    (λ c. let start = c .before .before .before .before .before .before .before .before .good in wide-key _ _ _ _ (search needs) (search needs) (search needs) (search needs) (search needs))  -- returns
+    (λ c. search wide-key)  -- returns
     )

@@ -52,5 +52,5 @@ words-of-spec =
     (λ c. (search needs, search held-next))  -- loop-again
     (λ c. search needs)  -- array-write-words-7
     (λ c. search needs)  -- array-write-words-8
-    (λ c. let start = c .before .before .before .before .before .before .good in search (needs, held-all))  -- returns
+    (λ c. search (needs, held-all))  -- returns
     )

@@ -1,4 +1,4 @@
--- `block_cipher::round::last_column` meets its contract: the tables' rules at the four bytes. Assumes nothing.
+-- `block_cipher::round::last_column` meets its contract: from the tables' entries for the four bytes. Assumes nothing.
 use borrow.Author.Needs.{needs}
 use Rattle.aes128.proofs.Last.{last-column}
 use Rattle.block_cipher.proofs.round.last_column.Statement.{statement}
@@ -8,17 +8,24 @@ pub last-column-spec : {M : Type 1} → statement M
 last-column-spec =
     tie.close
     (tie.spec
-    (λ c. search needs)  -- add-result
-    (λ c. search needs)  -- mul-result
-    (λ c. search needs)  -- element-copy-out-result
-    (λ c. search needs)  -- add-result-2
-    (λ c. search needs)  -- mul-result-2
-    (λ c. search needs)  -- element-copy-out-result-2
-    (λ c. search needs)  -- add-result-3
-    (λ c. search needs)  -- mul-result-3
-    (λ c. search needs)  -- element-copy-out-result-3
-    (λ c. search needs)  -- add-result-4
-    (λ c. search needs)  -- mul-result-4
-    (λ c. search needs)  -- element-copy-out-result-4
-    (λ c. let lent = c .before .before .before .before .pre in last-column _ _ _ _ (lent .last0 _ (search needs)) (lent .last1 _ (search needs)) (lent .last2 _ (search needs)) (lent .last3 _ (search needs)))  -- returns
+    (λ c. search needs)  -- mul-entry
+    (λ c. search needs)  -- index-1-entry
+    (λ c. search needs)  -- index-2-entry
+    (λ c κs. search needs)  -- entry-requires
+    (λ c. search needs)  -- add-entry
+    (λ c. search needs)  -- mul-entry-2
+    (λ c. search needs)  -- index-1-entry-2
+    (λ c. search needs)  -- index-2-entry-2
+    (λ c κs. search needs)  -- entry-requires-2
+    (λ c. search needs)  -- add-entry-2
+    (λ c. search needs)  -- mul-entry-3
+    (λ c. search needs)  -- index-1-entry-3
+    (λ c. search needs)  -- index-2-entry-3
+    (λ c κs. search needs)  -- entry-requires-3
+    (λ c. search needs)  -- add-entry-3
+    (λ c. search needs)  -- mul-entry-4
+    (λ c. search needs)  -- index-1-entry-4
+    (λ c. search needs)  -- index-2-entry-4
+    (λ c κs. search needs)  -- entry-requires-4
+    (λ c. search last-column)  -- returns
     )

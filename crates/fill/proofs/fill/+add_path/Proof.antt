@@ -2,7 +2,6 @@
 -- follows from siblings. The measure is what is left of the depth. Assumes nothing.
 use Prim.Native.Nat.{ℕ, _<_}
 use borrow.Author.Needs.{needs}
-use denote.Ref.{now}
 use borrow.Fn.Kinds.{In}
 use borrow.Fn.PlainCycle.{Measures, is, falls, and}
 use Rattle.fill.proofs.fill.add_path.Reads as reads
@@ -14,7 +13,8 @@ use Rattle.fill.proofs.range.parted.Reads as parted-reads
 use Rattle.fill.specs.Inner.Ranges.{leftOf}
 use Rattle.fill.proofs.Halves.{front-count, middle-fits}
 use Rattle.fill.proofs.Ranges.{wide-path, first-falls, first-path, first-run, second-falls, second-path, second-run}
-use Rattle.fill.proofs.Filled.{leaf-length, first-front, first-back, second-front, second-back, filled-correction, filled-first-holds, filled-second-holds}
+use Rattle.fill.proofs.Filled.{leaf-length, first-front, first-back, second-front, second-back}
+use Rattle.fill.proofs.Filled.{filled-correction, filled-first-holds, filled-second-holds}
 use Rattle.fill.proofs.fill.+add_path.{statement}
 use Rattle.fill.proofs.fill.+add_path.Tie.{close}
 
@@ -47,7 +47,9 @@ pub +add-path-spec : {M : Type 1} → statement M
     (λ c. search needs)  -- slice-relend-prefix-add-path
     (λ c. search front-count)  -- slice-aggregate-add-path
     (λ c κs. (search first-falls, (search needs, search first-path, search first-front)))  -- add-path-requires
-    (λ c. middle-fits (now (c .before .before .before .before .before .before .before .before .before .before .args .acc)) (c .before .before .before .before .before .before .before .before .before .before .good .1 .1 .1 .1 .1 .1 .0 .1))  -- mul-add-run
+    (λ c.
+    let good = (let b = c .before .before .before in let f = b .before .before .before in let s = f .before .before .before in s .before .good) in
+    search middle-fits)  -- mul-add-run
     (λ c. search needs)  -- sub-add-run
     (λ c. search needs)  -- part-add-run-start
     (λ c. search needs)  -- part-add-run-end
@@ -55,7 +57,9 @@ pub +add-path-spec : {M : Type 1} → statement M
     (λ c. search needs)  -- slice-relend-prefix-add-run
     (λ c. search front-count)  -- slice-aggregate-add-run
     (λ c κs. (search needs, search second-run, search second-front))  -- add-run-requires-2
-    (λ c. middle-fits (now (c .before .before .before .before .before .before .before .before .before .before .args .acc)) (c .before .before .before .before .before .before .before .before .before .before .good .1 .1 .1 .1 .1 .1 .0 .1))  -- mul-add-path
+    (λ c.
+    let good = (let b = c .before .before .before in let f = b .before .before .before in let s = f .before .before .before in s .before .good) in
+    search middle-fits)  -- mul-add-path
     (λ c. search needs)  -- sub-add-path
     (λ c. search needs)  -- part-add-path-start
     (λ c. search needs)  -- part-add-path-end

@@ -1,5 +1,5 @@
--- `fill::fill::add_range` meets its contract: the last level at once, with two children a node the last three, else the two halves of the buffer by two children, or by half as many children each. The
--- measure is what is left of the depth. Assumes nothing.
+-- `fill::fill::add_range` meets its contract: the last level at once, with two children a node the last three, else the two halves
+-- of the buffer by two children, or by half as many children each. The measure is what is left of the depth. Assumes nothing.
 use Prim.Native.Nat.{ℕ, _<_}
 use borrow.Author.Needs.{needs}
 use borrow.Fn.Kinds.{In}
@@ -63,7 +63,6 @@ pub +add-range-spec : {M : Type 1} → statement M
     (λ c. search needs)  -- part-add-range-end
     (λ c κs. (search one-falls, (search needs, search one-range, search one-back)))  -- add-range-requires-2
     (λ c. search needs)  -- sub-mid-2
-    (λ c. search needs)  -- sub-mid-3
     (λ c. search needs)  -- sub-power
     (λ c κs. search bits-few)  -- power-requires
     (λ c. search back-fits)  -- add-add-range

@@ -45,7 +45,6 @@ pub +add-run-spec : {M : Type 1} → statement M
     (λ c. search needs)  -- sub-t19
     (λ c κs. (search needs, search sibling-range, search sibling-length))  -- add-range-requires
     (λ c. search needs)  -- sub-mid
-    (λ c. search needs)  -- sub-mid-2
     (λ c. search needs)  -- sub-power
     (λ c κs. search run-few)  -- power-requires
     (λ c. search run-fits)  -- add-add-run

@@ -1,7 +1,8 @@
 -- `fill::fill::add_bottom` meets its contract: two or four children, or four and the four after them. Assumes nothing.
 use borrow.Author.Needs.{needs}
 use Rattle.fill.proofs.Halves.{front-count}
-use Rattle.fill.proofs.Bottom.{two-length, four-length, eight-front, eight-back, two-keys, four-keys, eight-front-keys, eight-back-keys, bottom-two, bottom-four, bottom-eight}
+use Rattle.fill.proofs.Bottom.{two-length, four-length, eight-front, eight-back, two-keys, four-keys}
+use Rattle.fill.proofs.Bottom.{eight-front-keys, eight-back-keys, bottom-two, bottom-four, bottom-eight}
 use Rattle.fill.proofs.fill.add_bottom.Statement.{statement}
 use Rattle.fill.proofs.fill.add_bottom.Tie as tie
 

@@ -1,4 +1,5 @@
--- `fill::zero::zero_words` meets its contract. The loop's invariant: the words before `i` are zero, the rest as they were; the measure is what is left. Assumes nothing.
+-- `fill::zero::zero_words` meets its contract. The loop's invariant: the words before `i` are zero, the rest as they were; the measure is
+-- what is left. Assumes nothing.
 use Prim.Native.Nat.{_≤_, _-_}
 use native.Mathlib.Omega.{arith}
 use lib.ListN.{length, length-set}
