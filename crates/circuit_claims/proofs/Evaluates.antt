@@ -17,9 +17,9 @@ use Rattle.number.proofs.Places.{split, either}
 use Rattle.number.specs.Reading.{Whole}
 use Rattle.circuit_claims.proofs.AndGates.{and-inside, and-before, and-one}
 use Rattle.circuit_claims.proofs.Calls.{call-before, call-at, made-at}
-use Rattle.circuit_claims.proofs.Chains.{accepted-waits, ends-written, Took, share-bits, triple-bits, took-state, took-gave}
+use Rattle.circuit_claims.proofs.Chains.{accepted-waits, ends-written, Took, share-bits, triple-bits, took-state, took-gave, first-took, next-took, took-some}
 use Rattle.circuit_claims.proofs.Joins.{joined}
-use Rattle.circuit_claims.proofs.Progresses.{phase-fresh, first-took, next-took, stands, finishes}
+use Rattle.circuit_claims.proofs.Progresses.{phase-fresh, stands, finishes}
 use Rattle.circuit_claims.proofs.Reaches.{Standing, waiting, finished, run-fresh, run-waits, run-ends, fresh-length, fresh-at}
 use Rattle.circuit_claims.proofs.Transcripts.{Same, outputs-same, masked-same, share-same, shares-keep, shares-hold}
 use Rattle.circuit_claims.specs.Evaluation.{Unaltered, Receives, Evaluation}
@@ -128,11 +128,7 @@ module _ (circuit : List ℕ) (c : Circuit) (read : readCircuit circuit ≡ Whol
       }
 
   pub stood : (k : ℕ) (m : StepMade) → IsStep (stepsOf calls) k m → Stood k m
-  stood zero m e = let t = first-took circuit c read calls on-circuit e in of-took zero m e fresh (t .0) (t .1)
-  stood (suc k) m e =
-      let b = call-before k (stepsOf calls) e in
-      let t = next-took circuit c read calls on-circuit k (b .1) e in
-      of-took (suc k) m e (b .0 .gave .state) (t .0) (t .1)
+  stood k m e = let t = took-some circuit c read calls on-circuit k m e in of-took k m e (t .0) (t .1) (t .2)
 
   pub ok : AdmittedCircuit c
   ok = admitted circuit c read

@@ -28,7 +28,7 @@ use Rattle.number.proofs.Records.{read-refused, read-whole}
 use Rattle.circuit_run.proofs.Gates.{gatesOf}
 use Rattle.circuit_run.proofs.Numbers.{state-phase}
 use Rattle.circuit_run.specs.Inner.Places.{Spots, Tested, Checks, Stops, givenAnd, proceeded, steppedWith, acceptedOn}
-use Rattle.circuit_run.specs.Inner.Tests.{askedTests}
+use Rattle.circuit_run.specs.Inner.StepTests.{askedTests}
 use Rattle.circuit_run.specs.Step.{StepLent, lentWith, StepOutcome, stepOutcome, stepped, stepStateWith, stepTests, gateAt, freshWires, runOn}
 use Rattle.circuit_run.specs.Step.{maskedFirst, maskedSecond, waitingShare, withAnd, stateAfter, withOutputs, acceptedStep, refusedStep, step}
 use Rattle.circuit_run.specs.declared.StepState.{StepState}

@@ -27,13 +27,13 @@ use Rattle.circuit_run.specs.Step.{gateAt, andsBefore, tripleFirst, tripleSecon
 use Rattle.number.proofs.Places.{either}
 use Rattle.number.specs.Inner.Known.{isWhole}
 use Rattle.number.specs.Reading.{Whole}
-use Rattle.circuit_round.proofs.Gates.{share-at, byte-is, same-at, byte-no-wait, byte-few}
-use Rattle.circuit_round.proofs.Opened.{gate-below, adds, opened-more, share-kept, opened-kept, two-more}
-use Rattle.circuit_round.proofs.Waiting.{waitingUpTo, waiting-none, waiting-more, waiting-upto, wait-small}
-use Rattle.circuit_round.specs.Inner.Gates.{AndHas, byteBy, placeAfter, putBits}
-use Rattle.circuit_round.specs.Inner.Passes.{CanPass, Passes, passedOn}
-use Rattle.circuit_round.specs.Inner.Tests.{waitOf}
-use Rattle.circuit_round.specs.Round.{waiting, waits, waitingIn, gateByte, openedBits, bitsToSend}
+use Rattle.circuit_run.proofs.RoundGates.{share-at, byte-is, same-at, byte-no-wait, byte-few}
+use Rattle.circuit_run.proofs.Opened.{gate-below, adds, opened-more, share-kept, opened-kept, two-more}
+use Rattle.circuit_run.proofs.Waiting.{waitingUpTo, waiting-none, waiting-more, waiting-upto, wait-small}
+use Rattle.circuit_run.specs.Inner.RoundGates.{AndHas, byteBy, placeAfter, putBits}
+use Rattle.circuit_run.specs.Inner.RoundPasses.{CanPass, Passes, passedOn}
+use Rattle.circuit_run.specs.Inner.RoundTests.{waitOf}
+use Rattle.circuit_run.specs.Round.{waiting, waits, waitingIn, gateByte, openedBits, bitsToSend}
 
 -- the byte that a gate gets
 abbrev make : List ℕ → ℕ → List ℕ → List ℕ → List ℕ → Gate → List ℕ → ℕ

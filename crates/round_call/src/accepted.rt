@@ -2,8 +2,8 @@
 ghost use mathlib.Core.Path.{_≡_};
 ghost use lib.ListN.{length};
 ghost use Rattle.circuit.specs.Answer.{content};
-ghost use Rattle.circuit_round.specs.Inner.Passes.{Tested, acceptedOn};
-ghost use Rattle.circuit_round.specs.Round.{roundWith, roundOutcome, stateWith};
+ghost use Rattle.circuit_run.specs.Inner.RoundPasses.{Tested, acceptedOn};
+ghost use Rattle.circuit_run.specs.Round.{roundWith, roundOutcome, stateWith};
 use crate::input::Frame;
 use crate::passing::pass_gates;
 use crate::passing::take_inputs;

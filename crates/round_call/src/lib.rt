@@ -1,7 +1,7 @@
 // A round of an end's run of a circuit: opens every AND whose wires are known.
 ghost use mathlib.Core.Path.{_≡_};
-ghost use Rattle.circuit_round.specs.Inner.Passes.{roundedWith};
-ghost use Rattle.circuit_round.specs.Round.{roundWith, rounded, round, stateWith};
+ghost use Rattle.circuit_run.specs.Inner.RoundPasses.{roundedWith};
+ghost use Rattle.circuit_run.specs.Round.{roundWith, rounded, round, stateWith};
 
 mod accepted;
 mod input;
@@ -12,8 +12,8 @@ use accepted::accepted_round;
 use circuit::Answer;
 use circuit::circuit_fault;
 use circuit::read_circuit;
-use circuit_round::RoundState;
-use circuit_round::Rounded;
+use circuit_run::RoundState;
+use circuit_run::Rounded;
 use input::Frame;
 use input::round_number;
 use input::waiting_gates;

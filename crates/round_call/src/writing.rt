@@ -5,8 +5,8 @@ ghost use Prim.Native.Nat.{_+_, _*_, _<_, _≤_};
 ghost use lib.ListN.{length, drop};
 ghost use Rattle.circuit.specs.Answer.{content, HasLayout};
 ghost use Rattle.circuit.specs.Value.{atWires};
-ghost use Rattle.circuit_round.specs.Inner.Gates.{placeAfter, putBits};
-ghost use Rattle.circuit_round.specs.Round.{sharesIn};
+ghost use Rattle.circuit_run.specs.Inner.RoundGates.{placeAfter, putBits};
+ghost use Rattle.circuit_run.specs.Round.{sharesIn};
 use circuit::Layout;
 use circuit::known_wire;
 

@@ -15,7 +15,7 @@ use Rattle.circuit.specs.declared.Layout.{Layout}
 use Rattle.number.specs.Reading.{Whole}
 use Rattle.circuit_run.specs.Step.{gateAt, andsBefore, firstWire, secondWire, tripleFirst, tripleSecond, tripleThird, stateAdmitted, flipped}
 use Rattle.circuit_run.specs.Step.{andShare, freshWires, runOn, stepStateWith, StepLent, StepOutcome, stateAfter, acceptedStep}
-use Rattle.circuit_run.specs.Inner.Tests.{askedTests}
+use Rattle.circuit_run.specs.Inner.StepTests.{askedTests}
 use Rattle.circuit_run.specs.declared.places.Checked.{Checked}
 use Rattle.circuit_run.specs.declared.places.Asked.{Asked}
 use Rattle.circuit_run.specs.declared.places.Place.{Place}

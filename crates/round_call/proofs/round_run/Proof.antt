@@ -1,6 +1,6 @@
 -- `round_call::round_run` meets its contract: one law for each return. Assumes nothing.
 use Rattle.circuit_run.proofs.Steps.{layout-read}
-use Rattle.circuit_round.proofs.Rounds.{circuit-refused, layout-most, round-refused, round-tested, round-accepted}
+use Rattle.circuit_run.proofs.Rounds.{circuit-refused, layout-most, round-refused, round-tested, round-accepted}
 use borrow.Author.Needs.{needs, length-unmapped}
 use Rattle.round_call.proofs.round_run.Statement.{statement}
 use Rattle.round_call.proofs.round_run.Tie as tie
