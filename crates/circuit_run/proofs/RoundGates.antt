@@ -18,6 +18,7 @@ use Rattle.circuit_run.proofs.Gates.{kind-range, by-1, by-2, by-3}
 use Rattle.circuit_run.specs.Step.{gateAt, andsBefore, maskedFirst, maskedSecond}
 use Rattle.number.proofs.Places.{split, either, choose-yes, choose-no}
 use Rattle.circuit_run.proofs.Waiting.{wait-small}
+use Rattle.circuit_run.specs.Inner.Places.{openedWith}
 use Rattle.circuit_run.specs.Inner.RoundGates.{openedBy, andByteBy, localByteBy, byteBy}
 use Rattle.circuit_run.specs.Inner.RoundPasses.{passedOn}
 use Rattle.circuit_run.specs.Inner.RoundTests.{waitOf}
@@ -43,7 +44,7 @@ module _ (c : Circuit) (l : RoundLent) (i p a : ℕ) (bytes : List ℕ) {x : ℕ
     xor-is w = rw (share-at bytes a, share-at bytes b, first, second) (both (isKnown x) (isKnown y) _)
 
     share-is : gateAt c i ≡ And a b → openedShare c l i p bytes ≡ openedBy (l .role) x y (l .triples) (andsBefore c i) (l .far) p
-    unfolding openedShare maskedFirst maskedSecond openedBy
+    unfolding openedShare maskedFirst maskedSecond openedBy openedWith
     share-is g = rw (g, share-at bytes a, share-at bytes b, first, second)
 
     opens-is : choose {A = ℕ} (isKnown (getD bytes a 0) && isKnown (getD bytes b 0)) 1 0 ≡ choose (isKnown x) (choose (isKnown y) 1 0) 0

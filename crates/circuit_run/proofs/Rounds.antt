@@ -23,7 +23,7 @@ use Rattle.number.proofs.Places.{choose-yes, choose-no}
 use Rattle.number.proofs.Records.{read-refused, read-whole}
 use Rattle.circuit_run.proofs.RoundGates.{gates-same}
 use Rattle.circuit_run.proofs.Inputs.{inputs-length}
-use Rattle.circuit_run.specs.Inner.RoundPasses.{CanPass, Passes, passedOn, Tested, acceptedOn, roundedWith}
+use Rattle.circuit_run.specs.Inner.RoundPasses.{CanPass, Passes, passedOn, waitingBy, Tested, Checks, acceptedOn, roundedWith}
 use Rattle.circuit_run.specs.Inner.RoundTests.{askedTests}
 use Rattle.circuit_run.specs.Round.{RoundLent, roundWith, RoundOutcome, roundOutcome, rounded, sharesIn, stateWith, waiting, waitingIn, roundTests, inputBytes, gateByte, wiresAfter, bitsToSend, withBits, withOutputs, acceptedRound, refusedRound, round}
 use Rattle.circuit_run.specs.declared.RoundState.{RoundState}
@@ -35,8 +35,14 @@ empty : (l : List ℕ) → length l ≡ 0 → l ≡ []
 empty [] e = refl
 empty (x ∷ l) e = absurd (omega arith)
 
+-- how many gates wait, by the circuit and by its layout
+counted-is : {s : List ℕ} {f : Layout} → HasLayout s f → (bytes : List ℕ) {waits : ℕ} → waits ≡ waitingBy f bytes → waits ≡ waitingIn (content s) bytes
+counted-is {s} {f} o bytes counted =
+    counted ∙ ap (λ (k : ℕ). waiting (take k (drop (f .inputs) bytes))) (o .gates)
+    ∙ ap (λ (k : ℕ). waiting (take (length (content s .gates)) (drop k bytes))) (o .inputs)
+
 module _ {s : List ℕ} {f : Layout} {shares triples : List ℕ} (output : List ℕ) {far : List ℕ} (bits : List ℕ) {before : List ℕ}
-    (t : Tested s f shares triples (length output) far (length bits) before) where
+    (o : HasLayout s f) (t : Tested f shares triples (length output) far (length bits) before) where
   abbrev c : Circuit
   c = content s
 
@@ -53,19 +59,20 @@ module _ {s : List ℕ} {f : Layout} {shares triples : List ℕ} (output : List 
         ∙ ap (λ (n : ℕ). drop n before) (t .inputs)
 
     same : drop (c .inputs) taken ≡ drop (c .inputs) before
-    same = subst (λ (n : ℕ). drop n taken ≡ drop n before) (t .layout .inputs) back
+    same = subst (λ (n : ℕ). drop n taken ≡ drop n before) (o .inputs) back
 
     pub can-pass : CanPass s f triples far (length bits) taken
     can-pass =
         record {
           enough = t .enough;
-          places = t .places ∙ ap (λ (d : List ℕ). 2 * waiting (take (length (c .gates)) d)) (sym same);
+          places =
+              t .places ∙ ap (λ (n : ℕ). 2 * n) (counted-is o before refl) ∙ ap (λ (d : List ℕ). 2 * waiting (take (length (c .gates)) d)) (sym same);
           tripleBits = t .tripleBits;
           farBits = t .farBits;
           room = t .bits;
           long =
               ap length e ∙ length-append (inputBytes shares before) (drop (length shares) before)
-              ∙ omega (arith, size, t .inputs, length-drop (length shares) before, t .long, t .layout .most);
+              ∙ omega (arith, size, t .inputs, length-drop (length shares) before, t .long, o .most);
         }
 
     module _ {role q : ℕ} {bits′ wires : List ℕ} (p : Passes s f role triples far bits taken q bits′ wires) where
@@ -75,14 +82,14 @@ module _ {s : List ℕ} {f : Layout} {shares triples : List ℕ} (output : List 
       wires-are : wires ≡ wiresAfter c l before
       unfolding wiresAfter
       wires-are =
-          let n : f .inputs + f .gates ≡ c .inputs + length (c .gates) = omega (arith, t .layout .inputs, t .layout .gates) in
+          let n : f .inputs + f .gates ≡ c .inputs + length (c .gates) = omega (arith, o .inputs, o .gates) in
           let make = gateByte c (passedOn role s triples far) taken in
           let rest : drop (f .inputs + f .gates) taken ≡ drop (f .inputs + f .gates) before =
           sym (drop-drop (f .gates) (f .inputs) taken) ∙ ap (drop (f .gates)) back ∙ drop-drop (f .gates) (f .inputs) before in
           p .bytes
           ∙ ap (λ (y : List ℕ). overGates make (c .gates) y ++ drop (f .inputs + f .gates) taken) layout
           ∙ ap (λ (y : List ℕ). y ++ drop (f .inputs + f .gates) taken)
-          (gates-same c role s shares triples output far bits before taken same (c .gates) (inputBytes shares before) (omega (arith, size, t .layout .inputs)))
+          (gates-same c role s shares triples output far bits before taken same (c .gates) (inputBytes shares before) (omega (arith, size, o .inputs)))
           ∙ ap (λ (y : List ℕ). overGates (gateByte c l before) (c .gates) (inputBytes shares before) ++ y)
           (rest ∙ ap (λ (k : ℕ). drop k before) n)
 
@@ -91,15 +98,14 @@ module _ {s : List ℕ} {f : Layout} {shares triples : List ℕ} (output : List 
           ≡ acceptedOn (content s) (roundWith role s shares triples output far bits) before
       unfolding acceptedOn acceptedRound withOutputs
       round-finishes none {x} w =
-          let o = t .layout .outputs in
           let kept : bits′ ≡ bits =
           p .sent ∙ ap (λ (y : List ℕ). y ++ drop q bits) (empty (bitsToSend c triples wires) (sym (p .counted) ∙ none)) ∙ ap (λ (n : ℕ). drop n bits) none in
           let g : roundWith role s shares triples x far bits′ ≡ withOutputs c l wires =
           ap (λ (y : List ℕ). roundWith role s shares triples x far y) kept
           ∙ ap (λ (y : List ℕ). roundWith role s shares triples y far bits)
-          (w ∙ ap (λ (n : ℕ). atWires (sharesIn wires) (c .outputs) ++ drop n output) o) in
+          (w ∙ ap (λ (n : ℕ). atWires (sharesIn wires) (c .outputs) ++ drop n output) (o .outputs)) in
           ap (λ (y : RoundLent). roundOutcome 0 (f .outputs) 0 (stateWith wires) y) g
-          ∙ ap (λ (n : ℕ). roundOutcome 0 n 0 (stateWith wires) (withOutputs c l wires)) o
+          ∙ ap (λ (n : ℕ). roundOutcome 0 n 0 (stateWith wires) (withOutputs c l wires)) (o .outputs)
           ∙ sym (choose-yes {A = RoundOutcome} (roundOutcome 0 (length (c .outputs)) 0 (stateWith wires) (withOutputs c l wires)) _
           (eq-eqb (waitingIn c wires) 0 (omega (arith, p .waited))))
           ∙ ap (acceptedRound c l) wires-are
@@ -121,8 +127,9 @@ module _ {s : List ℕ} {f : Layout} {shares triples : List ℕ} (output : List 
 
 -- ---- the call
 
-pub layout-most : (s : List ℕ) (r : Answer) {f : Layout} → CircuitRead s r → r ≡ Accepted f → f .inputs + f .gates ≤ 4096
-layout-most s r h e = layout-read {s = s} {r = r} h e .most
+-- the answer's case first: it says of which answer the layout is
+pub layout-most : (s : List ℕ) {r : Answer} {f : Layout} → r ≡ Accepted f → CircuitRead s r → f .inputs + f .gates ≤ 4096
+layout-most s {r} e h = layout-read {s = s} {r = r} h e .most
 
 -- a circuit that is refused
 pub circuit-refused : (role : ℕ) {s : List ℕ} (shares triples output far bits : List ℕ) {state : RoundState} {r : Answer} {j k : ℕ} {answer : Rounded}
@@ -134,38 +141,40 @@ circuit-refused role {s} shares triples output far bits {state} {r} {j} {k} {ans
     read-refused (readCircuit s) (refusedRound l state) _ (rounded answer l) j (subst (CircuitRead s) e h)
     (ap (λ (x : Rounded). rounded x l) w ∙ ap (refusedRound l state) (n ∙ ap circuitFault e))
 
-counted-is : {s : List ℕ} {f : Layout} → HasLayout s f → (bytes : List ℕ) {waits : ℕ} → waits ≡ waiting (take (f .gates) (drop (f .inputs) bytes))
-    → waits ≡ waitingIn (content s) bytes
-counted-is {s} {f} o bytes counted =
-    counted ∙ ap (λ (k : ℕ). waiting (take k (drop (f .inputs) bytes))) (o .gates)
-    ∙ ap (λ (k : ℕ). waiting (take (length (content s .gates)) (drop k bytes))) (o .inputs)
-
-pub round-tested : {s : List ℕ} {f : Layout} (o : HasLayout s f) (role : ℕ) (shares triples : List ℕ) (room : ℕ) (far : List ℕ) (space : ℕ)
-    (before : List ℕ) {waits n : ℕ} → waits ≡ waiting (take (f .gates) (drop (f .inputs) before)) → n ≡ firstFault (askedTests f waits role shares triples far room space) → n ≡ 0
-    → length before ≡ 4096 → Tested s f shares triples room far space before
-round-tested {s} {f} o role shares triples room far space before {waits} {n} counted number none long =
-    let m = admitted-by (askedTests f waits role shares triples far room space) n refl number none in
+-- the tests together
+pub checks : (f : Layout) (role : ℕ) (shares triples : List ℕ) (room : ℕ) (far : List ℕ) (space : ℕ) (before : List ℕ) {waits n : ℕ}
+    → waits ≡ waitingBy f before → n ≡ firstFault (askedTests f waits role shares triples far room space) → length before ≡ 4096
+    → Checks f role shares triples room far space before n
+checks f role shares triples room far space before {waits} {n} counted number long =
     record {
-      layout = o;
-      inputs = omega (arith, m .all);
-      places = omega (arith, m .all, counted-is o before counted);
-      outputs = omega (arith, m .all);
-      bits = omega (arith, m .all);
-      shareBits = search (m .all);
-      tripleBits = search (m .all);
-      farBits = search (m .all);
-      enough = omega (arith, m .all);
-      long = long;
+      number = number ∙ ap (λ (k : ℕ). firstFault (askedTests f k role shares triples far room space)) counted;
+      tested =
+          λ none.
+          let m = admitted-by (askedTests f waits role shares triples far room space) n refl number none in
+          record {
+            inputs = omega (arith, m .all);
+            places = omega (arith, m .all, counted);
+            outputs = omega (arith, m .all);
+            bits = omega (arith, m .all);
+            shareBits = search (m .all);
+            tripleBits = search (m .all);
+            farBits = search (m .all);
+            enough = omega (arith, m .all);
+            long = long;
+          };
     }
 
-module _ (role : ℕ) {s : List ℕ} (shares triples output far bits : List ℕ) (state : RoundState) {f : Layout} (o : HasLayout s f) {waits n : ℕ}
-    (counted : waits ≡ waiting (take (f .gates) (drop (f .inputs) (state .wires))))
-    (number : n ≡ firstFault (askedTests f waits role shares triples far (length output) (length bits))) where
+pub checked-tested : {f : Layout} {role : ℕ} {shares triples : List ℕ} {room : ℕ} {far : List ℕ} {space : ℕ} {before : List ℕ} {n : ℕ}
+    → Checks f role shares triples room far space before n → n ≡ 0 → Tested f shares triples room far space before
+checked-tested ch none = ch .tested none
+
+module _ (role : ℕ) {s : List ℕ} (shares triples output far bits : List ℕ) (state : RoundState) {f : Layout} (o : HasLayout s f) {n : ℕ}
+    (ch : Checks f role shares triples (length output) far (length bits) (state .wires) n) where
   abbrev lent : RoundLent
   lent = roundWith role s shares triples output far bits
 
   number-is : n ≡ firstFault (roundTests (content s) lent (state .wires))
-  number-is = number ∙ rw (o .inputs, o .outputs, o .ands, counted-is o (state .wires) counted)
+  number-is = ch .number ∙ rw (counted-is o (state .wires) refl, o .inputs, o .outputs, o .ands)
 
   round-by : (x : RoundOutcome)
       → x ≡ answered (roundTests (content s) lent (state .wires)) (refusedRound lent state) (acceptedOn (content s) lent (state .wires)) → x ≡ round lent state

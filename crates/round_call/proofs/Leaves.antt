@@ -1,7 +1,7 @@
 -- Each return of the small functions gives what the definition says there. Assumes nothing.
 use Prim.Native.Nat.{ℕ, _+_, _*_, _%_, _≤_, _<_}
 use mathlib.Core.List.{List}
-use mathlib.Core.Path.{_≡_}
+use mathlib.Core.Path.{_≡_, ap}
 use borrow.Author.Tests.{lt-leb, le-leb, eq-eqb, ne-eqb}
 use native.Mathlib.Omega.{arith}
 use lib.Bits.{bitXor}
@@ -9,8 +9,10 @@ use lib.ListN.{length, getD, set, length-set}
 use mir.Syntax.{w8}
 use mir.Val.{Fits}
 use Rattle.circuit_run.proofs.Bits.{xor-bit, flipped-bit, share-bit}
-use Rattle.circuit_run.specs.Step.{flipped, andShare}
-use Rattle.circuit_run.specs.Inner.RoundGates.{inputByte, AndHas, openedBy, andByteBy, localByteBy, byteBy, placeAfter, putBits}
+use Rattle.circuit_run.specs.Step.{flipped}
+use Rattle.circuit_run.specs.Inner.RoundGates.{inputByte, AndHas, openedBy, andByteBy, localByteBy, byteBy, CanPut, placeAfter, putBits}
+use Rattle.circuit_run.specs.Inner.Places.{openedWith}
+use Rattle.circuit_run.specs.Round.{knownAs}
 use Rattle.circuit_run.specs.Inner.RoundTests.{waitOf}
 
 -- ---- bytes
@@ -34,28 +36,26 @@ share-small x = omega arith
 -- ---- an AND
 
 module _ (role x y : ℕ) (triples : List ℕ) (ands : ℕ) (far : List ℕ) (passed : ℕ) {r : ℕ}
-    (e : r ≡ andShare role
-    (bitXor (bitXor (x % 2) (getD triples (ands * 3) 0)) (getD far (2 * passed) 0))
-    (bitXor (bitXor (y % 2) (getD triples (ands * 3 + 1) 0)) (getD far (2 * passed + 1) 0))
-    (getD triples (ands * 3) 0) (getD triples (ands * 3 + 1) 0) (getD triples (ands * 3 + 2) 0)) where
-  pub opened-is : r ≡ openedBy role x y triples ands far passed
+    (e : r ≡ openedWith role (x % 2) (y % 2) triples ands (getD far (2 * passed) 0) (getD far (2 * passed + 1) 0)) where
+  pub opened-is : 2 + r ≡ knownAs (openedBy role x y triples ands far passed)
   unfolding openedBy
-  opened-is = e
+  opened-is = ap knownAs e
 
-  pub opened-bit : AndHas triples ands far passed → r ≤ 1
-  opened-bit h =
+  pub opened-fits : AndHas triples ands far passed → Fits w8 (2 + r)
+  unfolding openedWith
+  opened-fits h =
       let t = h .tripleBits in
       let b =
       share-bit role (xor-bit (xor-bit (share-small x) (t (ands * 3))) (h .farBits (2 * passed)))
       (xor-bit (xor-bit (share-small y) (t (ands * 3 + 1))) (h .farBits (2 * passed + 1)))
       (t (ands * 3)) (t (ands * 3 + 1)) (t (ands * 3 + 2)) in
-      omega (arith, b, e)
+      record { fits = omega (arith, b, e) }
 
 module _ (role byte x y : ℕ) (triples : List ℕ) (ands : ℕ) (far : List ℕ) (passed : ℕ) where
   pub and-has : (byte ≡ 1 → AndHas triples ands far passed) → byte ≡ 1 → AndHas triples ands far passed
   and-has h e = h e
 
-  pub and-takes : byte ≡ 1 → {r : ℕ} → r ≡ openedBy role x y triples ands far passed → 2 + r ≡ andByteBy role byte x y triples ands far passed
+  pub and-takes : byte ≡ 1 → {r : ℕ} → r ≡ knownAs (openedBy role x y triples ands far passed) → r ≡ andByteBy role byte x y triples ands far passed
   unfolding andByteBy
   and-takes e w = rw (eq-eqb byte 1 e, w)
 
@@ -140,16 +140,15 @@ module _ (byte : ℕ) where
     unfolding putBits
     bits-put x y triples ands place bits = rw (eq-eqb byte 1 e)
 
-    module _ (triples : List ℕ) (ands : ℕ) (h : byte ≡ 1 → ands * 3 + 1 < length triples) where
+    module _ {triples : List ℕ} {ands : ℕ} {bits : List ℕ} {place : ℕ} (h : CanPut byte triples ands bits place) where
       pub first-bit : ands * 3 < length triples
-      first-bit = omega (arith, h e)
+      first-bit = omega (arith, h .triple e)
 
       pub second-bit : ands * 3 + 1 < length triples
-      second-bit = h e
+      second-bit = h .triple e
 
-    module _ (bits : List ℕ) (place : ℕ) (h : byte ≡ 1 → place + 1 < length bits) where
       pub first-room : place < length bits
-      first-room = omega (arith, h e)
+      first-room = omega (arith, h .room e)
 
       pub second-room : (x : ℕ) → place + 1 < length (set bits place x)
-      second-room x = simp length-set (h e)
+      second-room x = simp length-set (h .room e)

@@ -15,8 +15,7 @@ use circuit::read_circuit;
 use circuit_run::RoundState;
 use circuit_run::Rounded;
 use input::Frame;
-use input::round_number;
-use input::waiting_gates;
+use input::check;
 
 // A refused round: zeros, and the state as it was.
 fn refused(number: u32, state: RoundState) -> Rounded
@@ -53,11 +52,13 @@ pub fn round_run(
         return refused(circuit_fault(read), state);
     };
     let mut wires = state.wires;
-    let waits = waiting_gates(&wires, layout.inputs, layout.gates);
-    let number = round_number(
-        layout,
-        waits,
-        role,
+    let frame = Frame {
+        layout: layout,
+        role: role,
+    };
+    let number = check(
+        frame,
+        &wires,
         shares,
         triples,
         far_bits,
@@ -67,10 +68,6 @@ pub fn round_run(
     if number != 0 {
         return refused(number, state);
     }
-    let frame = Frame {
-        layout: layout,
-        role: role,
-    };
     let lengths = accepted_round(
         circuit,
         frame,

@@ -1,11 +1,13 @@
 -- Each return of the small functions gives what the definition says there. Assumes nothing.
-use Prim.Native.Nat.{ℕ, _≤_, _<_}
+use Prim.Native.Nat.{ℕ, _+_, _*_, _≤_, _<_}
 use mathlib.Core.Bool.{Bool, true, false, not}
+use mathlib.Core.List.{List}
 use mathlib.Core.Path.{_≡_}
 use borrow.Author.Tests.{lt-leb, le-leb, eq-eqb, ne-eqb}
 use lib.Bits.{bitXor, bitAnd}
 use lib.Dec.{leb, eqb}
-use Rattle.circuit_run.specs.Inner.Places.{localShare}
+use lib.ListN.{getD}
+use Rattle.circuit_run.specs.Inner.Places.{localShare, openedWith}
 use Rattle.circuit_run.specs.Step.{farAdmitted, isRole, flipped, andShare}
 
 -- ---- far bits and role
@@ -43,12 +45,20 @@ local-xor role kind x y e = simp (eq-eqb _ _ e)
 pub local-not : (role kind x y r : ℕ) → (kind ≡ 1 → ⊥) → r ≡ flipped role x → r ≡ localShare role kind x y
 local-not role kind x y r n e = simp (ne-eqb _ _ n) e
 
-module _ (role d e first second third : ℕ) where
-  pub and-one : role ≡ 1
-      → bitXor (bitXor (bitXor third (bitAnd d second)) (bitAnd e first)) (bitAnd d e) ≡ andShare role d e first second third
-  unfolding andShare
-  and-one r = simp (eq-eqb _ _ r)
+module _ (role x y : ℕ) (triples : List ℕ) (ands first second : ℕ) where
+  abbrev d : ℕ
+  d = bitXor (bitXor x (getD triples (ands * 3) 0)) first
 
-  pub and-other : (role ≡ 1 → ⊥) → bitXor (bitXor third (bitAnd d second)) (bitAnd e first) ≡ andShare role d e first second third
-  unfolding andShare
-  and-other n = simp (ne-eqb _ _ n)
+  abbrev e : ℕ
+  e = bitXor (bitXor y (getD triples (ands * 3 + 1) 0)) second
+
+  abbrev sum : ℕ
+  sum = bitXor (bitXor (getD triples (ands * 3 + 2) 0) (bitAnd d (getD triples (ands * 3 + 1) 0))) (bitAnd e (getD triples (ands * 3) 0))
+
+  pub and-one : role ≡ 1 → bitXor sum (bitAnd d e) ≡ openedWith role x y triples ands first second
+  unfolding openedWith andShare
+  and-one r = rw (eq-eqb _ _ r)
+
+  pub and-other : (role ≡ 1 → ⊥) → sum ≡ openedWith role x y triples ands first second
+  unfolding openedWith andShare
+  and-other n = rw (ne-eqb _ _ n)

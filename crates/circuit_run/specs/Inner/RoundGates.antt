@@ -1,11 +1,13 @@
 -- Inner: no promise cites this file. The byte of one wire, from the bytes that the code has.
 use Prim.Native.Nat.{ℕ, _+_, _*_, _≤_, _<_}
 use mathlib.Core.List.{List}
+use mathlib.Core.Path.{_≡_}
 use lib.Bits.{bitXor}
 use lib.Dec.{eqb}
 use lib.ListN.{length, getD, set}
 use Rattle.algebra.specs.Choice.{choose}
-use Rattle.circuit_run.specs.Step.{flipped, tripleFirst, tripleSecond, tripleThird, andShare}
+use Rattle.circuit_run.specs.Inner.Places.{openedWith}
+use Rattle.circuit_run.specs.Step.{flipped, tripleFirst, tripleSecond}
 use Rattle.circuit_run.specs.Round.{waits, isKnown, shareOf, knownAs}
 
 -- an input's
@@ -22,10 +24,7 @@ pub record AndHas (triples : List ℕ) (ands : ℕ) (far : List ℕ) (passed : �
 -- the share of an AND that waits, its wires' bytes x and y
 unfoldable pub openedBy : ℕ → ℕ → ℕ → List ℕ → ℕ → List ℕ → ℕ → ℕ
 openedBy role x y triples ands far passed =
-    andShare role
-    (bitXor (bitXor (shareOf x) (tripleFirst triples ands)) (getD far (2 * passed) 0))
-    (bitXor (bitXor (shareOf y) (tripleSecond triples ands)) (getD far (2 * passed + 1) 0))
-    (tripleFirst triples ands) (tripleSecond triples ands) (tripleThird triples ands)
+    openedWith role (shareOf x) (shareOf y) triples ands (getD far (2 * passed) 0) (getD far (2 * passed + 1) 0)
 
 -- of an AND that is not known
 unfoldable pub andByteBy : ℕ → ℕ → ℕ → ℕ → List ℕ → ℕ → List ℕ → ℕ → ℕ
@@ -43,6 +42,13 @@ localByteBy role kind x y =
 unfoldable pub byteBy : ℕ → ℕ → ℕ → ℕ → ℕ → List ℕ → ℕ → List ℕ → ℕ → ℕ
 byteBy role kind byte x y triples ands far passed =
     choose (isKnown byte) byte (choose (eqb kind 2) (andByteBy role byte x y triples ands far passed) (localByteBy role kind x y))
+
+-- what the bits of a gate rest on: if it waits, its triple and room for them
+pub record CanPut (byte : ℕ) (triples : List ℕ) (ands : ℕ) (bits : List ℕ) (place : ℕ) : Type 0 where
+  pub few : ands ≤ 4096
+  pub low : place ≤ 8192
+  pub triple : byte ≡ 1 → ands * 3 + 1 < length triples
+  pub room : byte ≡ 1 → place + 1 < length bits
 
 -- the place after the bits of a gate, and the bits with those of a gate
 abbrev pub placeAfter : ℕ → ℕ → ℕ

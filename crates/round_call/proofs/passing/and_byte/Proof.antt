@@ -8,8 +8,7 @@ pub and-byte-spec : {M : Type 1} → statement M
 and-byte-spec =
     tie.close
     (tie.spec
-    (λ c κs. search and-has)  -- opened-share-requires
-    (λ c. search needs)  -- add-result
+    (λ c κs. search and-has)  -- opened-byte-requires
     (λ c. search and-takes)  -- returns
     (λ c. search and-first)  -- returns-2
     (λ c. search and-second)  -- returns-3
