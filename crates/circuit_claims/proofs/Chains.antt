@@ -1,21 +1,16 @@
 -- What an accepted step gives, and the accepted steps of a run one after the other. Assumes nothing.
-use Prim.Native.Nat.{ℕ, suc, _≤_}
-use mathlib.Core.Bool.{Bool, true, false}
-use mathlib.Core.List.{List}
+use Prim.Native.Nat.{ℕ, _≤_}
+use mathlib.Core.Bool.{true}
 use mathlib.Core.Path.{_≡_, refl, sym, ap, _∙_}
 use borrow.Author.Tests.{eq-eqb, ne-eqb}
 use lib.Dec.{eqb}
 use lib.ListN.{length, getD, drop, length-map}
 use lib.Seq.{take-at}
-use Rattle.algebra.specs.Choice.{choose}
 use Rattle.circuit.specs.Content.{Circuit}
-use Rattle.circuit.specs.Reading.{readCircuit}
 use Rattle.circuit.specs.Value.{atWires}
 use Rattle.number.proofs.Places.{choose-yes, choose-no}
-use Rattle.number.specs.Reading.{Whole}
-use Rattle.circuit_claims.proofs.CircuitCalls.{CircuitCall, CallLaws, Had, first-had, next-had, had-some}
-use Rattle.circuit_claims.specs.Progress.{OnCircuit}
-use Rattle.circuit_claims.specs.Runs.{fresh, StepMade, stepsOf, IsStep, writtenBy}
+use Rattle.circuit_claims.proofs.CircuitCalls.{either-way, CircuitCall, CallLaws, Had}
+use Rattle.circuit_claims.specs.Runs.{writtenBy}
 use Rattle.circuit_run.proofs.Numbers.{far-bits}
 use Rattle.circuit_run.specs.Step.{StepLent, StepOutcome, stepOutcome, stateAdmitted, stepTests, stateAfter, maskedFirst, maskedSecond, withOutputs, acceptedStep, refusedStep, step}
 use Rattle.circuit_run.specs.declared.StepState.{StepState}
@@ -31,19 +26,11 @@ module _ (c : Circuit) (l : StepLent) (r : StepState) where
 
   pub accepted-number : acceptedStep c l r .number ≡ 0
   unfolding acceptedStep
-  accepted-number = of (eqb (r .phase) 1)
-    where
-      of : (b : Bool) → choose b sending finishing .number ≡ 0
-      of true = refl
-      of false = refl
+  accepted-number = either-way (eqb (r .phase) 1) (λ o. o .number) sending finishing refl refl
 
   pub accepted-state : acceptedStep c l r .state ≡ r
   unfolding acceptedStep
-  accepted-state = of (eqb (r .phase) 1)
-    where
-      of : (b : Bool) → choose b sending finishing .state ≡ r
-      of true = refl
-      of false = refl
+  accepted-state = either-way (eqb (r .phase) 1) (λ o. o .state) sending finishing refl refl
 
   pub accepted-waits : r .phase ≡ 1 → acceptedStep c l r ≡ sending
   unfolding acceptedStep
@@ -108,15 +95,3 @@ module _ {c : Circuit} {l : StepLent} {s : StepState} (t : Took c l s) where
 
   pub took-gave : step l s ≡ acceptedStep c l (step l s .state)
   took-gave = t .is ∙ ap (acceptedStep c l) (sym took-state)
-
--- the accepted steps of a run, on a circuit that stays
-module _ (circuit : List ℕ) (c : Circuit) (read : readCircuit circuit ≡ Whole c) (calls : List StepLent) (stays : OnCircuit circuit (stepsOf calls)) where
-  pub first-took : {m : StepMade} → IsStep (stepsOf calls) 0 m → (m .gave ≡ step (m .got) fresh) × Took c (m .got) fresh
-  first-took = first-had step-laws fresh calls circuit read stays
-
-  pub next-took : (k : ℕ) {a m : StepMade} → IsStep (stepsOf calls) k a → IsStep (stepsOf calls) (suc k) m
-      → (m .gave ≡ step (m .got) (a .gave .state)) × Took c (m .got) (a .gave .state)
-  next-took = next-had step-laws fresh calls circuit read stays
-
-  pub took-some : (k : ℕ) (m : StepMade) → IsStep (stepsOf calls) k m → (s : StepState) × (m .gave ≡ step (m .got) s) × Took c (m .got) s
-  took-some = had-some step-laws fresh calls circuit read stays

@@ -1,12 +1,13 @@
 -- A call on a circuit's bytes, a step or a round: refused by the reading, else answered by tests. When it is accepted, what an accepted
 -- one had, and the accepted ones of a run one after the other. Assumes nothing.
 use Prim.Native.Nat.{ℕ, zero, suc}
-use mathlib.Core.Bool.{true}
+use mathlib.Core.Bool.{Bool, true, false}
 use mathlib.Core.List.{List}
 use mathlib.Core.Logic.{_↔_}
 use mathlib.Core.Path.{_≡_, refl, sym, ap, _∙_}
 use borrow.Author.Tests.{ne-eqb}
 use native.Mathlib.Omega.{arith}
+use Rattle.algebra.specs.Choice.{choose}
 use Rattle.answer.proofs.Answers.{refused-with, accepted-with, number-of}
 use Rattle.answer.proofs.Faults.{admitted-by, no-fault}
 use Rattle.answer.specs.Inner.Numbered.{numbered}
@@ -19,6 +20,11 @@ use Rattle.number.proofs.Records.{read-refused, read-whole}
 use Rattle.number.specs.Reading.{Reading, Whole, Refused, afterReading}
 use Rattle.circuit_claims.proofs.Calls.{Keeps, call-before, first-made, next-made}
 use Rattle.circuit_claims.specs.Calls.{CallMade, acceptedCalls, IsCall}
+
+-- what holds of each of two outcomes holds of the chosen one
+pub either-way : {A O : Type 0} (b : Bool) (part : O → A) (x y : O) {z : A} → part x ≡ z → part y ≡ z → part (choose b x y) ≡ z
+either-way true part x y e f = e
+either-way false part x y e f = f
 
 -- what such a call is made of
 pub record CircuitCall (L S O : Type 0) : Type 0 where

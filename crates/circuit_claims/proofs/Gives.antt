@@ -1,5 +1,5 @@
 -- What an accepted round writes, by the bytes that it leaves. Assumes nothing.
-use Prim.Native.Nat.{ℕ, zero, suc, _*_, _≤_}
+use Prim.Native.Nat.{ℕ, _*_, _≤_}
 use mathlib.Core.List.{List, [], _∷_}
 use mathlib.Core.Path.{_≡_, refl, sym, ap, _∙_, subst}
 use native.Mathlib.Nat.{add-zero}
@@ -14,6 +14,7 @@ use Rattle.circuit_run.proofs.Bits.{xor-bit}
 use Rattle.circuit_run.specs.Step.{maskedFirst, maskedSecond}
 use Rattle.number.proofs.Places.{either}
 use Rattle.circuit_claims.proofs.Counts.{sent-length, sent-bits}
+use Rattle.circuit_claims.proofs.Reaches.{outputs-bits}
 use Rattle.circuit_claims.proofs.RoundChains.{accepted-ends, accepted-waits}
 use Rattle.circuit_claims.specs.RoundProgress.{Writes}
 use Rattle.circuit_claims.specs.RoundRuns.{outputsBy, bitsBy, Finished}
@@ -67,11 +68,6 @@ module _ (c : Circuit) (l : RoundLent) (bytes : List ℕ) where
   share-bit : (w : ℕ) → getD (sharesIn bytes) w 0 ≤ 1
   share-bit w = omega (arith, share-at bytes w)
 
-  outputs-bits : (ws : List ℕ) (i : ℕ) → getD (atWires (sharesIn bytes) ws) i 0 ≤ 1
-  outputs-bits [] i = omega arith
-  outputs-bits (w ∷ ws) zero = share-bit w
-  outputs-bits (w ∷ ws) (suc i) = outputs-bits ws i
-
   pub writes : ((k : ℕ) → getD (l .triples) k 0 ≤ 1) → Writes c o
   unfolding maskedFirst maskedSecond
   writes triples =
@@ -87,6 +83,6 @@ module _ (c : Circuit) (l : RoundLent) (bytes : List ℕ) where
             (sent-bits c (l .triples) bytes (λ n. (xor-bit (share-bit _) (triples _), xor-bit (share-bit _) (triples _))) (c .gates) 0 i);
         outputs = λ i.
             either (o .bitsWritten) 0
-            (λ e. subst (λ (b : List ℕ). getD b i 0 ≤ 1) (sym (outputs-are e)) (outputs-bits (c .outputs) i))
+            (λ e. subst (λ (b : List ℕ). getD b i 0 ≤ 1) (sym (outputs-are e)) (outputs-bits (sharesIn bytes) (c .outputs) share-bit i))
             (λ n. subst (λ (k : ℕ). getD (take k (o .lent .output)) i 0 ≤ 1) (sym (no-outputs n)) (omega arith));
       }

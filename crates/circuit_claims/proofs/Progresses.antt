@@ -2,7 +2,7 @@
 -- Assumes nothing.
 use Prim.Native.Nat.{ℕ, zero, suc, _+_, _-_, _≤_, _<_}
 use mathlib.Core.Bool.{true}
-use mathlib.Core.List.{List, [], _∷_}
+use mathlib.Core.List.{List}
 use mathlib.Core.Path.{_≡_, refl, sym, ap, _∙_, subst}
 use borrow.Author.Tests.{ne-eqb}
 use native.Mathlib.Omega.{arith}
@@ -12,15 +12,14 @@ use Rattle.answer.specs.Tests.{Test, firstFault}
 use Rattle.circuit.specs.Admitted.{mostWires}
 use Rattle.circuit.specs.Content.{Circuit, isAnd, andsIn}
 use Rattle.circuit.specs.Reading.{readCircuit}
-use Rattle.circuit.specs.Value.{atWires}
 use Rattle.number.proofs.Places.{either}
 use Rattle.number.specs.Reading.{Reading, Whole, Refused, afterReading}
 use Rattle.circuit_claims.proofs.AndGates.{and-inside, and-after, and-before}
-use Rattle.circuit_claims.proofs.Chains.{accepted-state, accepted-waits, accepted-ends, ends-written, step-laws, Took, share-bits, triple-bits, far-met, state-met, took-state, took-gave, first-took, next-took}
-use Rattle.circuit_claims.proofs.CircuitCalls.{had-on, had, refused-is, first-call, next-call}
+use Rattle.circuit_claims.proofs.Chains.{accepted-state, accepted-waits, accepted-ends, ends-written, step-laws, Took, share-bits, triple-bits, far-met, state-met, took-state, took-gave}
+use Rattle.circuit_claims.proofs.CircuitCalls.{had-on, had, refused-is, first-call, next-call, first-had, next-had}
 use Rattle.circuit_claims.proofs.Calls.{call-before}
 use Rattle.circuit_run.proofs.Numbers.{state-phase, state-and}
-use Rattle.circuit_claims.proofs.Reaches.{Standing, waiting, finished, standing, from-start, run-fresh, run-waits, run-ends, WireBits, set-bits, run-bits, zeros-bits, append-bits}
+use Rattle.circuit_claims.proofs.Reaches.{Standing, waiting, finished, standing, from-start, run-fresh, run-waits, run-ends, WireBits, set-bits, run-bits, zeros-bits, append-bits, outputs-bits}
 use Rattle.circuit_claims.specs.Progress.{OnCircuit, GivesBits, withFar, farLent, Progress}
 use Rattle.circuit_claims.specs.Runs.{fresh, StepMade, stepsOf, IsStep, writtenBy}
 use Rattle.circuit_run.proofs.Bits.{xor-bit, share-bit}
@@ -69,10 +68,10 @@ next-stands {c} {k} {l} {s} t (finished two h n) =
 -- accepted step k of a run, on a circuit that stays
 module _ (circuit : List ℕ) (c : Circuit) (read : readCircuit circuit ≡ Whole c) (calls : List StepLent) (stays : OnCircuit circuit (stepsOf calls)) where
   pub stands : (k : ℕ) (m : StepMade) → IsStep (stepsOf calls) k m → Standing c 0 k (m .gave .state)
-  stands zero m e = let t = first-took circuit c read calls stays e in subst (λ (o : StepOutcome). Standing c 0 0 (o .state)) (sym (t .0)) (first-stands (t .1))
+  stands zero m e = let t = first-had step-laws fresh calls circuit read stays e in subst (λ (o : StepOutcome). Standing c 0 0 (o .state)) (sym (t .0)) (first-stands (t .1))
   stands (suc k) m e =
       let b = call-before k (stepsOf calls) e in
-      let t = next-took circuit c read calls stays k (b .1) e in
+      let t = next-had step-laws fresh calls circuit read stays k (b .1) e in
       subst (λ (o : StepOutcome). Standing c 0 (suc k) (o .state)) (sym (t .0)) (next-stands (t .1) (stands k (b .0) (b .1)))
 
   pub finishes : (k : ℕ) (m : StepMade) → IsStep (stepsOf calls) k m
@@ -99,11 +98,6 @@ again l l′ s same e two f =
     )
 
 -- ---- bits
-
-outputs-bits : (wires ws : List ℕ) → WireBits wires → WireBits (atWires wires ws)
-outputs-bits wires [] all i = omega arith
-outputs-bits wires (w ∷ ws) all zero = all w
-outputs-bits wires (w ∷ ws) all (suc i) = outputs-bits wires ws all i
 
 gives : (c : Circuit) (l : StepLent) (r : StepState) → WireBits (r .wires) → WireBits (l .triples) → GivesBits (acceptedStep c l r)
 unfolding maskedFirst maskedSecond

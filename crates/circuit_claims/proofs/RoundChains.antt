@@ -1,22 +1,16 @@
 -- What an accepted round gives, and the accepted rounds of a run one after the other. Assumes nothing.
-use Prim.Native.Nat.{ℕ, suc, _≤_}
-use mathlib.Core.Bool.{Bool, true, false}
+use Prim.Native.Nat.{ℕ, _≤_}
 use mathlib.Core.List.{List}
 use mathlib.Core.Path.{_≡_, refl, ap, _∙_}
 use borrow.Author.Tests.{eq-eqb, ne-eqb}
 use lib.Dec.{eqb}
 use lib.ListN.{length, getD}
-use Rattle.algebra.specs.Choice.{choose}
 use Rattle.circuit.specs.Content.{Circuit}
-use Rattle.circuit.specs.Reading.{readCircuit}
 use Rattle.circuit_run.specs.Round.{RoundLent, RoundOutcome, roundOutcome, stateWith, waitingIn, roundTests}
 use Rattle.circuit_run.specs.Round.{wiresAfter, bitsToSend, withBits, withOutputs, acceptedRound, refusedRound, round}
 use Rattle.circuit_run.specs.declared.RoundState.{RoundState}
 use Rattle.number.proofs.Places.{choose-yes, choose-no}
-use Rattle.number.specs.Reading.{Whole}
-use Rattle.circuit_claims.proofs.CircuitCalls.{CircuitCall, CallLaws, Had, first-had, next-had, had-some}
-use Rattle.circuit_claims.specs.RoundProgress.{RoundsOn}
-use Rattle.circuit_claims.specs.RoundRuns.{freshState, RoundMade, roundsOf, IsRound}
+use Rattle.circuit_claims.proofs.CircuitCalls.{either-way, CircuitCall, CallLaws, Had}
 
 -- ---- an accepted round's outcome
 
@@ -29,19 +23,11 @@ module _ (c : Circuit) (l : RoundLent) (bytes : List ℕ) where
 
   pub accepted-number : acceptedRound c l bytes .number ≡ 0
   unfolding acceptedRound
-  accepted-number = of (eqb (waitingIn c bytes) 0)
-    where
-      of : (b : Bool) → choose b finishing sending .number ≡ 0
-      of true = refl
-      of false = refl
+  accepted-number = either-way (eqb (waitingIn c bytes) 0) (λ o. o .number) finishing sending refl refl
 
   pub accepted-state : acceptedRound c l bytes .state ≡ stateWith bytes
   unfolding acceptedRound
-  accepted-state = of (eqb (waitingIn c bytes) 0)
-    where
-      of : (b : Bool) → choose b finishing sending .state ≡ stateWith bytes
-      of true = refl
-      of false = refl
+  accepted-state = either-way (eqb (waitingIn c bytes) 0) (λ o. o .state) finishing sending refl refl
 
   pub accepted-ends : waitingIn c bytes ≡ 0 → acceptedRound c l bytes ≡ finishing
   unfolding acceptedRound
@@ -98,15 +84,3 @@ module _ {c : Circuit} {l : RoundLent} {s : RoundState} (t : Took c l s) where
 
   pub took-bytes : round l s .state .wires ≡ wiresAfter c l (s .wires)
   took-bytes = ap (λ (r : RoundState). r .wires) took-state
-
--- the accepted rounds of a run, on a circuit that stays
-module _ (circuit : List ℕ) (c : Circuit) (read : readCircuit circuit ≡ Whole c) (calls : List RoundLent) (stays : RoundsOn circuit (roundsOf calls)) where
-  pub first-took : {m : RoundMade} → IsRound (roundsOf calls) 0 m → (m .gave ≡ round (m .got) freshState) × Took c (m .got) freshState
-  first-took = first-had round-laws freshState calls circuit read stays
-
-  pub next-took : (k : ℕ) {a m : RoundMade} → IsRound (roundsOf calls) k a → IsRound (roundsOf calls) (suc k) m
-      → (m .gave ≡ round (m .got) (a .gave .state)) × Took c (m .got) (a .gave .state)
-  next-took = next-had round-laws freshState calls circuit read stays
-
-  pub took-some : (k : ℕ) (m : RoundMade) → IsRound (roundsOf calls) k m → (s : RoundState) × (m .gave ≡ round (m .got) s) × Took c (m .got) s
-  took-some = had-some round-laws freshState calls circuit read stays

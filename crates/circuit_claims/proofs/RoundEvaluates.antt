@@ -22,13 +22,14 @@ use Rattle.circuit_claims.proofs.Transcripts.{outputs-same}
 use Rattle.circuit_claims.specs.Inner.Transcript.{BitsByAnd, wireShares, Transcript}
 use Rattle.number.specs.Reading.{Whole}
 use Rattle.circuit_claims.proofs.RoundProgresses.{finished-outputs, progress}
-use Rattle.circuit_claims.proofs.RoundChains.{share-bits, triple-bits, one-each, took-bytes, took-some}
+use Rattle.circuit_claims.proofs.RoundChains.{round-laws, share-bits, triple-bits, one-each, took-bytes}
+use Rattle.circuit_claims.proofs.CircuitCalls.{had-some}
 use Rattle.circuit_claims.proofs.Stages.{and-wire, and-level}
 use Rattle.circuit_claims.proofs.RoundTranscripts.{of-rounds}
 use Rattle.circuit_claims.specs.RoundEvaluation.{UnalteredRounds, ReceivesRounds, RoundEvaluation}
 use Rattle.circuit_claims.specs.Inner.ByAnd.{pairAt, farAtGate, sentAtGate, farInRounds, sentInRounds, FarGot, ByFar}
 use Rattle.circuit_claims.specs.RoundProgress.{RoundsOn}
-use Rattle.circuit_claims.specs.RoundRuns.{RoundMade, roundsOf, IsRound, outputsBy, bitsBy, Finished}
+use Rattle.circuit_claims.specs.RoundRuns.{freshState, RoundMade, roundsOf, IsRound, outputsBy, bitsBy, Finished}
 use Rattle.circuit_claims.specs.Same.{levelAt, placeAt}
 
 -- the level of an AND is 1 or more
@@ -46,7 +47,7 @@ module _ (circuit : List ℕ) (c : Circuit) (read : readCircuit circuit ≡ Whol
   -- it wrote the shares of the output wires
   pub wrote : outputsBy (m .gave) ≡ atWires (sharesIn (m .gave .state .wires)) (c .outputs)
   wrote =
-      let t = took-some circuit c read calls stays k m e in
+      let t = had-some round-laws freshState calls circuit read stays k m e in
       ap outputsBy (t .1) ∙ finished-outputs (t .2) (subst Finished (t .1) finished)
       ∙ ap (λ (b : List ℕ). atWires (sharesIn b) (c .outputs)) (sym (ap (λ (o : RoundOutcome). o .state .wires) (t .1) ∙ took-bytes (t .2)))
 
@@ -81,7 +82,7 @@ module _ (circuit : List ℕ) (c : Circuit) (read : readCircuit circuit ≡ Whol
     pub transcript : ByFar role c shares triples (farInRounds c (roundsOf calls)) (roundsOf calls)
         → Transcript role c shares triples (farInRounds c (roundsOf calls)) (sentInRounds c (roundsOf calls)) (outputsBy (m .gave))
     transcript by =
-        let t = took-some circuit c read calls on-circuit k m e .2 in
+        let t = had-some round-laws freshState calls circuit read on-circuit k m e .2 in
         let o = own k m e in
         record {
           one-each = ap length (sym (o .own-shares)) ∙ one-each t;

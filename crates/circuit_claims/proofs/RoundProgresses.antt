@@ -23,14 +23,14 @@ use Rattle.circuit_run.specs.Round.{RoundLent, RoundOutcome, waits, isKnown, kn
 use Rattle.circuit_run.specs.Round.{sharesIn, waitingBefore, waitingIn, ready, computed, wiresAfter, round}
 use Rattle.circuit_run.specs.declared.RoundState.{RoundState}
 use Rattle.circuit_run.specs.Step.{gateAt}
-use Rattle.circuit_claims.proofs.AndGates.{and-inside}
+use Rattle.circuit_claims.proofs.AndGates.{and-inside, and-is}
 use Rattle.number.proofs.Places.{split, either, choose-yes, choose-no}
 use Rattle.number.specs.Reading.{Whole}
 use Rattle.circuit_claims.proofs.Bytes.{outside, after-length, at-input, at-gate}
 use Rattle.circuit_claims.proofs.Counts.{wait-none, none-waits}
 use Rattle.circuit_claims.proofs.Gives.{count, outputs-are, writes}
-use Rattle.circuit_claims.proofs.RoundChains.{round-laws, Took, triple-bits, one-each, took-state, took-bytes, took-some}
-use Rattle.circuit_claims.proofs.CircuitCalls.{had-on, had, refused-is}
+use Rattle.circuit_claims.proofs.RoundChains.{round-laws, Took, triple-bits, one-each, took-state, took-bytes}
+use Rattle.circuit_claims.proofs.CircuitCalls.{had-on, had, refused-is, had-some}
 use Rattle.circuit_claims.proofs.Stages.{Stage, known, opened, unknown, Staged, low, high, fresh-byte, staged, waiting-is, waiting-all}
 use Rattle.circuit_claims.specs.RoundProgress.{RoundsOn, isAndWire, Writes, Moves, StandsAt, RoundProgress}
 use Rattle.circuit_claims.specs.RoundRuns.{freshState, RoundMade, roundsOf, IsRound, outputsBy, Finished, IsWire, byteOf, Known, Waits}
@@ -71,15 +71,13 @@ module _ {c : Circuit} {l : RoundLent} {s : RoundState} (t : Took c l s) where
   unfolding computed
   gives i a e =
       let one : getD before (c .inputs + i) 0 ≡ 1 = eqb-true _ _ e in
-      of (gateAt c i) a
-      (at-gate c l before (one-each t) below i (and-inside c i a)
-      ∙ ap (λ (b : ℕ). choose (isKnown b) b (computed c l i (waitingBefore c before i) (waits b) (gateAt c i) after)) one)
-    where
-      of : (g : Gate) → isAnd g ≡ true → getD after (c .inputs + i) 0 ≡ computed c l i (waitingBefore c before i) true g after
-          → isKnown (getD after (c .inputs + i) 0) ≡ true
-      of (Xor x y) f is = absurd (true≢false (sym f))
-      of (And x y) f is = high (getD after (c .inputs + i) 0) (omega (arith, is))
-      of (Not x) f is = absurd (true≢false (sym f))
+      high (getD after (c .inputs + i) 0)
+      (omega (
+        arith,
+        at-gate c l before (one-each t) below i (and-inside c i a)
+            ∙ ap (λ (b : ℕ). choose (isKnown b) b (computed c l i (waitingBefore c before i) (waits b) (gateAt c i) after)) one
+            ∙ ap (λ (g : Gate). computed c l i (waitingBefore c before i) true g after) (and-is (gateAt c i) a),
+      ))
 
   -- with no gate left that waits all wires are known
   module _ (none : waitingIn c after ≡ 0) where
@@ -161,11 +159,11 @@ module _ (circuit : List ℕ) (c : Circuit) (read : readCircuit circuit ≡ Whol
 
   module _ (k : ℕ) (m : RoundMade) (e : IsRound (roundsOf calls) k m) where
     moved-run : (s : RoundState) × Moves c s (m .gave)
-    moved-run = let t = took-some circuit c read calls stays k m e in (t .0, subst (Moves c (t .0)) (sym (t .1)) (moved (t .2)))
+    moved-run = let t = had-some round-laws freshState calls circuit read stays k m e in (t .0, subst (Moves c (t .0)) (sym (t .1)) (moved (t .2)))
 
     counted-run : m .gave .bitsWritten ≡ 2 * waitingIn c (m .gave .state .wires)
     counted-run =
-        let t = took-some circuit c read calls stays k m e in
+        let t = had-some round-laws freshState calls circuit read stays k m e in
         subst (λ (o : RoundOutcome). o .bitsWritten ≡ 2 * waitingIn c (o .state .wires)) (sym (t .1))
         (counted (t .2) ∙ ap (λ (r : RoundState). 2 * waitingIn c (r .wires)) (sym (took-state (t .2))))
 

@@ -1,9 +1,9 @@
 -- A run in rounds is a transcript: the known wires have the shares that the far bits of the ANDs give, and the bits sent are the
 -- transcript's. Assumes nothing.
 use Prim.Native.Nat.{ℕ, suc, _+_, _*_, _≤_, _<_}
-use mathlib.Core.Bool.{Bool, true, true≢false, _&&_}
+use mathlib.Core.Bool.{Bool, true, _&&_}
 use mathlib.Core.List.{List}
-use mathlib.Core.Path.{_≡_, refl, sym, ap, ap₂, _∙_, subst}
+use mathlib.Core.Path.{_≡_, sym, ap, ap₂, _∙_, subst}
 use borrow.Author.Tests.{eq-eqb}
 use native.Mathlib.Nat.{add-zero, zero-add}
 use native.Mathlib.Omega.{arith}
@@ -21,29 +21,25 @@ use Rattle.circuit_run.specs.Round.{RoundLent, RoundOutcome, shareOf, knownAs, 
 use Rattle.circuit_run.specs.declared.RoundState.{RoundState}
 use Rattle.circuit_run.proofs.Bits.{xor-bit, flipped-bit, share-bit}
 use Rattle.circuit_run.specs.Step.{gateAt, andsBefore, firstWire, secondWire, tripleFirst, tripleSecond, flipped, maskedFirst, maskedSecond}
-use Rattle.circuit_claims.proofs.AndGates.{and-inside, and-below}
+use Rattle.circuit_claims.proofs.AndGates.{and-inside, and-is, and-below}
 use Rattle.circuit_claims.proofs.Transcripts.{shares-keep, shares-hold}
 use Rattle.circuit_claims.specs.Inner.Transcript.{BitsByAnd, shareWithFar, shareAt, wireShares, maskedBits}
 use Rattle.number.specs.Reading.{Whole}
 use Rattle.circuit_claims.proofs.Counts.{sent-at}
 use Rattle.circuit_claims.proofs.Gives.{bits-are}
-use Rattle.circuit_claims.proofs.RoundChains.{Took, share-bits, triple-bits, far-bits, one-each, took-bytes, took-some}
+use Rattle.circuit_claims.proofs.RoundChains.{round-laws, Took, share-bits, triple-bits, far-bits, one-each, took-bytes}
+use Rattle.circuit_claims.proofs.CircuitCalls.{had-some}
 use Rattle.circuit_claims.proofs.Stages.{Staged, Closed, is-known, and-wire, staged, waiting-is, waiting-ands}
 use Rattle.circuit_claims.specs.RoundEvaluation.{UnalteredRounds}
 use Rattle.circuit_claims.specs.Inner.ByAnd.{pairAt, FarGot, ByFar}
 use Rattle.circuit_claims.specs.RoundProgress.{RoundsOn}
-use Rattle.circuit_claims.specs.RoundRuns.{RoundMade, roundsOf, IsRound, bitsBy, IsWire, byteOf}
+use Rattle.circuit_claims.specs.RoundRuns.{freshState, RoundMade, roundsOf, IsRound, bitsBy, IsWire, byteOf}
 use Rattle.circuit_claims.specs.Same.{levelAt, placeAt}
 
 -- the wires of an AND have lower levels
 and-lower : (c : Circuit) → GatesBelow (c .inputs) (c .gates) → (i : ℕ) → isAnd (gateAt c i) ≡ true
     → (levelOf c (firstWire (gateAt c i)) < levelAt c i) × (levelOf c (secondWire (gateAt c i)) < levelAt c i)
-and-lower c ok i a = of (gateAt c i) refl a
-  where
-    of : (g : Gate) → gateAt c i ≡ g → isAnd g ≡ true → (levelOf c (firstWire g) < levelAt c i) × (levelOf c (secondWire g) < levelAt c i)
-    of (Xor p q) e f = absurd (true≢false (sym f))
-    of (And p q) e f = and-raised c ok i p q (and-inside c i a) e
-    of (Not p) e f = absurd (true≢false (sym f))
+and-lower c ok i a = and-raised c ok i (firstWire (gateAt c i)) (secondWire (gateAt c i)) (and-inside c i a) (and-is (gateAt c i) a)
 
 -- the share of an AND in a round is the transcript's, and a bit
 module _ (c : Circuit) (i a b : ℕ) (g : gateAt c i ≡ And a b) (role : ℕ) (triples : List ℕ) where
@@ -160,7 +156,7 @@ module _ (circuit : List ℕ) (c : Circuit) (read : readCircuit circuit ≡ Whol
 
     sent : bitsBy (m .gave) ≡ bitsToSend c triples bytes
     sent =
-        let t = took-some circuit c read calls on-circuit k m e in
+        let t = had-some round-laws freshState calls circuit read on-circuit k m e in
         ap bitsBy (t .1 ∙ t .2 .is) ∙ bits-are c (m .got) (wiresAfter c (m .got) (t .0 .wires))
         ∙ ap₂ (bitsToSend c) (own k m e .own-triples) (sym (ap (λ (o : RoundOutcome). o .state .wires) (t .1) ∙ took-bytes (t .2)))
 

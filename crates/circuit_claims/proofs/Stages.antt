@@ -30,7 +30,8 @@ use Rattle.number.proofs.Places.{split, choose-yes, choose-no}
 use Rattle.number.specs.Reading.{Whole}
 use Rattle.circuit_claims.proofs.Bytes.{at-input, at-gate}
 use Rattle.circuit_claims.proofs.Counts.{wait-ands}
-use Rattle.circuit_claims.proofs.RoundChains.{Took, one-each, took-bytes, first-took, next-took}
+use Rattle.circuit_claims.proofs.RoundChains.{round-laws, Took, one-each, took-bytes}
+use Rattle.circuit_claims.proofs.CircuitCalls.{first-had, next-had}
 use Rattle.circuit_claims.specs.RoundProgress.{RoundsOn, isAndWire}
 use Rattle.circuit_claims.specs.RoundRuns.{freshState, RoundMade, roundsOf, IsRound, IsWire}
 
@@ -261,8 +262,8 @@ module _ (circuit : List ℕ) (c : Circuit) (read : readCircuit circuit ≡ Whol
         (next-stage P high-at c (m .got) (s .wires) k (closed k m e s t before) (one-each t) gates-below before)
 
     pub staged : (k : ℕ) (m : RoundMade) → IsRound (roundsOf calls) k m → Staged P c (suc k) (m .gave .state .wires)
-    staged zero m e = let t = first-took circuit c read calls stays e in went zero m e freshState (t .0) (t .1) (fresh-staged P c gates-below)
+    staged zero m e = let t = first-had round-laws freshState calls circuit read stays e in went zero m e freshState (t .0) (t .1) (fresh-staged P c gates-below)
     staged (suc k) m e =
         let b = call-before k (roundsOf calls) e in
-        let t = next-took circuit c read calls stays k (b .1) e in
+        let t = next-had round-laws freshState calls circuit read stays k (b .1) e in
         went (suc k) m e (b .0 .gave .state) (t .0) (t .1) (staged k (b .0) (b .1))

@@ -1,10 +1,13 @@
 -- `step_call::running::opened_share` meets its contract. Assumes nothing.
-use Rattle.step_call.proofs.Leaves.{and-one, and-other}
+use Rattle.circuit_run.proofs.Numbers.{tests}
+use Rattle.circuit_run.specs.Inner.Places.{openedWith}
+use Rattle.circuit_run.specs.Step.{andShare}
 use borrow.Author.Needs.{needs}
 use Rattle.step_call.proofs.running.opened_share.Statement.{statement}
 use Rattle.step_call.proofs.running.opened_share.Tie as tie
 
 pub opened-share-spec : {M : Type 1} → statement M
+unfolding openedWith andShare
 opened-share-spec =
     tie.close
     (tie.spec
@@ -14,6 +17,6 @@ opened-share-spec =
     (λ c. search needs)  -- shared-slice-read-second
     (λ c. search needs)  -- add-third
     (λ c. search needs)  -- shared-slice-read-third
-    (λ c. search and-one)  -- returns
-    (λ c. search and-other)  -- returns-2
+    (λ c. search tests)  -- returns
+    (λ c. search tests)  -- returns-2
     )
