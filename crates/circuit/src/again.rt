@@ -14,7 +14,8 @@ use number::known_number;
 // The gate at a place of an accepted circuit, at a wire.
 pub fn known_gate(source: &[u8], at: usize, wire: usize) -> GateRead
     requires { ⌜ isWhole (readGate wire (now source) at) ≡ true ⌝ }
-    ensures { λ r. ⌜ (Whole (gateOf r, r .next) ≡ readGate wire (now (source .entry)) at) × (r .kind ≡ kindNumber (gateOf r)) × (r .«first_wire» < wire) × (r .«second_wire» < wire) ⌝ }
+    ensures { λ r. ⌜ (Whole (gateOf r, r .next) ≡ readGate wire (now (source .entry)) at) × (r .kind ≡ kindNumber (gateOf r))
+        × (r .«first_wire» < wire) × (r .«second_wire» < wire) ⌝ }
 {
     let kind = known_number(source, at);
     let first_wire = known_number(source, kind.next);

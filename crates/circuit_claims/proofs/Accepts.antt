@@ -13,7 +13,8 @@ use Rattle.circuit_run.specs.Step.{StepLent, gateAt, stateAfter, step}
 use Rattle.circuit_run.specs.declared.StepState.{StepState}
 use Rattle.number.proofs.Places.{either}
 use Rattle.circuit_claims.proofs.AndGates.{and-inside}
-use Rattle.circuit_claims.proofs.Chains.{takes, Took, state-met, took, took-state}
+use Rattle.circuit_claims.proofs.Chains.{step-laws, Took, state-met, took-state}
+use Rattle.circuit_claims.proofs.CircuitCalls.{met-if, had}
 use Rattle.circuit_claims.proofs.Progresses.{and-gate}
 use Rattle.circuit_claims.proofs.Reaches.{Standing, waiting, finished, standing, run-fresh, run-waits, run-ends}
 use Rattle.circuit_claims.specs.Acceptance.{StepAcceptance}
@@ -39,19 +40,19 @@ goes-on : (l l′ : StepLent) (s : StepState) → step l s .number ≡ 0 → l�
     → l′ .triples ≡ l .triples → length (l .output) ≤ length (l′ .output) → l′ .farFirst ≤ 1 → l′ .farSecond ≤ 1
     → step l′ (step l s .state) .number ≡ 0
 goes-on l l′ s e circuit role shares triples room first second =
-    let t = took l s e in
+    let t = had step-laws l s e in
     let m = t .1 .met in
     let left = left-admitted (t .1) in
     let wide : length (t .0 .outputs) ≤ length (l′ .output) = omega (arith, m .all) in
     let far = bits-far (eqb (step l s .state .phase) 1) (l′ .farFirst) (l′ .farSecond) (λ w. (first, second)) in
     let known = state-known (t .0) (step l s .state .phase) (step l s .state .gate) (left .0) (left .1) in
-    takes l′ (step l s .state) (ap readCircuit circuit ∙ t .1 .read) .0 (rw (shares, triples, role) (record { all = search depth 12 }))
+    met-if step-laws l′ (step l s .state) (ap readCircuit circuit ∙ t .1 .read) .0 (rw (shares, triples, role) (record { all = search depth 12 }))
 
 -- document 02, 9: which steps are accepted
 pub acceptance : StepAcceptance
 acceptance =
     record {
-      accepts = λ c l s f. takes l s f;
+      accepts = λ c l s f. met-if step-laws l s f;
       far = λ phase first second. (
         λ e one. far-bits (eqb phase 1) first second e (eq-eqb phase 1 one),
         λ h. bits-far (eqb phase 1) first second (λ w. h (eqb-true phase 1 w)),

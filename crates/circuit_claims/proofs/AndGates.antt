@@ -2,7 +2,7 @@
 use Prim.Native.Nat.{ℕ, zero, suc, _+_, _-_, _≤_, _<_}
 use mathlib.Core.Bool.{Bool, true, true≢false}
 use mathlib.Core.List.{List, [], _∷_}
-use mathlib.Core.Path.{_≡_, refl, sym, ap, _∙_}
+use mathlib.Core.Path.{_≡_, refl, sym, ap, _∙_, subst}
 use native.Mathlib.Omega.{arith}
 use lib.ListN.{length, getD, take, drop, List·getD-eq-default}
 use lib.Seq.{take-add, drop-cons}
@@ -48,12 +48,16 @@ and-one c i n a b e =
     split i n (λ h. absurd (let z = and-earlier c i n a h in omega arith))
     (λ h. split n i (λ k. absurd (let z = and-earlier c n i b k in omega arith)) (λ k. omega arith))
 
+-- an AND is one of its two wires
+pub and-is : (g : Gate) → isAnd g ≡ true → g ≡ And (firstWire g) (secondWire g)
+and-is (Xor a b) e = absurd (true≢false (sym e))
+and-is (And a b) e = refl
+and-is (Not a) e = absurd (true≢false (sym e))
+
 -- the wires of an AND come before it
 pub and-below : (g : Gate) (n : ℕ) → isAnd g ≡ true → GateBelow n g → (firstWire g < n) × (secondWire g < n)
 unfolding GateBelow
-and-below (Xor a b) n e h = absurd (true≢false (sym e))
-and-below (And a b) n e h = h
-and-below (Not a) n e h = absurd (true≢false (sym e))
+and-below g n e h = subst (GateBelow n) (and-is g e) h
 
 -- the gate of an AND by how many come before it
 pub gate-of : (gs : List Gate) (i : ℕ) → isAnd (getD gs i (Not 0)) ≡ true → andGate gs (andsIn (take i gs)) ≡ i

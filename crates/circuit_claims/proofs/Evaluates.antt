@@ -1,6 +1,6 @@
 -- A finished run in steps is a transcript, so what two runs have together is what two transcripts have. Assumes nothing.
 use Prim.Native.Nat.{ℕ, zero, suc, _+_, _*_, _≤_, _<_}
-use mathlib.Core.Bool.{true, true≢false}
+use mathlib.Core.Bool.{true}
 use mathlib.Core.List.{List, [], _∷_}
 use mathlib.Core.Path.{_≡_, refl, sym, ap, ap₂, _∙_, subst}
 use native.Mathlib.Omega.{arith}
@@ -15,11 +15,12 @@ use Rattle.circuit.specs.Content.{Gate, Xor, And, Not, Circuit, isAnd, andsIn}
 use Rattle.circuit.specs.Reading.{readCircuit}
 use Rattle.number.proofs.Places.{split, either}
 use Rattle.number.specs.Reading.{Whole}
-use Rattle.circuit_claims.proofs.AndGates.{and-inside, and-before, and-one}
+use Rattle.circuit_claims.proofs.AndGates.{and-inside, and-before, and-one, and-is}
 use Rattle.circuit_claims.proofs.Calls.{call-before, call-at, made-at}
-use Rattle.circuit_claims.proofs.Chains.{accepted-waits, ends-written, Took, share-bits, triple-bits, took-state, took-gave}
+use Rattle.circuit_claims.proofs.Chains.{accepted-waits, ends-written, step-laws, Took, share-bits, triple-bits, took-state, took-gave}
+use Rattle.circuit_claims.proofs.CircuitCalls.{first-had, next-had, had-some}
 use Rattle.circuit_claims.proofs.Joins.{joined}
-use Rattle.circuit_claims.proofs.Progresses.{phase-fresh, first-took, next-took, stands, finishes}
+use Rattle.circuit_claims.proofs.Progresses.{phase-fresh, stands, finishes}
 use Rattle.circuit_claims.proofs.Reaches.{Standing, waiting, finished, run-fresh, run-waits, run-ends, fresh-length, fresh-at}
 use Rattle.circuit_claims.proofs.Transcripts.{Same, outputs-same, masked-same, share-same, shares-keep, shares-hold}
 use Rattle.circuit_claims.specs.Evaluation.{Unaltered, Receives, Evaluation}
@@ -88,9 +89,7 @@ module _ (role : ℕ) (c : Circuit) (triples : List ℕ) (far : BitsByAnd) (shar
   -- a run that waits, with the far bits of its AND
   and-share : (g : Gate) (i : ℕ) (wires : List ℕ) → isAnd g ≡ true → shareWithFar role c triples wires i (far (andsBefore c i)) ≡ shareAt role c triples far i g wires
   unfolding shareAt
-  and-share (Xor a b) i wires e = absurd (true≢false (sym e))
-  and-share (And a b) i wires e = refl
-  and-share (Not a) i wires e = absurd (true≢false (sym e))
+  and-share g i wires e = ap (λ (x : Gate). shareAt role c triples far i x wires) (sym (and-is g e))
 
   has-and : (r : StepState) (x : ℕ) → isAnd (gateAt c (r .gate)) ≡ true → x ≡ shareWithFar role c triples (r .wires) (r .gate) (far (andsBefore c (r .gate))) → Has r
       → Has (advance role c (r .gate + 1) (set (r .wires) (c .inputs + r .gate) x))
@@ -128,11 +127,7 @@ module _ (circuit : List ℕ) (c : Circuit) (read : readCircuit circuit ≡ Whol
       }
 
   pub stood : (k : ℕ) (m : StepMade) → IsStep (stepsOf calls) k m → Stood k m
-  stood zero m e = let t = first-took circuit c read calls on-circuit e in of-took zero m e fresh (t .0) (t .1)
-  stood (suc k) m e =
-      let b = call-before k (stepsOf calls) e in
-      let t = next-took circuit c read calls on-circuit k (b .1) e in
-      of-took (suc k) m e (b .0 .gave .state) (t .0) (t .1)
+  stood k m e = let t = had-some step-laws fresh calls circuit read on-circuit k m e in of-took k m e (t .0) (t .1) (t .2)
 
   pub ok : AdmittedCircuit c
   ok = admitted circuit c read
@@ -158,7 +153,7 @@ module _ (circuit : List ℕ) (c : Circuit) (read : readCircuit circuit ≡ Whol
         → Passed one-each (a .gave .state) → Passed one-each (m .gave .state)
     unfolding withAnd waitingShare shareWithFar
     after-wait k a m e f (waiting one l h and n) has =
-        let t = next-took circuit c read calls on-circuit k e f in
+        let t = next-had step-laws fresh calls circuit read on-circuit k e f in
         let o = own (suc k) m f in
         let r : StepState = a .gave .state in
         subst (Passed one-each)
@@ -167,13 +162,13 @@ module _ (circuit : List ℕ) (c : Circuit) (read : readCircuit circuit ≡ Whol
         (ap (shareWithFar role c triples (r .wires) (r .gate))
         (sym (ap far n ∙ made-at (λ (x : StepMade). (x .got .farFirst, x .got .farSecond)) (0, 0) (stepsOf calls) (suc k) f))) has)
     after-wait k a m e f (finished two q h) has =
-        let t = next-took circuit c read calls on-circuit k e f in
+        let t = next-had step-laws fresh calls circuit read on-circuit k e f in
         subst (Passed one-each)
         (sym (ap (λ (x : StepOutcome). x .state) (t .0) ∙ took-state (t .1) ∙ run-ends c (m .got) (a .gave .state) two)) has
 
     pub has-shares : (k : ℕ) (m : StepMade) → IsStep (stepsOf calls) k m → Passed one-each (m .gave .state)
     has-shares zero m e =
-        let t = first-took circuit c read calls on-circuit e in
+        let t = first-had step-laws fresh calls circuit read on-circuit e in
         let o = own 0 m e in
         subst (Passed one-each)
         (sym (ap (λ (x : StepOutcome). x .state) (t .0) ∙ took-state (t .1) ∙ run-fresh c (m .got) fresh phase-fresh

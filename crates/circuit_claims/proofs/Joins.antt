@@ -93,7 +93,7 @@ module _ {c : Circuit} {shares₁ triples₁ shares₂ triples₂ : List ℕ} {f
     of (Xor a b) e below =
         let x = agree a (below .0) in
         let y = agree b (below .1) in
-        (xor-bit (x .0) (y .0), xor-bit (x .1) (y .1), xor-shares (x .0) (y .0) (x .1) (y .1) ∙ ap₂ bitXor (x .2) (y .2))
+        (xor-bit (x .0) (y .0), xor-bit (x .1) (y .1), xor-shares (getD W₁ a 0) (getD W₁ b 0) (getD W₂ a 0) (getD W₂ b 0) ∙ ap₂ bitXor (x .2) (y .2))
     of (And a b) e below =
         let x = agree a (below .0) in
         let y = agree b (below .1) in
@@ -108,7 +108,7 @@ module _ {c : Circuit} {shares₁ triples₁ shares₂ triples₂ : List ℕ} {f
         )
     of (Not a) e below =
         let x = agree a below in
-        (xor-bit (x .0) (omega arith), x .1, not-shares (x .0) (x .1) ∙ ap (λ (n : ℕ). bitXor n 1) (x .2))
+        (xor-bit (x .0) (omega arith), x .1, not-shares (getD W₁ a 0) (getD W₂ a 0) ∙ ap (λ (n : ℕ). bitXor n 1) (x .2))
 
     gate-agrees : AgreeAt W₁ W₂ values (c .inputs + i)
     gate-agrees =

@@ -1,11 +1,22 @@
--- The statements about runs of a circuit, and the laws of transcripts and of accepted calls that runs in rounds rest on too.
+-- The statements about runs of a circuit, in steps and in rounds.
 pub mod Accepts
-pub mod AndGates
-pub mod Calls
 pub mod Evaluates
-pub mod Joins
 pub mod Progresses
-pub mod Reaches
-pub mod Transcripts
+pub mod RoundAccepts
+pub mod RoundEvaluates
+pub mod RoundProgresses
+pub mod Sames
+mod AndGates
 mod Bits
+mod Bytes
+mod Calls
 mod Chains
+mod CircuitCalls
+mod Counts
+mod Gives
+mod Joins
+mod Reaches
+mod RoundChains
+mod RoundTranscripts
+mod Stages
+mod Transcripts

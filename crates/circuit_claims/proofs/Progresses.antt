@@ -2,7 +2,7 @@
 -- Assumes nothing.
 use Prim.Native.Nat.{ℕ, zero, suc, _+_, _-_, _≤_, _<_}
 use mathlib.Core.Bool.{true}
-use mathlib.Core.List.{List, [], _∷_}
+use mathlib.Core.List.{List}
 use mathlib.Core.Path.{_≡_, refl, sym, ap, _∙_, subst}
 use borrow.Author.Tests.{ne-eqb}
 use native.Mathlib.Omega.{arith}
@@ -12,14 +12,14 @@ use Rattle.answer.specs.Tests.{Test, firstFault}
 use Rattle.circuit.specs.Admitted.{mostWires}
 use Rattle.circuit.specs.Content.{Circuit, isAnd, andsIn}
 use Rattle.circuit.specs.Reading.{readCircuit}
-use Rattle.circuit.specs.Value.{atWires}
 use Rattle.number.proofs.Places.{either}
 use Rattle.number.specs.Reading.{Reading, Whole, Refused, afterReading}
 use Rattle.circuit_claims.proofs.AndGates.{and-inside, and-after, and-before}
-use Rattle.circuit_claims.proofs.Chains.{accepted-state, accepted-waits, accepted-ends, ends-written, Took, share-bits, triple-bits, far-met, state-met, took, took-state, took-gave, took-on, step-refused, first-step, next-step}
+use Rattle.circuit_claims.proofs.Chains.{accepted-state, accepted-waits, accepted-ends, ends-written, step-laws, Took, share-bits, triple-bits, far-met, state-met, took-state, took-gave}
+use Rattle.circuit_claims.proofs.CircuitCalls.{had-on, had, refused-is, first-call, next-call, first-had, next-had}
 use Rattle.circuit_claims.proofs.Calls.{call-before}
 use Rattle.circuit_run.proofs.Numbers.{state-phase, state-and}
-use Rattle.circuit_claims.proofs.Reaches.{Standing, waiting, finished, standing, from-start, run-fresh, run-waits, run-ends, WireBits, set-bits, run-bits, zeros-bits, append-bits}
+use Rattle.circuit_claims.proofs.Reaches.{Standing, waiting, finished, standing, from-start, run-fresh, run-waits, run-ends, WireBits, set-bits, run-bits, zeros-bits, append-bits, outputs-bits}
 use Rattle.circuit_claims.specs.Progress.{OnCircuit, GivesBits, withFar, farLent, Progress}
 use Rattle.circuit_claims.specs.Runs.{fresh, StepMade, stepsOf, IsStep, writtenBy}
 use Rattle.circuit_run.proofs.Bits.{xor-bit, share-bit}
@@ -45,7 +45,7 @@ risen h (finished p q k) = omega arith
 
 passes-gate : (l : StepLent) (s : StepState) → s .phase ≡ 1 → step l s .number ≡ 0 → s .gate < step l s .state .gate
 passes-gate l s one e =
-    let t = took l s e in
+    let t = had step-laws l s e in
     omega (arith, risen (omega (arith, and-inside (t .0) (s .gate) (and-gate one (t .1)))) (after-and one (t .1)))
 
 pub phase-fresh : fresh .phase ≡ 0
@@ -67,25 +67,11 @@ next-stands {c} {k} {l} {s} t (finished two h n) =
 
 -- accepted step k of a run, on a circuit that stays
 module _ (circuit : List ℕ) (c : Circuit) (read : readCircuit circuit ≡ Whole c) (calls : List StepLent) (stays : OnCircuit circuit (stepsOf calls)) where
-  reads : (k : ℕ) {m : StepMade} → IsStep (stepsOf calls) k m → readCircuit (m .got .circuit) ≡ Whole c
-  reads k {m} e = ap readCircuit (stays k m e) ∙ read
-
-  pub first-took : {m : StepMade} → IsStep (stepsOf calls) 0 m → (m .gave ≡ step (m .got) fresh) × Took c (m .got) fresh
-  first-took {m} e =
-      let f = first-step calls e in
-      (f .0, took-on (m .got) fresh (reads 0 e) (f .1))
-
-  pub next-took : (k : ℕ) {a m : StepMade} → IsStep (stepsOf calls) k a → IsStep (stepsOf calls) (suc k) m
-      → (m .gave ≡ step (m .got) (a .gave .state)) × Took c (m .got) (a .gave .state)
-  next-took k {a} {m} e g =
-      let f = next-step calls k e g in
-      (f .0, took-on (m .got) (a .gave .state) (reads (suc k) g) (f .1))
-
   pub stands : (k : ℕ) (m : StepMade) → IsStep (stepsOf calls) k m → Standing c 0 k (m .gave .state)
-  stands zero m e = let t = first-took e in subst (λ (o : StepOutcome). Standing c 0 0 (o .state)) (sym (t .0)) (first-stands (t .1))
+  stands zero m e = let t = first-had step-laws fresh calls circuit read stays e in subst (λ (o : StepOutcome). Standing c 0 0 (o .state)) (sym (t .0)) (first-stands (t .1))
   stands (suc k) m e =
       let b = call-before k (stepsOf calls) e in
-      let t = next-took k (b .1) e in
+      let t = next-had step-laws fresh calls circuit read stays k (b .1) e in
       subst (λ (o : StepOutcome). Standing c 0 (suc k) (o .state)) (sym (t .0)) (next-stands (t .1) (stands k (b .0) (b .1)))
 
   pub finishes : (k : ℕ) (m : StepMade) → IsStep (stepsOf calls) k m
@@ -102,9 +88,9 @@ again : (l l′ : StepLent) (s : StepState) → l′ .circuit ≡ l .circuit →
     → (step l′ (step l s .state) .state ≡ step l s .state) × (writtenBy (step l′ (step l s .state)) ≡ writtenBy (step l s))
 again l l′ s same e two f =
     let r : StepState = step l s .state in
-    let t = took l s e in
+    let t = had step-laws l s e in
     let c : Circuit = t .0 in
-    let u : Took c l′ r = took-on l′ r (ap readCircuit same ∙ t .1 .read) f in
+    let u : Took c l′ r = had-on step-laws l′ r (ap readCircuit same ∙ t .1 .read) f in
     let n : r .phase ≡ 1 → ⊥ = λ z. omega arith in
     let k : step l′ r .state ≡ r = took-state u ∙ run-ends c l′ r two in (
       k,
@@ -112,11 +98,6 @@ again l l′ s same e two f =
     )
 
 -- ---- bits
-
-outputs-bits : (wires ws : List ℕ) → WireBits wires → WireBits (atWires wires ws)
-outputs-bits wires [] all i = omega arith
-outputs-bits wires (w ∷ ws) all zero = all w
-outputs-bits wires (w ∷ ws) all (suc i) = outputs-bits wires ws all i
 
 gives : (c : Circuit) (l : StepLent) (r : StepState) → WireBits (r .wires) → WireBits (l .triples) → GivesBits (acceptedStep c l r)
 unfolding maskedFirst maskedSecond
@@ -160,16 +141,16 @@ fresh-bits = zeros-bits mostWires
 -- an accepted step on a state of bits gives bits
 step-gives : (l : StepLent) (s : StepState) → step l s .number ≡ 0 → WireBits (s .wires) → GivesBits (step l s)
 step-gives l s e wires =
-    let t = took l s e in
+    let t = had step-laws l s e in
     subst GivesBits (sym (t .1 .is)) (gives (t .0) l (stateAfter (t .0) l s) (step-bits (t .0) l s (t .1) wires) (triple-bits (t .1)))
 
 run-gives : (calls : List StepLent) (k : ℕ) (m : StepMade) → IsStep (stepsOf calls) k m → GivesBits (m .gave)
 run-gives calls zero m e =
-    let f = first-step calls e in
+    let f = first-call step-laws fresh calls e in
     subst GivesBits (sym (f .0)) (step-gives (m .got) fresh (f .1) fresh-bits)
 run-gives calls (suc k) m e =
     let b = call-before k (stepsOf calls) e in
-    let f = next-step calls k (b .1) e in
+    let f = next-call step-laws fresh calls k (b .1) e in
     subst GivesBits (sym (f .0)) (step-gives (m .got) (b .0 .gave .state) (f .1) (run-gives calls k (b .0) (b .1) .wires))
 
 -- ---- far bits
@@ -210,7 +191,7 @@ module _ (l : StepLent) (s : StepState) (n : s .phase ≡ 1 → ⊥) (x y : ℕ)
 pub progress : Progress
 progress =
     record {
-      refused = step-refused;
+      refused = refused-is step-laws;
       advances = passes-gate;
       finishes = finishes;
       again = again;

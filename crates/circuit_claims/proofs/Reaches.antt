@@ -14,6 +14,7 @@ use Rattle.circuit.specs.Content.{Gate, Xor, And, Not, Circuit, isAnd, andsIn}
 use Rattle.number.proofs.Places.{choose-yes, choose-no}
 use Rattle.circuit.proofs.Ands.{ands-append}
 use Rattle.circuit.specs.Admitted.{mostWires}
+use Rattle.circuit.specs.Value.{atWires}
 use Rattle.circuit_run.proofs.Bits.{xor-bit, flipped-bit}
 use Rattle.circuit_run.specs.Step.{StepLent, gateAt, andsBefore, flipped, freshWires, runOn, advance, withAnd, stateAfter}
 use Rattle.circuit_run.specs.declared.StepState.{StepState}
@@ -108,6 +109,11 @@ pub append-bits : (xs ys : List ℕ) → WireBits xs → WireBits ys → WireBit
 append-bits [] ys h g w = g w
 append-bits (x ∷ xs) ys h g zero = h 0
 append-bits (x ∷ xs) ys h g (suc w) = append-bits xs ys (λ v. h (suc v)) g w
+
+pub outputs-bits : (wires ws : List ℕ) → WireBits wires → WireBits (atWires wires ws)
+outputs-bits wires [] all i = omega arith
+outputs-bits wires (w ∷ ws) all zero = all w
+outputs-bits wires (w ∷ ws) all (suc i) = outputs-bits wires ws all i
 
 -- ---- fresh wires
 

@@ -46,4 +46,5 @@ pub record Progress : Type 0 where
   -- what the accepted steps of a run give is 0 or 1, so a far bit that the far end sent never gives 8
   pub bits : (calls : List StepLent) (k : ℕ) (m : StepMade) → IsStep (stepsOf calls) k m → GivesBits (m .gave)
   -- the first step and a finished run neither read nor test far bits
-  pub far : (l : StepLent) (s : StepState) → (s .phase ≡ 1 → ⊥) → (farFirst farSecond : ℕ) → step (withFar farFirst farSecond l) s ≡ farLent farFirst farSecond (step l s)
+  pub far : (l : StepLent) (s : StepState) → (s .phase ≡ 1 → ⊥) → (farFirst farSecond : ℕ)
+      → step (withFar farFirst farSecond l) s ≡ farLent farFirst farSecond (step l s)

@@ -1,1 +1,2 @@
-// Runs of a circuit's steps: progress of one end, and what both ends have together. No code: definitions and proofs.
+// Runs of a circuit in steps and in rounds: progress of one end, what both ends have together, and that both ways give the same. No
+// code: definitions and proofs.

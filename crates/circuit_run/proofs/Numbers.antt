@@ -2,12 +2,15 @@
 use Prim.Native.Nat.{ℕ, _≤_}
 use mathlib.Core.Bool.{Bool, true, false, not, _||_, false≢true}
 use mathlib.Core.Path.{_≡_, refl}
-use borrow.Author.Tests.{leb-true, le-leb, eq-eqb, ne-eqb}
+use borrow.Author.Tests.{leb-true, le-leb, lt-leb, eq-eqb, ne-eqb}
 use lib.Dec.{leb, eqb}
 use Rattle.algebra.proofs.Tests.{and-left, and-right, and-both}
 use Rattle.circuit.specs.Content.{Circuit, isAnd}
 use Rattle.number.proofs.Places.{either}
 use Rattle.circuit_run.specs.Step.{farAdmitted, gateAt, stateAdmitted}
+
+-- what a test says of its numbers
+pub ruleset tests = (eq-eqb, ne-eqb, le-leb, lt-leb)
 
 -- far bits that are admitted
 pub far-bits : (waits : Bool) (first second : ℕ) → farAdmitted waits first second ≡ true → waits ≡ true → (first ≤ 1) × (second ≤ 1)

@@ -27,8 +27,8 @@ use Rattle.number.proofs.Places.{either, choose-yes, choose-no}
 use Rattle.number.proofs.Records.{read-refused, read-whole}
 use Rattle.circuit_run.proofs.Gates.{gatesOf}
 use Rattle.circuit_run.proofs.Numbers.{state-phase}
-use Rattle.circuit_run.specs.Inner.Places.{Spots, Tested, Checks, Stops, givenAnd, proceeded, steppedWith, acceptedOn}
-use Rattle.circuit_run.specs.Inner.Tests.{askedTests}
+use Rattle.circuit_run.specs.Inner.Places.{Spots, Tested, Checks, Stops, openedWith, givenAnd, proceeded, steppedWith, acceptedOn}
+use Rattle.circuit_run.specs.Inner.StepTests.{askedTests}
 use Rattle.circuit_run.specs.Step.{StepLent, lentWith, StepOutcome, stepOutcome, stepped, stepStateWith, stepTests, gateAt, freshWires, runOn}
 use Rattle.circuit_run.specs.Step.{maskedFirst, maskedSecond, waitingShare, withAnd, stateAfter, withOutputs, acceptedStep, refusedStep, step}
 use Rattle.circuit_run.specs.declared.StepState.{StepState}
@@ -120,7 +120,7 @@ module _ {s : List ℕ} {f : Layout} {a : Asked} {r : Spot} {shares triples : Li
   module _ (going : state .phase ≡ 2 → ⊥) where
     -- the AND of a run that waits gets its share
     and-is : state .phase ≡ 1 → givenAnd a r (f .inputs + r .gate) triples (state .wires) ≡ withAnd c l state
-    unfolding givenAnd withAnd waitingShare maskedFirst maskedSecond
+    unfolding givenAnd openedWith withAnd waitingShare maskedFirst maskedSecond
     and-is one =
         let w = t .ready .waits (t .asks ∙ eq-eqb (state .phase) 1 one) in
         let g : gateAt c (state .gate) ≡ And (r .«first_wire») (r .«second_wire») = ap (gateAt c) (sym (t .number)) ∙ w .gate in

@@ -6,7 +6,6 @@ use mathlib.Core.Path.{_≡_, refl, sym, ap, _∙_}
 use native.Mathlib.Nat.{sub-zero}
 use native.Mathlib.Numerals.{add-one}
 use native.Mathlib.Omega.{arith}
-use lib.Bits.{bitXor}
 use lib.ListN.{length, getD, take, drop, set, replicate, length-append, length-drop, length-map}
 use lib.Seq.{set-at, take-suc, take-length, take-all, drop-cons, drop-drop, length-take-le, getD-drop}
 use mir.Syntax.{w64}
@@ -19,8 +18,8 @@ use Rattle.circuit.specs.declared.Layout.{Layout}
 use Rattle.number.proofs.Places.{whole-is}
 use Rattle.number.specs.Reading.{Whole}
 use Rattle.number.specs.Inner.Known.{isWhole}
-use Rattle.circuit_run.specs.Inner.Places.{givenAnd}
-use Rattle.circuit_run.specs.Step.{andShare, freshWires}
+use Rattle.circuit_run.specs.Inner.Places.{openedWith, givenAnd}
+use Rattle.circuit_run.specs.Step.{freshWires}
 use Rattle.circuit_run.specs.declared.places.Asked.{Asked}
 use Rattle.circuit_run.specs.declared.places.Spot.{Spot}
 
@@ -55,10 +54,7 @@ module _ (shares : List ℕ) (i : ℕ) (few : length shares ≤ 4096) where
 -- ---- the share of an AND
 
 pub given : (a : Asked) (r : Spot) (wire : ℕ) (triples wires : List ℕ) (x : ℕ)
-    → x ≡ andShare (a .role)
-    (bitXor (bitXor (getD wires (r .«first_wire») 0) (getD triples (r .ands * 3) 0)) (a .«far_first»))
-    (bitXor (bitXor (getD wires (r .«second_wire») 0) (getD triples (r .ands * 3 + 1) 0)) (a .«far_second»))
-    (getD triples (r .ands * 3) 0) (getD triples (r .ands * 3 + 1) 0) (getD triples (r .ands * 3 + 2) 0)
+    → x ≡ openedWith (a .role) (getD wires (r .«first_wire») 0) (getD wires (r .«second_wire») 0) triples (r .ands) (a .«far_first») (a .«far_second»)
     → set wires wire x ≡ givenAnd a r wire triples wires
 unfolding givenAnd
 given a r wire triples wires x e = ap (set wires wire) e

@@ -1,5 +1,5 @@
-// Evaluating a circuit in steps, in definitions and laws: each end's step up to the next AND. The step's code stands in crate
-// `step_call`.
+// An end's run of a circuit in definitions and laws: by steps, each up to the next AND, and by rounds, each of which opens every AND
+// whose wires are known. The code stands in crates `step_call` and `round_call`.
 mod places;
 
 pub use places::Asked;
@@ -8,7 +8,7 @@ pub use places::Place;
 pub use places::Reached;
 pub use places::Spot;
 
-// An end's run: 0 fresh, 1 waits for the far bits of the AND at `gate`, 2 finished; this end's shares of the wires passed.
+// An end's run by steps: 0 fresh, 1 waits for the far bits of the AND at `gate`, 2 finished; this end's shares of the wires passed.
 #[repr(C)]
 pub struct StepState {
     pub phase: u32,
@@ -24,4 +24,20 @@ pub struct Stepped {
     pub first_bit: u8,
     pub second_bit: u8,
     pub state: StepState,
+}
+
+// An end's run by rounds: a byte for each wire, 0 while its share is not known, 1 for an AND that waits for the far bits, 2 + share
+// once known.
+#[repr(C)]
+pub struct RoundState {
+    pub wires: [u8; 4096],
+}
+
+// The answer of a round.
+#[repr(C)]
+pub struct Rounded {
+    pub number: u32,
+    pub written: usize,
+    pub bits_written: usize,
+    pub state: RoundState,
 }

@@ -1,10 +1,10 @@
 // Evaluating and describing a circuit. Each call meets the contract of the call that it passes on to.
 ghost use mathlib.Core.Path.{_≡_};
-ghost use Rattle.circuit_round.specs.Round.{roundWith, rounded, round};
+ghost use Rattle.circuit_run.specs.Round.{roundWith, rounded, round};
 ghost use Rattle.circuit_run.specs.Step.{lentWith, stepped, step};
 ghost use Rattle.describe_circuit.specs.Describe.{descriptionOf, describeCircuit};
-use circuit_round::RoundState;
-use circuit_round::Rounded;
+use circuit_run::RoundState;
+use circuit_run::Rounded;
 use circuit_run::StepState;
 use circuit_run::Stepped;
 use describe_circuit::DescribedCircuit;

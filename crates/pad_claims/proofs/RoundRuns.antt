@@ -1,6 +1,6 @@
 -- Circuits in rounds on dealings' own triples: the claim about two runs in rounds on triples that match by request 6's.
 use native.Mathlib.Omega.{arith}
-use Rattle.round_claims.proofs.Evaluates.{evaluation}
+use Rattle.circuit_claims.proofs.RoundEvaluates.{evaluation}
 use Rattle.pad_claims.specs.RoundCircuits.{RoundCircuits}
 use Rattle.pad_claims.proofs.Triples.{gathered-match}
 

@@ -7,11 +7,11 @@ use Prim.Native.Nat.{ℕ, _<_}
 use Rattle.circuit.specs.Content.{Circuit, andsIn}
 use Rattle.circuit.specs.Reading.{readCircuit}
 use Rattle.circuit.specs.Value.{valueOf}
-use Rattle.circuit_round.specs.Round.{RoundLent}
+use Rattle.circuit_run.specs.Round.{RoundLent}
 use Rattle.circuit_claims.specs.Evaluation.{combined}
 use Rattle.number.specs.Reading.{Whole}
-use Rattle.round_claims.specs.Evaluation.{RoundEnds}
-use Rattle.round_claims.specs.Runs.{RoundMade, roundsOf, IsRound, outputsBy, Finished}
+use Rattle.circuit_claims.specs.RoundEvaluation.{RoundEnds}
+use Rattle.circuit_claims.specs.RoundRuns.{RoundMade, roundsOf, IsRound, outputsBy, Finished}
 use Rattle.pad_claims.specs.Formed.{GatheredAt}
 
 -- each AND has its own two pairings, as in `Circuits`

@@ -8,8 +8,8 @@ use Rattle.circuit.specs.Reading.{readWire}
 use Rattle.circuit.specs.declared.Layout.{Layout}
 use Rattle.circuit_run.proofs.Wires.{OutputTurn, output-next}
 use Rattle.number.specs.Reading.{Whole}
-use Rattle.circuit_round.proofs.Gates.{share-at}
-use Rattle.circuit_round.specs.Round.{sharesIn}
+use Rattle.circuit_run.proofs.RoundGates.{share-at}
+use Rattle.circuit_run.specs.Round.{sharesIn}
 
 pub shares-next : {s : List ℕ} {f : Layout} (o : HasLayout s f) (wires : List ℕ) {output₀ : List ℕ} (room : f .outputs ≤ length output₀)
     {output : List ℕ} {at i : ℕ} (turn : OutputTurn s (sharesIn wires) output₀ (f .outputs) (f .inputs + f .gates) output at i) → i < f .outputs

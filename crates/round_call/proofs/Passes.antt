@@ -27,13 +27,13 @@ use Rattle.circuit_run.specs.Step.{gateAt, andsBefore, tripleFirst, tripleSecon
 use Rattle.number.proofs.Places.{either}
 use Rattle.number.specs.Inner.Known.{isWhole}
 use Rattle.number.specs.Reading.{Whole}
-use Rattle.circuit_round.proofs.Gates.{share-at, byte-is, same-at, byte-no-wait, byte-few}
-use Rattle.circuit_round.proofs.Opened.{gate-below, adds, opened-more, share-kept, opened-kept, two-more}
-use Rattle.circuit_round.proofs.Waiting.{waitingUpTo, waiting-none, waiting-more, waiting-upto, wait-small}
-use Rattle.circuit_round.specs.Inner.Gates.{AndHas, byteBy, placeAfter, putBits}
-use Rattle.circuit_round.specs.Inner.Passes.{CanPass, Passes, passedOn}
-use Rattle.circuit_round.specs.Inner.Tests.{waitOf}
-use Rattle.circuit_round.specs.Round.{waiting, waits, waitingIn, gateByte, openedBits, bitsToSend}
+use Rattle.circuit_run.proofs.RoundGates.{share-at, byte-is, same-at, byte-no-wait, byte-few}
+use Rattle.circuit_run.proofs.Opened.{gate-below, adds, opened-more, share-kept, opened-kept, two-more}
+use Rattle.circuit_run.proofs.Waiting.{waitingUpTo, waiting-none, waiting-more, waiting-upto, wait-small}
+use Rattle.circuit_run.specs.Inner.RoundGates.{AndHas, byteBy, CanPut, placeAfter, putBits}
+use Rattle.circuit_run.specs.Inner.RoundPasses.{CanPass, Passes, passedOn}
+use Rattle.circuit_run.specs.Inner.RoundTests.{waitOf}
+use Rattle.circuit_run.specs.Round.{waiting, waits, waitingIn, gateByte, openedBits, bitsToSend}
 
 -- the byte that a gate gets
 abbrev make : List ℕ → ℕ → List ℕ → List ℕ → List ℕ → Gate → List ℕ → ℕ
@@ -118,12 +118,6 @@ module _ {s : List ℕ} {f : Layout} (o : HasLayout s f) {role : ℕ} {triples f
 
     pub pass-below : {w : ℕ} → w < f .inputs + i → w < 4096
     pass-below h = omega (arith, o .most)
-
-    pub pass-few : ands ≤ 4096
-    pass-few = omega (arith, turn .stands .few, o .most)
-
-    pub pass-place : q ≤ 8192
-    pass-place = omega (arith, turn .below, turn .stands .few, o .most)
 
     pub pass-passed : (byte : ℕ) {m : ℕ} → m ≡ waitOf byte → Fits w64 (p + m)
     pass-passed byte e = record { fits = omega (arith, turn .few, o .most, e, wait-small byte) }
@@ -323,8 +317,12 @@ module _ {s : List ℕ} {f : Layout} (o : HasLayout s f) {role : ℕ} {triples f
 pub pass-puts : (x role kind byte y z : ℕ) (triples : List ℕ) (ands : ℕ) (far : List ℕ) (p : ℕ) → x ≡ byteBy role kind byte y z triples ands far p
     → {s : List ℕ} {f : Layout} → HasLayout s f → {before bits₀ wires bits : List ℕ} → CanPass s f triples far (length bits₀) before
     → {at q i : ℕ} → PassTurn s (f .inputs) (f .gates) role triples far before bits₀ wires bits at ands p q i → i < f .gates
-    → (a b : ℕ) {next : ℕ} → Whole (gateBy kind a b, next) ≡ readGate (f .inputs + i) s at
-    → (x ≡ 1 → ands * 3 + 1 < length triples) × (x ≡ 1 → q + 1 < length bits)
+    → (a b : ℕ) {next : ℕ} → Whole (gateBy kind a b, next) ≡ readGate (f .inputs + i) s at → CanPut x triples ands bits q
 pass-puts x role kind byte y z triples ands far p e o can turn more a b read =
     let two = is-two x role kind byte y z triples ands far p e in
-    (λ w. omega (arith, and-few o can turn more kind a b read (two w), can .enough), λ w. and-bits o can turn more kind a b read (two w))
+    record {
+      few = omega (arith, turn .stands .few, more, o .most);
+      low = omega (arith, turn .below, turn .stands .few, more, o .most);
+      triple = λ w. omega (arith, and-few o can turn more kind a b read (two w), can .enough);
+      room = λ w. and-bits o can turn more kind a b read (two w);
+    }

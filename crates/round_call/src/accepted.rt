@@ -1,9 +1,9 @@
 // A round that has passed every test.
 ghost use mathlib.Core.Path.{_≡_};
 ghost use lib.ListN.{length};
-ghost use Rattle.circuit.specs.Answer.{content};
-ghost use Rattle.circuit_round.specs.Inner.Passes.{Tested, acceptedOn};
-ghost use Rattle.circuit_round.specs.Round.{roundWith, roundOutcome, stateWith};
+ghost use Rattle.circuit.specs.Answer.{content, HasLayout};
+ghost use Rattle.circuit_run.specs.Inner.RoundPasses.{Tested, acceptedOn};
+ghost use Rattle.circuit_run.specs.Round.{roundWith, roundOutcome, stateWith};
 use crate::input::Frame;
 use crate::passing::pass_gates;
 use crate::passing::take_inputs;
@@ -26,7 +26,8 @@ pub fn accepted_round(
     bits_out: &mut [u8],
     wires: &mut [u8; 4096],
 ) -> Lengths
-    requires { ⌜ Tested (now circuit) (frame .layout) (now shares) (now triples) (length (now output)) (now «far_bits») (length (now «bits_out»)) (now wires) ⌝ }
+    requires { ⌜ HasLayout (now circuit) (frame .layout)
+        × Tested (frame .layout) (now shares) (now triples) (length (now output)) (now «far_bits») (length (now «bits_out»)) (now wires) ⌝ }
     ensures { λ r. ⌜ roundOutcome 0 (r .written) (r .«bits_written») (stateWith (now (wires .exit)))
         (roundWith (frame .role) (now (circuit .exit)) (now (shares .exit)) (now (triples .exit))
         (now (output .exit)) (now («far_bits» .exit)) (now («bits_out» .exit)))

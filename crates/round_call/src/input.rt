@@ -4,8 +4,9 @@ ghost use Prim.Native.Nat.{_+_, _≤_};
 ghost use lib.ListN.{length, take, drop};
 ghost use Rattle.answer.specs.Tests.{firstFault};
 ghost use Rattle.circuit.specs.Admitted.{mostWires};
-ghost use Rattle.circuit_round.specs.Inner.Tests.{waitOf, byteTests, askedTests};
-ghost use Rattle.circuit_round.specs.Round.{waiting};
+ghost use Rattle.circuit_run.specs.Inner.RoundTests.{waitOf, byteTests, askedTests};
+ghost use Rattle.circuit_run.specs.Inner.RoundPasses.{Checks};
+ghost use Rattle.circuit_run.specs.Round.{waiting};
 use answer::BAD_LENGTH;
 use answer::BUFFER_SHORT;
 use answer::NOT_ELEMENT;
@@ -31,7 +32,7 @@ pub fn wait_of(byte: u8) -> usize
 }
 
 // How many gates wait.
-pub fn waiting_gates(wires: &[u8; 4096], inputs: usize, gates: usize) -> usize
+fn waiting_gates(wires: &[u8; 4096], inputs: usize, gates: usize) -> usize
     requires { ⌜ (inputs + gates ≤ mostWires) × (length (now wires) ≡ mostWires) ⌝ }
     ensures { λ r. ⌜ r ≡ waiting (take gates (drop inputs (now (wires .entry)))) ⌝ }
 {
@@ -67,7 +68,7 @@ fn bits_number(ands: usize, role: u8, shares: &[u8], triples: &[u8], far_bits: &
 }
 
 // The number of a round whose state has so many gates that wait, with room for an output and for bits of so many bytes.
-pub fn round_number(
+fn round_number(
     layout: Layout,
     waits: usize,
     role: u8,
@@ -95,4 +96,32 @@ pub fn round_number(
         return BUFFER_SHORT;
     }
     bits_number(layout.ands, role, shares, triples, far_bits)
+}
+
+// The number of a round on a state of these wires, with room for an output and for bits of so many bytes.
+pub fn check(
+    frame: Frame,
+    wires: &[u8; 4096],
+    shares: &[u8],
+    triples: &[u8],
+    far_bits: &[u8],
+    room: usize,
+    bits_room: usize,
+) -> u32
+    requires { ⌜ (frame .layout .inputs + frame .layout .gates ≤ mostWires) × (length (now wires) ≡ mostWires) ⌝ }
+    ensures { λ r. ⌜ Checks (frame .layout) (frame .role) (now (shares .entry)) (now (triples .entry)) room (now («far_bits» .entry))
+        «bits_room» (now (wires .entry)) r ⌝ }
+{
+    let layout = frame.layout;
+    let waits = waiting_gates(wires, layout.inputs, layout.gates);
+    round_number(
+        layout,
+        waits,
+        frame.role,
+        shares,
+        triples,
+        far_bits,
+        room,
+        bits_room,
+    )
 }

@@ -1,7 +1,7 @@
 // A round of an end's run of a circuit: opens every AND whose wires are known.
 ghost use mathlib.Core.Path.{_≡_};
-ghost use Rattle.circuit_round.specs.Inner.Passes.{roundedWith};
-ghost use Rattle.circuit_round.specs.Round.{roundWith, rounded, round, stateWith};
+ghost use Rattle.circuit_run.specs.Inner.RoundPasses.{roundedWith};
+ghost use Rattle.circuit_run.specs.Round.{roundWith, rounded, round, stateWith};
 
 mod accepted;
 mod input;
@@ -12,11 +12,10 @@ use accepted::accepted_round;
 use circuit::Answer;
 use circuit::circuit_fault;
 use circuit::read_circuit;
-use circuit_round::RoundState;
-use circuit_round::Rounded;
+use circuit_run::RoundState;
+use circuit_run::Rounded;
 use input::Frame;
-use input::round_number;
-use input::waiting_gates;
+use input::check;
 
 // A refused round: zeros, and the state as it was.
 fn refused(number: u32, state: RoundState) -> Rounded
@@ -53,11 +52,13 @@ pub fn round_run(
         return refused(circuit_fault(read), state);
     };
     let mut wires = state.wires;
-    let waits = waiting_gates(&wires, layout.inputs, layout.gates);
-    let number = round_number(
-        layout,
-        waits,
-        role,
+    let frame = Frame {
+        layout: layout,
+        role: role,
+    };
+    let number = check(
+        frame,
+        &wires,
         shares,
         triples,
         far_bits,
@@ -67,10 +68,6 @@ pub fn round_run(
     if number != 0 {
         return refused(number, state);
     }
-    let frame = Frame {
-        layout: layout,
-        role: role,
-    };
     let lengths = accepted_round(
         circuit,
         frame,

@@ -4,16 +4,16 @@ ghost use mathlib.Core.Path.{_≡_};
 ghost use Prim.Native.Nat.{ℕ, _+_, _*_, _<_, _≤_};
 ghost use lib.ListN.{length, getD, drop};
 ghost use Rattle.circuit.specs.Answer.{HasLayout};
-ghost use Rattle.circuit_round.specs.Inner.Gates.{inputByte, AndHas, openedBy, andByteBy, localByteBy, byteBy};
-ghost use Rattle.circuit_round.specs.Inner.Passes.{CanPass, Passes};
-ghost use Rattle.circuit_round.specs.Round.{inputBytes};
+ghost use Rattle.circuit_run.specs.Inner.RoundGates.{inputByte, AndHas, openedBy, andByteBy, localByteBy, byteBy};
+ghost use Rattle.circuit_run.specs.Inner.RoundPasses.{CanPass, Passes};
+ghost use Rattle.circuit_run.specs.Round.{knownAs, inputBytes};
 use crate::input::Frame;
 use crate::input::wait_of;
 use crate::writing::put_bits;
 use circuit::and_of;
 use circuit::known_gate;
-use step_call::and_share;
 use step_call::flip;
+use step_call::opened_share;
 
 // The byte of an input: a known one stays, another takes its share.
 fn input_byte(byte: u8, share: u8) -> u8
@@ -35,8 +35,8 @@ pub fn take_inputs(shares: &[u8], wires: &mut [u8; 4096])
     }
 }
 
-// The share of an AND that waits, its wires' bytes given: it takes the triple of its number and the far bits of its place.
-fn opened_share(
+// The byte of an AND that waited, its wires' bytes given: it takes the triple of its number and the far bits of its place.
+fn opened_byte(
     role: u8,
     x: u8,
     y: u8,
@@ -46,16 +46,12 @@ fn opened_share(
     passed: usize,
 ) -> u8
     requires { ⌜ AndHas (now triples) ands (now «far_bits») passed ⌝ }
-    ensures { λ r. ⌜ (r ≡ openedBy role x y (now (triples .entry)) ands (now («far_bits» .entry)) passed) × (r ≤ 1) ⌝ }
+    ensures { λ r. ⌜ r ≡ knownAs (openedBy role x y (now (triples .entry)) ands (now («far_bits» .entry)) passed) ⌝ }
 {
-    let at = ands * 3;
     let place = 2 * passed;
-    let a = triples[at];
-    let b = triples[at + 1];
-    let c = triples[at + 2];
-    let d = x % 2 ^ a ^ far_bits[place];
-    let e = y % 2 ^ b ^ far_bits[place + 1];
-    and_share(role, d, e, a, b, c)
+    let first = far_bits[place];
+    let second = far_bits[place + 1];
+    2 + opened_share(role, x % 2, y % 2, triples, ands, first, second)
 }
 
 // The byte of a gate's own wire, and those of the wires that it takes.
@@ -78,7 +74,7 @@ fn and_byte(
     ensures { λ r. ⌜ r ≡ andByteBy role (bytes .own) (bytes .x) (bytes .y) (now (triples .entry)) ands (now («far_bits» .entry)) passed ⌝ }
 {
     if bytes.own == 1 {
-        return 2 + opened_share(role, bytes.x, bytes.y, triples, ands, far_bits, passed);
+        return opened_byte(role, bytes.x, bytes.y, triples, ands, far_bits, passed);
     }
     if bytes.x < 2 {
         return 0;

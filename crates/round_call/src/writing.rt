@@ -1,12 +1,12 @@
 // What a round writes: the bits to send, or the outputs.
 ghost use mathlib.Core.List.{_++_};
 ghost use mathlib.Core.Path.{_≡_};
-ghost use Prim.Native.Nat.{_+_, _*_, _<_, _≤_};
+ghost use Prim.Native.Nat.{_≤_};
 ghost use lib.ListN.{length, drop};
 ghost use Rattle.circuit.specs.Answer.{content, HasLayout};
 ghost use Rattle.circuit.specs.Value.{atWires};
-ghost use Rattle.circuit_round.specs.Inner.Gates.{placeAfter, putBits};
-ghost use Rattle.circuit_round.specs.Round.{sharesIn};
+ghost use Rattle.circuit_run.specs.Inner.RoundGates.{CanPut, placeAfter, putBits};
+ghost use Rattle.circuit_run.specs.Round.{sharesIn};
 use circuit::Layout;
 use circuit::known_wire;
 
@@ -20,7 +20,7 @@ pub fn put_bits(
     bits_out: &mut [u8],
     place: usize,
 ) -> usize
-    requires { ⌜ (ands ≤ 4096) × (place ≤ 8192) × (byte ≡ 1 → ands * 3 + 1 < length (now triples)) × (byte ≡ 1 → place + 1 < length (now «bits_out»)) ⌝ }
+    requires { ⌜ CanPut byte (now triples) ands (now «bits_out») place ⌝ }
     ensures { λ r. ⌜ (r ≡ placeAfter byte place) × (now («bits_out» .exit) ≡ putBits byte x y (now (triples .entry)) ands place (now («bits_out» .entry))) ⌝ }
 {
     if byte != 1 {

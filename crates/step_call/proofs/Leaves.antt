@@ -1,14 +1,10 @@
--- Each return of the small functions gives what the definition says there. Assumes nothing.
+-- Whether far bits are bits: each return gives what the definition says there. Assumes nothing.
 use Prim.Native.Nat.{ℕ, _≤_, _<_}
 use mathlib.Core.Bool.{Bool, true, false, not}
 use mathlib.Core.Path.{_≡_}
-use borrow.Author.Tests.{lt-leb, le-leb, eq-eqb, ne-eqb}
-use lib.Bits.{bitXor, bitAnd}
-use lib.Dec.{leb, eqb}
-use Rattle.circuit_run.specs.Inner.Places.{localShare}
-use Rattle.circuit_run.specs.Step.{farAdmitted, isRole, flipped, andShare}
-
--- ---- far bits and role
+use borrow.Author.Tests.{lt-leb, le-leb}
+use lib.Dec.{leb}
+use Rattle.circuit_run.specs.Step.{farAdmitted}
 
 module _ (waits : Bool) (first second : ℕ) where
   pub far-unread : not waits ≡ true → true ≡ farAdmitted waits first second
@@ -20,35 +16,3 @@ module _ (waits : Bool) (first second : ℕ) where
 
     pub far-second : first ≤ 1 → leb second 1 ≡ farAdmitted waits first second
     far-second h = rw (w, le-leb first 1 h)
-
-pub role-one : (role : ℕ) → role ≡ 1 → true ≡ isRole role
-role-one role e = simp (eq-eqb _ _ e)
-
-pub role-two : (role : ℕ) → (role ≡ 1 → ⊥) → eqb role 2 ≡ isRole role
-role-two role n = simp (ne-eqb _ _ n)
-
--- ---- shares
-
-pub flip-one : (role x : ℕ) → role ≡ 1 → bitXor x 1 ≡ flipped role x
-unfolding flipped
-flip-one role x e = simp (eq-eqb _ _ e)
-
-pub flip-other : (role x : ℕ) → (role ≡ 1 → ⊥) → x ≡ flipped role x
-unfolding flipped
-flip-other role x n = simp (ne-eqb _ _ n)
-
-pub local-xor : (role kind x y : ℕ) → kind ≡ 1 → bitXor x y ≡ localShare role kind x y
-local-xor role kind x y e = simp (eq-eqb _ _ e)
-
-pub local-not : (role kind x y r : ℕ) → (kind ≡ 1 → ⊥) → r ≡ flipped role x → r ≡ localShare role kind x y
-local-not role kind x y r n e = simp (ne-eqb _ _ n) e
-
-module _ (role d e first second third : ℕ) where
-  pub and-one : role ≡ 1
-      → bitXor (bitXor (bitXor third (bitAnd d second)) (bitAnd e first)) (bitAnd d e) ≡ andShare role d e first second third
-  unfolding andShare
-  and-one r = simp (eq-eqb _ _ r)
-
-  pub and-other : (role ≡ 1 → ⊥) → bitXor (bitXor third (bitAnd d second)) (bitAnd e first) ≡ andShare role d e first second third
-  unfolding andShare
-  and-other n = simp (ne-eqb _ _ n)

@@ -1,7 +1,7 @@
 // The tests of a step, once its circuit is read.
 ghost use mathlib.Core.Path.{_≡_};
 ghost use Rattle.answer.specs.Tests.{firstFault};
-ghost use Rattle.circuit_run.specs.Inner.Tests.{askedTests};
+ghost use Rattle.circuit_run.specs.Inner.StepTests.{askedTests};
 ghost use Rattle.circuit_run.specs.Step.{farAdmitted, isRole};
 use answer::BAD_CIRCUIT;
 use answer::BAD_LENGTH;

@@ -18,8 +18,8 @@ use circuit_run::Asked;
 use circuit_run::StepState;
 use circuit_run::Stepped;
 pub use input::is_role;
-pub use running::and_share;
 pub use running::flip;
+pub use running::opened_share;
 
 // A refused step: zeros, and the state as it was.
 fn refused(number: u32, state: StepState) -> Stepped

@@ -5,8 +5,8 @@ ghost use Prim.Native.Nat.{_+_, _*_, _<_, _≤_};
 ghost use lib.ListN.{length, drop};
 ghost use Rattle.circuit.specs.Answer.{content, HasLayout};
 ghost use Rattle.circuit.specs.Value.{atWires};
-ghost use Rattle.circuit_run.specs.Inner.Places.{localShare, Stands, CanProceed, Stops, givenAnd, proceeded};
-ghost use Rattle.circuit_run.specs.Step.{flipped, andShare, freshWires, runOn};
+ghost use Rattle.circuit_run.specs.Inner.Places.{localShare, Stands, CanProceed, Stops, openedWith, givenAnd, proceeded};
+ghost use Rattle.circuit_run.specs.Step.{flipped, freshWires, runOn};
 use circuit::Layout;
 use circuit::known_gate;
 use circuit::known_wire;
@@ -71,10 +71,25 @@ fn run_on(source: &[u8], layout: Layout, role: u8, from: Place, wires: &mut [u8;
     }
 }
 
-// The share of an AND, from the combined bits and a triple.
-pub fn and_share(role: u8, d: u8, e: u8, a: u8, b: u8, c: u8) -> u8
-    ensures { λ r. ⌜ r ≡ andShare role d e a b c ⌝ }
+// The share of an AND that waits, its wires' shares given: it takes the triple of its number and its two far bits.
+pub fn opened_share(
+    role: u8,
+    x: u8,
+    y: u8,
+    triples: &[u8],
+    ands: usize,
+    far_first: u8,
+    far_second: u8,
+) -> u8
+    requires { ⌜ ands * 3 + 2 < length (now triples) ⌝ }
+    ensures { λ r. ⌜ r ≡ openedWith role x y (now (triples .entry)) ands «far_first» «far_second» ⌝ }
 {
+    let at = ands * 3;
+    let a = triples[at];
+    let b = triples[at + 1];
+    let c = triples[at + 2];
+    let d = x ^ a ^ far_first;
+    let e = y ^ b ^ far_second;
     let sum = c ^ (d & b) ^ (e & a);
     if role == 1 { sum ^ (d & e) } else { sum }
 }
@@ -84,15 +99,17 @@ fn give_and(asked: Asked, spot: Spot, wire: usize, triples: &[u8], wires: &mut [
     requires { ⌜ (spot .«first_wire» < 4096) × (spot .«second_wire» < 4096) × (spot .ands * 3 + 2 < length (now triples)) × (wire < 4096) ⌝ }
     ensures { λ _. ⌜ now (wires .exit) ≡ givenAnd asked spot wire (now (triples .entry)) (now (wires .entry)) ⌝ }
 {
-    let at = spot.ands * 3;
     let x = spot.first_wire;
     let y = spot.second_wire;
-    let a = triples[at];
-    let b = triples[at + 1];
-    let c = triples[at + 2];
-    let d = wires[x] ^ a ^ asked.far_first;
-    let e = wires[y] ^ b ^ asked.far_second;
-    wires[wire] = and_share(asked.role, d, e, a, b, c);
+    wires[wire] = opened_share(
+        asked.role,
+        wires[x],
+        wires[y],
+        triples,
+        spot.ands,
+        asked.far_first,
+        asked.far_second,
+    );
 }
 
 // The wires of a fresh run: the shares, and zero past them.

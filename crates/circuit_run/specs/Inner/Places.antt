@@ -15,7 +15,7 @@ use Rattle.circuit.specs.declared.Layout.{Layout}
 use Rattle.number.specs.Reading.{Whole}
 use Rattle.circuit_run.specs.Step.{gateAt, andsBefore, firstWire, secondWire, tripleFirst, tripleSecond, tripleThird, stateAdmitted, flipped}
 use Rattle.circuit_run.specs.Step.{andShare, freshWires, runOn, stepStateWith, StepLent, StepOutcome, stateAfter, acceptedStep}
-use Rattle.circuit_run.specs.Inner.Tests.{askedTests}
+use Rattle.circuit_run.specs.Inner.StepTests.{askedTests}
 use Rattle.circuit_run.specs.declared.places.Checked.{Checked}
 use Rattle.circuit_run.specs.declared.places.Asked.{Asked}
 use Rattle.circuit_run.specs.declared.places.Place.{Place}
@@ -84,14 +84,19 @@ pub record Stops (s : List ℕ) (f : Layout) (before : StepState) (r : Reached) 
   pub ands : r .ands ≡ andsBefore (content s) (r .gate)
   pub few : r .waits ≡ true → r .ands < f .ands
 
+-- the share of an AND that waits, x and y its wires' shares, by the triple of its number and its two far bits
+unfoldable pub openedWith : ℕ → ℕ → ℕ → List ℕ → ℕ → ℕ → ℕ → ℕ
+openedWith role x y triples ands farFirst farSecond =
+    andShare role
+    (bitXor (bitXor x (tripleFirst triples ands)) farFirst)
+    (bitXor (bitXor y (tripleSecond triples ands)) farSecond)
+    (tripleFirst triples ands) (tripleSecond triples ands) (tripleThird triples ands)
+
 -- the wires of a run that waits, with the AND's share
 unfoldable pub givenAnd : Asked → Spot → ℕ → List ℕ → List ℕ → List ℕ
 givenAnd a r wire triples wires =
     set wires wire
-    (andShare (a .role)
-    (bitXor (bitXor (getD wires (r .«first_wire») 0) (tripleFirst triples (r .ands))) (a .«far_first»))
-    (bitXor (bitXor (getD wires (r .«second_wire») 0) (tripleSecond triples (r .ands))) (a .«far_second»))
-    (tripleFirst triples (r .ands)) (tripleSecond triples (r .ands)) (tripleThird triples (r .ands)))
+    (openedWith (a .role) (getD wires (r .«first_wire») 0) (getD wires (r .«second_wire») 0) triples (r .ands) (a .«far_first») (a .«far_second»))
 
 -- the state after a step of a fresh run, or of one that waits
 unfoldable pub proceeded : List ℕ → Layout → Asked → Spot → List ℕ → List ℕ → List ℕ → StepState

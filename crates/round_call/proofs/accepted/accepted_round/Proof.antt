@@ -1,5 +1,5 @@
 -- `round_call::accepted::accepted_round` meets its contract: one law for each need. Assumes nothing.
-use Rattle.circuit_round.proofs.Rounds.{can-pass, round-finishes, round-opens}
+use Rattle.circuit_run.proofs.Rounds.{can-pass, round-finishes, round-opens}
 use borrow.Author.Needs.{needs}
 use Rattle.round_call.proofs.accepted.accepted_round.Statement.{statement}
 use Rattle.round_call.proofs.accepted.accepted_round.Tie as tie

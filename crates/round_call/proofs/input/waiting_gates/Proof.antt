@@ -2,7 +2,7 @@
 -- the gates left. Assumes nothing.
 use Prim.Native.Nat.{_-_}
 use native.Mathlib.Omega.{arith}
-use Rattle.circuit_round.proofs.Waiting.{CountTurn, count-start, count-fits, count-next, count-done}
+use Rattle.circuit_run.proofs.Waiting.{CountTurn, count-start, count-fits, count-next, count-done}
 use borrow.Author.Needs.{needs}
 use Rattle.round_call.proofs.input.waiting_gates.Statement.{statement}
 use Rattle.round_call.proofs.input.waiting_gates.Tie as tie

@@ -1,5 +1,5 @@
 -- `round_call::passing::input_byte` meets its contract. Assumes nothing.
-use Rattle.round_call.proofs.Leaves.{input-stays, input-takes}
+use Rattle.circuit_run.proofs.Numbers.{tests}
 use borrow.Author.Needs.{needs}
 use Rattle.round_call.proofs.passing.input_byte.Statement.{statement}
 use Rattle.round_call.proofs.passing.input_byte.Tie as tie
@@ -9,6 +9,6 @@ input-byte-spec =
     tie.close
     (tie.spec
     (λ c. search needs)  -- add-result
-    (λ c. search input-takes)  -- returns
-    (λ c. search input-stays)  -- returns-2
+    (λ c. search tests)  -- returns
+    (λ c. search tests)  -- returns-2
     )

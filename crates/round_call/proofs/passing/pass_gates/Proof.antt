@@ -2,7 +2,7 @@
 -- is as it was, and the bits of those that wait stand in front of what was there. The measure is the gates left. Assumes nothing.
 use Prim.Native.Nat.{_-_}
 use native.Mathlib.Omega.{arith}
-use Rattle.round_call.proofs.Passes.{PassTurn, pass-start, pass-wire, pass-known, pass-room, pass-below, pass-has, pass-few, pass-place, pass-puts, pass-ands, pass-passed, pass-next, pass-kept, pass-done}
+use Rattle.round_call.proofs.Passes.{PassTurn, pass-start, pass-wire, pass-known, pass-room, pass-below, pass-has, pass-puts, pass-ands, pass-passed, pass-next, pass-kept, pass-done}
 use borrow.Author.Needs.{needs}
 use Rattle.round_call.proofs.passing.pass_gates.Statement.{statement}
 use Rattle.round_call.proofs.passing.pass_gates.Tie as tie
@@ -28,14 +28,7 @@ pass-gates-spec =
     (λ c. search pass-below)  -- element-copy-out-y
     (λ c κs. search pass-has)  -- gate-byte-requires
     (λ c. search pass-room)  -- element-write-wires
-    (λ c κs.
-    let gate = c .before .before .before .before .before in
-    let turn = gate .before .before in
-    let start = turn .before .before .before .before .before in
-    let puts =
-    pass-puts _ _ _ _ _ _ _ _ _ _ (c .before .gate-byte .ensures) (start .pre .0) (start .pre .1) (turn .loop .inv) (gate .before .loop-test .taken) _ _
-    (gate .known-gate .ensures .0) in
-    (search pass-few, search pass-place, puts .0, puts .1))  -- put-bits-requires
+    (λ c κs. search (pass-puts _ _ _ _ _ _ _ _ _ _ (c .before .gate-byte .ensures)))  -- put-bits-requires
     (λ c κs. search needs)  -- and-of-requires
     (λ c. search pass-ands)  -- add-ands
     (λ c κs. search needs)  -- wait-of-requires

@@ -1,14 +1,17 @@
 -- `round_call::writing::put_bits` meets its contract. Assumes nothing.
-use Rattle.round_call.proofs.Leaves.{place-stays, bits-stay, place-moves, bits-put, first-bit, second-bit, first-room, second-room}
+use Rattle.round_call.proofs.Leaves.{first-bit, second-bit, first-room, second-room}
+use Rattle.circuit_run.proofs.Numbers.{tests}
+use Rattle.circuit_run.specs.Inner.RoundGates.{putBits}
 use borrow.Author.Needs.{needs}
 use Rattle.round_call.proofs.writing.put_bits.Statement.{statement}
 use Rattle.round_call.proofs.writing.put_bits.Tie as tie
 
 pub put-bits-spec : {M : Type 1} → statement M
+unfolding putBits
 put-bits-spec =
     tie.close
     (tie.spec
-    (λ c. (search place-stays, search bits-stay))  -- returns
+    (λ c. (search tests, search tests))  -- returns
     (λ c. search needs)  -- mul-at
     (λ c. search first-bit)  -- shared-slice-read-bits-out
     (λ c. search first-room)  -- slice-write-bits-out
@@ -18,5 +21,5 @@ put-bits-spec =
     (λ c. search second-room)  -- slice-write-bits-out-2
     (λ c. search needs)  -- add-result
     (λ c. search needs)  -- same-length
-    (λ c. (search place-moves, search bits-put))  -- returns-2
+    (λ c. (search tests, search tests))  -- returns-2
     )

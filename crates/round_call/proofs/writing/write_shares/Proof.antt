@@ -4,7 +4,7 @@ use Prim.Native.Nat.{_-_}
 use native.Mathlib.Omega.{arith}
 use Rattle.circuit_run.proofs.Wires.{OutputTurn, output-start, limit-fits, output-length, output-room, output-known, output-wire, output-done}
 use Rattle.round_call.proofs.Outputs.{shares-next}
-use Rattle.circuit_round.specs.Round.{sharesIn}
+use Rattle.circuit_run.specs.Round.{sharesIn}
 use Rattle.round_call.proofs.writing.write_shares.Statement.{statement}
 use Rattle.round_call.proofs.writing.write_shares.Tie as tie
 

@@ -8,15 +8,9 @@ pub give-and-spec : {M : Type 1} → statement M
 give-and-spec =
     tie.close
     (tie.spec
-    (λ c. search needs)  -- mul-at
-    (λ c. search needs)  -- shared-slice-read-first
-    (λ c. search needs)  -- add-second
-    (λ c. search needs)  -- shared-slice-read-second
-    (λ c. search needs)  -- add-third
-    (λ c. search needs)  -- shared-slice-read-third
-    (λ c. search needs)  -- element-copy-out-d
-    (λ c. search needs)  -- element-copy-out-e
-    (λ c κs. search needs)  -- and-share-requires
+    (λ c. search needs)  -- element-copy-out-opened-share
+    (λ c. search needs)  -- element-copy-out-opened-share-2
+    (λ c κs. search needs)  -- opened-share-requires
     (λ c. search needs)  -- element-write-wires
     (λ c. search given)  -- returns
     )

@@ -1,5 +1,5 @@
 -- `step_call::running::local_share` meets its contract. Assumes nothing.
-use Rattle.step_call.proofs.Leaves.{local-xor, local-not}
+use Rattle.circuit_run.proofs.Numbers.{tests}
 use borrow.Author.Needs.{needs}
 use Rattle.step_call.proofs.running.local_share.Statement.{statement}
 use Rattle.step_call.proofs.running.local_share.Tie as tie
@@ -8,7 +8,7 @@ pub local-share-spec : {M : Type 1} → statement M
 local-share-spec =
     tie.close
     (tie.spec
-    (λ c. search local-xor)  -- returns
+    (λ c. search tests)  -- returns
     (λ c κs. search needs)  -- flip-requires
-    (λ c. search local-not)  -- returns-2
+    (λ c. search tests)  -- returns-2
     )

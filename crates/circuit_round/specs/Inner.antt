@@ -1,4 +1,0 @@
--- Inner definitions: no promise cites them.
-pub mod Tests
-pub mod Gates
-pub mod Passes
