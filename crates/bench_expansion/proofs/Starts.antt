@@ -26,7 +26,7 @@ use Rattle.tree.specs.Tree.{leafAt, fromSiblings}
 use Rattle.tree.proofs.Levels.{whole-levels, level-leaves}
 use Rattle.ends.specs.Noise.Vectors as noise
 use Rattle.ends.specs.Inner.Noise.{treeSiblings, treesAt, contentOf}
-use Rattle.ends.proofs.Trees.{correction-words, siblings-columns}
+use Rattle.ends.proofs.noise.Content.{correction-words, siblings-columns}
 use Rattle.ends.specs.Inner.Scalar as scalarReady
 use Rattle.ends.specs.Scalar.Vectors as scalar
 use Rattle.field.specs.Inner.Elements.{elementIn}

@@ -17,7 +17,6 @@ use Rattle.record.specs.declared.Layout.{Layout}
 use Rattle.record.specs.declared.Tree.{Tree}
 use Rattle.record.proofs.Callers.{again-asks, again-at}
 use Rattle.ends.specs.Inner.Noise.{treeSiblings, treesAt, Ready, TreeRead}
-use Rattle.ends.proofs.Trees.{all-left}
 use Rattle.bench_expansion.specs.Inner.Trees.{treeAt, treePut, IsTree, TreesIn}
 
 -- ---- a tree put into the table
@@ -96,15 +95,14 @@ pub record Tabled (s : List ℕ) (f : Layout) (n place base i : ℕ) (table : Li
 module _ (s : List ℕ) (f : Layout) where
   pub tabled-none : Ready s f → f .trees ≤ 64 → {n : ℕ} → (n ≡ treeSiblings f) × (n ≤ 112) → (table : List ℕ) → length table ≡ 320 → Tabled s f n (f .body) 0 0 table
   tabled-none ready most {n} count table size =
-      let a = all-left s f (ready .known) in
       record {
         siblings = count .0;
         few = count .1;
         levels = ready .sizes .depth;
         most = most;
         within = omega arith;
-        end = a .0;
-        rest = ap (λ (x : ℕ). readTrees (f .field) (f .depth) x (f .trees - 0) 0 s (f .body)) (count .0) ∙ a .1;
+        end = ready .end;
+        rest = ap (λ (x : ℕ). readTrees (f .field) (f .depth) x (f .trees - 0) 0 s (f .body)) (count .0) ∙ ready .trees;
         trees = λ i h. absurd (omega arith);
         size = size;
       }

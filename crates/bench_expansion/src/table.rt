@@ -4,7 +4,7 @@ ghost use Prim.Native.Nat.{_≤_, _<_};
 ghost use Rattle.record.specs.declared.Tree.{Tree};
 ghost use Rattle.ends.specs.Inner.Noise.{Ready};
 ghost use Rattle.bench_expansion.specs.Inner.Trees.{treeAt, TreesIn, treePut};
-use ends::noise::tree_at as record_tree;
+use end_calls::noise::tree_at as record_tree;
 use record::Layout;
 use record::Tree;
 use record::sibling_count;

@@ -8,7 +8,7 @@ use lib.ListN.{length, take}
 use Rattle.answer.specs.Numbers.{windowPastEnd, bufferShort}
 use Rattle.answer.specs.Tests.{Test, _atMost_, _or_, firstFault}
 use Rattle.answer.specs.Outcome.{Outcome, TwoWritten, answered, refusedOne, refusedTwo, wrote}
-use Rattle.answer.proofs.Answers.{answered-either, answered-same, outcome-number, outcome-is}
+use Rattle.answer.proofs.Answers.{accepted-if, answered-either, answered-same, outcome-number, outcome-is}
 use Rattle.answer.proofs.Faults.{is-so, held}
 use Rattle.algebra.specs.Coding.{CodingLaws, at, flat}
 use Rattle.algebra.specs.Field.{Value}
@@ -29,7 +29,6 @@ use Rattle.ends.specs.Parts.{vectorWords}
 use Rattle.ends.specs.Scalar.Vectors.{w0, deltaOut}
 use Rattle.ends.specs.Scalar.Offline.{OfflineLent, offlineWith, offlineTests, expanded, offline}
 use Rattle.ends.specs.Scalar.Online.{Lent, usable, filled, onlineTests, online}
-use Rattle.ends.proofs.Answers.{both-written}
 use Rattle.ends.proofs.Vectors.{front-taken, vector-length, vector-usable, window-at}
 
 -- ---- offline
@@ -65,7 +64,7 @@ module _ (source : List ℕ) {P : ScalarPart} (w delta : List ℕ) (e : readScal
 
   -- with room in both buffers the call is accepted
   pub offline-accepts : vectorWords (P .head) ≤ length w → 2 ≤ length delta → Accepted P source (offline source w delta)
-  offline-accepts h k = left (offline-whole ∙ sym (both-written _ _ _ _ (length w) (length delta) refl h refl k refl))
+  offline-accepts h k = left (offline-whole ∙ accepted-if _ _ _ (record { all = (h, (k, tt)) }))
 
   -- a call that returns 0 left what an accepted call leaves
   pub offline-accepted : offline source w delta .number ≡ 0 → Accepted P source (offline source w delta)
