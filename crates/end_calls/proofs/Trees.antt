@@ -14,9 +14,9 @@ use Rattle.algebra.specs.Choice.{choose}
 use Rattle.algebra.specs.Coding.{flat}
 use Rattle.algebra.specs.Inner.Put.{put}
 use Rattle.algebra.specs.Expansion.{noise, punctured, whole}
-use Rattle.algebra.specs.Field.{FieldLaws, Value}
+use Rattle.algebra.specs.Field.{Value}
 use Rattle.algebra.proofs.Coding.{flat-cong, length-flat}
-use Rattle.algebra.proofs.Sum.{sum-none, itself-laws}
+use Rattle.algebra.proofs.Sum.{sum-none}
 use Rattle.field.specs.Kind.{kindOf, binaryKind, primeKind, elementWords}
 use Rattle.field.specs.Prime.{prime}
 use Rattle.field.proofs.BothKinds.{kindLaws}
@@ -49,6 +49,7 @@ use Rattle.ends.specs.Noise.Vectors.{value, correction, leaf, mu, v0}
 use Rattle.ends.specs.Scalar.Vectors as scalarVectors
 use Rattle.ends.specs.Inner.Noise.{Ready, TreeRead, treeSiblings, treesAt, contentOf}
 use Rattle.ends.specs.Inner.Scalar as scalar
+use Rattle.ends.proofs.Vectors.{noise-laws}
 use Rattle.ends.proofs.noise.Content.{correction-words, siblings-columns}
 
 -- ---- the trees of either end
@@ -146,12 +147,6 @@ stores field l p x h = of (eqb field 1)
         ≡ put (choose b binaryKind primeKind .field .noiseValues) l p (choose b binaryKind primeKind .field .noiseValues .read (x ∷ []) 0)
     of true = sym (put-one (λ b. b) (λ w. w) l p x h)
     of false = sym (put-one (λ a. a .word) prime l p (prime x) h)
-
--- noise values as elements
-pub noise-laws : (field : ℕ) → FieldLaws (ofNoise (kindOf field .field))
-noise-laws field =
-    let L = kindLaws field .field in
-    record { ring = L .ring; scaled = itself-laws (kindOf field .field .ring) (L .ring); noiseValues = L .noiseValues; elements = L .noiseValues }
 
 -- ---- all its trees
 

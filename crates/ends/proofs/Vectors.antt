@@ -6,15 +6,23 @@ use Prim.Native.Nat.{ℕ, _+_, _*_, _≤_, _<_}
 use native.Mathlib.Nat.{mul-one}
 use lib.ListN.{length, take, drop}
 use Rattle.algebra.specs.Coding.{Coding, CodingLaws, at, flat, over}
-use Rattle.algebra.specs.Field.{NoiseValue}
+use Rattle.algebra.specs.Field.{FieldLaws, NoiseValue}
 use Rattle.algebra.specs.Group.{Scaled, Element}
 use Rattle.algebra.specs.Row.{output}
 use Rattle.algebra.specs.Sum.{accumulate}
 use Rattle.algebra.proofs.Coding.{length-flat, at-flat, at-over, take-over, drop-over}
+use Rattle.algebra.proofs.Sum.{itself-laws}
+use Rattle.field.specs.Kind.{kindOf}
 use Rattle.field.proofs.BothKinds.{kindLaws}
 use Rattle.record.specs.Content.{Head}
-use Rattle.window.specs.Head.{fieldOf, places, row}
+use Rattle.window.specs.Head.{fieldOf, ofNoise, places, row}
 use Rattle.window.proofs.Rows.{row-output}
+
+-- noise values as elements
+pub noise-laws : (field : ℕ) → FieldLaws (ofNoise (kindOf field .field))
+noise-laws field =
+    let L = kindLaws field .field in
+    record { ring = L .ring; scaled = itself-laws (kindOf field .field .ring) (L .ring); noiseValues = L .noiseValues; elements = L .noiseValues }
 
 -- a noise value takes one word
 pub one-word : (h : Head) (n : ℕ) → n * fieldOf h .noiseValues .width ≡ n

@@ -1,4 +1,4 @@
--- Laws of the noise end's two calls: what an accepted offline call leaves, what an online call on whole vectors of elements
+-- Laws of the noise end's calls: what an accepted offline call leaves, what an online call on whole vectors of elements
 -- gives, and that every online call leaves the record and the vectors as they were.
 use mathlib.Core.Path.{_≡_, refl, sym, ap, _∙_}
 use mathlib.Core.Bool.{true}
@@ -30,6 +30,7 @@ use Rattle.ends.specs.Parts.{vectorWords}
 use Rattle.ends.specs.Noise.Vectors.{mu, v0}
 use Rattle.ends.specs.Noise.Offline.{OfflineLent, offlineWith, offlineTests, expanded, offline}
 use Rattle.ends.specs.Noise.Online.{Lent, usable, filled, onlineTests, online}
+use Rattle.ends.specs.Noise.Bench as bench
 use Rattle.ends.proofs.Vectors.{one-word, noise-past, front-taken, vector-length, vector-usable, window-at}
 
 -- ---- offline
@@ -184,3 +185,15 @@ module _ (l : Lent) (P : NoisePart) (f : ℕ → NoiseValue (fieldOf (P .head)))
       ≡ output (fieldOf (P .head) .scaled) (row (P .head) (first + k)) g
   unfolding filled
   online-v n k h = rw (accepted n) (window-at (P .head) (fieldOf (P .head) .scaled) _ coding g v-whole full first count (l .vOut) k h)
+
+-- ---- the expansion for the bench
+
+pub bench-whole : (l : bench.Lent) {P : NoisePart} (first count : ℕ) → readNoise (l .source) ≡ Whole P
+    → bench.benchExpansion l first count ≡ bench.benchWindow P l first count
+unfolding bench.benchExpansion
+bench-whole l {P} first count e = sym (read-whole _ _ _ _ P e refl)
+
+-- a window past n gets 7, whatever room the buffers have
+pub bench-past : (h : Head) (first count uRoom vRoom : ℕ) → h .outputs < first + count
+    → windowPastEnd ≡ firstFault (bench.benchTests h first count uRoom vRoom)
+bench-past h first count uRoom vRoom past = search chain

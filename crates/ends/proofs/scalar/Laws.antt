@@ -1,4 +1,4 @@
--- Laws of the scalar end's two calls: what an accepted offline call leaves, what an online call on a whole vector of elements
+-- Laws of the scalar end's calls: what an accepted offline call leaves, what an online call on a whole vector of elements
 -- gives, and that every online call leaves the record and the vector as they were.
 use mathlib.Core.Path.{_≡_, refl, sym, ap, _∙_}
 use mathlib.Core.Bool.{true}
@@ -29,6 +29,7 @@ use Rattle.ends.specs.Parts.{vectorWords}
 use Rattle.ends.specs.Scalar.Vectors.{w0, deltaOut}
 use Rattle.ends.specs.Scalar.Offline.{OfflineLent, offlineWith, offlineTests, expanded, offline}
 use Rattle.ends.specs.Scalar.Online.{Lent, usable, filled, onlineTests, online}
+use Rattle.ends.specs.Scalar.Bench as bench
 use Rattle.ends.proofs.Vectors.{front-taken, vector-length, vector-usable, window-at}
 
 -- ---- offline
@@ -145,3 +146,17 @@ module _ (l : Lent) (P : ScalarPart) (f : ℕ → Value (fieldOf (P .head))) (re
       ≡ output (fieldOf (P .head) .scaled) (row (P .head) (first + k)) f
   unfolding filled
   online-values n k h = rw (accepted n) (window-at (P .head) (fieldOf (P .head) .scaled) _ coding f whole full first count (l .wOut) k h)
+
+-- ---- the expansion for the bench
+
+pub bench-whole : (l : bench.Lent) {P : ScalarPart} (first count : ℕ) → readScalar (l .source) ≡ Whole P
+    → bench.benchExpansion l first count ≡ bench.benchWindow P l first count
+unfolding bench.benchExpansion
+bench-whole l {P} first count e = sym (read-whole _ _ _ _ P e refl)
+
+-- an accepted call wrote the words of c elements
+pub bench-length : (P : ScalarPart) (l : bench.Lent) (first count : ℕ) → bench.benchWindow P l first count .number ≡ 0
+    → bench.benchWindow P l first count .written ≡ count * fieldOf (P .head) .elements .width
+unfolding bench.benchWindow
+bench-length P l first count n =
+    ap (λ (o : Outcome ℕ bench.Lent). o .written) (outcome-is _ _ _ _ (bench.benchTests (P .head) first count (length (l .wOut))) n)
