@@ -207,4 +207,5 @@ module _ (vector field : ℕ) (rows : List ℕ) (j : ℕ) (value : Element) (b :
     pub summed-all : k ≤ count → count ≤ k → v ≡ placeAdded vector field count rows j (elementValue vector field value) b
     unfolding placeAdded added
     summed-all h g =
-        front-all (fieldFor vector field .elements) addedAt b k count v h g (s .words) ∙ over-whole (fieldFor vector field .elements) coding count addedAt b whole
+        front-all (fieldFor vector field .elements) addedAt b k count v h g (s .words)
+        ∙ over-whole (fieldFor vector field .elements) coding count addedAt b whole

@@ -262,7 +262,8 @@ module _ (s : List ℕ) (code : List (List (List ℕ))) (b : Batch) where
         ∙ strips-times (kindLaws (f .field) .field .ring .group) (2 ^ f .depth) (f .terms) (rowOf code b k) (reads (d .shape) k)
         (F .scaled) (laws .scaled) (strips-within (2 ^ f .depth) (f .terms) (d .shape .full)) (valuesOf (b .vector .number) s f))
 
-    pub batch-strip : {table : List ℕ} {keys : List (List ℕ)} → Walking (b .vector .number) s (b .vector .layout) table keys → IsBatch b → 0 < i → (n : ℕ) → n ≡ b .count * fieldFor (b .vector .number) (b .vector .layout .field) .elements .width
+    pub batch-strip : {table : List ℕ} {keys : List (List ℕ)} → Walking (b .vector .number) s (b .vector .layout) table keys → IsBatch b → 0 < i
+        → (n : ℕ) → n ≡ b .count * fieldFor (b .vector .number) (b .vector .layout .field) .elements .width
         → IsStrip s table keys (record { batch = b; number = i - 1 }) n
     batch-strip w small h n e = record { walking = w; few = small .few; below = batch-below h; whole = e }
 

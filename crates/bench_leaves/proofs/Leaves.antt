@@ -11,8 +11,7 @@ use borrow.Author.Tests.{eq-eqb, ne-eqb}
 use Rattle.algebra.specs.Choice.{choose}
 use Rattle.algebra.specs.Expansion.{noise, punctured, whole}
 use Rattle.algebra.specs.Field.{Value, NoiseValue}
-use Rattle.algebra.specs.Group.{GroupLaws}
-use Rattle.algebra.specs.Sum.{sum}
+use Rattle.algebra.specs.Group.{Group}
 use Rattle.algebra.proofs.Choice.{choose-true, choose-false, choose-map}
 use Rattle.algebra.proofs.Sum.{sum-none, sum-suc, sum-cong}
 use Rattle.algebra.proofs.Tests.{or-none}
@@ -34,7 +33,7 @@ use Rattle.ends.specs.Scalar.Vectors as scalarEnd
 use Rattle.ends.specs.Inner.Scalar as scalarReady
 use Rattle.field.specs.Inner.Elements.{noiseIn, elementIn}
 use Rattle.field.proofs.Elements.{element-zero, noise-zero}
-use Rattle.bench_leaves.specs.Inner.Vectors.{fieldBy, elementValue, leafOf, valuesBy, valuesOf}
+use Rattle.bench_leaves.specs.Inner.Vectors.{fieldBy, elementValue, leafOf, leavesOf, valuesBy, valuesOf}
 use Rattle.bench_leaves.specs.Inner.Trees.{treeAt, TreesIn, Standing, Walking, puncturedAt, StartsAt, TwoStarts, twoLeaves, noiseWord}
 use Rattle.field.specs.declared.element.Element.{Element}
 use Rattle.tree_walk.specs.Inner.Ways.{IsWay}
@@ -88,7 +87,8 @@ sums-are field a b e p q r = r ∙ ap₂ (kindOf field .field .scaled .group .ad
 pub two-walked-are : (s : List ℕ) (f : Layout) (keys : List (List ℕ)) (a b : Start) (j : ℕ) → TwoStarts s f keys a b
     → {m n x y p q : List (List ℕ)} → m ≡ columnsAt s (a .at) → n ≡ columnsAt s (b .at)
     → x ≡ leafAt (2 ^ f .«branch_bits») (childBy (keysFor keys)) (a .left) m j → y ≡ leafAt (2 ^ f .«branch_bits») (childBy (keysFor keys)) (b .left) n j
-    → p ≡ x → q ≡ y → (c d e : Element) → elementIn (f .field) e ≡ kindOf (f .field) .field .scaled .group .add (elementIn (f .field) c) (elementIn (f .field) d)
+    → p ≡ x → q ≡ y → (c d e : Element)
+    → elementIn (f .field) e ≡ kindOf (f .field) .field .scaled .group .add (elementIn (f .field) c) (elementIn (f .field) d)
     → elementIn (f .field) c ≡ kindOf (f .field) .leaf p → elementIn (f .field) d ≡ kindOf (f .field) .leaf q → elementIn (f .field) e ≡ twoLeaves s f a b j
 unfolding twoLeaves
 two-walked-are s f keys a b j both me ne xe ye pe qe c d e ee ce de =
@@ -120,21 +120,19 @@ module _ (vector : ℕ) (table : List ℕ) (i j : ℕ) {t : Bool} (e : t ≡ pun
 -- the sum of the first i trees' leaves at j
 pub record Partly (vector : ℕ) (s : List ℕ) (f : Layout) (j i : ℕ) (total : Element) : Type 0 where
   pub within : i ≤ f .trees
-  pub sum : elementIn (f .field) total ≡ sum (kindOf (f .field) .field .scaled .group) i (λ k. leafOf vector s f k j)
+  pub sum : elementIn (f .field) total ≡ leavesOf vector s f i j
 
 module _ (vector : ℕ) (s : List ℕ) (f : Layout) (j : ℕ) where
-  abbrev summed : ℕ → Value (kindOf (f .field) .field)
-  summed n = sum (kindOf (f .field) .field .scaled .group) n (λ k. leafOf vector s f k j)
+  abbrev G : Group
+  G = kindOf (f .field) .field .scaled .group
 
-  laws : GroupLaws (kindOf (f .field) .field .scaled .group)
-  laws = kindLaws (f .field) .field .scaled .group
+  one-more : (i : ℕ) → G .add (leavesOf vector s f i j) (leafOf vector s f i j) ≡ leavesOf vector s f (suc i) j
+  unfolding leavesOf
+  one-more i = sym (sum-suc G i (λ k. leafOf vector s f k j))
 
   pub partly-none : Partly vector s f j 0 (record { low = 0; high = 0 })
-  partly-none =
-      record {
-        within = omega arith;
-        sum = element-zero (f .field) ∙ sym (sum-none (kindOf (f .field) .field .scaled .group) (λ k. leafOf vector s f k j));
-      }
+  unfolding leavesOf
+  partly-none = record { within = omega arith; sum = element-zero (f .field) ∙ sym (sum-none G (λ k. leafOf vector s f k j)) }
 
   module _ {i : ℕ} {total : Element} (p : Partly vector s f j i total) where
     pub partly-two : i + 1 < f .trees → (both : Element) {next : Element}
@@ -142,27 +140,23 @@ module _ (vector : ℕ) (s : List ℕ) (f : Layout) (j : ℕ) where
         → elementIn (f .field) next ≡ kindOf (f .field) .field .scaled .group .add (elementIn (f .field) total) (elementIn (f .field) both)
         → Partly vector s f j (i + 2) next
     partly-two h both {next} q r =
-        let G = kindOf (f .field) .field .scaled .group in
         record {
           within = omega arith;
           sum =
               sums-are (f .field) total both next (p .sum) q r
-              ∙ sym (laws .add-assoc (summed i) (leafOf vector s f i j) (leafOf vector s f (i + 1) j))
-              ∙ ap (λ (x : Value (kindOf (f .field) .field)). G .add x (leafOf vector s f (i + 1) j)) (sym (sum-suc G i (λ k. leafOf vector s f k j)))
-              ∙ ap (λ (k : ℕ). G .add (summed (suc i)) (leafOf vector s f k j)) (add-one i)
-              ∙ sym (sum-suc G (suc i) (λ k. leafOf vector s f k j))
-              ∙ ap summed {x = suc (suc i)} {y = i + 2} (omega arith);
+              ∙ sym (kindLaws (f .field) .field .scaled .group .add-assoc (leavesOf vector s f i j) (leafOf vector s f i j) (leafOf vector s f (i + 1) j))
+              ∙ ap₂ (λ (x : Value (kindOf (f .field) .field)) (k : ℕ). G .add x (leafOf vector s f k j)) (one-more i) (add-one i)
+              ∙ one-more (suc i) ∙ ap (λ (n : ℕ). leavesOf vector s f n j) {x = suc (suc i)} {y = i + 2} (omega arith);
         }
 
-    pub partly-all : f .trees ≤ i → elementIn (f .field) total ≡ summed (f .trees)
-    partly-all h = p .sum ∙ ap summed (le-antisymm {n = i} {m = f .trees} (p .within) h)
+    pub partly-all : f .trees ≤ i → elementIn (f .field) total ≡ leavesOf vector s f (f .trees) j
+    partly-all h = p .sum ∙ ap (λ (n : ℕ). leavesOf vector s f n j) (le-antisymm {n = i} {m = f .trees} (p .within) h)
 
-  pub partly-last : {i : ℕ} (total last next : Element) → elementIn (f .field) last ≡ leafOf vector s f i j
-      → elementIn (f .field) next ≡ kindOf (f .field) .field .scaled .group .add (elementIn (f .field) total) (elementIn (f .field) last)
-      → Partly vector s f j i total → i < f .trees → f .trees ≤ i + 1 → elementIn (f .field) next ≡ summed (f .trees)
-  partly-last {i} total last next q r p h k =
-      sums-are (f .field) total last next (p .sum) q r
-      ∙ sym (sum-suc (kindOf (f .field) .field .scaled .group) i (λ k. leafOf vector s f k j)) ∙ ap summed {x = suc i} {y = f .trees} (omega arith)
+    pub partly-last : i < f .trees → f .trees ≤ i + 1 → (last next : Element) → elementIn (f .field) last ≡ leafOf vector s f i j
+        → elementIn (f .field) next ≡ kindOf (f .field) .field .scaled .group .add (elementIn (f .field) total) (elementIn (f .field) last)
+        → elementIn (f .field) next ≡ leavesOf vector s f (f .trees) j
+    partly-last h k last next q r =
+        sums-are (f .field) total last next (p .sum) q r ∙ one-more i ∙ ap (λ (n : ℕ). leavesOf vector s f n j) {x = suc i} {y = f .trees} (omega arith)
 
 -- ---- μ
 
@@ -217,13 +211,12 @@ module _ (s : List ℕ) (f : Layout) (table : List ℕ) where
 -- ---- v0 and w0
 
 module _ (vector : ℕ) (s : List ℕ) (f : Layout) (j : ℕ) where
-  leaves-are : (t : Bool) → eqb vector 3 ≡ t → sum (kindOf (f .field) .field .scaled .group) (f .trees) (λ i. leafOf vector s f i j) ≡ valuesBy false t s f j
-  unfolding leafOf noiseEnd.v0 scalarEnd.w0 punctured whole
+  leaves-are : (t : Bool) → eqb vector 3 ≡ t → leavesOf vector s f (f .trees) j ≡ valuesBy false t s f j
+  unfolding leavesOf leafOf noiseEnd.v0 scalarEnd.w0 punctured whole
   leaves-are true e = sum-cong (kindOf (f .field) .field .scaled .group) (f .trees) _ _ (λ i h. choose-true (eqb vector 3) _ _ e)
   leaves-are false e = sum-cong (kindOf (f .field) .field .scaled .group) (f .trees) _ _ (λ i h. choose-false (eqb vector 3) _ _ e)
 
-  pub leaves-value : (vector ≡ 1 → ⊥) → (e : Element)
-      → elementIn (f .field) e ≡ sum (kindOf (f .field) .field .scaled .group) (f .trees) (λ i. leafOf vector s f i j)
+  pub leaves-value : (vector ≡ 1 → ⊥) → (e : Element) → elementIn (f .field) e ≡ leavesOf vector s f (f .trees) j
       → elementValue vector (f .field) e ≡ valuesOf vector s f j
   unfolding valuesOf elementIn
   leaves-value v e q = other (eqb vector 1) (ne-eqb vector 1 v)

@@ -93,7 +93,8 @@ pub record Tabled (s : List ℕ) (f : Layout) (n place base i : ℕ) (table : Li
   pub size : length table ≡ 320
 
 module _ (s : List ℕ) (f : Layout) where
-  pub tabled-none : Ready s f → f .trees ≤ 64 → {n : ℕ} → (n ≡ treeSiblings f) × (n ≤ 112) → (table : List ℕ) → length table ≡ 320 → Tabled s f n (f .body) 0 0 table
+  pub tabled-none : Ready s f → f .trees ≤ 64 → {n : ℕ} → (n ≡ treeSiblings f) × (n ≤ 112) → (table : List ℕ) → length table ≡ 320
+      → Tabled s f n (f .body) 0 0 table
   tabled-none ready most {n} count table size =
       record {
         siblings = count .0;

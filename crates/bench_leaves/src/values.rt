@@ -4,10 +4,9 @@ ghost use Prim.Native.Nat.{_+_, _^_, _≤_, _<_};
 ghost use Rattle.sbox.specs.Inner.Tables.{RoundTables};
 ghost use lib.Dec.{eqb};
 ghost use Rattle.algebra.specs.Choice.{choose};
-ghost use Rattle.algebra.specs.Sum.{sum};
 ghost use Rattle.field.specs.Kind.{kindOf};
 ghost use Rattle.field.specs.Inner.Elements.{elementIn};
-ghost use Rattle.bench_leaves.specs.Inner.Vectors.{elementValue, leafOf, valuesOf};
+ghost use Rattle.bench_leaves.specs.Inner.Vectors.{elementValue, leafOf, leavesOf, valuesOf};
 ghost use Rattle.bench_leaves.specs.Inner.Trees.{Walking, TwoStarts, twoLeaves, treeAt, noiseWord};
 use crate::table::tree_at;
 use crate::trees::either_punctured;
@@ -127,8 +126,7 @@ fn leaves_sum(
     requires { ⌜ RoundTables (now tables) ⌝ }
     requires { ⌜ Walking (vector .number) (now source) (vector .layout) (now table) (now keys) × (j < 2 ^ vector .layout .depth) ⌝ }
     ensures { λ r. ⌜ elementIn (vector .layout .field) r
-        ≡ sum (kindOf (vector .layout .field) .field .scaled .group) (vector .layout .trees)
-        (λ i. leafOf (vector .number) (now (source .entry)) (vector .layout) i j) ⌝ }
+        ≡ leavesOf (vector .number) (now (source .entry)) (vector .layout) (vector .layout .trees) j ⌝ }
 {
     let field = vector.layout.field;
     let trees = vector.layout.trees;

@@ -1,5 +1,5 @@
--- Inner: no promise cites this file. Rows of the code and their outputs; the rows of a batch at a strip, three words each: the sum of the coefficients of the terms above
--- the strip (words 0 to 31), the place (32 to 63) and the coefficient (64 to 95) of the strip's own term.
+-- Inner: no promise cites this file. Rows of the code and their outputs; the rows of a batch at a strip, three words each: the sum of the
+-- coefficients of the terms above the strip (words 0 to 31), the place (32 to 63) and the coefficient (64 to 95) of the strip's own term.
 use mathlib.Core.Path.{_≡_}
 use mathlib.Core.List.{List}
 use Prim.Native.Nat.{ℕ, zero, suc, _+_, _-_, _/_, _^_, _≤_, _<_}

@@ -8,6 +8,7 @@ use Rattle.algebra.specs.Choice.{choose}
 use Rattle.algebra.specs.Coding.{Coding}
 use Rattle.algebra.specs.Field.{Field, Value}
 use Rattle.algebra.specs.Group.{Scaled, itself}
+use Rattle.algebra.specs.Sum.{sum}
 use Rattle.field.specs.Kind.{kindOf}
 use Rattle.field.specs.declared.element.Element.{Element}
 use Rattle.ends.specs.Noise.Vectors as noise
@@ -47,6 +48,10 @@ unfoldable pub leafOf : (vector : ℕ) (s : List ℕ) (f : Layout) → ℕ → �
 leafOf vector s f i j =
     choose (eqb vector 3) (scalar.leaf (scalarReady.contentOf s f) i j)
     (choose (eqb (treeIn (noiseReady.treesAt s f) i .position) j) (noise.correction (noiseReady.contentOf s f) i) (noise.leaf (noiseReady.contentOf s f) i j))
+
+-- the sum of the leaves j of the first n trees
+unfoldable pub leavesOf : (vector : ℕ) (s : List ℕ) (f : Layout) → ℕ → ℕ → Value (kindOf (f .field) .field)
+leavesOf vector s f n j = sum (kindOf (f .field) .field .scaled .group) n (λ i. leafOf vector s f i j)
 
 -- a vector
 abbrev pub valuesBy : (b c : Bool) (s : List ℕ) (f : Layout) → ℕ → Value (fieldBy b (f .field))

@@ -2,7 +2,6 @@
 -- the trees. Assumes nothing.
 use Prim.Native.Nat.{_-_}
 use Rattle.bench_leaves.proofs.Leaves.{Partly, partly-none, partly-two, partly-last, partly-all}
-use native.Mathlib.Omega.{arith}
 use borrow.Author.Needs.{needs}
 use Rattle.bench_leaves.proofs.values.leaves_sum.Statement.{statement}
 use Rattle.bench_leaves.proofs.values.leaves_sum.Tie as tie
@@ -29,7 +28,6 @@ leaves-sum-spec =
     _ (c .before .two-leaves .ensures) (c .element-sum .ensures))  -- loop-again
     (λ c κs. search needs)  -- leaf-of-requires
     (λ c κs. search needs)  -- element-sum-requires-2
-    (λ c. partly-last _ _ _ _ _ _ _ (c .before .leaf-of .ensures) (c .element-sum2 .ensures)
-    (c .before .before .before .before .loop .inv) (omega arith) (omega arith))  -- returns
-    (λ c. partly-all _ _ _ _ (c .before .before .loop .inv) (omega arith))  -- returns-2
+    (λ c. search partly-last)  -- returns
+    (λ c. search partly-all)  -- returns-2
     )
