@@ -31,9 +31,8 @@ use Rattle.ends.specs.Scalar.Offline as scalarOffline
 use Rattle.ends.specs.Scalar.Online as scalarOnline
 use Rattle.ends.proofs.scalar.Laws as scalarLaws
 use Rattle.bench_claims.specs.Bench.{noiseOnlineCall, scalarOnlineCall, noiseSeen, scalarSeen, Bench}
-use Rattle.bench_expansion.specs.Noise as noise
-use Rattle.bench_expansion.specs.Scalar as scalar
-use Rattle.bench_expansion.proofs.Laws.{noise-whole, scalar-whole}
+use Rattle.ends.specs.Noise.Bench as noise
+use Rattle.ends.specs.Scalar.Bench as scalar
 
 -- row x's output on the words of an accumulated vector is row x of the code matrix times the vector
 row-same : (h : Head) → h .terms ≤ places h → (x : ℕ) (S : Scaled (fieldOf h .ring)) → ScaledLaws (fieldOf h .ring) S
@@ -106,7 +105,7 @@ module _ {h : Head} (E : noiseOffline.Expanded h) (first count : ℕ) (uOut vOut
   noise-same =
       let tests : List Test = noiseLaws.listedTests h lent first count in
       let words : TwoWritten = record { firstWritten = count; secondWritten = count * fieldOf h .elements .width } in
-      noise-whole here first count (E .read)
+      noiseLaws.bench-whole here first count (E .read)
       ∙ ap (λ (l : noise.Lent). answered tests (refusedTwo here) (wrote words l)) filled-same
       ∙ sym (ap noiseSeen listed ∙ answered-map noiseSeen tests (refusedTwo lent) (noiseLaws.written h lent first count))
 
@@ -161,7 +160,7 @@ module _ {h : Head} (D : scalarOffline.Expanded h) (first count : ℕ) (wOut : L
   scalar-same =
       let tests : List Test = scalarLaws.listedTests h lent-w first count in
       let words : ℕ = count * fieldOf h .elements .width in
-      scalar-whole here-w first count (D .read)
+      scalarLaws.bench-whole here-w first count (D .read)
       ∙ ap (λ (l : scalar.Lent). answered tests (refusedOne here-w) (wrote words l)) filled-w
       ∙ sym (ap scalarSeen listed-w ∙ answered-map scalarSeen tests (refusedOne lent-w) (scalarLaws.written h lent-w first count))
 

@@ -10,8 +10,8 @@ use Rattle.ends.specs.Noise.Offline as noiseOffline
 use Rattle.ends.specs.Noise.Online as noiseOnline
 use Rattle.ends.specs.Scalar.Offline as scalarOffline
 use Rattle.ends.specs.Scalar.Online as scalarOnline
-use Rattle.bench_expansion.specs.Noise as noise
-use Rattle.bench_expansion.specs.Scalar as scalar
+use Rattle.ends.specs.Noise.Bench as noise
+use Rattle.ends.specs.Scalar.Bench as scalar
 
 -- the online call on the record and the words that its offline call wrote, with any output buffers
 abbrev pub noiseOnlineCall : {h : Head} → noiseOffline.Expanded h → ℕ → ℕ → List ℕ → List ℕ → Outcome TwoWritten noiseOnline.Lent

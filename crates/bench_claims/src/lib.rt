@@ -1,1 +1,1 @@
-// No code: that the expansion for the bench is the online call, apart from `bench_expansion` so that its edits recheck no function.
+// No code: that the expansion for the bench is the online call on the record's offline vectors.

@@ -37,12 +37,13 @@ use Rattle.ends.specs.Inner.Noise as noiseReady
 use Rattle.ends.proofs.noise.Content as noiseContent
 use Rattle.ends.specs.Inner.Scalar as scalarReady
 use Rattle.ends.proofs.scalar.Content as scalarContent
-use Rattle.bench_expansion.specs.Noise as noise
-use Rattle.bench_expansion.specs.Scalar as scalar
+use Rattle.ends.specs.Noise.Bench as noise
+use Rattle.ends.specs.Scalar.Bench as scalar
 use Rattle.bench_expansion.specs.Inner.Both.{BothFit}
 use Rattle.bench_expansion.specs.Inner.Calls.{NoiseFits, ScalarFits}
-use Rattle.bench_expansion.specs.Inner.Trees.{TreesIn, Walking}
-use Rattle.bench_expansion.specs.Inner.Vectors.{fieldFor, outputOf, valuesOf, rowIn}
+use Rattle.bench_leaves.specs.Inner.Trees.{TreesIn, Walking}
+use Rattle.bench_leaves.specs.Inner.Vectors.{fieldFor, valuesOf}
+use Rattle.bench_expansion.specs.Inner.Rows.{outputOf, rowIn}
 
 -- a window that does not pass its end
 pub within-end : (first count end : ℕ) (t : Bool) → t ≡ ltb end (first + count) → t ≡ false → end ≤ 32768 → first + count ≤ 32768
@@ -75,17 +76,22 @@ module _ (s : List ℕ) (f : Layout) (ready : noiseReady.Ready s f) where
           vRoom = fits .enough;
         }
 
+-- outputs under the record's code key
+keyed : (vector : ℕ) (s : List ℕ) (f : Layout) (first count : ℕ) {code : List (List (List ℕ))} → code ≡ codeKeys (headOf s f) → (out : List ℕ) {l : List ℕ}
+    → l ≡ over (fieldFor vector (f .field) .elements) count (λ k. outputOf vector s code f (first + k)) out
+    → l ≡ over (fieldFor vector (f .field) .elements) count (λ k. outputOf vector s (codeKeys (headOf s f)) f (first + k)) out
+keyed vector s f first count e out p =
+    p ∙ ap (λ (c : List (List (List ℕ))). over (fieldFor vector (f .field) .elements) count (λ k. outputOf vector s c f (first + k)) out) e
+
 pub both-filled : (s : List ℕ) (f : Layout) (first count : ℕ) {code : List (List (List ℕ))} → code ≡ codeKeys (headOf s f)
     → (uOut vOut : List ℕ) {u v : List ℕ}
     → u ≡ over (fieldFor 1 (f .field) .elements) count (λ k. outputOf 1 s code f (first + k)) uOut
     → v ≡ over (fieldFor 2 (f .field) .elements) count (λ k. outputOf 2 s code f (first + k)) vOut
     → noise.lentWith s u v ≡ noise.filled (noiseReady.contentOf s f) (noise.lentWith s uOut vOut) first count
 unfolding noise.filled noise.uAt noise.vAt outputOf valuesOf rowIn termBlock termBlockBy aes
-both-filled s f first count {code} e uOut vOut {u} {v} p q =
-    let x : u ≡ over (fieldFor 1 (f .field) .elements) count (λ k. outputOf 1 s (codeKeys (headOf s f)) f (first + k)) uOut =
-    p ∙ ap (λ (c : List (List (List ℕ))). over (fieldFor 1 (f .field) .elements) count (λ k. outputOf 1 s c f (first + k)) uOut) e in
-    let y : v ≡ over (fieldFor 2 (f .field) .elements) count (λ k. outputOf 2 s (codeKeys (headOf s f)) f (first + k)) vOut =
-    q ∙ ap (λ (c : List (List (List ℕ))). over (fieldFor 2 (f .field) .elements) count (λ k. outputOf 2 s c f (first + k)) vOut) e in
+both-filled s f first count e uOut vOut p q =
+    let x = keyed 1 s f first count e uOut p in
+    let y = keyed 2 s f first count e vOut q in
     λ i. record { source = s; uOut = x i; vOut = y i }
 
 module _ (f : Layout) (w : Window) (uRoom vRoom n : ℕ)
@@ -140,10 +146,7 @@ pub w-filled : (s : List ℕ) (f : Layout) (first count : ℕ) {code : List (Lis
     → w ≡ over (fieldFor 3 (f .field) .elements) count (λ k. outputOf 3 s code f (first + k)) wOut
     → scalar.lentWith s w ≡ scalar.filled (scalarReady.contentOf s f) (scalar.lentWith s wOut) first count
 unfolding scalar.filled scalar.wAt outputOf valuesOf rowIn termBlock termBlockBy aes
-w-filled s f first count {code} e wOut {w} p =
-    let x : w ≡ over (fieldFor 3 (f .field) .elements) count (λ k. outputOf 3 s (codeKeys (headOf s f)) f (first + k)) wOut =
-    p ∙ ap (λ (c : List (List (List ℕ))). over (fieldFor 3 (f .field) .elements) count (λ k. outputOf 3 s c f (first + k)) wOut) e in
-    λ i. record { source = s; wOut = x i }
+w-filled s f first count e wOut p = let x = keyed 3 s f first count e wOut p in λ i. record { source = s; wOut = x i }
 
 module _ (f : Layout) (w : Window) (room n : ℕ)
     (e : n ≡ firstFault (scalar.benchTests (headFrom f [] []) (w .first) (w .count) room)) (z : n ≡ 0) where

@@ -1,10 +1,4 @@
--- Laws of the calls for other crates, and laws of the functions by the module that they serve.
-pub mod Laws
-mod Words
-mod Walks
-mod Starts
-mod Tables
-mod Leaves
+-- The laws of `bench_expansion`, by the module that they serve.
 mod ByStrips
 mod Rows
 mod Strips

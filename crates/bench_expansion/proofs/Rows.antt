@@ -2,8 +2,8 @@
 -- to the next strip.
 use mathlib.Core.Path.{_≡_, refl, sym, ap, ap₂, _∙_}
 use mathlib.Core.Bool.{Bool, true, false}
-use mathlib.Core.List.{List, [], _∷_}
-use Prim.Native.Nat.{ℕ, suc, _+_, _-_, _*_, _/_, _^_, _≤_, _<_}
+use mathlib.Core.List.{List}
+use Prim.Native.Nat.{ℕ, suc, _+_, _-_, _*_, _≤_, _<_}
 use native.Mathlib.Nat.{le-antisymm, mul-one, mul-le-mul-right, suc-mul}
 use native.Mathlib.Omega.{arith}
 use lib.Dec.{eqb, leb}
@@ -11,13 +11,11 @@ use lib.ListN.{length, getD, set, length-set}
 use lib.Pow.{pow-mono}
 use lib.Seq.{getD-set-same, getD-set-other}
 use borrow.Author.Tests.{le-leb, lt-leb, eqb-true, eqb-false}
-use Rattle.algebra.specs.Choice.{choose}
-use Rattle.algebra.specs.Coding.{Coding, CodingLaws, at, over}
+use Rattle.algebra.specs.Coding.{CodingLaws, at, over}
 use Rattle.algebra.specs.Field.{FieldLaws, NoiseValue, Value}
 use Rattle.algebra.specs.Inner.Put.{put}
 use Rattle.algebra.proofs.Choice.{choose-true, choose-false}
 use Rattle.algebra.proofs.Coding.{at-over-past, length-put, over-whole}
-use Rattle.algebra.proofs.Sum.{itself-laws}
 use Rattle.algebra.proofs.Written.{front-none, front-all}
 use Rattle.code.specs.declared.Shape.{Shape}
 use Rattle.code.specs.Row.{rowOfBlocks}
@@ -34,16 +32,15 @@ use Rattle.algebra.proofs.Flats.{value-put}
 use Rattle.tree.specs.Added.{added}
 use Rattle.field.specs.Inner.Elements.{noiseIn, noiseSum}
 use Rattle.field.proofs.Elements.{noise-sum-is, noise-zero}
-use Rattle.bench_expansion.specs.Inner.Vectors.{fieldBy, fieldFor, elementValue, rowIn}
-use Rattle.bench_expansion.specs.Inner.Rows.{entryIn, IsBatch, IsCode, HasTerms, sumsMore, placeAdded}
+use Rattle.bench_leaves.specs.Inner.Vectors.{fieldBy, fieldFor, elementValue}
+use Rattle.bench_expansion.specs.Inner.Rows.{rowIn, entryIn, IsBatch, IsCode, HasTerms, sumsMore, placeAdded}
+use Rattle.ends.proofs.Vectors.{noise-laws}
 use Rattle.field.specs.declared.element.Element.{Element}
 use Rattle.bench_expansion.specs.declared.entries.Batch.{Batch}
 
 -- the laws of a vector's values
 pub vector-laws : (b : Bool) (field : ℕ) → FieldLaws (fieldBy b field)
-vector-laws true field =
-    let L = kindLaws field .field in
-    record { ring = L .ring; scaled = itself-laws (kindOf field .field .ring) (L .ring); noiseValues = L .noiseValues; elements = L .noiseValues }
+vector-laws true field = noise-laws field
 vector-laws false field = kindLaws field .field
 
 -- ---- entries
@@ -210,4 +207,5 @@ module _ (vector field : ℕ) (rows : List ℕ) (j : ℕ) (value : Element) (b :
     pub summed-all : k ≤ count → count ≤ k → v ≡ placeAdded vector field count rows j (elementValue vector field value) b
     unfolding placeAdded added
     summed-all h g =
-        front-all (fieldFor vector field .elements) addedAt b k count v h g (s .words) ∙ over-whole (fieldFor vector field .elements) coding count addedAt b whole
+        front-all (fieldFor vector field .elements) addedAt b k count v h g (s .words)
+        ∙ over-whole (fieldFor vector field .elements) coding count addedAt b whole

@@ -1,9 +1,9 @@
 -- A batch's outputs strip by strip, from the top strip down, and a window's batch by batch.
-use mathlib.Core.Path.{_≡_, refl, sym, ap, ap₂, subst, _∙_}
+use mathlib.Core.Path.{_≡_, refl, sym, ap, ap₂, _∙_}
 use mathlib.Core.Bool.{Bool, true, false}
-use mathlib.Core.List.{List, [], _∷_, _++_, append-assoc}
+use mathlib.Core.List.{List, _++_, append-assoc}
 use Prim.Native.Nat.{ℕ, zero, suc, _+_, _-_, _*_, _/_, _^_, _≤_, _<_}
-use native.Mathlib.Nat.{mul-one, mul-le-mul, mul-le-mul-right, suc-mul, add-mul, zero-mul}
+use native.Mathlib.Nat.{mul-one, mul-le-mul, mul-le-mul-right, add-mul, zero-mul}
 use native.Mathlib.Omega.{arith}
 use lib.Dec.{eqb, leb}
 use lib.ListN.{length, getD, take, drop, length-drop, replicate, getD-replicate, length-replicate}
@@ -14,10 +14,9 @@ use borrow.Rule.Slice.PartMut.{midOf, putMid}
 use mir.Syntax.{w64}
 use mir.Val.{Fits}
 use Rattle.algebra.specs.Choice.{choose}
-use Rattle.algebra.specs.Coding.{Coding, CodingLaws, at, flat, over}
+use Rattle.algebra.specs.Coding.{CodingLaws, at, flat, over}
 use Rattle.algebra.specs.Field.{Field, FieldLaws, NoiseValue, Value}
-use Rattle.algebra.specs.Row.{Row, entry, rowTimes}
-use Rattle.algebra.specs.Sum.{sum}
+use Rattle.algebra.specs.Row.{Row, entry}
 use Rattle.algebra.proofs.Coding.{flat-cong, length-flat, at-flat, at-over, flat-add, take-over, drop-over-add, length-over}
 use Rattle.algebra.proofs.Written.{front-none, front-all}
 use Rattle.algebra.proofs.Falling.{fromTop, top-none, top-more}
@@ -26,7 +25,7 @@ use Rattle.code.specs.Strips.{ReadsStrips}
 use Rattle.code.specs.Inner.Rows.{termBlockBy}
 use Rattle.code.proofs.Strips.{strip-end, strips-within, blocks-full}
 use Rattle.field.specs.Binary.{binary}
-use Rattle.field.specs.Kind.{kindOf, elementWords}
+use Rattle.field.specs.Kind.{Kind, kindOf, elementWords}
 use Rattle.field.proofs.BinaryField.{binaryLaws}
 use Rattle.field.proofs.BothKinds.{kindLaws}
 use Rattle.record.specs.declared.Layout.{Layout}
@@ -34,12 +33,13 @@ use Rattle.field.proofs.KindOf.{zero-elements, zero-noise}
 use Rattle.tree.proofs.Sums.{trees-none, treesSum}
 use Rattle.field.proofs.Widths.{width-most}
 use Rattle.tree.specs.Added.{added}
+use Rattle.tree.proofs.PowerLaws.{level-less}
 use Rattle.field.specs.Inner.Elements.{noiseIn, noiseSum}
 use Rattle.field.proofs.Elements.{noise-sum-is, noise-zero}
-use Rattle.bench_expansion.specs.Inner.Vectors.{fieldBy, fieldFor, valuesOf, rowIn, outputOf}
-use Rattle.bench_expansion.specs.Inner.Rows.{entryIn, IsBatch, IsCode, HasTerms, sumsMore, placeAdded, stripAdded, stripOf}
+use Rattle.bench_leaves.specs.Inner.Vectors.{fieldBy, fieldFor, valuesOf}
+use Rattle.bench_expansion.specs.Inner.Rows.{rowIn, outputOf, entryIn, IsBatch, IsCode, HasTerms, sumsMore, placeAdded, stripAdded, stripOf}
 use Rattle.bench_expansion.specs.Inner.Strips.{IsStrip}
-use Rattle.bench_expansion.specs.Inner.Trees.{Walking}
+use Rattle.bench_leaves.specs.Inner.Trees.{Walking}
 use Rattle.bench_expansion.specs.declared.batch.Strip.{Strip}
 use Rattle.bench_expansion.specs.declared.entries.Batch.{Batch}
 use Rattle.bench_expansion.proofs.Rows.{vector-laws}
@@ -95,213 +95,196 @@ zero-values : (b : Bool) (field : ℕ) → fieldBy b field .elements .words (fie
 zero-values true field = zero-noise field
 zero-values false field = zero-elements field
 
--- row k's entry × the value at a place
-unfoldable pub partOf : (vector : ℕ) (s : List ℕ) (code : List (List (List ℕ))) (f : Layout) → ℕ → ℕ → Value (fieldFor vector (f .field))
-partOf vector s code f x j = fieldFor vector (f .field) .scaled .scale (entry (rowIn code f x) j) (valuesOf vector s f j)
+-- the field of a batch's vector, its row k, and the places of its strips
+abbrev batchField : Batch → Field
+batchField b = fieldFor (b .vector .number) (b .vector .layout .field)
 
--- the places of the strips
-abbrev pub stripsOf : Layout → ℕ
+abbrev rowOf : List (List (List ℕ)) → (b : Batch) → ℕ → Row (kindOf (b .vector .layout .field) .field .ring)
+rowOf code b k = rowIn code (b .vector .layout) (b .first + k)
+
+abbrev stripsOf : Layout → ℕ
 stripsOf f = f .terms * stripOf f
 
+-- row k's entry × the value at a place, and their sum over the places from j on
+unfoldable pub partOf : List ℕ → List (List (List ℕ)) → (b : Batch) → ℕ → ℕ → Value (batchField b)
+partOf s code b k j = batchField b .scaled .scale (entry (rowOf code b k) j) (valuesOf (b .vector .number) s (b .vector .layout) j)
+
+abbrev summedTo : List ℕ → List (List (List ℕ)) → (b : Batch) → ℕ → ℕ → Value (batchField b)
+summedTo s code b j k = fromTop (batchField b .scaled .group) (partOf s code b k) (stripsOf (b .vector .layout)) j
+
 -- a batch with the strips from i on summed
-pub record Down (vector : ℕ) (s : List ℕ) (code : List (List (List ℕ))) (f : Layout) (first count i : ℕ) (rows out : List ℕ) : Type 0 where
-  pub shape : IsCode f
-  pub within : i ≤ f .terms
-  pub sums : (k : ℕ) → k < count
-      → noiseIn (f .field) (getD rows k 0) ≡ fromTop (kindOf (f .field) .field .ring .group) (rowIn code f (first + k) .coefficient) (f .terms) i
+pub record Down (s : List ℕ) (code : List (List (List ℕ))) (b : Batch) (i : ℕ) (rows out : List ℕ) : Type 0 where
+  pub shape : IsCode (b .vector .layout)
+  pub within : i ≤ b .vector .layout .terms
+  pub sums : (k : ℕ) → k < b .count → noiseIn (b .vector .layout .field) (getD rows k 0)
+      ≡ fromTop (kindOf (b .vector .layout .field) .field .ring .group) (rowOf code b k .coefficient) (b .vector .layout .terms) i
   pub size : length rows ≡ 96
-  pub outputs : out ≡ flat (fieldFor vector (f .field) .elements) count
-      (λ k. fromTop (fieldFor vector (f .field) .scaled .group) (partOf vector s code f (first + k)) (stripsOf f) (i * stripOf f))
-  pub whole : length out ≡ count * fieldFor vector (f .field) .elements .width
+  pub outputs : out ≡ flat (batchField b .elements) (b .count) (summedTo s code b (i * stripOf (b .vector .layout)))
+  pub whole : length out ≡ b .count * batchField b .elements .width
 
-module _ (vector : ℕ) (s : List ℕ) (code : List (List (List ℕ))) (f : Layout) (ok : IsCode f) where
-  laws : FieldLaws (fieldFor vector (f .field))
-  laws = vector-laws (eqb vector 1) (f .field)
+pub batch-code : (s : List ℕ) (b : Batch) {table : List ℕ} {keys : List (List ℕ)} → Walking (b .vector .number) s (b .vector .layout) table keys
+    → IsCode (b .vector .layout)
+batch-code s b w = let z = w .standing .sizes in record { depth = z .depth; some = z .some; full = z .full; few = z .terms }
 
-  reads : (x : ℕ) → ReadsStrips (2 ^ f .depth) (f .terms) (rowIn code f x)
+module _ (s : List ℕ) (code : List (List (List ℕ))) (b : Batch) where
+  abbrev f : Layout
+  f = b .vector .layout
+
+  abbrev F : Field
+  F = batchField b
+
+  abbrev K : Kind
+  K = kindOf (b .vector .layout .field)
+
+  laws : FieldLaws (batchField b)
+  laws = vector-laws (eqb (b .vector .number) 1) (f .field)
+
+  reads : IsCode (b .vector .layout) → (k : ℕ) → ReadsStrips (2 ^ f .depth) (f .terms) (rowOf code b k)
   unfolding rowIn
-  reads x = blocks-full (kindOf (f .field) .field .ring) (kindOf (f .field) .coefficient) (2 ^ f .depth) (f .terms) (termBlockBy code x) (ok .some) (ok .full)
+  reads ok k = blocks-full (K .field .ring) (K .coefficient) (2 ^ f .depth) (f .terms) (termBlockBy code (b .first + k)) (ok .some) (ok .full)
 
-  abbrev summedTo : ℕ → ℕ → ℕ → Value (fieldFor vector (f .field))
-  summedTo first j k = fromTop (fieldFor vector (f .field) .scaled .group) (partOf vector s code f (first + k)) (stripsOf f) j
+  summed-size : (j : ℕ) {out : List ℕ} → out ≡ flat (F .elements) (b .count) (summedTo s code b j) → length out ≡ b .count * F .elements .width
+  summed-size j e = ap length e ∙ length-flat (F .elements) (laws .elements) (b .count) (summedTo s code b j)
 
-  summed-size : (count first j : ℕ) {out : List ℕ} → out ≡ flat (fieldFor vector (f .field) .elements) count (summedTo first j)
-      → length out ≡ count * fieldFor vector (f .field) .elements .width
-  summed-size count first j e = ap length e ∙ length-flat (fieldFor vector (f .field) .elements) (laws .elements) count (summedTo first j)
-
-  pub down-none : (first count n : ℕ) → count ≤ 32 → n ≡ count * fieldFor vector (f .field) .elements .width → {rows out : List ℕ}
-      → rows ≡ replicate 96 0 → out ≡ replicate n 0 → Down vector s code f first count (f .terms) rows out
+  pub batch-none : {table : List ℕ} {keys : List (List ℕ)} → Walking (b .vector .number) s (b .vector .layout) table keys → IsBatch b
+      → {n : ℕ} → n ≡ b .count * fieldFor (b .vector .number) (b .vector .layout .field) .elements .width → {rows out : List ℕ}
+      → rows ≡ replicate 96 0 → out ≡ replicate n 0 → Down s code b (b .vector .layout .terms) rows out
   unfolding treesSum
-  down-none first count n few size {rows} re oe =
-      let F = fieldFor vector (f .field) in
-      let R = kindOf (f .field) .field .ring .group in
-      let o : _ ≡ flat (F .elements) count (summedTo first (stripsOf f)) =
-      trees-none F laws count (λ m k. F .scaled .group .zero) (zero-values (eqb vector 1) (f .field)) oe size
-      ∙ flat-cong (F .elements) (laws .elements) count _ (summedTo first (stripsOf f))
-      (λ k h. sum-none (F .scaled .group) (λ m. F .scaled .group .zero)
-      ∙ sym (top-none (F .scaled .group) (partOf vector s code f (first + k)) (stripsOf f))) in
+  batch-none w small size re oe =
+      let o : _ ≡ flat (F .elements) (b .count) (summedTo s code b (stripsOf f)) =
+      trees-none F laws (b .count) (λ m k. F .scaled .group .zero) (zero-values (eqb (b .vector .number) 1) (f .field)) oe size
+      ∙ flat-cong (F .elements) (laws .elements) (b .count) _ (summedTo s code b (stripsOf f))
+      (λ k h. sum-none (F .scaled .group) (λ m. F .scaled .group .zero) ∙ sym (top-none (F .scaled .group) (partOf s code b k) (stripsOf f))) in
       record {
-        shape = ok;
+        shape = batch-code s b w;
         within = omega arith;
         sums = λ k h.
-            ap (noiseIn (f .field)) (ap (λ (l : List ℕ). getD l k 0) re ∙ getD-replicate 96 k 0 0 (omega arith)) ∙ noise-zero (f .field)
-            ∙ sym (top-none R (rowIn code f (first + k) .coefficient) (f .terms));
+            ap (noiseIn (f .field)) (ap (λ (l : List ℕ). getD l k 0) re ∙ getD-replicate 96 k 0 0 (omega (arith, small .few))) ∙ noise-zero (f .field)
+            ∙ sym (top-none (K .field .ring .group) (rowOf code b k .coefficient) (f .terms));
         size = ap length re ∙ length-replicate {A = ℕ} 96 0;
         outputs = o;
-        whole = summed-size count first (stripsOf f) o;
+        whole = summed-size (stripsOf f) o;
       }
 
-  -- ---- strip i, whose terms stand in the rows
+  -- ---- strip i − 1, whose terms stand in the rows
 
-  module _ (b : Batch) (same : b .vector .layout ≡ f) (i : ℕ) (below : i < f .terms) (few : b .count ≤ 32) {before rows out : List ℕ}
-      (d : Down vector s code f (b .first) (b .count) (suc i) before out) (t : HasTerms code b i (b .count) before rows) where
-    last : suc i * stripOf f ≤ stripsOf f
-    last = mul-le-mul-right (stripOf f) below
+  module _ {i : ℕ} {before out : List ℕ} (d : Down s code b i before out) where
+    pub batch-below : 0 < i → i - 1 < b .vector .layout .terms
+    batch-below h = omega (arith, d .within)
 
-    entry-is : (k j : ℕ) → k < b .count → i * stripOf f ≤ j → j < suc i * stripOf f → entryIn (f .field) rows j k ≡ entry (rowIn code f (b .first + k)) j
-    unfolding entryIn
-    entry-is k j h low high =
-        let K = kindOf (f .field) in
-        let G = K .field .ring .group in
-        let row = rowIn code f (b .first + k) in
-        let p : getD rows (32 + k) 0 ≡ row .place i = t .places k h ∙ ap (λ (g : Layout). rowIn code g (b .first + k) .place i) same in
-        let c : noiseIn (f .field) (getD rows (64 + k) 0) ≡ row .coefficient i = coefficient k h in
-        ap₂ (λ (x : G .Of) (y : ℕ). G .add x (choose (leb j y) (noiseIn (f .field) (getD rows (64 + k) 0)) (G .zero)))
-        (ap (noiseIn (f .field)) (t .sums k (omega arith)) ∙ d .sums k h) p
-        ∙ ap (λ (z : G .Of). G .add (fromTop G (row .coefficient) (f .terms) (suc i)) (choose (leb j (row .place i)) z (G .zero))) c
-        ∙ sym (strip-entry (kindLaws (f .field) .field .ring .group) (2 ^ f .depth) (f .terms) row (reads (b .first + k)) i j below low high)
-      where
-        coefficient : (k : ℕ) → k < b .count → noiseIn (f .field) (getD rows (64 + k) 0) ≡ rowIn code f (b .first + k) .coefficient i
-        coefficient k h =
-            subst (λ (g : Layout). noiseIn (g .field) (getD rows (64 + k) 0) ≡ rowIn code g (b .first + k) .coefficient i) same (t .coefficients k h)
+    module _ (small : IsBatch b) (some : 0 < i) {rows : List ℕ} (t : HasTerms code b (i - 1) (b .count) before rows) where
+      abbrev size : ℕ
+      size = stripOf (b .vector .layout)
 
-    strip-summed : (n : ℕ) → n ≤ stripOf f
-        → stripAdded vector (f .field) (b .count) rows (valuesOf vector s f) (suc i * stripOf f) n out
-        ≡ flat (fieldFor vector (f .field) .elements) (b .count) (summedTo (b .first) (suc i * stripOf f - n))
-    unfolding stripAdded placeAdded added partOf
-    strip-summed zero h =
+      top : i * size ≡ (i - 1) * size + size
+      top = level-less i size (λ e. omega arith)
+
+      last : i * size ≤ stripsOf f
+      last = mul-le-mul-right size (d .within)
+
+      one-up : {A : Type 0} (g : ℕ → A) → g i ≡ g (suc (i - 1))
+      one-up g = ap g {x = i} {y = suc (i - 1)} (omega arith)
+
+      entry-is : (k j : ℕ) → k < b .count → (i - 1) * size ≤ j → j < i * size → entryIn (f .field) rows j k ≡ entry (rowOf code b k) j
+      unfolding entryIn
+      entry-is k j h low high =
+          let G = K .field .ring .group in
+          let row = rowOf code b k in
+          ap₂ (λ (x : G .Of) (y : ℕ). G .add x (choose (leb j y) (noiseIn (f .field) (getD rows (64 + k) 0)) (G .zero)))
+          (ap (noiseIn (f .field)) (t .sums k (omega (arith, small .few))) ∙ d .sums k h ∙ one-up (fromTop G (row .coefficient) (f .terms))) (t .places k h)
+          ∙ ap (λ (z : G .Of). G .add (fromTop G (row .coefficient) (f .terms) (suc (i - 1))) (choose (leb j (row .place (i - 1))) z (G .zero)))
+          (t .coefficients k h)
+          ∙ sym (strip-entry (kindLaws (f .field) .field .ring .group) (2 ^ f .depth) (f .terms) row (reads (d .shape) k) (i - 1) j (batch-below some) low
+          (rw (← one-up (λ n. n * size)) high))
+
+      strip-summed : (n : ℕ) → n ≤ size
+          → stripAdded (b .vector .number) (f .field) (b .count) rows (valuesOf (b .vector .number) s f) (i * size) n out
+          ≡ flat (F .elements) (b .count) (summedTo s code b (i * size - n))
+      unfolding stripAdded placeAdded added partOf
+      strip-summed zero h =
+          d .outputs ∙ ap (λ (j : ℕ). flat (F .elements) (b .count) (summedTo s code b j)) {x = i * size} {y = i * size - 0} (omega arith)
+      strip-summed (suc n) h =
+          let j = i * size - suc n in
+          let earlier = strip-summed n (omega arith) in
+          flat-cong (F .elements) (laws .elements) (b .count) _ (summedTo s code b j)
+          (λ k l.
+          ap₂ (λ (x : Value F) (c : NoiseValue F). F .scaled .group .add x (F .scaled .scale c (valuesOf (b .vector .number) s f j)))
+          (ap (λ (v : List ℕ). at (F .elements) v k) earlier
+          ∙ at-flat (F .elements) (laws .elements) (b .count) (summedTo s code b (i * size - n)) k l
+          ∙ ap (λ (m : ℕ). summedTo s code b m k) {x = i * size - n} {y = suc j} (omega (arith, top)))
+          (entry-is k j l (omega (arith, top)) (omega (arith, top)))
+          ∙ place k j (omega (arith, last, top)))
+        where
+          place : (k j : ℕ) → j < stripsOf f
+              → F .scaled .group .add (summedTo s code b (suc j) k) (F .scaled .scale (entry (rowOf code b k) j) (valuesOf (b .vector .number) s f j))
+              ≡ summedTo s code b j k
+          place k j l = sym (top-more (F .scaled .group) (partOf s code b k) (stripsOf f) j l)
+
+      pub batch-more : {next : List ℕ}
+          → next ≡ stripAdded (b .vector .number) (b .vector .layout .field) (b .count) rows (valuesOf (b .vector .number) s (b .vector .layout))
+          ((i - 1 + 1) * stripOf (b .vector .layout)) (stripOf (b .vector .layout)) out
+          → {after : List ℕ} → after ≡ sumsMore (b .vector .layout .field) (b .count) rows → Down s code b (i - 1) after next
+      unfolding sumsMore
+      batch-more {next} q {after} a =
+          let C = binary .noiseValues in
+          let carried : ℕ → ℕ = λ k. noiseSum (f .field) (getD rows k 0) (getD rows (64 + k) 0) in
+          let o : next ≡ flat (F .elements) (b .count) (summedTo s code b ((i - 1) * size)) =
+          q ∙ ap (λ (n : ℕ). stripAdded (b .vector .number) (f .field) (b .count) rows (valuesOf (b .vector .number) s f) (n * size) size out)
+          {x = i - 1 + 1} {y = i} (omega arith)
+          ∙ strip-summed size (omega arith)
+          ∙ ap (λ (j : ℕ). flat (F .elements) (b .count) (summedTo s code b j)) {x = i * size - size} {y = (i - 1) * size} (omega (arith, top)) in
+          record {
+            shape = d .shape;
+            within = omega (arith, d .within);
+            sums = λ k h.
+                ap (noiseIn (f .field)) (ap (λ (j : ℕ). getD after j 0) (sym (mul-one k)) ∙ ap (λ (l : List ℕ). getD l (k * 1) 0) a
+                ∙ at-over C (binaryLaws .noiseValues) (b .count) carried rows k h)
+                ∙ noise-sum-is (f .field) (getD rows k 0) (getD rows (64 + k) 0)
+                ∙ ap₂ (K .field .ring .group .add)
+                (ap (noiseIn (f .field)) (t .sums k (omega (arith, small .few))) ∙ d .sums k h
+                ∙ one-up (fromTop (K .field .ring .group) (rowOf code b k .coefficient) (f .terms)))
+                (t .coefficients k h)
+                ∙ sym (top-more (K .field .ring .group) (rowOf code b k .coefficient) (f .terms) (i - 1) (batch-below some));
+            size = ap length a ∙ length-over C (binaryLaws .noiseValues) (b .count) carried rows (omega (arith, t .size, small .few)) ∙ t .size;
+            outputs = o;
+            whole = summed-size ((i - 1) * size) o;
+          }
+
+    -- all strips
+    pub batch-all : i ≤ 0 → out ≡ flat (batchField b .elements) (b .count)
+        (λ k. outputOf (b .vector .number) s code (b .vector .layout) (b .first + k))
+    unfolding outputOf partOf
+    batch-all h =
         d .outputs
-        ∙ ap (λ (j : ℕ). flat (fieldFor vector (f .field) .elements) (b .count) (summedTo (b .first) j)) {x = suc i * stripOf f} {y = suc i * stripOf f - 0}
-        (omega arith)
-    strip-summed (suc n) h =
-        let F = fieldFor vector (f .field) in
-        let top = suc i * stripOf f in
-        let j = top - suc n in
-        let e : top ≡ stripOf f + i * stripOf f = omega arith in
-        let earlier = strip-summed n (omega arith) in
-        flat-cong (F .elements) (laws .elements) (b .count) _ (summedTo (b .first) j)
-        (λ k l.
-        ap₂ (λ (x : Value F) (c : NoiseValue F). F .scaled .group .add x (F .scaled .scale c (valuesOf vector s f j)))
-        (ap (λ (v : List ℕ). at (F .elements) v k) earlier ∙ at-flat (F .elements) (laws .elements) (b .count) (summedTo (b .first) (top - n)) k l
-        ∙ ap (λ (m : ℕ). summedTo (b .first) m k) {x = top - n} {y = suc j} (omega arith))
-        (entry-is k j l (omega arith) (omega arith))
-        ∙ place k j (omega (arith, last)))
-      where
-        place : (k j : ℕ) → j < stripsOf f
-            → fieldFor vector (f .field) .scaled .group .add (summedTo (b .first) (suc j) k)
-            (fieldFor vector (f .field) .scaled .scale (entry (rowIn code f (b .first + k)) j) (valuesOf vector s f j)) ≡ summedTo (b .first) j k
-        place k j l = sym (top-more (fieldFor vector (f .field) .scaled .group) (partOf vector s code f (b .first + k)) (stripsOf f) j l)
+        ∙ flat-cong (F .elements) (laws .elements) (b .count) _ _
+        (λ k l. ap (λ (n : ℕ). summedTo s code b (n * stripOf f) k) {x = i} {y = 0} (omega arith)
+        ∙ ap (λ (j : ℕ). summedTo s code b j k) (zero-mul (stripOf f))
+        ∙ strips-times (kindLaws (f .field) .field .ring .group) (2 ^ f .depth) (f .terms) (rowOf code b k) (reads (d .shape) k)
+        (F .scaled) (laws .scaled) (strips-within (2 ^ f .depth) (f .terms) (d .shape .full)) (valuesOf (b .vector .number) s f))
 
-    down-at : {next after : List ℕ} → next ≡ stripAdded vector (f .field) (b .count) rows (valuesOf vector s f) (suc i * stripOf f) (stripOf f) out
-        → after ≡ sumsMore (f .field) (b .count) rows → Down vector s code f (b .first) (b .count) i after next
-    unfolding sumsMore
-    down-at {next} {after} q a =
-        let F = fieldFor vector (f .field) in
-        let K = kindOf (f .field) in
-        let C = binary .noiseValues in
-        let carried : ℕ → ℕ = λ k. noiseSum (f .field) (getD rows k 0) (getD rows (64 + k) 0) in
-        let e : suc i * stripOf f ≡ stripOf f + i * stripOf f = omega arith in
-        let o : next ≡ flat (F .elements) (b .count) (summedTo (b .first) (i * stripOf f)) =
-        q ∙ strip-summed (stripOf f) (omega arith)
-        ∙ ap (λ (j : ℕ). flat (F .elements) (b .count) (summedTo (b .first) j)) {x = suc i * stripOf f - stripOf f} {y = i * stripOf f} (omega arith) in
-        record {
-          shape = ok;
-          within = omega arith;
-          sums = λ k h.
-              ap (noiseIn (f .field)) (ap (λ (j : ℕ). getD after j 0) (sym (mul-one k)) ∙ ap (λ (l : List ℕ). getD l (k * 1) 0) a
-              ∙ at-over C (binaryLaws .noiseValues) (b .count) carried rows k h)
-              ∙ noise-sum-is (f .field) (getD rows k 0) (getD rows (64 + k) 0)
-              ∙ ap₂ (K .field .ring .group .add) (ap (noiseIn (f .field)) (t .sums k (omega arith)) ∙ d .sums k h)
-              (subst (λ (g : Layout). noiseIn (g .field) (getD rows (64 + k) 0) ≡ rowIn code g (b .first + k) .coefficient i) same (t .coefficients k h))
-              ∙ sym (top-more (K .field .ring .group) (rowIn code f (b .first + k) .coefficient) (f .terms) i below);
-          size = ap length a ∙ length-over C (binaryLaws .noiseValues) (b .count) carried rows (omega (arith, t .size)) ∙ t .size;
-          outputs = o;
-          whole = summed-size (b .count) (b .first) (i * stripOf f) o;
-        }
+    pub batch-strip : {table : List ℕ} {keys : List (List ℕ)} → Walking (b .vector .number) s (b .vector .layout) table keys → IsBatch b → 0 < i
+        → (n : ℕ) → n ≡ b .count * fieldFor (b .vector .number) (b .vector .layout .field) .elements .width
+        → IsStrip s table keys (record { batch = b; number = i - 1 }) n
+    batch-strip w small h n e = record { walking = w; few = small .few; below = batch-below h; whole = e }
 
-  -- all strips
-  pub down-all : (first count i : ℕ) {rows out : List ℕ} → Down vector s code f first count i rows out → i ≤ 0
-      → out ≡ flat (fieldFor vector (f .field) .elements) count (λ k. outputOf vector s code f (first + k))
-  unfolding outputOf partOf
-  down-all first count i d h =
-      let F = fieldFor vector (f .field) in
-      d .outputs
-      ∙ flat-cong (F .elements) (laws .elements) count _ _
-      (λ k l. ap (λ (j : ℕ). summedTo first j k) {x = i * stripOf f} {y = 0} (zero-strip i (omega arith))
-      ∙ strips-times (kindLaws (f .field) .field .ring .group) (2 ^ f .depth) (f .terms) (rowIn code f (first + k)) (reads (first + k))
-      (F .scaled) (laws .scaled) (strips-within (2 ^ f .depth) (f .terms) (ok .full)) (valuesOf vector s f))
-    where
-      zero-strip : (i : ℕ) → i ≡ 0 → i * stripOf f ≡ 0
-      zero-strip i e = rw e (zero-mul (stripOf f))
-
--- ---- as the functions need it
+-- ---- a strip's places
 
 pub strip-is : (f : Layout) {n : ℕ} → n ≡ 2 ^ f .depth → n / f .terms ≡ stripOf f
 strip-is f e = ap (λ (n : ℕ). n / f .terms) e
 
-pub strip-top : (s table : List ℕ) (keys : List (List ℕ)) (t : Strip) (n : ℕ) → IsStrip s table keys t n → {size : ℕ} → size ≡ stripOf (t .batch .vector .layout)
-    → t .number * size + size ≤ 2 ^ t .batch .vector .layout .depth
-strip-top s table keys t n ok e =
-    let f = t .batch .vector .layout in
-    let sizes = ok .walking .standing .sizes in
-    rw e (omega (arith, strip-end (2 ^ f .depth) (f .terms) (sizes .full) (t .number) (ok .below), strips-within (2 ^ f .depth) (f .terms) (sizes .full)))
-
 module _ (s table : List ℕ) (keys : List (List ℕ)) (t : Strip) (n : ℕ) (ok : IsStrip s table keys t n) {size : ℕ}
     (e : size ≡ stripOf (t .batch .vector .layout)) where
+  pub strip-top : t .number * size + size ≤ 2 ^ t .batch .vector .layout .depth
+  strip-top =
+      let f = t .batch .vector .layout in
+      let sizes = ok .walking .standing .sizes in
+      rw e (omega (arith, strip-end (2 ^ f .depth) (f .terms) (sizes .full) (t .number) (ok .below), strips-within (2 ^ f .depth) (f .terms) (sizes .full)))
+
   pub strip-most : t .number * size + size ≤ 65536
-  strip-most = omega (arith, strip-top s table keys t n ok e, pow-mono {i = t .batch .vector .layout .depth} {j = 16} (ok .walking .standing .sizes .depth))
+  strip-most = omega (arith, strip-top, pow-mono {i = t .batch .vector .layout .depth} {j = 16} (ok .walking .standing .sizes .depth))
 
   pub strip-fits : Fits w64 (t .number * size)
   strip-fits = record { fits = omega (arith, strip-most) }
-
-module _ (s : List ℕ) (code : List (List (List ℕ))) (b : Batch) {table : List ℕ} {keys : List (List ℕ)}
-    (w : Walking (b .vector .number) s (b .vector .layout) table keys) (small : IsBatch b) where
-  f : Layout
-  f = b .vector .layout
-
-  pub batch-code : IsCode (b .vector .layout)
-  batch-code = let z = w .standing .sizes in record { depth = z .depth; some = z .some; full = z .full; few = z .terms }
-
-  pub batch-none : {n : ℕ} → n ≡ b .count * fieldFor (b .vector .number) (b .vector .layout .field) .elements .width → {rows out : List ℕ}
-      → rows ≡ replicate 96 0 → out ≡ replicate n 0
-      → Down (b .vector .number) s code (b .vector .layout) (b .first) (b .count) (b .vector .layout .terms) rows out
-  batch-none {n} size re oe = down-none (b .vector .number) s code (b .vector .layout) batch-code (b .first) (b .count) n (small .few) size re oe
-
-  module _ {i : ℕ} {before out : List ℕ} (d : Down (b .vector .number) s code (b .vector .layout) (b .first) (b .count) i before out) where
-    pub batch-below : 0 < i → i - 1 < b .vector .layout .terms
-    batch-below h = omega (arith, d .within)
-
-    pub batch-more : 0 < i → {rows : List ℕ} → HasTerms code b (i - 1) (b .count) before rows → {next : List ℕ}
-        → next ≡ stripAdded (b .vector .number) (b .vector .layout .field) (b .count) rows (valuesOf (b .vector .number) s (b .vector .layout))
-        ((i - 1 + 1) * stripOf (b .vector .layout)) (stripOf (b .vector .layout)) out
-        → {after : List ℕ} → after ≡ sumsMore (b .vector .layout .field) (b .count) rows
-        → Down (b .vector .number) s code (b .vector .layout) (b .first) (b .count) (i - 1) after next
-    batch-more h {rows} t {next} q a =
-        let e : i ≡ suc (i - 1) = omega arith in
-        let m : i - 1 + 1 ≡ suc (i - 1) = omega arith in
-        down-at (b .vector .number) s code (b .vector .layout) batch-code b refl (i - 1) (batch-below h) (small .few)
-        (subst (λ (n : ℕ). Down (b .vector .number) s code (b .vector .layout) (b .first) (b .count) n before out) e d) t
-        (q ∙ ap (λ (n : ℕ). stripAdded (b .vector .number) (b .vector .layout .field) (b .count) rows (valuesOf (b .vector .number) s (b .vector .layout))
-        (n * stripOf (b .vector .layout)) (stripOf (b .vector .layout)) out) m) a
-
-pub batch-all : (vector : ℕ) (s : List ℕ) (code : List (List (List ℕ))) (f : Layout) (first count : ℕ) {i : ℕ} {rows out : List ℕ}
-    → Down vector s code f first count i rows out → i ≤ 0 → out ≡ flat (fieldFor vector (f .field) .elements) count (λ k. outputOf vector s code f (first + k))
-batch-all vector s code f first count {i} d h = down-all vector s code f (d .shape) first count i d h
-
-pub batch-strip : (s table : List ℕ) (keys : List (List ℕ)) (b : Batch) → Walking (b .vector .number) s (b .vector .layout) table keys → IsBatch b
-    → (i n : ℕ) → 0 < i → i ≤ b .vector .layout .terms → n ≡ b .count * fieldFor (b .vector .number) (b .vector .layout .field) .elements .width
-    → IsStrip s table keys (record { batch = b; number = i - 1 }) n
-batch-strip s table keys b w small i n h k e = record { walking = w; few = small .few; below = omega arith; whole = e }
 
 -- ---- the words of a value
 
@@ -321,10 +304,7 @@ module _ (vector field : ℕ) where
 
 -- ---- a window, one batch a turn
 
--- the field of a batch's vector, and its output k
-abbrev batchField : Batch → Field
-batchField b = fieldFor (b .vector .number) (b .vector .layout .field)
-
+-- output k of a batch
 abbrev batchOutput : List ℕ → List (List (List ℕ)) → (b : Batch) → ℕ → Value (batchField b)
 batchOutput s code b k = outputOf (b .vector .number) s code (b .vector .layout) (b .first + k)
 

@@ -1,4 +1,2 @@
--- The expansion for the bench (document 02, 11): both calls.
-pub mod Noise
-pub mod Scalar
+-- The definitions of `bench_expansion`, all of them inner: its contracts cite what `ends` says.
 pub mod Inner

@@ -2,17 +2,12 @@
 // sibling alone, with no accumulated vector and no buffer of N. A refused call writes nothing.
 ghost use mathlib.Core.Path.{_≡_};
 ghost use Rattle.answer.specs.Outcome.{outcomeOne, outcomeTwo};
-ghost use Rattle.bench_expansion.specs.Noise as noise;
-ghost use Rattle.bench_expansion.specs.Scalar as scalar;
+ghost use Rattle.ends.specs.Noise.Bench as noise;
+ghost use Rattle.ends.specs.Scalar.Bench as scalar;
 
 mod accepted;
 mod batch;
-mod elements;
 mod entries;
-mod table;
-mod trees;
-mod values;
-mod walk;
 
 use accepted::write_noise;
 use accepted::write_scalar;

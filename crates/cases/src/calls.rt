@@ -64,10 +64,10 @@ pub fn dealings() {
 fn noise_window(source: &[u8], first: usize, count: usize) -> usize {
     let mut noise = [0u64; 8];
     let mut v = [0u64; 8];
-    ends::noise::offline(source, &mut noise, &mut v);
+    end_calls::noise::offline(source, &mut noise, &mut v);
     let mut u_out = [0u64; 4];
     let mut v_out = [0u64; 4];
-    let r = ends::noise::online(source, &noise, &v, first, count, &mut u_out, &mut v_out);
+    let r = end_calls::noise::online(source, &noise, &v, first, count, &mut u_out, &mut v_out);
     r.number as usize
 }
 
@@ -75,9 +75,9 @@ fn noise_window(source: &[u8], first: usize, count: usize) -> usize {
 fn scalar_window(source: &[u8], first: usize, count: usize) -> usize {
     let mut w = [0u64; 8];
     let mut delta = [0u64; 2];
-    ends::scalar::offline(source, &mut w, &mut delta);
+    end_calls::scalar::offline(source, &mut w, &mut delta);
     let mut w_out = [0u64; 4];
-    let r = ends::scalar::online(source, &w, first, count, &mut w_out);
+    let r = end_calls::scalar::online(source, &w, first, count, &mut w_out);
     r.number as usize
 }
 
@@ -128,7 +128,7 @@ pub fn windows() {
 fn offline_number(source: &[u8]) -> usize {
     let mut noise = [0u64; 2];
     let mut v = [0u64; 4];
-    let r = ends::noise::offline(source, &mut noise, &mut v);
+    let r = end_calls::noise::offline(source, &mut noise, &mut v);
     r.number as usize
 }
 

@@ -1,5 +1,4 @@
--- The laws of both ends.
-pub mod Trees
+-- The laws of both ends: of vectors in words, and each end's.
 pub mod Vectors
-mod Answers
-mod Calls
+pub mod noise
+pub mod scalar

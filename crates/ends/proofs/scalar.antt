@@ -1,4 +1,3 @@
 -- The laws of the scalar end.
 pub mod Laws
 pub mod Content
-pub mod Delta

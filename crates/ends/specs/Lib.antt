@@ -1,4 +1,5 @@
--- Both ends (document 01, 'What the unit contains', 'Offline and online'): what their calls are made of, and each end's vectors and two calls.
+-- Both ends (document 01, 'What the unit contains', 'Offline and online'): what their calls are made of, and each end's vectors, two calls
+-- and expansion for the bench (document 02, 11).
 pub mod Parts
 pub mod Noise
 pub mod Scalar

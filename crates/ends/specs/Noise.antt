@@ -1,4 +1,5 @@
--- The noise end, which gets u and v: the vectors of its part of a dealing, and its two calls.
+-- The noise end, which gets u and v: the vectors of its part of a dealing, its two calls, and its expansion for the bench.
 pub mod Vectors
 pub mod Offline
 pub mod Online
+pub mod Bench

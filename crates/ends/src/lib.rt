@@ -1,5 +1,2 @@
-// Both ends' calls: offline writes an end's accumulated vectors, online a window of its outputs. A refused call writes nothing.
-pub mod noise;
-mod noise_trees;
-pub mod scalar;
-mod scalar_trees;
+// Both ends' calls in definitions and laws: offline writes an end's accumulated vectors, online a window of its outputs, and the expansion
+// for the bench a window without those vectors. Their code stands in crates `end_calls` and `bench_expansion`.

@@ -1,8 +1,8 @@
 // The expansion for the bench under its exported names. Each meets the contract of the call that it passes on to.
 ghost use mathlib.Core.Path.{_≡_};
 ghost use Rattle.answer.specs.Outcome.{outcomeOne, outcomeTwo};
-ghost use Rattle.bench_expansion.specs.Noise as noise;
-ghost use Rattle.bench_expansion.specs.Scalar as scalar;
+ghost use Rattle.ends.specs.Noise.Bench as noise;
+ghost use Rattle.ends.specs.Scalar.Bench as scalar;
 use answer::OneLength;
 use answer::TwoLengths;
 

@@ -75,7 +75,7 @@ pub extern "C" fn expander_noise_offline(
     ensures { λ r. ⌜ outcomeTwo r (noiseOffline.offlineWith (now (source .exit)) (now (noise .exit)) (now (v .exit)))
         ≡ noiseOffline.offline (now (source .entry)) (now (noise .entry)) (now (v .entry)) ⌝ }
 {
-    ends::noise::offline(source, noise, v)
+    end_calls::noise::offline(source, noise, v)
 }
 
 // The scalar end's offline call: the accumulated w, and Δ.
@@ -88,7 +88,7 @@ pub extern "C" fn expander_scalar_offline(
     ensures { λ r. ⌜ outcomeTwo r (scalarOffline.offlineWith (now (source .exit)) (now (w .exit)) (now (delta .exit)))
         ≡ scalarOffline.offline (now (source .entry)) (now (w .entry)) (now (delta .entry)) ⌝ }
 {
-    ends::scalar::offline(source, w, delta)
+    end_calls::scalar::offline(source, w, delta)
 }
 
 // The noise end's online call: a window of u and v.
@@ -106,7 +106,7 @@ pub extern "C" fn expander_noise_online(
         ≡ noiseOnline.online (noiseOnline.lentWith (now (source .entry)) (now (noise .entry)) (now (v .entry)) (now («u_out» .entry)) (now («v_out» .entry)))
         first count ⌝ }
 {
-    ends::noise::online(source, noise, v, first, count, u_out, v_out)
+    end_calls::noise::online(source, noise, v, first, count, u_out, v_out)
 }
 
 // The scalar end's online call: a window of w.
@@ -121,7 +121,7 @@ pub extern "C" fn expander_scalar_online(
     ensures { λ r. ⌜ outcomeOne r (scalarOnline.lentWith (now (source .exit)) (now (w .exit)) (now («w_out» .exit)))
         ≡ scalarOnline.online (scalarOnline.lentWith (now (source .entry)) (now (w .entry)) (now («w_out» .entry))) first count ⌝ }
 {
-    ends::scalar::online(source, w, first, count, w_out)
+    end_calls::scalar::online(source, w, first, count, w_out)
 }
 
 // The noise end's pads of a window.

@@ -1,4 +1,4 @@
--- `benchExpansion::noise_bench` meets its contract: the record is refused, or the window is that of its content. Assumes nothing.
+-- `bench_expansion::noise_bench` meets its contract: the record is refused, or the window is that of its content. Assumes nothing.
 use Rattle.ends.proofs.noise.Content.{ready}
 use Rattle.bench_expansion.proofs.Calls.{noise-fault, noise-opened}
 use borrow.Author.Needs.{needs}

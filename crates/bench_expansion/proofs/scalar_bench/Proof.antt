@@ -1,4 +1,4 @@
--- `benchExpansion::scalar_bench` meets its contract: the record is refused, or the window is that of its content. Assumes nothing.
+-- `bench_expansion::scalar_bench` meets its contract: the record is refused, or the window is that of its content. Assumes nothing.
 use Rattle.ends.proofs.scalar.Content.{ready}
 use Rattle.bench_expansion.proofs.Calls.{scalar-fault, scalar-opened}
 use borrow.Author.Needs.{needs}

@@ -1,8 +1,8 @@
 -- Inner: no promise cites this file. What the function that writes u and v is asked.
 use mathlib.Core.List.{List}
 use Prim.Native.Nat.{ℕ, _+_, _*_, _≤_}
-use Rattle.bench_expansion.specs.Inner.Trees.{Walking}
-use Rattle.bench_expansion.specs.Inner.Vectors.{fieldFor}
+use Rattle.bench_leaves.specs.Inner.Trees.{Walking}
+use Rattle.bench_leaves.specs.Inner.Vectors.{fieldFor}
 use Rattle.bench_expansion.specs.declared.accepted.Rows.{Rows}
 
 -- an accepted noise record with its table and the round keys of the child keys, rows up to 32768, and room for their outputs

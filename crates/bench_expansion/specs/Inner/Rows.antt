@@ -1,20 +1,30 @@
--- Inner: no promise cites this file. The rows of a batch at a strip, three words each: the sum of the coefficients of the terms above
--- the strip (words 0 to 31), the place (32 to 63) and the coefficient (64 to 95) of the strip's own term.
+-- Inner: no promise cites this file. Rows of the code and their outputs; the rows of a batch at a strip, three words each: the sum of the
+-- coefficients of the terms above the strip (words 0 to 31), the place (32 to 63) and the coefficient (64 to 95) of the strip's own term.
 use mathlib.Core.Path.{_≡_}
-use mathlib.Core.List.{List, [], _∷_}
-use Prim.Native.Nat.{ℕ, zero, suc, _+_, _-_, _*_, _/_, _^_, _≤_, _<_}
+use mathlib.Core.List.{List}
+use Prim.Native.Nat.{ℕ, zero, suc, _+_, _-_, _/_, _^_, _≤_, _<_}
 use lib.Dec.{leb}
 use lib.ListN.{length, getD}
 use Rattle.algebra.specs.Choice.{choose}
 use Rattle.algebra.specs.Coding.{over}
-use Rattle.algebra.specs.Field.{Field, NoiseValue, Value}
+use Rattle.algebra.specs.Field.{NoiseValue, Value}
+use Rattle.algebra.specs.Row.{Row, entry, rowTimes}
+use Rattle.code.specs.Row.{rowOfBlocks}
+use Rattle.code.specs.Inner.Rows.{termBlockBy}
 use Rattle.field.specs.Kind.{kindOf}
 use Rattle.field.specs.Inner.Elements.{noiseIn, noiseSum}
 use Rattle.field.specs.Words.{oneWord}
 use Rattle.record.specs.declared.Layout.{Layout}
 use Rattle.tree.specs.Added.{added}
-use Rattle.bench_expansion.specs.Inner.Vectors.{fieldFor, rowIn}
+use Rattle.bench_leaves.specs.Inner.Vectors.{fieldFor, valuesOf}
 use Rattle.bench_expansion.specs.declared.entries.Batch.{Batch}
+
+-- row x of the code under round keys, and its output on a vector: its row of the code matrix times the vector
+unfoldable pub rowIn : List (List (List ℕ)) → (f : Layout) → ℕ → Row (kindOf (f .field) .field .ring)
+rowIn code f x = rowOfBlocks (kindOf (f .field) .field .ring) (kindOf (f .field) .coefficient) (2 ^ f .depth) (f .terms) (termBlockBy code x)
+
+unfoldable pub outputOf : (vector : ℕ) (s : List ℕ) (code : List (List (List ℕ))) (f : Layout) → ℕ → Value (fieldFor vector (f .field))
+outputOf vector s code f x = rowTimes (fieldFor vector (f .field) .scaled) (2 ^ f .depth) (entry (rowIn code f x)) (valuesOf vector s f)
 
 -- row k's entry of the code matrix at place j of the strip
 unfoldable pub entryIn : (field : ℕ) → List ℕ → ℕ → ℕ → NoiseValue (kindOf field .field)

@@ -2,8 +2,8 @@
 use mathlib.Core.Path.{_≡_}
 use mathlib.Core.List.{List}
 use Prim.Native.Nat.{ℕ, _*_, _≤_, _<_}
-use Rattle.bench_expansion.specs.Inner.Vectors.{fieldFor}
-use Rattle.bench_expansion.specs.Inner.Trees.{Walking}
+use Rattle.bench_leaves.specs.Inner.Vectors.{fieldFor}
+use Rattle.bench_leaves.specs.Inner.Trees.{Walking}
 use Rattle.bench_expansion.specs.declared.batch.Strip.{Strip}
 
 -- an accepted record, at most 32 rows, a strip, and as many words as the rows' outputs take

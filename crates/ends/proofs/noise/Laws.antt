@@ -1,15 +1,15 @@
--- Laws of the noise end's two calls: what an accepted offline call leaves, what an online call on whole vectors of elements
+-- Laws of the noise end's calls: what an accepted offline call leaves, what an online call on whole vectors of elements
 -- gives, and that every online call leaves the record and the vectors as they were.
 use mathlib.Core.Path.{_≡_, refl, sym, ap, _∙_}
 use mathlib.Core.Bool.{true}
 use mathlib.Core.List.{List, [], _∷_}
 use Prim.Native.Nat.{ℕ, _+_, _*_, _≤_, _<_}
-use lib.ListN.{length, take}
+use lib.ListN.{length, take, drop}
 use Rattle.answer.specs.Numbers.{windowPastEnd, bufferShort}
 use Rattle.answer.specs.Tests.{Test, _atMost_, _or_, firstFault}
 use Rattle.answer.specs.Outcome.{Outcome, TwoWritten, answered, refusedTwo, wrote}
-use Rattle.answer.proofs.Answers.{answered-either, answered-same, outcome-number, outcome-is}
-use Rattle.answer.proofs.Faults.{is-so, held}
+use Rattle.answer.proofs.Answers.{accepted-if, answered-either, answered-same, outcome-number, outcome-is}
+use Rattle.answer.proofs.Faults.{is-so, held, chain}
 use Rattle.algebra.specs.Coding.{CodingLaws, at, flat}
 use Rattle.algebra.specs.Field.{NoiseValue, Value}
 use Rattle.algebra.specs.Group.{Element, itself}
@@ -30,8 +30,8 @@ use Rattle.ends.specs.Parts.{vectorWords}
 use Rattle.ends.specs.Noise.Vectors.{mu, v0}
 use Rattle.ends.specs.Noise.Offline.{OfflineLent, offlineWith, offlineTests, expanded, offline}
 use Rattle.ends.specs.Noise.Online.{Lent, usable, filled, onlineTests, online}
-use Rattle.ends.proofs.Answers.{both-written}
-use Rattle.ends.proofs.Vectors.{one-word, front-taken, vector-length, vector-usable, window-at}
+use Rattle.ends.specs.Noise.Bench as bench
+use Rattle.ends.proofs.Vectors.{one-word, noise-past, front-taken, vector-length, vector-usable, window-at}
 
 -- ---- offline
 
@@ -75,7 +75,7 @@ module _ (source : List ℕ) {P : NoisePart} (noise v : List ℕ) (e : readNoise
 
   -- with room in both buffers the call is accepted
   pub offline-accepts : places (P .head) ≤ length noise → vectorWords (P .head) ≤ length v → Accepted P source (offline source noise v)
-  offline-accepts h k = left (offline-whole ∙ sym (both-written _ _ _ _ (length noise) (length v) refl h refl k refl))
+  offline-accepts h k = left (offline-whole ∙ accepted-if _ _ _ (record { all = (h, (k, tt)) }))
 
   -- a call that returns 0 left what an accepted call leaves
   pub offline-accepted : offline source noise v .number ≡ 0 → Accepted P source (offline source noise v)
@@ -100,20 +100,29 @@ pub online-whole : (l : Lent) {P : NoisePart} (first count : ℕ) → readNoise 
 unfolding online
 online-whole l {P} first count e = sym (read-whole (readNoise (l .source)) (refusedTwo l) _ _ P e refl)
 
--- an outcome has the record and the vectors as they were lent
-pub record Kept (l : Lent) (o : Outcome TwoWritten Lent) : Type 0 where
+-- with too little room for v a call gets 13, whatever words stand in the vectors
+pub room-first : (l : Lent) {P : NoisePart} (first count : ℕ) → readNoise (l .source) ≡ Whole P
+    → length (l .noise) ≡ places (P .head) → length (l .v) ≡ vectorWords (P .head) → first + count ≤ P .head .outputs → count ≤ length (l .uOut)
+    → length (l .vOut) < count * fieldOf (P .head) .elements .width → online l first count .number ≡ bufferShort
+room-first l {P} first count e n v w u short =
+    ap (λ (o : Outcome TwoWritten Lent). o .number) (online-whole l first count e)
+    ∙ outcome-number _ _ _ _ (onlineTests (P .head) l first count) ∙ sym (search chain)
+
+-- an outcome has the record, the vectors and the words of u past a count as they were lent
+pub record Kept (l : Lent) (count : ℕ) (o : Outcome TwoWritten Lent) : Type 0 where
   pub source : o .lent .source ≡ l .source
   pub noise : o .lent .noise ≡ l .noise
   pub v : o .lent .v ≡ l .v
+  pub past : drop count (o .lent .uOut) ≡ drop count (l .uOut)
 
--- every online call leaves the record and the vectors as they were
-pub online-kept : (l : Lent) (first count : ℕ) → Kept l (online l first count)
+-- every online call leaves the record, the vectors and the words of u past its count as they were
+pub online-kept : (l : Lent) (first count : ℕ) → Kept l count (online l first count)
 unfolding online filled
 online-kept l first count =
-    let refused : (n : ℕ) → Kept l (refusedTwo l n) = λ n. record { source = refl; noise = refl; v = refl } in
-    read-either (Kept l) (readNoise (l .source)) (refusedTwo l) _ refused
-    (λ P. answered-either (Kept l) (onlineTests (P .head) l first count) (refusedTwo l) (written (P .head) l first count) refused
-    (record { source = refl; noise = refl; v = refl }))
+    let refused : (n : ℕ) → Kept l count (refusedTwo l n) = λ n. record { source = refl; noise = refl; v = refl; past = refl } in
+    read-either (Kept l count) (readNoise (l .source)) (refusedTwo l) _ refused
+    (λ P. answered-either (Kept l count) (onlineTests (P .head) l first count) (refusedTwo l) (written (P .head) l first count) refused
+    (record { source = refl; noise = refl; v = refl; past = noise-past (P .head) count _ (l .uOut) }))
 
 -- a call on the record of P and the words of vectors f and g of elements
 module _ (l : Lent) (P : NoisePart) (f : ℕ → NoiseValue (fieldOf (P .head))) (g : ℕ → Value (fieldOf (P .head)))
@@ -176,3 +185,15 @@ module _ (l : Lent) (P : NoisePart) (f : ℕ → NoiseValue (fieldOf (P .head)))
       ≡ output (fieldOf (P .head) .scaled) (row (P .head) (first + k)) g
   unfolding filled
   online-v n k h = rw (accepted n) (window-at (P .head) (fieldOf (P .head) .scaled) _ coding g v-whole full first count (l .vOut) k h)
+
+-- ---- the expansion for the bench
+
+pub bench-whole : (l : bench.Lent) {P : NoisePart} (first count : ℕ) → readNoise (l .source) ≡ Whole P
+    → bench.benchExpansion l first count ≡ bench.benchWindow P l first count
+unfolding bench.benchExpansion
+bench-whole l {P} first count e = sym (read-whole _ _ _ _ P e refl)
+
+-- a window past n gets 7, whatever room the buffers have
+pub bench-past : (h : Head) (first count uRoom vRoom : ℕ) → h .outputs < first + count
+    → windowPastEnd ≡ firstFault (bench.benchTests h first count uRoom vRoom)
+bench-past h first count uRoom vRoom past = search chain

@@ -1,4 +1,4 @@
--- Laws of the scalar end's two calls: what an accepted offline call leaves, what an online call on a whole vector of elements
+-- Laws of the scalar end's calls: what an accepted offline call leaves, what an online call on a whole vector of elements
 -- gives, and that every online call leaves the record and the vector as they were.
 use mathlib.Core.Path.{_≡_, refl, sym, ap, _∙_}
 use mathlib.Core.Bool.{true}
@@ -8,7 +8,7 @@ use lib.ListN.{length, take}
 use Rattle.answer.specs.Numbers.{windowPastEnd, bufferShort}
 use Rattle.answer.specs.Tests.{Test, _atMost_, _or_, firstFault}
 use Rattle.answer.specs.Outcome.{Outcome, TwoWritten, answered, refusedOne, refusedTwo, wrote}
-use Rattle.answer.proofs.Answers.{answered-either, answered-same, outcome-number, outcome-is}
+use Rattle.answer.proofs.Answers.{accepted-if, answered-either, answered-same, outcome-number, outcome-is}
 use Rattle.answer.proofs.Faults.{is-so, held}
 use Rattle.algebra.specs.Coding.{CodingLaws, at, flat}
 use Rattle.algebra.specs.Field.{Value}
@@ -29,7 +29,7 @@ use Rattle.ends.specs.Parts.{vectorWords}
 use Rattle.ends.specs.Scalar.Vectors.{w0, deltaOut}
 use Rattle.ends.specs.Scalar.Offline.{OfflineLent, offlineWith, offlineTests, expanded, offline}
 use Rattle.ends.specs.Scalar.Online.{Lent, usable, filled, onlineTests, online}
-use Rattle.ends.proofs.Answers.{both-written}
+use Rattle.ends.specs.Scalar.Bench as bench
 use Rattle.ends.proofs.Vectors.{front-taken, vector-length, vector-usable, window-at}
 
 -- ---- offline
@@ -65,7 +65,7 @@ module _ (source : List ℕ) {P : ScalarPart} (w delta : List ℕ) (e : readScal
 
   -- with room in both buffers the call is accepted
   pub offline-accepts : vectorWords (P .head) ≤ length w → 2 ≤ length delta → Accepted P source (offline source w delta)
-  offline-accepts h k = left (offline-whole ∙ sym (both-written _ _ _ _ (length w) (length delta) refl h refl k refl))
+  offline-accepts h k = left (offline-whole ∙ accepted-if _ _ _ (record { all = (h, (k, tt)) }))
 
   -- a call that returns 0 left what an accepted call leaves
   pub offline-accepted : offline source w delta .number ≡ 0 → Accepted P source (offline source w delta)
@@ -146,3 +146,17 @@ module _ (l : Lent) (P : ScalarPart) (f : ℕ → Value (fieldOf (P .head))) (re
       ≡ output (fieldOf (P .head) .scaled) (row (P .head) (first + k)) f
   unfolding filled
   online-values n k h = rw (accepted n) (window-at (P .head) (fieldOf (P .head) .scaled) _ coding f whole full first count (l .wOut) k h)
+
+-- ---- the expansion for the bench
+
+pub bench-whole : (l : bench.Lent) {P : ScalarPart} (first count : ℕ) → readScalar (l .source) ≡ Whole P
+    → bench.benchExpansion l first count ≡ bench.benchWindow P l first count
+unfolding bench.benchExpansion
+bench-whole l {P} first count e = sym (read-whole _ _ _ _ P e refl)
+
+-- an accepted call wrote the words of c elements
+pub bench-length : (P : ScalarPart) (l : bench.Lent) (first count : ℕ) → bench.benchWindow P l first count .number ≡ 0
+    → bench.benchWindow P l first count .written ≡ count * fieldOf (P .head) .elements .width
+unfolding bench.benchWindow
+bench-length P l first count n =
+    ap (λ (o : Outcome ℕ bench.Lent). o .written) (outcome-is _ _ _ _ (bench.benchTests (P .head) first count (length (l .wOut))) n)

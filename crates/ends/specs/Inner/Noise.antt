@@ -1,12 +1,10 @@
 -- Inner: no promise cites this file. An accepted noise record by its numbers: its trees stand from the body on, and none of their
 -- tests fails again.
-use mathlib.Core.Bool.{true}
 use mathlib.Core.Path.{_≡_}
 use mathlib.Core.List.{List, []}
-use Prim.Native.Nat.{ℕ, _+_, _*_, _^_, _≤_, _<_}
+use Prim.Native.Nat.{ℕ, _+_, _-_, _*_, _^_, _≤_, _<_}
 use lib.ListN.{length}
 use Rattle.number.specs.Reading.{Whole, Refused, Parsed}
-use Rattle.number.specs.Inner.Known.{isWhole}
 use Rattle.record.specs.Content.{NoiseTree, NoisePart, siblingCount}
 use Rattle.record.specs.Reading.{readTree, readTrees, readNoise}
 use Rattle.record.specs.Answer.{headOf}
@@ -35,7 +33,8 @@ contentOf s f = record { head = headOf s f; trees = treesAt s f }
 pub record Ready (s : List ℕ) (f : Layout) : Type 0 where
   pub read : readNoise s ≡ Whole (contentOf s f)
   pub sizes : Sizes s (headOf s f) (f .body)
-  pub known : isWhole (readTrees (f .field) (f .depth) (treeSiblings f) (f .trees) 0 s (f .body)) ≡ true
+  pub end : ℕ
+  pub trees : readTrees (f .field) (f .depth) (treeSiblings f) (f .trees - 0) 0 s (f .body) ≡ Whole (treesAt s f, end)
 
 -- a tree with so many siblings that stands at a place, after positions below `base`
 pub record TreeRead (s : List ℕ) (f : Layout) (n place base : ℕ) (t : Tree) : Type 0 where

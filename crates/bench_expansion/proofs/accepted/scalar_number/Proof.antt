@@ -1,4 +1,4 @@
--- `benchExpansion::accepted::scalar_number` meets its contract, test by test. Assumes nothing.
+-- `bench_expansion::accepted::scalar_number` meets its contract, test by test. Assumes nothing.
 use borrow.Author.Needs.{needs}
 use Rattle.answer.proofs.Faults.{chain, given-at-most, given-above}
 use Rattle.bench_expansion.proofs.Calls.{within-end}

@@ -1,4 +1,4 @@
--- `benchExpansion::accepted::words_for` meets its contract. Assumes nothing.
+-- `bench_expansion::accepted::words_for` meets its contract. Assumes nothing.
 use borrow.Author.Needs.{needs}
 use Rattle.bench_expansion.proofs.Calls.{words-fit, words-are}
 use Rattle.bench_expansion.proofs.accepted.words_for.Statement.{statement}

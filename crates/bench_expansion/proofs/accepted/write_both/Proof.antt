@@ -1,4 +1,4 @@
--- `benchExpansion::accepted::write_both` meets its contract. Assumes nothing.
+-- `bench_expansion::accepted::write_both` meets its contract. Assumes nothing.
 use Rattle.bench_expansion.proofs.Calls.{few-trees, both-fit, both-filled}
 use borrow.Author.Needs.{needs}
 use Rattle.bench_expansion.proofs.accepted.write_both.Statement.{statement}

@@ -1,7 +1,7 @@
--- `benchExpansion::accepted::write_noise` meets its contract: refused by its number, or accepted with the window written. Assumes nothing.
+-- `bench_expansion::accepted::write_noise` meets its contract: refused by its number, or accepted with the window written. Assumes nothing.
 use borrow.Author.Needs.{needs}
 use Rattle.answer.proofs.Answers.{refused}
-use Rattle.bench_expansion.specs.Noise as noise
+use Rattle.ends.specs.Noise.Bench as noise
 use Rattle.bench_expansion.proofs.Calls.{noise-within, noise-fits, noise-written}
 use Rattle.bench_expansion.proofs.accepted.write_noise.Statement.{statement}
 use Rattle.bench_expansion.proofs.accepted.write_noise.Tie as tie

@@ -1,7 +1,7 @@
--- `benchExpansion::accepted::write_scalar` meets its contract: refused by its number, or accepted with the window written. Assumes nothing.
+-- `bench_expansion::accepted::write_scalar` meets its contract: refused by its number, or accepted with the window written. Assumes nothing.
 use borrow.Author.Needs.{needs}
 use Rattle.answer.proofs.Answers.{refused}
-use Rattle.bench_expansion.specs.Scalar as scalar
+use Rattle.ends.specs.Scalar.Bench as scalar
 use Rattle.bench_expansion.proofs.Calls.{scalar-within, scalar-fits, scalar-written}
 use Rattle.bench_expansion.proofs.accepted.write_scalar.Statement.{statement}
 use Rattle.bench_expansion.proofs.accepted.write_scalar.Tie as tie

@@ -1,4 +1,4 @@
--- `benchExpansion::accepted::write_w` meets its contract. Assumes nothing.
+-- `bench_expansion::accepted::write_w` meets its contract. Assumes nothing.
 use Rattle.bench_expansion.proofs.Calls.{w0-walking, w-filled}
 use borrow.Author.Needs.{needs}
 use Rattle.bench_expansion.proofs.accepted.write_w.Statement.{statement}

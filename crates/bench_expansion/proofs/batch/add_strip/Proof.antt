@@ -1,10 +1,10 @@
--- `benchExpansion::batch::add_strip` meets its contract. The loop's invariant: the places of the strip but the lowest `left` are added; the measure
+-- `bench_expansion::batch::add_strip` meets its contract. The loop's invariant: the places of the strip but the lowest `left` are added; the measure
 -- is the places left. Assumes nothing.
 use mathlib.Core.Path.{_≡_}
 use Prim.Native.Nat.{_+_, _^_, _≤_}
 use native.Mathlib.Omega.{arith}
 use lib.ListN.{length}
-use Rattle.bench_expansion.specs.Inner.Vectors.{valuesOf}
+use Rattle.bench_leaves.specs.Inner.Vectors.{valuesOf}
 use Rattle.bench_expansion.proofs.Strips.{Stripped, stripped-none, stripped-more, stripped-all, strip-top, strip-most, strip-fits}
 use borrow.Author.Needs.{needs}
 use Rattle.bench_expansion.proofs.batch.add_strip.Statement.{statement}

@@ -1,4 +1,4 @@
--- `benchExpansion::batch::strip_size` meets its contract. Assumes nothing.
+-- `bench_expansion::batch::strip_size` meets its contract. Assumes nothing.
 use Rattle.bench_expansion.proofs.Strips.{strip-is}
 use borrow.Author.Needs.{needs}
 use Rattle.bench_expansion.proofs.batch.strip_size.Statement.{statement}

@@ -1,4 +1,4 @@
--- `benchExpansion::batch::value_width` meets its contract. Assumes nothing.
+-- `bench_expansion::batch::value_width` meets its contract. Assumes nothing.
 use Rattle.bench_expansion.proofs.Strips.{noise-width, element-width}
 use borrow.Author.Needs.{needs}
 use Rattle.bench_expansion.proofs.batch.value_width.Statement.{statement}

@@ -1,6 +1,6 @@
--- `benchExpansion::batch::write_batch` meets its contract. The loop's invariant: the strips from `i` on are summed; the measure is `i`. Assumes nothing.
+-- `bench_expansion::batch::write_batch` meets its contract. The loop's invariant: the strips from `i` on are summed; the measure is `i`.
+-- Assumes nothing.
 use Rattle.aes128.specs.Inner.Words.{roundKeys}
-use mathlib.Core.Path.{refl}
 use Rattle.bench_expansion.proofs.Strips.{Down, batch-code, batch-none, batch-below, batch-strip, batch-more, batch-all}
 use borrow.Author.Needs.{needs}
 use Rattle.bench_expansion.proofs.batch.write_batch.Statement.{statement}
@@ -8,7 +8,7 @@ use Rattle.bench_expansion.proofs.batch.write_batch.Tie as tie
 
 abbrev Inv-loop : tie.InvT-loop
 Inv-loop tables keys code source table batch out₀ rows₀ i₀ out rows i =
-    Down (batch .vector .number) source (roundKeys code) (batch .vector .layout) (batch .first) (batch .count) i rows out
+    Down source (roundKeys code) batch i rows out
 
 abbrev μ-loop : tie.MeasureT-loop
 μ-loop tables keys code source table batch out₀ rows₀ i₀ out rows i = i
@@ -28,5 +28,5 @@ write-batch-spec =
     (λ c. search needs)  -- loop-less
     (λ c. search batch-more)  -- loop-again
     (λ c. search needs)  -- same-length
-    (λ c. batch-all _ _ _ _ _ _ (c .before .loop .inv) (c .loop-test .left))  -- returns
+    (λ c. batch-all _ _ _ (c .before .loop .inv) (c .loop-test .left))  -- returns
     )

@@ -1,4 +1,4 @@
--- `benchExpansion::batch::write_outputs` meets its contract. The loop's invariant: the first `done` outputs are written; the measure is what is
+-- `bench_expansion::batch::write_outputs` meets its contract. The loop's invariant: the first `done` outputs are written; the measure is what is
 -- left of the window. Assumes nothing.
 use Rattle.aes128.specs.Inner.Words.{roundKeys}
 use Prim.Native.Nat.{_-_}

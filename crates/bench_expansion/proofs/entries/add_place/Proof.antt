@@ -1,4 +1,4 @@
--- `benchExpansion::entries::add_place` meets its contract. The loop's invariant: the outputs before `k` are added to, the others as they were; the
+-- `bench_expansion::entries::add_place` meets its contract. The loop's invariant: the outputs before `k` are added to, the others as they were; the
 -- measure is what is left of the rows. Assumes nothing.
 use Prim.Native.Nat.{_≤_, _-_}
 use Rattle.bench_expansion.proofs.Rows.{Summed, summed-none, summed-room, summed-more, summed-all}

@@ -1,4 +1,4 @@
--- `benchExpansion::entries::entry_at` meets its contract. Assumes nothing.
+-- `bench_expansion::entries::entry_at` meets its contract. Assumes nothing.
 use Rattle.bench_expansion.proofs.Rows.{entry-with, entry-without}
 use borrow.Author.Needs.{needs}
 use Rattle.bench_expansion.proofs.entries.entry_at.Statement.{statement}

@@ -1,4 +1,4 @@
--- `benchExpansion::entries::make_terms` meets its contract. The loop's invariant: the terms of the rows before `k` are made; the measure is what is
+-- `bench_expansion::entries::make_terms` meets its contract. The loop's invariant: the terms of the rows before `k` are made; the measure is what is
 -- left of the rows. Assumes nothing.
 use Rattle.aes128.specs.Inner.Words.{roundKeys}
 use Prim.Native.Nat.{_≤_, _-_}

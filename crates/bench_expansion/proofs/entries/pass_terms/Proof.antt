@@ -1,4 +1,4 @@
--- `benchExpansion::entries::pass_terms` meets its contract. The loop's invariant: the sums of the rows before `k` are carried on; the measure is
+-- `bench_expansion::entries::pass_terms` meets its contract. The loop's invariant: the sums of the rows before `k` are carried on; the measure is
 -- what is left of the rows. Assumes nothing.
 use Prim.Native.Nat.{_≤_, _-_}
 use Rattle.bench_expansion.proofs.Rows.{Passed, passed-none, passed-more, passed-all}

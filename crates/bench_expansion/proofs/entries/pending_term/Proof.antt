@@ -1,4 +1,4 @@
--- `benchExpansion::entries::pending_term` meets its contract. Assumes nothing.
+-- `bench_expansion::entries::pending_term` meets its contract. Assumes nothing.
 use Rattle.bench_expansion.proofs.Rows.{shaped, term-below, term-place, term-coefficient}
 use borrow.Author.Needs.{needs}
 use Rattle.bench_expansion.proofs.entries.pending_term.Statement.{statement}
