@@ -1,11 +1,12 @@
--- `dealing::noise::write_trees` meets its contract. The loop's invariant: the first i trees stand after the head; the measure is the
+-- `deal_call::noise::write_trees` meets its contract. The loop's invariant: the first i trees stand after the head; the measure is the
 -- trees left. Assumes nothing.
 use Prim.Native.Nat.{_-_}
 use native.Mathlib.Omega.{arith}
 use borrow.Author.Needs.{needs}
-use Rattle.dealing.proofs.Turns.{Turn, turn-start, turn-tables, turn-asks, turn-position, turn-value, turn-root, turn-fits, turn-count, turn-base, turn-next, turn-long, turn-done}
-use Rattle.dealing.proofs.noise.write_trees.Statement.{statement}
-use Rattle.dealing.proofs.noise.write_trees.Tie as tie
+use Rattle.deal_call.proofs.Turns.{Turn, turn-start, turn-tables, turn-asks, turn-position, turn-value, turn-root}
+use Rattle.deal_call.proofs.Turns.{turn-fits, turn-count, turn-base, turn-next, turn-long, turn-done}
+use Rattle.deal_call.proofs.noise.write_trees.Statement.{statement}
+use Rattle.deal_call.proofs.noise.write_trees.Tie as tie
 
 abbrev Inv-loop : tie.InvT-loop
 Inv-loop out₀ layout roots positions values delta tables keys at₀ base₀ i₀ out at base i =

@@ -1,11 +1,10 @@
 // The scalar record.
-ghost use mathlib.Core.Path.{_≡_};
 ghost use lib.ListN.{length};
 ghost use Rattle.number.specs.Inner.Written.{Wrote};
 ghost use Rattle.record.specs.Inner.Heads.{scalarWith};
 ghost use Rattle.record.specs.Writing.{writeScalar};
 ghost use Rattle.dealing.specs.Input.{wordsOf};
-ghost use Rattle.dealing.specs.Inner.Steps.{ScalarPlaced};
+ghost use Rattle.deal_call.specs.Inner.Steps.{ScalarPlaced};
 use field::element_at;
 use record::Layout;
 use record::write_scalar;

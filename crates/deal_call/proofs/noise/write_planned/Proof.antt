@@ -1,8 +1,8 @@
--- `dealing::noise::write_planned` meets its contract. Assumes nothing.
+-- `deal_call::noise::write_planned` meets its contract. Assumes nothing.
 use borrow.Author.Needs.{needs}
-use Rattle.dealing.proofs.Written.{planned-room, planned-wrote}
-use Rattle.dealing.proofs.noise.write_planned.Statement.{statement}
-use Rattle.dealing.proofs.noise.write_planned.Tie as tie
+use Rattle.deal_call.proofs.Written.{planned-room, planned-wrote}
+use Rattle.deal_call.proofs.noise.write_planned.Statement.{statement}
+use Rattle.deal_call.proofs.noise.write_planned.Tie as tie
 
 pub write-planned-spec : {M : Type 1} → statement M
 write-planned-spec =

@@ -1,8 +1,8 @@
--- `dealing::noise::plan` meets its contract. Assumes nothing.
+-- `deal_call::noise::plan` meets its contract. Assumes nothing.
 use borrow.Author.Needs.{needs}
-use Rattle.dealing.proofs.Turns.{plan-is}
-use Rattle.dealing.proofs.noise.plan.Statement.{statement}
-use Rattle.dealing.proofs.noise.plan.Tie as tie
+use Rattle.deal_call.proofs.Turns.{plan-is}
+use Rattle.deal_call.proofs.noise.plan.Statement.{statement}
+use Rattle.deal_call.proofs.noise.plan.Tie as tie
 
 pub plan-spec : {M : Type 1} → statement M
 plan-spec =

@@ -1,8 +1,8 @@
--- `dealing::noise::write_tree` meets its contract: the siblings, then what stands before them. Assumes nothing.
+-- `deal_call::noise::write_tree` meets its contract: the siblings, then what stands before them. Assumes nothing.
 use borrow.Author.Needs.{needs}
-use Rattle.dealing.proofs.Written.{siblings-fit, next-fits, walk-room, tree-start-room, tree-wrote}
-use Rattle.dealing.proofs.noise.write_tree.Statement.{statement}
-use Rattle.dealing.proofs.noise.write_tree.Tie as tie
+use Rattle.deal_call.proofs.Written.{siblings-fit, next-fits, walk-room, tree-start-room, tree-wrote}
+use Rattle.deal_call.proofs.noise.write_tree.Statement.{statement}
+use Rattle.deal_call.proofs.noise.write_tree.Tie as tie
 
 pub write-tree-spec : {M : Type 1} → statement M
 write-tree-spec =

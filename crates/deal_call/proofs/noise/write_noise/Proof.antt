@@ -1,8 +1,8 @@
--- `dealing::noise::write_noise` meets its contract: the head, then the trees. Assumes nothing.
+-- `deal_call::noise::write_noise` meets its contract: the head, then the trees. Assumes nothing.
 use borrow.Author.Needs.{needs}
-use Rattle.dealing.proofs.Turns.{noise-head, noise-key, noise-label, noise-trees, noise-wrote}
-use Rattle.dealing.proofs.noise.write_noise.Statement.{statement}
-use Rattle.dealing.proofs.noise.write_noise.Tie as tie
+use Rattle.deal_call.proofs.Turns.{noise-head, noise-key, noise-label, noise-trees, noise-wrote}
+use Rattle.deal_call.proofs.noise.write_noise.Statement.{statement}
+use Rattle.deal_call.proofs.noise.write_noise.Tie as tie
 
 pub write-noise-spec : {M : Type 1} → statement M
 write-noise-spec =

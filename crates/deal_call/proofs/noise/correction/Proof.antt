@@ -1,9 +1,9 @@
--- `dealing::noise::correction` meets its contract. Assumes nothing.
+-- `deal_call::noise::correction` meets its contract. Assumes nothing.
 use borrow.Author.Needs.{needs}
 use Rattle.dealing.proofs.Tests.{delta-room}
-use Rattle.dealing.proofs.Written.{corrected}
-use Rattle.dealing.proofs.noise.correction.Statement.{statement}
-use Rattle.dealing.proofs.noise.correction.Tie as tie
+use Rattle.deal_call.proofs.Written.{corrected}
+use Rattle.deal_call.proofs.noise.correction.Statement.{statement}
+use Rattle.deal_call.proofs.noise.correction.Tie as tie
 
 pub correction-spec : {M : Type 1} → statement M
 correction-spec =

@@ -1,8 +1,8 @@
--- `dealing::scalar::write_scalar_part` meets its contract. Assumes nothing.
+-- `deal_call::scalar::write_scalar_part` meets its contract. Assumes nothing.
 use borrow.Author.Needs.{needs}
-use Rattle.dealing.proofs.Deals.{scalar-room, scalar-fits, scalar-wrote}
-use Rattle.dealing.proofs.scalar.write_scalar_part.Statement.{statement}
-use Rattle.dealing.proofs.scalar.write_scalar_part.Tie as tie
+use Rattle.deal_call.proofs.Deals.{scalar-room, scalar-fits, scalar-wrote}
+use Rattle.deal_call.proofs.scalar.write_scalar_part.Statement.{statement}
+use Rattle.deal_call.proofs.scalar.write_scalar_part.Tie as tie
 
 pub write-scalar-part-spec : {M : Type 1} → statement M
 write-scalar-part-spec =

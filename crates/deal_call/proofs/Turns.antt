@@ -18,11 +18,12 @@ use Rattle.record.proofs.Lengths.{length-head}
 use Rattle.record.specs.Inner.Heads.{headFrom}
 use Rattle.record.specs.declared.Layout.{Layout}
 use Rattle.tree.specs.Columns.{columnsAt}
 use Rattle.dealing.specs.Input.{Input, position}
 use Rattle.dealing.specs.Parts.{noiseTree, noisePart}
-use Rattle.dealing.specs.Inner.Steps.{TablesAndKeys, inputFrom, planned, plannedTree, treesBytes, Placed, TreesPlaced, NoisePlaced}
-use Rattle.dealing.specs.declared.noise.Planned.{Planned}
-use Rattle.dealing.proofs.Written.{first, baseAt, first-none, first-more, base-none, base-next, first-length, own-tree}
+use Rattle.dealing.specs.Inner.Steps.{inputFrom}
+use Rattle.deal_call.specs.Inner.Steps.{TablesAndKeys, planned, plannedTree, treesBytes, Placed, TreesPlaced, NoisePlaced}
+use Rattle.deal_call.specs.declared.noise.Planned.{Planned}
+use Rattle.deal_call.proofs.Written.{first, baseAt, first-none, first-more, base-none, base-next, first-length, own-tree}
 
 tree-position : (I : Input) (i : ℕ) → noiseTree I i .position ≡ position I i
 unfolding noiseTree

@@ -2,7 +2,7 @@
 use mathlib.Core.Path.{_≡_, refl, sym, ap, ap₂, _∙_}
 use mathlib.Core.List.{List, [], _∷_, _++_, map, append-assoc, append-nil}
 use Prim.Native.Nat.{ℕ, zero, suc, _+_, _-_, _*_, _/_, _^_, _≤_, _<_}
-use native.Mathlib.Nat.{add-zero, zero-add, le-of-eq, mul-comm, mul-div-le}
+use native.Mathlib.Nat.{add-zero, zero-add, le-of-eq, mul-div-le}
 use native.Mathlib.Omega.{arith}
 use mir.Syntax.{w64}
 use mir.Val.{Fits}
@@ -18,12 +18,10 @@ use Rattle.field.specs.Inner.Elements.{noiseIn, elementIn, elementAt}
 use Rattle.field.specs.declared.element.Element.{Element}
 use Rattle.number.specs.Inner.Written.{Room, Wrote}
 use Rattle.record.specs.Content.{NoiseTree, siblingCount}
-use Rattle.record.specs.Writing.{writeEach, writeBlocks, writeTreeStart, writeTree, writeTrees}
-use Rattle.record.specs.Inner.Lengths.{treeStartBytes, treeStartLength, treeLength}
+use Rattle.record.specs.Writing.{writeTreeStart, writeTree, writeTrees}
+use Rattle.record.specs.Inner.Lengths.{treeStartBytes, treeStartLength}
 use Rattle.record.proofs.Lengths.{tree-start-long}
-use Rattle.tree.proofs.Blocks.{length-blocks}
 use Rattle.tree.proofs.ChildLaws.{key-schedules}
-use Rattle.tree.proofs.Laws.{length-siblings}
 use Rattle.tree.proofs.Listed.{listed-none, listed-last}
 use Rattle.tree.specs.Child.{child, childBy}
 use Rattle.tree.specs.Inner.Keys.{keysFor}
@@ -32,11 +30,13 @@ use Rattle.tree.specs.Expanded.{walk, walked}
 use Rattle.tree.specs.Inner.Branches.{IsPunctured}
 use Rattle.tree.specs.declared.punctured.Punctured.{Punctured}
 use Rattle.tree.specs.Tree.{listed, siblings, leafAt}
 use Rattle.dealing.specs.Input.{Input, position, wordsOf}
 use Rattle.dealing.specs.Parts.{noiseTree}
 use Rattle.dealing.specs.Vectors.{field, delta, root, leaf}
-use Rattle.dealing.specs.Inner.Steps.{TablesAndKeys, correctionWords, layoutFor, planned, plannedBytes, plannedTree, Placed}
-use Rattle.dealing.specs.declared.noise.Planned.{Planned}
+use Rattle.dealing.specs.Inner.Steps.{layoutFor}
+use Rattle.dealing.proofs.Lengths.{blocks-bytes, siblings-long}
+use Rattle.deal_call.specs.Inner.Steps.{TablesAndKeys, correctionWords, planned, plannedBytes, plannedTree, Placed}
+use Rattle.deal_call.specs.declared.noise.Planned.{Planned}
 
 -- ---- stores
 
@@ -124,11 +124,6 @@ corrected field s y delta {d} l m c read leaf multiple difference =
 
 -- ---- a tree
 
-pub blocks-bytes : (xs : List (List (List ℕ))) → blocksBytes xs ≡ writeBlocks (map columnsBytes xs)
-unfolding blocksBytes writeEach
-blocks-bytes [] = refl
-blocks-bytes (x ∷ xs) = ap (λ l. columnsBytes x ++ l) (blocks-bytes xs)
-
 module _ (t : Planned) (root : List (List ℕ)) (delta : List ℕ) where
   -- the bytes before the siblings, and the siblings
   abbrev before : List ℕ
@@ -148,11 +143,7 @@ module _ (t : Planned) (root : List (List ℕ)) (delta : List ℕ) where
       (kindLaws (t .field) .field .elements .length-words _)
 
   beside-long : length beside ≡ 16 * siblingCount (t .depth) (t .«branch_bits»)
-  unfolding siblingCount
-  beside-long =
-      length-blocks (siblings (2 ^ t .«branch_bits») child (t .depth / t .«branch_bits») root (t .position))
-      ∙ ap (λ n. n * 16) (length-siblings (2 ^ t .«branch_bits») child (pow-pos (t .«branch_bits»)) (t .depth / t .«branch_bits») root (t .position))
-      ∙ mul-comm (siblingCount (t .depth) (t .«branch_bits»)) 16
+  beside-long = siblings-long (t .depth) (t .«branch_bits») root (t .position)
 
   pub tree-long : length (writeTree (t .field) (t .base) (plannedTree t root delta))
       ≡ treeStartLength (t .base) (t .position) + 16 * siblingCount (t .depth) (t .«branch_bits»)
@@ -168,12 +159,6 @@ own-tree I i base at =
       siblings = map columnsBytes (siblings (2 ^ I .branchBits) child (I .depth / I .branchBits) (root I i) (position I i));
     })
     (sym (kindLaws (I .field) .noise-read (I .values) i))
-
-pub tree-length : (I : Input) (i base body : ℕ) → length (writeTree (I .field) base (noiseTree I i)) ≡ treeLength (layoutFor I body) base (position I i)
-unfolding treeLength
-tree-length I i base body =
-    ap (λ t. length (writeTree (I .field) base t)) (sym (own-tree I i base 0))
-    ∙ tree-long (planned (layoutFor I 0) (I .positions) (I .values) i base 0) (root I i) (I .delta)
 
 -- ---- a tree at its place
 

@@ -5,9 +5,11 @@ ghost use lib.ListN.{length};
 ghost use Rattle.field.specs.ByNumber.{elementOf};
 ghost use Rattle.number.specs.Inner.Written.{Room, Wrote};
 ghost use Rattle.record.specs.Writing.{writeTree, writeNoise};
 ghost use Rattle.dealing.specs.Parts.{noisePart};
-ghost use Rattle.dealing.specs.Inner.Steps.{TablesAndKeys, inputFrom, correctionWords, planned, plannedBytes, plannedTree, treesBytes, Placed, TreesPlaced, NoisePlaced};
-use crate::input::wide;
+ghost use Rattle.dealing.specs.Inner.Steps.{inputFrom};
+ghost use Rattle.deal_call.specs.Inner.Steps.{TablesAndKeys, Placed, TreesPlaced, NoisePlaced};
+ghost use Rattle.deal_call.specs.Inner.Steps.{correctionWords, planned, plannedBytes, plannedTree, treesBytes};
+use dealing::wide;
 use field::Element;
 use field::element_at;
 use field::element_difference;
@@ -92,7 +94,8 @@ fn write_tree(
 ) -> usize
     requires { ⌜ TablesAndKeys (tree .«branch_bits») (now tables) (now keys) ⌝ }
     requires { ⌜ Placed tree root (now delta) (now out) ⌝ }
-    ensures { λ r. ⌜ Wrote (now (out .entry)) (tree .at) (writeTree (tree .field) (tree .base) (plannedTree tree root (now (delta .entry)))) r (now (out .exit)) ⌝ }
+    ensures { λ r. ⌜ Wrote (now (out .entry)) (tree .at)
+        (writeTree (tree .field) (tree .base) (plannedTree tree root (now (delta .entry)))) r (now (out .exit)) ⌝ }
 {
     let siblings = tree.at + tree_start_length(tree.base, tree.position);
     let next = siblings + 16 * sibling_count(tree.depth, tree.branch_bits);
