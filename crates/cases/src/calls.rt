@@ -26,7 +26,7 @@ pub fn deal(
     let values = [1u64; 2];
     let delta = [9u8, 1, 2, 3, 4, 5, 6, 7, 0, 0, 0, 0, 0, 0, 0, 0];
     let code_key = [key; 16];
-    dealing::deal(
+    deal_call::deal(
         field,
         depth,
         1,
@@ -136,7 +136,7 @@ fn offline_number(source: &[u8]) -> usize {
 pub fn records() {
     let mut noise = [0u8; 96];
     let mut scalar = [0u8; 96];
-    let r = dealing::deal(
+    let r = deal_call::deal(
         1,
         1,
         1,

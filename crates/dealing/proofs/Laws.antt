@@ -6,9 +6,10 @@ use mathlib.Core.Logic.{_↔_}
 use Prim.Native.Nat.{ℕ, _≤_}
 use lib.ListN.{length}
 use lib.Seq.{take-append-seam}
-use Rattle.answer.specs.Outcome.{TwoWritten, wrote}
+use borrow.Author.Tests.{ne-eqb}
+use Rattle.answer.specs.Outcome.{TwoWritten, wrote, refusedTwo}
 use Rattle.answer.specs.Tests.{AllMet}
-use Rattle.answer.proofs.Answers.{outcome-accepts, outcome-is}
+use Rattle.answer.proofs.Answers.{refused-with, outcome-accepts, outcome-is}
 use Rattle.answer.proofs.Joined.{met-before, met-after, met-both}
 use Rattle.number.specs.Reading.{Whole}
 use Rattle.record.proofs.Laws.{noise-reads as record-noise, scalar-reads as record-scalar}
@@ -17,6 +18,7 @@ use Rattle.record.specs.Writing.{writeNoise, writeScalar}
 use Rattle.dealing.specs.Admitted.{InMemory, Admitted}
 use Rattle.dealing.specs.Deal.{lentDeal, roomTests, dealTests, deal, noiseRecordOf, scalarRecordOf, front}
 use Rattle.dealing.specs.Input.{Input, sizeTests, lengthTests, contentTests}
+use Rattle.dealing.specs.Inner.Steps.{dealNumber}
 use Rattle.dealing.specs.Parts.{noisePart, scalarPart}
 use Rattle.dealing.proofs.Faults.{admitted, sizes-met, lengths-met, content-met}
 use Rattle.dealing.proofs.Parts.{noise-admitted, scalar-admitted}
@@ -34,23 +36,30 @@ pub record Accepted (I : Input) (a b : List ℕ) : Type 0 where
   pub noise-room : length (noiseWriting I) ≤ length a
   pub scalar-room : length (scalarWriting I) ≤ length b
 
--- all tests met
-pub tests-accepted : (I : Input) (a b : List ℕ) → AllMet (dealTests I (length a) (length b)) → Accepted I a b
-tests-accepted I a b m =
-    let room = roomTests I (length a) (length b) in
-    let lengths = met-after (sizeTests I) (lengthTests I ++ (contentTests I ++ room)) m in
+-- all tests met, by the room in each buffer
+pub tests-say : (I : Input) (m n : ℕ) → AllMet (dealTests I m n) → Admitted I × (length (noiseWriting I) ≤ m) × (length (scalarWriting I) ≤ n)
+tests-say I m n met =
+    let room = roomTests I m n in
+    let lengths = met-after (sizeTests I) (lengthTests I ++ (contentTests I ++ room)) met in
     let content = met-after (lengthTests I) (contentTests I ++ room) lengths in
-    let rooms = met-after (contentTests I) room content in
-    record {
-      admitted = admitted I (met-before (sizeTests I) _ m) (met-before (lengthTests I) _ lengths) (met-before (contentTests I) room content);
-      noise-room = search rooms;
-      scalar-room = search rooms;
-    }
+    let rooms = met-after (contentTests I) room content in (
+      admitted I (met-before (sizeTests I) _ met) (met-before (lengthTests I) _ lengths) (met-before (contentTests I) room content),
+      search rooms,
+      search rooms,
+    )
+
+pub tests-accepted : (I : Input) (a b : List ℕ) → AllMet (dealTests I (length a) (length b)) → Accepted I a b
+tests-accepted I a b met = let t = tests-say I (length a) (length b) met in record { admitted = t .0; noise-room = t .1; scalar-room = t .2 }
 
 module _ (I : Input) (a b : List ℕ) where
   accepts : AllMet (dealTests I (length a) (length b)) ↔ deal I a b .number ≡ 0
   unfolding deal
   accepts = outcome-accepts _ _ _ _ _ refl
+
+  -- a refused call returns zeros, and leaves all that is lent as it was
+  pub deal-refused : {n : ℕ} → n ≡ dealNumber I (length a) (length b) → (n ≡ 0 → ⊥) → refusedTwo (lentDeal I a b) n ≡ deal I a b
+  unfolding deal dealNumber
+  deal-refused {n} tested some = refused-with _ _ _ _ n tested (ne-eqb n 0 some) refl
 
   -- admitted input with room in both buffers is dealt
   pub deal-accepted : Accepted I a b → deal I a b .number ≡ 0

@@ -1,29 +1,57 @@
 -- The lengths of a dealing's records from its sizes and positions, and the roots as blocks of the input. Assumes nothing.
 use mathlib.Core.Path.{_≡_, refl, sym, ap, ap₂, _∙_}
-use mathlib.Core.List.{List, [], _∷_, _++_}
-use Prim.Native.Nat.{ℕ, zero, suc, _+_, _*_, _≤_, _<_}
+use mathlib.Core.List.{List, [], _∷_, _++_, map}
+use Prim.Native.Nat.{ℕ, zero, suc, _+_, _-_, _*_, _/_, _^_, _≤_, _<_}
+use native.Mathlib.Nat.{mul-comm}
 use native.Mathlib.Omega.{arith}
 use native.Mathlib.Numerals.{add-one}
 use lib.ListN.{length, getD, take, length-append}
+use lib.Pow.{pow-pos}
 use lib.Seq.{drop-cons}
+use Rattle.field.proofs.BothKinds.{kindLaws}
 use Rattle.field.specs.Bytes.{wordAt, fourAt}
 use Rattle.number.specs.Reading.{part}
-use Rattle.record.proofs.Lengths.{length-head, length-element}
-use Rattle.record.specs.Content.{NoiseTree}
+use Rattle.record.proofs.Lengths.{length-head, length-element, tree-start-long}
+use Rattle.record.specs.Content.{NoiseTree, siblingCount}
 use Rattle.record.specs.Reading.{items, blockAt}
-use Rattle.record.specs.Writing.{writeEach, writeBlocks, writeHead, writeWords, writeTree, writeTrees, writeNoise, writeScalar}
-use Rattle.record.specs.Inner.Lengths.{headLength, treeLength, treesLength, noiseLength, scalarLength}
+use Rattle.record.specs.Writing.{writeEach, writeBlocks, writeHead, writeWords, writeTreeStart, writeTree, writeTrees, writeNoise, writeScalar}
+use Rattle.record.specs.Inner.Lengths.{headLength, treeStartBytes, treeLength, treesLength, noiseLength, scalarLength}
 use Rattle.record.specs.declared.Layout.{Layout}
-use Rattle.tree.proofs.Blocks.{length-block}
+use Rattle.tree.proofs.Blocks.{length-block, length-blocks}
+use Rattle.tree.proofs.Laws.{length-siblings}
 use Rattle.tree.proofs.Listed.{listed-none, listed-front, listed-cong, listed-getD}
-use Rattle.tree.specs.Columns.{columnsAt, columnsBytes}
-use Rattle.tree.specs.Tree.{listed}
+use Rattle.tree.specs.Child.{child}
+use Rattle.tree.specs.Columns.{columnsAt, columnsBytes, blocksBytes}
+use Rattle.tree.specs.Tree.{listed, siblings}
 use Rattle.dealing.specs.Admitted.{Admitted}
 use Rattle.dealing.specs.Inner.Steps.{layoutFor}
 use Rattle.dealing.specs.Input.{Input, deltaWords, position}
 use Rattle.dealing.specs.Parts.{noiseTree, noisePart, scalarPart}
 use Rattle.dealing.specs.Vectors.{head, root}
-use Rattle.dealing.proofs.Written.{tree-length}
+
+-- ---- a tree
+
+pub blocks-bytes : (xs : List (List (List ℕ))) → blocksBytes xs ≡ writeBlocks (map columnsBytes xs)
+unfolding blocksBytes writeEach
+blocks-bytes [] = refl
+blocks-bytes (x ∷ xs) = ap (λ l. columnsBytes x ++ l) (blocks-bytes xs)
+
+-- the siblings of a tree
+pub siblings-long : (d g : ℕ) (root : List (List ℕ)) (p : ℕ) → length (blocksBytes (siblings (2 ^ g) child (d / g) root p)) ≡ 16 * siblingCount d g
+unfolding siblingCount
+siblings-long d g root p =
+    length-blocks (siblings (2 ^ g) child (d / g) root p)
+    ∙ ap (λ n. n * 16) (length-siblings (2 ^ g) child (pow-pos g) (d / g) root p)
+    ∙ mul-comm (siblingCount d g) 16
+
+tree-length : (I : Input) (i base body : ℕ) → length (writeTree (I .field) base (noiseTree I i)) ≡ treeLength (layoutFor I body) base (position I i)
+unfolding treeLength noiseTree writeTree writeTreeStart
+tree-length I i base body =
+    length-append (treeStartBytes (I .field) (position I i - base) (getD (I .values) i 0) (noiseTree I i .correction)) (writeBlocks (noiseTree I i .siblings))
+    ∙ ap₂ (λ a b. a + b)
+    (tree-start-long (I .field) base (position I i) (getD (I .values) i 0) (noiseTree I i .correction) (kindLaws (I .field) .field .elements .length-words _))
+    (ap length (sym (blocks-bytes (siblings (2 ^ I .branchBits) child (I .depth / I .branchBits) (root I i) (position I i))))
+    ∙ siblings-long (I .depth) (I .branchBits) (root I i) (position I i))
 
 -- ---- the noise record
 

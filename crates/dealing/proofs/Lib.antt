@@ -3,8 +3,6 @@ mod Positions
 pub mod Faults
 pub mod Parts
 pub mod Laws
-mod Tests
-mod Written
-mod Turns
-mod Lengths
-mod Deals
+pub mod Tests
+pub mod Lengths
+pub mod Number

@@ -1,10 +1,10 @@
 -- Each return of the tests of a dealing's input gives what the definition says there. Assumes nothing.
 use mathlib.Core.Path.{_≡_, sym, ap, _∙_}
-use mathlib.Core.Bool.{Bool, true, false, _&&_}
+use mathlib.Core.Bool.{Bool, true, false, not, _&&_}
 use mathlib.Core.List.{List}
 use Prim.Native.Nat.{ℕ, _+_, _/_, _%_, _^_, _≤_, _<_, min}
 use native.Mathlib.Omega.{arith}
-use borrow.Author.Tests.{leb-true, le-leb, lt-leb}
+use borrow.Author.Tests.{leb-true, le-leb, lt-leb, not-false}
 use lib.Dec.{leb, eqb}
 use lib.ListN.{length, getD}
 use Rattle.algebra.proofs.Every.{every-more, every-done, every-stop}
@@ -45,8 +45,8 @@ count-is limit d n p q e = e ∙ rw (q, p)
 pub outputs-is : (d n : ℕ) {all : ℕ} {b : Bool} → all ≡ 2 ^ d → b ≡ isSize (all / 2) n → b ≡ isSize (mostOutputs d) n
 outputs-is d n p e = e ∙ rw p
 
-pub depth-most : (d : ℕ) {a : Bool} → a ≡ isSize 16 d → a ≡ true → d ≤ 16
-depth-most d first e = leb-true d 16 (and-right (leb 1 d) (leb d 16) (sym first ∙ e))
+pub depth-most : (d : ℕ) {a : Bool} → not a ≡ false → a ≡ isSize 16 d → d ≤ 16
+depth-most d {a} e first = leb-true d 16 (and-right (leb 1 d) (leb d 16) (sym first ∙ not-false a e))
 
 -- ---- noise values
 

@@ -2,8 +2,7 @@
 ghost use mathlib.Core.Path.{_≡_};
 ghost use Rattle.answer.specs.Tests.{firstFault};
 ghost use Rattle.record.specs.Inner.Lengths.{headLength};
-ghost use Rattle.dealing.specs.Deal.{dealTests};
-ghost use Rattle.dealing.specs.Inner.Steps.{inputFrom, Measured, measuredTests};
+ghost use Rattle.dealing.specs.Inner.Steps.{inputFrom, Measured, measuredTests, dealNumber};
 use crate::input::content_number;
 use crate::input::lengths_number;
 use crate::input::sizes_number;
@@ -46,8 +45,8 @@ pub fn deal_number(
     label: &[u8],
 ) -> u32
     requires { ⌜ layout .body ≡ headLength (layout .depth) (layout .«branch_bits») (layout .trees) (layout .terms) (layout .outputs) ⌝ }
-    ensures { λ r. ⌜ r ≡ firstFault (dealTests (inputFrom layout (now (roots .entry)) (now (positions .entry)) (now (values .entry))
-        (now (delta .entry)) (now («code_key» .entry)) (now (label .entry))) (rooms .noise) (rooms .scalar)) ⌝ }
+    ensures { λ r. ⌜ r ≡ dealNumber (inputFrom layout (now (roots .entry)) (now (positions .entry)) (now (values .entry))
+        (now (delta .entry)) (now («code_key» .entry)) (now (label .entry))) (rooms .noise) (rooms .scalar) ⌝ }
 {
     let sizes = sizes_number(layout);
     if sizes != 0 {

@@ -47,7 +47,7 @@ pub extern "C" fn expander_deal(
         (now (delta .entry)) (now («code_key» .entry)) (now (label .entry)))
         (now («noise_record» .entry)) (now («scalar_record» .entry)) ⌝ }
 {
-    dealing::deal(
+    deal_call::deal(
         field,
         depth,
         branch_bits,

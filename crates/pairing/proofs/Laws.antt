@@ -16,7 +16,8 @@ use Rattle.window.specs.Head.{fieldOf, places}
 use Rattle.ends.specs.Scalar.Vectors as scalarEnd
 use Rattle.pairing.specs.AllHeld.{CorrelatedHeld}
 use Rattle.pairing.specs.Line.{text, printed}
-use Rattle.pairing.specs.Verdict.{Verdict, Refusal, TooLarge, Different, Checked, sameDealing, uAt, vAt, wAt, holds, Pair, noiseOf, scalarOf, pairOf, heldAt, heldOf, paired, verdict}
+use Rattle.pairing.specs.Verdict.{Verdict, Refusal, TooLarge, Different, Checked, sameDealing, paired, verdict}
+use Rattle.pairing.specs.Verdict.{uAt, vAt, wAt, holds, Pair, noiseOf, scalarOf, pairOf, heldAt, heldOf}
 use Rattle.pairing.proofs.Same.{same-refl, same-dealing}
 
 -- ---- a record is refused

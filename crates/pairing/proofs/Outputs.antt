@@ -194,7 +194,8 @@ module _ (t : List ℕ) (f : Layout) (ready : scalar.Ready t f) (small : 2 ^ f .
           record {
             w-is = λ x h.
                 ap (λ (l : Outcome ℕ scalarOnline.Lent). at (kindOf (f .field) .field .elements) (l .lent .wOut) x) window
-                ∙ scalarLaws.online-values borrowed (scalar.contentOf t f) w0 (ready .read) (scalar-accepted .w) (λ j h. value-element (headOf t f) _ j) 0 (f .outputs) scalar-number x h
+                ∙ scalarLaws.online-values borrowed (scalar.contentOf t f) w0 (ready .read) (scalar-accepted .w)
+                (λ j h. value-element (headOf t f) _ j) 0 (f .outputs) scalar-number x h
                 ∙ ap (wAt (scalar.contentOf t f)) (zero-add x);
             delta-is = ap (λ (l : List ℕ). kindOf (f .field) .field .elements .read l 0) whole ∙ delta-read (f .field) (scalar.contentOf t f .delta);
           }

@@ -107,7 +107,15 @@ dealing-equal h k e =
 pub same-dealing : (h : Head) → sameDealing h h ≡ true
 unfolding sameDealing
 same-dealing h =
-    rw (eq-eqb (h .field) (h .field) refl, eq-eqb (h .depth) (h .depth) refl, eq-eqb (h .branchBits) (h .branchBits) refl, eq-eqb (h .trees) (h .trees) refl, eq-eqb (h .terms) (h .terms) refl, eq-eqb (h .outputs) (h .outputs) refl, same-refl (h .codeKey))
+    rw (
+      eq-eqb (h .field) (h .field) refl,
+      eq-eqb (h .depth) (h .depth) refl,
+      eq-eqb (h .branchBits) (h .branchBits) refl,
+      eq-eqb (h .trees) (h .trees) refl,
+      eq-eqb (h .terms) (h .terms) refl,
+      eq-eqb (h .outputs) (h .outputs) refl,
+      same-refl (h .codeKey),
+    )
     (same-refl (h .label))
 
 -- the sizes, one after the other

@@ -6,4 +6,5 @@ pub mod Numbers
 mod Windows
 mod Fronts
 mod Passed
+mod Filled
 mod Tested

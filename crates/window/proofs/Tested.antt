@@ -14,7 +14,7 @@ use Rattle.window.specs.declared.WindowRows.{WindowRows}
 use Rattle.window.specs.Head.{ofNoise}
 use Rattle.window.specs.Inner.Outputs.{pairRows}
 use Rattle.window.specs.Inner.Testing.{elementsUsed}
-use Rattle.window.specs.Inner.Written.{bothUsed, uOver, vOver, WindowWritten}
+use Rattle.window.specs.Inner.Written.{bothUsed, uOver, vOver, Filled, WindowWritten}
 
 module _ (keys : List (List (List ℕ))) (r : WindowRows) (noise v uOut vOut : List ℕ) where
   none-written : bothUsed keys r noise v ≡ false → WindowWritten keys r noise v uOut vOut false uOut vOut
@@ -33,25 +33,23 @@ module _ (keys : List (List (List ℕ))) (r : WindowRows) (noise v uOut vOut : L
       pub not-usable : not y ≡ true → WindowWritten keys r noise v uOut vOut false uOut vOut
       not-usable e = none-written (rw (← xe, ← ye, not-false x right, not-true y e))
 
-      pub large-written : not y ≡ false → {a b : List ℕ} → a ≡ uOver keys r noise uOut → b ≡ vOver keys r v vOut
+      pub large-written : not y ≡ false → {t : Bool} {a b : List ℕ} → Filled keys r noise v uOut vOut t a b
           → WindowWritten keys r noise v uOut vOut true a b
-      large-written e = all-written (rw (← xe, ← ye, not-false x right, not-false y e))
+      large-written e f = all-written (rw (← xe, ← ye, not-false x right, not-false y e)) (f .u-is) (f .v-is)
 
   -- tested as they are summed, in memory of its own
-  module _ {t : Bool} (te : t ≡ bothUsed keys r noise v) where
+  module _ {t : Bool} {uOwn vOwn x y : List ℕ} (f : Filled keys r noise v uOwn vOwn t x y) where
     pub small-refused : not t ≡ true → WindowWritten keys r noise v uOut vOut false uOut vOut
-    small-refused e = none-written (sym te ∙ not-true t e)
+    small-refused e = none-written (sym (f .told) ∙ not-true t e)
 
     pub small-written : not t ≡ false → {width : ℕ} → width ≡ elementWords (r .field)
-        → (uOwn : List ℕ) {x : List ℕ} → x ≡ uOver keys r noise uOwn
-        → (vOwn : List ℕ) {y : List ℕ} → y ≡ vOver keys r v vOwn
         → {a : List ℕ} → a ≡ take (r .pairs) x ++ drop (r .pairs) uOut
         → {b : List ℕ} → b ≡ take (r .window .count * width) y ++ drop (r .window .count * width) vOut
         → WindowWritten keys r noise v uOut vOut true a b
-    small-written e we uOwn p vOwn q ae be =
+    small-written e we ae be =
         let F = kindOf (r .field) .field in
         let L = kindLaws (r .field) .field in
         let one : r .pairs ≡ r .pairs * F .noiseValues .width = sym (ap (λ (n : ℕ). r .pairs * n) (kindLaws (r .field) .noise-width) ∙ mul-one (r .pairs)) in
-        all-written (sym te ∙ not-false t e)
-        (front-over (F .noiseValues) (L .noiseValues) (r .pairs) _ uOwn uOut p one ae)
-        (front-over (F .elements) (L .elements) (r .window .count) _ vOwn vOut q (ap (λ (n : ℕ). r .window .count * n) we) be)
+        all-written (sym (f .told) ∙ not-false t e)
+        (front-over (F .noiseValues) (L .noiseValues) (r .pairs) _ uOwn uOut (f .u-is) one ae)
+        (front-over (F .elements) (L .elements) (r .window .count) _ vOwn vOut (f .v-is) (ap (λ (n : ℕ). r .window .count * n) we) be)

@@ -1,16 +1,12 @@
-// A window's outputs written and its words tested in one walk of its rows, in each field at each end.
-ghost use mathlib.Core.Bool.{_&&_};
-ghost use mathlib.Core.Path.{_≡_};
+// A window's outputs written and its words tested in one walk of its rows.
+ghost use Prim.Native.Nat.{_<_};
+ghost use lib.Dec.{eqb};
 ghost use lib.ListN.{length};
 ghost use Rattle.sbox.specs.Inner.Tables.{RoundTables};
 ghost use Rattle.aes128.specs.Inner.Words.{roundKeys};
-ghost use Rattle.field.specs.Binary.{binary};
-ghost use Rattle.field.specs.Kind.{binaryKind, primeKind, elementWords};
-ghost use Rattle.field.specs.Prime.{primes};
-ghost use Rattle.window.specs.Head.{ofNoise};
-ghost use Rattle.window.specs.Inner.Outputs.{windowOver};
-ghost use Rattle.window.specs.Inner.Testing.{Fitting, NoiseFitting, elementsUsed};
-ghost use Rattle.window.specs.Inner.Written.{bothUsed, uOver, vOver};
+ghost use Rattle.field.specs.Kind.{kindOf, binaryKind, primeKind, elementWords};
+ghost use Rattle.window.specs.Inner.Testing.{Fitting, NoiseFitting};
+ghost use Rattle.window.specs.Inner.Written.{RowWritten, Filled};
 use crate::WindowRows;
 use field::put_block;
 use row_sums::noise_row_binary;
@@ -18,108 +14,88 @@ use row_sums::noise_row_prime;
 use row_sums::scalar_row_binary;
 use row_sums::scalar_row_prime;
 
-// Writes the window's words of u and elements of v in field 1; whether every word of the noise that its rows use is a bit.
-fn fill_noise_binary(
+// Writes output k of the window in field 1, with its word of u if rows give one; whether every word of the noise that the row uses
+// is a bit.
+fn fill_binary(
     tables: &[u64; 1536],
     keys: &[u64; 40],
     rows: WindowRows,
+    k: usize,
     noise: &[u64],
     v: &[u64],
     u_out: &mut [u64],
     v_out: &mut [u64],
 ) -> bool
-    requires { ⌜ RoundTables (now tables) ⌝ }
-    requires { ⌜ Fitting 1 rows (length (now noise)) (length (now «u_out»)) × Fitting 2 rows (length (now v)) (length (now «v_out»)) ⌝ }
-    ensures { λ r. ⌜ (now («u_out» .exit) ≡ windowOver (ofNoise binary) (binaryKind .coefficient) (roundKeys (now (keys .entry))) rows (now (noise .entry)) (now («u_out» .entry)))
-        × (now («v_out» .exit) ≡ windowOver binary (binaryKind .coefficient) (roundKeys (now (keys .entry))) rows (now (v .entry)) (now («v_out» .entry)))
-        × (r ≡ elementsUsed (ofNoise binary) (roundKeys (now (keys .entry))) rows (now (noise .entry))) ⌝ }
+    requires { ⌜ RoundTables (now tables) × (k < rows .window .count) ⌝ }
+    requires { ⌜ NoiseFitting rows (length (now noise)) (length (now «u_out»)) × Fitting 2 rows (length (now v)) (length (now «v_out»)) ⌝ }
+    ensures { λ r. ⌜ RowWritten binaryKind (eqb (rows .pairs) 0) (roundKeys (now (keys .entry))) rows k (now (noise .entry)) (now (v .entry))
+        (now («u_out» .entry)) (now («v_out» .entry)) r (now («u_out» .exit)) (now («v_out» .exit)) ⌝ }
 {
-    let mut passed = true;
-    let mut k: usize = 0;
-    while k < rows.window.count {
-        let row = noise_row_binary(tables, keys, rows.shape, rows.window.first + k, noise, v);
-        passed = passed & row.used;
-        u_out[k] = row.u;
-        put_block(v_out, k, row.v);
-        k += 1;
+    let x = rows.window.first + k;
+    if rows.pairs == 0 {
+        let element = scalar_row_binary(tables, keys, rows.shape, x, v);
+        put_block(v_out, k, element);
+        return true;
     }
-    passed
+    let pair = noise_row_binary(tables, keys, rows.shape, x, noise, v);
+    u_out[k] = pair.u;
+    put_block(v_out, k, pair.v);
+    pair.used
 }
 
-// Writes the window's words of u and elements of v in field 2; whether every word that its rows use is an element.
-fn fill_noise_prime(
+// The same in field 2; whether every word that the row uses is an element.
+fn fill_prime(
     tables: &[u64; 1536],
     keys: &[u64; 40],
     rows: WindowRows,
+    k: usize,
     noise: &[u64],
     v: &[u64],
     u_out: &mut [u64],
     v_out: &mut [u64],
 ) -> bool
-    requires { ⌜ RoundTables (now tables) ⌝ }
-    requires { ⌜ Fitting 1 rows (length (now noise)) (length (now «u_out»)) × Fitting 1 rows (length (now v)) (length (now «v_out»)) ⌝ }
-    ensures { λ r. ⌜ (now («u_out» .exit) ≡ windowOver primes (primeKind .coefficient) (roundKeys (now (keys .entry))) rows (now (noise .entry)) (now («u_out» .entry)))
-        × (now («v_out» .exit) ≡ windowOver primes (primeKind .coefficient) (roundKeys (now (keys .entry))) rows (now (v .entry)) (now («v_out» .entry)))
-        × (r ≡ (elementsUsed primes (roundKeys (now (keys .entry))) rows (now (noise .entry)) && elementsUsed primes (roundKeys (now (keys .entry))) rows (now (v .entry)))) ⌝ }
+    requires { ⌜ RoundTables (now tables) × (k < rows .window .count) ⌝ }
+    requires { ⌜ NoiseFitting rows (length (now noise)) (length (now «u_out»)) × Fitting 1 rows (length (now v)) (length (now «v_out»)) ⌝ }
+    ensures { λ r. ⌜ RowWritten primeKind (eqb (rows .pairs) 0) (roundKeys (now (keys .entry))) rows k (now (noise .entry)) (now (v .entry))
+        (now («u_out» .entry)) (now («v_out» .entry)) r (now («u_out» .exit)) (now («v_out» .exit)) ⌝ }
 {
-    let mut passed = true;
-    let mut k: usize = 0;
-    while k < rows.window.count {
-        let pair = noise_row_prime(tables, keys, rows.shape, rows.window.first + k, noise, v);
-        passed = passed & pair.used;
-        u_out[k] = pair.u.word;
-        v_out[k] = pair.v.word;
-        k += 1;
+    let x = rows.window.first + k;
+    if rows.pairs == 0 {
+        let row = scalar_row_prime(tables, keys, rows.shape, x, v);
+        v_out[k] = row.w.word;
+        return row.used;
     }
-    passed
+    let pair = noise_row_prime(tables, keys, rows.shape, x, noise, v);
+    u_out[k] = pair.u.word;
+    v_out[k] = pair.v.word;
+    pair.used
 }
 
-// Writes the window's elements of w in field 1.
-fn fill_scalar_binary(
+// The same in the field of the rows.
+fn fill_row(
     tables: &[u64; 1536],
     keys: &[u64; 40],
     rows: WindowRows,
-    w: &[u64],
-    w_out: &mut [u64],
-)
-    requires { ⌜ RoundTables (now tables) ⌝ }
-    requires { ⌜ Fitting 2 rows (length (now w)) (length (now «w_out»)) ⌝ }
-    ensures { λ _. ⌜ now («w_out» .exit) ≡ windowOver binary (binaryKind .coefficient) (roundKeys (now (keys .entry))) rows (now (w .entry)) (now («w_out» .entry)) ⌝ }
-{
-    let mut k: usize = 0;
-    while k < rows.window.count {
-        let element = scalar_row_binary(tables, keys, rows.shape, rows.window.first + k, w);
-        put_block(w_out, k, element);
-        k += 1;
-    }
-}
-
-// Writes the window's elements of w in field 2; whether every word that its rows use is an element.
-fn fill_scalar_prime(
-    tables: &[u64; 1536],
-    keys: &[u64; 40],
-    rows: WindowRows,
-    w: &[u64],
-    w_out: &mut [u64],
+    k: usize,
+    noise: &[u64],
+    v: &[u64],
+    u_out: &mut [u64],
+    v_out: &mut [u64],
 ) -> bool
-    requires { ⌜ RoundTables (now tables) ⌝ }
-    requires { ⌜ Fitting 1 rows (length (now w)) (length (now «w_out»)) ⌝ }
-    ensures { λ r. ⌜ (now («w_out» .exit) ≡ windowOver primes (primeKind .coefficient) (roundKeys (now (keys .entry))) rows (now (w .entry)) (now («w_out» .entry)))
-        × (r ≡ elementsUsed primes (roundKeys (now (keys .entry))) rows (now (w .entry))) ⌝ }
+    requires { ⌜ RoundTables (now tables) × (k < rows .window .count) ⌝ }
+    requires { ⌜ NoiseFitting rows (length (now noise)) (length (now «u_out»))
+        × Fitting (elementWords (rows .field)) rows (length (now v)) (length (now «v_out»)) ⌝ }
+    ensures { λ r. ⌜ RowWritten (kindOf (rows .field)) (eqb (rows .pairs) 0) (roundKeys (now (keys .entry))) rows k (now (noise .entry)) (now (v .entry))
+        (now («u_out» .entry)) (now («v_out» .entry)) r (now («u_out» .exit)) (now («v_out» .exit)) ⌝ }
 {
-    let mut passed = true;
-    let mut k: usize = 0;
-    while k < rows.window.count {
-        let row = scalar_row_prime(tables, keys, rows.shape, rows.window.first + k, w);
-        passed = passed & row.used;
-        w_out[k] = row.w.word;
-        k += 1;
+    if rows.field == 1 {
+        return fill_binary(tables, keys, rows, k, noise, v, u_out, v_out);
     }
-    passed
+    fill_prime(tables, keys, rows, k, noise, v, u_out, v_out)
 }
 
 // Writes the window's words of u, if any are asked for, and its elements; whether every word that its rows use is a noise value or
-// an element. In field 1 every word of the elements is.
+// an element.
 pub fn fill(
     tables: &[u64; 1536],
     keys: &[u64; 40],
@@ -130,23 +106,17 @@ pub fn fill(
     v_out: &mut [u64],
 ) -> bool
     requires { ⌜ RoundTables (now tables) ⌝ }
-    requires { ⌜ NoiseFitting rows (length (now noise)) (length (now «u_out»)) × Fitting (elementWords (rows .field)) rows (length (now v)) (length (now «v_out»)) ⌝ }
-    ensures { λ r. ⌜ (now («u_out» .exit) ≡ uOver (roundKeys (now (keys .entry))) rows (now (noise .entry)) (now («u_out» .entry)))
-        × (now («v_out» .exit) ≡ vOver (roundKeys (now (keys .entry))) rows (now (v .entry)) (now («v_out» .entry)))
-        × (r ≡ bothUsed (roundKeys (now (keys .entry))) rows (now (noise .entry)) (now (v .entry))) ⌝ }
+    requires { ⌜ NoiseFitting rows (length (now noise)) (length (now «u_out»))
+        × Fitting (elementWords (rows .field)) rows (length (now v)) (length (now «v_out»)) ⌝ }
+    ensures { λ r. ⌜ Filled (roundKeys (now (keys .entry))) rows (now (noise .entry)) (now (v .entry))
+        (now («u_out» .entry)) (now («v_out» .entry)) r (now («u_out» .exit)) (now («v_out» .exit)) ⌝ }
 {
-    if rows.pairs == 0 {
-        if rows.field == 1 {
-            fill_scalar_binary(tables, keys, rows, v, v_out);
-            true
-        } else {
-            fill_scalar_prime(tables, keys, rows, v, v_out)
-        }
-    } else {
-        if rows.field == 1 {
-            fill_noise_binary(tables, keys, rows, noise, v, u_out, v_out)
-        } else {
-            fill_noise_prime(tables, keys, rows, noise, v, u_out, v_out)
-        }
+    let mut passed = true;
+    let mut k: usize = 0;
+    while k < rows.window.count {
+        let used = fill_row(tables, keys, rows, k, noise, v, u_out, v_out);
+        passed = passed & used;
+        k += 1;
     }
+    passed
 }

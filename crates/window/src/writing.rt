@@ -45,7 +45,8 @@ fn write_small(
     v_out: &mut [u64],
 ) -> bool
     requires { ⌜ RoundTables (now tables) × (rows .window .count ≤ 32) ⌝ }
-    requires { ⌜ NoiseFitting rows (length (now noise)) (length (now «u_out»)) × Fitting (elementWords (rows .field)) rows (length (now v)) (length (now «v_out»)) ⌝ }
+    requires { ⌜ NoiseFitting rows (length (now noise)) (length (now «u_out»))
+        × Fitting (elementWords (rows .field)) rows (length (now v)) (length (now «v_out»)) ⌝ }
     ensures { λ r. ⌜ WindowWritten (roundKeys (now (keys .entry))) rows (now (noise .entry)) (now (v .entry))
         (now («u_out» .entry)) (now («v_out» .entry)) r (now («u_out» .exit)) (now («v_out» .exit)) ⌝ }
 {
@@ -70,7 +71,8 @@ fn write_tested(
     v_out: &mut [u64],
 ) -> bool
     requires { ⌜ RoundTables (now tables) ⌝ }
-    requires { ⌜ NoiseFitting rows (length (now noise)) (length (now «u_out»)) × Fitting (elementWords (rows .field)) rows (length (now v)) (length (now «v_out»)) ⌝ }
+    requires { ⌜ NoiseFitting rows (length (now noise)) (length (now «u_out»))
+        × Fitting (elementWords (rows .field)) rows (length (now v)) (length (now «v_out»)) ⌝ }
     ensures { λ r. ⌜ WindowWritten (roundKeys (now (keys .entry))) rows (now (noise .entry)) (now (v .entry))
         (now («u_out» .entry)) (now («v_out» .entry)) r (now («u_out» .exit)) (now («v_out» .exit)) ⌝ }
 {

@@ -18,8 +18,8 @@ use Rattle.pairing.specs.Verdict.{uAt, vAt, wAt, holds}
 -- field and sizes all equal
 abbrev pub sameSizes : Layout → Layout → Bool
 sameSizes p q =
-    eqb (p .field) (q .field) && eqb (p .depth) (q .depth) && eqb (p .«branch_bits») (q .«branch_bits») && eqb (p .trees) (q .trees) && eqb (p .terms) (q .terms)
-    && eqb (p .outputs) (q .outputs)
+    eqb (p .field) (q .field) && eqb (p .depth) (q .depth) && eqb (p .«branch_bits») (q .«branch_bits») && eqb (p .trees) (q .trees)
+    && eqb (p .terms) (q .terms) && eqb (p .outputs) (q .outputs)
 
 -- a record whose code key and label lie before the body
 pub record KeyIn (s : List ℕ) (f : Layout) : Type 0 where

@@ -9,11 +9,14 @@ use Rattle.algebra.specs.Field.{Field}
 use Rattle.code.specs.Inner.Rows.{Shaped, placeIn}
 use Rattle.window.specs.declared.WindowRows.{WindowRows}
 
--- every word that the rows use is an element
+-- every word that row k of the window uses is an element
+abbrev pub rowUsed : Field → List (List (List ℕ)) → WindowRows → List ℕ → ℕ → Bool
+rowUsed F keys r w k =
+    every (r .shape .terms) (λ i. F .scaled .group .isElement (at (F .elements) w (placeIn keys (r .shape) (r .window .first + k) i)))
+
+-- every word that the rows use is
 unfoldable pub elementsUsed : Field → List (List (List ℕ)) → WindowRows → List ℕ → Bool
-elementsUsed F keys r w =
-    every (r .window .count) (λ k. every (r .shape .terms)
-    (λ i. F .scaled .group .isElement (at (F .elements) w (placeIn keys (r .shape) (r .window .first + k) i))))
+elementsUsed F keys r w = every (r .window .count) (λ k. rowUsed F keys r w k)
 
 -- a whole vector of values of a width, and a window that ends at 32768 (the largest n) or before
 pub record Testing (width : ℕ) (r : WindowRows) (vector : ℕ) : Type 0 where

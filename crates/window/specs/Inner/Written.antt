@@ -1,15 +1,16 @@
 -- Inner: no promise cites this file. A window written over the fronts of its buffers, if its words pass their test. Elements are
 -- called v here, which at the scalar end are those of w.
-use mathlib.Core.Bool.{Bool, _&&_}
+use mathlib.Core.Bool.{Bool, true, _&&_}
 use mathlib.Core.List.{List}
 use mathlib.Core.Path.{_≡_}
 use Prim.Native.Nat.{ℕ}
 use Rattle.algebra.specs.Choice.{choose}
-use Rattle.field.specs.Kind.{kindOf}
+use Rattle.algebra.specs.Inner.Put.{put}
+use Rattle.field.specs.Kind.{Kind, kindOf}
 use Rattle.window.specs.declared.WindowRows.{WindowRows}
 use Rattle.window.specs.Head.{ofNoise}
-use Rattle.window.specs.Inner.Outputs.{pairRows, windowOver}
-use Rattle.window.specs.Inner.Testing.{elementsUsed}
+use Rattle.window.specs.Inner.Outputs.{pairRows, outputAt, windowOver}
+use Rattle.window.specs.Inner.Testing.{rowUsed, elementsUsed}
 
 -- the test of the words that the rows use, of the noise and of v
 abbrev pub bothUsed : List (List (List ℕ)) → WindowRows → List ℕ → List ℕ → Bool
@@ -21,6 +22,20 @@ uOver keys r noise uOut = windowOver (ofNoise (kindOf (r .field) .field)) (kindO
 
 abbrev pub vOver : List (List (List ℕ)) → WindowRows → List ℕ → List ℕ → List ℕ
 vOver keys r v vOut = windowOver (kindOf (r .field) .field) (kindOf (r .field) .coefficient) keys r v vOut
+
+-- the windows are written, and whether all words pass the test is told
+pub record Filled (keys : List (List (List ℕ))) (r : WindowRows) (noise v uOut vOut : List ℕ) (passed : Bool) (uAfter vAfter : List ℕ)
+    : Type 0 where
+  pub told : passed ≡ bothUsed keys r noise v
+  pub u-is : uAfter ≡ uOver keys r noise uOut
+  pub v-is : vAfter ≡ vOver keys r v vOut
+
+-- output k of the window is written, and a word of u unless no row gives one; the test of the words that the row uses is told
+pub record RowWritten (K : Kind) (alone : Bool) (keys : List (List (List ℕ))) (r : WindowRows) (k : ℕ) (noise v uOut vOut : List ℕ)
+    (passed : Bool) (uAfter vAfter : List ℕ) : Type 0 where
+  pub told : passed ≡ (choose alone true (rowUsed (ofNoise (K .field)) keys r noise k) && rowUsed (K .field) keys r v k)
+  pub u-is : uAfter ≡ choose alone uOut (put (K .field .noiseValues) uOut k (outputAt (ofNoise (K .field)) (K .coefficient) keys r noise k))
+  pub v-is : vAfter ≡ put (K .field .elements) vOut k (outputAt (K .field) (K .coefficient) keys r v k)
 
 -- the windows are written if all words pass the test, which is told; else nothing is
 pub record WindowWritten (keys : List (List (List ℕ))) (r : WindowRows) (noise v uOut vOut : List ℕ) (passed : Bool) (uAfter vAfter : List ℕ)

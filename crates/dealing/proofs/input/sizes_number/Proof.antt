@@ -1,6 +1,5 @@
 -- `dealing::input::sizes_number` meets its contract, test by test. Assumes nothing.
 use borrow.Author.Needs.{needs}
-use borrow.Author.Tests.{not-false}
 use Rattle.answer.proofs.Faults.{chain}
 use Rattle.dealing.proofs.Tests.{depth-most}
 use Rattle.dealing.proofs.input.sizes_number.Statement.{statement}
@@ -16,13 +15,11 @@ sizes-number-spec =
     (λ c. search chain depth 12 fits 4000)  -- returns-2
     (λ c κs. search needs)  -- is-branch-requires
     (λ c. search chain depth 12 fits 4000)  -- returns-3
-    (λ c κs. let d = c .before .before in depth-most _ (d .before .is-size .ensures) (not-false _ (d .if2 .left)))  -- is-count-requires
+    (λ c κs. search depth-most)  -- is-count-requires
     (λ c. search chain depth 12 fits 4000)  -- returns-4
-    (λ c κs. let d = c .before .before .before .before in depth-most _ (d .before .is-size .ensures) (not-false _ (d .if2 .left)))  -- is-count-requires-2
+    (λ c κs. search depth-most)  -- is-count-requires-2
     (λ c. search chain depth 12 fits 4000)  -- returns-5
-    (λ c κs.
-    let d = c .before .before .before .before .before .before in
-    depth-most _ (d .before .is-size .ensures) (not-false _ (d .if2 .left)))  -- is-outputs-requires
+    (λ c κs. search depth-most)  -- is-outputs-requires
     (λ c. search chain depth 12 fits 4000)  -- returns-6
     (λ c. search chain depth 12 fits 4000)  -- returns-7
     )

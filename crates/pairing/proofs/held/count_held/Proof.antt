@@ -1,4 +1,5 @@
--- `pairing::held::count_held` meets its contract. The loop's invariant: `held` counts the outputs passed that hold; the measure is what is left of them. Assumes nothing.
+-- `pairing::held::count_held` meets its contract. The loop's invariant: `held` counts the outputs passed that hold; the measure is
+-- what is left of them. Assumes nothing.
 use mathlib.Core.Path.{_≡_}
 use Prim.Native.Nat.{_-_, _≤_}
 use native.Mathlib.Omega.{arith}

@@ -15,6 +15,9 @@ compare-spec =
     (λ c. search second-large)  -- returns-2
     (λ c κs. (search noise-key, search scalar-key))  -- same-dealing-requires
     (λ c. search other-dealing)  -- returns-3
-    (λ c κs. ((search needs, search needs), record { head = one-dealing (c .before .same-dealing .ensures) (c .if3 .left); small = omega arith; small-too = omega arith }))  -- held-outputs-requires
+    (λ c κs. (
+      (search needs, search needs),
+      record { head = one-dealing (c .before .same-dealing .ensures) (c .if3 .left); small = omega arith; small-too = omega arith },
+    ))  -- held-outputs-requires
     (λ c. search needs)  -- returns-4
     )

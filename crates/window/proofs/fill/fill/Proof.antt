@@ -1,26 +1,35 @@
--- `window::fill::fill` meets its contract, end by end and field by field. Assumes nothing.
+-- `window::fill::fill` meets its contract. The loop's invariant: the outputs before `k` are written, the rest of both buffers is as it
+-- was, and `passed` is the test of their rows; the measure is what is left of the window. Assumes nothing.
+use mathlib.Core.Path.{_≡_, refl}
+use Prim.Native.Nat.{_≤_, _-_}
 use borrow.Author.Needs.{needs}
-use Rattle.window.proofs.Passed.{alone-binary, alone-prime, both-binary, both-prime}
-use Rattle.window.proofs.Windows.{fits-binary, fits-prime, fits-pairs, filled-binary, filled-prime, u-none, u-binary, u-prime}
+use lib.ListN.{length}
+use Rattle.aes128.specs.Inner.Words.{roundKeys}
+use Rattle.window.specs.Inner.Written.{Filled}
+use Rattle.window.proofs.Filled.{fits-now, noise-now, rowsTo, filled-none, filled-more, filled-all}
 use Rattle.window.proofs.fill.fill.Statement.{statement}
 use Rattle.window.proofs.fill.fill.Tie as tie
+
+abbrev Inv-loop : tie.InvT-loop
+Inv-loop tables keys rows noise v u-out₀ v-out₀ passed₀ k₀ u-out v-out passed k =
+    (k ≤ rows .window .count) × (length u-out ≡ length u-out₀) × (length v-out ≡ length v-out₀)
+    × Filled (roundKeys keys) (rowsTo rows k) noise v u-out₀ v-out₀ passed u-out v-out
+
+abbrev μ-loop : tie.MeasureT-loop
+μ-loop tables keys rows noise v u-out₀ v-out₀ passed₀ k₀ u-out v-out passed k = rows .window .count - k
 
 pub fill-spec : {M : Type 1} → statement M
 fill-spec =
     tie.close
     (tie.spec
-    (λ c κs. (search needs, search fits-binary))  -- fill-scalar-binary-requires
-    (λ c κs. (search needs, search fits-prime))  -- fill-scalar-prime-requires
-    (λ c κs. (search needs, (search fits-pairs, search fits-binary)))  -- fill-noise-binary-requires
-    (λ c κs. (search needs, (search fits-pairs, search fits-prime)))  -- fill-noise-prime-requires
+    Inv-loop
+    μ-loop
+    (λ c. (search needs, refl, refl, search filled-none))  -- loop-holds
+    (λ c κs. ((search needs, search needs), (search noise-now, search fits-now)))  -- fill-row-requires
+    (λ c. search needs)  -- add-k
+    (λ c. search needs)  -- loop-less
+    (λ c. (search needs, search needs, search needs, search filled-more))  -- loop-again
     (λ c. search needs)  -- same-length
-    (λ c. (search u-none, search filled-binary, search alone-binary))  -- returns
     (λ c. search needs)  -- same-length-2
-    (λ c. (search u-none, search filled-prime, search alone-prime))  -- returns-2
-    (λ c. search needs)  -- same-length-3
-    (λ c. search needs)  -- same-length-4
-    (λ c. (search u-binary, search filled-binary, search both-binary))  -- returns-3
-    (λ c. search needs)  -- same-length-5
-    (λ c. search needs)  -- same-length-6
-    (λ c. (search u-prime, search filled-prime, search both-prime))  -- returns-4
+    (λ c. search filled-all)  -- returns
     )

@@ -1,4 +1,5 @@
--- `window::writing::copy_front` meets its contract. The loop's invariant: the words before `i` are copied, the rest is as it was; the measure is what is left of the count. Assumes nothing.
+-- `window::writing::copy_front` meets its contract. The loop's invariant: the words before `i` are copied, the rest is as it was; the
+-- measure is what is left of the count. Assumes nothing.
 use Prim.Native.Nat.{_≤_, _-_}
 use borrow.Author.Needs.{needs}
 use Rattle.window.proofs.Fronts.{Copied, copy-none, copy-more, copy-all}

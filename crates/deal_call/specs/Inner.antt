@@ -1,0 +1,2 @@
+-- Inner: no promise cites this folder. What inner functions' contracts and the proofs use.
+pub mod Steps
