@@ -7,6 +7,7 @@ pub mod Rising
 pub mod Correlation
 pub mod Written
 pub mod Coding
+pub mod Words
 pub mod Flats
 pub mod Loop
 pub mod Tests

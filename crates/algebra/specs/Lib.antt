@@ -5,6 +5,7 @@ pub mod Group
 pub mod Sum
 pub mod Row
 pub mod Coding
+pub mod Words
 pub mod Field
 pub mod Expansion
 pub mod Common

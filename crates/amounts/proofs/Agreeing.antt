@@ -10,12 +10,12 @@ use lib.Signed.{ltZ}
 use Rattle.algebra.specs.Choice.{choose}
 use Rattle.algebra.proofs.Tests.{or-none}
 use Rattle.answer.specs.Numbers.{accepted, notElement}
-use Rattle.field.specs.declared.prime.Prime.{Prime}
-use Rattle.field.specs.declared.signed.FromSigned.{FromSigned}
-use Rattle.field.specs.declared.signed.FromSigned.the-variants.{Element, OutOfRange}
-use Rattle.field.specs.Prime.{modulus}
-use Rattle.field.specs.Signed.{greatestAmount, signedOf, signedElement, fromSigned}
-use Rattle.field.proofs.Around.{element-below, read-element, near-read, element-read, sum-element, negate-element, near-opposite}
+use Rattle.prime.specs.declared.prime.Prime.{Prime}
+use Rattle.prime.specs.declared.signed.FromSigned.{FromSigned}
+use Rattle.prime.specs.declared.signed.FromSigned.the-variants.{Element, OutOfRange}
+use Rattle.prime.specs.Prime.{modulus}
+use Rattle.prime.specs.Signed.{greatestAmount, signedOf, signedElement, fromSigned}
+use Rattle.prime.proofs.Around.{element-below, read-element, near-read, element-read, sum-element, negate-element, near-opposite}
 use Rattle.amounts.specs.declared.Amount.{Amount}
 use Rattle.amounts.specs.declared.WrittenAmount.{WrittenAmount}
 use Rattle.amounts.specs.Calls.{read, written, readAmount, writtenAs, writeAmount}

@@ -9,12 +9,12 @@ use mir.Syntax.{w64}
 use mir.Val.{toZ, ofZ, SFits}
 use mir.Facts.{toZ-ofZ}
 use Rattle.answer.specs.Numbers.{accepted, notElement, amountOutOfRange}
-use Rattle.field.specs.declared.prime.Prime.{Prime}
-use Rattle.field.specs.declared.signed.FromSigned.{FromSigned}
-use Rattle.field.specs.declared.signed.FromSigned.the-variants.{Element, OutOfRange}
-use Rattle.field.specs.Prime.{modulus, prime, primeReduce}
-use Rattle.field.specs.Signed.{greatestAmount, signedOf, toSigned, fromSigned}
-use Rattle.field.proofs.Around.{near-read}
+use Rattle.prime.specs.declared.prime.Prime.{Prime}
+use Rattle.prime.specs.declared.signed.FromSigned.{FromSigned}
+use Rattle.prime.specs.declared.signed.FromSigned.the-variants.{Element, OutOfRange}
+use Rattle.prime.specs.Prime.{modulus, prime, primeReduce}
+use Rattle.prime.specs.Signed.{greatestAmount, signedOf, toSigned, fromSigned}
+use Rattle.prime.proofs.Around.{near-read}
 use Rattle.amounts.specs.Calls.{read, readAmount, written, writtenAs, writeAmount}
 
 -- a number of the range fits 64 bits

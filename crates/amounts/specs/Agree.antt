@@ -6,8 +6,8 @@ use Prim.Native.Nat.{ℕ, _<_}
 use lib.IntN.{ℤ, pos, negℤ, _+ℤ_}
 use lib.Signed.{_≤ℤ_}
 use Rattle.answer.specs.Numbers.{accepted}
-use Rattle.field.specs.Prime.{modulus, prime, primeAdd}
-use Rattle.field.specs.Signed.{greatestAmount, primeNegate}
+use Rattle.prime.specs.Prime.{modulus, prime, primeAdd}
+use Rattle.prime.specs.Signed.{greatestAmount, primeNegate}
 use Rattle.amounts.specs.Calls.{read, written, readAmount, writeAmount}
 
 -- from −(2^60 − 1) to 2^60 − 1

@@ -5,10 +5,10 @@ use lib.Dec.{ltb}
 use lib.IntN.{ℤ, pos}
 use Rattle.algebra.specs.Choice.{choose}
 use Rattle.answer.specs.Numbers.{accepted, notElement, amountOutOfRange}
-use Rattle.field.specs.declared.signed.FromSigned.{FromSigned}
-use Rattle.field.specs.declared.signed.FromSigned.the-variants.{Element, OutOfRange}
-use Rattle.field.specs.Prime.{modulus}
-use Rattle.field.specs.Signed.{signedOf, fromSigned}
+use Rattle.prime.specs.declared.signed.FromSigned.{FromSigned}
+use Rattle.prime.specs.declared.signed.FromSigned.the-variants.{Element, OutOfRange}
+use Rattle.prime.specs.Prime.{modulus}
+use Rattle.prime.specs.Signed.{signedOf, fromSigned}
 use Rattle.amounts.specs.declared.Amount.{Amount}
 use Rattle.amounts.specs.declared.WrittenAmount.{WrittenAmount}
 

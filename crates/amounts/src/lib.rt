@@ -3,8 +3,8 @@ ghost use mathlib.Core.Path.{_≡_};
 ghost use Rattle.amounts.specs.Calls.{readAmount, writeAmount};
 use answer::AMOUNT_OUT_OF_RANGE;
 use answer::NOT_ELEMENT;
-use field::FromSigned;
-use field::Prime;
+use prime::FromSigned;
+use prime::Prime;
 
 // What reading answers: the number, and the amount, 0 where the call is refused.
 #[repr(C)]

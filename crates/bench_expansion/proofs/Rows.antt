@@ -25,7 +25,7 @@ use Rattle.field.specs.Binary.{binary}
 use Rattle.field.specs.Kind.{kindOf}
 use Rattle.field.proofs.BinaryField.{binaryLaws}
 use Rattle.field.proofs.BothKinds.{kindLaws}
-use Rattle.field.proofs.Words.{put-one}
+use Rattle.algebra.proofs.Words.{put-one}
 use Rattle.record.specs.declared.Layout.{Layout}
 use Rattle.window.specs.Inner.Outputs.{shapeOf}
 use Rattle.algebra.proofs.Flats.{value-put}

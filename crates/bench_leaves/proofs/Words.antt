@@ -14,15 +14,15 @@ use Rattle.algebra.specs.Choice.{choose}
 use Rattle.algebra.specs.Coding.{at}
 use Rattle.algebra.specs.Inner.Put.{put}
 use Rattle.field.specs.declared.block.Block.{Block}
-use Rattle.field.specs.declared.prime.Prime.{Prime}
+use Rattle.prime.specs.declared.prime.Prime.{Prime}
 use Rattle.field.specs.Binary.{binary, bitAdd, bitMul, block, blockAdd, blockScale}
 use Rattle.field.specs.Kind.{Kind, binaryKind, primeKind}
-use Rattle.field.specs.Prime.{primes, prime, primeAdd, primeMul, primeReduce}
+use Rattle.prime.specs.Prime.{primes, prime, primeAdd, primeMul, primeReduce}
 use Rattle.field.proofs.BothKinds.{kindLaws}
 use Rattle.field.proofs.Elements.{other}
 use Rattle.field.proofs.KindOf.{words-2}
-use Rattle.field.proofs.Modular.{mod-mul-mod, mul-mod-mod}
-use Rattle.field.proofs.Words.{put-one}
+use Rattle.prime.proofs.Modular.{mod-mul-mod, mul-mod-mod}
+use Rattle.algebra.proofs.Words.{put-one}
 use Rattle.field.specs.Inner.Elements.{noiseIn}
 use Rattle.field.specs.declared.element.Element.{Element}
 use Rattle.bench_leaves.specs.Inner.Vectors.{fieldBy, fieldFor}

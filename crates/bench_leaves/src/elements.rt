@@ -5,14 +5,14 @@ ghost use lib.ListN.{length};
 ghost use Rattle.algebra.specs.Coding.{at};
 ghost use Rattle.algebra.specs.Inner.Put.{put};
 ghost use Rattle.field.specs.Binary.{binary, bitAdd, bitMul, block, blockAdd, blockScale};
-ghost use Rattle.field.specs.Prime.{primes, prime, primeAdd, primeMul};
+ghost use Rattle.prime.specs.Prime.{primes, prime, primeAdd, primeMul};
 ghost use Rattle.field.specs.Inner.Elements.{noiseIn};
 ghost use Rattle.bench_leaves.specs.Inner.Vectors.{fieldFor, elementValue};
 use field::Block;
 use field::Element;
-use field::Prime;
 use field::add_bits;
 use field::put_block;
+use prime::Prime;
 
 // Adds entry × bit to bit k of the outputs.
 fn add_bit(k: usize, entry: u64, bit: u64, out: &mut [u64])

@@ -23,8 +23,8 @@ use Rattle.algebra.specs.Group.{Element}
 use Rattle.algebra.specs.Sum.{accumulate}
 use Rattle.field.proofs.BothKinds.{kindLaws, kindFacts}
 use Rattle.field.specs.Kind.{KindLaws, binaryKind, primeKind, kindOf}
-use Rattle.field.specs.Prime.{modulus}
-use Rattle.field.specs.declared.prime.Prime.{Prime}
+use Rattle.prime.specs.Prime.{modulus}
+use Rattle.prime.specs.declared.prime.Prime.{Prime}
 use Rattle.ends.proofs.noise.Laws as noiseLaws
 use Rattle.ends.specs.Noise.Offline as noiseOffline
 use Rattle.ends.specs.Noise.Vectors.{value, mu, v0}

@@ -12,7 +12,7 @@ use Rattle.algebra.specs.Group.{Element}
 use Rattle.field.proofs.BothKinds.{kindLaws, kindFacts}
 use Rattle.field.specs.Bytes.{wordAt}
 use Rattle.field.specs.Kind.{kindOf}
-use Rattle.field.specs.Prime.{modulus}
+use Rattle.prime.specs.Prime.{modulus}
 use Rattle.field.specs.ByNumber.{elementOf}
 use Rattle.window.proofs.Rows.{row-within}
 use Rattle.window.specs.Head.{places, row}

@@ -13,16 +13,16 @@ use Rattle.algebra.specs.Sum.{sum, accumulate}
 use Rattle.algebra.proofs.Coding.{length-put, over-whole}
 use Rattle.algebra.proofs.Loop.{loop-total-none, loop-values-none, loop-total, loop-values}
 use Rattle.field.specs.declared.block.Block.{Block}
-use Rattle.field.specs.declared.prime.Prime.{Prime}
+use Rattle.prime.specs.declared.prime.Prime.{Prime}
 use Rattle.field.specs.Binary.{binary, bitRing, block, blockGroup, blockZero, blockAdd, bitAdd}
 use Rattle.field.specs.Kind.{kindOf, elementWords}
-use Rattle.field.specs.Prime.{primes, primeRing, prime, primeZero, primeAdd}
-use Rattle.field.specs.Words.{oneWord}
+use Rattle.prime.specs.Prime.{primes, primeRing, prime, primeZero, primeAdd}
+use Rattle.algebra.specs.Words.{oneWord}
 use Rattle.field.proofs.BinaryField.{binaryLaws}
 use Rattle.field.proofs.KindOf.{kind-2, words-1}
-use Rattle.field.proofs.PrimeField.{primeLaws}
+use Rattle.prime.proofs.PrimeField.{primeLaws}
 use Rattle.field.proofs.Widths.{whole-prime}
-use Rattle.field.proofs.Words.{at-one, put-one, put-two}
+use Rattle.algebra.proofs.Words.{at-one, put-one, put-two}
 
 -- i values of b are accumulated: their total, and the list
 pub record Accumulated (G : Group) (C : Coding (G .Of)) (b v : List ℕ) (t : G .Of) (i : ℕ) : Type 0 where

@@ -6,10 +6,10 @@ ghost use Rattle.algebra.specs.Coding.{at, flat};
 ghost use Rattle.algebra.specs.Sum.{accumulate};
 ghost use Rattle.field.specs.Binary.{binary, bitRing, blockGroup};
 ghost use Rattle.field.specs.Kind.{kindOf, elementWords};
-ghost use Rattle.field.specs.Prime.{primes, primeRing};
+ghost use Rattle.prime.specs.Prime.{primes, primeRing};
 use field::Block;
-use field::Prime;
 use field::add_bits;
+use prime::Prime;
 
 // Accumulates noise words of field 1.
 pub fn accumulate_bits(v: &mut [u64])

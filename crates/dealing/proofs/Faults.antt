@@ -12,7 +12,7 @@ use Rattle.algebra.proofs.Every.{every-at, every-all}
 use Rattle.algebra.proofs.Tests.{and-left, and-right, and-both, or-cases}
 use Rattle.answer.specs.Tests.{AllMet}
 use Rattle.field.specs.Bytes.{wordAt}
-use Rattle.field.specs.Prime.{modulus}
+use Rattle.prime.specs.Prime.{modulus}
 use Rattle.field.specs.ByNumber.{isField, isNoise, elementOf, restZero, isScalar}
 use Rattle.record.specs.Admitted.{isSize, isBranch, mostTrees, mostTerms, mostOutputs}
 use Rattle.dealing.specs.Admitted.{Admitted, DeltaAdmitted, NoiseAdmitted}

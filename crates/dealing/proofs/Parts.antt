@@ -18,9 +18,9 @@ use Rattle.algebra.specs.Field.{NoiseValue}
 use Rattle.field.proofs.ByteWords.{leNumber-below, lowOf-below, highOf-below}
 use Rattle.field.specs.Bytes.{eightAt, wordAt, fourAt}
 use Rattle.field.specs.Binary.{block, blockScale}
-use Rattle.field.specs.declared.prime.Prime.{Prime}
-use Rattle.field.specs.Kind.{kindOf, elementWords}
-use Rattle.field.specs.Prime.{modulus, prime, primeSub, primeMul, primeLeaf}
+use Rattle.prime.specs.declared.prime.Prime.{Prime}
+use Rattle.field.specs.Kind.{kindOf, elementWords, primeLeaf}
+use Rattle.prime.specs.Prime.{modulus, prime, primeSub, primeMul}
 use Rattle.aes128.proofs.Sizes.{state-bytes}
 use Rattle.aes128.specs.State.{column}
 use Rattle.aes128.specs.Inner.Sizes.{IsState}

@@ -5,7 +5,7 @@ use Prim.Native.Nat.{ℕ, _-_, _*_, _/_, _%_, _^_, _≤_, _<_}
 use lib.ListN.{length, getD}
 use Rattle.algebra.specs.Expansion.{Rising}
 use Rattle.field.specs.Bytes.{wordAt}
-use Rattle.field.specs.Prime.{modulus}
+use Rattle.prime.specs.Prime.{modulus}
 use Rattle.dealing.specs.Input.{Input, position}
 
 -- what lies in lent memory: bytes below 256, positions of 32 bits, words of 64

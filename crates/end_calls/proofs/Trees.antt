@@ -18,9 +18,9 @@ use Rattle.algebra.specs.Field.{Value}
 use Rattle.algebra.proofs.Coding.{flat-cong, length-flat}
 use Rattle.algebra.proofs.Sum.{sum-none}
 use Rattle.field.specs.Kind.{kindOf, binaryKind, primeKind, elementWords}
-use Rattle.field.specs.Prime.{prime}
+use Rattle.prime.specs.Prime.{prime}
 use Rattle.field.proofs.BothKinds.{kindLaws}
-use Rattle.field.proofs.Words.{put-one}
+use Rattle.algebra.proofs.Words.{put-one}
 use Rattle.number.specs.Reading.{Whole}
 use Rattle.number.specs.Inner.Known.{isWhole}
 use Rattle.record.specs.Content.{NoiseTree, treeIn, siblingCount}

@@ -21,7 +21,7 @@ use Rattle.algebra.specs.Sum.{sum, accumulate}
 use Rattle.field.proofs.BothKinds.{kindLaws}
 use Rattle.field.specs.Binary.{blockScale}
 use Rattle.field.specs.Bytes.{leNumber, leBytes, wordAt, columnsOf, lowOf, highOf}
-use Rattle.field.specs.Prime.{primeAdd, primeSub, primeMul, primeReduce}
+use Rattle.prime.specs.Prime.{primeAdd, primeSub, primeMul, primeReduce}
 use Rattle.sbox.specs.Byte.{xtime}
 use Rattle.aes128.specs.State.{xorWord, xorState}
 use Rattle.aes128.specs.Cipher.{shiftRows, power, keysOf}

@@ -7,7 +7,7 @@ use Prim.Native.Nat.{ℕ, zero, suc, _-_}
 use lib.ListN.{replicate}
 use Rattle.algebra.specs.Coding.{flat}
 use Rattle.algebra.specs.Sum.{accumulate}
-use Rattle.field.specs.Prime.{modulus}
+use Rattle.prime.specs.Prime.{modulus}
 use Rattle.dealing.specs.Input.{Input}
 use Rattle.dealing.specs.Vectors.{head, field, leaf, treeCorrection, mu, v0, w0, u, v, w}
 use Rattle.window.specs.Head.{places, row}

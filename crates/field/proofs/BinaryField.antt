@@ -9,9 +9,9 @@ use Rattle.algebra.specs.Group.{GroupLaws, RingLaws, ScaledLaws}
 use Rattle.algebra.specs.Field.{FieldLaws}
 use Rattle.field.specs.declared.block.Block.{Block}
 use Rattle.field.specs.Binary.{block, blockZero, blockAdd, blockScale, bitAdd, bitMul, blockGroup, bitRing, blocks, binary}
-use Rattle.field.proofs.Modular.{mod-mul-assoc, mod-mul-add}
+use Rattle.prime.proofs.Modular.{mod-mul-assoc, mod-mul-add}
 use Rattle.field.proofs.Xor.{xor-assoc, xor-back}
-use Rattle.field.proofs.Words.{one-word-laws, two-word-laws}
+use Rattle.algebra.proofs.Words.{one-word-laws, two-word-laws}
 
 -- blocks are equal by their words
 pub block-eq : {a b c d : ℕ} → a ≡ c → b ≡ d → block a b ≡ block c d

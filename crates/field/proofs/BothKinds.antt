@@ -11,7 +11,7 @@ use Rattle.algebra.proofs.Sum.{itself-laws}
 use Rattle.field.specs.Bytes.{lowOf}
 use Rattle.field.specs.Kind.{KindLaws, BothFields, binaryKind, primeKind, kindOf}
 use Rattle.field.proofs.BinaryField.{binaryLaws}
-use Rattle.field.proofs.PrimeField.{primeLaws, reduce-element}
+use Rattle.prime.proofs.PrimeField.{primeLaws, reduce-element}
 
 pub binaryKindLaws : KindLaws binaryKind
 binaryKindLaws =

@@ -15,12 +15,12 @@ use Rattle.algebra.specs.Choice.{choose}
 use Rattle.algebra.specs.Coding.{at}
 use Rattle.field.specs.declared.block.Block.{Block}
 use Rattle.field.specs.declared.element.Element.{Element}
-use Rattle.field.specs.declared.prime.Prime.{Prime}
+use Rattle.prime.specs.declared.prime.Prime.{Prime}
 use Rattle.field.specs.Binary.{bitAdd, block, blockLeaf, blockScale}
-use Rattle.field.specs.Bytes.{leBytes, wordAt}
+use Rattle.field.specs.Bytes.{leBytes, wordAt, lowOf}
 use Rattle.field.specs.ByNumber.{isField, isNoise, elementOf, restZero, isElement, isZero, isScalar}
 use Rattle.field.specs.Kind.{Kind, kindOf, binaryKind, primeKind, elementWords}
-use Rattle.field.specs.Prime.{modulus, prime, primeAdd, primeSub, primeMul, primeLeaf, primeReduce}
+use Rattle.prime.specs.Prime.{modulus, prime, primeAdd, primeSub, primeMul, primeReduce}
 use Rattle.field.specs.Inner.Elements.{elementLength, noiseIn, elementIn, noiseSum, elementAt, Compared}
 use Rattle.field.specs.Inner.Written.{withWord, withWords}
 use Rattle.field.proofs.KindOf.{words-1, words-2}
@@ -106,9 +106,10 @@ module _ (field : ℕ) (h : field ≡ 1 → ⊥) where
   pub length-2 : 8 ≡ elementLength field
   length-2 = ap (λ (n : ℕ). 8 * n) (sym (words-2 field h))
 
-  pub leaf-2 : (leaf : List (List ℕ)) {p : Prime} → p ≡ primeLeaf leaf → elementIn field (record { low = p .word; high = 0 }) ≡ kindOf field .leaf leaf
+  pub leaf-2 : (leaf : List (List ℕ)) {w : ℕ} {p : Prime} → w ≡ lowOf leaf → p ≡ primeReduce w
+      → elementIn field (record { low = p .word; high = 0 }) ≡ kindOf field .leaf leaf
   unfolding elementIn
-  leaf-2 leaf {p} q = other (λ t. kindBy t .field .elements .read (p .word ∷ 0 ∷ []) 0 ≡ kindBy t .leaf leaf) q
+  leaf-2 leaf {p = p} e q = other (λ t. kindBy t .field .elements .read (p .word ∷ 0 ∷ []) 0 ≡ kindBy t .leaf leaf) (q ∙ ap primeReduce e)
 
   pub at-2 : (s : List ℕ) (place : ℕ) {low : ℕ} → low ≡ wordAt s place → record { low = low; high = 0 } ≡ elementAt field s place
   unfolding elementAt

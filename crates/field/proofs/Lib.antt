@@ -1,15 +1,10 @@
--- The laws of `field`: arithmetic modulo p, words in bytes, the laws of the two fields, elements in words and accumulated, and elements as signed numbers.
-pub mod Modular
+-- The laws of `field`: words in bytes, the laws of field 1 and of both fields by their number, and elements in words and accumulated.
 pub mod Scale
 pub mod Xor
-pub mod Words
 pub mod ByteWords
 pub mod BinaryField
-pub mod PrimeField
 pub mod BothKinds
 pub mod KindOf
 pub mod Widths
 pub mod Accumulated
 pub mod Elements
-pub mod Around
-pub mod SignedNeeds

@@ -13,7 +13,7 @@ use Rattle.field.specs.declared.block.Block.{Block}
 use Rattle.field.specs.Binary.{binary, block}
 use Rattle.field.specs.Kind.{binaryKind, primeKind, elementWords}
 use Rattle.field.proofs.KindOf.{words-2}
-use Rattle.field.proofs.Words.{put-two}
+use Rattle.algebra.proofs.Words.{put-two}
 
 pub whole-prime : (field : ℕ) → (field ≡ 1 → ⊥) → (n size : ℕ) → n ≡ size * elementWords field → n ≡ size
 whole-prime field e n size h = h ∙ rw (words-2 field e) (mul-one size)

@@ -9,7 +9,7 @@ use Rattle.algebra.specs.Group.{Group, Ring, Scaled}
 use Rattle.algebra.specs.Field.{Field}
 use Rattle.field.specs.declared.block.Block.{Block}
 use Rattle.field.specs.Bytes.{lowOf, highOf}
-use Rattle.field.specs.Words.{oneWord, twoWords}
+use Rattle.algebra.specs.Words.{oneWord, twoWords}
 
 -- the block of two words
 abbrev pub block : ℕ → ℕ → Block

@@ -7,7 +7,7 @@ use lib.Dec.{leb, eqb}
 use lib.ListN.{getD}
 use Rattle.algebra.specs.Choice.{choose}
 use Rattle.field.specs.Kind.{kindOf}
-use Rattle.field.specs.Prime.{modulus}
+use Rattle.prime.specs.Prime.{modulus}
 
 -- Two fields: 1 is binary, 2 is prime
 abbrev pub isField : ℕ → Bool

@@ -8,8 +8,14 @@ use lib.ListN.{getD}
 use Rattle.algebra.specs.Choice.{choose}
 use Rattle.algebra.specs.Field.{Field, FieldLaws, NoiseValue, Value}
 use Rattle.algebra.specs.Group.{Element}
+use Rattle.field.specs.Bytes.{lowOf}
 use Rattle.field.specs.Binary.{binary, blockLeaf}
-use Rattle.field.specs.Prime.{primes, primeLeaf, primeReduce}
+use Rattle.prime.specs.declared.prime.Prime.{Prime}
+use Rattle.prime.specs.Prime.{primes, primeReduce}
+
+-- field 2: a leaf's element is its first eight bytes as an LE word, modulo p
+abbrev pub primeLeaf : List (List ℕ) → Prime
+primeLeaf columns = primeReduce (lowOf columns)
 
 pub record Kind : Type 1 where
   pub field : Field

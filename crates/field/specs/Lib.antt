@@ -1,9 +1,6 @@
--- The two fields of document 01 ('Two fields'), how words lie in bytes, and elements as signed numbers (document 02, 13).
+-- The two fields of document 01 ('Two fields') by their number, and how words lie in bytes. Field 2's arithmetic stands in crate `prime`.
 pub mod Bytes
-pub mod Words
 pub mod Binary
-pub mod Prime
-pub mod Signed
 pub mod Kind
 pub mod ByNumber
 pub mod Inner

@@ -8,9 +8,10 @@ ghost use Rattle.field.specs.Kind.{kindOf};
 ghost use Rattle.field.specs.Inner.Elements.{elementLength, noiseIn, elementIn, elementAt, Compared};
 ghost use Rattle.field.specs.Inner.Written.{withWords};
 use crate::block::Block;
+use crate::bytes::low_word;
 use crate::bytes::put_word;
 use crate::bytes::word_at;
-use crate::prime::Prime;
+use prime::Prime;
 
 // An element: in field 1 its two words, in field 2 its word and any second one. A noise value is one word and any second one.
 pub struct Element {
@@ -36,7 +37,7 @@ pub fn leaf_element(field: usize, leaf: [[u8; 4]; 4]) -> Element
             high: block.high,
         };
     }
-    let prime = Prime::of_columns(leaf);
+    let prime = Prime::reduce(low_word(leaf));
     Element {
         low: prime.word,
         high: 0,

@@ -1,12 +1,9 @@
-// The two element kinds: `Block`, 16 bytes as two words under exclusive or, and `Prime`, a word below 2^61 − 1; their
-// constants, constructors and operations, elements in words, and words in bytes. The operations take any word and make elements. `Element`
-// and noise values are of either field, by the field's number: what differs from field to field is asked here.
+// Fields by their number: `Block`, an element of field 1, 16 bytes as two words under exclusive or; `Element` and noise values of either
+// field, which say what differs from field to field; elements in words, and words in bytes. Field 2's arithmetic stands in crate `prime`.
 mod block;
 mod bytes;
 mod element;
 mod noise;
-mod prime;
-mod signed;
 mod width;
 
 pub use block::Block;
@@ -31,7 +28,5 @@ pub use noise::is_field;
 pub use noise::is_noise;
 pub use noise::noise_sum;
 pub use noise::one_noise;
-pub use prime::Prime;
-pub use signed::FromSigned;
 pub use width::element_width;
 pub use width::put_block;

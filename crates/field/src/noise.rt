@@ -4,7 +4,7 @@ ghost use Rattle.field.specs.ByNumber.{isField, isNoise, oneNoise};
 ghost use Rattle.field.specs.Kind.{kindOf};
 ghost use Rattle.field.specs.Inner.Elements.{noiseIn, noiseSum};
 use crate::block::add_bits;
-use crate::prime::Prime;
+use prime::Prime;
 
 // Whether a number is a field's.
 pub fn is_field(field: usize) -> bool

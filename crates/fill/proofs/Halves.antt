@@ -15,12 +15,12 @@ use borrow.Rule.Slice.PartMut.{midOf, putMid}
 use Rattle.algebra.specs.Field.{Field, FieldLaws, Value}
 use Rattle.algebra.specs.Coding.{flat}
 use Rattle.field.specs.declared.block.Block.{Block}
-use Rattle.field.specs.declared.prime.Prime.{Prime}
+use Rattle.prime.specs.declared.prime.Prime.{Prime}
 use Rattle.field.specs.Binary.{binary, block, blockAdd, blockLeaf}
-use Rattle.field.specs.Prime.{primes, prime, primeReduce, primeAdd, primeLeaf}
-use Rattle.field.specs.Kind.{elementWords}
+use Rattle.prime.specs.Prime.{primes, prime, primeReduce, primeAdd}
+use Rattle.field.specs.Kind.{elementWords, primeLeaf}
 use Rattle.field.proofs.BinaryField.{binaryLaws}
-use Rattle.field.proofs.PrimeField.{primeLaws}
+use Rattle.prime.proofs.PrimeField.{primeLaws}
 use Rattle.field.proofs.KindOf.{kind-1, kind-2, words-1, words-2}
 use Rattle.tree.specs.Added.{added}
 use Rattle.tree.specs.Inner.Nodes.{nodeOf}

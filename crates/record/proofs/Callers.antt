@@ -12,7 +12,7 @@ use lib.ListN.{length, getD, drop}
 use lib.Seq.{getD-drop, drop-drop}
 use Rattle.field.proofs.KindOf.{words-1, words-2}
 use Rattle.field.specs.Bytes.{wordAt}
-use Rattle.field.specs.Prime.{modulus}
+use Rattle.prime.specs.Prime.{modulus}
 use Rattle.number.proofs.Places.{either, refused-whole, whole-is, tested-whole, choose-yes}
 use Rattle.number.specs.Reading.{Reading, Whole, Refused, Parsed}
 use Rattle.number.specs.Inner.Known.{isWhole}

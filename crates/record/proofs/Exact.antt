@@ -14,7 +14,7 @@ use lib.Seq.{getD-take, getD-drop}
 use Rattle.field.proofs.ByteWords.{length-leBytes, leNumber-leBytes-word, leBytes-leNumber, leNumber-below, wordAt-take}
 use Rattle.field.specs.Bytes.{leNumber, leBytes, wordAt}
 use Rattle.field.specs.ByNumber.{isField, isNoise, isElement, isScalar}
-use Rattle.field.specs.Prime.{modulus}
+use Rattle.prime.specs.Prime.{modulus}
 use Rattle.number.proofs.Laws.{length-number, number-reads, number-whole}
 use Rattle.number.proofs.Places.{split, either, whole-is, then-whole, tested-whole, tested-reads, choose-yes, choose-no, has-front, has-back, has-next, has-is, part-has, byte-reads, byte-whole, bytes-reads, bytes-whole}
 use Rattle.number.specs.Number.{writeNumber, readNumber}

@@ -11,9 +11,9 @@ use Rattle.algebra.specs.Row.{output}
 use Rattle.aes128.specs.Inner.Blocks.{cipherOf}
 use Rattle.aes128.specs.Inner.Words.{roundKeys}
 use Rattle.field.specs.declared.block.Block.{Block}
-use Rattle.field.specs.declared.prime.Prime.{Prime}
+use Rattle.prime.specs.declared.prime.Prime.{Prime}
 use Rattle.field.specs.Binary.{binary, bitRing, block, blocks, blockZero, blockAdd, bitAdd}
-use Rattle.field.specs.Prime.{primes, primeRing, modulus, prime, primeReduce, primeAdd, primeMul}
+use Rattle.prime.specs.Prime.{primes, primeRing, modulus, prime, primeReduce, primeAdd, primeMul}
 use Rattle.code.specs.declared.Shape.{Shape}
 use Rattle.row_sums.specs.declared.row.BinaryPair.{BinaryPair}
 use Rattle.row_sums.specs.declared.scalar_prime.PrimeSum.{PrimeSum}

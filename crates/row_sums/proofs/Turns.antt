@@ -13,11 +13,11 @@ use Rattle.algebra.specs.Group.{Ring, Scaled, itself}
 use Rattle.algebra.specs.Row.{Row, output}
 use Rattle.algebra.proofs.Sum.{sum-none, sum-suc}
 use Rattle.field.specs.declared.block.Block.{Block}
-use Rattle.field.specs.declared.prime.Prime.{Prime}
+use Rattle.prime.specs.declared.prime.Prime.{Prime}
 use Rattle.field.specs.Binary.{binary, bitRing, blocks, blockZero, blockAdd, blockScale, bitAdd, bitMul}
 use Rattle.field.specs.Bytes.{highOf}
-use Rattle.field.specs.Prime.{primes, primeRing, prime, primeReduce, primeAdd, primeMul}
-use Rattle.field.proofs.PrimeField.{reduced-add, reduced-mul}
+use Rattle.prime.specs.Prime.{primes, primeRing, prime, primeReduce, primeAdd, primeMul}
+use Rattle.prime.proofs.PrimeField.{reduced-add, reduced-mul}
 use Rattle.code.specs.Row.{rowOfBlocks}
 use Rattle.code.specs.declared.Shape.{Shape}
 use Rattle.code.specs.Inner.Rows.{termBlockBy, placeIn, binaryRow, primeRow}

@@ -6,7 +6,7 @@ ghost use Rattle.algebra.specs.Coding.{at};
 ghost use Rattle.field.specs.Binary.{binary};
 use code::Shape;
 use field::Block;
-use field::Prime;
+use prime::Prime;
 
 // A row of the code: the code's shape, and the row's number.
 pub struct CodeRow {

@@ -9,7 +9,7 @@ ghost use Rattle.algebra.specs.Row.{output};
 ghost use Rattle.sbox.specs.Inner.Tables.{RoundTables};
 ghost use Rattle.aes128.specs.Inner.Words.{roundKeys};
 ghost use Rattle.row_cipher.specs.Inner.Row.{IsShared};
-ghost use Rattle.field.specs.Prime.{primes, primeRing, modulus};
+ghost use Rattle.prime.specs.Prime.{primes, primeRing, modulus};
 ghost use Rattle.row_sums.specs.Inner.Sums.{PrimeAdded, termsTo, PrimeTotal};
 ghost use Rattle.code.specs.Inner.Rows.{Shaped, placeBy, primeRow};
 ghost use Rattle.code.specs.Inner.Used.{rowBelow};
@@ -19,7 +19,7 @@ use code::Shape;
 use code::place_of;
 use code::still_below;
 use field::Block;
-use field::Prime;
+use prime::Prime;
 use row_cipher::share;
 use row_cipher::two_blocks;
 

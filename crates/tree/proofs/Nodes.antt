@@ -18,7 +18,8 @@ use lib.ListN.{length, getD, List·getD-eq-default}
 use lib.Seq.{sets}
 use Rattle.field.specs.Bytes.{leNumber, leBytes, wordAt, columnsOf, lowOf, highOf, fourAt}
 use Rattle.field.specs.Binary.{block, blockOf, blockAdd, blockLeaf}
-use Rattle.field.specs.Prime.{primeReduce, primeLeaf}
+use Rattle.prime.specs.Prime.{primeReduce}
+use Rattle.field.specs.Kind.{primeLeaf}
 use Rattle.field.specs.Inner.Written.{withWord}
 use Rattle.field.specs.declared.block.Block.{Block}
 use Rattle.field.proofs.block.Block.{the-type}

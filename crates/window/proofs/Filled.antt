@@ -23,13 +23,13 @@ use Rattle.algebra.proofs.Written.{front-none}
 use Rattle.code.specs.Inner.Rows.{binaryRow, primeRow}
 use Rattle.code.specs.Inner.Used.{rowBelow}
 use Rattle.field.specs.declared.block.Block.{Block}
-use Rattle.field.specs.declared.prime.Prime.{Prime}
+use Rattle.prime.specs.declared.prime.Prime.{Prime}
 use Rattle.field.specs.Binary.{binary, bitRing, blocks}
 use Rattle.field.specs.Kind.{kindOf, binaryKind, primeKind, elementWords}
-use Rattle.field.specs.Prime.{primes, primeRing, prime, modulus}
+use Rattle.prime.specs.Prime.{primes, primeRing, prime, modulus}
 use Rattle.field.proofs.BothKinds.{kindLaws}
 use Rattle.field.proofs.KindOf.{kind-1, kind-2, words-1, words-2}
-use Rattle.field.proofs.Words.{put-one}
+use Rattle.algebra.proofs.Words.{put-one}
 use Rattle.window.specs.declared.WindowRows.{WindowRows}
 use Rattle.window.specs.Head.{ofNoise}
 use Rattle.window.specs.Inner.Testing.{Fitting, NoiseTesting, NoiseFitting, rowUsed, elementsUsed}

@@ -10,7 +10,7 @@ use Rattle.algebra.proofs.Every.{every-all, passed-none}
 use Rattle.code.specs.Inner.Used.{rowBelow, usedBelow}
 use Rattle.field.specs.Binary.{binary}
 use Rattle.field.specs.Kind.{kindOf, elementWords}
-use Rattle.field.specs.Prime.{primes, modulus}
+use Rattle.prime.specs.Prime.{primes, modulus}
 use Rattle.field.proofs.KindOf.{kind-2, words-2}
 use Rattle.window.specs.declared.WindowRows.{WindowRows}
 use Rattle.window.specs.Head.{ofNoise}

@@ -9,7 +9,7 @@ ghost use Rattle.window.specs.Inner.Outputs.{pairRows};
 ghost use Rattle.window.specs.Inner.Testing.{Testing, NoiseTesting, elementsUsed};
 use crate::WindowRows;
 use code::used_below;
-use field::Prime;
+use prime::Prime;
 
 // Whether every word that the rows use is an element. In field 1 every word is.
 pub fn elements_used(

@@ -13,7 +13,7 @@ use Rattle.code.specs.Row.{rowOfBlocks}
 use Rattle.code.specs.Inner.Rows.{termBlockBy}
 use Rattle.field.specs.Kind.{kindOf}
 use Rattle.field.specs.Inner.Elements.{noiseIn, noiseSum}
-use Rattle.field.specs.Words.{oneWord}
+use Rattle.algebra.specs.Words.{oneWord}
 use Rattle.record.specs.declared.Layout.{Layout}
 use Rattle.tree.specs.Added.{added}
 use Rattle.bench_leaves.specs.Inner.Vectors.{fieldFor, valuesOf}

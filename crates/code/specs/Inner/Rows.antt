@@ -7,7 +7,7 @@ use Rattle.aes128.specs.Cipher.{cipher}
 use Rattle.field.specs.Binary.{bitRing}
 use Rattle.field.specs.Bytes.{columnsOf}
 use Rattle.field.specs.Kind.{binaryKind, primeKind}
-use Rattle.field.specs.Prime.{primeRing}
+use Rattle.prime.specs.Prime.{primeRing}
 use Rattle.code.specs.declared.Shape.{Shape}
 use Rattle.code.specs.Row.{strip, placeOf, termPlace, rowOfBlocks}
 

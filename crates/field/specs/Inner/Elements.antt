@@ -9,7 +9,7 @@ use Rattle.algebra.specs.Field.{NoiseValue, Value}
 use Rattle.field.specs.Binary.{bitAdd}
 use Rattle.field.specs.Bytes.{wordAt}
 use Rattle.field.specs.Kind.{kindOf, elementWords}
-use Rattle.field.specs.Prime.{prime, primeAdd}
+use Rattle.prime.specs.Prime.{prime, primeAdd}
 use Rattle.field.specs.declared.element.Element.{Element}
 
 -- an element takes 16 bytes (field 1) or 8 (field 2)

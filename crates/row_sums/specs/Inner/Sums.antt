@@ -11,9 +11,9 @@ use Rattle.algebra.specs.Group.{Ring, Scaled, itself}
 use Rattle.algebra.specs.Row.{Row}
 use Rattle.algebra.specs.Sum.{sum}
 use Rattle.field.specs.declared.block.Block.{Block}
-use Rattle.field.specs.declared.prime.Prime.{Prime}
+use Rattle.prime.specs.declared.prime.Prime.{Prime}
 use Rattle.field.specs.Binary.{binary, bitRing, blocks, blockAdd, bitAdd}
-use Rattle.field.specs.Prime.{primes, primeRing, modulus, prime, primeReduce, primeAdd, primeMul}
+use Rattle.prime.specs.Prime.{primes, primeRing, modulus, prime, primeReduce, primeAdd, primeMul}
 use Rattle.code.specs.declared.Shape.{Shape}
 use Rattle.row_sums.specs.declared.row.BinaryPair.{BinaryPair}
 use Rattle.row_sums.specs.declared.scalar_prime.PrimeSum.{PrimeSum}

@@ -4,7 +4,7 @@ use Prim.Native.Nat.{_≤_, _-_}
 use lib.ListN.{length, length-set}
 use native.Mathlib.Omega.{arith}
 use borrow.Author.Needs.{needs}
-use Rattle.field.specs.Prime.{primes, primeRing}
+use Rattle.prime.specs.Prime.{primes, primeRing}
 use Rattle.code.proofs.InPlace.{Accumulated, primes-start, primes-turn, primes-end}
 use Rattle.code.proofs.accumulation.accumulate_primes.Statement.{statement}
 use Rattle.code.proofs.accumulation.accumulate_primes.Tie as tie

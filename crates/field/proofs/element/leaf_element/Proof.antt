@@ -10,6 +10,7 @@ leaf-element-spec =
     (tie.spec
     (λ c κs. search needs)  -- of-columns-requires
     (λ c. search leaf-1)  -- returns
-    (λ c κs. search needs)  -- of-columns-requires-2
+    (λ c κs. search needs)  -- low-word-requires
+    (λ c κs. search needs)  -- reduce-requires
     (λ c. search leaf-2)  -- returns-2
     )
