@@ -1,9 +1,6 @@
 -- Both kinds obey the laws that are asked of a kind, so the facts common to both fields hold in each.
 use mathlib.Core.Path.{refl}
-use mathlib.Core.Bool.{Bool, true, false}
 use Prim.Native.Nat.{ℕ}
-use lib.Dec.{eqb}
-use Rattle.algebra.specs.Choice.{choose}
 use Rattle.algebra.specs.Common.{Common}
 use Rattle.algebra.specs.Group.{itself}
 use Rattle.algebra.proofs.Common.{common-facts}
@@ -11,6 +8,7 @@ use Rattle.algebra.proofs.Sum.{itself-laws}
 use Rattle.field.specs.Bytes.{lowOf}
 use Rattle.field.specs.Kind.{KindLaws, BothFields, binaryKind, primeKind, kindOf}
 use Rattle.field.proofs.BinaryField.{binaryLaws}
+use Rattle.field.proofs.KindOf.{by-field, kindBy}
 use Rattle.prime.proofs.PrimeField.{primeLaws, reduce-element}
 
 pub binaryKindLaws : KindLaws binaryKind
@@ -34,11 +32,7 @@ primeKindLaws =
     }
 
 pub kindLaws : BothFields
-kindLaws field = of (eqb field 1)
-  where
-    of : (binary : Bool) → KindLaws (choose binary binaryKind primeKind)
-    of true = binaryKindLaws
-    of false = primeKindLaws
+kindLaws = by-field (λ t. KindLaws (kindBy t)) binaryKindLaws primeKindLaws
 
 -- the facts common to both fields, of a field's elements, and of its noise values
 pub kindFacts : (field : ℕ) → Common (kindOf field .field .scaled)

@@ -19,15 +19,11 @@ use Rattle.prime.specs.declared.prime.Prime.{Prime}
 use Rattle.field.specs.Binary.{bitAdd, block, blockLeaf, blockScale}
 use Rattle.field.specs.Bytes.{leBytes, wordAt, lowOf}
 use Rattle.field.specs.ByNumber.{isField, isNoise, elementOf, restZero, isElement, isZero, isScalar}
-use Rattle.field.specs.Kind.{Kind, kindOf, binaryKind, primeKind, elementWords}
+use Rattle.field.specs.Kind.{kindOf, elementWords}
 use Rattle.prime.specs.Prime.{modulus, prime, primeAdd, primeSub, primeMul, primeReduce}
 use Rattle.field.specs.Inner.Elements.{elementLength, noiseIn, elementIn, noiseSum, elementAt, Compared}
 use Rattle.field.specs.Inner.Written.{withWord, withWords}
-use Rattle.field.proofs.KindOf.{words-1, words-2}
-
--- the kind by the test of a field's number
-abbrev kindBy : Bool → Kind
-kindBy t = choose t binaryKind primeKind
+use Rattle.field.proofs.KindOf.{by-field, kindBy, words-1, words-2}
 
 -- ---- fields and noise values
 
@@ -164,80 +160,52 @@ module _ (field : ℕ) (h : field ≡ 1 → ⊥) where
 
 -- an element takes one word at least, and two at most
 pub words-least : (field : ℕ) → 1 ≤ elementWords field
-words-least field = of (eqb field 1)
-  where
-    of : (t : Bool) → 1 ≤ kindBy t .field .elements .width
-    of true = omega arith
-    of false = omega arith
+words-least field = by-field (λ t. 1 ≤ kindBy t .field .elements .width) (omega arith) (omega arith) field
 
 pub noise-sum-is : (field a b : ℕ) → noiseIn field (noiseSum field a b) ≡ kindOf field .field .ring .group .add (noiseIn field a) (noiseIn field b)
 unfolding noiseSum
-noise-sum-is field a b = of (eqb field 1)
-  where
-    of : (t : Bool) → kindBy t .field .noiseValues .read (choose t (bitAdd a b) (primeAdd (prime a) (prime b) .word) ∷ []) 0
-        ≡ kindBy t .field .ring .group .add (kindBy t .field .noiseValues .read (a ∷ []) 0) (kindBy t .field .noiseValues .read (b ∷ []) 0)
-    of true = refl
-    of false = refl
+noise-sum-is field a b =
+    by-field (λ t. kindBy t .field .noiseValues .read (choose t (bitAdd a b) (primeAdd (prime a) (prime b) .word) ∷ []) 0
+    ≡ kindBy t .field .ring .group .add (kindBy t .field .noiseValues .read (a ∷ []) 0) (kindBy t .field .noiseValues .read (b ∷ []) 0)) refl refl field
 
 pub noise-zero : (field : ℕ) → noiseIn field 0 ≡ kindOf field .field .ring .group .zero
-noise-zero field = of (eqb field 1)
-  where
-    of : (t : Bool) → kindBy t .field .noiseValues .read (0 ∷ []) 0 ≡ kindBy t .field .ring .group .zero
-    of true = refl
-    of false = refl
+noise-zero field = by-field (λ t. kindBy t .field .noiseValues .read (0 ∷ []) 0 ≡ kindBy t .field .ring .group .zero) refl refl field
 
 pub element-zero : (field : ℕ) → elementIn field (record { low = 0; high = 0 }) ≡ kindOf field .field .scaled .group .zero
 unfolding elementIn
-element-zero field = of (eqb field 1)
-  where
-    of : (t : Bool) → kindBy t .field .elements .read (0 ∷ 0 ∷ []) 0 ≡ kindBy t .field .scaled .group .zero
-    of true = refl
-    of false = refl
+element-zero field = by-field (λ t. kindBy t .field .elements .read (0 ∷ 0 ∷ []) 0 ≡ kindBy t .field .scaled .group .zero) refl refl field
 
 -- an element's words are those that it takes of its two
 pub element-words : (field low high : ℕ) → elementOf field low high ≡ kindOf field .field .elements .words (elementIn field (record { low = low; high = high }))
 unfolding elementIn
-element-words field low high = of (eqb field 1)
-  where
-    of : (t : Bool) → choose t (low ∷ high ∷ []) (low ∷ []) ≡ kindBy t .field .elements .words (kindBy t .field .elements .read (low ∷ high ∷ []) 0)
-    of true = refl
-    of false = refl
+element-words field low high =
+    by-field (λ t. choose t (low ∷ high ∷ []) (low ∷ [])
+    ≡ kindBy t .field .elements .words (kindBy t .field .elements .read (low ∷ high ∷ []) 0)) refl refl field
 
 pub element-first : (field low high : ℕ) → getD (elementOf field low high) 0 0 ≡ low
-element-first field low high = of (eqb field 1)
-  where
-    of : (t : Bool) → getD (choose t (low ∷ high ∷ []) (low ∷ [])) 0 0 ≡ low
-    of true = refl
-    of false = refl
+element-first field low high = by-field (λ t. getD (choose t (low ∷ high ∷ []) (low ∷ [])) 0 0 ≡ low) refl refl field
 
 -- what is read of its words is the element
 pub element-again : (field low high : ℕ)
     → elementIn field (record { low = low; high = high }) ≡ kindOf field .field .elements .read (elementOf field low high) 0
 unfolding elementIn
-element-again field low high = of (eqb field 1)
-  where
-    of : (t : Bool) → kindBy t .field .elements .read (low ∷ high ∷ []) 0 ≡ kindBy t .field .elements .read (choose t (low ∷ high ∷ []) (low ∷ [])) 0
-    of true = refl
-    of false = refl
+element-again field low high =
+    by-field (λ t. kindBy t .field .elements .read (low ∷ high ∷ []) 0
+    ≡ kindBy t .field .elements .read (choose t (low ∷ high ∷ []) (low ∷ [])) 0) refl refl field
 
 -- the words of an element in bytes, and its second word where it has one
 module _ (field : ℕ) (s : List ℕ) (place : ℕ) where
   pub at-words : {e : Element} → e ≡ elementAt field s place → elementOf field (e .low) (e .high) ≡ elementOf field (wordAt s place) (wordAt s (place + 8))
   unfolding elementAt
-  at-words q = rw q (of (eqb field 1))
-    where
-      of : (t : Bool) → choose t (wordAt s place ∷ choose t (wordAt s (place + 8)) 0 ∷ []) (wordAt s place ∷ [])
-          ≡ choose t (wordAt s place ∷ wordAt s (place + 8) ∷ []) (wordAt s place ∷ [])
-      of true = refl
-      of false = refl
+  at-words q =
+      rw q (by-field (λ t. choose t (wordAt s place ∷ choose t (wordAt s (place + 8)) 0 ∷ []) (wordAt s place ∷ [])
+      ≡ choose t (wordAt s place ∷ wordAt s (place + 8) ∷ []) (wordAt s place ∷ [])) refl refl field)
 
   pub at-second : {e : Element} → e ≡ elementAt field s place → e .high ≡ getD (elementOf field (e .low) (e .high)) 1 0
   unfolding elementAt
-  at-second q = rw q (of (eqb field 1))
-    where
-      of : (t : Bool) → choose t (wordAt s (place + 8)) 0 ≡ getD (choose t (wordAt s place ∷ choose t (wordAt s (place + 8)) 0 ∷ []) (wordAt s place ∷ [])) 1 0
-      of true = refl
-      of false = refl
+  at-second q =
+      rw q (by-field (λ t. choose t (wordAt s (place + 8)) 0
+      ≡ getD (choose t (wordAt s place ∷ choose t (wordAt s (place + 8)) 0 ∷ []) (wordAt s place ∷ [])) 1 0) refl refl field)
 
 -- ---- places of elements
 
@@ -253,11 +221,10 @@ module _ (field place : ℕ) {n : ℕ} (room : place + elementLength field ≤ n
 module _ (field : ℕ) (a b : Element) where
   lows : elementIn field a ≡ elementIn field b → a .low ≡ b .low
   unfolding elementIn
-  lows = of (eqb field 1)
-    where
-      of : (t : Bool) → kindBy t .field .elements .read (a .low ∷ a .high ∷ []) 0 ≡ kindBy t .field .elements .read (b .low ∷ b .high ∷ []) 0 → a .low ≡ b .low
-      of true q = ap (λ (x : Block). x .low) q
-      of false q = ap (λ (x : Prime). x .word) q
+  lows =
+      by-field (λ t. kindBy t .field .elements .read (a .low ∷ a .high ∷ []) 0
+      ≡ kindBy t .field .elements .read (b .low ∷ b .high ∷ []) 0 → a .low ≡ b .low)
+      (ap (λ (x : Block). x .low)) (ap (λ (x : Prime). x .word)) field
 
   pub low-differs : (a .low ≡ b .low → ⊥) → Compared field a b false
   low-differs n = record { same = λ q. absurd (true≢false (sym q)); other = λ q e. n (lows e) }
@@ -291,13 +258,11 @@ pub rest-other : (field high : ℕ) → (field ≡ 1 → ⊥) → eqb high 0 ≡
 rest-other field high h = rw (ne-eqb field 1 h)
 
 pub not-zero : (field : ℕ) (a : Element) → (a .low ≡ 0 → ⊥) → false ≡ isZero field (elementOf field (a .low) (a .high))
-not-zero field a n = of (eqb field 1)
-  where
-    of : (t : Bool) → false
-        ≡ choose t (eqb (getD (choose t (a .low ∷ a .high ∷ []) (a .low ∷ [])) 0 0) 0 && eqb (getD (choose t (a .low ∷ a .high ∷ []) (a .low ∷ [])) 1 0) 0)
-        (eqb (getD (choose t (a .low ∷ a .high ∷ []) (a .low ∷ [])) 0 0) 0)
-    of true = rw (ne-eqb (a .low) 0 n)
-    of false = rw (ne-eqb (a .low) 0 n)
+not-zero field a n =
+    by-field (λ t. false
+    ≡ choose t (eqb (getD (choose t (a .low ∷ a .high ∷ []) (a .low ∷ [])) 0 0) 0 && eqb (getD (choose t (a .low ∷ a .high ∷ []) (a .low ∷ [])) 1 0) 0)
+    (eqb (getD (choose t (a .low ∷ a .high ∷ []) (a .low ∷ [])) 0 0) 0))
+    (rw (ne-eqb (a .low) 0 n)) (rw (ne-eqb (a .low) 0 n)) field
 
 module _ (field : ℕ) (a : Element) {x : Bool} (first : x ≡ isElement field (elementOf field (a .low) (a .high))) where
   pub scalar-no : x ≡ false → false ≡ isScalar field (elementOf field (a .low) (a .high))

@@ -21,19 +21,21 @@ words-1 field f = ap (λ (K : Kind). K .field .elements .width) (kind-1 field f)
 pub words-2 : (field : ℕ) → (field ≡ 1 → ⊥) → elementWords field ≡ 1
 words-2 field f = ap (λ (K : Kind). K .field .elements .width) (kind-2 field f)
 
+-- what holds both where the test of the field's number passes and where it fails holds of every number
+pub by-field : (P : Bool → Type 0) → P true → P false → (field : ℕ) → P (eqb field 1)
+by-field P x y field = of (eqb field 1)
+  where
+    of : (t : Bool) → P t
+    of true = x
+    of false = y
+
+-- the kind by the test of a field's number
+abbrev pub kindBy : Bool → Kind
+kindBy t = choose t binaryKind primeKind
+
 -- words of zero are zero, of elements and of noise values
 pub zero-elements : (field : ℕ) → kindOf field .field .elements .words (kindOf field .field .scaled .group .zero) ≡ replicate (kindOf field .field .elements .width) 0
-zero-elements field = of (eqb field 1)
-  where
-    of : (b : Bool) → choose b binaryKind primeKind .field .elements .words (choose b binaryKind primeKind .field .scaled .group .zero)
-        ≡ replicate (choose b binaryKind primeKind .field .elements .width) 0
-    of true = refl
-    of false = refl
+zero-elements = by-field (λ t. kindBy t .field .elements .words (kindBy t .field .scaled .group .zero) ≡ replicate (kindBy t .field .elements .width) 0) refl refl
 
 pub zero-noise : (field : ℕ) → kindOf field .field .noiseValues .words (kindOf field .field .ring .group .zero) ≡ replicate (kindOf field .field .noiseValues .width) 0
-zero-noise field = of (eqb field 1)
-  where
-    of : (b : Bool) → choose b binaryKind primeKind .field .noiseValues .words (choose b binaryKind primeKind .field .ring .group .zero)
-        ≡ replicate (choose b binaryKind primeKind .field .noiseValues .width) 0
-    of true = refl
-    of false = refl
+zero-noise = by-field (λ t. kindBy t .field .noiseValues .words (kindBy t .field .ring .group .zero) ≡ replicate (kindBy t .field .noiseValues .width) 0) refl refl
