@@ -6,11 +6,10 @@ use mathlib.Core.Logic.{⊎-elim}
 use Prim.Native.Nat.{ℕ, zero, suc, _+_, _-_, _*_, _<_, _≤_}
 use native.Mathlib.Omega.{arith}
 use native.Mathlib.Nat.{add-zero, add-suc, eq-or-lt-of-le, suc-mul, zero-mul, mul-le-mul-right}
-use native.Mathlib.Numerals.{add-one}
 use lib.Dec.{ltb}
 use borrow.Author.Tests.{ltb-true, ltb-false}
 use lib.ListN.{length, take, drop, length-append, length-drop, take-append-drop}
-use lib.Seq.{take-at, drop-at, take-add, drop-drop, take-all, take-append-le, drop-append-le, length-take-le}
+use lib.Seq.{drop-at, take-add, drop-drop, take-all, take-append-le, drop-append-le, length-take-le}
 use Rattle.algebra.specs.Coding.{Coding, CodingLaws, at, flat, over}
 use Rattle.algebra.specs.Inner.Put.{put}
 use Rattle.algebra.proofs.Written.{flat-length, flat-same, front-none, front-take, front-drop, front-past, front-length, front-put}
@@ -102,9 +101,6 @@ module _ {A : Type 0} (C : Coding A) (L : CodingLaws C) where
   -- one value more, as code counts
   pub over-one : (n : ℕ) (f : ℕ → A) (b : List ℕ) → over C (n + 1) f b ≡ put C (over C n f b) n (f n)
   over-one n f b = sym (front-put C (L .length-words) f b n _ _ refl refl)
-
-  pub over-suc : (n : ℕ) (f : ℕ → A) (b : List ℕ) → over C (suc n) f b ≡ put C (over C n f b) n (f n)
-  over-suc n f b = ap (λ (k : ℕ). over C k f b) (sym (add-one n)) ∙ over-one n f b
 
   pub at-over : (n : ℕ) (f : ℕ → A) (b : List ℕ) (i : ℕ) → i < n → at C (over C n f b) i ≡ f i
   unfolding over

@@ -29,9 +29,6 @@ pub or-none : (a b : Bool) → (a || b) ≡ false → (a ≡ false) × (b ≡ fa
 or-none true b e = absurd (false≢true (sym e))
 or-none false b e = (refl, e)
 
-pub or-neither : {a b : Bool} → a ≡ false → b ≡ false → (a || b) ≡ false
-or-neither {a} {b} p q = rw (p, q)
-
 -- a chain of tests gives zero only where every test passes
 pub passed : (t : Bool) (k rest : ℕ) → choose (not t) (suc k) rest ≡ 0 → (t ≡ true) × (rest ≡ 0)
 passed true k rest e = (refl, e)

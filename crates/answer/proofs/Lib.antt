@@ -4,3 +4,4 @@ pub mod Products
 pub mod Faults
 pub mod Joined
 pub mod Answers
+pub mod Returns

@@ -106,9 +106,6 @@ module _ (vector : ℕ) (s : List ℕ) (f : Layout) (table : List ℕ) (stands :
 
   module _ (v : vector ≡ 3 → ⊥) (apart : puncturedAt vector table i j ≡ false) {t : Tree} (te : t ≡ treeAt table i)
       {levels : ℕ} (le : levels ≡ f .depth / f .«branch_bits») where
-    position-of : t .position ≡ treeIn (treesAt s f) i .position
-    position-of = ap (λ (u : Tree). u .position) te ∙ sym (ap (λ (n : NoiseTree). n .position) (tree-of v .same))
-
     elsewhere : eqb (treeAt table i .position) j ≡ false
     elsewhere = is-punctured vector table i j v {t = treeAt table i} refl ∙ apart
 

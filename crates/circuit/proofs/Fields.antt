@@ -1,7 +1,7 @@
 -- Each return of the functions that read a number, a wire or a gate gives what the definition says there. Assumes nothing.
 use Prim.Native.Nat.{ℕ, _≤_, _<_}
 use mathlib.Core.List.{List}
-use mathlib.Core.Path.{_≡_, refl, sym, ap, _∙_}
+use mathlib.Core.Path.{_≡_, sym, ap, _∙_}
 use borrow.Author.Tests.{lt-ltb, le-ltb, le-leb, lt-leb, eq-eqb, ne-eqb, leb-true, ltb-true}
 use native.Mathlib.Omega.{arith}
 use lib.Dec.{leb, ltb, eqb}

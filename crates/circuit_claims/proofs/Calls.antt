@@ -3,7 +3,7 @@ use Prim.Native.Nat.{ℕ, zero, suc, _≤_}
 use mathlib.Core.Bool.{Bool, true, false}
 use mathlib.Core.List.{List, [], _∷_, map}
 use mathlib.Core.Option.{some, none}
-use mathlib.Core.Path.{_≡_, refl, ap, _∙_, sym, subst}
+use mathlib.Core.Path.{_≡_, refl, ap, subst}
 use borrow.Author.Tests.{eqb-true, eqb-false}
 use native.Mathlib.Omega.{arith}
 use lib.Dec.{eqb}
@@ -35,10 +35,6 @@ pub made-at : {L O A : Type 0} (f : CallMade L O → A) (d : A) (ms : List (Call
 made-at f d [] k e = absurd (none-some e)
 made-at f d (x ∷ ms) zero e = ap f (some-is e)
 made-at f d (x ∷ ms) (suc k) e = made-at f d ms k e
-
--- a call is one
-pub call-one : {L O : Type 0} (ms : List (CallMade L O)) (k : ℕ) {a m : CallMade L O} → IsCall ms k a → IsCall ms k m → a ≡ m
-call-one ms k e f = some-is (sym e ∙ f)
 
 module _ {L S O : Type 0} (call : L → S → O) (number : O → ℕ) (state : O → S) where
   -- a refused call keeps its state

@@ -1,5 +1,5 @@
 -- How many bytes wait: of lists that are joined, byte by byte, and of the first of them. Assumes nothing.
-use Prim.Native.Nat.{ℕ, suc, _+_, _-_, _≤_, _<_}
+use Prim.Native.Nat.{ℕ, _+_, _-_, _≤_, _<_}
 use mathlib.Core.List.{List, [], _∷_, _++_}
 use mathlib.Core.Path.{_≡_, refl, sym, ap, _∙_}
 use native.Mathlib.Nat.{zero-add}
@@ -9,7 +9,6 @@ use lib.ListN.{length, getD, take, drop, length-drop}
 use lib.Seq.{take-suc, take-add, getD-drop}
 use mir.Syntax.{w64}
 use mir.Val.{Fits}
-use Rattle.algebra.specs.Choice.{choose}
 use Rattle.number.proofs.Places.{either}
 use borrow.Author.Tests.{eq-eqb, ne-eqb}
 use Rattle.circuit_run.specs.Inner.RoundTests.{waitOf}

@@ -3,7 +3,6 @@
 use mathlib.Core.Path.{_≡_}
 use mathlib.Core.List.{List}
 use Prim.Native.Nat.{ℕ}
-use lib.ListN.{take}
 use Rattle.dealing.specs.Admitted.{InMemory}
 use Rattle.dealing.specs.Deal.{deal, noiseRecordOf, scalarRecordOf}
 use Rattle.dealing.specs.Input.{Input}

@@ -23,7 +23,7 @@ use Rattle.dealing.specs.Input.{Input, wordsOf, deltaWords}
 use Rattle.dealing.specs.Inner.Steps.{dealNumber, inputFrom, layoutFor}
 use Rattle.deal_call.specs.Inner.Steps.{NoisePlaced, ScalarPlaced}
 use Rattle.dealing.proofs.Faults.{admitted}
-use Rattle.dealing.proofs.Laws.{noiseWriting, scalarWriting, Accepted, tests-accepted, tests-say}
+use Rattle.dealing.proofs.Laws.{noiseWriting, scalarWriting, tests-accepted, tests-say}
 use Rattle.dealing.proofs.Lengths.{roots-blocks}
 use Rattle.dealing.proofs.Tests.{delta-room}
 use Rattle.deal_call.proofs.Written.{sets-front}

@@ -1,17 +1,15 @@
 -- What each return gives: the head that was read, or the number of the record's fault. Assumes nothing.
-use mathlib.Core.Bool.{true, false}
 use mathlib.Core.List.{List}
-use mathlib.Core.Path.{_≡_, refl, sym, ap, _∙_}
+use mathlib.Core.Path.{_≡_, sym, ap, _∙_}
 use Prim.Native.Nat.{ℕ, _-_, _^_, _≤_, _<_}
 use native.Mathlib.Omega.{arith}
-use borrow.Author.Tests.{lt-ltb, le-ltb, eq-eqb, ne-eqb}
-use lib.Dec.{eqb}
+use borrow.Author.Tests.{lt-ltb, le-ltb, ne-eqb}
 use lib.ListN.{length, getD}
 use Rattle.field.specs.Kind.{elementWords}
-use Rattle.number.specs.Reading.{Reading, Whole, Refused, Parsed, tested, readByte, afterReading}
+use Rattle.number.specs.Reading.{Whole, Refused, tested, readByte, afterReading}
 use Rattle.number.proofs.Records.{read-refused, read-whole}
 use Rattle.number.proofs.Places.{either}
-use Rattle.record.specs.Content.{Head, NoisePart, ScalarPart}
+use Rattle.record.specs.Content.{NoisePart, ScalarPart}
 use Rattle.record.specs.Reading.{blockAt, readHead, readNoise, readScalar}
 use Rattle.record.specs.Answer.{headOf, recordRead, headIfWhole, recordFault}
 use Rattle.record.specs.declared.Layout.{Layout}
@@ -19,7 +17,7 @@ use Rattle.record.specs.declared.RecordAnswer.{RecordAnswer}
 use Rattle.record.specs.declared.RecordAnswer.the-variants.{Accepted, Fault}
 use Rattle.record.proofs.Callers.{head-ranges, noise-refused, noise-content, scalar-refused, scalar-content}
 use Rattle.describe.specs.declared.Described.{Described}
-use Rattle.describe.specs.Describe.{describedHead, refused, said, byEnd, description, describe}
+use Rattle.describe.specs.Describe.{describedHead, refused, said, description, describe}
 use Rattle.window.proofs.Sizes.{head-sizes}
 
 -- the head of its numbers, N, the words of an element, the label and the code key

@@ -1,27 +1,26 @@
 -- The levels of the wires, gate by gate, and the greatest of them. Assumes nothing.
 use Prim.Native.Nat.{ℕ, zero, suc, _+_, _-_, _*_, _≤_, _<_}
-use mathlib.Core.Bool.{Bool, true, false}
+use mathlib.Core.Bool.{true}
 use mathlib.Core.List.{List, [], _∷_, _++_, append-assoc}
 use mathlib.Core.Path.{_≡_, refl, sym, ap, ap₂, _∙_, subst}
 use native.Mathlib.Nat.{add-zero}
 use native.Mathlib.Omega.{arith}
 use borrow.Author.Tests.{eq-eqb, ne-eqb}
-use lib.ListN.{length, getD, set, take, drop, replicate, length-append, length-replicate, List·getD-append}
+use lib.ListN.{length, getD, set, take, drop, replicate, length-replicate, List·getD-append}
 use lib.Seq.{take-add, take-length, set-at, length-take-le}
 use mir.Syntax.{w16, w64}
 use mir.Val.{Fits}
-use Rattle.algebra.specs.Choice.{choose}
 use Rattle.circuit.proofs.Folds.{fold-length, fold-last}
 use Rattle.circuit.proofs.Levels.{greater-is, greater-below, greatest-below}
 use Rattle.circuit.specs.Answer.{content, HasLayout}
-use Rattle.circuit.specs.Content.{Gate, Xor, And, Not, Circuit}
+use Rattle.circuit.specs.Content.{Gate, Circuit}
 use Rattle.circuit.specs.Inner.GateNumbers.{gateBy}
 use Rattle.circuit.specs.Inner.GateKinds.{kindNumber}
 use Rattle.circuit.specs.Levels.{greater, gateLevel, greatest, levels, depth}
 use Rattle.circuit.specs.Reading.{readGate}
 use Rattle.circuit.specs.Value.{overGates}
 use Rattle.circuit.specs.declared.Layout.{Layout}
-use Rattle.circuit_run.proofs.Gates.{gatesOf, left-start, whole-gate, first, here, left-next, by-1, by-2, by-3, kind-range}
+use Rattle.circuit_run.proofs.Gates.{gatesOf, left-start, whole-gate, first, here, left-next, kind-range}
 use Rattle.circuit_run.specs.Inner.Places.{Left}
 use Rattle.number.proofs.Places.{either, split}
 use Rattle.number.specs.Inner.Known.{isWhole}

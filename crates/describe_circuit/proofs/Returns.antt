@@ -1,19 +1,14 @@
 -- What the call returns: the circuit that was read, or the number that it is refused with. Assumes nothing.
-use Prim.Native.Nat.{ℕ, _+_, _≤_}
+use Prim.Native.Nat.{ℕ, _+_}
 use mathlib.Core.List.{List}
-use mathlib.Core.Path.{_≡_, refl, sym, ap, _∙_}
-use native.Mathlib.Omega.{arith}
-use lib.ListN.{length}
-use mir.Syntax.{w64}
-use mir.Val.{Fits}
+use mathlib.Core.Path.{_≡_, ap, _∙_}
 use Rattle.circuit.specs.Answer.{content, HasLayout, CircuitRead, circuitFault}
-use Rattle.circuit.specs.Content.{andsIn}
 use Rattle.circuit.specs.Levels.{depth}
 use Rattle.circuit.specs.declared.Layout.{Layout}
 use Rattle.circuit.specs.declared.Answer.{Answer}
 use Rattle.circuit.specs.declared.Answer.the-variants.{Accepted, Fault}
 use Rattle.number.proofs.Records.{read-refused, read-whole}
-use Rattle.describe_circuit.specs.Describe.{answerWith, said, refused, descriptionOf, describeCircuit}
+use Rattle.describe_circuit.specs.Describe.{answerWith, refused, descriptionOf, describeCircuit}
 use Rattle.describe_circuit.specs.declared.DescribedCircuit.{DescribedCircuit}
 
 module _ (s : List ℕ) {r : Answer} (opens : CircuitRead s r) where

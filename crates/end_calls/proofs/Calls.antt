@@ -1,5 +1,5 @@
 -- Each return of the calls gives what the definition says there: what was read, and which tests were met before it.
-use mathlib.Core.Path.{_≡_, refl, sym, ap, _∙_}
+use mathlib.Core.Path.{_≡_, refl, sym, _∙_}
 use mathlib.Core.Bool.{Bool, true, false, not}
 use mathlib.Core.List.{List, _++_}
 use Prim.Native.Nat.{ℕ, _+_, _*_, _^_, _≤_, _<_}
@@ -43,7 +43,7 @@ use Rattle.ends.specs.Scalar.Offline as scalarOffline
 use Rattle.ends.specs.Scalar.Vectors.{w0, deltaOut}
 use Rattle.ends.specs.Inner.Noise as noiseReady
 use Rattle.ends.specs.Inner.Scalar as scalarReady
-use Rattle.end_calls.proofs.Answers.{first-short, second-short, both-written, lengths-refused, words-refused, words-written}
+use Rattle.answer.proofs.Returns.{first-short, second-short, both-written, lengths-refused, words-refused, words-written}
 use Rattle.ends.proofs.Vectors.{one-word}
 use Rattle.ends.proofs.noise.Content as noiseContent
 use Rattle.ends.proofs.noise.Laws as noiseLaws

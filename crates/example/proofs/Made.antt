@@ -6,7 +6,7 @@ use Rattle.algebra.specs.Expansion.{correction, punctured, whole}
 use Rattle.algebra.specs.Field.{Value}
 use Rattle.algebra.specs.Row.{Row}
 use Rattle.aes128.specs.State.{xorState}
-use Rattle.aes128.specs.Cipher.{cipher, keyExpansion, aes}
+use Rattle.aes128.specs.Cipher.{keyExpansion, aes}
 use Rattle.field.specs.declared.block.Block.{Block}
 use Rattle.field.specs.Binary.{blockAdd, blockOf}
 use Rattle.field.specs.Bytes.{columnsOf, lowOf, highOf}

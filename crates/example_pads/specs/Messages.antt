@@ -1,7 +1,7 @@
 -- Nothing is vacuous: two messages an output of the callers' own choosing on the pads of the first dealing (document 02, 1), sent by the
 -- three calls in turn, through what `Messages` asks.
 use mathlib.Core.Path.{_≡_}
-use mathlib.Core.List.{List, [], _∷_, _++_}
+use mathlib.Core.List.{[], _∷_, _++_}
 use lib.ListN.{replicate}
 use Rattle.messages.specs.Opening.{Batch, BatchFits, sentCorrectionBits, sentAnswers, openedBatch, Opens}
 use Rattle.pad_claims.specs.Taken.{Dealing, Taken}

@@ -1,8 +1,8 @@
 -- The last level of a tree: children that are leaves, added by halves until two are left.
-use mathlib.Core.Path.{_≡_, refl, ap, ap₂, sym, _∙_}
+use mathlib.Core.Path.{_≡_, refl, ap, sym, _∙_}
 use mathlib.Core.Logic.{_≢_}
 use mathlib.Core.List.{List, _++_}
-use Prim.Native.Nat.{ℕ, zero, suc, _+_, _-_, _*_, _/_, _^_, _≤_, _<_}
+use Prim.Native.Nat.{ℕ, _+_, _-_, _*_, _/_, _^_, _≤_, _<_}
 use native.Mathlib.Nat.{add-assoc, pow-zero}
 use native.Mathlib.Omega.{arith}
 use lib.ListN.{length, take, drop}
@@ -12,7 +12,7 @@ use Rattle.algebra.specs.Field.{Value}
 use Rattle.field.specs.Kind.{kindOf, elementWords}
 use Rattle.field.proofs.BothKinds.{kindLaws}
 use Rattle.tree.specs.Tree.{leafAt}
-use Rattle.tree.specs.Added.{added, leafElement}
+use Rattle.tree.specs.Added.{leafElement}
 use Rattle.tree.specs.Inner.Branches.{IsBranch}
 use Rattle.fill.specs.Inner.Ranges.{IsRange, childCount, leftOf, sizeOf, rangeElement, rangeAdded, childrenAdded}
 use Rattle.fill.specs.declared.range.Range.{Range}

@@ -11,10 +11,9 @@ use borrow.Author.Tests.{lt-ltb, le-ltb, ltb-true, ltb-false}
 use borrow.Rule.Slice.PartMut.{midOf, putMid}
 use Rattle.algebra.specs.Choice.{choose}
 use Rattle.algebra.proofs.Choice.{choose-true, choose-false}
-use Rattle.algebra.specs.Field.{Field, FieldLaws, Value}
+use Rattle.algebra.specs.Field.{Field, Value}
 use Rattle.field.specs.Kind.{kindOf, elementWords}
 use Rattle.field.proofs.BothKinds.{kindLaws}
-use Rattle.tree.specs.Added.{added}
 use Rattle.fill.specs.Inner.Ranges.{childrenAdded, below, leftOf, sizeOf, IsRange, allChildren, ofChild, rangeElement, rangeAdded, bothAdded}
 use Rattle.fill.specs.declared.range.Range.{Range}
 use Rattle.fill.proofs.Halves.{second, filled, added-same, front-length, second-length}

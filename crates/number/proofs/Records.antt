@@ -1,5 +1,5 @@
 -- What a call on a record answers, by what the reading gave.
-use mathlib.Core.Path.{_≡_, _∙_}
+use mathlib.Core.Path.{_≡_}
 use Prim.Native.Nat.{ℕ}
 use Rattle.number.specs.Reading.{Reading, Whole, Refused, afterReading}
 

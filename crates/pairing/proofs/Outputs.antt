@@ -5,7 +5,7 @@ use mathlib.Core.Bool.{Bool, true, false}
 use mathlib.Core.List.{List, [], _∷_}
 use Prim.Native.Nat.{ℕ, zero, suc, _+_, _*_, _^_, _≤_, _<_}
 use native.Mathlib.Omega.{arith}
-use native.Mathlib.Nat.{min-le-right, mul-le-mul-left, zero-add, mul-one}
+use native.Mathlib.Nat.{min-le-right, mul-le-mul-left, zero-add}
 use lib.Dec.{eqb}
 use lib.ListN.{length, take, getD, replicate, length-take}
 use lib.Seq.{take-all}

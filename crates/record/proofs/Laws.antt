@@ -1,33 +1,25 @@
 -- Key records have one writing for each content: reading the writing of admitted content gives it back, what reads as a content
 -- is exactly the writing of it and is admitted, and no record is read at both ends. The length of a writing. Assumes nothing.
-use Prim.Native.Nat.{ℕ, _+_, _-_, _*_, _^_, _≤_}
+use Prim.Native.Nat.{ℕ, _+_, _-_, _≤_}
 use mathlib.Core.Bool.{false}
-use mathlib.Core.List.{List, [], _∷_, _++_, map}
-use mathlib.Core.Path.{_≡_, refl, sym, ap, _∙_, subst}
-use borrow.Author.Tests.{leb-true, le-ltb, ltb-true, eq-eqb, ne-eqb}
+use mathlib.Core.List.{List, [], _∷_, _++_}
+use mathlib.Core.Path.{_≡_, sym, ap, _∙_, subst}
+use borrow.Author.Tests.{leb-true, le-ltb}
 use native.Mathlib.Nat.{zero-add}
 use native.Mathlib.Omega.{arith}
 use lib.Dec.{leb, ltb}
 use lib.ListN.{length, getD, length-append}
-use Rattle.field.proofs.ByteWords.{length-leBytes}
-use Rattle.field.specs.Bytes.{leBytes, wordAt}
-use Rattle.number.proofs.Laws.{length-number}
-use Rattle.number.proofs.Places.{either, has-front, has-back, has-next, has-byte, whole-has, has-whole}
-use Rattle.number.specs.Number.{writeNumber}
+use Rattle.number.proofs.Places.{has-front, has-back, has-next, has-byte, whole-has, has-whole}
 use Rattle.number.specs.Reading.{Whole, Bytes}
 use Rattle.number.specs.Inner.Known.{Has}
 use Rattle.record.proofs.Exact.{head-reads, head-exact, trees-reads, trees-exact, delta-reads, delta-exact, blocks-reads, blocks-exact, field-exact, within}
 use Rattle.record.proofs.Fields.{and-both}
-use Rattle.record.proofs.Items.{length-flat}
 use Rattle.record.proofs.Parts.{head-parts, noise-parts, scalar-parts}
-use Rattle.record.proofs.Lengths.{length-head}
-use Rattle.record.specs.Admitted.{Each, SixtyFourBits, SixteenBytes, AdmittedHead, AdmittedNoise, AdmittedScalar}
-use Rattle.record.specs.Inner.Rising.{TreesFrom}
+use Rattle.record.specs.Admitted.{AdmittedHead, AdmittedNoise, AdmittedScalar}
 use Rattle.record.proofs.Rising.{trees-each, trees-rising, trees-from}
-use Rattle.field.specs.Kind.{elementWords}
-use Rattle.record.specs.Content.{Head, NoiseTree, NoisePart, ScalarPart, siblingCount}
-use Rattle.record.specs.Reading.{blockAt, readHead, readTrees, readNoise, readScalar}
-use Rattle.record.specs.Writing.{writeWords, writeBlocks, writeHead, writeValue, writeTreeStart, writeTree, writeTrees, writeNoise, writeScalar}
+use Rattle.record.specs.Content.{Head, NoisePart, ScalarPart, siblingCount}
+use Rattle.record.specs.Reading.{readHead, readTrees, readNoise, readScalar}
+use Rattle.record.specs.Writing.{writeWords, writeBlocks, writeHead, writeTrees, writeNoise, writeScalar}
 
 -- the depth of an admitted head
 shallow : {h : Head} → AdmittedHead h → h .depth ≤ 16

@@ -13,7 +13,6 @@ use mir.Syntax.{w64}
 use mir.Val.{Fits}
 use Rattle.field.proofs.KindOf.{words-1, words-2}
 use Rattle.field.proofs.ByteWords.{length-leBytes}
-use Rattle.field.specs.Bytes.{leBytes}
 use Rattle.field.specs.ByNumber.{elementOf}
 use Rattle.field.specs.Inner.Elements.{elementLength}
 use Rattle.field.specs.Kind.{elementWords}

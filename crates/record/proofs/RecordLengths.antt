@@ -8,7 +8,6 @@ use native.Mathlib.Nat.{min-le-left}
 use native.Mathlib.Omega.{arith}
 use lib.Dec.{leb, eqb}
 use lib.ListN.{length, length-append}
-use Rattle.field.specs.Kind.{elementWords}
 use Rattle.number.proofs.Laws.{length-number, writing-1}
 use Rattle.number.specs.Number.{numberLength}
 use Rattle.record.proofs.Fields.{and-both}

@@ -8,7 +8,7 @@ use Rattle.algebra.specs.Expansion.{Rising}
 use Rattle.algebra.proofs.Rising.{Rises, rises, rising-is}
 use Rattle.record.specs.Admitted.{Each, AdmittedTree, AdmittedNoise}
 use Rattle.record.specs.Content.{NoiseTree, NoisePart, treeIn, siblingCount}
-use Rattle.record.specs.Inner.Rising.{TreeFrom, TreesFrom}
+use Rattle.record.specs.Inner.Rising.{TreesFrom}
 
 abbrev positions : List NoiseTree → ℕ → ℕ
 positions ts i = treeIn ts i .position

@@ -1,7 +1,7 @@
 // A round of an end's run of a circuit: opens every AND whose wires are known.
 ghost use mathlib.Core.Path.{_≡_};
 ghost use Rattle.circuit_run.specs.Inner.RoundPasses.{roundedWith};
-ghost use Rattle.circuit_run.specs.Round.{roundWith, rounded, round, stateWith};
+ghost use Rattle.circuit_run.specs.Round.{roundWith, rounded, round};
 
 mod accepted;
 mod input;

@@ -1,5 +1,4 @@
 -- `describe_circuit::describe_circuit` meets its contract: one law for each return. Assumes nothing.
-use native.Mathlib.Omega.{arith}
 use borrow.Author.Needs.{needs}
 use Rattle.describe_circuit.proofs.Returns.{circuit-refused, circuit-layout, circuit-said}
 use Rattle.describe_circuit.proofs.describe_circuit.Statement.{statement}

@@ -1,5 +1,5 @@
 -- Inner: no promise cites this file. The sums of a row's first n terms, with the test of the words in them, as a loop holds them.
-use mathlib.Core.Bool.{Bool, _&&_}
+use mathlib.Core.Bool.{_&&_}
 use mathlib.Core.List.{List}
 use mathlib.Core.Path.{_≡_}
 use Prim.Native.Nat.{ℕ}

@@ -2,7 +2,6 @@
 -- left of the window. Assumes nothing.
 use Rattle.aes128.specs.Inner.Words.{roundKeys}
 use Prim.Native.Nat.{_-_}
-use native.Mathlib.Omega.{arith}
 use Rattle.bench_expansion.proofs.Strips.{Windowed, windowed-none, part-room, part-whole, windowed-more, windowed-all, from-fits, bytes-fit, part-fits, to-fits, part-batch}
 use borrow.Author.Needs.{needs}
 use Rattle.bench_expansion.proofs.batch.write_outputs.Statement.{statement}

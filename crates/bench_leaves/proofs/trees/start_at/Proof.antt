@@ -1,5 +1,4 @@
 -- `bench_leaves::trees::start_at` meets its contract: the root, or the sibling that the leaf follows from. Assumes nothing.
-use native.Mathlib.Omega.{arith}
 use Rattle.bench_leaves.proofs.Starts.{root-asks, root-starts, noise-beside, sibling-starts}
 use borrow.Author.Needs.{needs}
 use Rattle.bench_leaves.proofs.trees.start_at.Statement.{statement}

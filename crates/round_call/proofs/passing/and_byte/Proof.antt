@@ -2,7 +2,6 @@
 use Rattle.round_call.proofs.Leaves.{and-has}
 use Rattle.circuit_run.proofs.Numbers.{tests}
 use Rattle.circuit_run.specs.Inner.RoundGates.{andByteBy}
-use borrow.Author.Needs.{needs}
 use Rattle.round_call.proofs.passing.and_byte.Statement.{statement}
 use Rattle.round_call.proofs.passing.and_byte.Tie as tie
 

@@ -4,7 +4,6 @@ use Prim.Native.Nat.{_-_}
 use native.Mathlib.Omega.{arith}
 use lib.ListN.{length}
 use Rattle.circuit_run.proofs.Inputs.{InputTurn, bit-at, input-start, input-next, input-done}
-use borrow.Author.Needs.{needs}
 use Rattle.round_call.proofs.passing.take_inputs.Statement.{statement}
 use Rattle.round_call.proofs.passing.take_inputs.Tie as tie
 

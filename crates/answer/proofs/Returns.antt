@@ -1,16 +1,16 @@
 -- The answers of calls by their tests, one law for each return: of a call that tests two buffers for room, and of one whose last test is
 -- of what stands in memory.
-use mathlib.Core.Path.{_≡_, refl, ap₂, _∙_}
+use mathlib.Core.Path.{_≡_, refl, ap₂}
 use mathlib.Core.Bool.{Bool, true, false, not}
 use mathlib.Core.List.{List, [], _∷_, _++_}
 use Prim.Native.Nat.{ℕ, _≤_, _<_}
 use borrow.Author.Tests.{ne-eqb, not-true, not-false}
 use Rattle.answer.specs.Numbers.{bufferShort, notElement}
 use Rattle.answer.specs.Tests.{Test, _atMost_, holds, _or_, firstFault}
 use Rattle.answer.specs.Inner.Numbered.{numbered}
 use Rattle.answer.specs.Outcome.{Outcome, TwoWritten, answered, refusedTwo, wrote}
 use Rattle.answer.proofs.Answers.{refused-with, refused-two, accepted-now}
 use Rattle.answer.proofs.Faults.{held, broken, given-at-most, given-above, fault-here, fault-later, fault-nowhere, fault-before, fault-after}
 
 -- room for a words in one buffer and b words in another, which the code has as m and n
 module _ {Lent : Type 0} (lent after : Lent) (a b x y : ℕ) where
