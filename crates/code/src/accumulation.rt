@@ -13,7 +13,8 @@ use prime::Prime;
 
 // Accumulates noise words of field 1.
 pub fn accumulate_bits(v: &mut [u64])
-    ensures { λ _. ⌜ now (v .exit) ≡ flat (binary .noiseValues) (length (now (v .entry))) (accumulate (bitRing .group) (at (binary .noiseValues) (now (v .entry)))) ⌝ }
+    ensures { λ _. ⌜ now (v .exit) ≡ flat (binary .noiseValues) (length (now (v .entry)))
+        (accumulate (bitRing .group) (at (binary .noiseValues) (now (v .entry)))) ⌝ }
 {
     let mut total: u64 = 0;
     let mut i: usize = 0;
@@ -47,7 +48,8 @@ pub fn accumulate_blocks(v: &mut [u64], count: usize)
 
 // Accumulates elements of field 2, one word each; noise words are of the same kind.
 pub fn accumulate_primes(v: &mut [u64])
-    ensures { λ _. ⌜ now (v .exit) ≡ flat (primes .elements) (length (now (v .entry))) (accumulate (primeRing .group) (at (primes .elements) (now (v .entry)))) ⌝ }
+    ensures { λ _. ⌜ now (v .exit) ≡ flat (primes .elements) (length (now (v .entry)))
+        (accumulate (primeRing .group) (at (primes .elements) (now (v .entry)))) ⌝ }
 {
     let mut total = Prime::zero();
     let mut i: usize = 0;

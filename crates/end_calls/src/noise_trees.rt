@@ -26,7 +26,8 @@ use tree_walk::child_keys;
 // The tree at a place of an accepted record, whose trees have `treeSiblings` siblings, after positions below `base`: its position is
 // a leaf's, and its siblings lie in the record.
 pub fn tree_at(source: &[u8], layout: Layout, beside: usize, at: usize, base: usize) -> Tree
-    requires { ⌜ (isWhole (readTree (layout .field) (layout .depth) beside base (now source) at) ≡ true) × (layout .depth ≤ 16) × (beside ≡ siblingCount (layout .depth) (layout .«branch_bits»)) ⌝ }
+    requires { ⌜ (isWhole (readTree (layout .field) (layout .depth) beside base (now source) at) ≡ true)
+        × (layout .depth ≤ 16) × (beside ≡ siblingCount (layout .depth) (layout .«branch_bits»)) ⌝ }
     ensures { λ r. ⌜ TreeRead (now (source .entry)) layout beside at base r ⌝ }
 {
     known_tree(source, at, base, layout.field, layout.depth, beside)

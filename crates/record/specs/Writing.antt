@@ -25,7 +25,8 @@ writeBlocks blocks = writeEach (λ b. b) blocks
 unfoldable pub writeHead : ℕ → Head → List ℕ
 writeHead end h =
     end ∷ h .field
-    ∷ (writeNumber (h .depth) ++ (writeNumber (h .branchBits) ++ (writeNumber (h .trees) ++ (writeNumber (h .terms) ++ (writeNumber (h .outputs) ++ (h .codeKey ++ h .label))))))
+    ∷ (writeNumber (h .depth) ++ (writeNumber (h .branchBits) ++ (writeNumber (h .trees) ++ (writeNumber (h .terms)
+    ++ (writeNumber (h .outputs) ++ (h .codeKey ++ h .label))))))
 
 -- the noise value: field 2 only, 8 LE bytes
 abbrev pub writeValue : ℕ → ℕ → List ℕ

@@ -8,7 +8,8 @@ ghost use Rattle.number.specs.Reading.{part};
 ghost use Rattle.record.specs.Inner.Rising.{RisesFrom};
 ghost use Rattle.record.specs.Inner.Heads.{headFrom, scalarWith};
 ghost use Rattle.record.specs.Writing.{writeHead, writeValue, writeWords, writeScalar};
-ghost use Rattle.record.specs.Inner.Lengths.{Writable, afterDepthBytes, sizesBytes, treeStartBytes, headLength, treeStartLength, treeLength, noiseLength, scalarLength};
+ghost use Rattle.record.specs.Inner.Lengths.{Writable, afterDepthBytes, sizesBytes, treeStartBytes};
+ghost use Rattle.record.specs.Inner.Lengths.{headLength, treeStartLength, treeLength, noiseLength, scalarLength};
 use crate::Layout;
 use crate::sizes::sibling_count;
 use field::Element;
@@ -81,7 +82,8 @@ pub fn write_head(
     code_key: &[u8],
     label: &[u8],
 ) -> usize
-    requires { ⌜ (Writable layout) × (length (now «code_key») ≡ 16) × (length (now label) ≡ 16) × (Room (now buffer) 0 (writeHead end (headFrom layout (now «code_key») (now label)))) ⌝ }
+    requires { ⌜ (Writable layout) × (length (now «code_key») ≡ 16) × (length (now label) ≡ 16)
+        × (Room (now buffer) 0 (writeHead end (headFrom layout (now «code_key») (now label)))) ⌝ }
     ensures { λ r. ⌜ Wrote (now (buffer .entry)) 0 (writeHead end (headFrom layout (now («code_key» .entry)) (now (label .entry)))) r (now (buffer .exit)) ⌝ }
 {
     buffer[0] = end;
@@ -101,7 +103,8 @@ pub fn write_tree_start(
     correction: Element,
 ) -> usize
     requires { ⌜ (back < numbers) × (Room (now buffer) at (treeStartBytes field back value (elementOf field (correction .low) (correction .high)))) ⌝ }
-    ensures { λ r. ⌜ Wrote (now (buffer .entry)) at (treeStartBytes field back value (elementOf field (correction .low) (correction .high))) r (now (buffer .exit)) ⌝ }
+    ensures { λ r. ⌜ Wrote (now (buffer .entry)) at
+        (treeStartBytes field back value (elementOf field (correction .low) (correction .high))) r (now (buffer .exit)) ⌝ }
 {
     let next = write_number(buffer, at, back);
     let middle = write_value(buffer, next, field, value);
@@ -117,8 +120,12 @@ pub fn write_scalar(
     delta: Element,
     roots: &[u8],
 ) -> usize
-    requires { ⌜ (Writable layout) × (length (now «code_key») ≡ 16) × (length (now label) ≡ 16) × (length (now roots) ≡ 16 * layout .trees) × (Room (now buffer) 0 (writeScalar (scalarWith layout (now «code_key») (now label) (elementOf (layout .field) (delta .low) (delta .high)) (now roots)))) ⌝ }
-    ensures { λ r. ⌜ Wrote (now (buffer .entry)) 0 (writeScalar (scalarWith layout (now («code_key» .entry)) (now (label .entry)) (elementOf (layout .field) (delta .low) (delta .high)) (now (roots .entry)))) r (now (buffer .exit)) ⌝ }
+    requires { ⌜ (Writable layout) × (length (now «code_key») ≡ 16) × (length (now label) ≡ 16)
+        × (length (now roots) ≡ 16 * layout .trees) × (Room (now buffer) 0
+        (writeScalar (scalarWith layout (now «code_key») (now label) (elementOf (layout .field) (delta .low) (delta .high)) (now roots)))) ⌝ }
+    ensures { λ r. ⌜ Wrote (now (buffer .entry)) 0
+        (writeScalar (scalarWith layout (now («code_key» .entry)) (now (label .entry))
+        (elementOf (layout .field) (delta .low) (delta .high)) (now (roots .entry)))) r (now (buffer .exit)) ⌝ }
 {
     let at = write_head(buffer, 2, layout, code_key, label);
     let next = write_element(buffer, at, layout.field, delta);

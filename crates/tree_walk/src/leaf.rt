@@ -95,7 +95,8 @@ fn pass_level(
     out: &mut [u8],
 ) -> Block
     requires { ⌜ RoundTables (now tables) × IsLevel «branch_bits» digit at (length (now out)) ⌝ }
-    ensures { λ r. ⌜ walk (nodeOf r) (now (out .exit)) ≡ levelPassed (2 ^ «branch_bits») (childBy (keysFor (now (keys .entry)))) (nodeOf s) digit at (now (out .entry)) ⌝ }
+    ensures { λ r. ⌜ walk (nodeOf r) (now (out .exit))
+        ≡ levelPassed (2 ^ «branch_bits») (childBy (keysFor (now (keys .entry)))) (nodeOf s) digit at (now (out .entry)) ⌝ }
 {
     let pair = digit / 2;
     let next = put_before(tables, keys, s, digit, at, out);
@@ -121,7 +122,8 @@ fn walk_from(
     out: &mut [u8],
 ) -> Block
     requires { ⌜ RoundTables (now tables) × IsPunctured tree (length (now out)) ⌝ }
-    ensures { λ r. ⌜ walk (nodeOf r) (now (out .exit)) ≡ walked (2 ^ tree .«branch_bits») (childBy (keysFor (now (keys .entry)))) (nodeOf root) tree (now (out .entry)) ⌝ }
+    ensures { λ r. ⌜ walk (nodeOf r) (now (out .exit))
+        ≡ walked (2 ^ tree .«branch_bits») (childBy (keysFor (now (keys .entry)))) (nodeOf root) tree (now (out .entry)) ⌝ }
 {
     let branch_bits = tree.branch_bits;
     let position = tree.position;

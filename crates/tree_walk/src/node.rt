@@ -32,7 +32,8 @@ pub fn child_keys(sbox: &[u8; 256], branch_bits: usize) -> [[u64; 40]; 8]
 // Children c and c + 1 of a node.
 pub fn children(tables: &[u64; 1536], keys: &[[u64; 40]; 8], c: usize, s: Block) -> TwoBlocks
     requires { ⌜ RoundTables (now tables) × (c + 1 < 8) ⌝ }
-    ensures { λ r. ⌜ (nodeOf (r .one) ≡ childBy (keysFor (now (keys .entry))) c (nodeOf s)) × (nodeOf (r .other) ≡ childBy (keysFor (now (keys .entry))) (c + 1) (nodeOf s)) ⌝ }
+    ensures { λ r. ⌜ (nodeOf (r .one) ≡ childBy (keysFor (now (keys .entry))) c (nodeOf s))
+        × (nodeOf (r .other) ≡ childBy (keysFor (now (keys .entry))) (c + 1) (nodeOf s)) ⌝ }
 {
     let both = block_cipher::encrypt_two(tables, &keys[c], &keys[c + 1], s, s);
     TwoBlocks {
@@ -59,7 +60,8 @@ pub fn child_of_both(
     b: Block,
 ) -> TwoBlocks
     requires { ⌜ RoundTables (now tables) × (c < 8) ⌝ }
-    ensures { λ r. ⌜ (nodeOf (r .one) ≡ childBy (keysFor (now (keys .entry))) c (nodeOf a)) × (nodeOf (r .other) ≡ childBy (keysFor (now (keys .entry))) c (nodeOf b)) ⌝ }
+    ensures { λ r. ⌜ (nodeOf (r .one) ≡ childBy (keysFor (now (keys .entry))) c (nodeOf a))
+        × (nodeOf (r .other) ≡ childBy (keysFor (now (keys .entry))) c (nodeOf b)) ⌝ }
 {
     let both = block_cipher::encrypt_two(tables, &keys[c], &keys[c], a, b);
     TwoBlocks {

@@ -1,4 +1,5 @@
--- Inner: no promise cites this file. Whether every word that a window's rows use is below a bound, 2 for bits and p for elements of field 2, and the same of a whole vector.
+-- Inner: no promise cites this file. Whether every word that a window's rows use is below a bound, 2 for bits and p for elements of
+-- field 2, and the same of a whole vector.
 use mathlib.Core.Bool.{Bool}
 use mathlib.Core.List.{List}
 use Prim.Native.Nat.{ℕ, _+_}
