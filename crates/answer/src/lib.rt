@@ -1,5 +1,5 @@
-// What the calls answer: document 01's number, and the lengths written to each output buffer. A refused call has zero for
-// each length. And what the calls' tests ask of slices, lengths and windows.
+// What the calls answer: a number of document 01 or 02, and the lengths written to each output buffer, which are zero where a call is
+// refused; and what the calls' tests ask of slices, lengths and windows.
 
 mod bytes;
 mod lengths;

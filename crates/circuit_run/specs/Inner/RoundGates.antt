@@ -43,7 +43,7 @@ unfoldable pub byteBy : ℕ → ℕ → ℕ → ℕ → ℕ → List ℕ → ℕ
 byteBy role kind byte x y triples ands far passed =
     choose (isKnown byte) byte (choose (eqb kind 2) (andByteBy role byte x y triples ands far passed) (localByteBy role kind x y))
 
--- what the bits of a gate rest on: if it waits, its triple and room for them
+-- what the bits of a gate rest on: if it waits, the first two bits of its triple and room for two; that its numbers are small
 pub record CanPut (byte : ℕ) (triples : List ℕ) (ands : ℕ) (bits : List ℕ) (place : ℕ) : Type 0 where
   pub few : ands ≤ 4096
   pub low : place ≤ 8192

@@ -29,7 +29,7 @@ treesAt s f = from (readTrees (f .field) (f .depth) (treeSiblings f) (f .trees) 
 abbrev pub contentOf : List ℕ → Layout → NoisePart
 contentOf s f = record { head = headOf s f; trees = treesAt s f }
 
--- what a record that was accepted is known to be
+-- what a record that was accepted is known to be; its trees are read up to `end`, as a loop begins, with none passed yet
 pub record Ready (s : List ℕ) (f : Layout) : Type 0 where
   pub read : readNoise s ≡ Whole (contentOf s f)
   pub sizes : Sizes s (headOf s f) (f .body)

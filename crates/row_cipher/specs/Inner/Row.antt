@@ -34,7 +34,7 @@ column3Of s k x = mixedColumn (byteAt s 0 3) (byteAt s 1 0) (byteAt s 2 1) x k
 unfoldable pub Lacks : (ℕ → List ℕ) → (ℕ → List ℕ) → List ℕ → Type 0
 Lacks mixed column w = (x : ℕ) → xorWord w (mixed x) ≡ column x
 
--- r is column c of a state with the entry for the byte x of the table that begins at a place of t
+-- r is column c of a state, exclusive or the entry for the byte x of the table that begins at a place of t
 pub record Entered (t : List ℕ) (s : List (List ℕ)) (c at x : ℕ) (r : List ℕ) : Type 0 where
   pub byte : x < 256
   pub sum : r ≡ xorWord (column s c) (wideRows (getD t (at + x) 0))

@@ -30,7 +30,7 @@ pub record Filled (keys : List (List (List ℕ))) (r : WindowRows) (noise v uOut
   pub u-is : uAfter ≡ uOver keys r noise uOut
   pub v-is : vAfter ≡ vOver keys r v vOut
 
--- output k of the window is written, and a word of u unless no row gives one; the test of the words that the row uses is told
+-- output k of the window is written, and a word of u unless no row gives one (`alone`); the test of the words that the row uses is told
 pub record RowWritten (K : Kind) (alone : Bool) (keys : List (List (List ℕ))) (r : WindowRows) (k : ℕ) (noise v uOut vOut : List ℕ)
     (passed : Bool) (uAfter vAfter : List ℕ) : Type 0 where
   pub told : passed ≡ (choose alone true (rowUsed (ofNoise (K .field)) keys r noise k) && rowUsed (K .field) keys r v k)
