@@ -114,7 +114,8 @@ pub fn known_tree(
     beside: usize,
 ) -> Tree
     requires { ⌜ (isWhole (readTree field depth beside base (now source) at) ≡ true) × (depth ≤ 16) ⌝ }
-    ensures { λ r. ⌜ (Whole (treeOf (now (source .entry)) field beside r, r .siblings + 16 * beside) ≡ readTree field depth beside base (now (source .entry)) at)
+    ensures { λ r. ⌜ (Whole (treeOf (now (source .entry)) field beside r, r .siblings + 16 * beside)
+        ≡ readTree field depth beside base (now (source .entry)) at)
         × (r .high ≡ getD (elementOf field (r .low) (r .high)) 1 0) ⌝ }
 {
     let number = known_number(source, at);
