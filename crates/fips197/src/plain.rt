@@ -1,5 +1,5 @@
 // A plain AES-128, byte by byte on blocks of sixteen, that shares no code and no table with the proved one.
-ghost use Prim.Native.Nat.{_<_};
+ghost use Prim.Native.Nat.{_<_, _≤_};
 
 // Twice x in the field.
 fn double(x: u8) -> u8 {
@@ -51,15 +51,12 @@ pub fn sub_table() -> [u8; 256] {
     t
 }
 
-// The sum of two blocks.
-pub fn sum(a: [u8; 16], b: [u8; 16]) -> [u8; 16] {
-    let mut r = [0u8; 16];
-    let mut i: usize = 0;
-    while i < 16 {
-        r[i] = a[i] ^ b[i];
-        i += 1;
-    }
-    r
+// The byte of the column before from which byte `at` of a key schedule is made, where its column is a round key's first: the next
+// in its column, the first after the last.
+fn turned(w: &[u8; 176], at: usize) -> u8
+    requires { ⌜ (16 ≤ at) × (at < 176) ⌝ }
+{
+    if at % 4 == 3 { w[at - 7] } else { w[at - 3] }
 }
 
 // The key schedule, 16 bytes a round key.
@@ -71,87 +68,54 @@ pub fn expand(t: &[u8; 256], key: [u8; 16]) -> [u8; 176] {
         i += 1;
     }
     let mut c: u8 = 1;
-    let mut n: usize = 4;
-    while n < 44 {
-        let at = 4 * n;
-        let mut a = w[at - 4];
-        let mut b = w[at - 3];
-        let mut d = w[at - 2];
-        let mut e = w[at - 1];
-        if n % 4 == 0 {
-            let first = a;
-            a = get(t, b) ^ c;
-            b = get(t, d);
-            d = get(t, e);
-            e = get(t, first);
+    let mut at: usize = 16;
+    while at < 176 {
+        let mut x = w[at - 4];
+        if at % 16 < 4 {
+            x = get(t, turned(&w, at));
+        }
+        if at % 16 == 0 {
+            x = x ^ c;
             c = double(c);
         }
-        w[at] = w[at - 16] ^ a;
-        w[at + 1] = w[at - 15] ^ b;
-        w[at + 2] = w[at - 14] ^ d;
-        w[at + 3] = w[at - 13] ^ e;
-        n += 1;
+        w[at] = w[at - 16] ^ x;
+        at += 1;
     }
     w
 }
 
-// Round key r.
-pub fn round_key(w: &[u8; 176], r: usize) -> [u8; 16]
+// A block plus round key r.
+fn add_key(s: [u8; 16], w: &[u8; 176], r: usize) -> [u8; 16]
     requires { ⌜ r < 11 ⌝ }
 {
-    let mut k = [0u8; 16];
+    let mut sum = s;
     let mut i: usize = 0;
     while i < 16 {
-        k[i] = w[16 * r + i];
+        sum[i] = s[i] ^ w[16 * r + i];
         i += 1;
     }
-    k
+    sum
 }
 
-fn sub(t: &[u8; 256], s: [u8; 16]) -> [u8; 16] {
+// The bytes substituted, and their rows shifted: byte i comes from the column that lies i rows on.
+fn sub_shift(t: &[u8; 256], s: [u8; 16]) -> [u8; 16] {
     let mut r = s;
     let mut i: usize = 0;
     while i < 16 {
-        r[i] = get(t, r[i]);
+        r[i] = get(t, s[5 * i % 16]);
         i += 1;
     }
     r
 }
 
-fn shift(s: [u8; 16]) -> [u8; 16] {
-    [
-        s[0],
-        s[5],
-        s[10],
-        s[15],
-        s[4],
-        s[9],
-        s[14],
-        s[3],
-        s[8],
-        s[13],
-        s[2],
-        s[7],
-        s[12],
-        s[1],
-        s[6],
-        s[11],
-    ]
-}
-
+// The columns mixed, byte by byte.
 fn mix(s: [u8; 16]) -> [u8; 16] {
     let mut r = s;
     let mut i: usize = 0;
-    while i < 4 {
-        let a = s[4 * i];
-        let b = s[4 * i + 1];
-        let c = s[4 * i + 2];
-        let d = s[4 * i + 3];
-        let all = a ^ b ^ c ^ d;
-        r[4 * i] = a ^ all ^ double(a ^ b);
-        r[4 * i + 1] = b ^ all ^ double(b ^ c);
-        r[4 * i + 2] = c ^ all ^ double(c ^ d);
-        r[4 * i + 3] = d ^ all ^ double(d ^ a);
+    while i < 16 {
+        let top = i / 4 * 4;
+        let all = s[top] ^ s[top + 1] ^ s[top + 2] ^ s[top + 3];
+        r[i] = s[i] ^ all ^ double(s[i] ^ s[top + (i + 1) % 4]);
         i += 1;
     }
     r
@@ -159,12 +123,11 @@ fn mix(s: [u8; 16]) -> [u8; 16] {
 
 // The block under the key schedule w.
 pub fn encrypt(t: &[u8; 256], w: &[u8; 176], block: [u8; 16]) -> [u8; 16] {
-    let mut s = sum(block, round_key(w, 0));
+    let mut s = add_key(block, w, 0);
     let mut r: usize = 1;
     while r < 10 {
-        let next = sum(mix(shift(sub(t, s))), round_key(w, r));
-        s = next;
+        s = add_key(mix(sub_shift(t, s)), w, r);
         r += 1;
     }
-    sum(shift(sub(t, s)), round_key(w, 10))
+    add_key(sub_shift(t, s), w, 10)
 }

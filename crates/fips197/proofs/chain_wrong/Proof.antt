@@ -24,8 +24,10 @@ chain-wrong-spec =
     μ-loop2
     Inv-loop
     μ-loop
-    (λ c κs. search needs)  -- of-columns-requires
-    (λ c κs. search needs)  -- of-columns-requires-2
+    (λ c. search needs)  -- slice-aggregate-block-at
+    (λ c κs. search needs)  -- block-at-requires
+    (λ c. search needs)  -- slice-aggregate-block-at-2
+    (λ c κs. search needs)  -- block-at-requires-2
     (λ c. search needs)  -- loop-holds
     (λ c κs. search needs)  -- lent-of-requires
     (λ c κs. search needs)  -- lent-of-requires-2

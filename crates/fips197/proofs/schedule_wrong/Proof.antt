@@ -16,15 +16,17 @@ schedule-wrong-spec =
     (tie.spec
     Inv-loop
     μ-loop
-    (λ c κs. search needs)  -- schedule-requires
-    (λ c κs. search needs)  -- bytes-requires
-    (λ c κs. search needs)  -- expand-requires
+    (λ c κs. search needs)  -- lent-of-requires
+    (λ c κs. search needs)  -- plain-of-requires
     (λ c. search needs)  -- loop-holds
+    (λ c. search needs)  -- mul-block-at
+    (λ c κs. search needs)  -- block-at-requires
     (λ c κs. search needs)  -- lent-key-requires
-    (λ c κs. search needs)  -- round-key-requires
-    (λ c. search needs)  -- mul-one-wrong
-    (λ c. search needs)  -- array-copy-out-one-wrong
-    (λ c κs. search needs)  -- one-wrong-requires
+    (λ c. search needs)  -- slice-aggregate-block-at
+    (λ c. search needs)  -- mul-block-at-2
+    (λ c κs. search needs)  -- block-at-requires-2
+    (λ c κs. search needs)  -- differ-requires
+    (λ c κs. search needs)  -- differ-requires-2
     (λ c. search needs)  -- add-i
     (λ c. search needs)  -- loop-less
     (λ c. search needs)  -- loop-again

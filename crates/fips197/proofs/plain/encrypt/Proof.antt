@@ -16,20 +16,15 @@ encrypt-spec =
     (tie.spec
     Inv-loop
     μ-loop
-    (λ c κs. search needs)  -- round-key-requires
-    (λ c κs. search needs)  -- sum-requires
+    (λ c κs. search needs)  -- add-key-requires
     (λ c. search needs)  -- loop-holds
-    (λ c κs. search needs)  -- sub-requires
-    (λ c κs. search needs)  -- shift-requires
+    (λ c κs. search needs)  -- sub-shift-requires
     (λ c κs. search needs)  -- mix-requires
-    (λ c κs. search needs)  -- round-key-requires-2
-    (λ c κs. search needs)  -- sum-requires-2
+    (λ c κs. search needs)  -- add-key-requires-2
     (λ c. search needs)  -- add-r
     (λ c. search needs)  -- loop-less
     (λ c. search needs)  -- loop-again
-    (λ c κs. search needs)  -- sub-requires-2
-    (λ c κs. search needs)  -- shift-requires-2
-    (λ c κs. search needs)  -- round-key-requires-3
-    (λ c κs. search needs)  -- sum-requires-3
+    (λ c κs. search needs)  -- sub-shift-requires-2
+    (λ c κs. search needs)  -- add-key-requires-3
     (λ c. search needs)  -- returns
     )

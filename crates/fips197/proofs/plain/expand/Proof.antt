@@ -1,4 +1,4 @@
--- `fips197::plain::expand` is safe and ends. The loops' invariants: i is at most 16; n lies from 4 to 44. The measures are what is left. Assumes nothing.
+-- `fips197::plain::expand` is safe and ends. The loops' invariants: i is at most 16, at between 16 and 176. The measures are what is left. Assumes nothing.
 use Prim.Native.Nat.{_≤_, _-_}
 use borrow.Author.Needs.{needs}
 use Rattle.fips197.proofs.plain.expand.Statement.{statement}
@@ -11,10 +11,10 @@ abbrev μ-loop : tie.MeasureT-loop
 μ-loop t key w₀ i₀ w i = 16 - i
 
 abbrev Inv-loop2 : tie.InvT-loop2
-Inv-loop2 t w₀ i c₀ n₀ w c n = (4 ≤ n) × (n ≤ 44)
+Inv-loop2 t w₀ i c₀ at₀ w c at = (16 ≤ at) × (at ≤ 176)
 
 abbrev μ-loop2 : tie.MeasureT-loop2
-μ-loop2 t w₀ i c₀ n₀ w c n = 44 - n
+μ-loop2 t w₀ i c₀ at₀ w c at = 176 - at
 
 pub expand-spec : {M : Type 1} → statement M
 expand-spec =
@@ -31,36 +31,15 @@ expand-spec =
     (λ c. search needs)  -- loop-less
     (λ c. search needs)  -- loop-again
     (λ c. search needs)  -- loop2-holds
-    (λ c. search needs)  -- mul-at
-    (λ c. search needs)  -- sub-a
-    (λ c. search needs)  -- array-read-a
-    (λ c. search needs)  -- sub-b
-    (λ c. search needs)  -- array-read-b
-    (λ c. search needs)  -- sub-d
-    (λ c. search needs)  -- array-read-d
-    (λ c. search needs)  -- sub-e
-    (λ c. search needs)  -- array-read-e
+    (λ c. search needs)  -- sub-x
+    (λ c. search needs)  -- array-read-x
+    (λ c κs. search needs)  -- turned-requires
     (λ c κs. search needs)  -- get-requires
-    (λ c κs. search needs)  -- get-requires-2
-    (λ c κs. search needs)  -- get-requires-3
-    (λ c κs. search needs)  -- get-requires-4
     (λ c κs. search needs)  -- double-requires
     (λ c. search needs)  -- sub-w
     (λ c. search needs)  -- array-read-w-2
     (λ c. search needs)  -- array-write-w-2
-    (λ c. search needs)  -- sub-w-2
-    (λ c. search needs)  -- array-read-w-3
-    (λ c. search needs)  -- add-w
-    (λ c. search needs)  -- array-write-w-3
-    (λ c. search needs)  -- sub-w-3
-    (λ c. search needs)  -- array-read-w-4
-    (λ c. search needs)  -- add-w-2
-    (λ c. search needs)  -- array-write-w-4
-    (λ c. search needs)  -- sub-w-4
-    (λ c. search needs)  -- array-read-w-5
-    (λ c. search needs)  -- add-w-3
-    (λ c. search needs)  -- array-write-w-5
-    (λ c. search needs)  -- add-n
+    (λ c. search needs)  -- add-at
     (λ c. search needs)  -- loop2-less
     (λ c. search needs)  -- loop2-again
     (λ c. search needs)  -- returns
