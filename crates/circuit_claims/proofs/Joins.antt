@@ -14,7 +14,7 @@ use Rattle.circuit.specs.Content.{Gate, Xor, And, Not, Circuit, isAnd, andsIn}
 use Rattle.circuit.specs.Value.{gateValue, wireValues, atWires, valueOf}
 use Rattle.circuit_run.proofs.Bits.{xor-bit, share-bit}
 use Rattle.circuit_run.specs.Step.{gateAt, andsBefore, flipped, maskedFirst, maskedSecond}
-use Rattle.triples.specs.Matching.{Matching}
+use Rattle.pads.specs.Triples.Matching.{Matching}
 use Rattle.circuit_claims.proofs.AndGates.{and-before}
 use Rattle.circuit_claims.proofs.Bits.{not-shares, xor-shares, and-shares}
 use Rattle.circuit_claims.proofs.Transcripts.{shares-keep, shares-hold}

@@ -26,7 +26,7 @@ use Rattle.circuit_claims.proofs.Transcripts.{SameTriples, outputs-same
 use Rattle.circuit_claims.specs.Inner.Transcript.{BitsByAnd, wireShares, farInSteps}
 use Rattle.circuit_claims.specs.Runs.{StepMade, stepsOf, IsStep, writtenBy}
 use Rattle.number.proofs.Places.{split, choose-yes, choose-no}
-use Rattle.triples.proofs.Matching.{triple-eq}
+use Rattle.pads.proofs.Triples.Matching.{triple-eq}
 use Rattle.circuit_claims.proofs.RoundEvaluates.{levels-passed, far-got, wrote-shares}
 use Rattle.circuit_claims.proofs.RoundProgresses.{progress}
 use Rattle.circuit_claims.proofs.Stages.{and-wire}

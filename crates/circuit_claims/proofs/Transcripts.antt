@@ -14,7 +14,7 @@ use Rattle.circuit.specs.Admitted.{GateBelow, GatesBelow, WiresBelow}
 use Rattle.circuit.specs.Content.{Gate, Xor, And, Not, Circuit, isAnd, andsIn}
 use Rattle.circuit.specs.Value.{atWires}
 use Rattle.circuit_run.specs.Step.{gateAt, andsBefore, flipped, maskedFirst, maskedSecond, andShare}
-use Rattle.triples.specs.Triple.{Triple, tripleBytes}
+use Rattle.pads.specs.Triples.Triple.{Triple, tripleBytes}
 use Rattle.circuit_claims.proofs.AndGates.{and-earlier, and-before, and-below}
 use Rattle.circuit_claims.specs.Inner.Transcript.{BitsByAnd, shareWithFar, shareAt, wireShares, maskedBits}
 

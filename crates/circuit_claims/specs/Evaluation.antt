@@ -10,7 +10,7 @@ use Rattle.circuit.specs.Value.{valueOf}
 use Rattle.number.specs.Reading.{Whole}
 use Rattle.circuit_claims.specs.Runs.{StepMade, stepsOf, IsStep, writtenBy}
 use Rattle.circuit_run.specs.Step.{StepLent}
-use Rattle.triples.specs.Matching.{Matching}
+use Rattle.pads.specs.Triples.Matching.{Matching}
 
 -- both ends' shares combined
 unfoldable pub combined : List ℕ → List ℕ → List ℕ

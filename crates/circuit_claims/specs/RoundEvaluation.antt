@@ -9,7 +9,7 @@ use Rattle.circuit.specs.Value.{valueOf}
 use Rattle.circuit_run.specs.Round.{RoundLent}
 use Rattle.circuit_claims.specs.Evaluation.{combined}
 use Rattle.number.specs.Reading.{Whole}
-use Rattle.triples.specs.Matching.{Matching}
+use Rattle.pads.specs.Triples.Matching.{Matching}
 use Rattle.circuit_claims.specs.RoundRuns.{RoundMade, roundsOf, IsRound, outputsBy, bitsBy, Finished}
 
 -- a round with an end's own role, circuit, shares and triples

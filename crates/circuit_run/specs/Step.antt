@@ -17,7 +17,7 @@ use Rattle.circuit.specs.Content.{Gate, Xor, And, Not, Circuit, isAnd, andsIn}
 use Rattle.circuit.specs.Reading.{readCircuit}
 use Rattle.circuit.specs.Value.{atWires}
 use Rattle.number.specs.Reading.{afterReading}
-use Rattle.triples.specs.Triple.{tripleBytes}
+use Rattle.pads.specs.Triples.Triple.{tripleBytes}
 use Rattle.circuit_run.specs.declared.StepState.{StepState}
 use Rattle.circuit_run.specs.declared.Stepped.{Stepped}
 

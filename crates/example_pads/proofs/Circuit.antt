@@ -12,8 +12,8 @@ use Rattle.answer.specs.Outcome.{byNumber, answered}
 use Rattle.answer.specs.Tests.{isMet, firstFault}
 use Rattle.number.specs.Number.{readNumber, lastGroup}
 use Rattle.number.specs.Reading.{Whole, tested, afterReading, readByte}
-use Rattle.triples.specs.Call.{triples}
-use Rattle.triples.specs.Triple.{tripleFrom, tripleOf}
+use Rattle.pads.specs.Triples.Call.{triples}
+use Rattle.pads.specs.Triples.Triple.{tripleFrom, tripleOf}
 use Rattle.circuit.specs.Content.{andsIn}
 use Rattle.circuit.specs.Reading.{readWithin, readWire, readGate, readGates, readWires, readCircuit}
 use Rattle.circuit_run.specs.Step.{freshWires, flipped, runOn, maskedFirst, maskedSecond, andShare, waitingShare, withAnd, stateAfter, withOutputs, acceptedStep, step}

@@ -7,8 +7,8 @@ use Rattle.algebra.specs.Coding.{flat, over}
 use Rattle.answer.specs.Bytes.{anyAbove, AreBits}
 use Rattle.answer.specs.Outcome.{byNumber, answered}
 use Rattle.answer.specs.Tests.{isMet, firstFault}
-use Rattle.messages.specs.Calls.{correctionBits, answerOf, maskMessages, openedOf, unmaskMessages}
-use Rattle.messages.specs.Opening.{BatchFits}
+use Rattle.pads.specs.Messages.Calls.{correctionBits, answerOf, maskMessages, openedOf, unmaskMessages}
+use Rattle.pads.specs.Messages.Opening.{BatchFits}
 use Rattle.pad_claims.proofs.Messages.{messages}
 use Rattle.example_pads.specs.Messages.{batch, MessagesExample}
 use Rattle.example_pads.proofs.Pads.{firstDealing, first-taken}

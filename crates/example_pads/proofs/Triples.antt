@@ -5,8 +5,8 @@ use Rattle.algebra.specs.Coding.{flat, over}
 use Rattle.answer.specs.Bytes.{anyAbove}
 use Rattle.answer.specs.Outcome.{byNumber, answered}
 use Rattle.answer.specs.Tests.{isMet, firstFault}
-use Rattle.triples.specs.Call.{triples}
-use Rattle.triples.specs.Triple.{tripleFrom, tripleOf}
+use Rattle.pads.specs.Triples.Call.{triples}
+use Rattle.pads.specs.Triples.Triple.{tripleFrom, tripleOf}
 use Rattle.pad_claims.proofs.Triples as dealt
 use Rattle.pad_claims.specs.Formed.{FormedAt}
 use Rattle.example_pads.specs.Triples.{lent₁, lent₂, TriplesExample}

@@ -5,9 +5,9 @@ use mathlib.Core.List.{[], _∷_}
 use Prim.Native.Nat.{ℕ, _<_}
 use lib.ListN.{replicate}
 use Rattle.algebra.specs.Coding.{at}
-use Rattle.triples.specs.Call.{TriplesLent}
-use Rattle.triples.specs.Matching.{MatchingAt, triplesOf}
-use Rattle.triples.specs.Triple.{tripleBytes}
+use Rattle.pads.specs.Triples.Call.{TriplesLent}
+use Rattle.pads.specs.Triples.Matching.{MatchingAt, triplesOf}
+use Rattle.pads.specs.Triples.Triple.{tripleBytes}
 use Rattle.pad_claims.specs.Formed.{FormedAt}
 use Rattle.example.specs.Worked.{binaryNumbers, secondNumbers}
 use Rattle.example_pads.specs.Pads.{firstNoise, firstScalar, secondNoise, secondScalar}

@@ -1,7 +1,7 @@
 // The three calls that pass messages of the callers' own choosing under pads, by their exported names.
 ghost use mathlib.Core.Path.{_≡_};
 ghost use Rattle.answer.specs.Outcome.{outcomeOne};
-ghost use Rattle.messages.specs.Calls.{lentCorrection, lentMask, lentUnmask, correctionBits, maskMessages, unmaskMessages};
+ghost use Rattle.pads.specs.Messages.Calls.{lentCorrection, lentMask, lentUnmask, correctionBits, maskMessages, unmaskMessages};
 use answer::OneLength;
 
 // The noise end's bits to send: choice exclusive-or wanted bit of each output.
@@ -15,7 +15,7 @@ pub extern "C" fn expander_correction_bits(
     ensures { λ r. ⌜ outcomeOne r (lentCorrection (now (choices .exit)) (now (wanted .exit)) (now («bits_out» .exit)))
         ≡ correctionBits count (lentCorrection (now (choices .entry)) (now (wanted .entry)) (now («bits_out» .entry))) ⌝ }
 {
-    messages::correction_bits(count, choices, wanted, bits_out)
+    message_calls::correction_bits(count, choices, wanted, bits_out)
 }
 
 // The scalar end's answers: both messages of each output, masked.
@@ -30,7 +30,7 @@ pub extern "C" fn expander_mask_messages(
     ensures { λ r. ⌜ outcomeOne r (lentMask (now (bits .exit)) (now (pads .exit)) (now (messages .exit)) (now («answers_out» .exit)))
         ≡ maskMessages count (lentMask (now (bits .entry)) (now (pads .entry)) (now (messages .entry)) (now («answers_out» .entry))) ⌝ }
 {
-    messages::mask_messages(count, bits, pads, messages, answers_out)
+    message_calls::mask_messages(count, bits, pads, messages, answers_out)
 }
 
 // The noise end's messages: the wanted one of each output, unmasked.
@@ -45,5 +45,5 @@ pub extern "C" fn expander_unmask_messages(
     ensures { λ r. ⌜ outcomeOne r (lentUnmask (now (wanted .exit)) (now (pads .exit)) (now (answers .exit)) (now («messages_out» .exit)))
         ≡ unmaskMessages count (lentUnmask (now (wanted .entry)) (now (pads .entry)) (now (answers .entry)) (now («messages_out» .entry))) ⌝ }
 {
-    messages::unmask_messages(count, wanted, pads, answers, messages_out)
+    message_calls::unmask_messages(count, wanted, pads, answers, messages_out)
 }

@@ -13,9 +13,9 @@ use Rattle.circuit_claims.proofs.Evaluates.{stood, evaluation}
 use Rattle.circuit_claims.specs.Evaluation.{combined, Ends}
 use Rattle.circuit_claims.specs.Runs.{StepMade, stepsOf, IsStep, writtenBy}
 use Rattle.number.specs.Reading.{Whole}
-use Rattle.triples.proofs.Matching.{length-triples}
-use Rattle.triples.specs.Call.{TriplesLent, triples}
-use Rattle.triples.specs.Matching.{triplesOf}
+use Rattle.pads.proofs.Triples.Matching.{length-triples}
+use Rattle.pads.specs.Triples.Call.{TriplesLent, triples}
+use Rattle.pads.specs.Triples.Matching.{triplesOf}
 use Rattle.pad_claims.specs.Circuits.{Circuits}
 use Rattle.pad_claims.specs.Formed.{GatheredAt}
 use Rattle.pad_claims.specs.Taken.{Dealing, Taken}

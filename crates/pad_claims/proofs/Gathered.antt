@@ -6,10 +6,10 @@ use native.Mathlib.Omega.{arith}
 use lib.ListN.{length, length-append}
 use Rattle.algebra.specs.Coding.{at}
 use Rattle.number.proofs.Places.{split}
-use Rattle.triples.proofs.Matching.{length-triples, triple-front, triple-past}
-use Rattle.triples.specs.Call.{TriplesLent, triples}
-use Rattle.triples.specs.Matching.{triplesOf}
-use Rattle.triples.specs.Triple.{tripleBytes}
+use Rattle.pads.proofs.Triples.Matching.{length-triples, triple-front, triple-past}
+use Rattle.pads.specs.Triples.Call.{TriplesLent, triples}
+use Rattle.pads.specs.Triples.Matching.{triplesOf}
+use Rattle.pads.specs.Triples.Triple.{tripleBytes}
 use Rattle.pad_claims.specs.Formed.{FormedAt, GatheredAt}
 
 -- one draw: a call of each end, for equally many outputs, all of whose places are formed

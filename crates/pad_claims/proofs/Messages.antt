@@ -1,5 +1,5 @@
 -- The three calls on a dealing's pads open the message wanted: the law of `messages`, where the choice names the pad.
-use Rattle.messages.proofs.Opening.{opening}
+use Rattle.pads.proofs.Messages.Opening.{opening}
 use Rattle.pad_claims.specs.Messages.{Messages}
 use Rattle.pad_claims.proofs.Taken.{named}
 

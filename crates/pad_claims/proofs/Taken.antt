@@ -7,7 +7,7 @@ use native.Mathlib.Nat.{min-le-right}
 use native.Mathlib.Omega.{arith}
 use lib.ListN.{length, getD, take, drop, length-take, length-drop}
 use Rattle.field.specs.Kind.{kindOf}
-use Rattle.messages.specs.Opening.{NamedAt}
+use Rattle.pads.specs.Messages.Opening.{NamedAt}
 use Rattle.pads.proofs.Accepts.{accepts}
 use Rattle.pads.proofs.Choice.{noise-bytes, scalar-bytes}
 use Rattle.pads.proofs.Blocks.{wide-block}

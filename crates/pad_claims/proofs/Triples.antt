@@ -6,11 +6,11 @@ use Prim.Native.Nat.{ℕ, _<_}
 use native.Mathlib.Omega.{arith}
 use lib.ListN.{length}
 use Rattle.algebra.specs.Coding.{at}
-use Rattle.triples.proofs.Accepts.{accepts}
-use Rattle.triples.proofs.Matching.{match, match-at}
-use Rattle.triples.specs.Call as call
-use Rattle.triples.specs.Matching.{MatchingAt, Matching, triplesOf}
-use Rattle.triples.specs.Triple.{tripleBytes}
+use Rattle.pads.proofs.Triples.Accepts.{accepts}
+use Rattle.pads.proofs.Triples.Matching.{match, match-at}
+use Rattle.pads.specs.Triples.Call as call
+use Rattle.pads.specs.Triples.Matching.{MatchingAt, Matching, triplesOf}
+use Rattle.pads.specs.Triples.Triple.{tripleBytes}
 use Rattle.pad_claims.specs.Formed.{FormedAt, GatheredAt}
 use Rattle.pad_claims.specs.Taken.{Dealing, Taken}
 use Rattle.pad_claims.specs.Triples.{Triples}

@@ -4,9 +4,9 @@ use mathlib.Core.Path.{_≡_}
 use mathlib.Core.List.{List}
 use Prim.Native.Nat.{ℕ}
 use Rattle.algebra.specs.Coding.{at}
-use Rattle.triples.specs.Call.{TriplesLent, triples}
-use Rattle.triples.specs.Matching.{triplesOf}
-use Rattle.triples.specs.Triple.{tripleBytes}
+use Rattle.pads.specs.Triples.Call.{TriplesLent, triples}
+use Rattle.pads.specs.Triples.Matching.{triplesOf}
+use Rattle.pads.specs.Triples.Triple.{tripleBytes}
 use Rattle.pad_claims.specs.Taken.{Dealing, TakenAt}
 
 -- place i of two accepted triples calls, one at each end, whose counts of outputs may differ. The noise end of the first pairing

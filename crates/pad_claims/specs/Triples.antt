@@ -3,9 +3,9 @@
 use Prim.Native.Nat.{ℕ, _<_}
 use lib.ListN.{length}
 use Rattle.algebra.specs.Coding.{at}
-use Rattle.triples.specs.Call.{TriplesLent}
-use Rattle.triples.specs.Matching.{MatchingAt, triplesOf}
-use Rattle.triples.specs.Triple.{tripleBytes}
+use Rattle.pads.specs.Triples.Call.{TriplesLent}
+use Rattle.pads.specs.Triples.Matching.{MatchingAt, triplesOf}
+use Rattle.pads.specs.Triples.Triple.{tripleBytes}
 use Rattle.pad_claims.specs.Formed.{FormedAt}
 
 abbrev pub Triples : Type 0

@@ -1,6 +1,0 @@
--- The laws of `messages`: lengths and numbers, which input is accepted, what the loops write, and that the message wanted is
--- opened.
-pub mod Accepts
-pub mod Turns
-pub mod Fronts
-pub mod Opening
