@@ -13,16 +13,16 @@ use Rattle.algebra.specs.Choice.{choose}
 use Rattle.answer.specs.Numbers.{noCaller, shareSpent, labelNotInUse}
 use Rattle.answer.specs.Tests.{_is_, _atMost_, holds, _or_, firstFault}
 use Rattle.answer.specs.Outcome.{byNumber, answered}
 use Rattle.stock.specs.declared.Label.{Label}
 use Rattle.stock.specs.declared.Stock.{Stock}
 use Rattle.stock.specs.Label.{numberOf}
 use Rattle.stock.specs.Stock.{isCaller, nextOf, remaining, shareBlocks}
 use Rattle.stock.specs.Calls.{drawTests, refusedDraw, acceptedDraw, draw, preview}
-use Rattle.stock_claims.specs.Lists.{Call, draws, previews, passes, Reply, StockMade, make, callsMade, those, anyOf, drawsOf, asksOf, aPassage, acceptedPassage, handedBy, replies, replyNumbers, callsOf, asked, concerns, AlikeFor}
+use Rattle.stock.specs.Lists.{Call, draws, previews, passes, Reply, StockMade, make, callsMade, those, anyOf, drawsOf, asksOf, aPassage, acceptedPassage, handedBy, replies, replyNumbers, callsOf, asked, concerns, AlikeFor}
 use Rattle.stock.proofs.Cases.{by-test}
-use Rattle.stock_claims.proofs.Blocks.{Well, Fresh, pass-cases}
-use Rattle.stock_claims.proofs.Picked.{some-in, some-out}
-use Rattle.stock_claims.proofs.Steps.{Stayed, kept, stayed-draw, stayed-preview, stayed-stale, moved-passed, make-call}
+use Rattle.stock.proofs.Blocks.{Well, Fresh, pass-cases}
+use Rattle.stock.proofs.Picked.{some-in, some-out}
+use Rattle.stock.proofs.Steps.{Stayed, kept, stayed-draw, stayed-preview, stayed-stale, moved-passed, make-call}
 
 -- ---- a caller alone
 

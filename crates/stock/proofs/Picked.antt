@@ -5,8 +5,8 @@ use mathlib.Core.List.{List, [], _∷_, _++_}
 use Prim.Native.Nat.{ℕ, _+_}
 use native.Mathlib.Omega.{arith}
 use Rattle.algebra.specs.Choice.{choose}
 use Rattle.stock.proofs.Cases.{by-test}
-use Rattle.stock_claims.specs.Lists.{Call, StockMade, anyOf, acceptedPassage, handedBy, handed, upToPassage, sincePassage, outputsOf, outputsIn}
+use Rattle.stock.specs.Lists.{Call, StockMade, anyOf, acceptedPassage, handedBy, handed, upToPassage, sincePassage, outputsOf, outputsIn}
 
 -- ---- picked calls
 

@@ -7,15 +7,15 @@ use native.Mathlib.Omega.{arith}
 use lib.Dec.{eqb, eqb·suc-zero}
 use borrow.Author.Tests.{eq-eqb, ne-eqb, eqb-true}
 use Rattle.algebra.proofs.Choice.{choose-either}
 use Rattle.stock.specs.declared.Label.{Label}
 use Rattle.stock.specs.declared.Stock.{Stock}
 use Rattle.stock.specs.Label.{numberOf}
 use Rattle.stock.specs.Stock.{nextOf, endOf, remaining, sumOf, held, shareBlocks}
 use Rattle.stock.specs.Calls.{advanced}
-use Rattle.stock_claims.specs.Lists.{Call, draws, previews, passes, StockMade, make, aDraw, drawsOf, drawsUnder, acceptedPassage, handedBy, outputsOf, HandsOut}
+use Rattle.stock.specs.Lists.{Call, draws, previews, passes, StockMade, make, aDraw, drawsOf, drawsUnder, acceptedPassage, handedBy, outputsOf, HandsOut}
 use Rattle.stock.proofs.Cases.{by-order, by-equality}
-use Rattle.stock_claims.proofs.Blocks.{Well, holds-past, blocks-next, blocks-end, blocks-well, blocks-holds, Accepted, draw-cases, Fresh, Stale, pass-cases, is-caller, advanced-next, advanced-other, fits-block, advanced-well, advanced-holds, advanced-keeps, advanced-held}
+use Rattle.stock.proofs.Blocks.{Well, holds-past, blocks-next, blocks-end, blocks-well, blocks-holds, Accepted, draw-cases, Fresh, Stale, pass-cases, is-caller, advanced-next, advanced-other, fits-block, advanced-well, advanced-holds, advanced-keeps, advanced-held}
 use Rattle.stock.proofs.Entries.{sum-same}
 
 -- what every call keeps: the blocks follow each other, and what it hands out is what its caller, and all callers, hold less
 pub record Kept (s : Stock) (m : StockMade) : Type 0 where

@@ -9,15 +9,15 @@ use native.Mathlib.Omega.{arith}
 use lib.ListN.{getElem?}
 use lib.Seq.{append-snoc}
 use borrow.Author.Tests.{eq-eqb, ne-eqb}
 use Rattle.stock.specs.declared.Stock.{Stock}
 use Rattle.stock.specs.Label.{numberOf}
 use Rattle.stock.specs.Stock.{nextOf, endOf, remaining, held, sumOf}
 use Rattle.stock.specs.Calls.{openingShare}
-use Rattle.stock_claims.specs.Lists.{Call, draws, previews, passes, StockMade, make, callsMade, last, those, aDraw, drawsOf, drawsUnder, handedBy, handed, stocks, heldFirst, heldLast, sincePassage, outputsIn, shareIn, HandsOut, Unchanged, Previews}
+use Rattle.stock.specs.Lists.{Call, draws, previews, passes, StockMade, make, callsMade, last, those, aDraw, drawsOf, drawsUnder, handedBy, handed, stocks, heldFirst, heldLast, sincePassage, outputsIn, shareIn, HandsOut, Unchanged, Previews}
 use Rattle.stock.proofs.Cases.{by-order, by-equality}
-use Rattle.stock_claims.proofs.Blocks.{Well}
-use Rattle.stock_claims.proofs.Picked.{up-to-passed, since-passed, up-to-not, since-not, outputs-more, handed-more}
-use Rattle.stock_claims.proofs.Steps.{kept, step, label-rises, Free, hands, free-before}
+use Rattle.stock.proofs.Blocks.{Well}
+use Rattle.stock.proofs.Picked.{up-to-passed, since-passed, up-to-not, since-not, outputs-more, handed-more}
+use Rattle.stock.proofs.Steps.{kept, step, label-rises, Free, hands, free-before}
 
 -- ---- sums
 

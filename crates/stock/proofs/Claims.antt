@@ -8,18 +8,18 @@ use native.Mathlib.Omega.{arith}
 use lib.ListN.{length, getElem?, take, List·getD-eq-default}
 use Rattle.answer.specs.Numbers.{accepted}
 use Rattle.answer.proofs.Answers.{answered-cases}
 use Rattle.stock.specs.declared.Label.{Label}
 use Rattle.stock.specs.declared.OpenedStock.{OpenedStock}
 use Rattle.stock.specs.declared.Stock.{Stock}
 use Rattle.stock.specs.Stock.{remaining, held, sumOf, shareBlocks}
 use Rattle.stock.specs.Calls.{withStock, openingShare, noCallers, openTests, openStock}
-use Rattle.stock_claims.specs.Lists.{Call, draws, previews, StockMade, make, callsMade, last, aDraw, drawsOf, handed, upToPassage, sincePassage, outputsIn, shareIn, NextOf, StockClaim, StockLists}
-use Rattle.stock_claims.proofs.Blocks.{Well, blocks-next, blocks-end, blocks-well, blocks-holds, blocks-held, is-caller, fits-block}
+use Rattle.stock.specs.Lists.{Call, draws, previews, StockMade, make, callsMade, last, aDraw, drawsOf, handed, upToPassage, sincePassage, outputsIn, shareIn, NextOf, StockClaim, StockLists}
+use Rattle.stock.proofs.Blocks.{Well, blocks-next, blocks-end, blocks-well, blocks-holds, blocks-held, is-caller, fits-block}
 use Rattle.stock.proofs.Entries.{sum-grows, sum-same}
 use Rattle.stock.proofs.Opened.{up-to-most}
-use Rattle.stock_claims.proofs.Callers.{preview-reply, numbers-alike, replies-alike}
-use Rattle.stock_claims.proofs.Runs.{last-well, sums-run, labels-run, hands-at, once-run, InUse, use-run}
-use Rattle.stock_claims.proofs.Steps.{kept, accepted-draw, make-call}
+use Rattle.stock.proofs.Callers.{preview-reply, numbers-alike, replies-alike}
+use Rattle.stock.proofs.Runs.{last-well, sums-run, labels-run, hands-at, once-run, InUse, use-run}
+use Rattle.stock.proofs.Steps.{kept, accepted-draw, make-call}
 
 -- ---- the made call at a place
 

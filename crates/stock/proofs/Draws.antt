@@ -6,15 +6,15 @@ use mathlib.Core.List.{List, [], _∷_}
 use Prim.Native.Nat.{ℕ}
 use lib.Dec.{eqb}
 use Rattle.answer.specs.Numbers.{accepted}
 use Rattle.stock.specs.declared.Label.{Label}
 use Rattle.stock.specs.declared.Stock.{Stock}
 use Rattle.stock.specs.Calls.{openStock}
-use Rattle.stock_claims.specs.Lists.{Call, draws, previews, passes, StockMade, make, callsMade, those, anyOf, drawsOf, asksOf, noPreview, aPassage, acceptedPassage, replies, replyNumbers, callsOf, asked, concerns}
+use Rattle.stock.specs.Lists.{Call, draws, previews, passes, StockMade, make, callsMade, those, anyOf, drawsOf, asksOf, noPreview, aPassage, acceptedPassage, replies, replyNumbers, callsOf, asked, concerns}
 use Rattle.stock.proofs.Cases.{by-test}
-use Rattle.stock_claims.proofs.Claims.{lists}
-use Rattle.stock_claims.proofs.Picked.{some-out}
-use Rattle.stock_claims.proofs.Runs.{previews-nothing}
-use Rattle.stock_claims.proofs.Steps.{make-call}
+use Rattle.stock.proofs.Claims.{lists}
+use Rattle.stock.proofs.Picked.{some-out}
+use Rattle.stock.proofs.Runs.{previews-nothing}
+use Rattle.stock.proofs.Steps.{make-call}
 
 -- ---- picked twice, and none picked
 
