@@ -1,5 +1,5 @@
 // An end's run of a circuit in definitions and laws: by steps, each up to the next AND, and by rounds, each of which opens every AND
-// whose wires are known. The code stands in crates `step_call` and `round_call`.
+// whose wires are known. The code stands in crates `gate_shares`, `step_call` and `round_call`.
 mod places;
 
 pub use places::Asked;

@@ -7,8 +7,8 @@ use Rattle.field.specs.Bytes.{leNumber}
 use Rattle.stock.specs.Label.{numberOf}
 use Rattle.stock.specs.Stock.{isCaller, remaining, sumOf, held, entries, shareBlocks}
 use Rattle.stock.specs.Calls.{openStock, advanced, draw, preview, pass}
-use Rattle.stock_claims.proofs.Claims.{lists}
-use Rattle.stock_claims.specs.Lists.{make, callsMade, last, handed}
+use Rattle.stock.proofs.Claims.{lists}
+use Rattle.stock.specs.Lists.{make, callsMade, last, handed}
 use Rattle.example.specs.Stock.{label, shares, calls, StockExample}
 
 opened : openStock (label 5) 10 shares .opened .number ≡ accepted

@@ -9,7 +9,7 @@ use Rattle.stock.specs.declared.Label.{Label}
 use Rattle.stock.specs.declared.Stock.{Stock}
 use Rattle.stock.specs.Calls.{openStock}
 use Rattle.stock.specs.Stock.{remaining}
-use Rattle.stock_claims.specs.Lists.{Call, draws, previews, passes, StockMade, callsMade, last, aDraw, handed, StockClaim}
+use Rattle.stock.specs.Lists.{Call, draws, previews, passes, StockMade, callsMade, last, aDraw, handed, StockClaim}
 
 -- the label of a small number
 abbrev pub label : ℕ → Label

@@ -16,7 +16,7 @@ use answer::any_above;
 use answer::is_short;
 use answer::is_times;
 use circuit::Layout;
-use step_call::is_role;
+use gate_shares::is_role;
 
 // What a round has of its circuit, once read, and the role that it is run in.
 pub struct Frame {

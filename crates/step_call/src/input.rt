@@ -2,7 +2,7 @@
 ghost use mathlib.Core.Path.{_≡_};
 ghost use Rattle.answer.specs.Tests.{firstFault};
 ghost use Rattle.circuit_run.specs.Inner.StepTests.{askedTests};
-ghost use Rattle.circuit_run.specs.Step.{farAdmitted, isRole};
+ghost use Rattle.circuit_run.specs.Step.{farAdmitted};
 use answer::BAD_CIRCUIT;
 use answer::BAD_LENGTH;
 use answer::BUFFER_SHORT;
@@ -13,6 +13,7 @@ use answer::any_above;
 use answer::is_short;
 use circuit::Layout;
 use circuit_run::Asked;
+use gate_shares::is_role;
 
 // Whether the far bits of a run that waits are bits.
 fn are_far_bits(waits: bool, far_first: u8, far_second: u8) -> bool
@@ -25,16 +26,6 @@ fn are_far_bits(waits: bool, far_first: u8, far_second: u8) -> bool
         return false;
     }
     far_second <= 1
-}
-
-// Whether the role is 1 or 2.
-pub fn is_role(role: u8) -> bool
-    ensures { λ r. ⌜ r ≡ isRole role ⌝ }
-{
-    if role == 1 {
-        return true;
-    }
-    role == 2
 }
 
 // The number of a step, with room for an output of `room` bytes.

@@ -17,9 +17,6 @@ use circuit::read_circuit;
 use circuit_run::Asked;
 use circuit_run::StepState;
 use circuit_run::Stepped;
-pub use input::is_role;
-pub use running::flip;
-pub use running::opened_share;
 
 // A refused step: zeros, and the state as it was.
 fn refused(number: u32, state: StepState) -> Stepped

@@ -1,5 +1,12 @@
--- Laws of the stock.
+-- Laws of the stock and of lists of calls on it, and the inhabitants of the statements.
 pub mod Cases
 pub mod Entries
 pub mod Calls
 pub mod Opened
+mod Blocks
+mod Picked
+mod Steps
+mod Callers
+pub mod Runs
+pub mod Claims
+pub mod Draws

@@ -1,1 +1,0 @@
-// Lists of calls on one stock, and what is claimed of every list; no code.
