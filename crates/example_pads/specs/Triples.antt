@@ -8,7 +8,7 @@ use Rattle.algebra.specs.Coding.{at}
 use Rattle.triples.specs.Call.{TriplesLent}
 use Rattle.triples.specs.Matching.{MatchingAt, triplesOf}
 use Rattle.triples.specs.Triple.{tripleBytes}
-use Rattle.pad_claims.specs.Formed.{FormedAt}
+use Rattle.claims.specs.Formed.{FormedAt}
 use Rattle.example.specs.Worked.{binaryNumbers, secondNumbers}
 use Rattle.example_pads.specs.Pads.{firstNoise, firstScalar, secondNoise, secondScalar}
 

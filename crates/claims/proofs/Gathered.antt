@@ -10,7 +10,7 @@ use Rattle.triples.proofs.Matching.{length-triples, triple-front, triple-past}
 use Rattle.triples.specs.Call.{TriplesLent, triples}
 use Rattle.triples.specs.Matching.{triplesOf}
 use Rattle.triples.specs.Triple.{tripleBytes}
-use Rattle.pad_claims.specs.Formed.{FormedAt, GatheredAt}
+use Rattle.claims.specs.Formed.{FormedAt, GatheredAt}
 
 -- one draw: a call of each end, for equally many outputs, all of whose places are formed
 pub record Drawn : Type 0 where

@@ -1,7 +1,7 @@
 -- Messages of the callers' own choosing (document 02, 1): on pads at equal indices of one accepted dealing, the three calls in
 -- turn are accepted, and what is opened is exactly the message wanted.
 use Rattle.messages.specs.Opening.{Batch, BatchFits, Opens}
-use Rattle.pad_claims.specs.Taken.{Dealing, Taken}
+use Rattle.claims.specs.Taken.{Dealing, Taken}
 
 abbrev pub Messages : Type 0
 Messages =

@@ -16,11 +16,11 @@ use Rattle.number.specs.Reading.{Whole}
 use Rattle.triples.proofs.Matching.{length-triples}
 use Rattle.triples.specs.Call.{TriplesLent, triples}
 use Rattle.triples.specs.Matching.{triplesOf}
-use Rattle.pad_claims.specs.Circuits.{Circuits}
-use Rattle.pad_claims.specs.Formed.{GatheredAt}
-use Rattle.pad_claims.specs.Taken.{Dealing, Taken}
-use Rattle.pad_claims.proofs.Gathered.{Drawn, drawn₁, drawn₂, drawn, drawn-length, gathered}
-use Rattle.pad_claims.proofs.Triples.{gathered-match}
+use Rattle.claims.specs.Circuits.{Circuits}
+use Rattle.claims.specs.Formed.{GatheredAt}
+use Rattle.claims.specs.Taken.{Dealing, Taken}
+use Rattle.claims.proofs.Gathered.{Drawn, drawn₁, drawn₂, drawn, drawn-length, gathered}
+use Rattle.claims.proofs.Triples.{gathered-match}
 
 pub circuits : Circuits
 circuits circuit c read calls₁ calls₂ shares₁ triples₁ shares₂ triples₂ E G =

@@ -11,7 +11,7 @@ use Rattle.circuit_run.specs.Step.{StepLent}
 use Rattle.circuit_claims.specs.Evaluation.{combined, Ends}
 use Rattle.circuit_claims.specs.Runs.{StepMade, stepsOf, IsStep, writtenBy}
 use Rattle.number.specs.Reading.{Whole}
-use Rattle.pad_claims.specs.Formed.{GatheredAt}
+use Rattle.claims.specs.Formed.{GatheredAt}
 
 -- each AND has its own two pairings: role 1 is the noise end of the first, and role 2 that of the second
 abbrev pub Circuits : Type 0

@@ -13,8 +13,8 @@ use Rattle.pads.proofs.Choice.{noise-bytes, scalar-bytes}
 use Rattle.pads.proofs.Blocks.{wide-block}
 use Rattle.pads.specs.Choice.{padAt, oneOfTwoAt}
 use Rattle.pads.specs.Pad.{pad}
-use Rattle.pad_claims.specs.Taken.{Dealing, TakenAt}
+use Rattle.claims.specs.Taken.{Dealing, TakenAt}
 use Rattle.claims.proofs.Entire.{pads}
 
 -- noise values that are equal in field 1 are equal bytes
 same-byte : (f : ℕ) → f ≡ 1 → (a b : List ℕ) (i j : ℕ)

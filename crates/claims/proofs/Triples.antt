@@ -11,10 +11,10 @@ use Rattle.triples.proofs.Matching.{match, match-at}
 use Rattle.triples.specs.Call as call
 use Rattle.triples.specs.Matching.{MatchingAt, Matching, triplesOf}
 use Rattle.triples.specs.Triple.{tripleBytes}
-use Rattle.pad_claims.specs.Formed.{FormedAt, GatheredAt}
-use Rattle.pad_claims.specs.Taken.{Dealing, Taken}
-use Rattle.pad_claims.specs.Triples.{Triples}
-use Rattle.pad_claims.proofs.Taken.{named, within}
+use Rattle.claims.specs.Formed.{FormedAt, GatheredAt}
+use Rattle.claims.specs.Taken.{Dealing, Taken}
+use Rattle.claims.specs.Triples.{Triples}
+use Rattle.claims.proofs.Taken.{named, within}
 
 below : (l l′ : call.TriplesLent) (i : ℕ) → FormedAt l l′ i → (i < length (l .choices)) × (i < length (l′ .choices))
 below l l′ i F =

@@ -7,7 +7,7 @@ use Rattle.algebra.specs.Coding.{at}
 use Rattle.triples.specs.Call.{TriplesLent, triples}
 use Rattle.triples.specs.Matching.{triplesOf}
 use Rattle.triples.specs.Triple.{tripleBytes}
-use Rattle.pad_claims.specs.Taken.{Dealing, TakenAt}
+use Rattle.claims.specs.Taken.{Dealing, TakenAt}
 
 -- place i of two accepted triples calls, one at each end, whose counts of outputs may differ. The noise end of the first pairing
 -- lends l: its choices and pads there, and its pairs of pads as the scalar end of the second. The other end lends l′: its choices and

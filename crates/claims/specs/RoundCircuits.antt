@@ -12,7 +12,7 @@ use Rattle.circuit_claims.specs.Evaluation.{combined}
 use Rattle.number.specs.Reading.{Whole}
 use Rattle.circuit_claims.specs.RoundEvaluation.{RoundEnds}
 use Rattle.circuit_claims.specs.RoundRuns.{RoundMade, roundsOf, IsRound, outputsBy, Finished}
-use Rattle.pad_claims.specs.Formed.{GatheredAt}
+use Rattle.claims.specs.Formed.{GatheredAt}
 
 -- each AND has its own two pairings, as in `Circuits`
 abbrev pub RoundCircuits : Type 0
