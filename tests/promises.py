@@ -122,7 +122,7 @@ def stands(path, name):
 
 
 from_contracts = set()
-for path in ["crates/pairing/src/lib.rt"] + EXPORTS:
+for path in ["crates/pair_line/src/lib.rt"] + EXPORTS:
     text = text_of(path)
     code = "\n".join(line for line in text.split("\n") if not line.startswith(("ghost use", "//")))
     from_contracts |= cited(code, imports(text))

@@ -13,7 +13,7 @@ pub fn front(bytes: &[u8], n: usize) -> usize
 // Prints a case and the line of two records.
 fn show(label: &[u8], noise: &[u8], scalar: &[u8]) {
     let mut out = [0u8; 64];
-    let length = pairing::line(noise, scalar, &mut out);
+    let length = pair_line::line(noise, scalar, &mut out);
     io::write_all(STDOUT_FILENO, label);
     io::write_all(STDOUT_FILENO, &out[..length]);
     io::write_all(STDOUT_FILENO, b"\n");

@@ -20,8 +20,8 @@ use Rattle.circuit_run.specs.Step.{freshWires, flipped, runOn, maskedFirst, mas
 use Rattle.circuit_claims.specs.Evaluation.{combined, Own, Receives, Ends}
 use Rattle.circuit_claims.specs.Calls.{acceptedCalls}
 use Rattle.circuit_claims.specs.Runs.{fresh, StepMade, stepsOf, IsStep}
-use Rattle.pad_claims.proofs.CircuitRuns.{circuits}
-use Rattle.pad_claims.specs.Formed.{GatheredAt}
+use Rattle.claims.proofs.CircuitRuns.{circuits}
+use Rattle.claims.specs.Formed.{GatheredAt}
 use Rattle.example_pads.specs.Triples.{lent₁, lent₂}
 use Rattle.example_pads.specs.Circuit.{circuit, circuitBytes, shares₁, shares₂, triple₁, triple₂, step₁, step₂, calls₁, calls₂, Finished, CircuitExample}
 use Rattle.example_pads.proofs.Triples.{formed}

@@ -9,7 +9,7 @@ use Rattle.answer.specs.Outcome.{byNumber, answered}
 use Rattle.answer.specs.Tests.{isMet, firstFault}
 use Rattle.pads.specs.Messages.Calls.{correctionBits, answerOf, maskMessages, openedOf, unmaskMessages}
 use Rattle.pads.specs.Messages.Opening.{BatchFits}
-use Rattle.pad_claims.proofs.Messages.{messages}
+use Rattle.claims.proofs.Messages.{messages}
 use Rattle.example_pads.specs.Messages.{batch, MessagesExample}
 use Rattle.example_pads.proofs.Pads.{firstDealing, first-taken}
 

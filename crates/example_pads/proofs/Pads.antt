@@ -21,7 +21,7 @@ use Rattle.pads.specs.Choice.{padAt, oneOfTwoAt}
 use Rattle.pads.specs.Pad.{padKey, padPair}
 use Rattle.claims.proofs.Entire.{pads}
 use Rattle.claims.specs.Correlation.{PadsLent}
-use Rattle.pad_claims.specs.Taken.{Dealing, TakenAt}
+use Rattle.claims.specs.Taken.{Dealing, TakenAt}
 use Rattle.example.proofs.Cipher.{looked, lookedFrom, mixBy, subBy, roundBy, roundsBy, cipherBy, tempBy, wordsBy, lookedCipher, lookedWords, lookedKeys}
 use Rattle.example.proofs.Made.{lookedAes, lookedUnder, padBy, lookedPad, pad-looked}
 use Rattle.example.proofs.Dealt.{binary-dealt, second-dealt}

@@ -7,8 +7,8 @@ use Rattle.answer.specs.Outcome.{byNumber, answered}
 use Rattle.answer.specs.Tests.{isMet, firstFault}
 use Rattle.pads.specs.Triples.Call.{triples}
 use Rattle.pads.specs.Triples.Triple.{tripleFrom, tripleOf}
-use Rattle.pad_claims.proofs.Triples as dealt
-use Rattle.pad_claims.specs.Formed.{FormedAt}
+use Rattle.claims.proofs.Triples as dealt
+use Rattle.claims.specs.Formed.{FormedAt}
 use Rattle.example_pads.specs.Triples.{lent₁, lent₂, TriplesExample}
 use Rattle.example_pads.proofs.Pads.{firstDealing, secondDealing, first-taken, second-taken}
 

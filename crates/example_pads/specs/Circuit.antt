@@ -11,7 +11,7 @@ use Rattle.circuit_run.specs.Step.{StepLent, lentWith}
 use Rattle.circuit_claims.specs.Evaluation.{combined, Ends}
 use Rattle.circuit_claims.specs.Runs.{StepMade, stepsOf, IsStep, writtenBy}
 use Rattle.number.specs.Reading.{Whole}
-use Rattle.pad_claims.specs.Formed.{GatheredAt}
+use Rattle.claims.specs.Formed.{GatheredAt}
 
 -- two inputs, wires 0 and 1; wire 2 is their AND, wire 3 its NOT, wire 4 the exclusive or of wires 3 and 0; the outputs are wires 2
 -- and 4

@@ -4,7 +4,7 @@ use mathlib.Core.Path.{_≡_}
 use mathlib.Core.List.{[], _∷_, _++_}
 use lib.ListN.{replicate}
 use Rattle.pads.specs.Messages.Opening.{Batch, BatchFits, sentCorrectionBits, sentAnswers, openedBatch, Opens}
-use Rattle.pad_claims.specs.Taken.{Dealing, Taken}
+use Rattle.claims.specs.Taken.{Dealing, Taken}
 use Rattle.example.specs.Worked.{bytesFrom, binaryInput, binaryNumbers}
 use Rattle.example_pads.specs.Pads.{firstNoise, firstScalar}
 

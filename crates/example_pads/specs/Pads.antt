@@ -10,7 +10,7 @@ use Rattle.dealing.specs.Input.{Input}
 use Rattle.pads.specs.Calls.{lentNoise, lentScalar, noisePads, scalarPads}
 use Rattle.pads.specs.Choice.{padAt, oneOfTwoAt}
 use Rattle.claims.specs.Correlation.{PadsLent}
-use Rattle.pad_claims.specs.Taken.{Dealing}
+use Rattle.claims.specs.Taken.{Dealing}
 use Rattle.example.specs.Worked.{Numbers, binaryInput, secondInput, binaryNumbers, secondNumbers}
 
 -- a dealing of this input with these numbers; its v and w are lent as bytes, each word as 8 bytes LE

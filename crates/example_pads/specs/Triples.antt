@@ -8,7 +8,7 @@ use Rattle.algebra.specs.Coding.{at}
 use Rattle.pads.specs.Triples.Call.{TriplesLent}
 use Rattle.pads.specs.Triples.Matching.{MatchingAt, triplesOf}
 use Rattle.pads.specs.Triples.Triple.{tripleBytes}
-use Rattle.pad_claims.specs.Formed.{FormedAt}
+use Rattle.claims.specs.Formed.{FormedAt}
 use Rattle.example.specs.Worked.{binaryNumbers, secondNumbers}
 use Rattle.example_pads.specs.Pads.{firstNoise, firstScalar, secondNoise, secondScalar}
 

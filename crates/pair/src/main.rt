@@ -29,7 +29,7 @@ fn main() {
     let noise_length = read_file(b"noise.key", &mut noise);
     let scalar_length = read_file(b"scalar.key", &mut scalar);
     let mut out = [0u8; 64];
-    let length = pairing::line(&noise[..noise_length], &scalar[..scalar_length], &mut out);
+    let length = pair_line::line(&noise[..noise_length], &scalar[..scalar_length], &mut out);
     io::write_all(STDOUT_FILENO, &out[..length]);
     io::write_all(STDOUT_FILENO, b"\n");
 }

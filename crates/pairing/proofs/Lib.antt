@@ -1,8 +1,3 @@
--- Laws of the verdict and of its line, and of the steps to them.
-mod Digits
-mod Judged
+-- Laws of the verdict and of its line, and what is found equal.
 pub mod Laws
-mod Lines
-mod Outputs
-mod Same
-mod Turns
+pub mod Same

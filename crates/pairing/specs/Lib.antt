@@ -3,4 +3,3 @@ pub mod Verdict
 pub mod Answer
 pub mod Line
 pub mod AllHeld
-pub mod Inner

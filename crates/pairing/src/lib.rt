@@ -1,15 +1,4 @@
-// The pair program's work: from the bytes of both records to the line that it prints.
-ghost use mathlib.Core.Path.{_≡_};
-ghost use Rattle.pairing.specs.Line.{printed};
-ghost use Rattle.pairing.specs.Verdict.{verdict};
-
-mod heads;
-mod held;
-mod judge;
-mod text;
-
-use judge::judge;
-use text::write_finding;
+// What the pair program finds of two records, and the line that it prints, in definitions and laws. Their code stands in crate `pair_line`.
 
 // What is found of two records.
 pub enum Finding {
@@ -21,11 +10,4 @@ pub enum Finding {
     Different,
     // The outputs tried, and those where w = Δu + v.
     Checked(usize, usize),
-}
-
-// Writes the line of two records over the front of `out`, and returns its length.
-pub fn line(noise_record: &[u8], scalar_record: &[u8], out: &mut [u8; 64]) -> usize
-    ensures { λ r. ⌜ (now (out .exit), r) ≡ printed (verdict (now («noise_record» .entry)) (now («scalar_record» .entry))) (now (out .entry)) ⌝ }
-{
-    write_finding(judge(noise_record, scalar_record), out)
 }

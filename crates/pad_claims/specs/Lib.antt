@@ -1,8 +1,0 @@
--- The statements about messages, triples and circuits, in steps and in rounds, on pads of dealings (document 02, 1, 6 and 9; circuits in
--- rounds), to be read without the proofs.
-pub mod Taken
-pub mod Formed
-pub mod Messages
-pub mod Triples
-pub mod Circuits
-pub mod RoundCircuits

@@ -1,0 +1,7 @@
+-- The laws of `pair_line`, which its functions' proofs use.
+mod Digits
+mod Judged
+mod Lines
+mod Outputs
+mod Same
+mod Turns
