@@ -22,17 +22,17 @@ use Rattle.record.proofs.Callers.{head-ranges}
 use Rattle.record.proofs.Parts.{noise-parts, scalar-parts}
 use Rattle.window.specs.Head.{fieldOf, places, row}
 use Rattle.window.proofs.Rows.{row-within, row-output}
 use Rattle.ends.specs.Noise.Vectors.{mu, v0}
 use Rattle.ends.specs.Noise.Offline as noiseOffline
 use Rattle.ends.specs.Noise.Online as noiseOnline
 use Rattle.ends.proofs.noise.Laws as noiseLaws
 use Rattle.ends.specs.Scalar.Vectors.{w0}
 use Rattle.ends.specs.Scalar.Offline as scalarOffline
 use Rattle.ends.specs.Scalar.Online as scalarOnline
 use Rattle.ends.proofs.scalar.Laws as scalarLaws
-use Rattle.bench_claims.specs.Bench.{noiseOnlineCall, scalarOnlineCall, noiseSeen, scalarSeen, Bench}
+use Rattle.ends.specs.Bench.{noiseOnlineCall, scalarOnlineCall, noiseSeen, scalarSeen, Bench}
 use Rattle.ends.specs.Noise.Bench as noise
 use Rattle.ends.specs.Scalar.Bench as scalar
 
 -- row x's output on the words of an accumulated vector is row x of the code matrix times the vector
 row-same : (h : Head) → h .terms ≤ places h → (x : ℕ) (S : Scaled (fieldOf h .ring)) → ScaledLaws (fieldOf h .ring) S
