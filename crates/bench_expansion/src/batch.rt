@@ -14,7 +14,7 @@ use crate::entries::add_place;
 use crate::entries::make_terms;
 use crate::entries::pass_terms;
 use bench_leaves::value_at;
-use fill::zero_words;
+use leaf_sums::zero_words;
 use record::Layout;
 use record::leaves;
 

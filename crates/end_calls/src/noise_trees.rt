@@ -14,7 +14,7 @@ ghost use Rattle.ends.specs.Inner.Noise.{Ready, TreeRead, contentOf};
 use code::accumulate_elements;
 use code::accumulate_noise;
 use fill::add_punctured;
-use fill::zero_words;
+use leaf_sums::zero_words;
 use record::Layout;
 use record::Tree;
 use record::leaves;

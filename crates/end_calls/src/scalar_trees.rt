@@ -13,7 +13,7 @@ use code::accumulate_elements;
 use field::element_width;
 use field::word_at;
 use fill::add_leaves;
-use fill::zero_words;
+use leaf_sums::zero_words;
 use record::Layout;
 use record::leaves;
 use tree_walk::child_keys;

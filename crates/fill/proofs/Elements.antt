@@ -4,7 +4,7 @@ use mathlib.Core.Logic.{_≢_}
 use mathlib.Core.Bool.{Bool, true, false}
 use mathlib.Core.List.{List, []}
 use Prim.Native.Nat.{ℕ, suc, _+_, _-_, _*_, _/_, _%_, _^_, _≤_, _<_}
-use native.Mathlib.Nat.{zero-mul, zero-add, mod-eq-of-lt, mod-lt, div-eq-of-lt, div-lt-iff-lt-mul, div-add-mod', mul-add-div-right, mul-add-mod-self-right}
+use native.Mathlib.Nat.{mod-eq-of-lt, mod-lt, div-eq-of-lt, div-lt-iff-lt-mul, div-add-mod', mul-add-div-right, mul-add-mod-self-right}
 use native.Mathlib.Omega.{arith}
 use lib.Dec.{eqb}
 use lib.ListN.{drop}
@@ -14,59 +14,21 @@ use Rattle.algebra.specs.Choice.{choose}
 use Rattle.tree.specs.Tree.{leafAt, rank, fromSiblings}
 use Rattle.tree.specs.Columns.{columnsAt, siblingsAt}
 use Rattle.tree.specs.Added.{leafElement, puncturedElement}
-use Rattle.fill.specs.Inner.Ranges.{childCount, below, sizeOf, allChildren, ofChild, firstHalf, secondHalf, above, IsRange}
-use Rattle.fill.specs.Inner.Ranges.{rangeElement, runElement, pathElement}
-use Rattle.fill.specs.declared.range.Range.{Range}
+use Rattle.leaf_sums.specs.Inner.Ranges.{childCount, below, sizeOf, ofChild, IsRange, rangeElement}
+use Rattle.leaf_sums.specs.declared.range.Range.{Range}
+use Rattle.leaf_sums.proofs.Elements.{all-element}
+use Rattle.fill.specs.Inner.Ranges.{firstHalf, secondHalf, above, runElement, pathElement}
 use Rattle.fill.specs.declared.range.Path.{Path}
 use Rattle.tree.proofs.Paths.{power-some, digit, digit-first}
 use Rattle.tree.proofs.Blocks.{sibling-at, siblings-past}
-use Rattle.tree.proofs.Laws.{leaf-child, rank-low, rank-high, rank-below, from-within, from-beside}
+use Rattle.tree.proofs.Laws.{rank-low, rank-high, rank-below, from-within, from-beside}
 use Rattle.tree.proofs.PowerLaws.{down, halved}
 use Rattle.fill.proofs.Ranges.{size-is}
 
 -- ---- ranges
 
 module _ {A E : Type 0} (element : A → E) (child : ℕ → A → A) where
-  -- the leaves of a child of s
-  leaf-below : (s : A) (k m c j : ℕ) → 0 < k → c < k → j < k ^ m
-      → leafElement element k child (suc m) s (c * k ^ m + j) ≡ leafElement element k child m (child c s) j
-  unfolding leafElement
-  leaf-below s k m c j some hc hj = ap element (leaf-child k child some m s c j hc hj)
-
-  -- all the children of s
-  pub all-element : (s : A) (g levels j : ℕ) → rangeElement element child (allChildren g levels) s j ≡ leafElement element (2 ^ g) child levels s j
-  unfolding rangeElement
-  all-element s g levels j =
-      ap (leafElement element (2 ^ g) child levels s)
-      (ap (λ n. n + j) (zero-mul ((2 ^ g) ^ (levels - 1))) ∙ zero-add j)
-
   module _ (s : A) (ρ : Range) (h : ρ .levels ≢ 0) where
-    -- child c of s, as the range of all its children
-    one-below : (c j : ℕ) → c < childCount ρ → j < below ρ
-        → leafElement element (childCount ρ) child (ρ .levels) s (c * below ρ + j)
-        ≡ rangeElement element child (ofChild ρ) (child c s) j
-    one-below c j hc hj =
-        ap (λ n. leafElement element (childCount ρ) child n s (c * below ρ + j)) (down (ρ .levels) h)
-        ∙ leaf-below s (childCount ρ) (ρ .levels - 1) c j (pow-pos (ρ .«branch_bits»)) hc hj
-        ∙ sym (all-element (child c s) (ρ .«branch_bits») (ρ .levels - 1) j)
-
-    -- the first child of a pair, and the second
-    pub first-child : (j : ℕ) → IsRange ρ → j < below ρ
-        → rangeElement element child ρ s j ≡ rangeElement element child (ofChild ρ) (child (ρ .from) s) j
-    unfolding rangeElement
-    first-child j ok l = one-below (ρ .from) j (omega (arith, ok .within, pow-pos (ρ .bits))) l
-
-    pub second-child : (j : ℕ) → IsRange ρ → ρ .bits ≡ 1 → j < below ρ
-        → rangeElement element child ρ s (below ρ + j)
-        ≡ rangeElement element child (ofChild ρ) (child (ρ .from + 1) s) j
-    unfolding rangeElement
-    second-child j ok e l =
-        ap (leafElement element (childCount ρ) child (ρ .levels) s) (next (ρ .from) (below ρ) j)
-        ∙ one-below (ρ .from + 1) j (omega (arith, ok .within, ap (λ n. 2 ^ n) e)) l
-      where
-        next : (c b j : ℕ) → c * b + (b + j) ≡ (c + 1) * b + j
-        next c b j = omega arith
-
     -- the second half of the children
     pub back-element : (j : ℕ) → rangeElement element child ρ s (sizeOf (secondHalf ρ) + j) ≡ rangeElement element child (secondHalf ρ) s j
     unfolding rangeElement

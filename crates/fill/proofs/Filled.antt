@@ -18,17 +18,19 @@ use Rattle.tree.specs.Added.{added, leafElement, puncturedElement}
 use Rattle.tree.specs.Columns.{columnsAt, siblingsAt}
 use Rattle.tree.specs.Expanded.{leavesAdded, puncturedAdded}
 use Rattle.tree.specs.declared.punctured.Punctured.{Punctured}
-use Rattle.fill.specs.Inner.Ranges.{leafAdded, elementAdded, childCount, below, leftOf, sizeOf, allChildren, ofChild, halfFrom, firstHalf, secondHalf}
-use Rattle.fill.specs.Inner.Ranges.{IsRange, rangeElement, rangeAdded, IsRun, runElement, runAdded, IsPath, pathIn, AreHalves, pathElement, pathAdded}
-use Rattle.fill.specs.declared.range.Range.{Range}
+use Rattle.leaf_sums.specs.Inner.Ranges.{leafAdded, elementAdded, childCount, below, leftOf, sizeOf, IsRange, allChildren, ofChild, rangeElement, rangeAdded}
+use Rattle.leaf_sums.specs.declared.range.Range.{Range}
+use Rattle.fill.specs.Inner.Ranges.{halfFrom, firstHalf, secondHalf, IsRun, runElement, runAdded, IsPath, pathIn, AreHalves, pathElement, pathAdded}
 use Rattle.fill.specs.declared.range.Path.{Path}
 use Rattle.fill.specs.declared.range.Halves.{Halves}
 use Rattle.tree.proofs.Laws.{leaf-none}
-use Rattle.fill.proofs.Halves.{front-length, second, second-length, filled, added-same}
-use Rattle.fill.proofs.Ranges.{size-is, size-all, size-none, two-some, one-twice, half-twice, half-falls, sibling-size}
+use Rattle.leaf_sums.proofs.Halves.{front-length, second, second-length, filled, added-same}
+use Rattle.leaf_sums.proofs.Ranges.{size-all, one-twice}
+use Rattle.leaf_sums.proofs.Elements.{all-element}
+use Rattle.leaf_sums.proofs.Couples.{from-halves, both-below}
+use Rattle.fill.proofs.Ranges.{size-is, size-none, two-some, half-twice, half-falls, sibling-size}
 use Rattle.fill.proofs.Ranges.{in-cases, held-size, holds-first, holds-second}
-use Rattle.fill.proofs.Couples.{from-halves, both-below}
-use Rattle.fill.proofs.Elements.{all-element, back-element, run-one, run-back, path-above, path-below, path-first, path-second, path-back}
+use Rattle.fill.proofs.Elements.{back-element, run-one, run-back, path-above, path-below, path-first, path-second, path-back}
 
 -- ---- lengths
 

@@ -3,7 +3,6 @@ use mathlib.Core.Path.{_≡_, refl, ap, ap₂, sym, _∙_}
 use mathlib.Core.Bool.{Bool, true, false}
 use mathlib.Core.Logic.{_≢_}
 use Prim.Native.Nat.{ℕ, suc, _+_, _-_, _*_, _^_, _≤_, _<_}
-use native.Mathlib.Nat.{two-pow-succ}
 use native.Mathlib.Omega.{arith}
 use mir.Syntax.{w64}
 use mir.Val.{Fits}
@@ -13,22 +12,15 @@ use borrow.Author.Tests.{eq-eqb, ne-eqb, eqb-true, eqb-false}
 use Rattle.algebra.specs.Choice.{choose}
 use Rattle.tree.specs.Inner.Branches.{IsBranch, IsPunctured}
 use Rattle.tree.specs.declared.punctured.Punctured.{Punctured}
-use Rattle.fill.specs.Inner.Ranges.{childCount, below, leftOf, sizeOf, allChildren, ofChild, halfFrom, firstHalf}
-use Rattle.fill.specs.Inner.Ranges.{IsRange, IsRun, IsPath, pathIn, FirstHolds, SecondHolds, AreHalves}
-use Rattle.fill.specs.declared.range.Range.{Range}
+use Rattle.leaf_sums.specs.Inner.Ranges.{childCount, below, leftOf, sizeOf, IsRange, allChildren, ofChild}
+use Rattle.leaf_sums.specs.declared.range.Range.{Range}
+use Rattle.leaf_sums.proofs.Ranges.{left-is, left-all, left-one, size-all, twice, one-twice}
+use Rattle.fill.specs.Inner.Ranges.{halfFrom, firstHalf, IsRun, IsPath, pathIn, FirstHolds, SecondHolds, AreHalves}
 use Rattle.fill.specs.declared.range.Path.{Path}
 use Rattle.fill.specs.declared.range.Halves.{Halves}
 use Rattle.tree.proofs.PowerLaws.{power-of-power, level-less, halved, eight}
 
 -- ---- what is left
-
-left-is : (ρ : Range) → ρ .levels ≢ 0 → leftOf ρ ≡ ρ .bits + (ρ .levels - 1) * ρ .«branch_bits»
-unfolding leftOf
-left-is ρ h = omega (arith, level-less (ρ .levels) (ρ .«branch_bits») h)
-
-left-all : (g levels : ℕ) → leftOf (allChildren g levels) ≡ levels * g
-unfolding leftOf
-left-all g levels = omega arith
 
 left-none : (ρ : Range) → ρ .levels ≡ 0 → IsRange ρ → leftOf ρ ≡ 0
 unfolding leftOf
@@ -42,10 +34,6 @@ left-none ρ e ok =
 left-half : (ρ : Range) (c : ℕ) → ρ .levels ≢ 0 → ρ .bits ≢ 0 → leftOf ρ ≡ suc (leftOf (halfFrom ρ c))
 left-half ρ c h b = left-is ρ h ∙ omega (arith, left-is (halfFrom ρ c) h)
 
--- one child, as all its children
-left-one : (ρ : Range) → ρ .levels ≢ 0 → ρ .bits ≡ 1 → leftOf ρ ≡ suc (leftOf (ofChild ρ))
-left-one ρ h e = omega (arith, left-is ρ h, left-all (ρ .«branch_bits») (ρ .levels - 1))
-
 -- ---- leaves
 
 pub size-is : (ρ : Range) → ρ .levels ≢ 0 → sizeOf ρ ≡ 2 ^ ρ .bits * below ρ
@@ -54,15 +42,8 @@ size-is ρ h =
     ∙ pow-add 2 (ρ .bits) ((ρ .levels - 1) * ρ .«branch_bits»)
     ∙ ap (λ n. 2 ^ ρ .bits * n) (sym (power-of-power (ρ .«branch_bits») (ρ .levels - 1)))
 
-pub size-all : (g levels : ℕ) → sizeOf (allChildren g levels) ≡ (2 ^ g) ^ levels
-size-all g levels = ap (λ n. 2 ^ n) (left-all g levels) ∙ sym (power-of-power g levels)
-
 pub size-none : (ρ : Range) → ρ .levels ≡ 0 → IsRange ρ → sizeOf ρ ≡ 1
 size-none ρ e ok = ap (λ n. 2 ^ n) (left-none ρ e ok)
-
--- twice as many where one more is left
-twice : (ρ σ : Range) → leftOf ρ ≡ suc (leftOf σ) → sizeOf ρ ≡ sizeOf σ + sizeOf σ
-twice ρ σ e = ap (λ n. 2 ^ n) e ∙ two-pow-succ (leftOf σ)
 
 -- ---- halves of a range: two children by the children of each, more by half as many
 
@@ -72,9 +53,6 @@ two-some ρ ok e = omega (arith, ok .two)
 module _ (ρ : Range) (h : ρ .levels ≢ 0) where
   abbrev one : Range
   one = ofChild ρ
-
-  pub one-twice : ρ .bits ≡ 1 → sizeOf ρ ≡ sizeOf one + sizeOf one
-  one-twice e = twice ρ one (left-one ρ h e)
 
   pub one-falls : {t : ℕ} → ρ .bits ≡ 1 → leftOf ρ ≡ t → leftOf one < t
   one-falls e l = omega (arith, left-one ρ h e)

@@ -1,18 +1,11 @@
-// Consecutive children of a node, halved until two are left.
+// Consecutive children of a node, halved along the path to a position.
 ghost use mathlib.Core.Logic.{_≢_};
 ghost use mathlib.Core.Path.{_≡_};
 ghost use Prim.Native.Nat.{_+_, _*_, _-_, _^_, _≤_, _<_};
-ghost use Rattle.fill.specs.Inner.Ranges.{IsRange, IsPath, childCount, sizeOf, halfFrom, firstHalf, pathIn, AreHalves};
+ghost use Rattle.leaf_sums.specs.Inner.Ranges.{IsRange, childCount, sizeOf};
+ghost use Rattle.fill.specs.Inner.Ranges.{IsPath, halfFrom, firstHalf, pathIn, AreHalves};
+use leaf_sums::Range;
 use tree_walk::power;
-
-// The 2^bits children from child `from` on of a node that has so many levels below it and 2^branch_bits children. Where no
-// level is left it stands for the node itself.
-pub struct Range {
-    pub branch_bits: usize,
-    pub levels: usize,
-    pub bits: usize,
-    pub from: usize,
-}
 
 // A range with a position among the leaves below it, and the place where the bytes of its level's siblings begin.
 pub struct Path {

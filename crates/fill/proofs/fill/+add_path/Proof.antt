@@ -8,10 +8,10 @@ use Rattle.fill.proofs.fill.add_path.Reads as reads
 use Rattle.fill.proofs.fill.add_path.Kinds as kinds
 use Rattle.fill.proofs.fill.+add_path.Lts-add_path as lts
 use Rattle.fill.proofs.fill.add_run.Reads as add-run-reads
-use Rattle.fill.proofs.fill.add_words.Reads as add-words-reads
+use Rattle.leaf_sums.proofs.add_words.Reads as add-words-reads
 use Rattle.fill.proofs.range.parted.Reads as parted-reads
-use Rattle.fill.specs.Inner.Ranges.{leftOf}
-use Rattle.fill.proofs.Halves.{front-count, middle-fits}
+use Rattle.leaf_sums.specs.Inner.Ranges.{leftOf}
+use Rattle.leaf_sums.proofs.Halves.{front-count, middle-fits}
 use Rattle.fill.proofs.Ranges.{wide-path, first-falls, first-path, first-run, second-falls, second-path, second-run}
 use Rattle.fill.proofs.Filled.{leaf-length, first-front, first-back, second-front, second-back}
 use Rattle.fill.proofs.Filled.{filled-correction, filled-first-holds, filled-second-holds}

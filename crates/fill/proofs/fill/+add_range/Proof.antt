@@ -7,17 +7,17 @@ use borrow.Fn.PlainCycle.{Measures, is, falls, and}
 use Rattle.fill.proofs.fill.add_range.Reads as reads
 use Rattle.fill.proofs.fill.add_range.Kinds as kinds
 use Rattle.fill.proofs.fill.+add_range.Lts-add_range as lts
-use Rattle.fill.proofs.fill.add_bottom.Reads as add-bottom-reads
-use Rattle.fill.proofs.fill.add_both.Reads as add-both-reads
-use Rattle.fill.proofs.fill.add_leaf.Reads as add-leaf-reads
+use Rattle.leaf_sums.proofs.add_bottom.Reads as add-bottom-reads
+use Rattle.leaf_sums.proofs.add_both.Reads as add-both-reads
+use Rattle.leaf_sums.proofs.add_leaf.Reads as add-leaf-reads
 use Rattle.tree_walk.proofs.children.Reads as children-reads
 use Rattle.tree_walk.proofs.power.Reads as power-reads
-use Rattle.fill.specs.Inner.Ranges.{leftOf}
-use Rattle.fill.proofs.Halves.{front-count}
+use Rattle.leaf_sums.specs.Inner.Ranges.{leftOf}
+use Rattle.leaf_sums.proofs.Halves.{front-count}
 use Rattle.fill.proofs.Ranges.{two-some, one-falls, half-falls, one-range, first-half-range, back-range, pair-keys, bits-few, back-fits}
 use Rattle.fill.proofs.Filled.{leaf-length, one-front, one-back, half-front, half-back, filled-leaf, filled-children, filled-halves}
-use Rattle.fill.proofs.Bottom.{bottom-branch, bottom-keys, bottom-length, filled-bottom}
-use Rattle.fill.proofs.Couples.{three-length, three-below}
+use Rattle.leaf_sums.proofs.Bottom.{bottom-branch, bottom-keys, bottom-length, filled-bottom}
+use Rattle.leaf_sums.proofs.Couples.{three-length, three-below}
 use Rattle.fill.proofs.fill.+add_range.{statement}
 use Rattle.fill.proofs.fill.+add_range.Tie.{close}
 

@@ -10,8 +10,8 @@ use Rattle.fill.proofs.fill.+add_run.Lts-add_run as lts
 use Rattle.tree_walk.proofs.node_at.Reads as node-at-reads
 use Rattle.fill.proofs.fill.add_range.Reads as add-range-reads
 use Rattle.tree_walk.proofs.power.Reads as power-reads
-use Rattle.fill.specs.Inner.Ranges.{leftOf}
-use Rattle.fill.proofs.Halves.{front-count}
+use Rattle.leaf_sums.specs.Inner.Ranges.{leftOf}
+use Rattle.leaf_sums.proofs.Halves.{front-count}
 use Rattle.fill.proofs.Ranges.{sibling-room, sibling-range, run-few, run-fits, first-half-run, back-run}
 use Rattle.fill.proofs.Filled.{sibling-length, run-falls, run-half-front, run-half-back, filled-sibling, filled-runs}
 use Rattle.fill.proofs.fill.+add_run.{statement}

@@ -1,2 +1,0 @@
--- The inhabitant of the statement.
-pub mod Same

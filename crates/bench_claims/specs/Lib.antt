@@ -1,2 +1,0 @@
--- What the bench shows (document 02, 11).
-pub mod Bench

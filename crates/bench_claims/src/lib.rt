@@ -1,1 +1,0 @@
-// No code: that the expansion for the bench is the online call on the record's offline vectors.
