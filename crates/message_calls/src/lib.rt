@@ -1,5 +1,5 @@
 // Messages of the callers' own choosing, passed under pads of field 1: the noise end's correction bits, the scalar end's
-// answers, and their opening.
+// answers, and their opening. The definitions and laws stand in crate `pads`.
 ghost use mathlib.Core.Path.{_≡_};
 ghost use Rattle.answer.specs.Outcome.{outcomeOne};
 ghost use Rattle.pads.specs.Messages.Calls.{lentCorrection, lentMask, lentUnmask, correctionBits, maskMessages, unmaskMessages};

@@ -1,5 +1,5 @@
 // AND triples: an end's three bits of each output, from its choices and pads in one pairing and its pairs of pads in another with
-// the roles exchanged.
+// the roles exchanged. The definitions and laws stand in crate `pads`.
 ghost use mathlib.Core.Path.{_≡_};
 ghost use Rattle.answer.specs.Outcome.{outcomeOne};
 ghost use Rattle.pads.specs.Triples.Call.{lentTriples, triples};
