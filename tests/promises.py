@@ -319,14 +319,20 @@ for path in EXPORTS:
 
 # ---- edits that make a statement false
 
-falsified = {}  # name: the crates whose edits say so
+# An edit stands for the statement of that name in its crate; where the crate has several of the name, for the one whose file it edits;
+# and for one in another crate where no other statement has the name.
+falsified = {}  # name: the crate of each edit that says so, and the files that it edits
 for path in sorted(glob.glob("crates/*/must-fail/*.edit")):
+    files = set(re.findall(r"(?m)^file: (\S+)", text_of(path)))
     for names in re.findall(r"(?m)^# Falsifies ([^:\n]+):", text_of(path)):
         for name in re.split(r",\s*|\s+and\s+", names):
-            falsified.setdefault(name.strip().split(".")[0], set()).add(path.split("/")[1])
+            falsified.setdefault(name.strip().split(".")[0], []).append((path.split("/")[1], files))
 for key in sorted(statements):
-    alone = sum(1 for other in statements if other[2] == key[2]) == 1
-    if not (key[0] in falsified.get(key[2], ()) or alone and falsified.get(key[2])):
+    same = [other for other in statements if other[2] == key[2]]
+    own = f"specs/{key[1].replace('.', '/')}.antt"
+    twice = sum(1 for other in same if other[0] == key[0]) > 1
+    edits = falsified.get(key[2], [])
+    if not (any(crate == key[0] and (not twice or own in files) for crate, files in edits) or len(same) == 1 and edits):
         faults.append(f"{show(key)} is a statement, and no must-fail edit says `# Falsifies {key[2]}: ..`")
 
 

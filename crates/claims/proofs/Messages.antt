@@ -1,4 +1,4 @@
--- The three calls on a dealing's pads open the message wanted: the law of `messages`, where the choice names the pad.
+-- The three calls on a dealing's pads open the message wanted: the law `opening` of `pads`, where the choice names the pad.
 use Rattle.pads.proofs.Messages.Opening.{opening}
 use Rattle.claims.specs.Messages.{Messages}
 use Rattle.claims.proofs.Taken.{named}

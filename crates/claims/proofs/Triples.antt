@@ -1,5 +1,5 @@
--- The triples of two dealings' pads match: the law of `triples`, where in each pairing the choice names the pad. What is taken for a
--- place stands in what is lent, so the place is below both counts.
+-- The triples of two dealings' pads match: the law `match` of `pads`, where in each pairing the choice names the pad. What is taken for
+-- a place stands in what is lent, so the place is below both counts.
 use mathlib.Core.Path.{_≡_}
 use mathlib.Core.List.{List}
 use Prim.Native.Nat.{ℕ, _<_}

@@ -97,7 +97,7 @@ fn add_key(s: [u8; 16], w: &[u8; 176], r: usize) -> [u8; 16]
     sum
 }
 
-// The bytes substituted, and their rows shifted: byte i comes from the column that lies i rows on.
+// The bytes substituted, and their rows shifted: a byte of row k comes from k columns on.
 fn sub_shift(t: &[u8; 256], s: [u8; 16]) -> [u8; 16] {
     let mut r = s;
     let mut i: usize = 0;
