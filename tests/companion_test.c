@@ -1587,7 +1587,7 @@ static void faults(size_t count)
     /* Each call in turn. Where one fails whose failure does no harm (the closing of what was read) all goes on. */
     for (size_t place = 0; place < total; place++) {
         run_season(FAILS, place);
-        if (sides[1].failed_call[0] == '\0') { /* how often an end waits depends on the other, so that this run made fewer calls */
+        if (sides[1].failed_call[0] == '\0') { /* how often an end waits depends on the other, so this run may have made fewer calls */
             CHECK(sides[1].calls <= place, "call %zu of %zu did not fail", place, sides[1].calls);
             EXPECT(0, sides[1].status);
             not_reached++;
