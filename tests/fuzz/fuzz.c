@@ -261,14 +261,13 @@ static struct dealing {
 } x;
 
 /* The dealing's call, on what is lent as its inputs and with room for its records. */
-#define DEAL(prefix, roots, positions, values, delta, key, label, noise, noise_len, scalar, \
+#define DEAL(call, roots, positions, values, delta, key, label, noise, noise_len, scalar, \
              scalar_len) \
-    prefix##_deal(x.field, x.depth, x.branch_bits, x.trees, x.terms, x.outputs, roots, \
-                  x.roots_len, positions, x.positions_len, values, x.values_len, delta, \
-                  x.delta_len, key, x.code_key_len, label, x.label_len, noise, noise_len, scalar, \
-                  scalar_len)
-#define DEAL_LENT(prefix, slot, noise_len, scalar_len) \
-    DEAL(prefix, slot(0, uint8_t), slot(1, uint32_t), slot(2, uint64_t), slot(3, uint8_t), \
+    call(x.field, x.depth, x.branch_bits, x.trees, x.terms, x.outputs, roots, x.roots_len, \
+         positions, x.positions_len, values, x.values_len, delta, x.delta_len, key, \
+         x.code_key_len, label, x.label_len, noise, noise_len, scalar, scalar_len)
+#define DEAL_LENT(call, slot, noise_len, scalar_len) \
+    DEAL(call, slot(0, uint8_t), slot(1, uint32_t), slot(2, uint64_t), slot(3, uint8_t), \
          slot(4, uint8_t), slot(5, uint8_t), slot(6, uint8_t), noise_len, slot(7, uint8_t), \
          scalar_len)
 
@@ -373,8 +372,8 @@ static void make_records(void)
 {
     struct plain_result r;
     make_dealing();
-    r = DEAL(plain, x.roots, x.positions, x.values, x.delta, x.code_key, x.label, record[0], RECORD,
-             record[1], RECORD);
+    r = DEAL(plain_deal, x.roots, x.positions, x.values, x.delta, x.code_key, x.label, record[0],
+             RECORD, record[1], RECORD);
     if (r.number != 0)
         wrong("the plain implementation refuses an admitted dealing", -1);
     record_len[0] = r.first;
@@ -424,8 +423,8 @@ static void deal(void)
     lend(5, x.label, x.label_len, 1);
     lend(6, NULL, noise_len, 1);
     lend(7, NULL, scalar_len, 1);
-    r = DEAL_LENT(plain, PLAIN, noise_len, scalar_len);
-    settle(same_two(DEAL_LENT(expander, LIBRARY, noise_len, scalar_len), r), r.number, 6, 2,
+    r = DEAL_LENT(plain_deal, PLAIN, noise_len, scalar_len);
+    settle(same_two(DEAL_LENT(expander_deal, LIBRARY, noise_len, scalar_len), r), r.number, 6, 2,
            r.first, r.second);
 }
 
