@@ -12,7 +12,7 @@ use Rattle.circuit.specs.Admitted.{GateBelow}
 use Rattle.circuit.specs.Content.{Gate, Xor, And, Not, Circuit, isAnd, andsIn}
 use Rattle.circuit_run.specs.Step.{gateAt, andsBefore, firstWire, secondWire}
 use Rattle.number.proofs.Places.{split}
-use Rattle.circuit_claims.specs.Inner.Transcript.{andGate}
+use Rattle.circuit_claims.specs.Transcript.{andGate}
 
 module _ (c : Circuit) (i : ℕ) (a : isAnd (gateAt c i) ≡ true) where
   pub and-inside : i < length (c .gates)
@@ -70,3 +70,13 @@ gate-of (And a b ∷ gs) (suc i) e =
     ap (andGate (And a b ∷ gs)) {x = 1 + andsIn (take i gs)} {y = suc (andsIn (take i gs))} (omega arith) ∙ ap suc (gate-of gs i e)
 gate-of (Not a ∷ gs) zero e = absurd (true≢false (sym e))
 gate-of (Not a ∷ gs) (suc i) e = ap suc (ap (andGate gs) {x = 0 + andsIn (take i gs)} {y = andsIn (take i gs)} (omega arith) ∙ gate-of gs i e)
+
+-- each number below that of all ANDs is that of an AND
+pub and-at : (gs : List Gate) (j : ℕ) → j < andsIn gs
+    → (isAnd (getD gs (andGate gs j) (Not 0)) ≡ true) × (andsIn (take (andGate gs j) gs) ≡ j)
+unfolding andsIn andGate
+and-at [] j h = absurd (omega arith)
+and-at (Xor a b ∷ gs) j h = let r = and-at gs j (omega arith) in (r .0, omega (arith, r .1))
+and-at (And a b ∷ gs) zero h = (refl, refl)
+and-at (And a b ∷ gs) (suc j) h = let r = and-at gs j (omega arith) in (r .0, omega (arith, r .1))
+and-at (Not a ∷ gs) j h = let r = and-at gs j (omega arith) in (r .0, omega (arith, r .1))

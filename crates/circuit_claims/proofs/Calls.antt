@@ -12,10 +12,10 @@ use Rattle.algebra.specs.Choice.{choose}
 use Rattle.number.proofs.Places.{split}
 use Rattle.circuit_claims.specs.Calls.{CallMade, acceptedCalls, IsCall}
 
-some-is : {A : Type 0} {x y : A} → some x ≡ some y → x ≡ y
+pub some-is : {A : Type 0} {x y : A} → some x ≡ some y → x ≡ y
 some-is e = cc
 
-none-some : {A : Type 0} {x : A} → none ≡ some x → ⊥
+pub none-some : {A : Type 0} {x : A} → none ≡ some x → ⊥
 none-some {A} {x} e = let z : _≡_ {A = ℕ} 0 1 = cc in omega arith
 
 -- there is a call before a call

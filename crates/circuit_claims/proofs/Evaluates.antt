@@ -24,7 +24,7 @@ use Rattle.circuit_claims.proofs.Progresses.{phase-fresh, stands, finis
 use Rattle.circuit_claims.proofs.Reaches.{Standing, waiting, finished, run-fresh, run-waits, run-ends, fresh-length, fresh-at}
 use Rattle.circuit_claims.proofs.Transcripts.{Same, outputs-same, masked-same, share-same, shares-keep, shares-hold}
 use Rattle.circuit_claims.specs.Evaluation.{Unaltered, Receives, Evaluation}
-use Rattle.circuit_claims.specs.Inner.Transcript.{BitsByAnd, shareWithFar, shareAt, wireShares, maskedBits, Transcript, sentInSteps, farInSteps}
+use Rattle.circuit_claims.specs.Transcript.{BitsByAnd, shareWithFar, shareAt, wireShares, maskedBits, Transcript, sentInSteps, farInSteps}
 use Rattle.circuit_claims.specs.Progress.{OnCircuit}
 use Rattle.circuit_claims.specs.Runs.{fresh, StepMade, stepsOf, IsStep, writtenBy}
 use Rattle.circuit_run.specs.Step.{StepLent, StepOutcome, gateAt, andsBefore, flipped, freshWires, runOn, advance, maskedFirst, maskedSecond, waitingShare, withAnd, acceptedStep, step}
@@ -230,7 +230,7 @@ module _ (circuit : List ℕ) (c : Circuit) (read : readCircuit circuit ≡ Whol
 -- ---- both ends
 
 -- each AND got the bits that the far end sent for it
-received : (circuit : List ℕ) (c : Circuit) → readCircuit circuit ≡ Whole c → (calls far : List StepLent) → OnCircuit circuit (stepsOf calls)
+pub received : (circuit : List ℕ) (c : Circuit) → readCircuit circuit ≡ Whole c → (calls far : List StepLent) → OnCircuit circuit (stepsOf calls)
     → Receives (stepsOf calls) (stepsOf far) → (k n : ℕ) (m f : StepMade) → IsStep (stepsOf calls) k m → IsStep (stepsOf far) n f
     → andsIn (c .gates) ≤ k → andsIn (c .gates) ≤ n → (j : ℕ) → j < andsIn (c .gates) → farInSteps (stepsOf calls) j ≡ sentInSteps (stepsOf far) j
 received circuit c read calls far on receives k n m f e g h h′ j l =

@@ -6,17 +6,17 @@ pub mod RoundAccepts
 pub mod RoundEvaluates
 pub mod RoundProgresses
 pub mod Sames
-mod AndGates
+pub mod AndGates
+pub mod Bytes
+pub mod Calls
+pub mod Chains
+pub mod CircuitCalls
+pub mod Joins
+pub mod RoundChains
+pub mod RoundTranscripts
+pub mod Transcripts
 mod Bits
-mod Bytes
-mod Calls
-mod Chains
-mod CircuitCalls
 mod Counts
 mod Gives
-mod Joins
 mod Reaches
-mod RoundChains
-mod RoundTranscripts
 mod Stages
-mod Transcripts

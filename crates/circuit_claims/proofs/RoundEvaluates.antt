@@ -19,7 +19,7 @@ use Rattle.circuit_claims.proofs.AndGates.{and-inside, gate-of}
 use Rattle.circuit_claims.proofs.Calls.{call-at, made-at}
 use Rattle.circuit_claims.proofs.Joins.{joined}
 use Rattle.circuit_claims.proofs.Transcripts.{outputs-same}
-use Rattle.circuit_claims.specs.Inner.Transcript.{BitsByAnd, wireShares, Transcript}
+use Rattle.circuit_claims.specs.Transcript.{BitsByAnd, wireShares, Transcript, pairAt, farAtGate, sentAtGate, farInRounds, sentInRounds}
 use Rattle.number.specs.Reading.{Whole}
 use Rattle.circuit_claims.proofs.RoundProgresses.{finished-outputs, progress}
 use Rattle.circuit_claims.proofs.RoundChains.{round-laws, share-bits, triple-bits, one-each, took-bytes}
@@ -27,13 +27,13 @@ use Rattle.circuit_claims.proofs.CircuitCalls.{had-some}
 use Rattle.circuit_claims.proofs.Stages.{and-wire, and-level}
 use Rattle.circuit_claims.proofs.RoundTranscripts.{of-rounds}
 use Rattle.circuit_claims.specs.RoundEvaluation.{UnalteredRounds, ReceivesRounds, RoundEvaluation}
-use Rattle.circuit_claims.specs.Inner.ByAnd.{pairAt, farAtGate, sentAtGate, farInRounds, sentInRounds, FarGot, ByFar}
+use Rattle.circuit_claims.specs.Inner.ByAnd.{FarGot, ByFar}
 use Rattle.circuit_claims.specs.RoundProgress.{RoundsOn}
 use Rattle.circuit_claims.specs.RoundRuns.{freshState, RoundMade, roundsOf, IsRound, outputsBy, bitsBy, Finished}
 use Rattle.circuit_claims.specs.Same.{levelAt, placeAt}
 
 -- the level of an AND is 1 or more
-level-some : (c : Circuit) → GatesBelow (c .inputs) (c .gates) → (i : ℕ) → isAnd (gateAt c i) ≡ true → 1 ≤ levelAt c i
+pub level-some : (c : Circuit) → GatesBelow (c .inputs) (c .gates) → (i : ℕ) → isAnd (gateAt c i) ≡ true → 1 ≤ levelAt c i
 level-some c ok i a = omega (arith, and-level c ok (c .inputs + i) (omega (arith, and-inside c i a)) (and-wire c i ∙ a))
 
 -- ---- a finished round
@@ -101,7 +101,7 @@ module _ (circuit : List ℕ) (c : Circuit) (read : readCircuit circuit ≡ Whol
 -- ---- both ends
 
 -- each AND got the bits that the far end sent for it
-received : (c : Circuit) (ok : GatesBelow (c .inputs) (c .gates)) (calls far : List RoundLent) → ReceivesRounds (roundsOf calls) (roundsOf far)
+pub received : (c : Circuit) (ok : GatesBelow (c .inputs) (c .gates)) (calls far : List RoundLent) → ReceivesRounds (roundsOf calls) (roundsOf far)
     → (k n : ℕ) (m f : RoundMade) → IsRound (roundsOf calls) k m → IsRound (roundsOf far) n f
     → ((w : ℕ) → levelOf c w ≤ k) → ((w : ℕ) → levelOf c w ≤ n)
     → (i : ℕ) → isAnd (gateAt c i) ≡ true → farInRounds c (roundsOf calls) (andsBefore c i) ≡ sentInRounds c (roundsOf far) (andsBefore c i)

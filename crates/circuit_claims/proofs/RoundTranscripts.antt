@@ -23,7 +23,7 @@ use Rattle.circuit_run.proofs.Bits.{xor-bit, flipped-bit, share-bit}
 use Rattle.circuit_run.specs.Step.{gateAt, andsBefore, firstWire, secondWire, tripleFirst, tripleSecond, flipped, maskedFirst, maskedSecond}
 use Rattle.circuit_claims.proofs.AndGates.{and-inside, and-is, and-below}
 use Rattle.circuit_claims.proofs.Transcripts.{shares-keep, shares-hold}
-use Rattle.circuit_claims.specs.Inner.Transcript.{BitsByAnd, shareWithFar, shareAt, wireShares, maskedBits}
+use Rattle.circuit_claims.specs.Transcript.{BitsByAnd, shareWithFar, shareAt, wireShares, maskedBits, pairAt}
 use Rattle.number.specs.Reading.{Whole}
 use Rattle.circuit_claims.proofs.Counts.{sent-at}
 use Rattle.circuit_claims.proofs.Gives.{bits-are}
@@ -31,7 +31,7 @@ use Rattle.circuit_claims.proofs.RoundChains.{round-laws, Took, share-b
 use Rattle.circuit_claims.proofs.CircuitCalls.{had-some}
 use Rattle.circuit_claims.proofs.Stages.{Staged, Closed, is-known, and-wire, staged, waiting-is, waiting-ands}
 use Rattle.circuit_claims.specs.RoundEvaluation.{UnalteredRounds}
-use Rattle.circuit_claims.specs.Inner.ByAnd.{pairAt, FarGot, ByFar}
+use Rattle.circuit_claims.specs.Inner.ByAnd.{FarGot, ByFar}
 use Rattle.circuit_claims.specs.RoundProgress.{RoundsOn}
 use Rattle.circuit_claims.specs.RoundRuns.{freshState, RoundMade, roundsOf, IsRound, bitsBy, IsWire, byteOf}
 use Rattle.circuit_claims.specs.Same.{levelAt, placeAt}

@@ -23,7 +23,7 @@ use Rattle.circuit_claims.proofs.Evaluates.{stood, step-sends, late, ha
 use Rattle.circuit_claims.proofs.Progresses.{stands}
 use Rattle.circuit_claims.proofs.Reaches.{Standing, waiting, finished}
 use Rattle.circuit_claims.proofs.Transcripts.{SameTriples, outputs-same, determined, sent-determined}
-use Rattle.circuit_claims.specs.Inner.Transcript.{BitsByAnd, wireShares, farInSteps}
+use Rattle.circuit_claims.specs.Transcript.{BitsByAnd, wireShares, farInSteps, pairAt, farInRounds}
 use Rattle.circuit_claims.specs.Runs.{StepMade, stepsOf, IsStep, writtenBy}
 use Rattle.number.proofs.Places.{split, choose-yes, choose-no}
 use Rattle.pads.proofs.Triples.Matching.{triple-eq}
@@ -31,7 +31,7 @@ use Rattle.circuit_claims.proofs.RoundEvaluates.{levels-passed, far-got
 use Rattle.circuit_claims.proofs.RoundProgresses.{progress}
 use Rattle.circuit_claims.proofs.Stages.{and-wire}
 use Rattle.circuit_claims.proofs.RoundTranscripts.{of-rounds}
-use Rattle.circuit_claims.specs.Inner.ByAnd.{pairAt, farInRounds, FarGot, ByFar}
+use Rattle.circuit_claims.specs.Inner.ByAnd.{FarGot, ByFar}
 use Rattle.circuit_claims.specs.RoundRuns.{RoundMade, roundsOf, IsRound, outputsBy, bitsBy, Finished, IsWire, byteOf}
 use Rattle.circuit_claims.specs.Same.{levelAt, placeAt, SameFar, Alike, SameOutputs, SameBits, OpenedOnce}
 

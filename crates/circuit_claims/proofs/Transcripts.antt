@@ -16,7 +16,7 @@ use Rattle.circuit.specs.Value.{atWires}
 use Rattle.circuit_run.specs.Step.{gateAt, andsBefore, flipped, maskedFirst, maskedSecond, andShare}
 use Rattle.pads.specs.Triples.Triple.{Triple, tripleBytes}
 use Rattle.circuit_claims.proofs.AndGates.{and-earlier, and-before, and-below}
-use Rattle.circuit_claims.specs.Inner.Transcript.{BitsByAnd, shareWithFar, shareAt, wireShares, maskedBits}
+use Rattle.circuit_claims.specs.Transcript.{BitsByAnd, shareWithFar, shareAt, wireShares, maskedBits}
 
 -- two lists are the same below n
 abbrev pub Same : ℕ → List ℕ → List ℕ → Type 0

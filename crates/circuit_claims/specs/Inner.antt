@@ -1,3 +1,2 @@
 -- Inner: no promise cites these files. What the statements about runs rest on.
-pub mod Transcript
 pub mod ByAnd

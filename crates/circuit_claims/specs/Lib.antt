@@ -10,4 +10,5 @@ pub mod RoundProgress
 pub mod RoundEvaluation
 pub mod RoundAcceptance
 pub mod Same
+pub mod Transcript
 pub mod Inner

@@ -1,41 +1,17 @@
--- Inner: no promise cites this file. A run in rounds by its ANDs: the far bits that each got, the bits sent for each, and that the run
--- has the shares and sends the bits of a transcript (circuits in rounds).
-use Prim.Native.Nat.{ℕ, suc, _+_, _-_, _≤_}
+-- Inner: no promise cites this file. A run in rounds by its ANDs: it has the shares and sends the bits of a transcript (circuits in
+-- rounds).
+use Prim.Native.Nat.{ℕ, suc, _≤_}
 use mathlib.Core.Bool.{true}
-use mathlib.Core.List.{List, [], map}
+use mathlib.Core.List.{List}
 use mathlib.Core.Path.{_≡_}
 use lib.ListN.{getD}
 use Rattle.circuit.specs.Content.{Circuit, isAnd}
 use Rattle.circuit.specs.Levels.{levelOf}
 use Rattle.circuit_run.specs.Round.{knownAs}
 use Rattle.circuit_run.specs.Step.{gateAt, andsBefore}
-use Rattle.circuit_claims.specs.Inner.Transcript.{BitsByAnd, andGate, wireShares, maskedBits}
+use Rattle.circuit_claims.specs.Transcript.{BitsByAnd, wireShares, maskedBits, pairAt}
 use Rattle.circuit_claims.specs.RoundRuns.{RoundMade, IsRound, bitsBy, IsWire, byteOf}
 use Rattle.circuit_claims.specs.Same.{levelAt, placeAt}
-
--- two bytes from a place on
-abbrev pub pairAt : List ℕ → ℕ → ℕ × ℕ
-pairAt bytes p = (getD bytes p 0, getD bytes (p + 1) 0)
-
--- what accepted round k got, and what it sent
-abbrev pub farOfRound : List RoundMade → ℕ → List ℕ
-farOfRound made k = getD (map (λ (m : RoundMade). m .got .far) made) k []
-
-abbrev pub sentByRound : List RoundMade → ℕ → List ℕ
-sentByRound made k = getD (map (λ (m : RoundMade). bitsBy (m .gave)) made) k []
-
--- the AND at gate i gets its far bits in the accepted round of its level, and is opened by the one before
-abbrev pub farAtGate : Circuit → List RoundMade → ℕ → ℕ × ℕ
-farAtGate c made i = pairAt (farOfRound made (levelAt c i)) (placeAt c i)
-
-abbrev pub sentAtGate : Circuit → List RoundMade → ℕ → ℕ × ℕ
-sentAtGate c made i = pairAt (sentByRound made (levelAt c i - 1)) (placeAt c i)
-
-abbrev pub farInRounds : Circuit → List RoundMade → BitsByAnd
-farInRounds c made j = farAtGate c made (andGate (c .gates) j)
-
-abbrev pub sentInRounds : Circuit → List RoundMade → BitsByAnd
-sentInRounds c made j = sentAtGate c made (andGate (c .gates) j)
 
 -- far bits are those that the accepted rounds got
 abbrev pub FarGot : Circuit → List RoundMade → BitsByAnd → Type 0

@@ -1,6 +1,6 @@
--- Inner: no promise cites this file. An end's run of a circuit without its schedule: the shares of all wires and the bits sent, by the
--- far bits that each AND gets. A finished run is a transcript, in steps (document 02, 9) and in rounds (circuits in rounds) alike.
-use Prim.Native.Nat.{ℕ, zero, suc, _-_, _≤_}
+-- An end's run of a circuit without its schedule: the shares of all wires and the bits sent, by the far bits that each AND gets. A
+-- finished run is a transcript, in steps (document 02, 9) and in rounds (circuits in rounds) alike.
+use Prim.Native.Nat.{ℕ, zero, suc, _+_, _-_, _≤_}
 use mathlib.Core.Bool.{true}
 use mathlib.Core.List.{List, [], _∷_, map}
 use mathlib.Core.Path.{_≡_}
@@ -9,7 +9,9 @@ use lib.ListN.{length, getD}
 use Rattle.circuit.specs.Content.{Gate, Xor, And, Not, Circuit, isAnd}
 use Rattle.circuit.specs.Value.{overGates, atWires}
 use Rattle.circuit_run.specs.Step.{gateAt, flipped, andsBefore, tripleFirst, tripleSecond, tripleThird, maskedFirst, maskedSecond, andShare}
+use Rattle.circuit_claims.specs.RoundRuns.{RoundMade, bitsBy}
 use Rattle.circuit_claims.specs.Runs.{StepMade}
+use Rattle.circuit_claims.specs.Same.{levelAt, placeAt}
 
 -- two bits for each AND, by how many ANDs come before it
 abbrev pub BitsByAnd : Type 0
@@ -63,3 +65,27 @@ sentInSteps steps j = getD (map (λ (m : StepMade). (m .gave .firstBit, m .gave 
 
 abbrev pub farInSteps : List StepMade → BitsByAnd
 farInSteps steps j = getD (map (λ (m : StepMade). (m .got .farFirst, m .got .farSecond)) steps) (suc j) (0, 0)
+
+-- two bytes from a place on
+abbrev pub pairAt : List ℕ → ℕ → ℕ × ℕ
+pairAt bytes p = (getD bytes p 0, getD bytes (p + 1) 0)
+
+-- what accepted round k got, and what it sent
+abbrev pub farOfRound : List RoundMade → ℕ → List ℕ
+farOfRound made k = getD (map (λ (m : RoundMade). m .got .far) made) k []
+
+abbrev pub sentByRound : List RoundMade → ℕ → List ℕ
+sentByRound made k = getD (map (λ (m : RoundMade). bitsBy (m .gave)) made) k []
+
+-- in rounds the AND at gate i gets its far bits in the accepted round of its level, and is opened by the one before
+abbrev pub farAtGate : Circuit → List RoundMade → ℕ → ℕ × ℕ
+farAtGate c made i = pairAt (farOfRound made (levelAt c i)) (placeAt c i)
+
+abbrev pub sentAtGate : Circuit → List RoundMade → ℕ → ℕ × ℕ
+sentAtGate c made i = pairAt (sentByRound made (levelAt c i - 1)) (placeAt c i)
+
+abbrev pub farInRounds : Circuit → List RoundMade → BitsByAnd
+farInRounds c made j = farAtGate c made (andGate (c .gates) j)
+
+abbrev pub sentInRounds : Circuit → List RoundMade → BitsByAnd
+sentInRounds c made j = sentAtGate c made (andGate (c .gates) j)
