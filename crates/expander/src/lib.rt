@@ -1,13 +1,8 @@
-// The public calls under their exported names. Each meets the contract of the call that it passes on to.
+// The public calls under their exported names. Document 01's calls, here, cite its page (`crates/page/specs/Document01.antt`); the others
+// have the contract of the call that they pass on to.
 ghost use mathlib.Core.Path.{_≡_};
-ghost use Rattle.dealing.specs.Deal.{deal, lentDeal};
-ghost use Rattle.dealing.specs.Input.{inputWith};
-ghost use Rattle.ends.specs.Noise.Offline as noiseOffline;
-ghost use Rattle.ends.specs.Noise.Online as noiseOnline;
-ghost use Rattle.answer.specs.Outcome.{outcomeNone, outcomeOne, outcomeTwo};
-ghost use Rattle.pads.specs.Calls.{lentNoise, lentScalar, noisePads, scalarPads};
-ghost use Rattle.ends.specs.Scalar.Offline as scalarOffline;
-ghost use Rattle.ends.specs.Scalar.Online as scalarOnline;
+ghost use mathlib.Core.List.{[], _∷_};
+ghost use Rattle.page.specs.Document01 as document;
 
 mod and_triples;
 mod bench_windows;
@@ -38,13 +33,26 @@ pub extern "C" fn expander_deal(
     noise_record: &mut [u8],
     scalar_record: &mut [u8],
 ) -> TwoLengths
-    ensures { λ r. ⌜ outcomeTwo r (lentDeal
-        (inputWith field depth «branch_bits» trees terms outputs (now (roots .exit)) (now (positions .exit)) (now (values .exit))
-        (now (delta .exit)) (now («code_key» .exit)) (now (label .exit)))
-        (now («noise_record» .exit)) (now («scalar_record» .exit)))
-        ≡ deal
-        (inputWith field depth «branch_bits» trees terms outputs (now (roots .entry)) (now (positions .entry)) (now (values .entry))
-        (now (delta .entry)) (now («code_key» .entry)) (now (label .entry)))
+    ensures { λ r. ⌜ document.returned (r .number) (r .«first_written» ∷ r .«second_written» ∷ [])
+        (now (roots .exit) ∷ now (positions .exit) ∷ now (values .exit) ∷ now (delta .exit) ∷ now («code_key» .exit) ∷ now (label .exit) ∷ [])
+        (now («noise_record» .exit) ∷ now («scalar_record» .exit) ∷ [])
+        ≡ document.deal
+        (record {
+          head = record {
+            field = field;
+            d = depth;
+            g = «branch_bits»;
+            t = trees;
+            ℓ = terms;
+            n = outputs;
+            codeKey = now («code_key» .entry);
+            label = now (label .entry);
+          };
+          roots = now (roots .entry);
+          positions = now (positions .entry);
+          values = now (values .entry);
+          Δ = now (delta .entry);
+        })
         (now («noise_record» .entry)) (now («scalar_record» .entry)) ⌝ }
 {
     deal_call::deal(
@@ -72,8 +80,9 @@ pub extern "C" fn expander_noise_offline(
     noise: &mut [u64],
     v: &mut [u64],
 ) -> TwoLengths
-    ensures { λ r. ⌜ outcomeTwo r (noiseOffline.offlineWith (now (source .exit)) (now (noise .exit)) (now (v .exit)))
-        ≡ noiseOffline.offline (now (source .entry)) (now (noise .entry)) (now (v .entry)) ⌝ }
+    ensures { λ r. ⌜ document.returned (r .number) (r .«first_written» ∷ r .«second_written» ∷ [])
+        (now (source .exit) ∷ []) (now (noise .exit) ∷ now (v .exit) ∷ [])
+        ≡ document.noiseOffline (now (source .entry)) (now (noise .entry)) (now (v .entry)) ⌝ }
 {
     end_calls::noise::offline(source, noise, v)
 }
@@ -85,8 +94,9 @@ pub extern "C" fn expander_scalar_offline(
     w: &mut [u64],
     delta: &mut [u64],
 ) -> TwoLengths
-    ensures { λ r. ⌜ outcomeTwo r (scalarOffline.offlineWith (now (source .exit)) (now (w .exit)) (now (delta .exit)))
-        ≡ scalarOffline.offline (now (source .entry)) (now (w .entry)) (now (delta .entry)) ⌝ }
+    ensures { λ r. ⌜ document.returned (r .number) (r .«first_written» ∷ r .«second_written» ∷ [])
+        (now (source .exit) ∷ []) (now (w .exit) ∷ now (delta .exit) ∷ [])
+        ≡ document.scalarOffline (now (source .entry)) (now (w .entry)) (now (delta .entry)) ⌝ }
 {
     end_calls::scalar::offline(source, w, delta)
 }
@@ -102,9 +112,9 @@ pub extern "C" fn expander_noise_online(
     u_out: &mut [u64],
     v_out: &mut [u64],
 ) -> TwoLengths
-    ensures { λ r. ⌜ outcomeTwo r (noiseOnline.lentWith (now (source .exit)) (now (noise .exit)) (now (v .exit)) (now («u_out» .exit)) (now («v_out» .exit)))
-        ≡ noiseOnline.online (noiseOnline.lentWith (now (source .entry)) (now (noise .entry)) (now (v .entry)) (now («u_out» .entry)) (now («v_out» .entry)))
-        first count ⌝ }
+    ensures { λ r. ⌜ document.returned (r .number) (r .«first_written» ∷ r .«second_written» ∷ [])
+        (now (source .exit) ∷ now (noise .exit) ∷ now (v .exit) ∷ []) (now («u_out» .exit) ∷ now («v_out» .exit) ∷ [])
+        ≡ document.noiseOnline (now (source .entry)) (now (noise .entry)) (now (v .entry)) first count (now («u_out» .entry)) (now («v_out» .entry)) ⌝ }
 {
     end_calls::noise::online(source, noise, v, first, count, u_out, v_out)
 }
@@ -118,8 +128,8 @@ pub extern "C" fn expander_scalar_online(
     count: usize,
     w_out: &mut [u64],
 ) -> OneLength
-    ensures { λ r. ⌜ outcomeOne r (scalarOnline.lentWith (now (source .exit)) (now (w .exit)) (now («w_out» .exit)))
-        ≡ scalarOnline.online (scalarOnline.lentWith (now (source .entry)) (now (w .entry)) (now («w_out» .entry))) first count ⌝ }
+    ensures { λ r. ⌜ document.returned (r .number) (r .written ∷ []) (now (source .exit) ∷ now (w .exit) ∷ []) (now («w_out» .exit) ∷ [])
+        ≡ document.scalarOnline (now (source .entry)) (now (w .entry)) first count (now («w_out» .entry)) ⌝ }
 {
     end_calls::scalar::online(source, w, first, count, w_out)
 }
@@ -133,8 +143,8 @@ pub extern "C" fn expander_noise_pads(
     choices: &[u8],
     pads: &mut [u8],
 ) -> u32
-    ensures { λ r. ⌜ outcomeNone r (lentNoise (now (v .exit)) (now (choices .exit)) (now (pads .exit)))
-        ≡ noisePads first count (now (v .entry)) (now (choices .entry)) (now (pads .entry)) ⌝ }
+    ensures { λ r. ⌜ document.returned r [] (now (v .exit) ∷ now (choices .exit) ∷ []) (now (pads .exit) ∷ [])
+        ≡ document.noisePads first count (now (v .entry)) (now (choices .entry)) (now (pads .entry)) ⌝ }
 {
     pad_calls::noise_pads(first, count, v, choices, pads)
 }
@@ -148,8 +158,8 @@ pub extern "C" fn expander_scalar_pads(
     delta: &[u8],
     pads: &mut [u8],
 ) -> u32
-    ensures { λ r. ⌜ outcomeNone r (lentScalar (now (w .exit)) (now (delta .exit)) (now (pads .exit)))
-        ≡ scalarPads first count (now (w .entry)) (now (delta .entry)) (now (pads .entry)) ⌝ }
+    ensures { λ r. ⌜ document.returned r [] (now (w .exit) ∷ now (delta .exit) ∷ []) (now (pads .exit) ∷ [])
+        ≡ document.scalarPads first count (now (w .entry)) (now (delta .entry)) (now (pads .entry)) ⌝ }
 {
     pad_calls::scalar_pads(first, count, w, delta, pads)
 }

@@ -34,27 +34,27 @@ scalar-refusal noise scalar e f = rw (e, f)
 -- ---- both are accepted
 
 module _ (noise scalar : List ℕ) {P : NoisePart} {Q : ScalarPart} (read : readNoise noise ≡ Whole P) (other : readScalar scalar ≡ Whole Q) where
-  both : verdict noise scalar ≡ paired P Q
+  pub both-whole : verdict noise scalar ≡ paired P Q
   unfolding verdict
-  both = rw (read, other)
+  both-whole = rw (read, other)
 
   pub noise-large : 1024 < places (P .head) → verdict noise scalar ≡ TooLarge
   unfolding paired
-  noise-large h = both ∙ rw (lt-ltb 1024 (places (P .head)) h)
+  noise-large h = both-whole ∙ rw (lt-ltb 1024 (places (P .head)) h)
 
   pub scalar-large : places (P .head) ≤ 1024 → 1024 < places (Q .head) → verdict noise scalar ≡ TooLarge
   unfolding paired
-  scalar-large h g = both ∙ rw (le-ltb 1024 (places (P .head)) h, lt-ltb 1024 (places (Q .head)) g)
+  scalar-large h g = both-whole ∙ rw (le-ltb 1024 (places (P .head)) h, lt-ltb 1024 (places (Q .head)) g)
 
   module _ (small : places (P .head) ≤ 1024) (small-too : places (Q .head) ≤ 1024) where
     pub not-same : sameDealing (P .head) (Q .head) ≡ false → verdict noise scalar ≡ Different
     unfolding paired
-    not-same e = both ∙ rw (le-ltb 1024 (places (P .head)) small, le-ltb 1024 (places (Q .head)) small-too, e)
+    not-same e = both-whole ∙ rw (le-ltb 1024 (places (P .head)) small, le-ltb 1024 (places (Q .head)) small-too, e)
 
     pub same-checked : sameDealing (P .head) (Q .head) ≡ true
         → verdict noise scalar ≡ Checked (P .head .outputs) (heldOf (pairOf P Q) (P .head .outputs))
     unfolding paired
-    same-checked e = both ∙ rw (le-ltb 1024 (places (P .head)) small, le-ltb 1024 (places (Q .head)) small-too, e)
+    same-checked e = both-whole ∙ rw (le-ltb 1024 (places (P .head)) small, le-ltb 1024 (places (Q .head)) small-too, e)
 
 -- ---- correlated records
 

@@ -1,5 +1,6 @@
 -- `pair_line::line` meets its contract. Assumes nothing.
 use borrow.Author.Needs.{needs}
+use Rattle.page.proofs.Returned.{line-returned}
 use Rattle.pair_line.proofs.line.Statement.{statement}
 use Rattle.pair_line.proofs.line.Tie as tie
 
@@ -9,5 +10,5 @@ line-spec =
     (tie.spec
     (λ c κs. search needs)  -- judge-requires
     (λ c κs. search needs)  -- write-finding-requires
-    (λ c. cc)  -- returns
+    (λ c. search line-returned)  -- returns
     )

@@ -1,0 +1,2 @@
+-- Document 01 on one page.
+pub mod Document01
