@@ -1,7 +1,7 @@
 -- The proofs of the statements of specs/, one inhabitant each in the files that are public, and beside them what each listed call leaves
 -- (`Lists`), and what follows for the triples of one call of each end and of several.
 mod Dealt
-mod Outputs
+pub mod Outputs
 pub mod Lists
 mod Pads
 pub mod Entire
