@@ -3,7 +3,7 @@
 
 Holds docs/PROMISES.md to the files, and the files to it. Fails, with a sentence for each fault, unless
 
-the page
+the list, docs/PROMISES.md,
 - numbers every row once, by its section, and gives it one of the five marks;
 - names, as a path, a colon and a name (or Record.field), only what stands in that file, and only files that exist;
 - marks `contract` only what the contract of an exported call or of the pair program's line reaches;
@@ -12,16 +12,28 @@ the page
 - lists in its table of statements the statements of its rows, all of them and no others, with their proofs;
 - leads, in its table of sections, from each section to exactly the rows that are there;
 
-the definitions
-- hold in specs/Inner/ nothing that a promise reaches, and no file outside it has a `use` of one there. A promise is a
-  definition that the page names, or that the contract of an exported call or of the pair program cites;
-- hold outside specs/Inner/ nothing else than what promises reach, so that a reader finds nothing else there;
+document 01's page (crates/page/specs/Document01.antt) and its statements (crates/page_claims/specs/Statements.antt)
+- import nothing of this repository: the page the kit's modules alone, the statements these and the page;
+- are what the contracts of document 01's eight functions (the exported calls of crates/expander/src/lib.rt, and the pair program's
+  `line`) cite: no other definition of this repository stands in them, and none is brought by their files;
+- have no dead text: every declaration of the page is reached by one of the eight contracts or by a statement, every declaration
+  of the statements by one that a row names;
+- have at most 680 and 280 lines, none of them above 140 characters but the lines of `use`;
+
+the other definitions
+- A promise is the page, its statements, a definition that a row names, or one that the contract of another exported call cites.
+  No promise reaches specs/Inner/, and no file that has a definition which a promise reaches has a `use` of one there;
+- outside specs/Inner/ stands nothing else than what a promise reaches and document 01's workings. These are what the contracts of
+  the functions reach that the eight pass on to, and the laws, which say of workings what the statements say of the page (LAWS
+  below), with what they reach. Whether a working stands in specs/Inner/ or outside it means nothing;
+- each law is no row's, and has a proof that is declared with it;
 
 the code and the edits
-- every exported function has exactly one `ensures` and no `requires`;
-- every statement of the page, and every part of one that the page names, is named in an edit that makes it false: a comment
-  `# Falsifies NAME: ..` in a must-fail edit of its crate, or of another crate where no other statement has that name
-  (`NAME, NAME` and `NAME.field` will do too). A part is the type of a field, as `Lists` of `Demand3`;
+- every exported function, and `line` of the pair program, has exactly one `ensures` and no `requires`;
+- every statement of a row, every part of one that a row names, and every law is named in an edit that makes it false: a comment
+  `# Falsifies NAME: ..` in a must-fail edit of its crate, or of another crate where no other statement has that name and which
+  has no definition of that name itself (`NAME, NAME` and `NAME.field` will do too). A part is the type of a field, as
+  `OutputsCorrelated` of `CommonFacts`;
 
 the landing notes
 - docs/landings/README.md names only what exists today, and has a row for each name in the notes that does not.
@@ -43,8 +55,17 @@ sys.dont_write_bytecode = True
 import definitions as reader  # noqa: E402
 
 PAGE = "docs/PROMISES.md"
+DOCUMENT = ("page", "Document01")          # document 01's page, and the most lines that it may have
+STATEMENTS = ("page_claims", "Statements")  # its statements
+LINES = {DOCUMENT: 680, STATEMENTS: 280}
+WIDTH = 140
+# laws: statements over workings that the statements over the page say again
+LAWS = {("claims", "Correlation", "Demand3"), ("claims", "Records", "Records"), ("claims", "Acceptance", "Acceptance"),
+        ("claims", "Pairing", "Held"), ("claims", "Cases", "Cases"), ("pads", "Calls", "Accepts"), ("tree", "Follows", "FromSiblings")}
 NOTES = "docs/landings"
 EXPORTS = sorted(glob.glob("crates/expander/src/*.rt"))
+EXPORTS_OF_DOCUMENT = "crates/expander/src/lib.rt"  # document 01's seven calls
+LINE = ("crates/pair_line/src/lib.rt", "line")      # the pair program's line
 MARKS = {"contract", "statement", "form", "tested", "assumed"}
 COLUMNS = "| no. | requirement | mark | said by | proof |"
 NAME = re.compile(r"[^\s(){};,.λ⌜⌝]+")
@@ -64,12 +85,28 @@ def imports(text):
     return own_names(reader.imports(text))
 
 
+def signs(name):
+    """The words by which a text uses a name: `if` of `if_then_else_`, `!` of `_!_`, and `do` besides of `_>>=_`."""
+    first = [part for part in name.split("_") if part][:1]
+    return {"if_then_else_": {"if"}, "_>>=_": {">>=", "do"}}.get(name, set(first) if "_" in name else {name})
+
+
 def own_names(names):
-    return {name: place[1] for name, place in names.items() if place[0] != "kit"}
+    return {sign: place[1] for name, place in names.items() if place[0] != "kit"
+            for sign in ({name} | signs(place[1][2]) if len(place[1]) == 3 else {name})}
 
 
 house = reader.House(".")
-definitions = {key: item.text + "\n" for key, item in house.definitions.items() if item.kind not in ("struct", "enum")}
+definitions, above = {}, None
+for key, item in house.definitions.items():
+    if item.kind in ("struct", "enum"):
+        continue
+    if above and above[:2] == key[:2] and not reader.HEAD.match(item.lines[0]):
+        definitions[above] += item.text + "\n"  # a clause that begins with an argument, as `l ! i = ..`, belongs to the name before it
+    else:
+        definitions[key] = item.text + "\n"
+        above = key
+mixed = {key[:2] + (sign,): key for key in definitions if "_" in key[2] for sign in signs(key[2])}
 brought = {key: own_names(names) for key, names in house.brought.items() if isinstance(key, tuple) and key[1].split(".")[0] != "declared"}
 
 
@@ -83,7 +120,8 @@ def cited(text, names, own=None):
     keys = {names[w] for w in NAME.findall(text) if len(names.get(w, ())) == 3}
     keys |= {names[m] + (w,) for m, w in re.findall(r"(\w+)\.([^\s(){};,.]+)", text) if len(names.get(m, ())) == 2}
     if own:
-        keys |= {own + (w,) for w in NAME.findall(text) if own + (w,) in definitions}
+        words = {own + (w,) for w in NAME.findall(text)}
+        keys |= {w for w in words if w in definitions} | {mixed[w] for w in words if w in mixed}
     return {k for k in map(resolved, keys) if k}
 
 
@@ -196,7 +234,7 @@ def parts(key):
     return found
 
 
-# ---- the page
+# ---- the list
 
 def page_rows():
     section, prefix, head = "", "", ""
@@ -265,7 +303,7 @@ for path in sorted(set(re.findall(r"`((?:crates|docs|include|tests|tools)/[^`:\s
         faults.append(f"{PAGE}: there is no {path}")
 
 
-# ---- the tables at the page's end
+# ---- the tables at the list's end
 
 def table(title):
     """The rows of a table under a title, each a list of cells."""
@@ -290,16 +328,86 @@ faults += [f"{PAGE}: the table of sections does not have {span}" for span in sor
 faults += [f"{PAGE}: the table of sections has {span}, and these are not the section's rows" for span in sorted(led - due)]
 
 
+# ---- document 01's page and its statements
+
+def path_of(module):
+    return f"crates/{module[0]}/specs/{module[1].replace('.', '/')}.antt"
+
+
+eight = {}  # document 01's functions: (path, name): the definitions that the contract cites
+for path, name in sorted(house.contracts):
+    if path == EXPORTS_OF_DOCUMENT and house.contracts[path, name].exported or (path, name) == LINE:
+        text = house.contracts[path, name].text
+        eight[path, name] = cited(text, imports(text_of(path)))
+        faults += [f"{path}: the contract of {name} cites {show(key)}, which is not on document 01's page"
+                   for key in sorted(eight[path, name]) if key[:2] != DOCUMENT]
+        if not eight[path, name]:
+            faults.append(f"{path}: the contract of {name} cites nothing of document 01's page")
+        if "Rattle·" in text:
+            faults.append(f"{path}: the contract of {name} names a module of this repository")
+for path in (EXPORTS_OF_DOCUMENT, LINE[0]):
+    for module in re.findall(r"(?m)^ghost use (Rattle·\S+?)(?:\.\{|;| as )", text_of(path)):
+        if reader.MODULE.fullmatch(module) is None or reader.MODULE.fullmatch(module).groups() != DOCUMENT:
+            faults.append(f"{path}: `ghost use` of {module}, and document 01's contracts cite its page alone")
+found = house.contracts.get(LINE)
+if found and (found.clauses("ensures"), found.clauses("requires")) != (1, 0):
+    faults.append(f"{LINE[0]}: {LINE[1]} has not exactly one `ensures`, or has a `requires`")
+if len(eight) != 8:
+    faults.append(f"document 01 has eight functions, and {len(eight)} are found: {', '.join(name for _, name in eight)}")
+for module, allowed in ((DOCUMENT, ()), (STATEMENTS, (DOCUMENT,))):
+    path = path_of(module)
+    lines = text_of(path).rstrip("\n").split("\n")
+    if len(lines) > LINES[module]:
+        faults.append(f"{path} has {len(lines)} lines, more than {LINES[module]}")
+    for number, line in enumerate(lines, 1):
+        if len(line) > WIDTH and not line.startswith("use "):
+            faults.append(f"{path}:{number}: the line has {len(line)} characters, more than {WIDTH}")
+        if re.match(r"\s*(?:pub )?use ", line):
+            place = reader.MODULE.fullmatch(re.split(r"\.\{| as ", line.split("use ", 1)[1])[0])
+            if "Rattle·" in line and not (place and place.groups() in allowed):
+                faults.append(f"{path}:{number}: it imports {line.split()[1].split('.{')[0]} of this repository")
+        elif "Rattle·" in line.split("--")[0]:
+            faults.append(f"{path}:{number}: it names a module of this repository")
+of_document = {key for keys in eight.values() for key in keys}
+over_page = {key for key in statements if key[:2] == STATEMENTS}
+alive = reach(of_document | over_page)
+faults += [f"{show(key)} is reached by none of document 01's contracts and by no statement over the page"
+           for key in sorted(definitions) if key[:2] in (DOCUMENT, STATEMENTS) and key not in alive]
+
+
 # ---- inner and outer definitions
 
 reached = reach(promises | from_contracts)
 inner = {key for key in definitions if key[1].startswith("Inner.")}
 faults += [f"{show(key)} is inner, and a promise reaches it" for key in sorted(reached & inner)]
-faults += [f"{show(key)} is reached by no promise: it belongs in Inner/" for key in sorted(set(definitions) - inner - reached)]
 for (crate, module), names in sorted(brought.items()):
-    if not module.startswith("Inner."):
+    if not module.startswith("Inner.") and any(key[:2] == (crate, module) for key in reached):
         faults += [f"crates/{crate}/specs/{module.replace('.', '/')}.antt uses {place[1]} of {place[0]}, which is inner"
                    for place in sorted(set(names.values())) if place[1].startswith("Inner.")]
+
+# workings: what the functions meet that the eight pass on to, and laws
+passed_on = set()
+for path, name in sorted(eight):
+    body = re.search(r"(?ms)^pub (?:extern \"C\" )?fn " + name + r"\b.*?^\{\n(.*?)^\}", text_of(path))
+    for called in re.findall(r"((?:\w+::)*\w+)\(", body[1] if body else ""):
+        crate, name = (called.split("::")[0] if "::" in called else path.split("/")[1]), called.split("::")[-1]
+        for (place, function), contract in sorted(house.contracts.items()):
+            if function == name and place.startswith(f"crates/{crate}/src/"):
+                passed_on |= cited(contract.text, imports(text_of(place)))
+proved = set()
+for path in glob.glob("crates/*/proofs/**/*.antt", recursive=True):
+    text = text_of(path)
+    names = imports(text)
+    for type_ in re.findall(r"(?m)^\s*(?:pub )?[^\s:]+ : (?:.*→ )?([^\s():→]+)(?: [^\s():→]+)*$", text):
+        short, dot, last = type_.rpartition(".")
+        key = names.get(short, ()) + (last,) if dot else names.get(type_, ())
+        if len(key) == 3:
+            proved.add(resolved(key))
+faults += [f"{show(key)} is a law, and no proof is declared with it" for key in sorted(LAWS - proved)]
+faults += [f"{show(key)} is a law, and a row names it as a statement" for key in sorted(LAWS & statements)]
+workings = reach(passed_on | LAWS) - reached
+faults += [f"{show(key)} is reached by no promise and is no working of document 01: it belongs in Inner/"
+           for key in sorted(set(definitions) - inner - reached - workings) if key[:2] not in LINES]
 
 
 # ---- exported functions
@@ -320,20 +428,21 @@ for path in EXPORTS:
 # ---- edits that make a statement false
 
 # An edit stands for the statement of that name in its crate; where the crate has several of the name, for the one whose file it edits;
-# and for one in another crate where no other statement has the name.
+# and for one in another crate where no other statement, and no definition of the edit's crate, has the name.
 falsified = {}  # name: the crate of each edit that says so, and the files that it edits
 for path in sorted(glob.glob("crates/*/must-fail/*.edit")):
     files = set(re.findall(r"(?m)^file: (\S+)", text_of(path)))
     for names in re.findall(r"(?m)^# Falsifies ([^:\n]+):", text_of(path)):
         for name in re.split(r",\s*|\s+and\s+", names):
             falsified.setdefault(name.strip().split(".")[0], []).append((path.split("/")[1], files))
-for key in sorted(statements):
-    same = [other for other in statements if other[2] == key[2]]
+for key in sorted(statements | LAWS):
+    same = [other for other in statements | LAWS if other[2] == key[2]]
     own = f"specs/{key[1].replace('.', '/')}.antt"
     twice = sum(1 for other in same if other[0] == key[0]) > 1
     edits = falsified.get(key[2], [])
-    if not (any(crate == key[0] and (not twice or own in files) for crate, files in edits) or len(same) == 1 and edits):
-        faults.append(f"{show(key)} is a statement, and no must-fail edit says `# Falsifies {key[2]}: ..`")
+    others = [crate for crate, _ in edits if not any((d[0], d[2]) == (crate, key[2]) for d in definitions)]
+    if not (any(crate == key[0] and (not twice or own in files) for crate, files in edits) or len(same) == 1 and others):
+        faults.append(f"{show(key)} is a {'law' if key in LAWS else 'statement'}, and no must-fail edit says `# Falsifies {key[2]}: ..`")
 
 
 # ---- names in the landing notes
@@ -363,6 +472,8 @@ for path in sorted(set(glob.glob(f"{NOTES}/*.md")) - {NEWER}):
 
 for fault in faults:
     print(fault, file=sys.stderr)
-print(f"promises: {len(numbers)} rows, {len(statements)} statements, {exported} exported calls; {len(reached)} definitions in "
-      f"{len({k[:2] for k in reached})} files are reached by promises, {len(inner)} in {len({k[:2] for k in inner})} files are inner")
+beyond = reached - alive
+print(f"promises: {len(numbers)} rows, {len(statements)} statements, {exported} exported calls; document 01's page and its statements have "
+      f"{len(alive)} definitions, other promises reach {len(beyond)} in {len({k[:2] for k in beyond})} files; {len(workings)} more are "
+      f"workings of document 01 and {len(inner)} in {len({k[:2] for k in inner})} files are inner")
 sys.exit(1 if faults else 0)
