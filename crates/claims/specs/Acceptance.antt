@@ -1,6 +1,6 @@
 -- What is accepted (document 01, 'Questions a reader of the promises may put': an expander that refuses every record):
 -- admitted input with long enough buffers, the dealt records, and every window within n. So the premises of
--- `Correlation` can be met, and its statements are not empty.
+-- `Correlation` can be met, and it is not empty. Of workings: the promise is `Acceptance` of `page_claims`, over the page.
 use mathlib.Core.Path.{_≡_}
 use mathlib.Core.List.{List}
 use mathlib.Core.Logic.{_↔_}

@@ -1,4 +1,5 @@
--- Document 01's starred cases ('Cases'), gathered in one table with one proposition about it.
+-- Document 01's starred cases ('Cases'), gathered in one table with one proposition about it. Of workings: the promise is `Cases` of
+-- `page_claims`, over the page.
 use mathlib.Core.Path.{_≡_}
 use mathlib.Core.List.{List, [], _∷_, map}
 use Prim.Native.Nat.{ℕ, zero, suc, _-_, _^_}

@@ -1,4 +1,5 @@
--- Demand 3 (document 01, 'Lists of calls at both ends'): the statements, about the definitions that the calls' contracts cite.
+-- Demand 3 (document 01, 'Lists of calls at both ends') of workings, the definitions that the inner calls' contracts cite. The promise is
+-- `Demand3` of `page_claims`, over the page.
 use mathlib.Core.Path.{_≡_}
 use mathlib.Core.List.{List, [], _∷_}
 use mathlib.Core.Option.{some}

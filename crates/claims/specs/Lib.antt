@@ -1,5 +1,6 @@
--- The statements about document 01's calls together, what accumulated buffers tell, and messages, triples and circuits, in steps and in
--- rounds, on pads of dealings (document 02, 1, 6 and 9; circuits in rounds), to be read without the proofs.
+-- What document 01's calls do together, said of workings (`page_claims` promises it over the page); the statements on what accumulated
+-- buffers tell, and on messages, triples and circuits, in steps and in rounds, on pads of dealings (document 02, 1, 6 and 9; circuits in
+-- rounds), to be read without the proofs.
 pub mod Records
 pub mod Correlation
 pub mod Acceptance

@@ -1,4 +1,5 @@
--- The pair program on a dealing's own records (document 01, 'Cases'): every output tried is held.
+-- The pair program on a dealing's own records (document 01, 'Cases'): every output tried is held. Of workings: the promise is `Held` of
+-- `page_claims`, over the page.
 use mathlib.Core.Path.{_≡_}
 use mathlib.Core.List.{List}
 use Prim.Native.Nat.{ℕ, _^_, _≤_}

@@ -1,5 +1,6 @@
 -- What document 01 says of records ('Key records', 'Numbers of the calls'): each record that a dealing writes reads back as
--- that end's part of it, an accepted record is the only writing of its content, and none is accepted at both ends.
+-- that end's part of it, an accepted record is the only writing of its content, and none is accepted at both ends. Of workings: the
+-- promise is `Records` of `page_claims`, over the page.
 use mathlib.Core.Path.{_≡_}
 use mathlib.Core.List.{List}
 use Prim.Native.Nat.{ℕ}
