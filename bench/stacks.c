@@ -89,6 +89,9 @@ static void make(void)
 #define READ_AMOUNT(prefix) prefix##_read_amount(EXPANDER_MODULUS - 1).number
 #define DESCRIBE_CIRCUIT(prefix) prefix##_describe_circuit(circuit, circuit_len).number
 #define WRITE_AMOUNT(prefix) prefix##_write_amount(-EXPANDER_AMOUNT_MAX).number
+#define VERSION(of) (of##_version(VERSION_##of) != EXPANDER_VERSION_NUMBER)
+#define VERSION_expander
+#define VERSION_plain EXPANDER_VERSION
 
 #define CALL(name, CALL_OF) \
     static void name(int who) \
@@ -108,6 +111,7 @@ CALL(pass_stock, PASS_STOCK)
 CALL(read_amount, READ_AMOUNT)
 CALL(write_amount, WRITE_AMOUNT)
 CALL(describe_circuit, DESCRIBE_CIRCUIT)
+CALL(version, VERSION)
 
 static const struct job {
     const char *name;
@@ -124,7 +128,8 @@ static const struct job {
             {"pass_stock", pass_stock, 0},
             {"read_amount", read_amount, 0},
             {"write_amount", write_amount, 0},
-            {"describe_circuit", describe_circuit, 32 * 1024}};
+            {"describe_circuit", describe_circuit, 32 * 1024},
+            {"version", version, 0}};
 
 int main(void)
 {

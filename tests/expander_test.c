@@ -751,6 +751,8 @@ static void limits(void)
     EXPECT(try_scalar_pads(end, 1, zeros, 16, x.delta, 16, 32, NULL) == 7);
     EXPECT(sscanf(EXPANDER_VERSION, "%d.%d.%d", &major, &minor, &patch) == 3);
     EXPECT(EXPANDER_VERSION_NUMBER == 10000 * major + 100 * minor + patch);
+    EXPECT(expander_version() == EXPANDER_VERSION_NUMBER);
+    EXPECT(expander_version() == plain_version(EXPANDER_VERSION));
 }
 
 /* The lengths that the header gives for the longest records are met. */

@@ -960,3 +960,17 @@ uint32_t plain_scalar_pads(
     }
     return 0;
 }
+
+/* ---- The version ---- */
+
+uint32_t plain_version(const char *text)
+{
+    uint32_t parts[3] = {0, 0, 0};
+    unsigned part = 0;
+    for (; *text != '\0'; text++)
+        if (*text == '.')
+            part++;
+        else
+            parts[part] = 10 * parts[part] + (uint32_t)(*text - '0');
+    return 10000 * parts[0] + 100 * parts[1] + parts[2];
+}

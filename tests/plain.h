@@ -19,6 +19,9 @@ struct plain_result {
     size_t first, second;
 };
 
+/* The version: 10000 major + 100 minor + patch of the text that the header has. */
+uint32_t plain_version(const char *text);
+
 /* Sixteen bytes as two words, each least byte first; in field 2 an element has hi = 0. */
 struct plain_block {
     uint64_t lo, hi;

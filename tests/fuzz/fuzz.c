@@ -1105,6 +1105,13 @@ static void describe_circuit(void)
            a.number, 1, 0, 0, 0);
 }
 
+/* ---- The version ---- */
+
+static void version(void)
+{
+    settle(expander_version() == plain_version(EXPANDER_VERSION), 0, 0, 0, 0, 0);
+}
+
 /* ---- */
 
 static const struct job {
@@ -1128,7 +1135,8 @@ static const struct job {
             {"read_amount", amounts},
             {"circuit_step", circuit_step},
             {"circuit_round", circuit_round},
-            {"describe_circuit", describe_circuit}};
+            {"describe_circuit", describe_circuit},
+            {"version", version}};
 
 int LLVMFuzzerTestOneInput(const uint8_t *data, size_t data_len);
 

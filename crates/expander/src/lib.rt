@@ -11,6 +11,7 @@ mod circuits;
 mod record_heads;
 mod signed_amounts;
 mod stocks;
+mod versions;
 
 use answer::OneLength;
 use answer::TwoLengths;
