@@ -118,7 +118,7 @@ struct companion_status companion_open_pair(const uint8_t *noise, size_t noise_l
     if (n->end != EXPANDER_NOISE_END || s->end != EXPANDER_SCALAR_END || n->field + s->field != 2 * EXPANDER_BINARY)
         NEXT(status, companion_failed(COMPANION_WRONG_RECORD));
     else if (order == 0)
-        NEXT(status, companion_failed(COMPANION_SAME_LABEL));
+        NEXT(status, companion_with_labels(companion_failed(COMPANION_SAME_LABEL), COMPANION_SAME_LABEL, n->label, s->label));
     pair->role = order < 0 ? EXPANDER_ROLE_NOISE : EXPANDER_ROLE_SCALAR;
     pair->outputs = n->outputs < s->outputs ? n->outputs : s->outputs;
     memcpy(pair->label.bytes, order < 0 ? n->label : s->label, sizeof pair->label.bytes);
@@ -134,7 +134,16 @@ void companion_close_pair(struct companion_pair *pair)
     memset(pair, 0, sizeof *pair);
 }
 
-struct companion_status companion_add_triples(const struct companion_pair *pair, size_t first, size_t count,
+/* Whether an output of the window was given before. */
+static int used(const struct companion_pair *pair, size_t first, size_t count)
+{
+    int before = 0;
+    for (size_t k = first; k < first + count; k++)
+        before |= pair->used[k / 8] >> k % 8 & 1;
+    return before;
+}
+
+struct companion_status companion_add_triples(struct companion_pair *pair, size_t first, size_t count,
                                               struct companion_triples *triples)
 {
     struct companion_window noise = {0, 0, NULL, NULL, NULL, NULL}, scalar = noise;
@@ -143,6 +152,7 @@ struct companion_status companion_add_triples(const struct companion_pair *pair,
     struct companion_status status = companion_failed(pair->compared ? COMPANION_DONE : COMPANION_NOT_COMPARED);
     NEXT(status, companion_expand(&pair->noise, first, count, &noise));
     NEXT(status, companion_expand(&pair->scalar, first, count, &scalar));
+    NEXT(status, companion_failed(used(pair, first, count) ? COMPANION_USED : COMPANION_DONE)); /* the window is within n here */
     if (status.number == 0) {
         all.count += count;
         all.windows = companion_sum_of(companion_sum_of(all.windows, pair->label.bytes, 16), place, sizeof place);
@@ -156,6 +166,8 @@ struct companion_status companion_add_triples(const struct companion_pair *pair,
             memcpy(all.bytes, triples->bytes, 3 * triples->count);
         companion_free_triples(triples);
         *triples = all;
+        for (size_t k = first; k < first + count; k++)
+            pair->used[k / 8] |= (uint8_t)(1 << k % 8);
     } else if (all.bytes != triples->bytes) {
         companion_free_triples(&all);
     }

@@ -8,6 +8,9 @@
 
 /* A status; of a call of the expander (0: it accepted); of a test here (0: it is met); of memory that was asked for; of nothing amiss. */
 struct companion_status companion_failed_at(uint32_t number, const char *call, int system);
+/* The same with both labels, where the number is this one; with what is needed and what is there, likewise. */
+struct companion_status companion_with_labels(struct companion_status status, uint32_t number, const uint8_t *label, const uint8_t *other);
+struct companion_status companion_with_counts(struct companion_status status, uint32_t number, size_t needed, size_t there);
 #define companion_refused(call, number) companion_failed_at(number, call, 0)
 #define companion_failed(number) companion_failed_at(number, "", 0)
 #define companion_given(memory) companion_failed((memory) != NULL ? COMPANION_DONE : COMPANION_NO_MEMORY)
@@ -20,17 +23,29 @@ struct companion_status companion_failed_at(uint32_t number, const char *call, i
 void *companion_take(size_t len);
 void companion_give_back(void *memory, size_t len);
 
-/* What an exchange begins with, so that ends at different calls notice it. */
-enum { COMPANION_TAG_HEAD = 1001, COMPANION_TAG_CHECK, COMPANION_TAG_DRAW, COMPANION_TAG_RUN };
+/* The numbers that there are. */
+enum { COMPANION_LAST_NUMBER = COMPANION_FILE_LINKED };
+
+/* What a call's first message begins with, so that ends at different calls notice it. */
+enum { COMPANION_TAG_HEAD = 2001, COMPANION_TAG_CHECK, COMPANION_TAG_DRAW, COMPANION_TAG_RUN };
 
 /* Random bytes from the system. */
 struct companion_status companion_random(void *bytes, size_t len);
 
-/* Sends own and receives as much as is due from the far end. */
+/* Sends own and receives as much as is due from the far end. A message begins with four bytes: 0, or the number with which
+ * its end refuses, and then nothing follows. */
 struct companion_status companion_exchange(const struct companion_link *link, const void *own, size_t own_len, void *far,
                                            size_t far_len);
 
-/* A running sum of 64 bits (FNV-1a): it finds mistakes, not lies. It begins as any number. */
+/* Sends the number with which this end refuses, if it does, in place of the message that the far end waits for. Where the link
+ * failed there is nobody to tell; where the far end refused it knows; in a child the link is the parent's. Returns the status. */
+struct companion_status companion_tell(const struct companion_link *link, struct companion_status status);
+
+/* A last exchange of the numbers alone, made by both ends unless one knows already that it is in vain. */
+struct companion_status companion_settle(const struct companion_link *link, struct companion_status status);
+
+/* A running sum of 64 bits (FNV-1a): it finds mistakes, not lies. It begins as any number; the rule's own is COMPANION_SUM. */
+#define COMPANION_SUM 0xcbf29ce484222325u
 uint64_t companion_sum_of(uint64_t sum, const void *bytes, size_t len);
 #pragma GCC visibility pop
 

@@ -5,13 +5,33 @@
 #include <poll.h>
 #include <string.h>
 #include <sys/socket.h>
+#include <time.h>
 #include <unistd.h>
 
-/* Waits until the socket can be read (POLLIN) or written (POLLOUT), or is closed. */
+/* Milliseconds of a clock that only rises, and not from 0. */
+static int64_t now(void)
+{
+    struct timespec time = {0, 0};
+    clock_gettime(CLOCK_MONOTONIC, &time);
+    return 1 + (int64_t)time.tv_sec * 1000 + time.tv_nsec / 1000000;
+}
+
+void companion_limit(struct companion_socket *socket, int milliseconds)
+{
+    socket->until = milliseconds < 0 ? 0 : now() + milliseconds;
+}
+
+/* Waits until the socket can be read (POLLIN) or written (POLLOUT), or is closed. Once all is to be over nothing more is read;
+ * what can be written without waiting still is, since it may be why this end gives up. */
 static int ready(const struct companion_socket *socket, short event)
 {
     struct pollfd polled = {socket->fd, event, 0};
-    int count = poll(&polled, 1, socket->milliseconds);
+    int wait = socket->milliseconds, count = 0;
+    int64_t left = socket->until == 0 ? INT64_MAX : socket->until - now();
+    if (wait < 0 ? left <= INT32_MAX : left < wait)
+        wait = left > 0 ? (int)left : 0;
+    if (left > 0 || event == POLLOUT)
+        count = poll(&polled, 1, wait);
     if (count == 0)
         errno = ETIMEDOUT;
     return count > 0;
@@ -68,19 +88,75 @@ struct companion_status companion_receive(const struct companion_link *link, voi
     return move(link, NULL, bytes, len);
 }
 
-/* In turns of one piece each way, so that a long one does not fill the link. */
+struct companion_status companion_tell(const struct companion_link *link, struct companion_status status)
+{
+    if (status.number != COMPANION_DONE && status.number != COMPANION_FAR && status.number != COMPANION_CLOSED
+        && status.number != COMPANION_NOT_MOVED && status.number != COMPANION_FORKED)
+        companion_send(link, &status.number, sizeof status.number); /* where that fails nobody is there */
+    return status;
+}
+
+/* Receives what begins a message of the far end. */
+static struct companion_status receive_number(const struct companion_link *link)
+{
+    uint32_t number = 0;
+    struct companion_status status = companion_receive(link, &number, sizeof number), far = companion_failed(COMPANION_FAR);
+    far.far = number;
+    if (number != COMPANION_DONE)
+        NEXT(status, number <= EXPANDER_LABEL_NOT_IN_USE || (number >= COMPANION_NO_MEMORY && number <= COMPANION_LAST_NUMBER)
+                     ? far : companion_failed(COMPANION_OUT_OF_STEP)); /* no message of a call begins so */
+    return status;
+}
+
+/* Sends the beginning of a message. Where the far end has closed the link its number may have come before. */
+static struct companion_status send_first(const struct companion_link *link, const void *bytes, size_t len)
+{
+    struct companion_status status = companion_send(link, bytes, len), far;
+    if (status.number != COMPANION_CLOSED)
+        return status;
+    far = receive_number(link);
+    return far.number == COMPANION_FAR ? far : status;
+}
+
+/* In turns of one piece each way, so that a long one does not fill the link. The number goes with the first piece. An end that
+ * waits in vain, and has sent all that it was to send, says so. */
 struct companion_status companion_exchange(const struct companion_link *link, const void *own, size_t own_len, void *far,
                                            size_t far_len)
 {
-    enum { PIECE = 4096 };
-    struct companion_status status = companion_done();
-    for (size_t at = 0; at < own_len || at < far_len; at += PIECE) {
-        if (at < own_len)
-            NEXT(status, companion_send(link, (const uint8_t *)own + at, own_len - at < PIECE ? own_len - at : PIECE));
+    enum { NUMBER = 4, PIECE = 4096 - NUMBER };
+    uint8_t first[NUMBER + PIECE] = {0};
+    struct companion_status status;
+    size_t len = own_len < PIECE ? own_len : PIECE;
+    if (len > 0)
+        memcpy(first + NUMBER, own, len);
+    status = send_first(link, first, NUMBER + len);
+    companion_wipe(first, sizeof first);
+    if (status.number != COMPANION_DONE)
+        return status;
+    status = receive_number(link);
+    for (size_t at = 0; status.number == COMPANION_DONE && (at < own_len || at < far_len); at += PIECE) {
+        if (at > 0 && at < own_len) {
+            status = companion_send(link, (const uint8_t *)own + at, own_len - at < PIECE ? own_len - at : PIECE);
+            if (status.number != COMPANION_DONE)
+                return status;
+            len = own_len - at < PIECE ? own_len : at + PIECE;
+        }
         if (at < far_len)
             NEXT(status, companion_receive(link, (uint8_t *)far + at, far_len - at < PIECE ? far_len - at : PIECE));
     }
+    if (status.number == COMPANION_NOT_MOVED && len == own_len)
+        companion_send(link, &status.number, NUMBER);
     return status;
+}
+
+struct companion_status companion_settle(const struct companion_link *link, struct companion_status status)
+{
+    struct companion_status far;
+    if (status.number == COMPANION_FAR || status.number == COMPANION_CLOSED || status.number == COMPANION_NOT_MOVED)
+        return status;
+    far = send_first(link, &status.number, sizeof status.number);
+    NEXT(far, receive_number(link));
+    return status.number == COMPANION_DONE ? far : status;
 }
 
 uint64_t companion_sum_of(uint64_t sum, const void *bytes, size_t len)
@@ -105,20 +181,35 @@ static struct head head_of(const struct companion_end *end)
     return head;
 }
 
+/* What of two heads differs; of one dealing they name both ends. */
+static uint32_t parts_of(const struct head *own, const struct head *far)
+{
+    uint32_t parts = own->end + far->end != EXPANDER_NOISE_END + EXPANDER_SCALAR_END ? COMPANION_PART_END : 0;
+    for (size_t k = 0; k < sizeof own->said / sizeof *own->said; k++)
+        if (own->said[k] != far->said[k])
+            parts |= COMPANION_PART_FIELD << k;
+    if (memcmp(own->code_key, far->code_key, sizeof own->code_key) != 0)
+        parts |= COMPANION_PART_CODE_KEY;
+    return memcmp(own->label, far->label, sizeof own->label) != 0 ? parts | COMPANION_PART_LABEL : parts;
+}
+
 /* Exchanges the heads of one end, or of two; of these the far end sends the other dealing's first. */
 static struct companion_status compare(const struct companion_link *link, const struct head *own, size_t count)
 {
     struct head far[2];
     struct companion_status status = companion_exchange(link, own, count * sizeof *own, far, count * sizeof *far);
+    NEXT(status, companion_failed(far[0].tag != own->tag || far[count - 1].tag != own->tag ? COMPANION_OUT_OF_STEP : COMPANION_DONE));
+    if (status.number != COMPANION_DONE)
+        return companion_tell(link, status);
     for (size_t k = 0; k < count && status.number == 0; k++) {
         const struct head *other = &far[count - 1 - k];
-        if (other->tag != COMPANION_TAG_HEAD)
-            status = companion_failed(COMPANION_OUT_OF_STEP);
-        else if (own[k].end + other->end != EXPANDER_NOISE_END + EXPANDER_SCALAR_END
-                 || memcmp(own[k].said, other->said, sizeof *own - offsetof(struct head, said)) != 0)
-            status = companion_failed(COMPANION_OTHER_DEALING);
+        uint32_t parts = parts_of(&own[k], other);
+        if (parts == 0)
+            continue;
+        status = companion_with_labels(companion_failed(COMPANION_OTHER_DEALING), COMPANION_OTHER_DEALING, own[k].label, other->label);
+        status.parts = parts;
     }
-    return status;
+    return companion_settle(link, status);
 }
 
 struct companion_status companion_compare(const struct companion_link *link, const struct companion_end *end)
@@ -148,8 +239,7 @@ static uint32_t judge(const uint8_t *own, const uint8_t *far, size_t count)
     return number;
 }
 
-struct companion_status companion_check(const struct companion_link *link, const struct companion_pair *pair, size_t first,
-                                        size_t count)
+struct companion_status companion_check(const struct companion_link *link, struct companion_pair *pair, size_t first, size_t count)
 {
     struct companion_triples own = {0, NULL, 0};
     uint64_t asked[2] = {COMPANION_TAG_CHECK, 0}, far_asked[2];
@@ -159,8 +249,13 @@ struct companion_status companion_check(const struct companion_link *link, const
     NEXT(status, companion_given(far = companion_take(3 * count)));
     NEXT(status, companion_exchange(link, asked, sizeof asked, far_asked, sizeof far_asked));
     NEXT(status, companion_failed(memcmp(asked, far_asked, sizeof asked) != 0 ? COMPANION_OUT_OF_STEP : COMPANION_DONE));
-    NEXT(status, companion_exchange(link, own.bytes, 3 * count, far, 3 * count));
-    NEXT(status, companion_failed(judge(own.bytes, far, count)));
+    if (status.number != COMPANION_DONE) {
+        companion_tell(link, status);
+    } else {
+        status = companion_exchange(link, own.bytes, 3 * count, far, 3 * count);
+        NEXT(status, companion_failed(judge(own.bytes, far, count)));
+        status = companion_settle(link, status);
+    }
     companion_give_back(far, 3 * count);
     companion_free_triples(&own);
     return status;

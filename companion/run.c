@@ -7,11 +7,22 @@ struct run {
     const struct companion_link *link;
     const struct companion_circuit *circuit;
     size_t role, len;
+    uint64_t sent, received; /* sums of what was moved */
     uint8_t bytes[COMPANION_CIRCUIT_MAX], shares[EXPANDER_WIRES_MAX], output[EXPANDER_CIRCUIT_OUTPUTS_MAX];
     uint8_t bits[2 * EXPANDER_WIRES_MAX], far[2 * EXPANDER_WIRES_MAX];
     uint8_t giver[EXPANDER_WIRES_MAX], getter[EXPANDER_CIRCUIT_OUTPUTS_MAX]; /* roles of inputs and outputs, bit by bit */
     struct expander_rounded last;
 };
+
+/* Exchanges, and adds what was moved to the sums. */
+static struct companion_status exchange(struct run *run, const void *own, size_t own_len, void *far, size_t far_len)
+{
+    struct companion_status status = companion_exchange(run->link, own, own_len, far, far_len);
+    run->sent = companion_sum_of(run->sent, own, own_len);
+    if (status.number == COMPANION_DONE)
+        run->received = companion_sum_of(run->received, far, far_len);
+    return status;
+}
 
 /* What both ends compare: circuit, who gives and gets how many bits, windows of the triples. */
 static struct companion_status compare(struct run *run, uint64_t windows)
@@ -23,7 +34,7 @@ static struct companion_status compare(struct run *run, uint64_t windows)
     own[3] = companion_sum_of(own[3], c->input_role, c->input_words);
     own[3] = companion_sum_of(own[3], c->output_width, c->output_words * sizeof *c->output_width);
     own[3] = companion_sum_of(own[3], c->output_role, c->output_words);
-    status = companion_exchange(run->link, own, sizeof own, far, sizeof far);
+    status = exchange(run, own, sizeof own, far, sizeof far);
     NEXT(status, companion_failed(far[0] != own[0] || far[1] + own[1] != COMPANION_BOTH ? COMPANION_OUT_OF_STEP
                                   : far[2] != own[2] ? COMPANION_OTHER_CIRCUIT : far[3] != own[3] ? COMPANION_OTHER_SHARES
                                   : far[4] != own[4] ? COMPANION_OTHER_WINDOWS : COMPANION_DONE));
@@ -49,6 +60,8 @@ static struct companion_status test(struct run *run, const uint8_t *own)
     for (size_t k = 0; k < c->inputs; k++)
         if (run->giver[k] != COMPANION_ROLE_1 && run->giver[k] != COMPANION_ROLE_2)
             number = COMPANION_BAD_WORD;
+        else if (run->giver[k] == run->role && own == NULL)
+            return companion_failed(COMPANION_NO_INPUTS);
         else if (run->giver[k] == run->role && *own++ > 1)
             number = COMPANION_NOT_BITS;
     return companion_failed(number);
@@ -62,7 +75,7 @@ static struct companion_status share(struct run *run, const uint8_t *own)
     for (size_t k = 0; k < inputs; k++)
         if (run->giver[k] == run->role)
             run->shares[k] = *own++ ^ (run->bits[sent++] &= 1);
-    NEXT(status, companion_exchange(run->link, run->bits, sent, run->far, inputs - sent));
+    NEXT(status, exchange(run, run->bits, sent, run->far, inputs - sent));
     for (size_t k = 0, at = 0; k < inputs; k++)
         if (run->giver[k] != run->role)
             run->shares[k] = run->far[at++];
@@ -81,13 +94,14 @@ static struct companion_status go(struct run *run, const struct companion_triple
         status = companion_refused("expander_circuit_round", run->last.number);
         *rounds += status.number == 0;
         due = run->last.bits_written;
-        NEXT(status, companion_exchange(run->link, run->bits, due, run->far, due));
+        if (due > 0)
+            NEXT(status, exchange(run, run->bits, due, run->far, due));
     } while (status.number == 0 && due > 0);
     return status;
 }
 
-/* Each end sends its shares of the outputs that the other one is to have. */
-static struct companion_status open_outputs(struct run *run, uint8_t *outputs)
+/* Each end sends its shares of the outputs that the other one is to have, and combines what it receives. */
+static struct companion_status open_outputs(struct run *run)
 {
     size_t count = run->circuit->outputs, sent = 0, due = 0;
     struct companion_status status;
@@ -96,12 +110,21 @@ static struct companion_status open_outputs(struct run *run, uint8_t *outputs)
             run->bits[sent++] = run->output[k];
         due += (run->getter[k] & run->role) != 0;
     }
-    status = companion_exchange(run->link, run->bits, sent, run->far, due);
+    status = exchange(run, run->bits, sent, run->far, due);
     for (size_t k = 0; k < due; k++)
         if (run->far[k] > 1)
             NEXT(status, companion_failed(COMPANION_NOT_BITS));
     for (size_t k = 0, at = 0; k < count && status.number == 0; k++)
-        outputs[k] = run->getter[k] & run->role ? run->output[k] ^ run->far[at++] : 0;
+        run->output[k] = run->getter[k] & run->role ? run->output[k] ^ run->far[at++] : 0;
+    return status;
+}
+
+/* What each end sent is what the other received; else something was altered on the way. Both ends find that out. */
+static struct companion_status compare_sums(struct run *run)
+{
+    uint64_t own[2] = {run->sent, run->received}, far[2];
+    struct companion_status status = companion_exchange(run->link, own, sizeof own, far, sizeof far);
+    NEXT(status, companion_failed(own[0] != far[1] || own[1] != far[0] ? COMPANION_ALTERED : COMPANION_DONE));
     return status;
 }
 
@@ -116,15 +139,22 @@ struct companion_status companion_run(const struct companion_link *link, uint8_t
         run->link = link;
         run->circuit = circuit;
         run->role = role;
+        run->sent = run->received = COMPANION_SUM;
         status = companion_count(circuit, &counts);
-        NEXT(status, companion_refused("expander_circuit_round", triples->count < counts.ands ? EXPANDER_TOO_FEW_TRIPLES : 0));
+        NEXT(status, companion_with_counts(
+            companion_refused("expander_circuit_round", triples->count < counts.ands ? EXPANDER_TOO_FEW_TRIPLES : 0),
+            EXPANDER_TOO_FEW_TRIPLES, counts.ands, triples->count));
         NEXT(status, companion_write(circuit, run->bytes, sizeof run->bytes, &run->len));
         NEXT(status, test(run, own)); /* before anything is sent */
         NEXT(status, compare(run, triples->windows));
         NEXT(status, share(run, own));
         NEXT(status, go(run, triples, &made));
-        NEXT(status, open_outputs(run, outputs));
+        NEXT(status, open_outputs(run));
     }
+    companion_tell(link, status);
+    NEXT(status, compare_sums(run));
+    if (status.number == COMPANION_DONE)
+        memcpy(outputs, run->output, circuit->outputs);
     if (rounds != NULL)
         *rounds = made;
     companion_give_back(run, sizeof *run);

@@ -1,11 +1,14 @@
-#define _POSIX_C_SOURCE 200809L
+#define _XOPEN_SOURCE 700 /* POSIX of 2008, with realpath */
 #include "inner.h"
 
 #include <errno.h>
 #include <fcntl.h>
+#include <limits.h>
 #include <stdio.h>
+#include <stdlib.h>
 #include <string.h>
 #include <sys/file.h>
+#include <sys/stat.h>
 #include <unistd.h>
 
 /* A stock's file: a mark, the stock, a sum of both, as memory has them. */
@@ -17,103 +20,195 @@ struct file {
 };
 static const char mark[17] = "expander stock 1";
 
-/* Names of the file, the next file, the lock and the folder: they stand in one piece of memory, at one distance. */
-enum { ENDING = 6, NAMES = 4 };
+/* Names of the file, the next file and the lock, in its folder: they stand in one piece of memory, at one distance. */
+enum { ENDING = 6, NAMES = 3 };
 static char *name_of(const struct companion_stock *stock, size_t which)
 {
-    return stock->path + which * (strlen(stock->path) + ENDING);
+    return stock->name + which * (strlen(stock->name) + ENDING);
 }
 
 #define failed(call) companion_failed_at(COMPANION_FILE, call, errno)
 
-/* Ends with a sync, if all went well so far, and a close. */
-static struct companion_status sync_and_close(struct companion_status status, int fd)
+/* The file that holds a stock. */
+static struct file file_of(const struct expander_stock *stock)
 {
-    NEXT(status, fsync(fd) == 0 ? companion_done() : failed("fsync"));
-    if (close(fd) != 0)
-        NEXT(status, failed("close"));
+    struct file file;
+    memset(&file, 0, sizeof file);
+    memcpy(file.mark, mark, sizeof file.mark);
+    file.stock = *stock;
+    file.sum = companion_sum_of(0, &file, offsetof(struct file, sum));
+    return file;
+}
+
+/* Takes the lock of a file that is open. */
+static struct companion_status lock_file(int fd)
+{
+    return flock(fd, LOCK_EX | LOCK_NB) == 0 ? companion_done()
+           : errno == EWOULDBLOCK ? companion_failed(COMPANION_FILE_IN_USE) : failed("flock");
+}
+
+/* Reads the file that is open, which is exactly as long as a stock's. */
+static struct companion_status read_file(int fd, struct file *file)
+{
+    for (size_t done = 0; done < sizeof *file;) {
+        ssize_t got = pread(fd, (uint8_t *)file + done, sizeof *file - done, (off_t)done);
+        done += got > 0 ? (size_t)got : 0;
+        if (got == 0)
+            return companion_failed(COMPANION_FILE_DAMAGED);
+        if (got < 0 && errno != EINTR)
+            return failed("pread");
+    }
+    return companion_done();
+}
+
+/* What the file's name stands for is the file that is open and locked, and is called so alone. Where not, other is the number.
+ * Only then does nobody else have the stock: whoever has it keeps the lock of the file that the name stands for. */
+static struct companion_status look(struct companion_stock *stock, uint32_t other, struct stat *opened)
+{
+    struct stat named;
+    if (fstat(stock->file, opened) != 0)
+        return failed("fstat");
+    if (fstatat(stock->folder, stock->name, &named, AT_SYMLINK_NOFOLLOW) != 0)
+        return errno == ENOENT ? companion_failed(other) : failed("fstatat");
+    return companion_failed(named.st_dev != opened->st_dev || named.st_ino != opened->st_ino ? other
+                            : opened->st_nlink != 1 ? COMPANION_FILE_LINKED : COMPANION_DONE);
+}
+
+static void keep_identity(struct companion_stock *stock, const struct stat *about)
+{
+    stock->device = (uint64_t)about->st_dev;
+    stock->inode = (uint64_t)about->st_ino;
+}
+
+/* The file is the one that was written last, and says what was written. */
+static struct companion_status compare_file(struct companion_stock *stock)
+{
+    struct file due = file_of(&stock->stock), found;
+    struct stat about;
+    struct companion_status status = look(stock, COMPANION_FILE_CHANGED, &about);
+    NEXT(status, companion_failed((uint64_t)about.st_dev != stock->device || (uint64_t)about.st_ino != stock->inode
+                                  || about.st_size != (off_t)sizeof found ? COMPANION_FILE_CHANGED : COMPANION_DONE));
+    NEXT(status, read_file(stock->file, &found));
+    NEXT(status, companion_failed(memcmp(&due, &found, sizeof due) != 0 ? COMPANION_FILE_CHANGED : COMPANION_DONE));
     return status;
 }
 
-static struct companion_status write_file(const char *path, const struct file *file)
+/* Writes the next file, which is locked before it gets the stock's name. */
+static struct companion_status write_next(struct companion_stock *stock, const struct file *file, int *fd)
 {
     struct companion_status status = companion_done();
-    int fd = open(path, O_WRONLY | O_CREAT | O_TRUNC | O_CLOEXEC, 0600);
-    if (fd < 0)
-        return failed("open");
+    if (unlinkat(stock->folder, name_of(stock, 1), 0) != 0 && errno != ENOENT) /* of a run that was cut short */
+        return failed("unlinkat");
+    *fd = openat(stock->folder, name_of(stock, 1), O_RDWR | O_CREAT | O_EXCL | O_NOFOLLOW | O_CLOEXEC, 0600);
+    if (*fd < 0)
+        return failed("openat");
+    status = lock_file(*fd);
     for (size_t done = 0; done < sizeof *file && status.number == 0;) {
-        ssize_t put = write(fd, (const uint8_t *)file + done, sizeof *file - done);
+        ssize_t put = write(*fd, (const uint8_t *)file + done, sizeof *file - done);
         done += put > 0 ? (size_t)put : 0;
         if (put == 0 || (put < 0 && errno != EINTR))
             status = failed("write");
     }
-    return sync_and_close(status, fd);
+    NEXT(status, fsync(*fd) == 0 ? companion_done() : failed("fsync"));
+    return status;
 }
 
 /* Saves what comes after, and takes it. Once the file is renamed it is taken even where the folder's sync fails: nobody
  * knows then which of the two a crash would leave. */
 static struct companion_status save(struct companion_stock *stock, const struct expander_stock *after)
 {
-    struct file file;
+    struct file file = file_of(after);
     struct companion_status status = companion_done();
-    int fd;
-    if (stock->path != NULL) {
-        memset(&file, 0, sizeof file);
-        memcpy(file.mark, mark, sizeof file.mark);
-        file.stock = *after;
-        file.sum = companion_sum_of(0, &file, offsetof(struct file, sum));
-        status = write_file(name_of(stock, 1), &file);
-        NEXT(status, rename(name_of(stock, 1), stock->path) == 0 ? companion_done() : failed("rename"));
+    struct stat about;
+    int fd = -1;
+    if (stock->name != NULL) {
+        if (stock->file >= 0) /* else it is created */
+            status = compare_file(stock);
+        NEXT(status, write_next(stock, &file, &fd));
+        NEXT(status, fstat(fd, &about) == 0 ? companion_done() : failed("fstat"));
+        NEXT(status, renameat(stock->folder, name_of(stock, 1), stock->folder, stock->name) == 0 ? companion_done() : failed("renameat"));
+        if (status.number != 0) {
+            if (fd >= 0)
+                close(fd);
+            return status;
+        }
+        if (stock->file >= 0)
+            close(stock->file);
+        stock->file = fd;
+        keep_identity(stock, &about);
+        status = fsync(stock->folder) == 0 ? companion_done() : failed("fsync");
     }
-    if (status.number == 0)
-        stock->stock = *after;
-    if (stock->path == NULL || status.number != 0)
-        return status;
-    fd = open(name_of(stock, 3), O_RDONLY | O_DIRECTORY | O_CLOEXEC);
-    return fd < 0 ? failed("open") : sync_and_close(companion_done(), fd);
-}
-
-static struct companion_status load(struct companion_stock *stock)
-{
-    struct { struct file file; uint8_t more; } read_in;
-    struct companion_status status = companion_done();
-    size_t done = 0;
-    ssize_t got = 1;
-    int fd = open(stock->path, O_RDONLY | O_CLOEXEC);
-    if (fd < 0)
-        return failed("open");
-    while (got != 0 && done <= sizeof read_in.file && status.number == 0) {
-        got = read(fd, (uint8_t *)&read_in + done, sizeof read_in.file + 1 - done);
-        done += got > 0 ? (size_t)got : 0;
-        if (got < 0 && errno != EINTR)
-            status = failed("read");
-    }
-    close(fd);
-    if (done != sizeof read_in.file || memcmp(read_in.file.mark, mark, sizeof read_in.file.mark) != 0
-        || read_in.file.sum != companion_sum_of(0, &read_in.file, offsetof(struct file, sum)))
-        NEXT(status, companion_failed(COMPANION_FILE_DAMAGED));
-    if (status.number == 0)
-        stock->stock = read_in.file.stock;
+    stock->stock = *after;
     return status;
 }
 
-/* Takes the path, and the lock on it. */
-static struct companion_status take_path(const char *path, struct companion_stock *stock)
+/* Opens the file, locks it, and reads it. */
+static struct companion_status load(struct companion_stock *stock)
+{
+    struct file file;
+    struct stat about;
+    struct companion_status status;
+    if ((stock->file = openat(stock->folder, stock->name, O_RDWR | O_NOFOLLOW | O_CLOEXEC)) < 0)
+        return failed("openat");
+    status = lock_file(stock->file);
+    NEXT(status, look(stock, COMPANION_FILE_IN_USE, &about)); /* where the name stands for another, whoever has the stock wrote it */
+    NEXT(status, companion_failed(about.st_size != (off_t)sizeof file ? COMPANION_FILE_DAMAGED : COMPANION_DONE));
+    NEXT(status, read_file(stock->file, &file));
+    if (status.number == 0
+        && (memcmp(file.mark, mark, sizeof file.mark) != 0 || file.sum != companion_sum_of(0, &file, offsetof(struct file, sum))))
+        status = companion_failed(COMPANION_FILE_DAMAGED);
+    if (status.number == 0) {
+        keep_identity(stock, &about);
+        stock->stock = file.stock;
+    }
+    return status;
+}
+
+/* Takes the folder and the name in it, following links to a file that is to be there, and the lock. */
+static struct companion_status take_path(const char *path, int there, struct companion_stock *stock)
+{
+    char whole[PATH_MAX], *name;
+    if (strlen(path) >= sizeof whole) {
+        errno = ENAMETOOLONG;
+        return failed("open");
+    }
+    if (there && realpath(path, whole) == NULL)
+        return failed("realpath");
+    if (!there)
+        strcpy(whole, path);
+    name = strrchr(whole, '/') == NULL ? whole : strrchr(whole, '/') + 1;
+    if (*name == '\0') {
+        errno = EISDIR;
+        return failed("open");
+    }
+    if ((stock->name = companion_take(NAMES * (strlen(name) + ENDING))) == NULL)
+        return companion_failed(COMPANION_NO_MEMORY);
+    strcpy(stock->name, name);
+    strcat(strcpy(name_of(stock, 1), name), ".new");
+    strcat(strcpy(name_of(stock, 2), name), ".lock");
+    *name = '\0'; /* the folder is left */
+    if ((stock->folder = open(whole[0] == '\0' ? "." : whole, O_RDONLY | O_DIRECTORY | O_CLOEXEC)) < 0)
+        return failed("open");
+    if ((stock->lock = openat(stock->folder, name_of(stock, 2), O_RDWR | O_CREAT | O_NOFOLLOW | O_CLOEXEC, 0600)) < 0)
+        return failed("openat");
+    return lock_file(stock->lock);
+}
+
+/* A stock that has nothing yet. */
+static void begin(struct companion_stock *stock)
 {
     memset(stock, 0, sizeof *stock);
-    stock->lock = -1;
-    if ((stock->path = companion_take(NAMES * (strlen(path) + ENDING))) == NULL)
-        return companion_failed(COMPANION_NO_MEMORY);
-    strcpy(stock->path, path);
-    strcat(strcpy(name_of(stock, 1), path), ".new");
-    strcat(strcpy(name_of(stock, 2), path), ".lock");
-    strcpy(name_of(stock, 3), path);
-    strcpy(strrchr(path, '/') == NULL ? name_of(stock, 3) : strrchr(name_of(stock, 3), '/') + 1, ".");
-    if ((stock->lock = open(name_of(stock, 2), O_RDWR | O_CREAT | O_CLOEXEC, 0600)) < 0)
-        return failed("open");
-    if (flock(stock->lock, LOCK_EX | LOCK_NB) != 0)
-        return errno == EWOULDBLOCK ? companion_failed(COMPANION_FILE_IN_USE) : failed("flock");
-    return companion_done();
+    stock->folder = stock->lock = stock->file = -1;
+    stock->process = getpid();
+}
+
+/* The label's test, with both labels; and that there are callers. */
+static struct companion_status test_label(const struct companion_stock *stock, struct expander_label label, size_t caller,
+                                          struct expander_drawn *drawn)
+{
+    *drawn = expander_draw(stock->stock, label, caller, 0);
+    return companion_with_labels(companion_refused("expander_draw", drawn->number), EXPANDER_LABEL_NOT_IN_USE, label.bytes,
+                                 stock->stock.label.bytes);
 }
 
 struct companion_status companion_create_stock(const char *path, struct expander_label label, size_t outputs,
@@ -121,11 +216,12 @@ struct companion_status companion_create_stock(const char *path, struct expander
 {
     struct expander_opened_stock opened = expander_open_stock(label, outputs, shares, shares_len);
     struct companion_status status = companion_refused("expander_open_stock", opened.number);
-    memset(stock, 0, sizeof *stock);
+    struct stat about;
+    begin(stock);
     if (path != NULL) {
-        NEXT(status, take_path(path, stock));
-        NEXT(status, access(path, F_OK) == 0 ? companion_failed(COMPANION_FILE_THERE)
-                     : errno == ENOENT ? companion_done() : failed("access")); /* it may be there */
+        NEXT(status, take_path(path, 0, stock));
+        NEXT(status, fstatat(stock->folder, stock->name, &about, AT_SYMLINK_NOFOLLOW) == 0 ? companion_failed(COMPANION_FILE_THERE)
+                     : errno == ENOENT ? companion_done() : failed("fstatat")); /* it may be there */
     }
     NEXT(status, save(stock, &opened.stock));
     if (status.number != 0)
@@ -135,9 +231,12 @@ struct companion_status companion_create_stock(const char *path, struct expander
 
 struct companion_status companion_open_stock(const char *path, struct expander_label label, struct companion_stock *stock)
 {
-    struct companion_status status = take_path(path, stock);
+    struct expander_drawn drawn;
+    struct companion_status status;
+    begin(stock);
+    status = take_path(path, 1, stock);
     NEXT(status, load(stock));
-    NEXT(status, companion_refused("expander_draw", expander_draw(stock->stock, label, 0, 0).number)); /* the label's test */
+    NEXT(status, test_label(stock, label, 0, &drawn));
     if (status.number != 0)
         companion_close_stock(stock);
     return status;
@@ -145,10 +244,18 @@ struct companion_status companion_open_stock(const char *path, struct expander_l
 
 void companion_close_stock(struct companion_stock *stock)
 {
-    if (stock->path != NULL && stock->lock >= 0)
-        close(stock->lock);
-    companion_give_back(stock->path, stock->path == NULL ? 0 : NAMES * (strlen(stock->path) + ENDING));
+    int fds[3] = {stock->file, stock->lock, stock->folder};
+    for (size_t k = 0; k < 3; k++)
+        if (stock->name != NULL && fds[k] >= 0)
+            close(fds[k]);
+    companion_give_back(stock->name, stock->name == NULL ? 0 : NAMES * (strlen(stock->name) + ENDING));
     memset(stock, 0, sizeof *stock);
+}
+
+/* A child has a copy of the stock, and would draw what its parent draws. What is closed has no process. */
+static struct companion_status test_process(const struct companion_stock *stock)
+{
+    return companion_failed(stock->process != 0 && stock->process != getpid() ? COMPANION_FORKED : COMPANION_DONE);
 }
 
 /* Both ends say what they draw and where they stand; skip is how far this one is behind. */
@@ -162,26 +269,35 @@ static struct companion_status agree(const struct companion_link *link, struct e
     if (status.number != 0)
         return status;
     *skip = far[5] > first ? (size_t)(far[5] - first) : 0;
-    return companion_failed(memcmp(own, far, 3 * sizeof *own) != 0 ? COMPANION_OUT_OF_STEP
-                            : memcmp(own + 3, far + 3, 2 * sizeof *own) != 0 ? COMPANION_OTHER_DEALING : COMPANION_DONE);
+    status = companion_failed(memcmp(own, far, 3 * sizeof *own) != 0 ? COMPANION_OUT_OF_STEP
+                              : memcmp(own + 3, far + 3, 2 * sizeof *own) != 0 ? COMPANION_OTHER_DEALING : COMPANION_DONE);
+    status.parts = status.number == COMPANION_OTHER_DEALING ? COMPANION_PART_LABEL : 0;
+    return companion_with_labels(status, COMPANION_OTHER_DEALING, label.bytes, (const uint8_t *)(far + 3));
 }
 
 struct companion_status companion_draw(struct companion_stock *stock, const struct companion_link *link,
                                        struct expander_label label, size_t caller, size_t count, size_t *first)
 {
-    struct expander_drawn drawn = expander_draw(stock->stock, label, caller, 0); /* where it stands */
-    struct companion_status status = companion_refused("expander_draw", drawn.number);
-    size_t skip = 0;
+    struct expander_drawn drawn;
+    struct companion_status status = test_process(stock);
+    size_t skip = 0, left;
     *first = 0;
-    if (link != NULL)
+    NEXT(status, test_label(stock, label, caller, &drawn)); /* and where it stands */
+    if (link != NULL) {
         NEXT(status, agree(link, label, caller, count, drawn.first, &skip));
-    if (status.number == 0) {
-        drawn = expander_draw(stock->stock, label, caller, skip);
-        if (drawn.number == 0)
-            drawn = expander_draw(drawn.stock, label, caller, count);
-        status = companion_refused("expander_draw", drawn.number);
+        companion_tell(link, status);
     }
+    if (status.number != 0)
+        return status;
+    drawn = expander_draw(stock->stock, label, caller, skip);
+    if (drawn.number == 0)
+        drawn = expander_draw(drawn.stock, label, caller, count);
+    left = stock->stock.end[caller] > stock->stock.next[caller] ? stock->stock.end[caller] - stock->stock.next[caller] : 0;
+    status = companion_with_counts(companion_refused("expander_draw", drawn.number), EXPANDER_SHARE_SPENT,
+                                   count > SIZE_MAX - skip ? SIZE_MAX : skip + count, left);
     NEXT(status, save(stock, &drawn.stock));
+    if (link != NULL)
+        status = companion_settle(link, status);
     if (status.number == 0)
         *first = drawn.first;
     return status;
@@ -190,7 +306,9 @@ struct companion_status companion_draw(struct companion_stock *stock, const stru
 struct companion_status companion_pass(struct companion_stock *stock, struct expander_label label, size_t outputs)
 {
     struct expander_opened_stock passed = expander_pass_stock(stock->stock, label, outputs);
-    struct companion_status status = companion_refused("expander_pass_stock", passed.number);
+    struct companion_status status = test_process(stock);
+    NEXT(status, companion_with_labels(companion_refused("expander_pass_stock", passed.number), EXPANDER_LABEL_NOT_ABOVE, label.bytes,
+                                       stock->stock.label.bytes));
     NEXT(status, save(stock, &passed.stock));
     return status;
 }

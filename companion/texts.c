@@ -6,8 +6,35 @@
 
 struct companion_status companion_failed_at(uint32_t number, const char *call, int system)
 {
-    struct companion_status status = {number, number == COMPANION_DONE ? "" : call, 0, system};
+    struct companion_status status;
+    memset(&status, 0, sizeof status);
+    status.number = number;
+    status.call = number == COMPANION_DONE ? "" : call;
+    status.system = system;
     return status;
+}
+
+struct companion_status companion_with_labels(struct companion_status status, uint32_t number, const uint8_t *label, const uint8_t *other)
+{
+    if (status.number == number) {
+        memcpy(status.label.bytes, label, sizeof status.label.bytes);
+        memcpy(status.other.bytes, other, sizeof status.other.bytes);
+    }
+    return status;
+}
+
+struct companion_status companion_with_counts(struct companion_status status, uint32_t number, size_t needed, size_t there)
+{
+    if (status.number == number) {
+        status.needed = needed;
+        status.there = there;
+    }
+    return status;
+}
+
+uint32_t companion_version(void)
+{
+    return COMPANION_VERSION_NUMBER;
 }
 
 /* What the expander's calls test. Calls are named by what follows expander_ in them, each between blanks; a row with none
@@ -71,7 +98,7 @@ static const struct { uint32_t number; const char *calls, *text; } tests[] = {
     {COMPANION_CLOSED, "", "the far end closed the link"},
     {COMPANION_NOT_MOVED, "", "the link failed, or its time was over"},
     {COMPANION_OUT_OF_STEP, "", "the far end makes another call, or asks for another count, window or role"},
-    {COMPANION_OTHER_DEALING, "", "the far end's record is of another dealing: field, sizes, code key or label differ, or the end"},
+    {COMPANION_OTHER_DEALING, "", "the far end's record is of another dealing, or of the same end"},
     {COMPANION_NOT_PAIRED, "", "a sacrificed triple does not hold: the ends' records were not dealt together"},
     {COMPANION_NOT_COMPARED, "", "the pair's heads were not compared with the far end's"},
     {COMPANION_WRONG_RECORD, "", "a noise record and a scalar record of field 1 are due, in this order"},
@@ -100,34 +127,93 @@ static const struct { uint32_t number; const char *calls, *text; } tests[] = {
     {COMPANION_TEXT_ENDS, "", "the text ends before its last gate"},
     {COMPANION_TEXT_AFTER, "", "something follows where the line, or the text, is to end"},
     {COMPANION_TEXT_UNMADE, "", "no gate makes an output wire"},
+    {COMPANION_FAR, "", "the far end refused"},
+    {COMPANION_ALTERED, "", "what one end sent is not what the other received: it was altered on the way"},
+    {COMPANION_USED, "", "the window, or a part of it, was opened or made triples before"},
+    {COMPANION_NO_INPUTS, "", "own is NULL, and the circuit has inputs of this end"},
+    {COMPANION_FORKED, "", "the stock was opened in another process: a process that forks opens its stock afterwards"},
+    {COMPANION_FILE_CHANGED, "", "the stock's file is not what was written last: it was replaced, changed, moved or removed"},
+    {COMPANION_FILE_LINKED, "", "the stock's file has a second name, a hard link, under which it would be handed out again"},
 };
+
+/* The calls of the expander, as above. */
+static const char calls[] =
+    " deal describe noise_offline scalar_offline noise_online scalar_online noise_direct scalar_direct noise_pads scalar_pads"
+    " correction_bits mask_messages unmask_messages triples describe_circuit circuit_step circuit_round open_stock draw preview"
+    " pass_stock read_amount write_amount version ";
+
+/* Whether a name of len characters stands between blanks among some. */
+static int is_among(const char *names, const char *name, size_t len)
+{
+    while (*names != '\0' && (len == 0 || strncmp(names + 1, name, len) != 0 || names[1 + len] != ' '))
+        names += 1 + strcspn(names + 1, " ");
+    return *names != '\0';
+}
 
 const char *companion_meaning(const char *call, uint32_t number)
 {
     size_t skip = strncmp(call, "expander_", 9) == 0 ? 9 : 0, len = strlen(call + skip);
-    for (size_t k = 0; k < sizeof tests / sizeof *tests; k++) {
-        const char *at = tests[k].calls;
-        if (tests[k].number != number)
-            continue;
-        while (*at != '\0' && (len == 0 || strncmp(at + 1, call + skip, len) != 0 || at[1 + len] != ' '))
-            at += 1 + strcspn(at + 1, " ");
-        if (tests[k].calls[0] == '\0' || *at != '\0')
+    if (number != COMPANION_DONE && number < COMPANION_NO_MEMORY && call[0] != '\0' && !is_among(calls, call + skip, len))
+        return "no such call";
+    for (size_t k = 0; k < sizeof tests / sizeof *tests; k++)
+        if (tests[k].number == number && (tests[k].calls[0] == '\0' || is_among(tests[k].calls, call + skip, len)))
             return tests[k].text;
-    }
     return "no such number";
+}
+
+/* A label as the number that it is: in decimal up to 64 bits, else in hexadecimal. */
+enum { LABEL_TEXT = 2 + 32 + 1 };
+static void label_text(struct expander_label label, char text[LABEL_TEXT])
+{
+    uint64_t low, high;
+    memcpy(&low, label.bytes, sizeof low);
+    memcpy(&high, label.bytes + sizeof low, sizeof high);
+    if (high == 0)
+        snprintf(text, LABEL_TEXT, "%llu", (unsigned long long)low);
+    else
+        snprintf(text, LABEL_TEXT, "0x%llx%016llx", (unsigned long long)high, (unsigned long long)low);
+}
+
+/* What a status says beyond its meaning: counts, labels, parts of heads. */
+enum { DETAIL_TEXT = 170 };
+static void detail_text(const struct companion_status *status, char text[DETAIL_TEXT])
+{
+    static const char *const parts[] = {"end", "field", "d", "g", "t", "l", "n", "code key", "label"};
+    char label[LABEL_TEXT], other[LABEL_TEXT];
+    size_t len = 0;
+    int labels = strcmp((label_text(status->label, label), label), (label_text(status->other, other), other)) != 0;
+    text[0] = '\0';
+    if (status->number == EXPANDER_TOO_FEW_TRIPLES && status->needed > 0)
+        snprintf(text, DETAIL_TEXT, ": %zu are needed, %zu are there", status->needed, status->there);
+    if (status->number == EXPANDER_SHARE_SPENT && status->needed > 0)
+        snprintf(text, DETAIL_TEXT, ": %zu are asked for, %zu are left", status->needed, status->there);
+    if ((status->number == EXPANDER_LABEL_NOT_ABOVE || status->number == EXPANDER_LABEL_NOT_IN_USE) && (labels || strcmp(label, "0") != 0))
+        snprintf(text, DETAIL_TEXT, ": label is %s, in use is %s", label, other);
+    if (status->number == COMPANION_SAME_LABEL)
+        snprintf(text, DETAIL_TEXT, ": %s", label);
+    for (size_t k = 0; status->number == COMPANION_OTHER_DEALING && k < sizeof parts / sizeof *parts; k++)
+        if (status->parts >> k & 1)
+            len += (size_t)snprintf(text + len, DETAIL_TEXT - len, "%s%s", len == 0 ? ": what differs is " : ", ", parts[k]);
+    if (len > 0 && labels)
+        snprintf(text + len, DETAIL_TEXT - len, "; label %s here, %s there", label, other);
 }
 
 void companion_text(struct companion_status status, char *text, size_t text_len)
 {
-    char reason[100] = "";
+    char reason[100] = "", detail[DETAIL_TEXT];
     const char *meaning = companion_meaning(status.call, status.number);
     int named = status.number != COMPANION_DONE && status.call[0] != '\0';
     if (status.system != 0 && strerror_r(status.system, reason, sizeof reason) != 0)
         reason[0] = '\0';
+    detail_text(&status, detail);
     if (status.line > 0)
         snprintf(text, text_len, "line %zu: %s", status.line, meaning);
+    else if (status.number == COMPANION_FAR)
+        snprintf(text, text_len, "%s with %u: %s", meaning, (unsigned)status.far, companion_meaning("", status.far));
     else if (status.number != COMPANION_DONE && status.number < COMPANION_NO_MEMORY)
-        snprintf(text, text_len, "%s refused with %u: %s", status.call, (unsigned)status.number, meaning);
+        snprintf(text, text_len, "%s refused with %u: %s%s", status.call, (unsigned)status.number, meaning, detail);
+    else if (detail[0] != '\0')
+        snprintf(text, text_len, "%s%s", meaning, detail);
     else
         snprintf(text, text_len, "%s%s%s%s%s", meaning, named ? ": " : "", named ? status.call : "",
                  reason[0] != '\0' ? ": " : "", reason);

@@ -30,7 +30,7 @@ static struct companion_status run_end(int end, int fd)
 {
     static struct companion_pair pair;
     static struct companion_triples triples;
-    struct companion_socket far = {fd, 30000, 0, 0};
+    struct companion_socket far = {fd, 30000, 0, 0, 0};
     struct companion_link link = {companion_socket_send, companion_socket_receive, &far};
     struct companion_status status = companion_open_pair(dealt[end].noise, dealt[end].noise_len, dealt[1 - end].scalar,
                                                          dealt[1 - end].scalar_len, &pair);
@@ -38,6 +38,7 @@ static struct companion_status run_end(int end, int fd)
         status = companion_compare_pair(&link, &pair);
     if (status.number == 0)
         status = companion_add_triples(&pair, 0, counts.ands, &triples);
+    companion_limit(&far, 300000); /* for the whole run, beside half a minute for each move */
     if (status.number == 0)
         status = companion_run(&link, pair.role, &circuit, own, &triples, outputs, NULL);
     companion_close_pair(&pair);

@@ -13,7 +13,10 @@ enum { FIRST = 100, COUNT = 3 }; /* at most EXPANDER_BATCH_MAX */
 
 static struct companion_status refused(const char *call, uint32_t number)
 {
-    struct companion_status status = {number, call, 0, 0};
+    struct companion_status status;
+    memset(&status, 0, sizeof status);
+    status.number = number;
+    status.call = call;
     return status;
 }
 
@@ -71,7 +74,7 @@ int main(void)
         memcpy(messages + 16 * k, texts[k], strlen(texts[k]));
 
     noise = fork() != 0;
-    struct companion_socket far = {fds[noise], 30000, 0, 0};
+    struct companion_socket far = {fds[noise], 30000, 0, 0, 0};
     struct companion_link link = {companion_socket_send, companion_socket_receive, &far};
     status = noise ? companion_open(dealt.noise, dealt.noise_len, &end) : companion_open(dealt.scalar, dealt.scalar_len, &end);
     companion_wipe(&dealt, sizeof dealt);

@@ -19,7 +19,7 @@ static struct companion_status run_end(int end, int fd, uint64_t wealth, uint8_t
     static struct companion_pair pair;
     static struct companion_triples triples;
     const struct companion_dealt *noise = &dealt[end], *scalar = &dealt[1 - end];
-    struct companion_socket far = {fd, 30000, 0, 0};
+    struct companion_socket far = {fd, 30000, 0, 0, 0};
     struct companion_link link = {companion_socket_send, companion_socket_receive, &far};
     struct companion_status status;
     uint8_t own[BITS];

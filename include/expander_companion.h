@@ -21,13 +21,22 @@
  *             leave on the stack, is not wiped.
  *   Links     Both ends make the same calls in the same order. Each sends first and then receives, so
  *             a link is to hold 8,192 bytes of one end before the other reads. Every call that is lent
- *             a link may also return COMPANION_CLOSED and COMPANION_NOT_MOVED.
+ *             a link may also return COMPANION_CLOSED, COMPANION_NOT_MOVED and COMPANION_FAR.
+ *   Refusals  An end that refuses in such a call sends its number, as long as the other is to receive in
+ *             that call, and the other returns COMPANION_FAR with the number in far. After a call
+ *             failed close the link: it may hold what the far end has sent. Only where draws at both
+ *             ends return 15 does it go on.
+ *   Forks     What is open belongs to the process that opened it. A daemon forks first and then opens
+ *             its stock. Where it was open before, the child is refused (COMPANION_FORKED, and nothing
+ *             is sent), closes its copy, and opens the stock once the parent has closed it; the parent
+ *             goes on.
  *
  * Safe use
  *   All that expander.h says under this name holds here too. Further:
- *   Honest    Both ends are taken to keep to the steps. What is compared finds mistakes, not lies:
- *             what an end alters within what is admitted goes unnoticed. Who is at a link's other
- *             end, and who reads it, is for the caller to settle.
+ *   Honest    Both ends are taken to keep to the steps. What is compared finds mistakes and accidents,
+ *             not lies: what an end, or who stands between both, alters within what is admitted, sums
+ *             too, goes unnoticed. Who is at a link's other end, and who reads it, is for the caller to
+ *             settle.
  *   Sizes     None is recommended. In field 1 whoever knows the code key finds two outputs whose u
  *             lean to being equal: by 2^-26 (n = 32,768) to 2^-55 (n = 64, N = 2^10) at t = 64 and
  *             l = 32, the largest, and by 2^-17 to 2^-23 at l = 16, n = 1,024, N = 2^12. Smaller t
@@ -41,6 +50,16 @@
 #ifdef __cplusplus
 extern "C" {
 #endif
+
+/* The companion's own version, beside the expander's: as a text, and as a number that rises, 10000 major
+ * + 100 minor + patch. companion_version gives the number of the companion that is linked or loaded.
+ *
+ * Within a major version no struct, parameter, number or name changes and no call goes; a call sends what
+ * it sent, so both ends may have different versions of it; and a stock's file stays readable. A minor
+ * version adds calls and numbers, a patch adds nothing. Sentences may change in any version. The shared
+ * object's name has the major version, and it needs an expander of major version 2, 2.1.0 or later. */
+#define COMPANION_VERSION "1.0.0"
+#define COMPANION_VERSION_NUMBER 10000
 
 /* Numbers of the companion's own. */
 #define COMPANION_DONE 0u
@@ -79,6 +98,14 @@ extern "C" {
 #define COMPANION_TEXT_ENDS 131u     /* it ends before its last gate */
 #define COMPANION_TEXT_AFTER 132u    /* something follows where the line, or the text, is to end */
 #define COMPANION_TEXT_UNMADE 133u   /* no gate makes an output wire */
+/* Of all calls again. */
+#define COMPANION_FAR 134u           /* the far end refused: its number is in far */
+#define COMPANION_ALTERED 135u       /* in a run, what one end sent is not what the other received */
+#define COMPANION_USED 136u          /* the window, or a part of it, was opened or made triples before */
+#define COMPANION_NO_INPUTS 137u     /* own is NULL, and inputs of this end are due */
+#define COMPANION_FORKED 138u        /* the stock was opened in another process */
+#define COMPANION_FILE_CHANGED 139u  /* the stock's file is not what was written last */
+#define COMPANION_FILE_LINKED 140u   /* the stock's file has a second name, a hard link */
 
 /* Who gives an input (one of the two), and to whom an output is opened. Role 1 is the noise end of a
  * pair's first dealing, as in expander.h. */
@@ -96,13 +123,28 @@ extern "C" {
 #define COMPANION_BRISTOL_MAX (64 + 32 * EXPANDER_WIRES_MAX + 32 * EXPANDER_CIRCUIT_OUTPUTS_MAX)
 
 /* A number; the call of the expander or of the system that refused, or ""; the line of a Bristol
- * text, or 0; what errno was, or 0. */
+ * text, or 0; what errno was, or 0. What follows is 0 but with the numbers named. */
 struct companion_status {
     uint32_t number;
     const char *call;
     size_t line;
     int system;
+    uint32_t far;                       /* COMPANION_FAR: the far end's number */
+    uint32_t parts;                     /* COMPANION_OTHER_DEALING: COMPANION_PART_.. that differ */
+    size_t needed, there;               /* 18: triples; 15: indices that were asked for, and are left */
+    struct expander_label label, other; /* 20, 21: the caller's, the one in use; 105, 109: here, there */
 };
+
+/* Parts of a record's head. */
+#define COMPANION_PART_END 1u
+#define COMPANION_PART_FIELD 2u
+#define COMPANION_PART_DEPTH 4u
+#define COMPANION_PART_BRANCH_BITS 8u
+#define COMPANION_PART_TREES 16u
+#define COMPANION_PART_TERMS 32u
+#define COMPANION_PART_OUTPUTS 64u
+#define COMPANION_PART_CODE_KEY 128u
+#define COMPANION_PART_LABEL 256u
 
 /* The field, and d, g, t, l and n of expander.h. */
 struct companion_sizes {
@@ -137,13 +179,16 @@ struct companion_window {
 
 /* An end's part in two dealings of field 1 with the roles exchanged. The dealing with the lower label
  * is the first, and its noise end has role 1. Both dealings go by one window, and by one stock, whose
- * label is the first one's and whose n is the smaller of both. */
+ * label is the first one's and whose n is the smaller of both. A pair remembers which outputs were
+ * opened or made triples, and refuses them a second time (COMPANION_USED). Once it is closed that is
+ * forgotten: across openings a stock keeps it. */
 struct companion_pair {
     struct companion_end noise, scalar;
     struct expander_label label; /* the first dealing's */
     size_t outputs;              /* the smaller n */
     uint8_t role;                /* 1 or 2 */
     uint8_t compared;            /* 1 once companion_compare_pair is done */
+    uint8_t used[EXPANDER_OUTPUTS_MAX / 8]; /* a bit an output, lowest first */
 };
 
 /* AND triples of windows of a pair, three bytes each, for one run; all 0 at first. windows is a sum of
@@ -165,17 +210,21 @@ struct companion_link {
 };
 
 /* A context for companion_socket_send and companion_socket_receive: an open socket or pipe, how long
- * to wait for a move (-1: without end), and the bytes moved so far. Its owner may write all of it. */
+ * to wait for a move (-1: without end), the bytes moved so far, and when all is to be over, as
+ * companion_limit sets it (0: never). Its owner may write all of it. */
 struct companion_socket {
     int fd, milliseconds;
     size_t sent, received;
+    int64_t until;
 };
 
-/* A stock that is kept in a file or, where path is NULL, in memory alone. */
+/* A stock that is kept in a file or, where name is NULL, in memory alone. */
 struct companion_stock {
     struct expander_stock stock;
-    char *path;
-    int lock;
+    char *name;             /* the file's, in its folder */
+    int folder, lock, file; /* descriptors: the folder, the lock file, and the file as written last */
+    uint64_t device, inode; /* which file that is */
+    int64_t process;        /* which opened it */
 };
 
 /* A wire of a circuit: inputs first, then gates. A word is wires, lowest bit first. */
@@ -207,11 +256,15 @@ void companion_text(struct companion_status status, char *text, size_t text_len)
 
 /** Say what a call of expander.h tests for a number, or what a number of the companion's own means.
  *
- *  Returns:  a text that stays
- *  In:       call:   the call's name, "expander_deal"; from 100 on it does not count
- *            number: 0 to 21, or 100 to 133
+ *  Returns:  a text that stays; "no such call", "no such number"
+ *  In:       call:   the call's name, "expander_deal", or "" for what a number says in most calls; for 0
+ *                    and from 100 on it does not count
+ *            number: 0 to 21, or 100 to 140
  */
 const char *companion_meaning(const char *call, uint32_t number);
+
+/** The version of the companion that is linked or loaded: COMPANION_VERSION_NUMBER of its header. */
+uint32_t companion_version(void);
 
 /** Write zeros that the compiler does not leave out. */
 void companion_wipe(void *memory, size_t len);
@@ -262,17 +315,18 @@ struct companion_status companion_open_pair(
     struct companion_pair *pair);
 void companion_close_pair(struct companion_pair *pair);
 
-/** Add the triples of a window of a pair to those that are there.
+/** Add the triples of a window of a pair to those that are there. The pair gives them once, whether a
+ *  run spends them or they are closed.
  *
- *  Returns:  0; COMPANION_NOT_COMPARED; 7 (first + count is above a dealing's n);
+ *  Returns:  0; COMPANION_NOT_COMPARED; 7 (first + count is above a dealing's n); COMPANION_USED;
  *            COMPANION_NO_MEMORY
- *  In:       pair, first, count: the window in both dealings, the same at both ends
- *  Out:      triples: all 0 at first; spent by companion_run, or closed by companion_free_triples
- *  Failed:   triples are as they were.
+ *  In:       first, count: the window in both dealings, the same at both ends
+ *  Out:      pair:    remembers the window
+ *            triples: all 0 at first; spent by companion_run, or closed by companion_free_triples
+ *  Failed:   pair and triples are as they were.
  */
 struct companion_status companion_add_triples(
-    const struct companion_pair *pair, size_t first, size_t count,
-    struct companion_triples *triples);
+    struct companion_pair *pair, size_t first, size_t count, struct companion_triples *triples);
 void companion_free_triples(struct companion_triples *triples);
 
 /** The two functions of a link over a socket or pipe, whose context is a struct companion_socket. A
@@ -280,6 +334,15 @@ void companion_free_triples(struct companion_triples *triples);
  *  not turned that off. Where the time is over errno is ETIMEDOUT. */
 ptrdiff_t companion_socket_send(void *socket, const uint8_t *bytes, size_t len);
 ptrdiff_t companion_socket_receive(void *socket, uint8_t *bytes, size_t len);
+
+/** Set a limit on all moves of a socket together, from now on: before a run, on the whole of it, beside
+ *  the limit on each move. A far end that moves a byte now and then does not outlast it. Functions of the
+ *  caller's own keep such a limit themselves.
+ *
+ *  In:       milliseconds: 0 or more; -1: without end
+ *  Out:      socket:       its until
+ */
+void companion_limit(struct companion_socket *socket, int milliseconds);
 
 /** Send, or receive, all of len bytes.
  *
@@ -295,7 +358,8 @@ struct companion_status companion_receive(
  *  of which no triples are made before. Records with equal heads need not have been dealt together:
  *  that is companion_check's.
  *
- *  Returns:  0; COMPANION_OTHER_DEALING, COMPANION_OUT_OF_STEP
+ *  Returns:  0; COMPANION_OTHER_DEALING (the status has the parts that differ, and both labels),
+ *            COMPANION_OUT_OF_STEP
  *  In:       link
  *            end, or pair, whose member compared says afterwards whether it is done
  */
@@ -315,25 +379,31 @@ struct companion_status companion_compare_pair(
  *
  *  Returns:  0; COMPANION_NOT_PAIRED; COMPANION_OUT_OF_STEP (the far end checks another window);
  *            COMPANION_NOT_BITS; as companion_add_triples
- *  In:       link, pair, first, count
+ *  In:       link, first, count
+ *  Out:      pair: remembers the window, also where the check fails after its triples were made
  */
 struct companion_status companion_check(
-    const struct companion_link *link, const struct companion_pair *pair, size_t first,
-    size_t count);
+    const struct companion_link *link, struct companion_pair *pair, size_t first, size_t count);
 
 /** Create a stock and its file, or open the stock of a file.
  *
  *  A draw or a passage is saved (written, synced, renamed, the folder synced) before its window is
  *  given, so the file is never older than what was handed out. PATH.new is the next file until it is
- *  whole. PATH.lock is locked while the stock is open, and stays. A crash costs the draw that was being
- *  saved: its indices may be spent and used by nobody.
- *  NOT PREVENTED: a file that is restored from a backup, or reached by another name, hands indices out
- *  again.
+ *  whole. PATH.lock and the file itself are locked while the stock is open; PATH.lock stays, and where it
+ *  is removed the file's own lock keeps others out. A crash costs the draw that was being saved: its
+ *  indices may be spent and used by nobody.
+ *  The file    is the one that was opened, in the folder where it was then, whatever chdir does.
+ *              Symbolic links are followed once, when it is opened. Before it is written again it is
+ *              compared with what was written last: where another file stands there, or none, or it says
+ *              something else, or has a second name, nothing is drawn.
+ *  Fork        A child is refused; a daemon forks first and then opens its stock (Forks, above).
+ *  NOT PREVENTED: a copy of the file, or one that is restored from a backup while the stock is closed,
+ *  hands indices out again.
  *
  *  Returns:  0; COMPANION_NO_MEMORY; COMPANION_FILE, COMPANION_FILE_IN_USE
- *            create: 2, 16 (as expander_open_stock); COMPANION_FILE_THERE
+ *            create: 2, 16 (as expander_open_stock); COMPANION_FILE_THERE (a link too)
  *            open:   21 (the file's stock has another label), 14 (it has no callers);
- *                    COMPANION_FILE_DAMAGED
+ *                    COMPANION_FILE_DAMAGED, COMPANION_FILE_LINKED
  *  In:       path:   the file's; where it is NULL, create keeps the stock in memory alone
  *            label:  of the dealing, or of a pair its label
  *            outputs, shares: as expander_open_stock has them
@@ -347,15 +417,18 @@ struct companion_status companion_open_stock(
 void companion_close_stock(struct companion_stock *stock);
 
 /** Draw a caller's next count indices. With a link the far end draws too: both say where they stand,
- *  and the one that is behind, after a crash, first spends what the other has spent.
+ *  and the one that is behind, after a crash, first spends what the other has spent; once it is saved,
+ *  both say so.
  *
- *  Returns:  0; 21, 14, 15 (as expander_draw); COMPANION_FILE; with a link COMPANION_OUT_OF_STEP (the
- *            far end draws for another caller, or another count), COMPANION_OTHER_DEALING
+ *  Returns:  0; 21, 14, 15 (as expander_draw); COMPANION_FORKED; COMPANION_FILE, COMPANION_FILE_CHANGED,
+ *            COMPANION_FILE_LINKED; with a link COMPANION_OUT_OF_STEP (the far end draws for another
+ *            caller, or another count), COMPANION_OTHER_DEALING
  *  In:       link:  or NULL
  *            label, caller, count: as expander_draw has them
  *  Out:      stock: after the draw, as its file
  *            first: the window's first index
- *  Failed:   the stock is as it was; but where the folder's sync failed the indices are spent.
+ *  Failed:   the stock is as it was; but where the folder's sync failed, or with a link what came after
+ *            saving (COMPANION_FAR, CLOSED, NOT_MOVED), the indices may be spent.
  */
 struct companion_status companion_draw(
     struct companion_stock *stock, const struct companion_link *link, struct expander_label label,
@@ -368,7 +441,8 @@ struct companion_status companion_draw(
  *  After a crash in a passage, or between both ends' passages, a stock has the one label or the other:
  *  open it with the fresh label and, where that returns 21, with the one before, and then pass it.
  *
- *  Returns:  0; 2, 20, 16 (as expander_pass_stock); COMPANION_FILE
+ *  Returns:  0; 2, 20, 16 (as expander_pass_stock); COMPANION_FORKED; COMPANION_FILE,
+ *            COMPANION_FILE_CHANGED, COMPANION_FILE_LINKED
  *  In:       label, outputs: of the fresh dealing, or pair
  *  Out:      stock: after the passage, as its file
  *  Failed:   the stock is as it was; but where the folder's sync failed it has passed.
@@ -504,22 +578,34 @@ struct companion_status companion_write_bristol(
     const struct companion_circuit *circuit, char *text, size_t len, size_t *written);
 
 /** Run a circuit jointly. Both ends compare circuit, words of inputs and outputs with their roles, and
- *  windows of the triples; share their inputs under random masks; run in rounds; open the outputs.
+ *  windows of the triples; share their inputs under random masks; run in rounds; send their shares of the
+ *  outputs; and last compare sums of all that was sent and received (FNV-1a, 64 bits) before either gives
+ *  outputs. The sums find what was altered on the way by accident; whoever alters on purpose alters them
+ *  too.
+ *
+ *  The last exchange can fail: of its two messages one may arrive and the other not, or altered. Then one
+ *  end has the result and status 0, and the other a status and no result; the end that has it cannot know.
+ *  Where both are to act on the result, or neither, they settle that above this call. The run is made
+ *  again with fresh triples and the same inputs, and gives the same.
  *
  *  Returns:  0; the fault; 17 (no inputs or outputs), 18 (fewer triples than ANDs)
  *            COMPANION_OUT_OF_STEP, COMPANION_OTHER_CIRCUIT, COMPANION_OTHER_SHARES,
  *            COMPANION_OTHER_WINDOWS: the far end differs
+ *            COMPANION_ALTERED: a sum is not the far end's
  *            COMPANION_NOT_BITS: an input, or the far end's share of an output; 8: another byte of the
  *            far end's
+ *            COMPANION_NO_INPUTS: own is NULL, and the circuit has inputs of this end
  *            COMPANION_BAD_WORD: the role of an input is not 1 or 2; 9: this end's role is not
  *            COMPANION_NO_RANDOM, COMPANION_NO_MEMORY
- *            What is wrong at this end alone, its role and inputs too, is found before anything is sent.
+ *            What is wrong at this end alone, its role and inputs too, is found before anything but the
+ *            number is sent.
  *  In:       role:    the pair's
  *            own:     this end's input bits in the circuit's order, a byte 0 or 1 each; NULL if none
  *  Out:      triples: spent: wiped and freed, also where the run fails; their windows serve no other
  *                     run, nor this one made again
  *            outputs: a byte for each output of the circuit, 0 where it is not opened to this end
  *            rounds:  how many were made; may be NULL
+ *  Failed:   outputs are as they were.
  */
 struct companion_status companion_run(
     const struct companion_link *link, uint8_t role, const struct companion_circuit *circuit,

@@ -19,6 +19,7 @@
 #include <sys/socket.h>
 #include <sys/stat.h>
 #include <sys/wait.h>
+#include <time.h>
 #include <unistd.h>
 
 #define CHECK(true, ...) ((true) ? (void)checks++ : complain(__LINE__, __VA_ARGS__))
@@ -51,6 +52,18 @@ static void expect(int line, uint32_t wanted, struct companion_status status)
         complain(line, "status %u where %u is due: %s", (unsigned)status.number, (unsigned)wanted, said(status));
     checks++;
 }
+
+/* Expects that the far end refused with this number, and that the text says so. */
+#define EXPECT_FAR(wanted, call) expect_far(__LINE__, wanted, call)
+static void expect_far(int line, uint32_t wanted, struct companion_status status)
+{
+    expect(line, COMPANION_FAR, status);
+    if (status.far != wanted || strstr(said(status), "the far end refused with ") == NULL)
+        complain(line, "the far end's %u where %u is due: %s", (unsigned)status.far, (unsigned)wanted, said(status));
+}
+
+/* Expects words in the text of a status. */
+#define SAYS(status, words) CHECK(strstr(said(status), words) != NULL, "'%s' does not say '%s'", said(status), words)
 
 /* A small generator of this test's own: the same draws in every run. */
 static __thread uint64_t seed = 1;
@@ -181,6 +194,13 @@ ssize_t __wrap_read(int fd, void *bytes, size_t len)
     WRAPPED(read, EIO, -1, fd, bytes, mode == SHORT ? 1 : len);
 }
 
+ssize_t __real_pread(int fd, void *bytes, size_t len, off_t place);
+ssize_t __wrap_pread(int fd, void *bytes, size_t len, off_t place);
+ssize_t __wrap_pread(int fd, void *bytes, size_t len, off_t place)
+{
+    WRAPPED(pread, EIO, -1, fd, bytes, mode == SHORT ? 1 : len, place);
+}
+
 ssize_t __real_write(int fd, const void *bytes, size_t len);
 ssize_t __wrap_write(int fd, const void *bytes, size_t len);
 ssize_t __wrap_write(int fd, const void *bytes, size_t len)
@@ -212,6 +232,24 @@ int __wrap_open(const char *path, int flags, ...)
     WRAPPED(open, EACCES, -1, path, flags, 0600);
 }
 
+int __real_openat(int folder_, const char *path, int flags, ...);
+int __wrap_openat(int folder_, const char *path, int flags, ...);
+int __wrap_openat(int folder_, const char *path, int flags, ...)
+{
+    if (mode == INTERRUPTED)
+        return __real_openat(folder_, path, flags, 0600);
+    WRAPPED(openat, EACCES, -1, folder_, path, flags, 0600);
+}
+
+char *__real_realpath(const char *path, char *resolved);
+char *__wrap_realpath(const char *path, char *resolved);
+char *__wrap_realpath(const char *path, char *resolved)
+{
+    if (mode == INTERRUPTED)
+        return __real_realpath(path, resolved);
+    WRAPPED(realpath, EACCES, NULL, path, resolved);
+}
+
 int __real_close(int fd);
 int __wrap_close(int fd);
 int __wrap_close(int fd)
@@ -228,9 +266,11 @@ int __wrap_close(int fd)
     int __real_##name type; \
     int __wrap_##name type;
 WRAP_FILE_CALL(fsync, (int fd))
-WRAP_FILE_CALL(rename, (const char *from, const char *to))
+WRAP_FILE_CALL(renameat, (int from_folder, const char *from, int to_folder, const char *to))
 WRAP_FILE_CALL(flock, (int fd, int operation))
-WRAP_FILE_CALL(access, (const char *name, int how))
+WRAP_FILE_CALL(fstat, (int fd, struct stat *about))
+WRAP_FILE_CALL(fstatat, (int folder_, const char *name, struct stat *about, int how))
+WRAP_FILE_CALL(unlinkat, (int folder_, const char *name, int how))
 
 int __wrap_fsync(int fd)
 {
@@ -239,11 +279,11 @@ int __wrap_fsync(int fd)
     WRAPPED(fsync, EIO, -1, fd);
 }
 
-int __wrap_rename(const char *from, const char *to)
+int __wrap_renameat(int from_folder, const char *from, int to_folder, const char *to)
 {
     if (mode == INTERRUPTED)
-        return __real_rename(from, to);
-    WRAPPED(rename, EROFS, -1, from, to);
+        return __real_renameat(from_folder, from, to_folder, to);
+    WRAPPED(renameat, EROFS, -1, from_folder, from, to_folder, to);
 }
 
 int __wrap_flock(int fd, int operation)
@@ -253,11 +293,25 @@ int __wrap_flock(int fd, int operation)
     WRAPPED(flock, ENOLCK, -1, fd, operation);
 }
 
-int __wrap_access(const char *name, int how)
+int __wrap_fstat(int fd, struct stat *about)
 {
     if (mode == INTERRUPTED)
-        return __real_access(name, how);
-    WRAPPED(access, EIO, -1, name, how);
+        return __real_fstat(fd, about);
+    WRAPPED(fstat, EIO, -1, fd, about);
+}
+
+int __wrap_fstatat(int folder_, const char *name, struct stat *about, int how)
+{
+    if (mode == INTERRUPTED)
+        return __real_fstatat(folder_, name, about, how);
+    WRAPPED(fstatat, EIO, -1, folder_, name, about, how);
+}
+
+int __wrap_unlinkat(int folder_, const char *name, int how)
+{
+    if (mode == INTERRUPTED)
+        return __real_unlinkat(folder_, name, how);
+    WRAPPED(unlinkat, EACCES, -1, folder_, name, how);
 }
 
 /* Calls of the expander that accept whatever the companion lends them, and so are made to refuse. */
@@ -624,6 +678,17 @@ static void compare_only(struct side *side)
     companion_close_pair(&side->pair);
 }
 
+/* With one record: the noise end's, or, where something is given, the scalar end's. */
+static void compare_one(struct side *side)
+{
+    struct companion_end end;
+    side->status = side->with == NULL ? companion_open(side->noise, side->noise_len, &end)
+                                      : companion_open(side->scalar, side->scalar_len, &end);
+    if (side->status.number == 0)
+        side->status = companion_compare(&side->link, &end);
+    companion_close(&end);
+}
+
 static void heads(size_t count)
 {
     static struct side sides[2], others[2];
@@ -631,7 +696,7 @@ static void heads(size_t count)
     (void)count;
     sides[0].run = sides[1].run = compare_only;
     for (int k = 0; k < 6; k++) {
-        static const size_t changed[] = {0, 0, 9, 8, 3, 120};
+        static const size_t changed[] = {0, 0, 0, 9, 3, 120};
         uint32_t due = k == 0 ? 0 : COMPANION_OTHER_DEALING;
         deal_sides(&small, 1, sides);
         sizes = small;
@@ -648,6 +713,14 @@ static void heads(size_t count)
         run_both(sides);
         EXPECT(due, sides[0].status);
         EXPECT(due, sides[1].status);
+        if (k > 0) {
+            static const char *const differ[] = {"", "is code key", "is code key, label; label", "is d, code key", "is t, code key",
+                                                 "is n, code key"};
+            SAYS(sides[0].status, "what differs is ");
+            SAYS(sides[0].status, differ[k]);
+        }
+        CHECK(k != 2 || strstr(said(sides[0].status), "label 3 here, 11 there") != NULL, "%s", said(sides[0].status));
+        CHECK(k != 2 || strstr(said(sides[1].status), "label 12 here, 4 there") != NULL, "%s", said(sides[1].status));
     }
     for (size_t k = 0; k < 4; k++) { /* in the label, or the code key, of one record alone */
         size_t place = (k % 2 == 0 ? 1 + 1 + 4 + 2 : 1 + 1 + 4 + 2 + 16) + draw(16);
@@ -661,6 +734,20 @@ static void heads(size_t count)
     memcpy(&sides[1], &sides[0], sizeof sides[0]);
     run_both(sides);
     EXPECT(COMPANION_OTHER_DEALING, sides[0].status);
+    for (int k = 0; k < 3; k++) { /* one record each: both ends of a dealing; the noise end twice; the scalar end twice */
+        deal_sides(&small, 1, sides);
+        sides[0].run = sides[1].run = compare_one;
+        sides[0].with = k == 2 ? &sizes : NULL;
+        sides[1].with = k == 1 ? NULL : &sizes;
+        if (k > 0) {
+            memcpy(sides[1].noise, sides[0].noise, sides[1].noise_len = sides[0].noise_len);
+            memcpy(sides[1].scalar, sides[0].scalar, sides[1].scalar_len = sides[0].scalar_len);
+        }
+        run_both(sides);
+        EXPECT(k == 0 ? 0 : COMPANION_OTHER_DEALING, sides[0].status);
+        EXPECT(k == 0 ? 0 : COMPANION_OTHER_DEALING, sides[1].status);
+        CHECK(k == 0 || strstr(said(sides[0].status), "or of the same end: what differs is end") != NULL, "%s", said(sides[0].status));
+    }
     deal_sides(&small, 1, sides);
     EXPECT(COMPANION_WRONG_RECORD, companion_open_pair(sides[0].scalar, sides[0].scalar_len, sides[0].noise, sides[0].noise_len, &sides[0].pair));
     EXPECT(COMPANION_SAME_LABEL, companion_open_pair(sides[0].noise, sides[0].noise_len, sides[1].scalar, sides[1].scalar_len, &sides[0].pair));
@@ -668,7 +755,7 @@ static void heads(size_t count)
     EXPECT(0, open_side(&sides[0]));
     EXPECT(COMPANION_NOT_COMPARED, companion_add_triples(&sides[0].pair, 0, 1, &(struct companion_triples){0, NULL, 0}));
     companion_close_pair(&sides[0].pair);
-    printf("heads: equal ones, and 12 kinds that do not fit\n");
+    printf("heads: equal ones, and 14 kinds that do not fit\n");
 }
 
 /* ---- Circuits ---- */
@@ -1116,6 +1203,7 @@ struct joint {
     struct companion_circuit circuit;
     uint8_t own[4096], outputs[4096];
     size_t own_count, rounds, first, count;
+    int without_inputs; /* NULL is passed */
 };
 
 static void run_jointly(struct side *side)
@@ -1133,8 +1221,8 @@ static void run_jointly(struct side *side)
     if (side->status.number == 0)
         side->status = companion_add_triples(&side->pair, joint->first + half, joint->count - half, &triples);
     if (side->status.number == 0)
-        side->status = companion_run(&side->link, joint->role != 0 ? joint->role : side->pair.role, &joint->circuit, joint->own, &triples,
-                                     joint->outputs, &joint->rounds);
+        side->status = companion_run(&side->link, joint->role != 0 ? joint->role : side->pair.role, &joint->circuit,
+                                     joint->without_inputs ? NULL : joint->own, &triples, joint->outputs, &joint->rounds);
     CHECK(side->status.number != 0 || (triples.bytes == NULL && triples.count == 0), "triples are spent");
     companion_free_triples(&triples);
     companion_close_pair(&side->pair);
@@ -1153,6 +1241,7 @@ static void prepare(struct joint joints[2], struct side sides[2], const struct c
         joints[k].circuit = *circuit;
         joints[k].role = 0;
         joints[k].own_count = 0;
+        memset(joints[k].own, 0, sizeof joints[k].own); /* also what a wrong role would read */
         joints[k].first = 2;
         joints[k].count = counts.ands;
         sides[k].with = &joints[k];
@@ -1196,10 +1285,13 @@ static void run_tapped(struct side *side)
     run_jointly(side);
 }
 
+/* What an end sends before a run: heads and its number, a window, two triples, its number. A message begins with four bytes. */
+enum { SENT_BEFORE = 4 + 192 + 4 + 4 + 16 + 4 + 3 * 2 + 4 };
+
 /* Of its own inputs an end sends masks, which are random bits: as many 1 as 0, and others for the same inputs. */
 static void try_masks(void)
 {
-    enum { BITS = 64, BEFORE = 192 + 16 + 3 * 2 + 40, TURNS = 20 };
+    enum { BITS = 64, BEFORE = SENT_BEFORE + 4 + 40 + 4, TURNS = 20 };
     static uint8_t masks[TURNS][BITS], due[4096];
     static struct companion_circuit circuit;
     companion_wire a[BITS], b[BITS], less;
@@ -1227,6 +1319,34 @@ static void try_masks(void)
     CHECK(ones > TURNS * BITS / 2 - 120 && ones < TURNS * BITS / 2 + 120, "%zu of %d masks are 1", ones, TURNS * BITS);
 }
 
+/* Without inputs where some are due a run is refused; where none are, it runs. */
+static void try_no_inputs(void)
+{
+    static struct companion_circuit circuit;
+    static uint8_t due[4096];
+    companion_wire a[4], b[4], less;
+    memset(&circuit, 0, sizeof circuit);
+    companion_input(&circuit, COMPANION_ROLE_1, a, 4);
+    companion_constant(&circuit, 9, b, 4);
+    less = companion_less(&circuit, COMPANION_FLAT, a, b, 4);
+    companion_output(&circuit, COMPANION_BOTH, &less, 1);
+    for (int without = 0; without < 2; without++) {
+        prepare(joints, sides, &circuit, due);
+        deal_sides(&larger, 1, sides);
+        joints[without].without_inputs = 1;
+        run_both(sides);
+        joints[without].without_inputs = 0;
+        if (without == 0) {
+            EXPECT(COMPANION_NO_INPUTS, sides[0].status);
+            EXPECT_FAR(COMPANION_NO_INPUTS, sides[1].status);
+        } else {
+            EXPECT(0, sides[0].status);
+            EXPECT(0, sides[1].status);
+            outputs_are(joints, due);
+        }
+    }
+}
+
 static void runs(size_t count)
 {
     static struct companion_circuit circuit;
@@ -1249,7 +1369,6 @@ static void runs(size_t count)
         static const uint32_t dues[] = {COMPANION_OTHER_CIRCUIT, COMPANION_OTHER_SHARES, COMPANION_OTHER_SHARES, COMPANION_OTHER_WINDOWS,
                                         COMPANION_OTHER_WINDOWS, COMPANION_NOT_BITS, EXPANDER_TOO_FEW_TRIPLES, COMPANION_BAD_WIRE,
                                         EXPANDER_WRONG_END, EXPANDER_WRONG_END, COMPANION_OUT_OF_STEP, EXPANDER_WINDOW_PAST_END};
-        const size_t before = 192 + 16 + 3 * 2; /* the bytes that are sent before a run */
         do {
             random_circuit(&circuit, 60);
             prepare(joints, sides, &circuit, due);
@@ -1271,8 +1390,19 @@ static void runs(size_t count)
         }
         run_both(sides);
         EXPECT(dues[fault], sides[1].status);
-        EXPECT(fault < 5 || fault == 10 ? dues[fault] : COMPANION_CLOSED, sides[0].status);
-        CHECK(fault < 5 || fault > 9 || sides[1].socket.sent == before, "fault %d: %zu bytes were sent", fault, sides[1].socket.sent);
+        if (fault < 5 || fault == 10) /* both find it */
+            EXPECT(dues[fault], sides[0].status);
+        else if (fault < 10) /* it is told */
+            EXPECT_FAR(dues[fault], sides[0].status);
+        else /* in a call without a link */
+            EXPECT(COMPANION_CLOSED, sides[0].status);
+        CHECK(fault < 5 || fault > 9 || sides[1].socket.sent == SENT_BEFORE + 4, "fault %d: %zu bytes were sent", fault,
+              sides[1].socket.sent);
+        if (fault == 6) {
+            char due_text[100];
+            snprintf(due_text, sizeof due_text, "%zu are needed, %zu are there", counts.ands, counts.ands - 1);
+            SAYS(sides[1].status, due_text);
+        }
     }
     for (uint8_t role = 0; role <= COMPANION_BOTH; role += COMPANION_BOTH) { /* an input that no end, or either, gives */
         prepare(joints, sides, &circuit, due);
@@ -1281,9 +1411,218 @@ static void runs(size_t count)
         run_both(sides);
         EXPECT(COMPANION_BAD_WORD, sides[0].status);
         EXPECT(COMPANION_BAD_WORD, sides[1].status);
-        CHECK(sides[0].socket.sent == 192 + 16 + 3 * 2, "%zu bytes were sent", sides[0].socket.sent);
+        CHECK(sides[0].socket.sent == SENT_BEFORE + 4 || sides[0].socket.sent == SENT_BEFORE, "%zu bytes were sent", sides[0].socket.sent);
     }
+    try_no_inputs();
     printf("runs: %zu random circuits as the plain evaluation has them, and 12 ways in which ends differ\n", count);
+}
+
+/* ---- What is altered on the way ---- */
+
+/* A link that flips a bit of one byte of what is sent, counted from the beginning of the run. */
+static struct { size_t place, sent; int bit; } flipped;
+static ptrdiff_t flip_send(void *context, const uint8_t *bytes, size_t len)
+{
+    uint8_t copy[4096];
+    ptrdiff_t put;
+    len = len < sizeof copy ? len : sizeof copy;
+    memcpy(copy, bytes, len);
+    if (flipped.place >= flipped.sent && flipped.place - flipped.sent < len)
+        copy[flipped.place - flipped.sent] ^= (uint8_t)(1 << flipped.bit);
+    put = companion_socket_send(context, copy, len);
+    flipped.sent += put > 0 ? (size_t)put : 0;
+    return put;
+}
+static void run_flipped(struct side *side)
+{
+    side->link.send = flip_send;
+    flipped.sent = 0;
+    run_jointly(side);
+}
+
+/* Each bit of each byte of a run in turn: no end gives a wrong result, and where it is not in the last message no end gives any. */
+static void altered(size_t count)
+{
+    enum { LAST = 4 + 16 };
+    static struct companion_circuit circuit;
+    static uint8_t due[4096];
+    companion_wire a[4], b[4], sum[5];
+    size_t total = 0, tried = 0, one_sided = 0;
+    memset(&circuit, 0, sizeof circuit);
+    companion_input(&circuit, COMPANION_ROLE_1, a, 4);
+    companion_input(&circuit, COMPANION_ROLE_2, b, 4);
+    companion_sum(&circuit, COMPANION_FLAT, a, b, 4, sum);
+    companion_output(&circuit, COMPANION_BOTH, sum, 5);
+    for (size_t from = 0; from < 2; from++) {
+        prepare(joints, sides, &circuit, due);
+        sides[from].run = run_flipped;
+        flipped.place = SIZE_MAX;
+        deal_sides(&larger, 1, sides);
+        run_both(sides);
+        EXPECT(0, sides[0].status);
+        EXPECT(0, sides[1].status);
+        total = sides[from].socket.sent;
+        for (flipped.place = SENT_BEFORE; flipped.place < total; flipped.place++)
+            for (flipped.bit = (int)draw(count == 0 ? 8 : 1); flipped.bit < 8; flipped.bit += count == 0 ? 8 : 1, tried++) {
+                size_t given = 0;
+                memset(joints[0].outputs, 7, sizeof joints[0].outputs);
+                memset(joints[1].outputs, 7, sizeof joints[1].outputs);
+                run_both(sides);
+                for (int side = 0; side < 2; side++) {
+                    const uint8_t *out = joints[side].outputs;
+                    CHECK(sides[side].status.number == 0 ? memcmp(out, due, 5) == 0 : out[0] == 7 && out[4] == 7,
+                          "bit %d of byte %zu of end %zu: end %d has a result that is wrong, or not to be given: %s", flipped.bit,
+                          flipped.place, from, side, said(sides[side].status));
+                    given += sides[side].status.number == 0;
+                }
+                CHECK(given == 0 || (given == 1 && flipped.place >= total - LAST), "byte %zu of %zu: %zu ends give a result: %s",
+                      flipped.place, total, given, said(sides[0].status));
+                one_sided += given == 1;
+                CHECK(given == 1 || sides[0].status.number == COMPANION_FAR || sides[1].status.number == COMPANION_FAR
+                      || sides[0].status.number == sides[1].status.number || sides[0].status.number == COMPANION_CLOSED
+                      || sides[1].status.number == COMPANION_CLOSED, "%s; %s", said(sides[0].status), said(sides[1].status));
+            }
+    }
+    CHECK(one_sided > 0, "the last message never parted the ends");
+    printf("altered: %zu bits of a run altered on the way, none in silence; in the last message %zu, where one end has the result\n", tried,
+           one_sided);
+}
+
+/* A link that sends a byte at a time, and waits before each; and both ends' limits. */
+static int drip_wait, whole_limit[2];
+static ptrdiff_t drip_send(void *context, const uint8_t *bytes, size_t len)
+{
+    (void)len;
+    usleep((useconds_t)drip_wait * 1000);
+    return companion_socket_send(context, bytes, 1);
+}
+static void run_limited(struct side *side)
+{
+    int which = side == &sides[1];
+    if (which)
+        side->link.send = drip_send;
+    companion_limit(&side->socket, whole_limit[which]);
+    run_jointly(side);
+}
+
+static double seconds_now(void)
+{
+    struct timespec time;
+    clock_gettime(CLOCK_MONOTONIC, &time);
+    return (double)time.tv_sec + (double)time.tv_nsec / 1e9;
+}
+
+/* A far end that moves a byte now and then is given up when the whole time is over, and is told. */
+static void limits_of_runs(size_t count)
+{
+    static struct companion_circuit circuit;
+    static uint8_t due[4096];
+    double began;
+    (void)count;
+    random_circuit(&circuit, 60);
+    for (int turn = 0; turn < 3; turn++) {
+        prepare(joints, sides, &circuit, due);
+        deal_sides(&larger, 1, sides);
+        sides[0].run = sides[1].run = run_limited;
+        whole_limit[0] = turn == 0 ? -1 : turn == 1 ? 60000 : 300;
+        whole_limit[1] = -1;
+        drip_wait = turn == 2 ? 10 : 0;
+        began = seconds_now();
+        run_both(sides);
+        if (turn < 2) {
+            EXPECT(0, sides[0].status);
+            EXPECT(0, sides[1].status);
+            continue;
+        }
+        CHECK(seconds_now() - began > 0.25 && seconds_now() - began < 10, "a limit of 0.3 seconds took %.1f", seconds_now() - began);
+        EXPECT(COMPANION_NOT_MOVED, sides[0].status);
+        CHECK(sides[0].status.system == ETIMEDOUT, "errno");
+        CHECK(sides[1].status.number == COMPANION_CLOSED || sides[1].status.far == COMPANION_NOT_MOVED, "the far end: %s",
+              said(sides[1].status));
+    }
+    printf("limits: a run whose far end sends a byte now and then is over when its whole time is\n");
+}
+
+/* ---- Windows of a pair ---- */
+
+static void open_windows(struct side *side)
+{
+    struct companion_triples triples = {0, NULL, 0}, other = {0, NULL, 0};
+    side->status = open_side(side);
+    if (side->status.number == 0)
+        side->status = companion_compare_pair(&side->link, &side->pair);
+    if (side->status.number == 0)
+        side->status = companion_check(&side->link, &side->pair, 40, 20);
+    if (side->status.number != 0)
+        return;
+    EXPECT(COMPANION_USED, companion_add_triples(&side->pair, 40, 20, &triples));
+    EXPECT(COMPANION_USED, companion_add_triples(&side->pair, 59, 1, &triples));
+    EXPECT(COMPANION_USED, companion_add_triples(&side->pair, 30, 11, &triples));
+    EXPECT(COMPANION_USED, companion_add_triples(&side->pair, 0, 128, &triples));
+    CHECK(triples.count == 0 && triples.bytes == NULL, "nothing was added");
+    EXPECT(0, companion_add_triples(&side->pair, 50, 0, &triples));
+    EXPECT(0, companion_add_triples(&side->pair, 30, 10, &triples));
+    EXPECT(0, companion_add_triples(&side->pair, 60, 68, &triples));
+    EXPECT(COMPANION_USED, companion_add_triples(&side->pair, 127, 1, &other)); /* for another run */
+    EXPECT(COMPANION_USED, companion_add_triples(&side->pair, 30, 10, &triples)); /* for the same one */
+    EXPECT(7, companion_add_triples(&side->pair, 127, 2, &other));
+    companion_free_triples(&triples);
+    EXPECT(COMPANION_USED, companion_add_triples(&side->pair, 35, 1, &triples));
+    side->status = companion_check(&side->link, &side->pair, side->with == NULL ? 20 : 25, 10); /* of these, 25 to 29 at both */
+    companion_close_pair(&side->pair);
+}
+
+static void check_twice(struct side *side)
+{
+    side->status = open_side(side);
+    if (side->status.number == 0)
+        side->status = companion_compare_pair(&side->link, &side->pair);
+    if (side->status.number == 0)
+        side->status = companion_check(&side->link, &side->pair, 0, 10);
+    if (side->status.number == 0)
+        side->status = companion_check(&side->link, &side->pair, side->with == NULL ? 9 : 10, 10);
+    companion_close_pair(&side->pair);
+}
+
+/* Windows at random, against a plain list of what was taken. */
+static void windows(size_t count)
+{
+    struct companion_triples triples = {0, NULL, 0};
+    static uint8_t taken[EXPANDER_OUTPUTS_MAX];
+    size_t refused = 0, given = 0;
+    deal_sides(&small, 1, sides);
+    sides[0].run = sides[1].run = open_windows;
+    sides[0].with = sides[1].with = NULL;
+    run_both(sides);
+    EXPECT(0, sides[0].status);
+    EXPECT(0, sides[1].status);
+    deal_sides(&small, 1, sides);
+    sides[0].run = sides[1].run = check_twice;
+    sides[0].with = &triples; /* this end asks for a fresh window, and the other does not */
+    run_both(sides);
+    EXPECT(COMPANION_USED, sides[1].status);
+    EXPECT_FAR(COMPANION_USED, sides[0].status);
+    for (size_t turn = 0; turn < count; turn++) {
+        deal_sides(&small, 1, sides);
+        EXPECT(0, open_side(&sides[0]));
+        sides[0].pair.compared = 1;
+        memset(taken, 0, sizeof taken);
+        for (size_t step = 0; step < 40; step++) {
+            size_t first = draw(sides[0].pair.outputs), many = draw(12), before = 0;
+            int past = first + many > sides[0].pair.outputs;
+            for (size_t k = first; k < first + many; k++)
+                before += taken[k];
+            EXPECT(past ? 7 : before > 0 ? COMPANION_USED : 0, companion_add_triples(&sides[0].pair, first, many, &triples));
+            for (size_t k = first; k < first + many && !past && before == 0; k++)
+                taken[k] = 1;
+            refused += before > 0;
+            given += !past && before == 0;
+        }
+        companion_free_triples(&triples);
+        companion_close_pair(&sides[0].pair);
+        CHECK(sides[0].pair.used[0] == 0, "what is closed is all 0");
+    }
+    printf("windows: %zu are given once, %zu that were given in part before are refused\n", given, refused);
 }
 
 /* ---- The stock ---- */
@@ -1301,8 +1640,8 @@ static void fresh_folder(void)
 static void remove_folder(void)
 {
     char name[128];
-    static const char *const endings[] = {"", ".new", ".lock"};
-    for (int k = 0; k < 3; k++) {
+    static const char *const endings[] = {"", ".new", ".lock", ".link"};
+    for (int k = 0; k < 4; k++) {
         snprintf(name, sizeof name, "%s%s", path, endings[k]);
         remove(name);
     }
@@ -1386,9 +1725,13 @@ static void stock(size_t count)
     CHECK(first == 0, "the first draw");
     EXPECT(0, companion_draw(&a, NULL, one, 1, 20, &first));
     CHECK(first == 100, "the second caller's");
+    SAYS(companion_draw(&a, NULL, one, 0, 71, &first),
+         "expander_draw refused with 15: the caller's remaining share is below count: 71 are asked for, 70 are left");
     EXPECT(15, companion_draw(&a, NULL, one, 0, 71, &first));
     EXPECT(14, companion_draw(&a, NULL, one, 3, 1, &first));
     EXPECT(21, companion_draw(&a, NULL, two, 0, 1, &first));
+    SAYS(companion_draw(&a, NULL, two, 0, 1, &first),
+         "expander_draw refused with 21: label is not the one in use: label is 2, in use is 1");
     companion_close_stock(&a);
     companion_close_stock(&a);
     EXPECT(COMPANION_FILE_THERE, companion_create_stock(path, one, 200, stock_shares, 3, &a));
@@ -1455,6 +1798,205 @@ static void stock(size_t count)
     }
     pass_apart();
     printf("stock: %zu bytes a file; each byte changed, and each cut, is noticed\n", len);
+}
+
+/* Runs a part of a test in a child, which ends with the number of its status. */
+static uint32_t in_child(struct companion_status (*part)(struct companion_stock *stock), struct companion_stock *stock)
+{
+    int status;
+    pid_t id;
+    fflush(stdout);
+    id = fork();
+    if (id == 0)
+        _exit((int)part(stock).number);
+    waitpid(id, &status, 0);
+    CHECK(WIFEXITED(status), "a child ended by a signal");
+    return (uint32_t)WEXITSTATUS(status);
+}
+
+static struct companion_status draw_there(struct companion_stock *stock)
+{
+    size_t first;
+    return companion_draw(stock, NULL, companion_label(1), 0, 10, &first);
+}
+
+/* Over a link that is its parent's too. */
+static struct companion_link shared_link;
+static struct companion_status draw_jointly_there(struct companion_stock *stock)
+{
+    size_t first;
+    return companion_draw(stock, &shared_link, companion_label(1), 0, 10, &first);
+}
+
+static struct companion_status pass_there(struct companion_stock *stock)
+{
+    return companion_pass(stock, companion_label(2), 200);
+}
+
+/* Closes its copy, and opens the stock itself. */
+static struct companion_status open_there(struct companion_stock *stock)
+{
+    companion_close_stock(stock);
+    return companion_open_stock(path, companion_label(1), stock);
+}
+
+static struct companion_status create_there(struct companion_stock *stock)
+{
+    companion_close_stock(stock);
+    return companion_create_stock(path, companion_label(1), 200, stock_shares, 3, stock);
+}
+
+static void remove_named(const char *ending)
+{
+    char name[128];
+    snprintf(name, sizeof name, "%s%s", path, ending);
+    CHECK(remove(name) == 0, "no %s", name);
+}
+
+/* What the file under this name has handed out to caller 0, as whoever opens it next finds it. */
+static size_t handed_out(const char *name)
+{
+    struct companion_stock stock;
+    size_t first;
+    EXPECT(0, companion_open_stock(name, companion_label(1), &stock));
+    EXPECT(0, companion_draw(&stock, NULL, companion_label(1), 0, 0, &first));
+    companion_close_stock(&stock);
+    return first;
+}
+
+/* A stock goes on with the file that it opened, whatever is done around it; else it draws nothing. */
+static void holding(size_t count)
+{
+    struct companion_stock a, b;
+    struct expander_label one = companion_label(1);
+    struct companion_status status;
+    struct stat about;
+    char other[140], elsewhere[140], before[4096];
+    size_t first = 7;
+    (void)count;
+    CHECK(getcwd(before, sizeof before) != NULL, "no folder");
+    fresh_folder();
+    snprintf(other, sizeof other, "%s.other", path);
+    snprintf(elsewhere, sizeof elsewhere, "%s/elsewhere", folder);
+
+    /* chdir: by a relative path, and then from another folder, where nothing is made. */
+    CHECK(mkdir(elsewhere, 0700) == 0 && chdir(folder) == 0, "mkdir");
+    EXPECT(0, companion_create_stock("stock", one, 200, stock_shares, 3, &a));
+    CHECK(chdir(elsewhere) == 0, "chdir");
+    EXPECT(0, companion_draw(&a, NULL, one, 0, 10, &first));
+    CHECK(first == 0 && stat("stock", &about) != 0, "the stock is saved in another folder");
+    companion_close_stock(&a);
+    CHECK(chdir(folder) == 0, "chdir");
+    EXPECT(0, companion_open_stock("elsewhere/../stock", one, &a));
+    CHECK(chdir(elsewhere) == 0, "chdir");
+    EXPECT(0, companion_draw(&a, NULL, one, 0, 10, &first));
+    CHECK(first == 10, "%zu is drawn after a change of folders", first);
+    companion_close_stock(&a);
+    CHECK(chdir(before) == 0 && rmdir(elsewhere) == 0, "the other folder holds something");
+    CHECK(handed_out(path) == 20, "the file is stale");
+
+    /* fork: the child is refused, in memory too, the parent goes on; the child opens it once the parent has closed it. */
+    EXPECT(0, companion_open_stock(path, one, &a));
+    EXPECT(0, companion_create_stock(NULL, one, 200, stock_shares, 3, &b));
+    CHECK(in_child(draw_there, &a) == COMPANION_FORKED && in_child(draw_there, &b) == COMPANION_FORKED, "a child draws");
+    CHECK(in_child(pass_there, &a) == COMPANION_FORKED && in_child(pass_there, &b) == COMPANION_FORKED, "a child passes");
+    connect_sides(sides);
+    shared_link = sides[0].link;
+    CHECK(in_child(draw_jointly_there, &a) == COMPANION_FORKED, "a child draws over its parent's link");
+    CHECK(recv(sides[1].socket.fd, elsewhere, 1, MSG_DONTWAIT) < 0 && errno == EAGAIN, "a child sends over its parent's link");
+    __real_close(sides[0].socket.fd);
+    __real_close(sides[1].socket.fd);
+    CHECK(in_child(open_there, &a) == COMPANION_FILE_IN_USE, "a child opens what its parent has open");
+    EXPECT(0, companion_draw(&a, NULL, one, 0, 10, &first));
+    CHECK(first == 20, "the parent draws %zu", first);
+    EXPECT(0, companion_draw(&b, NULL, one, 0, 10, &first));
+    companion_close_stock(&a);
+    companion_close_stock(&b);
+    CHECK(in_child(open_there, &a) == 0, "a child does not open what nobody has open");
+    CHECK(in_child(draw_there, &a) == EXPANDER_LABEL_NOT_IN_USE, "what is closed draws"); /* label 0, no callers */
+
+    /* A symbolic link: it stays, and the file behind it is the stock's. */
+    snprintf(elsewhere, sizeof elsewhere, "%s.link", path);
+    CHECK(symlink("stock", elsewhere) == 0, "symlink");
+    EXPECT(COMPANION_FILE_THERE, companion_create_stock(elsewhere, one, 200, stock_shares, 3, &a));
+    EXPECT(0, companion_open_stock(elsewhere, one, &a));
+    EXPECT(0, companion_draw(&a, NULL, one, 0, 10, &first));
+    CHECK(lstat(elsewhere, &about) == 0 && S_ISLNK(about.st_mode), "the link is replaced");
+    EXPECT(COMPANION_FILE_IN_USE, companion_open_stock(path, one, &b));
+    EXPECT(COMPANION_FILE_IN_USE, companion_open_stock(elsewhere, one, &b));
+    companion_close_stock(&a);
+    CHECK(first == 30 && handed_out(path) == 40 && handed_out(elsewhere) == 40, "the stock forks at a link");
+    CHECK(remove(elsewhere) == 0 && symlink("nowhere", elsewhere) == 0, "symlink");
+    EXPECT(COMPANION_FILE_THERE, companion_create_stock(elsewhere, one, 200, stock_shares, 3, &a));
+    EXPECT(COMPANION_FILE, companion_open_stock(elsewhere, one, &a));
+    CHECK(remove(elsewhere) == 0 && remove(strcat(elsewhere, ".lock")) == 0, "no lock");
+
+    /* The lock is removed: nobody else gets in, before and after a draw, in this process or another. */
+    EXPECT(0, companion_open_stock(path, one, &a));
+    for (int turn = 0; turn < 3; turn++) {
+        remove_named(".lock");
+        EXPECT(COMPANION_FILE_IN_USE, companion_open_stock(path, one, &b));
+        remove_named(".lock");
+        CHECK(in_child(open_there, &a) == COMPANION_FILE_IN_USE, "a second opener gets in");
+        remove_named(".lock");
+        CHECK(in_child(create_there, &a) == COMPANION_FILE_THERE, "a second creator gets in");
+        EXPECT(0, companion_draw(&a, NULL, one, 0, 1, &first));
+        CHECK(first == 40 + (size_t)turn, "%zu is drawn", first);
+    }
+
+    /* Another file in its place, another content, another name, no file, another folder: nothing is drawn. */
+    for (int how = 0; how < 6; how++) {
+        char command[400];
+        uint32_t due = how == 4 ? COMPANION_FILE_LINKED : how == 5 ? 0 : COMPANION_FILE_CHANGED;
+        static const char *const commands[] = {"cp '%s' '%s' && mv '%s' '%s'", NULL, "rm '%s'; true '%s' '%s' '%s'", NULL,
+                                               "ln '%s' '%s'; true '%s' '%s'", NULL};
+        if (how == 1) { /* of the same file */
+            change_byte(50, -1);
+        } else if (how == 3) {
+            CHECK(truncate(path, 50) == 0, "truncate");
+        } else if (how == 5) { /* the folder is another's name: it goes on in the one that it opened */
+            snprintf(elsewhere, sizeof elsewhere, "%s.moved", folder);
+            CHECK(rename(folder, elsewhere) == 0 && mkdir(folder, 0700) == 0, "rename");
+        } else {
+            snprintf(command, sizeof command, commands[how], path, other, other, path);
+            CHECK(system(command) == 0, "%s", command);
+        }
+        status = companion_draw(&a, NULL, one, 0, 1, &first);
+        EXPECT(due, status);
+        status = companion_pass(&a, one, 200);
+        EXPECT(EXPANDER_LABEL_NOT_ABOVE, status);
+        SAYS(status, "label is 1, in use is 1");
+        if (how != 5)
+            EXPECT(due, companion_pass(&a, companion_label(2), 200));
+        companion_close_stock(&a);
+        if (how == 0)
+            EXPECT(0, companion_open_stock(path, one, &a)); /* it says what was written last, so opened afresh it is good */
+        if (how == 0)
+            companion_close_stock(&a);
+        if (how == 4) {
+            EXPECT(COMPANION_FILE_LINKED, companion_open_stock(path, one, &a));
+            EXPECT(COMPANION_FILE_LINKED, companion_open_stock(other, one, &a));
+            CHECK(remove(other) == 0 && remove(strcat(other, ".lock")) == 0, "no second name");
+            EXPECT(0, companion_open_stock(path, one, &a));
+        } else if (how == 5) {
+            CHECK(rmdir(folder) == 0 && rename(elsewhere, folder) == 0, "rename");
+            EXPECT(0, companion_open_stock(path, one, &a));
+        } else {
+            if (how != 2)
+                remove(path);
+            EXPECT(0, companion_create_stock(path, one, 200, stock_shares, 3, &a));
+        }
+    }
+
+    /* What the program closes is not written. */
+    __real_close(a.file);
+    EXPECT(COMPANION_FILE, companion_draw(&a, NULL, one, 0, 1, &first));
+    a.file = __real_open("/dev/null", O_RDONLY);
+    EXPECT(COMPANION_FILE_CHANGED, companion_draw(&a, NULL, one, 0, 1, &first));
+    companion_close_stock(&a);
+    EXPECT(COMPANION_FILE, companion_create_stock(strcat(strcpy(other, folder), "/"), one, 200, stock_shares, 3, &a));
+    remove_folder();
+    printf("holding: chdir, forks, links, removed locks and changed files: the stock goes on with its file, or draws nothing\n");
 }
 
 /* ---- Faults ---- */
@@ -1567,7 +2109,8 @@ static void faults(size_t count)
 {
     companion_wire a[8], b[8], sum[9];
     size_t places = 0, silent = 0, refused = 0, not_reached = 0, total;
-    static size_t kinds[COMPANION_TEXT_UNMADE + 1];
+    static size_t kinds[COMPANION_FILE_LINKED + 1];
+    size_t told = 0;
     memset(&fault_circuit, 0, sizeof fault_circuit);
     companion_input(&fault_circuit, COMPANION_ROLE_1, a, 8);
     companion_input(&fault_circuit, COMPANION_ROLE_2, b, 8);
@@ -1595,8 +2138,12 @@ static void faults(size_t count)
         }
         kinds[sides[1].status.number]++;
         CHECK(strlen(said(sides[1].status)) > 3, "no text");
+        if (sides[0].status.number == COMPANION_FAR)
+            EXPECT_FAR(sides[1].status.number, sides[0].status);
+        told += sides[0].status.number == COMPANION_FAR;
         CHECK(sides[1].status.number == 0 || sides[0].status.number == 0 || sides[0].status.number == COMPANION_CLOSED
-              || sides[0].status.number == COMPANION_NOT_MOVED, "the far end: %s", said(sides[0].status));
+              || sides[0].status.number == COMPANION_NOT_MOVED || sides[0].status.number == COMPANION_FAR, "the far end: %s",
+              said(sides[0].status));
         silent += sides[1].status.number == 0;
         refused += strncmp(sides[1].failed_call, "expander_", 9) == 0;
         CHECK(sides[1].status.number != 0 || strcmp(sides[1].failed_call, "close") == 0, "the failure of %s is not told", sides[1].failed_call);
@@ -1605,9 +2152,10 @@ static void faults(size_t count)
     CHECK(kinds[COMPANION_NO_MEMORY] > 3 && kinds[COMPANION_NO_RANDOM] > 3 && kinds[COMPANION_FILE] > 10, "kinds of faults");
     CHECK(refused > 6, "only %zu calls of the expander were made to refuse", refused);
     CHECK(not_reached < 20, "%zu places were not reached", not_reached);
+    CHECK(told > 30, "the far end was told of %zu only", told);
     printf("faults: each of %zu calls fails in turn (memory %zu, random bytes %zu, files %zu, links %zu, the expander %zu, a close that does"
-           " no harm %zu); short and interrupted ones do not\n", places, kinds[COMPANION_NO_MEMORY], kinds[COMPANION_NO_RANDOM], kinds[COMPANION_FILE],
-           kinds[COMPANION_CLOSED] + kinds[COMPANION_NOT_MOVED], refused, silent);
+           " no harm %zu); the far end is told of %zu; short and interrupted ones do not fail\n", places, kinds[COMPANION_NO_MEMORY],
+           kinds[COMPANION_NO_RANDOM], kinds[COMPANION_FILE], kinds[COMPANION_CLOSED] + kinds[COMPANION_NOT_MOVED], refused, silent, told);
 
     run_season(WELL, 0);
     total = sides[1].socket.sent + sides[1].socket.received;
@@ -1671,25 +2219,63 @@ struct handed {
     size_t first, count;
 };
 
+/* What is done around a stock that is open. */
+enum { CHDIR = 1, LINK = 2, FORK = 4, UNLOCK = 8 };
+static const int around[] = {0, CHDIR, LINK, FORK, UNLOCK, CHDIR | LINK | FORK | UNLOCK};
+enum { AROUND = sizeof around / sizeof *around };
+
+/* A child that tries to draw: from its copy of the stock, or from the file once the lock is removed. It is to get nothing. */
+static void draw_in_child(int to, struct companion_stock *stock, struct handed handed, int fresh)
+{
+    struct companion_status status = {0, "", 0, 0, 0, 0, 0, 0, {{0}}, {{0}}};
+    int ended_as;
+    pid_t id = fork();
+    if (id == 0) {
+        if (fresh) {
+            companion_close_stock(stock);
+            status = companion_open_stock(path, companion_label(handed.label), stock);
+        }
+        handed.count = 2;
+        for (size_t caller = 0; caller < 2 && status.number == 0; caller++)
+            if ((status = companion_draw(stock, NULL, companion_label(handed.label), caller, handed.count, &handed.first)).number == 0
+                && __real_write(to, &handed, sizeof handed) != sizeof handed)
+                _exit(5);
+        _exit(status.number == (fresh ? COMPANION_FILE_IN_USE : COMPANION_FORKED) ? 0 : 1);
+    }
+    if (waitpid(id, &ended_as, 0) != id || ended_as != 0)
+        _exit(6);
+}
+
 /* A process that draws, or first passes, or passes after a draw, until it is killed, and says by the pipe what it was handed out.
  * Its stock has the label, or the next one: a passage was saved, and nobody was told. */
-static void draw_and_die(int to, enum mode how, size_t place, uint64_t turn, uint64_t label)
+static void draw_and_die(int to, enum mode how, size_t place, uint64_t turn, uint64_t label, int what)
 {
     struct companion_stock stock;
     struct companion_status status;
     struct handed handed = {label + 1, 0, 0};
+    char name[128];
     seed = turn;
     mode = WELL;
-    status = companion_open_stock(path, companion_label(label + 1), &stock);
+    snprintf(name, sizeof name, "%s%s", what & CHDIR ? strrchr(path, '/') + 1 : path, what & LINK ? ".link" : "");
+    if (what & CHDIR && chdir(folder) != 0)
+        _exit(7);
+    status = companion_open_stock(name, companion_label(label + 1), &stock);
     if (status.number == EXPANDER_LABEL_NOT_IN_USE) {
         handed.label = label;
-        status = companion_open_stock(path, companion_label(label), &stock);
+        status = companion_open_stock(name, companion_label(label), &stock);
     } else if (status.number == COMPANION_FILE) {
         status = companion_create_stock(path, companion_label(handed.label), EXPANDER_OUTPUTS_MAX,
                                         (const uint32_t[2]){EXPANDER_OUTPUTS_MAX / 2, EXPANDER_OUTPUTS_MAX / 2}, 2, &stock);
     }
     if (status.number != 0 || __real_write(to, &handed, sizeof handed) != sizeof handed)
         _exit(2);
+    if (what & CHDIR && chdir("/") != 0)
+        _exit(7);
+    if (what & FORK)
+        draw_in_child(to, &stock, handed, 0);
+    snprintf(name, sizeof name, "%s.lock", path);
+    if (what & UNLOCK && remove(name) == 0)
+        draw_in_child(to, &stock, handed, 1);
     calls = 0;
     at = place;
     mode = how;
@@ -1712,16 +2298,18 @@ static void draw_and_die(int to, enum mode how, size_t place, uint64_t turn, uin
  * the folder is synced: then the file before it is put back. */
 static void crashes(size_t count)
 {
-    enum { STEPS = 8 }; /* open, write, sync, close, rename, open, sync, close */
+    enum { STEPS = 12 }; /* fstat, fstatat, pread; unlinkat, openat, flock, write, fsync, fstat, renameat, close, fsync */
     static uint8_t used[EXPANDER_OUTPUTS_MAX]; /* of the label's dealing */
     char before[128], command[300];
-    size_t given = 0, put_back = 0, runs_made = 0, passages = 0, unsaid = 0;
+    size_t given = 0, put_back = 0, runs_made = 0, passages = 0, unsaid = 0, kinds[AROUND] = {0};
     uint64_t label = 0;
     fresh_folder();
+    snprintf(before, sizeof before, "%s.link", path);
+    CHECK(symlink("stock", before) == 0, "symlink");
     snprintf(before, sizeof before, "%s.before", path);
     for (size_t turn = 0; turn < count; turn++) {
         enum mode how = turn % 2 == 0 ? DIES_BEFORE : DIES_AFTER;
-        size_t place = turn / 2 % (2 * STEPS), step = place % STEPS, seen = 0;
+        size_t place = turn / 2 % (2 * STEPS), step = place % STEPS, seen = 0, kind = turn / (4 * STEPS) % AROUND;
         struct handed handed;
         int fds[2], status;
         pid_t id;
@@ -1733,7 +2321,8 @@ static void crashes(size_t count)
         fflush(stdout);
         id = fork();
         if (id == 0)
-            draw_and_die(fds[1], how, place, turn + 1, label);
+            draw_and_die(fds[1], how, place, turn + 1, label, around[kind]);
+        kinds[kind]++;
         __real_close(fds[1]);
         while (__real_read(fds[0], &handed, sizeof handed) == sizeof handed) {
             if (handed.label != label) {
@@ -1755,7 +2344,7 @@ static void crashes(size_t count)
         CHECK(WIFSIGNALED(status) && WTERMSIG(status) == SIGKILL, "run %zu ended by itself, status %d", turn, status);
         CHECK(seen == 1 + place / STEPS, "run %zu made %zu steps", turn, seen);
         /* Renamed and not synced: the machine may come up with the file as it was before this run. */
-        if (turn % 7 == 0 && turn > 0 && place < STEPS && (how == DIES_BEFORE ? step >= 5 && step <= 6 : step >= 4 && step <= 5)) {
+        if (turn % 7 == 0 && turn > 0 && place < STEPS && (how == DIES_BEFORE ? step >= 10 && step <= 11 : step >= 9 && step <= 10)) {
             CHECK(rename(before, path) == 0, "nothing to put back");
             put_back++;
         }
@@ -1765,7 +2354,71 @@ static void crashes(size_t count)
     remove_folder();
     CHECK(count < 500 || (passages > count / 10 && unsaid > count / 100), "%zu passages, %zu of them found after a crash", passages, unsaid);
     printf("crashes: %zu runs killed before and after each of the %d calls of saving, %zu indices handed out, none twice; %zu passages,"
-           " %zu of them found after a crash; %zu times the rename was lost\n", runs_made, STEPS, given, passages, unsaid, put_back);
+           " %zu of them found after a crash; %zu times the rename was lost; %zu runs with chdir, %zu with a link, %zu with a fork,"
+           " %zu with the lock removed, %zu with all of these\n", runs_made, STEPS, given, passages, unsaid, put_back, kinds[1], kinds[2],
+           kinds[3], kinds[4], kinds[5]);
+}
+
+/* Processes that remove the lock, open the stock, draw and close it, all at once: each index goes to one of them. */
+static void races(size_t count)
+{
+    enum { PROCESSES = 4 };
+    static uint8_t used[EXPANDER_OUTPUTS_MAX];
+    static const uint32_t all[1] = {EXPANDER_OUTPUTS_MAX};
+    struct companion_stock stock;
+    struct handed handed;
+    char lock[128];
+    size_t given = 0, refused = 0;
+    pid_t ids[PROCESSES];
+    int fds[2], status;
+    fresh_folder();
+    snprintf(lock, sizeof lock, "%s.link", path);
+    CHECK(symlink("stock", lock) == 0 && pipe(fds) == 0, "symlink");
+    EXPECT(0, companion_create_stock(path, companion_label(1), EXPANDER_OUTPUTS_MAX, all, 1, &stock));
+    companion_close_stock(&stock);
+    snprintf(lock, sizeof lock, "%s.lock", path);
+    fflush(stdout);
+    for (size_t process = 0; process < PROCESSES; process++)
+        if ((ids[process] = fork()) == 0) {
+            char name[128];
+            seed = process + 1;
+            for (size_t turn = 0; turn < count; turn++) {
+                struct companion_status opened;
+                snprintf(name, sizeof name, "%s%s", path, draw(2) == 0 ? "" : ".link");
+                remove(lock);
+                opened = companion_open_stock(name, companion_label(1), &stock);
+                handed.label = opened.number;
+                handed.count = 0;
+                for (size_t k = opened.number == 0 ? 1 + draw(3) : 0; k > 0; k--) {
+                    handed.count = 1 + draw(3);
+                    opened = companion_draw(&stock, NULL, companion_label(1), 0, handed.count, &handed.first);
+                    if (opened.number == EXPANDER_SHARE_SPENT)
+                        _exit(0);
+                    if (opened.number != 0 || __real_write(fds[1], &handed, sizeof handed) != sizeof handed)
+                        _exit(2);
+                }
+                if (opened.number != 0 && __real_write(fds[1], &handed, sizeof handed) != sizeof handed)
+                    _exit(2);
+                companion_close_stock(&stock);
+            }
+            _exit(0);
+        }
+    __real_close(fds[1]);
+    while (__real_read(fds[0], &handed, sizeof handed) == sizeof handed) {
+        CHECK(handed.label == 0 || handed.label == COMPANION_FILE_IN_USE, "a process is refused with %u", (unsigned)handed.label);
+        refused += handed.label != 0;
+        for (size_t k = handed.first; k < handed.first + handed.count; k++, given++) {
+            CHECK(!used[k], "index %zu is handed out twice", k);
+            used[k] = 1;
+        }
+    }
+    for (size_t process = 0; process < PROCESSES; process++)
+        CHECK(waitpid(ids[process], &status, 0) == ids[process] && status == 0, "a process failed: %d", status);
+    __real_close(fds[0]);
+    remove_folder();
+    CHECK(given > count && refused > 0, "%zu indices, %zu refused", given, refused);
+    printf("races: %d processes remove the lock, open and draw at once, %zu times each: %zu indices, none twice; %zu times it was in use\n",
+           PROCESSES, count, given, refused);
 }
 
 /* ---- Texts ---- */
@@ -1775,29 +2428,40 @@ static void texts(size_t count)
     static const char *const names[] = {
         "deal", "describe", "noise_offline", "scalar_offline", "noise_online", "scalar_online", "noise_direct", "scalar_direct",
         "noise_pads", "scalar_pads", "read_amount", "write_amount", "correction_bits", "mask_messages", "unmask_messages", "triples",
-        "open_stock", "draw", "preview", "pass_stock", "circuit_step", "circuit_round", "describe_circuit"};
+        "open_stock", "draw", "preview", "pass_stock", "circuit_step", "circuit_round", "describe_circuit", "version"};
     char name[64], tiny[5];
-    struct companion_status status = {2, "expander_deal", 0, 0};
+    struct companion_status status = {2, "expander_deal", 0, 0, 0, 0, 0, 0, {{0}}, {{0}}};
     (void)count;
     for (size_t k = 0; k < sizeof names / sizeof *names; k++)
         for (uint32_t number = 0; number <= EXPANDER_LABEL_NOT_IN_USE; number++) {
             snprintf(name, sizeof name, "expander_%s", names[k]);
-            CHECK(strcmp(companion_meaning(name, number), "no such number") != 0, "%s %u", name, (unsigned)number);
+            CHECK(strncmp(companion_meaning(name, number), "no such ", 8) != 0, "%s %u", name, (unsigned)number);
         }
-    for (uint32_t number = COMPANION_NO_MEMORY; number <= COMPANION_TEXT_UNMADE; number++)
+    for (uint32_t number = COMPANION_NO_MEMORY; number <= COMPANION_FILE_LINKED; number++)
         CHECK(strcmp(companion_meaning("", number), "no such number") != 0, "%u", (unsigned)number);
-    CHECK(strcmp(companion_meaning("", 22), "no such number") == 0 && strcmp(companion_meaning("", 134), "no such number") == 0, "22");
+    CHECK(strcmp(companion_meaning("", 22), "no such number") == 0 && strcmp(companion_meaning("", 141), "no such number") == 0, "22");
+    CHECK(strcmp(companion_meaning("expander_nothing", 3), "no such call") == 0, "a name that is no call's");
+    CHECK(strcmp(companion_meaning("expander_", 3), "no such call") == 0 && strcmp(companion_meaning("dea", 2), "no such call") == 0
+          && strcmp(companion_meaning("nothing", 0), "done") == 0, "names that are no call's");
+    CHECK(companion_version() == COMPANION_VERSION_NUMBER, "the companion's version");
     CHECK(strcmp(companion_meaning("expander_draw", 15), companion_meaning("draw", 15)) == 0, "names");
     CHECK(strstr(companion_meaning("expander_scalar_pads", 3), "delta") != NULL && strstr(companion_meaning("expander_pads", 3), "delta") == NULL, "names");
     companion_text(status, tiny, sizeof tiny);
     CHECK(strcmp(tiny, "expa") == 0, "a short text");
     CHECK(strcmp(said(status), "expander_deal refused with 2: depth, branch_bits, trees, terms or outputs is outside its range, or depth is no "
                                "multiple of branch_bits") == 0, "%s", said(status));
-    for (uint32_t number = 0; number <= COMPANION_TEXT_UNMADE; number++) {
-        status.number = number;
+    status.needed = status.there = SIZE_MAX; /* every detail at its longest */
+    status.parts = 2 * COMPANION_PART_LABEL - 1;
+    memset(&status.label, 255, sizeof status.label);
+    memset(&status.other, 254, sizeof status.other);
+    for (uint32_t number = 0; number <= COMPANION_FILE_LINKED; number++) {
+        status.number = status.far = number;
         status.system = ENAMETOOLONG;
         CHECK(strlen(said(status)) < 299, "a text is too long");
     }
+    status.number = COMPANION_OTHER_DEALING;
+    SAYS(status, "what differs is end, field, d, g, t, l, n, code key, label; label 0xffffffffffffffffffffffffffffffff here, "
+                 "0xfefefefefefefefefefefefefefefefe there");
     printf("texts: every number of every call has one\n");
 }
 
@@ -1805,7 +2469,9 @@ int main(int argc, char **argv)
 {
     static const struct { const char *name; void (*run)(size_t count); size_t count; } sections[] = {
         {"dealing", dealing, 300}, {"heads", heads, 0}, {"pairing", pairing, 1000}, {"circuits", circuits, 0}, {"bristol", bristol, 300},
-        {"runs", runs, 150}, {"stock", stock, 0}, {"faults", faults, 0}, {"silence", silence, 0}, {"crashes", crashes, 1000}, {"texts", texts, 0}};
+        {"runs", runs, 150}, {"altered", altered, 0}, {"limits", limits_of_runs, 0}, {"windows", windows, 100}, {"stock", stock, 0},
+        {"holding", holding, 0}, {"faults", faults, 0}, {"silence", silence, 0}, {"crashes", crashes, 1000}, {"races", races, 200},
+        {"texts", texts, 0}};
     for (size_t k = 0; k < sizeof sections / sizeof *sections; k++)
         if (argc == 1 || strcmp(argv[1], sections[k].name) == 0)
             sections[k].run(argc > 2 ? (size_t)strtoul(argv[2], NULL, 10) : sections[k].count);

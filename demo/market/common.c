@@ -48,7 +48,7 @@ double milliseconds(void)
 void open_channel(struct channel *channel, int fd, const char *far_name, unsigned seconds)
 {
     channel->far_name = far_name;
-    channel->socket = (struct companion_socket){fd, (int)seconds * 1000, 0, 0};
+    channel->socket = (struct companion_socket){fd, (int)seconds * 1000, 0, 0, 0};
     channel->link = (struct companion_link){companion_socket_send, companion_socket_receive,
                                             &channel->socket};
 }
@@ -62,6 +62,9 @@ void expect_done(const struct channel *channel, struct companion_status status)
     if (status.number == COMPANION_NOT_MOVED && status.system == ETIMEDOUT)
         stop("%s did nothing for %d seconds", channel->far_name,
              channel->socket.milliseconds / 1000);
+    if (status.number == COMPANION_FAR)
+        stop("%s refused with %u: %s", channel->far_name, (unsigned)status.far,
+             companion_meaning("", status.far));
     if (status.number == COMPANION_OTHER_DEALING)
         stop("a record is of another dealing than %s's", channel->far_name);
     if (status.number != COMPANION_DONE)
