@@ -9,6 +9,7 @@
 #include <errno.h>
 #include <fcntl.h>
 #include <malloc.h>
+#include <netinet/in.h>
 #include <pthread.h>
 #include <signal.h>
 #include <stdarg.h>
@@ -1488,6 +1489,54 @@ static void altered(size_t count)
            one_sided);
 }
 
+/* Over TCP, where an end that closes with bytes unread has the other's sends refused: the number still arrives, however late
+ * the other end looks. */
+static void refusals(size_t count)
+{
+    static struct companion_circuit circuit;
+    companion_wire a[4], b[4], less;
+    size_t told = 0;
+    companion_input(&circuit, COMPANION_ROLE_1, a, 4);
+    companion_input(&circuit, COMPANION_ROLE_2, b, 4);
+    less = companion_less(&circuit, COMPANION_RIPPLE, a, b, 4);
+    companion_output(&circuit, COMPANION_BOTH, &less, 1);
+    for (size_t turn = 0; turn < count; turn++) {
+        struct sockaddr_in address;
+        socklen_t len = sizeof address;
+        struct companion_triples triples = {4, take(12, 1), 0}, none = {0, NULL, 0};
+        struct companion_socket far = {0, 20000, 0, 0, 0};
+        struct companion_link link = {companion_socket_send, companion_socket_receive, &far};
+        const uint8_t own[4] = {0, 1, 0, 1};
+        uint8_t output[1];
+        int fds[2], listening = socket(AF_INET, SOCK_STREAM, 0), status;
+        pid_t id;
+        memset(&address, 0, sizeof address);
+        address.sin_family = AF_INET;
+        address.sin_addr.s_addr = htonl(INADDR_LOOPBACK);
+        fds[0] = socket(AF_INET, SOCK_STREAM, 0);
+        if (bind(listening, (struct sockaddr *)&address, len) != 0 || listen(listening, 1) != 0
+            || getsockname(listening, (struct sockaddr *)&address, &len) != 0 || connect(fds[0], (struct sockaddr *)&address, len) != 0
+            || (fds[1] = accept(listening, NULL, NULL)) < 0)
+            complain(__LINE__, "no TCP connection on this machine");
+        fflush(stdout);
+        id = fork();
+        if (id == 0) {
+            far.fd = fds[1];
+            __real_close(fds[0]);
+            _exit(companion_run(&link, COMPANION_ROLE_1, &circuit, own, &none, output, NULL).number != EXPANDER_TOO_FEW_TRIPLES);
+        }
+        far.fd = fds[0];
+        __real_close(fds[1]);
+        __real_close(listening);
+        usleep((useconds_t)(turn % 3 * 3000));
+        EXPECT_FAR(EXPANDER_TOO_FEW_TRIPLES, companion_run(&link, COMPANION_ROLE_2, &circuit, own, &triples, output, NULL));
+        __real_close(fds[0]);
+        CHECK(waitpid(id, &status, 0) == id && status == 0, "the end that refuses: %d", status);
+        told++;
+    }
+    printf("refusals: over TCP %zu refusals of one end are the other's, as the far end's\n", told);
+}
+
 /* A link that sends a byte at a time, and waits before each; and both ends' limits. */
 static int drip_wait, whole_limit[2];
 static ptrdiff_t drip_send(void *context, const uint8_t *bytes, size_t len)
@@ -1674,6 +1723,27 @@ static void step_together(struct side *side)
     companion_close_stock(&stock);
 }
 
+/* Draws until nothing is left, and goes on with another caller over the same link. */
+static void spend_together(struct side *side)
+{
+    size_t first = 0, draws = 0;
+    struct companion_stock stock;
+    side->status = companion_create_stock(NULL, companion_label(1), 200, stock_shares, 3, &stock);
+    while (side->status.number == 0 && draws < 99) {
+        side->status = companion_draw(&stock, &side->link, companion_label(1), 0, 30, &first);
+        draws += side->status.number == 0;
+    }
+    CHECK(draws == 3, "%zu draws", draws);
+    EXPECT(EXPANDER_SHARE_SPENT, side->status);
+    side->status = companion_draw(&stock, &side->link, companion_label(1), 1, 30, &first);
+    CHECK(first == 100, "the other caller's first is %zu", first);
+    if (side->with != NULL) /* this end lacks the label that the other draws from */
+        side->status = companion_draw(&stock, &side->link, companion_label(2), 1, 1, &first);
+    else
+        side->status = companion_draw(&stock, &side->link, companion_label(1), 1, 1, &first);
+    companion_close_stock(&stock);
+}
+
 /* A crash between the passages of two ends: one has passed, the other, that has not, passes when it comes up. */
 static void pass_apart(void)
 {
@@ -1796,6 +1866,12 @@ static void stock(size_t count)
         EXPECT(0, sides[1].status);
         CHECK(positions[0] == ahead && positions[1] == ahead, "ends draw %zu and %zu", positions[0], positions[1]);
     }
+    memset(sides, 0, sizeof sides);
+    sides[0].run = sides[1].run = spend_together;
+    sides[1].with = &first;
+    run_both(sides);
+    EXPECT_FAR(EXPANDER_LABEL_NOT_IN_USE, sides[0].status);
+    EXPECT(EXPANDER_LABEL_NOT_IN_USE, sides[1].status);
     pass_apart();
     printf("stock: %zu bytes a file; each byte changed, and each cut, is noticed\n", len);
 }
@@ -2469,9 +2545,9 @@ int main(int argc, char **argv)
 {
     static const struct { const char *name; void (*run)(size_t count); size_t count; } sections[] = {
         {"dealing", dealing, 300}, {"heads", heads, 0}, {"pairing", pairing, 1000}, {"circuits", circuits, 0}, {"bristol", bristol, 300},
-        {"runs", runs, 150}, {"altered", altered, 0}, {"limits", limits_of_runs, 0}, {"windows", windows, 100}, {"stock", stock, 0},
-        {"holding", holding, 0}, {"faults", faults, 0}, {"silence", silence, 0}, {"crashes", crashes, 1000}, {"races", races, 200},
-        {"texts", texts, 0}};
+        {"runs", runs, 150}, {"altered", altered, 0}, {"refusals", refusals, 30}, {"limits", limits_of_runs, 0}, {"windows", windows, 100},
+        {"stock", stock, 0}, {"holding", holding, 0}, {"faults", faults, 0}, {"silence", silence, 0}, {"crashes", crashes, 1000},
+        {"races", races, 200}, {"texts", texts, 0}};
     for (size_t k = 0; k < sizeof sections / sizeof *sections; k++)
         if (argc == 1 || strcmp(argv[1], sections[k].name) == 0)
             sections[k].run(argc > 2 ? (size_t)strtoul(argv[2], NULL, 10) : sections[k].count);
