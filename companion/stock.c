@@ -61,17 +61,25 @@ static struct companion_status read_file(int fd, struct file *file)
     return companion_done();
 }
 
-/* What the file's name stands for is the file that is open and locked, and is called so alone. Where not, other is the number.
- * Only then does nobody else have the stock: whoever has it keeps the lock of the file that the name stands for. */
-static struct companion_status look(struct companion_stock *stock, uint32_t other, struct stat *opened)
+/* What a name stands for is the file that is open and locked, and is called so alone. Where not, other is the number. Only then
+ * does nobody else have the stock: whoever has it keeps the lock of the file that the stock's name stands for. */
+static struct companion_status look(const struct companion_stock *stock, const char *name, int fd, uint32_t other, struct stat *opened)
 {
     struct stat named;
-    if (fstat(stock->file, opened) != 0)
+    if (fstat(fd, opened) != 0)
         return failed("fstat");
-    if (fstatat(stock->folder, stock->name, &named, AT_SYMLINK_NOFOLLOW) != 0)
+    if (fstatat(stock->folder, name, &named, AT_SYMLINK_NOFOLLOW) != 0)
         return errno == ENOENT ? companion_failed(other) : failed("fstatat");
     return companion_failed(named.st_dev != opened->st_dev || named.st_ino != opened->st_ino ? other
                             : opened->st_nlink != 1 ? COMPANION_FILE_LINKED : COMPANION_DONE);
+}
+
+/* Nothing has the stock's name. */
+static struct companion_status look_for_none(const struct companion_stock *stock)
+{
+    struct stat about;
+    return fstatat(stock->folder, stock->name, &about, AT_SYMLINK_NOFOLLOW) == 0 ? companion_failed(COMPANION_FILE_THERE)
+           : errno == ENOENT ? companion_done() : failed("fstatat"); /* it may be there */
 }
 
 static void keep_identity(struct companion_stock *stock, const struct stat *about)
@@ -85,7 +93,7 @@ static struct companion_status compare_file(struct companion_stock *stock)
 {
     struct file due = file_of(&stock->stock), found;
     struct stat about;
-    struct companion_status status = look(stock, COMPANION_FILE_CHANGED, &about);
+    struct companion_status status = look(stock, stock->name, stock->file, COMPANION_FILE_CHANGED, &about);
     NEXT(status, companion_failed((uint64_t)about.st_dev != stock->device || (uint64_t)about.st_ino != stock->inode
                                   || about.st_size != (off_t)sizeof found ? COMPANION_FILE_CHANGED : COMPANION_DONE));
     NEXT(status, read_file(stock->file, &found));
@@ -93,16 +101,26 @@ static struct companion_status compare_file(struct companion_stock *stock)
     return status;
 }
 
-/* Writes the next file, which is locked before it gets the stock's name. */
-static struct companion_status write_next(struct companion_stock *stock, const struct file *file, int *fd)
+/* Writes the next file, which is locked before it gets the stock's name. One that is there is of a run that was cut short; or, where
+ * a stock is created, of another that creates it now, and has its lock. So of several that create one stock one does. */
+static struct companion_status write_next(struct companion_stock *stock, const struct file *file, int *fd, struct stat *about)
 {
-    struct companion_status status = companion_done();
-    if (unlinkat(stock->folder, name_of(stock, 1), 0) != 0 && errno != ENOENT) /* of a run that was cut short */
-        return failed("unlinkat");
-    *fd = openat(stock->folder, name_of(stock, 1), O_RDWR | O_CREAT | O_EXCL | O_NOFOLLOW | O_CLOEXEC, 0600);
+    struct companion_status status;
+    const char *next = name_of(stock, 1);
+    int creates = stock->file < 0, tries = 8; /* who is too late to create the stock may make one in between */
+    do {
+        if (!creates && unlinkat(stock->folder, next, 0) != 0 && errno != ENOENT)
+            return failed("unlinkat");
+        *fd = openat(stock->folder, next, O_RDWR | O_CREAT | (creates ? 0 : O_EXCL) | O_NOFOLLOW | O_CLOEXEC, 0600);
+    } while (*fd < 0 && errno == EEXIST && --tries > 0);
     if (*fd < 0)
         return failed("openat");
     status = lock_file(*fd);
+    NEXT(status, look(stock, next, *fd, COMPANION_FILE_IN_USE, about));
+    if (creates) {
+        NEXT(status, look_for_none(stock));
+        NEXT(status, ftruncate(*fd, 0) == 0 ? companion_done() : failed("ftruncate"));
+    }
     for (size_t done = 0; done < sizeof *file && status.number == 0;) {
         ssize_t put = write(*fd, (const uint8_t *)file + done, sizeof *file - done);
         done += put > 0 ? (size_t)put : 0;
@@ -124,8 +142,7 @@ static struct companion_status save(struct companion_stock *stock, const struct 
     if (stock->name != NULL) {
         if (stock->file >= 0) /* else it is created */
             status = compare_file(stock);
-        NEXT(status, write_next(stock, &file, &fd));
-        NEXT(status, fstat(fd, &about) == 0 ? companion_done() : failed("fstat"));
+        NEXT(status, write_next(stock, &file, &fd, &about));
         NEXT(status, renameat(stock->folder, name_of(stock, 1), stock->folder, stock->name) == 0 ? companion_done() : failed("renameat"));
         if (status.number != 0) {
             if (fd >= 0)
@@ -151,7 +168,7 @@ static struct companion_status load(struct companion_stock *stock)
     if ((stock->file = openat(stock->folder, stock->name, O_RDWR | O_NOFOLLOW | O_CLOEXEC)) < 0)
         return failed("openat");
     status = lock_file(stock->file);
-    NEXT(status, look(stock, COMPANION_FILE_IN_USE, &about)); /* where the name stands for another, whoever has the stock wrote it */
+    NEXT(status, look(stock, stock->name, stock->file, COMPANION_FILE_IN_USE, &about)); /* else whoever has it just wrote another */
     NEXT(status, companion_failed(about.st_size != (off_t)sizeof file ? COMPANION_FILE_DAMAGED : COMPANION_DONE));
     NEXT(status, read_file(stock->file, &file));
     if (status.number == 0
@@ -216,12 +233,10 @@ struct companion_status companion_create_stock(const char *path, struct expander
 {
     struct expander_opened_stock opened = expander_open_stock(label, outputs, shares, shares_len);
     struct companion_status status = companion_refused("expander_open_stock", opened.number);
-    struct stat about;
     begin(stock);
     if (path != NULL) {
         NEXT(status, take_path(path, 0, stock));
-        NEXT(status, fstatat(stock->folder, stock->name, &about, AT_SYMLINK_NOFOLLOW) == 0 ? companion_failed(COMPANION_FILE_THERE)
-                     : errno == ENOENT ? companion_done() : failed("fstatat")); /* it may be there */
+        NEXT(status, look_for_none(stock));
     }
     NEXT(status, save(stock, &opened.stock));
     if (status.number != 0)

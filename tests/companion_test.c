@@ -272,6 +272,7 @@ WRAP_FILE_CALL(flock, (int fd, int operation))
 WRAP_FILE_CALL(fstat, (int fd, struct stat *about))
 WRAP_FILE_CALL(fstatat, (int folder_, const char *name, struct stat *about, int how))
 WRAP_FILE_CALL(unlinkat, (int folder_, const char *name, int how))
+WRAP_FILE_CALL(ftruncate, (int fd, off_t len))
 
 int __wrap_fsync(int fd)
 {
@@ -313,6 +314,13 @@ int __wrap_unlinkat(int folder_, const char *name, int how)
     if (mode == INTERRUPTED)
         return __real_unlinkat(folder_, name, how);
     WRAPPED(unlinkat, EACCES, -1, folder_, name, how);
+}
+
+int __wrap_ftruncate(int fd, off_t len)
+{
+    if (mode == INTERRUPTED)
+        return __real_ftruncate(fd, len);
+    WRAPPED(ftruncate, EIO, -1, fd, len);
 }
 
 /* Calls of the expander that accept whatever the companion lends them, and so are made to refuse. */
@@ -2374,7 +2382,7 @@ static void draw_and_die(int to, enum mode how, size_t place, uint64_t turn, uin
  * the folder is synced: then the file before it is put back. */
 static void crashes(size_t count)
 {
-    enum { STEPS = 12 }; /* fstat, fstatat, pread; unlinkat, openat, flock, write, fsync, fstat, renameat, close, fsync */
+    enum { STEPS = 13 }; /* fstat, fstatat, pread; unlinkat, openat, flock, fstat, fstatat, write, fsync, renameat, close, fsync */
     static uint8_t used[EXPANDER_OUTPUTS_MAX]; /* of the label's dealing */
     char before[128], command[300];
     size_t given = 0, put_back = 0, runs_made = 0, passages = 0, unsaid = 0, kinds[AROUND] = {0};
@@ -2420,7 +2428,7 @@ static void crashes(size_t count)
         CHECK(WIFSIGNALED(status) && WTERMSIG(status) == SIGKILL, "run %zu ended by itself, status %d", turn, status);
         CHECK(seen == 1 + place / STEPS, "run %zu made %zu steps", turn, seen);
         /* Renamed and not synced: the machine may come up with the file as it was before this run. */
-        if (turn % 7 == 0 && turn > 0 && place < STEPS && (how == DIES_BEFORE ? step >= 10 && step <= 11 : step >= 9 && step <= 10)) {
+        if (turn % 7 == 0 && turn > 0 && place < STEPS && (how == DIES_BEFORE ? step >= 11 && step <= 12 : step >= 10 && step <= 11)) {
             CHECK(rename(before, path) == 0, "nothing to put back");
             put_back++;
         }
@@ -2435,6 +2443,57 @@ static void crashes(size_t count)
            kinds[3], kinds[4], kinds[5]);
 }
 
+/* Processes that remove the lock and create one stock at once: one does, and draws. */
+static void create_at_once(size_t count)
+{
+    enum { PROCESSES = 4 };
+    char lock[128];
+    size_t created = 0, in_use = 0;
+    for (size_t turn = 0; turn < count; turn++) {
+        struct companion_stock stock;
+        pid_t ids[PROCESSES];
+        int start[2], status, good = 0;
+        fresh_folder();
+        snprintf(lock, sizeof lock, "%s.lock", path);
+        if (turn % 3 == 0) { /* one that was cut short */
+            snprintf(lock, sizeof lock, "%s.new", path);
+            __real_close(__real_open(lock, O_WRONLY | O_CREAT, 0600));
+            snprintf(lock, sizeof lock, "%s.lock", path);
+        }
+        CHECK(pipe(start) == 0, "no pipe");
+        fflush(stdout);
+        for (size_t process = 0; process < PROCESSES; process++)
+            if ((ids[process] = fork()) == 0) {
+                struct companion_status made;
+                size_t first;
+                char go;
+                __real_close(start[1]);
+                if (__real_read(start[0], &go, 1) != 0) /* the parent closes it */
+                    _exit(2);
+                remove(lock);
+                made = companion_create_stock(path, companion_label(1), 200, stock_shares, 3, &stock);
+                remove(lock);
+                if (made.number != 0)
+                    _exit(made.number == COMPANION_FILE_IN_USE ? 3 : made.number == COMPANION_FILE_THERE ? 4 : (int)made.number);
+                _exit((int)companion_draw(&stock, NULL, companion_label(1), 0, 1, &first).number);
+            }
+        __real_close(start[0]);
+        __real_close(start[1]);
+        for (size_t process = 0; process < PROCESSES; process++) {
+            CHECK(waitpid(ids[process], &status, 0) == ids[process] && WIFEXITED(status), "a process ended by a signal");
+            status = WEXITSTATUS(status);
+            CHECK(status == 0 || status == 3 || status == 4, "a process ended with %d", status);
+            good += status == 0;
+            in_use += status == 3;
+        }
+        CHECK(good == 1, "%d processes created one stock", good);
+        created++;
+        remove_folder();
+    }
+    printf("races: %zu stocks that %d processes create at once, with the lock removed: one does; %zu times it was in use\n", created,
+           PROCESSES, in_use);
+}
+
 /* Processes that remove the lock, open the stock, draw and close it, all at once: each index goes to one of them. */
 static void races(size_t count)
 {
@@ -2447,6 +2506,7 @@ static void races(size_t count)
     size_t given = 0, refused = 0;
     pid_t ids[PROCESSES];
     int fds[2], status;
+    create_at_once(count);
     fresh_folder();
     snprintf(lock, sizeof lock, "%s.link", path);
     CHECK(symlink("stock", lock) == 0 && pipe(fds) == 0, "symlink");
@@ -2547,7 +2607,7 @@ int main(int argc, char **argv)
         {"dealing", dealing, 300}, {"heads", heads, 0}, {"pairing", pairing, 1000}, {"circuits", circuits, 0}, {"bristol", bristol, 300},
         {"runs", runs, 150}, {"altered", altered, 0}, {"refusals", refusals, 30}, {"limits", limits_of_runs, 0}, {"windows", windows, 100},
         {"stock", stock, 0}, {"holding", holding, 0}, {"faults", faults, 0}, {"silence", silence, 0}, {"crashes", crashes, 1000},
-        {"races", races, 200}, {"texts", texts, 0}};
+        {"races", races, 1000}, {"texts", texts, 0}};
     for (size_t k = 0; k < sizeof sections / sizeof *sections; k++)
         if (argc == 1 || strcmp(argv[1], sections[k].name) == 0)
             sections[k].run(argc > 2 ? (size_t)strtoul(argv[2], NULL, 10) : sections[k].count);
