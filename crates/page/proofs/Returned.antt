@@ -1,8 +1,10 @@
 -- What the inner function of each call promises gives what the page says: each law closes the return of one exported call, or of the pair
 -- program's line.
-use Prim.Native.Nat.{ℕ}
+use Prim.Native.Nat.{ℕ, _+_, _≤_}
+use native.Mathlib.Omega.{arith}
 use mathlib.Core.Path.{_≡_, sym, ap, _∙_}
-use lib.ListN.{length}
+use lib.ListN.{length, getD, take, drop, length-append}
+use lib.Seq.{length-take-le}
 use mathlib.Core.List.{List, [], _∷_}
 use Rattle.answer.specs.Outcome.{outcomeNone, outcomeOne, outcomeTwo}
 use Rattle.answer.specs.declared.OneLength.{OneLength}
@@ -78,3 +80,18 @@ unfolding page.line page.answer printed
 line-returned noise scalar out b r v f e =
     ap (λ (x : List ℕ × ℕ). page.returned 0 (x .1 ∷ []) (noise ∷ scalar ∷ []) (x .0 ∷ [])) (e ∙ ap (λ (v : Verdict). printed v out) f)
     ∙ sym (ap (λ (l : List ℕ). page.returned 0 (length l ∷ []) (noise ∷ scalar ∷ []) (page.front l out ∷ [])) (line-is noise scalar))
+
+-- a line that was written lies in its buffer, and is as long as it says
+module _ (noise scalar out : List ℕ) {noise′ scalar′ b : List ℕ} {r : ℕ}
+    (e : page.returned 0 (r ∷ []) (noise′ ∷ scalar′ ∷ []) (b ∷ []) ≡ page.line noise scalar out) where
+  pub line-in : r ≤ length b
+  unfolding page.line page.answer
+  line-in =
+      let l = page.lineText noise scalar in
+      let long : r ≡ length l = ap (λ (x : page.Return). getD (x .lengths) 0 0) e in
+      let whole : length b ≡ length l + length (drop (length l) out) =
+      ap (λ (x : page.Return). length (getD (x .outputs) 0 [])) e ∙ length-append l (drop (length l) out) in
+      omega (arith, long, whole)
+
+  pub line-front : r ≡ length (take r b)
+  line-front = let m = line-in in sym (length-take-le r b m)

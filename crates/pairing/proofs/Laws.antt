@@ -5,8 +5,6 @@ use mathlib.Core.List.{List}
 use Prim.Native.Nat.{ℕ, zero, suc, _+_, _≤_, _<_}
 use native.Mathlib.Omega.{arith}
 use native.Mathlib.Numerals.{add-one}
-use lib.ListN.{length, take, drop, length-append}
-use lib.Seq.{length-take-le}
 use borrow.Author.Tests.{le-ltb, lt-ltb}
 use Rattle.algebra.proofs.Choice.{choose-true}
 use Rattle.number.specs.Reading.{Whole, Refused}
@@ -15,7 +13,7 @@ use Rattle.record.specs.Reading.{readNoise, readScalar}
 use Rattle.window.specs.Head.{fieldOf, places}
 use Rattle.ends.specs.Scalar.Vectors as scalarEnd
 use Rattle.pairing.specs.AllHeld.{CorrelatedHeld}
-use Rattle.pairing.specs.Line.{text, printed}
+use Rattle.pairing.specs.Line.{text}
 use Rattle.pairing.specs.Verdict.{Verdict, Refusal, TooLarge, Different, Checked, sameDealing, paired, verdict}
 use Rattle.pairing.specs.Verdict.{uAt, vAt, wAt, holds, Pair, noiseOf, scalarOf, pairOf, heldAt, heldOf}
 use Rattle.pairing.proofs.Same.{same-refl, same-dealing}
@@ -80,16 +78,3 @@ correlated-held noise scalar D read other C =
     same-checked noise scalar read other (C .small) (C .small) (same-dealing (D .head))
     ∙ ap (Checked (D .head .outputs)) (all-counted D (D .head .outputs) (C .held)) in
     record { found = found; line = ap text found }
-
--- ---- the line
-
--- a line that was written lies in its buffer
-pub line-in : (v : Verdict) (out : List ℕ) {b : List ℕ} {r : ℕ} → (b, r) ≡ printed v out → r ≤ length b
-unfolding printed
-line-in v out e =
-    let l = ap (λ (x : List ℕ × ℕ). length (x .0)) e ∙ length-append (text v) (drop (length (text v)) out) in
-    let k = ap (λ (x : List ℕ × ℕ). x .1) e in
-    omega (arith, l, k)
-
-pub line-front : (v : Verdict) (out : List ℕ) {b : List ℕ} {r : ℕ} → (b, r) ≡ printed v out → r ≡ length (take r b)
-line-front v out {b} {r} e = let m = line-in v out e in sym (length-take-le r b m)

@@ -1,6 +1,6 @@
 -- `pair::main` is safe and ends: the line lies in its buffer. Assumes nothing.
 use borrow.Author.Needs.{needs}
-use Rattle.pairing.proofs.Laws.{line-in, line-front}
+use Rattle.page.proofs.Returned.{line-in, line-front}
 use Rattle.pair.proofs.main.Statement.{statement}
 use Rattle.pair.proofs.main.Tie as tie
 

@@ -1,6 +1,6 @@
 -- `cases::lines::show` is safe and ends: the line lies in its buffer. Assumes nothing.
 use borrow.Author.Needs.{needs}
-use Rattle.pairing.proofs.Laws.{line-in, line-front}
+use Rattle.page.proofs.Returned.{line-in, line-front}
 use Rattle.cases.proofs.lines.show.Statement.{statement}
 use Rattle.cases.proofs.lines.show.Tie as tie
 
