@@ -1,16 +1,26 @@
 #!/usr/bin/env python3
-"""usage: tests/book.py FOLDER
+"""usage: tests/book.py [--pages] FOLDER
 
-Holds the book of promises to what it is made of. Makes it in the folder that is given, and fails unless
-- every definition that a promise reaches, and every exported contract, stands in it exactly once, and after what it cites;
-- every link has its target, and every id stands once;
-- every row of docs/PROMISES.md stands in it, with one of the five marks;
-- every name of the kit that a shown definition uses is on the page of notation, and every name on that page exists: a name of the kit that
-  some definition uses, or a definition;
-- the page of notation has the same contract and statement as the code, where it reads them aloud;
-- every number is in the list of some call of the header, and stands in each list with its own name.
+Holds both books to what they are made of. Makes them in the folder that is given, and fails unless
+
+the book of document 01
+- has the page and the statements whole: their text is the files', and every declaration stands in it once, in order, at its line;
+- has the eight contracts, whole;
+- shows under every statement one proof, which a file of proofs/ declares with that statement as its type;
+- has a sheet of notation of at most 60 lines of at most 140 characters, which explains every keyword, sign and name of the kit that the
+  files and contracts use, ranks every operator as it binds, and has nothing that they do not use;
+- reads aloud a contract and a statement that the code and the file have;
+- says on its first part what it is, has the evidence whole, and a place to sign;
+- has a link to every defined name, a target for every link, every id once, and no script;
+- takes at most 30 printed pages (with --pages alone, which needs chromium and pdfinfo);
+
+the book with the workings
+- has every definition of specs/ outside Inner/, and every exported contract, exactly once, and after what it cites;
+- has its links, ids, rows and marks in order, and explains every name of the kit that a shown definition uses;
+- has every number in the list of some call of the header, in each list with its own name.
 """
 import collections
+import html.parser
 import importlib.machinery
 import importlib.util
 import os
@@ -22,23 +32,262 @@ os.chdir(os.path.join(os.path.dirname(os.path.abspath(__file__)), ".."))
 if sys.argv[1:] in (["--help"], ["-h"]):
     print(__doc__.strip())
     sys.exit(0)
-if len(sys.argv) != 2 or sys.argv[1].startswith("-"):
-    print("usage: tests/book.py FOLDER", file=sys.stderr)
+pages = sys.argv[1:2] == ["--pages"]
+if len(sys.argv) != 2 + pages or sys.argv[-1].startswith("-"):
+    print("usage: tests/book.py [--pages] FOLDER", file=sys.stderr)
     sys.exit(2)
-folder = sys.argv[1]
-subprocess.run(["tools/book", folder], check=True)
+folder = sys.argv[-1]
+sys.dont_write_bytecode = True
+subprocess.run(["tools/book", "--workings", folder], check=True)
 loader = importlib.machinery.SourceFileLoader("book", "tools/book")
 spec = importlib.util.spec_from_loader("book", loader)
-made = importlib.util.module_from_spec(spec)
-sys.dont_write_bytecode = True
-loader.exec_module(made)
-book = made.Book(".")
-page = open(os.path.join(folder, "index.html"), encoding="utf-8").read()
+short = importlib.util.module_from_spec(spec)
+loader.exec_module(short)
+made = short.workings
 faults = []
 
-# definitions: what promises reach, by the same walk that tests/promises.py makes
-ids = collections.Counter(re.findall(r'id="?([^"\s>]+)"?', page))
+
+def text_of(path):
+    with open(path, encoding="utf-8") as file:
+        return file.read()
+
+
+squeezed = lambda text: " ".join(text.split())
+made_text = lambda name: text_of(os.path.join(folder, name))
+
+
+def links_and_ids(page, name):
+    ids = collections.Counter(re.findall(r'\bid="?([^"\s>]+)"?', page))
+    links = collections.Counter(re.findall(r'href="#([^"]+)"', page))
+    faults.extend(f"{name}: a link has no target: {target}" for target in sorted(set(links) - set(ids)))
+    faults.extend(f"{name}: an id stands {count} times: {target}" for target, count in sorted(ids.items()) if count > 1)
+    for found in re.findall(r"<script|<iframe|\son\w+=|(?:href|src)=[\"']?(?:https?:|//|javascript:)", page):
+        faults.append(f"{name} has more than text and links in it: {found.strip()}")
+    return ids, links
+
+
+# ==== the book of document 01
+
+class Shown(html.parser.HTMLParser):
+    """What a reader sees: the two files as text, each block of code with its line and its own name, and what stands under statements."""
+
+    def __init__(self):
+        super().__init__()
+        self.files, self.code, self.beside, self.headings = [], [], [], []
+        self.inside, self.depth, self.tags = None, 0, []
+
+    def handle_starttag(self, tag, attributes):
+        of = dict(attributes)
+        if tag in ("meta", "br"):
+            return
+        self.tags.append((tag, of.get("class", "")))
+        if of.get("class") == "whole":
+            self.files.append("")
+        if of.get("class") == "with":
+            self.beside.append([self.code[-1][1] if self.code else None, ""])
+        if tag == "pre" and "data-n" in of:
+            self.code.append([int(of["data-n"]), "", ""])
+        if tag in ("h2", "h3"):
+            self.headings.append("")
+
+    def handle_endtag(self, tag):
+        while self.tags and self.tags.pop()[0] != tag:
+            pass
+        if tag in ("pre", "p", "h3", "span"):
+            self.add("\n")
+
+    def handle_data(self, text):
+        kinds, classes = [t for t, _ in self.tags], [c for _, c in self.tags]
+        if kinds[-1:] == ["b"] and "pre" in kinds and self.code:
+            self.code[-1][1] = self.code[-1][1] or text
+        if kinds[-1:] and kinds[-1] in ("h2", "h3"):
+            self.headings[-1] += text
+        if "with" in classes:
+            self.beside[-1][1] += text
+        else:
+            self.add(text.replace(": ", " ") if "h3" in kinds else text)
+
+    def add(self, text):
+        kinds, classes = [t for t, _ in self.tags], [c for _, c in self.tags]
+        if "with" in classes:
+            return
+        if "whole" in classes:
+            self.files[-1] += text
+        if "pre" in kinds and self.code and not any(c == "plain" for c in classes):
+            self.code[-1][2] += text
+
+
+book = short.Book(".")
+page, plain = made_text("index.html"), made_text("book.txt")
+shown = Shown()
+shown.feed(page)
+ids, links = links_and_ids(page, "index.html")
+DECLARED = re.compile(r"(?:unfoldable |abbrev )?(?:pub )?(?:record |data )?([^\s({]+)(?: .*)? : ")
+
+# whole, in order
+names = {}
+for path, text in zip((short.PAGE, short.STATEMENTS), shown.files + ["", ""]):
+    lines = text_of(path).rstrip("\n").split("\n")
+    title = lambda line: line.replace("-- ==== ", "").replace(": ", " ")
+    bare = [title(line) if line.startswith("-- ====") else re.sub(r"^( *)-- ", r"\1", line) for line in lines]
+    wanted, got = "\n".join(bare).replace("`", "").split(), text.split()
+    at = next((k for k, (a, b) in enumerate(zip(wanted, got)) if a != b), min(len(wanted), len(got)))
+    if wanted != got:
+        faults.append(f"the book has not {path} whole: '{' '.join(wanted[at:at + 8])}' is there '{' '.join(got[at:at + 8])}'")
+    declared = [(number, DECLARED.match(line)[1]) for number, line in enumerate(lines, 1) if re.match(r"(unfoldable |abbrev )?pub ", line)]
+    names[path] = [name for _, name in declared]
+    first = next((k for k, (_, name, _) in enumerate(shown.code) if declared and name == declared[0][1]), 0)
+    at = [(number, name) for number, name, _ in shown.code[first:] if name][:len(declared)]
+    faults += [f"{path}:{place[0]}: {place[1]} is not in its place in the book, where {other} is"
+               for place, other in zip(declared, at) if place != other]
+    faults += [f"{path}: {name} stands in the book {count} times" for name in names[path]
+               for count in [sum(n == name and (k, n) in declared for k, n, _ in shown.code)] if count != 1]
+    if text_of(path).rstrip("\n") not in plain:
+        faults.append(f"book.txt has not {path} whole")
+
+# contracts
+wanted = [("crates/expander/src/lib.rt", r'pub extern "C" fn .*?(?=\n\{)'), ("crates/pair_line/src/lib.rt", r"pub fn line\b.*?(?=\n\{)")]
+contracts = [found for path, form in wanted for found in re.findall("(?ms)^" + form, text_of(path))]
+if len(contracts) != 8:
+    faults.append(f"document 01 has seven calls and the pair program's line, and there are {len(contracts)} contracts")
+for contract in contracts:
+    count = sum(squeezed(text) == squeezed(contract) for _, _, text in shown.code)
+    name = re.search(r"fn (\w+)", contract)[1]
+    if count != 1 or contract not in plain:
+        faults.append(f"the contract of {name} stands whole in the book {count} times, or not in book.txt")
+    if contract.count("ensures") != 1 or "requires" in contract or "document." not in contract:
+        faults.append(f"the contract of {name} is not one equation with the page")
+
+# statements: types without parameters that serve no other definition
+text = re.sub(r"--[^\n]*", "", text_of(short.STATEMENTS))
+plain_type = lambda name: re.search(rf"(?m)^(?:abbrev |unfoldable )?pub (?:record )?{re.escape(name)} : Type 0(?: where)?$", text)
+serves = lambda name: re.search(rf"(?m)^(?!.*pub (?:record )?{re.escape(name)} : ).*(?<![^\s(]){re.escape(name)}(?![^\s).])(?! =)", text)
+statements = [name for name in names[short.STATEMENTS] if plain_type(name) and not serves(name)]
+for name in statements:
+    under = [said for owner, said in shown.beside if owner == name]
+    proofs = [p for said in under for p in re.findall(r"Proof: (\S+) : (?:\w+\.)?(\S+) (\S+):(\d+)", said)]
+    if len(proofs) != 1 or proofs[0][1] != name:
+        faults.append(f"{short.STATEMENTS}: {name} has {len(proofs)} proofs in the book")
+    for proof, _, path, number in proofs:
+        line = text_of(path).split("\n")[int(number) - 1]
+        if not re.fullmatch(rf"((unfoldable|abbrev|pub) )*{re.escape(proof)} : (\w+\.)?{re.escape(name)}", line):
+            faults.append(f"{path}:{number} does not declare {proof} : {name}")
+if not statements or sorted(statements) != sorted(owner for owner, _ in shown.beside):
+    faults.append(f"the statements are {', '.join(statements)}, and in the book {', '.join(str(o) for o, _ in shown.beside)}")
+
+# the sheet of notation
+notation = text_of("docs/NOTATION.md")
+chapter = lambda title: re.search(rf"(?ms)^## {title}\n(.*?)(?=^## |\Z)", notation)[1].strip("\n")
+sheet = chapter("The sheet for document 01")
+faults += [f"docs/NOTATION.md: the sheet has {count} lines" for count in [len(sheet.split("\n"))] if count > 60]
+faults += [f"docs/NOTATION.md: a line of the sheet has {len(line)} characters: {line[:60]}"
+           for line in sheet.split("\n") if len(line) > 140]
+if squeezed(re.sub(r"<[^>]+>", " ", made.markdown(sheet, 1))) not in squeezed(re.sub(r"<[^>]+>", " ", page)):
+    faults.append("the book has not the sheet of docs/NOTATION.md")
+SIGNS = re.compile(r'"[^"]*"|[^\s(){};,.«»⌜⌝λ]+|[«»⌜⌝λ]')
+spans = [s.replace("\\|", "|") for s in re.findall(r"`((?:[^`])+)`", sheet)]
+explained = {word for span in spans for word in SIGNS.findall(span)}
+first = [s.replace("\\|", "|") for row in re.findall(r"(?m)^\| ((?:`[^`]+`(?:, )?)+) \|", sheet) for s in re.findall(r"`([^`]+)`", row)]
+code = {path: re.sub(r"--[^\n]*", "", text_of(path)) for path in (short.PAGE, short.STATEMENTS)}
+kit = {name.strip("_") or name for text in code.values() for module, found in re.findall(r"(?m)^use (\S+)\.\{([^}]*)\}$", text)
+       if not module.startswith("Rattle·") for name in found.split(", ")}
+own = {part for path in code for name in names[path] for part in [name, *name.strip("_").split("_")]}
+own |= set(re.findall(r"(?m)^  (?:pub )?([^\s:({]+) :", "".join(code.values()))) | {"otherwise", "_otherwise_"}
+bound = set()
+for text in code.values():
+    for binder in (r"[({;]([^(){}:=;]+) :(?: |\n)", r"λ ([^.()]+)\.", r"λ \(([^.()]+)\)\."):
+        bound |= {name for group in re.findall(binder, text) for name in re.split(r"[\s,]+", group)}
+    bound |= set(re.findall(r"\blet (\S+)", text)) | set(re.findall(r"(\S+) ←", text)) | set(re.findall(r"([^\s{;]+) = ", text))
+    for line in text.split("\n"):
+        side = re.split(r" =(?: |$)", line)
+        if len(side) > 1 and not line.startswith(" "):
+            bound |= set(SIGNS.findall(side[0]))
+code_words = set()
+for contract in contracts + [item.text for item in book.structs]:
+    for binder in (r"\b(\w+): ", r"(\w+) = ", r"\b(?:fn|struct) (\w+)"):
+        bound |= set(re.findall(binder, contract))
+    found = set(SIGNS.findall(contract.split("ensures")[0])) | {"ensures"}
+    code_words |= {w.rstrip(":") for w in found} | set(SIGNS.findall(" ".join(contract.split("ensures")[1:])))
+bound |= {"r", *(item.name for item in book.structs)}
+used = {word for text in code.values() for word in SIGNS.findall(re.sub(r"(?m)^use .*$", "", text))} | code_words | {"use", "--"}
+unexplained = {word for word in used | kit if not re.fullmatch(r"\d+", word) and (word in kit or word not in own | bound)}
+unexplained |= {word for word in own if not re.search(r"\w", word)} | {"if", "then", "else", "otherwise"}
+unexplained = {"0x1b" if word.startswith("0x") else word for word in unexplained}  # one example of a number to the base 16 will do
+parts_of = lambda word: set(re.findall(r"\w+|[^\w\s]+", word))
+known = explained | {part for word in explained for part in parts_of(word)}
+for word in sorted(unexplained):
+    if word not in known and not (parts_of(word) <= known and re.search(r"[\[&:\"]", word)):
+        faults.append(f"docs/NOTATION.md: the sheet does not explain {word}, which document 01's page, contracts or statements use")
+everything = used | kit | {part for word in used | code_words for part in parts_of(word)}
+for span in first:
+    if " " not in span and not parts_of(span.replace(".", " ")) <= everything | {"f"}:
+        faults.append(f"docs/NOTATION.md: the sheet has {span}, which document 01's page, contracts and statements do not use")
+
+# the order of operators: ranks of the kit's, and those that the page declares
+ranks = {"^": 75, "*": 70, "/": 70, "%": 70, "∷": 67, "+": 65, "-": 65, "++": 65, "<": 50, "≤": 50, "&&": 35, "||": 30, "≡": 4, "≢": 4}
+ranks.update({"×": 2, "↔": 1, "→": 0})
+ranks.update((re.sub(r"^_|_.*", "", name.strip("_")) or name.strip("_"), int(rank))
+             for rank, name in re.findall(r"(?m)^infix[lr]? (\d+) (\S+)$", code[short.PAGE]))
+order = re.search(r"(?s)\*\*What belongs together\*\*(.*?)Signs of one rank", sheet)[1]
+listed = [[s for s in re.findall(r"`([^`]+)`", part)] for part in order.split(";")[1:]]
+taken = {name for text in code.values() for found in re.findall(r"(?m)^use .*\{([^}]*)\}$", text) for name in found.split(", ")}
+operators = {name.strip("_") for name in taken if name.startswith("_") and name.endswith("_")} | {"×", "→", "if"}
+faults += [f"docs/NOTATION.md: the sheet does not rank {sign}" for sign in sorted(operators - {s for part in listed for s in part})]
+rank = [{ranks.get(s) for s in part} for part in listed]
+if any(len(r) != 1 or None in r for r in rank) or [max(r) for r in rank] != sorted({x for r in rank for x in r}, reverse=True):
+    faults.append(f"docs/NOTATION.md: the sheet ranks operators otherwise than they bind: {rank}")
+
+# what is read aloud is there
+quoted = lambda title: [squeezed(found) for found in re.findall(r"(?m)(?:^    .*(?:\n|\Z))+", chapter(title))]
+aloud = quoted("A contract read aloud") + quoted("A statement read aloud")
+sources = [squeezed(book.house.contracts["crates/expander/src/lib.rt", "expander_noise_offline"].text),
+           squeezed(next(d.text for d in book.definitions[short.STATEMENTS] if d.name == "Claim"))]
+if len(aloud) != 2 or any(part not in source for part, source in zip(aloud, sources)):
+    faults.append("docs/NOTATION.md reads another contract of expander_noise_offline or another part of Claim aloud than there is")
+for name in re.findall(r"`([A-Z]\w+|noiseReturns|scalarReturns)`", chapter("A statement read aloud")):
+    if name not in own:
+        faults.append(f"docs/NOTATION.md reads {name} aloud, and the statements do not have it")
+
+# the first part, the evidence, the place to sign, links
+front = squeezed(re.sub(r"<[^>]+>", " ", page.split("<body>")[1].split("<h2")[0]))
+for words in ("Document 01 as amended by requests 4, 7, 8 and 10", "What this is", "What a signature means", "What is read, in this order"):
+    if words not in front:
+        faults.append(f"the book does not begin with '{words}'")
+parts = [re.sub(r"\A\d+\. ", "", h) for h in shown.headings if re.match(r"\d+\. ", h)]
+if parts != ["Notation", "The page", "The contracts", "The statements", "Outside mathematics", "Evidence", "The place to sign"]:
+    faults.append(f"the parts of the book are {', '.join(parts)}")
+readable = squeezed(re.sub(r"<[^>]+>", "", page.split("<body>")[1]))
+for line in text_of("docs/EVIDENCE.md").split("\n")[1:]:
+    bare = made.inline(re.sub(r"^(#+|-|\d+\.) ", "", line)) if not line.startswith(("    ", "|")) else ""
+    if squeezed(re.sub(r"<[^>]+>", "", bare)) not in readable:
+        faults.append(f"the book has not this line of docs/EVIDENCE.md: {line[:80]}")
+last = page[page.index("<h2 id=sign"):]
+for words in ("name and office", "date and signature", "git commit", "SHA-256 of libexpander.a", "SHA-256 of " + short.PAGE,
+              "SHA-256 of " + short.STATEMENTS):
+    if words not in last:
+        faults.append(f"the place to sign has no '{words}'")
+for item in book.definitions[short.PAGE] + book.definitions[short.STATEMENTS]:
+    if not links[short.anchor(item)]:
+        faults.append(f"{item.path}: no link leads to {item.name}")
+faults += [f"row {row.number} is not in the book" for row in book.outside if ids["row-" + row.number] != 1]
+print(f"book: {sum(map(len, names.values()))} declarations once each and in order, {len(contracts)} contracts, "
+      f"{len(statements)} statements, {sum(links.values())} links, a sheet of {len(sheet.split(chr(10)))} lines")
+
+if pages:
+    file = os.path.join(os.path.abspath(folder), "book.pdf")
+    subprocess.run(["chromium", "--headless", "--no-sandbox", "--disable-gpu", "--no-pdf-header-footer", "--print-to-pdf=" + file,
+                    "file://" + os.path.join(os.path.abspath(folder), "index.html")], check=True, timeout=120, capture_output=True)
+    count = int(re.search(r"Pages: *(\d+)", subprocess.run(["pdfinfo", file], check=True, capture_output=True, text=True).stdout)[1])
+    print(f"book: {count} printed pages")
+    faults += [f"the book takes {count} printed pages, and may take 30"] * (count > 30)
+
+# ==== the book with the workings
+
+book = made.Book(".")
+page = made_text("workings.html")
+ids, _ = links_and_ids(page, "workings.html")
 reached, left = set(), [item for row in book.rows for item in book.named(row)] + [c for c in book.house.contracts.values() if c.exported]
+left += [d for d in book.house.definitions.values() if not d.inner and d.kind not in ("struct", "enum")]
 while left:
     item = left.pop()
     if item not in reached and not (isinstance(item, made.Definition) and item.inner):
@@ -46,22 +295,14 @@ while left:
         left += book.house.cites(item)
 for item in sorted(reached, key=str):
     if ids[made.anchor(item)] != 1:
-        faults.append(f"{item.path}: {item.name} stands in the book {ids[made.anchor(item)]} times")
+        faults.append(f"{item.path}: {item.name} stands in the book with the workings {ids[made.anchor(item)]} times")
 order = {item: place for place, item in enumerate(i for under in book.under for i in under)}
 for item in sorted(reached, key=str):
     late = [d for d in book.house.cites(item) if d in order and order[d] > order.get(item, len(order))]
     faults += [f"{item.path}: {item.name} is shown before {d.name} of {d.path}, which it cites" for d in late]
-outside = {d for d in book.house.definitions.values() if not d.inner and d.kind not in ("struct", "enum")}
-for item in sorted(outside - reached, key=str):
-    faults.append(f"{item.path}: {item.name} is in specs/ and not in the book")
-
-# links and rows
-for target in sorted(set(re.findall(r'href="#([^"]+)"', page)) - set(ids)):
-    faults.append(f"a link has no target: {target}")
-faults += [f"an id stands {count} times: {name}" for name, count in sorted(ids.items()) if count > 1]
 for row in book.rows:
     if ids["row-" + row.number] != 1:
-        faults.append(f"row {row.number} stands in the book {ids['row-' + row.number]} times")
+        faults.append(f"row {row.number} stands in the book with the workings {ids['row-' + row.number]} times")
     if row.mark not in made.MARKS:
         faults.append(f"row {row.number} has no mark, but '{row.mark}'")
 
@@ -70,37 +311,21 @@ faults += [f"include/expander.h: no call's list has the number {number}, {name}"
 faults += book.faults
 
 # notation
-used = {target[2] for item in book.shown for _, _, target in book.house.shown(item) if isinstance(target, tuple)}
-known = {name for names in book.house.brought.values() for kind, *rest in names.values() if kind == "kit" for name in rest[1:]}
-kit_part = re.search(r"(?s)## Names of the kit\n(.*?)\n## ", book.notation)[1]
-listed = [w for line in kit_part.split("\n") for w in re.findall(r"^\| `((?:\\\||[^`])+)` \|", line)]
-listed = [w.replace("\\|", "|") for w in listed]
-faults += [f"docs/NOTATION.md does not have {name}, which a promise uses" for name in sorted(used - set(listed))]
-faults += [f"docs/NOTATION.md has {name}, which no definition takes from the kit" for name in sorted(set(listed) - known)]
-count = re.search(r"use (\d+) names", kit_part)
-if not count or int(count[1]) != len(listed):
-    faults.append(f"docs/NOTATION.md lists {len(listed)} names of the kit, and says {count and count[1]}")
-blocks = re.search(r"(?s)## A block in four forms\n(.*?)\n## ", book.notation)[1]
+used = {target[2].strip("_") or target[2] for item in book.shown for _, _, target in book.house.shown(item) if isinstance(target, tuple)}
+taken = [rest[1] for brought in book.house.brought.values() for kind, *rest in brought.values() if kind == "kit"]
+known = {name.strip("_") or name for name in taken}
+further = [w.replace("\\|", "|") for w in re.findall(r"(?m)^\| `((?:\\\||[^`])+)` \|", chapter("Further names of the kit"))]
+faults += [f"docs/NOTATION.md does not have {name}, which a definition uses" for name in sorted(used - set(further) - set(first))]
+faults += [f"docs/NOTATION.md has {name}, which no definition takes from the kit" for name in sorted(set(further) - known)]
+count = re.search(r"use (\d+) more names", chapter("Further names of the kit"))
+if not count or int(count[1]) != len(further):
+    faults.append(f"docs/NOTATION.md lists {len(further)} further names of the kit, and says {count and count[1]}")
 names = {d.name for d in book.shown}
-for line in re.findall(r"(?m)^\| [^|]* \| [^|]* \| (.*) \|$", blocks.split("| by |")[1]):
+for line in re.findall(r"(?m)^\| [^|]* \| [^|]* \| (.*) \|$", chapter("A block in four forms").split("| by |")[1]):
     faults += [f"docs/NOTATION.md names {w}, and there is no such definition" for w in re.findall(r"`([^`. ]+)`", line) if w not in names]
-for name in re.findall(r"`(\w+) = ", book.notation) + ["Lists", "Claim", "deal", "outcomeTwo", "lentDeal", "inputWith", "Setting"]:
-    if name not in names:
-        faults.append(f"docs/NOTATION.md reads {name} aloud, and there is no such definition")
-squeezed = lambda text: " ".join(text.split())
-quoted = [squeezed(b) for b in re.findall(r"(?m)(?:^    .*\n)+", book.notation)]
-statement = squeezed(book.house.definitions["claims", "Correlation", "Lists"].text.split("\n", 1)[1])
-if statement not in quoted:
-    faults.append("docs/NOTATION.md reads another Lists aloud than crates/claims/specs/Correlation.antt has")
-claim = squeezed(book.house.definitions["claims", "Correlation", "Claim"].text)
-if not any(q in claim for q in quoted if "Hands" in q):
-    faults.append("docs/NOTATION.md reads another `correlated` aloud than crates/claims/specs/Correlation.antt has")
-deal = squeezed(book.house.contracts["crates/expander/src/lib.rt", "expander_deal"].text)
-for part in next((q for q in quoted if q.startswith("ensures")), "no contract is read aloud").split(" .. "):
-    if part not in deal:
-        faults.append(f"docs/NOTATION.md reads '{part}' aloud, which the contract of expander_deal does not have")
 
 for fault in faults:
     print(fault, file=sys.stderr)
-print(f"book: {len(reached)} definitions and contracts once each, {len(re.findall('href=.#', page))} links, {len(book.rows)} rows, {len(listed)} names of the kit")
+print(f"book: with the workings {len(reached)} definitions and contracts once each, {len(re.findall('href=.#', page))} links, "
+      f"{len(book.rows)} rows, {len(further)} further names of the kit")
 sys.exit(1 if faults else 0)

@@ -1,6 +1,6 @@
 """Reads what a promise is made of: the definitions of crates/*/specs, the structs and enums of the code that they speak of, and the
 contracts of functions. Used by tools/book, tools/evidence and tests/promises.py. It reads Rattle and antt by their layout: a definition
-begins at a line that is not indented, its comment stands right above it, and its clauses begin with its name.
+begins at a line that is not indented and declares a name, its comment stands right above it, and its clauses follow.
 """
 import os
 import re
@@ -11,6 +11,18 @@ WORD = r"[^\s(){};,.λ⌜⌝←⟦⟧]+"
 TOKEN = re.compile(rf"(?P<comment>--[^\n]*|//[^\n]*)|(?P<space>\s+)|(?P<field>(?<![^\s)])\.{WORD})|(?P<word>{WORD}(?:\.{WORD})*)|(?P<sign>.)")
 
 
+def declares(line):
+    """The match of a line that declares a name; a clause of an operator, as `l ! i = ..`, declares none."""
+    head = HEAD.match(line)
+    return head if head and " = " not in head.group() else None
+
+
+def heading(line):
+    """The title of a comment line `-- ==== title`, and what follows it: a long line has more than its title, behind a colon."""
+    title = line[len("-- ===="):].strip()
+    return tuple(title.split(": ", 1)) if len(title) > 70 and ": " in title else (title, "")
+
+
 class Definition:
     """A definition, record or data type of specs/, or a struct or enum of the code that specs/ cites."""
 
@@ -18,7 +30,6 @@ class Definition:
         self.crate, self.module, self.name, self.kind = crate, module, name, kind
         self.path, self.line, self.comment, self.lines = path, line, comment, []
         self.fields, self.constructors = [], []
-        self.group, self.last = None, line  # the definition whose comment speaks of this one too, and the last line
 
     @property
     def key(self):
@@ -102,7 +113,10 @@ class House:
             self.brought[crate, module] = imports(re.sub(r"--[^\n]*", "", text))
             comment, current = [], None
             for number, line in enumerate(text.split("\n"), 1):
-                if line.startswith("--"):
+                if line.startswith("-- ===="):
+                    rest = heading(line)[1]
+                    comment = ["-- " + rest] if rest else []
+                elif line.startswith("--"):
                     comment.append(line)
                 elif re.match(r"(pub )?(use|mod) |infix[lr]? ", line):
                     if comment:
@@ -113,19 +127,15 @@ class House:
                         self.heads.setdefault((crate, module), comment)
                     comment = []
                 elif not line.startswith(" "):
-                    head = HEAD.match(line)
-                    name = head[2] if head else line.split()[0]
-                    if current is None or name != current.name:
-                        above = current
+                    head = declares(line)
+                    if current is None or head and head[2] != current.name:
+                        name = head[2] if head else line.split()[0]
                         current = Definition(crate, module, name, (head and head[1]) or "definition", path, number, comment)
-                        current.group = (above.group or above) if above and not comment and number - above.last <= 2 else None
                         self.definitions[current.key] = current
                     current.lines.append(line)
-                    current.last = number
                     comment = []
                 elif current:
                     current.lines.append(line)
-                    current.last = number
                     member = re.match(r"  (?:pub )?([^\s:({]+)(?: [^\s:({]+)* :(?: |$)", line)
                     if member and current.kind == "record":
                         current.fields.append(member[1])
@@ -238,8 +248,9 @@ class House:
             if found[0] == "kit":
                 return found
         if isinstance(place, tuple):
-            if place + (bare,) in self.definitions:
-                return self.definitions[place + (bare,)]
+            for name in (bare, f"_{bare}_"):
+                if place + (name,) in self.definitions:
+                    return self.definitions[place + (name,)]
             for item in self.definitions.values():
                 if item.kind == "data" and (item.crate, item.module) == place and (bare in item.constructors or f"_{bare}_" in item.constructors):
                     return item
