@@ -4,7 +4,7 @@ use Prim.Native.Nat.{ℕ, zero, suc, _+_, _*_, _<_}
 use native.Mathlib.Nat.{suc-ne-zero, eq-or-lt-of-le, le-of-suc-le-suc, suc-mul}
 use native.Mathlib.Omega.{arith}
 use mathlib.Core.Path.{_≡_, refl, sym, ap, ap₂, _∙_}
-use mathlib.Core.Bool.{Bool, true, false, false≢true}
+use mathlib.Core.Bool.{Bool, true, false, _&&_, false≢true}
 use mathlib.Core.List.{List, [], _∷_, _++_, map, append-assoc}
 use mathlib.Core.Logic.{⊎-elim}
 use lib.ListN.{length, getD, length-append}
@@ -24,6 +24,11 @@ pub numbered-rooms : (outputs : List page.Output) → Numbered (map page.room ou
 numbered-rooms [] = none
 numbered-rooms (x ∷ outputs) = more _ _ (numbered-rooms outputs)
 
+-- all are met
+unfoldable pub met : List page.Test → Bool
+met [] = true
+met (page._otherwise_ ok k ∷ tests) = ok && met tests
+
 module _ (inputs : List (List ℕ)) (outputs : List page.Output) where
   pub inputs-stay : (tests : List page.Test) → page.answer inputs outputs tests .inputs ≡ inputs
   unfolding page.answer page.if_then_else_
@@ -31,14 +36,14 @@ module _ (inputs : List (List ℕ)) (outputs : List page.Output) where
   inputs-stay (page._otherwise_ true k ∷ tests) = inputs-stay tests
   inputs-stay (page._otherwise_ false k ∷ tests) = refl
 
-  pub accepted : {tests : List page.Test} → Numbered tests → says.met tests ≡ true → page.answer inputs outputs tests .number ≡ 0
-  unfolding says.met page.answer page.if_then_else_
+  pub accepted : {tests : List page.Test} → Numbered tests → met tests ≡ true → page.answer inputs outputs tests .number ≡ 0
+  unfolding met page.answer page.if_then_else_
   accepted none e = refl
   accepted (more true k rest) e = accepted rest e
   accepted (more false k rest) e = absurd (false≢true e)
 
-  pub all-met : {tests : List page.Test} → Numbered tests → page.answer inputs outputs tests .number ≡ 0 → says.met tests ≡ true
-  unfolding says.met page.answer page.if_then_else_
+  pub all-met : {tests : List page.Test} → Numbered tests → page.answer inputs outputs tests .number ≡ 0 → met tests ≡ true
+  unfolding met page.answer page.if_then_else_
   all-met none e = refl
   all-met (more true k rest) e = all-met rest e
   all-met (more false k rest) e = absurd (suc-ne-zero k e)

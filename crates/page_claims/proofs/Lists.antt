@@ -47,7 +47,7 @@ mapped-at f (x ∷ l) (suc i) a b e g = mapped-at f l i a b e g
 
 -- what a list hands out stands in the buffers of a call all of whose outputs are written
 abbrev outputs : says.End → says.Call → List page.Output
-outputs E x = page.list (E .count) (λ i. (says.slice (x .buffers) i, page.joined (x .c) (λ k. says.slice (E .dealt (x .first + k)) i)))
+outputs E x = page.list (length (E .dealt 0)) (λ i. (says.slice (x .buffers) i, page.joined (x .c) (λ k. says.slice (E .dealt (x .first + k)) i)))
 
 handed : (E : says.End) (n : ℕ) (calls : List says.Call) → says.run (E .online) (E .memory) calls ≡ map (says.listed E n) calls
     → (x : ℕ) (a : List (List ℕ)) (h : says.HandsOut E calls x a) → a ≡ E .standing (map (λ (buffer, l). page.front l buffer) (outputs E (h .call))) (h .k)
@@ -61,7 +61,7 @@ handed E n calls e x a h =
 
 -- an end with other memory
 abbrev on : List (List ℕ) → says.End → says.End
-on m E = record { memory = m; online = E .online; count = E .count; standing = E .standing; dealt = E .dealt }
+on m E = record { memory = m; online = E .online; standing = E .standing; dealt = E .dealt }
 
 module _ (I : Input) (σ : says.Setting (input I)) where
   pub noise-left : says.noiseLeft σ ≡ noiseOffReturn (noiseOff.offline (noiseRecordOf (deal I (σ .noiseBuffer) (σ .scalarBuffer))) (σ .noiseOut) (σ .vOut))

@@ -224,18 +224,18 @@ module _ (D : page.Input) (M : says.InMemory D) (a b : List ℕ) (dealt : page.d
 
 -- ---- any record
 
-abbrev Noise : Type 0
+abbrev pub Noise : Type 0
 Noise = page.Head × List page.Tree
 
-abbrev Scalar : Type 0
+abbrev pub Scalar : Type 0
 Scalar = page.Head × List ℕ × List (List ℕ)
 
 module _ (s : List ℕ) where
   -- the content that the workings read
-  noise-given : (x : Noise) → says.Gives (page.readNoise s 0) x → (P : NoisePart) × (rec.readNoise s ≡ Whole P) × (noiseRecord P ≡ x)
+  pub noise-given : (x : Noise) → says.Gives (page.readNoise s 0) x → (P : NoisePart) × (rec.readNoise s ≡ Whole P) × (noiseRecord P ≡ x)
   noise-given x g = given noiseRecord (rec.readNoise s) x (sym (noise-content s) ∙ accepted _ _ g)
 
-  scalar-given : (x : Scalar) → says.Gives (page.readScalar s 0) x → (P : ScalarPart) × (rec.readScalar s ≡ Whole P) × (scalarRecord P ≡ x)
+  pub scalar-given : (x : Scalar) → says.Gives (page.readScalar s 0) x → (P : ScalarPart) × (rec.readScalar s ≡ Whole P) × (scalarRecord P ≡ x)
   scalar-given x g = given scalarRecord (rec.readScalar s) x (sym (scalar-content s) ∙ accepted _ _ g)
 
   noise-one : says.Below 256 s → (x : Noise) → says.Gives (page.readNoise s 0) x → says.AdmittedNoise (x .0) (x .1) × (s ≡ page.writeNoise (x .0) (x .1))

@@ -1,14 +1,14 @@
 -- What document 01 says beyond each call alone, over its page (crates/page): demand 3, records, what is accepted, trees and rows, the pair
 -- program on a dealing's own records, the starred cases. Each statement has one proof, in proofs/.
-use Prim.Native.Nat.{ℕ, suc, _+_, _-_, _*_, _^_, _≤_, _<_}
+use Prim.Native.Nat.{ℕ, suc, _+_, _-_, _*_, _/_, _%_, _^_, _≤_, _<_}
 use mathlib.Core.Path.{_≡_}
-use mathlib.Core.Bool.{Bool, true, _&&_}
+use mathlib.Core.Bool.{true}
 use mathlib.Core.List.{List, [], _∷_, _++_, map}
-use mathlib.Core.Logic.{_↔_, _≢_}
+use mathlib.Core.Logic.{_↔_, _≢_, _⊎_}
 use mathlib.Core.Option.{some}
 use lib.Dec.{eqb, leb, ltb}
 use lib.ListN.{length, take, drop, getD, getElem?, replicate}
-use Rattle.page.specs.Document01.{if_then_else_, _!_, _otherwise_, list, joined, every, front, word, sBox, Space, modulo, p, fieldOf, isField, isDepth, isBranch, isTreeCount, isTermCount, isOutputCount, isNoiseValue, isScalar, Head, F, N, children, levels, leaf, siblingsOf, leafBeside, Input, scalar, root, leafElementOf, Tree, treeAt, dealtTree, dealtTrees, writeNumber, writeTrees, writeNoise, writeScalar, Read, got, readNumber, readNoise, readScalar, valueAt, sum, accumulated, μ, term, place, output, blockAt, Return, returned, onRecord, Output, Test, room, answer, dealTests, deal, noiseOffline, scalarOffline, noiseOnline, scalarOnline, noisePads, scalarPads, decimal, lineText}
+use Rattle.page.specs.Document01.{if_then_else_, _!_, _otherwise_, list, joined, every, front, word, sBox, Space, p, fieldOf, isField, isDepth, isBranch, isTreeCount, isTermCount, isOutputCount, isNoiseValue, isScalar, Head, F, N, children, levels, leaf, siblingsOf, leafBeside, Input, scalar, root, leafElementOf, Tree, treeAt, dealtTree, dealtTrees, writeNumber, writeTrees, writeNoise, writeScalar, noiseRecord, scalarRecord, Read, got, readNumber, readNoise, readScalar, valueAt, sum, accumulated, μ, term, place, output, blockAt, Return, returned, onRecord, Output, room, answer, deal, noiseOffline, scalarOffline, noiseOnline, scalarOnline, noisePads, scalarPads, decimal, lineText}
 
 -- ==== Offline and online
 -- the code matrix in row x at place j: the sum of the coefficients of those terms of the row whose place is j or more
@@ -36,7 +36,7 @@ w D x =
 
 -- w = Δu + v
 abbrev pub Correlated : Input → List ℕ → List ℕ → List ℕ → Type 0
-Correlated D u v w = w ≡ F (D .head) .elements .plus (F (D .head) .elements .multiple (u ! 0) (scalar D)) v
+Correlated D u′ v′ w′ = w′ ≡ F (D .head) .elements .plus (F (D .head) .elements .multiple (u′ ! 0) (scalar D)) v′
 
 -- what lies in lent memory: bytes, positions of 32 bits, words of 64
 abbrev pub Below : ℕ → List ℕ → Type 0
@@ -77,11 +77,10 @@ scalarLeft {D} σ = scalarOffline (wrote (deal D (σ .noiseBuffer) (σ .scalarBu
 abbrev pub Call : Type 0
 Call = record { first : ℕ; c : ℕ; buffers : List (List ℕ) }
 
--- an end: its record and vectors, its online call, its number of output buffers, what stands at their place k, what is dealt at index x
+-- an end: its record and vectors, its online call, what stands at place k of its output buffers, what the dealing has for them at index x
 pub record End : Type 0 where
   pub memory : List (List ℕ)
   pub online : List (List ℕ) → Call → Return
-  pub count : ℕ
   pub standing : List (List ℕ) → ℕ → List (List ℕ)
   pub dealt : ℕ → List (List ℕ)
 
@@ -90,7 +89,6 @@ noiseEnd {D} σ =
     record {
       memory = slice (noiseLeft σ .inputs) 0 ∷ wrote (noiseLeft σ) 0 ∷ wrote (noiseLeft σ) 1 ∷ [];
       online = λ m x. noiseOnline (slice m 0) (slice m 1) (slice m 2) (x .first) (x .c) (slice (x .buffers) 0) (slice (x .buffers) 1);
-      count = 2;
       standing = λ l k. valueAt (F (D .head) .noiseValues) (slice l 0) k ∷ valueAt (F (D .head) .elements) (slice l 1) k ∷ [];
       dealt = λ x. u D x ∷ v D x ∷ [];
     }
@@ -100,7 +98,6 @@ scalarEnd {D} σ =
     record {
       memory = slice (scalarLeft σ .inputs) 0 ∷ wrote (scalarLeft σ) 0 ∷ [];
       online = λ m x. scalarOnline (slice m 0) (slice m 1) (x .first) (x .c) (slice (x .buffers) 0);
-      count = 1;
       standing = λ l k. valueAt (F (D .head) .elements) (slice l 0) k ∷ [];
       dealt = λ x. w D x ∷ [];
     }
@@ -113,7 +110,7 @@ run online memory (x ∷ calls) = online memory x ∷ run online (online memory 
 -- what a listed call returns: 7 if its window passes n, else 13 if a buffer is too short, else what the dealing has in its window
 abbrev pub listed : End → ℕ → Call → Return
 listed E n x =
-    let outputs : List Output = list (E .count) (λ i. (slice (x .buffers) i, joined (x .c) (λ k. slice (E .dealt (x .first + k)) i))) in
+    let outputs : List Output = list (length (E .dealt 0)) (λ i. (slice (x .buffers) i, joined (x .c) (λ k. slice (E .dealt (x .first + k)) i))) in
     answer (E .memory) outputs (leb (x .first + x .c) n otherwise 7 ∷ map room outputs)
 
 -- a list hands out a at index x: an accepted call of it has x in its window, first + k, and a stands at place k of its buffers
@@ -159,7 +156,6 @@ ReadsOff = (S : Space) (c : ℕ) (f : ℕ → List ℕ) (buffer : List ℕ) → 
     → (k : ℕ) → k < c → valueAt S (front (joined c f) buffer) k ≡ f k
 
 -- ==== Key records
--- what may stand in a record
 abbrev pub IsBlock : List ℕ → Type 0
 IsBlock b = (length b ≡ 16) × Below 256 b
 
@@ -207,30 +203,35 @@ pub record Records : Type 0 where
   pub noise-accepted : (h : Head) (trees : List Tree) → AdmittedNoise h trees → Gives (readNoise (writeNoise h trees) 0) (h, trees)
   pub scalar-accepted : (h : Head) (Δ : List ℕ) (roots : List (List ℕ)) → AdmittedScalar h Δ roots
       → Gives (readScalar (writeScalar h Δ roots) 0) (h, Δ, roots)
-  -- no record is accepted at both ends
   pub one-end : (s : List ℕ) (x : Head × List Tree) (y : Head × List ℕ × List (List ℕ))
       → Gives (readNoise s 0) x → Gives (readScalar s 0) y → ⊥
 
--- ==== Numbers of the calls: what is accepted, so that nothing above is empty
-unfoldable pub met : List Test → Bool
-met [] = true
-met (ok otherwise k ∷ tests) = ok && met tests
+-- ==== Numbers of the calls: what is accepted (two dealings among the starred cases show it); the input that a dealing admits
+abbrev pub Admitted : Input → Type 0
+Admitted D =
+    let h = D .head in
+    ((h .field ≡ 1) ⊎ (h .field ≡ 2)) × (1 ≤ h .d) × (h .d ≤ 16) × (1 ≤ h .g) × (h .g ≤ 3) × (h .d % h .g ≡ 0) × (1 ≤ h .t) × (h .t ≤ 64)
+    × (h .t ≤ N h) × (1 ≤ h .ℓ) × (h .ℓ ≤ 32) × (h .ℓ ≤ N h) × (1 ≤ h .n) × (h .n ≤ N h / 2) × (length (D .roots) ≡ 16 * h .t)
+    × (length (D .positions) ≡ h .t) × (length (D .values) ≡ h .t) × (length (D .Δ) ≡ 16) × (length (h .codeKey) ≡ 16) × (length (h .label) ≡ 16)
+    × (every (h .t - 1) (λ i. ltb (D .positions ! i) (D .positions ! suc i)) ≡ true) × ((i : ℕ) → i < h .t → D .positions ! i < N h)
+    × (h .field ≡ 1 → ((i : ℕ) → i < h .t → D .values ! i ≡ 1) × ((word (D .Δ) 0 ≡ 0) × (word (D .Δ) 8 ≡ 0) → ⊥))
+    × (h .field ≡ 2 → ((i : ℕ) → i < h .t → (1 ≤ D .values ! i) × (D .values ! i ≤ p - 1))
+    × (0 < word (D .Δ) 0) × (word (D .Δ) 0 < p) × (word (D .Δ) 8 ≡ 0))
 
 pub record Acceptance : Type 0 where
-  pub dealing : (D : Input) (a b : List ℕ) → met (dealTests D a b) ≡ true ↔ deal D a b .number ≡ 0
-  pub noise-offline : (D : Input) → InMemory D → (a b : List ℕ) → deal D a b .number ≡ 0 → (noiseOut vOut : List ℕ)
-      → N (D .head) ≤ length noiseOut → N (D .head) * F (D .head) .elements .width ≤ length vOut
-      → noiseOffline (wrote (deal D a b) 0) noiseOut vOut .number ≡ 0
-  pub scalar-offline : (D : Input) → InMemory D → (a b : List ℕ) → deal D a b .number ≡ 0 → (wOut ΔOut : List ℕ)
-      → N (D .head) * F (D .head) .elements .width ≤ length wOut → 2 ≤ length ΔOut
-      → scalarOffline (wrote (deal D a b) 1) wOut ΔOut .number ≡ 0
+  pub dealing : (D : Input) (a b : List ℕ)
+      → (Admitted D × (length (noiseRecord D) ≤ length a) × (length (scalarRecord D) ≤ length b)) ↔ deal D a b .number ≡ 0
+  -- offline, on every record that is read whole, whoever wrote it; and every window within n of a dealing
+  pub noise-offline : (s noiseOut vOut : List ℕ) (h : Head) (trees : List Tree) → Gives (readNoise s 0) (h, trees)
+      → N h ≤ length noiseOut → N h * F h .elements .width ≤ length vOut → noiseOffline s noiseOut vOut .number ≡ 0
+  pub scalar-offline : (s wOut ΔOut : List ℕ) (h : Head) (Δ : List ℕ) (roots : List (List ℕ)) → Gives (readScalar s 0) (h, Δ, roots)
+      → N h * F h .elements .width ≤ length wOut → 2 ≤ length ΔOut → scalarOffline s wOut ΔOut .number ≡ 0
   pub noise-window : (D : Input) (σ : Setting D) (x : Call) → x .first + x .c ≤ D .head .n
       → x .c ≤ length (slice (x .buffers) 0) → x .c * F (D .head) .elements .width ≤ length (slice (x .buffers) 1)
       → noiseEnd σ .online (noiseEnd σ .memory) x .number ≡ 0
   pub scalar-window : (D : Input) (σ : Setting D) (x : Call) → x .first + x .c ≤ D .head .n
       → x .c * F (D .head) .elements .width ≤ length (slice (x .buffers) 0)
       → scalarEnd σ .online (scalarEnd σ .memory) x .number ≡ 0
-  -- pad calls, exactly where lengths, window, room, choices and Δ are admitted
   pub noise-pads : (first c : ℕ) (vs choices pads : List ℕ)
       → ((length vs ≡ 16 * c) × (length choices ≡ c) × (first + c ≤ 32768) × (16 * c ≤ length pads) × ((k : ℕ) → choices ! k ≤ 1))
       ↔ noisePads first c vs choices pads .number ≡ 0
@@ -238,8 +239,7 @@ pub record Acceptance : Type 0 where
       → ((length ws ≡ 16 * c) × (length Δ ≡ 16) × (first + c ≤ 32768) × (blockAt Δ 0 ≢ 0 ∷ 0 ∷ []) × (32 * c ≤ length pads))
       ↔ scalarPads first c ws Δ pads .number ≡ 0
 
--- ==== Trees, and rows: every leaf but q follows from the siblings of the tree punctured at q, for any number of children;
--- every row reads ℓ different places (document 02, 7)
+-- ==== Trees, and rows: all leaves but q follow from the siblings at q, for any number of children; a row's ℓ places differ (document 02, 7)
 pub record TreesAndRows : Type 0 where
   pub leaves : (k m : ℕ) (s : List ℕ) (q j : ℕ) → q < k ^ m → j < k ^ m → q ≢ j → leafBeside k m (siblingsOf k m s q) q j ≡ leaf k m s j
   pub places : (h : Head) → 1 ≤ h .ℓ → h .ℓ ≤ N h → (x i : ℕ) → i < h .ℓ
@@ -256,21 +256,21 @@ Held = (D : Input) → InMemory D → (a b : List ℕ) → deal D a b .number �
 -- the starred cases: what the page gives, and what document 01 says; records have the byte of g and the label's 16 bytes besides
 unfoldable pub starred : List (List ℕ × List ℕ)
 starred =
-    let field2 : Space = modulo p in
+    let field2 : Space = fieldOf 2 .elements in
     let at : ℕ → ℕ → Tree = λ q y. record { position = q; value = y; correction = []; siblings = [] } in
     let zeros : ℕ → List ℕ = λ n. replicate n 0 in
     let h : ℕ → Head = λ f. record { field = f; d = 1; g = 1; t = 1; ℓ = 1; n = 1; codeKey = zeros 16; label = zeros 16 } in
     let D : ℕ → Input = λ f. record { head = h f; roots = zeros 16; positions = 0 ∷ []; values = 1 ∷ []; Δ = 1 ∷ zeros 15 } in
     let dealt : ℕ → Return = λ f. deal (D f) (zeros 96) (zeros 96) in
     (sBox 0x00 ∷ sBox 0x53 ∷ [], 0x63 ∷ 0xed ∷ [])
-    ∷ (writeNumber 127 ++ writeNumber 128, 0x7f ∷ 0x80 ∷ 0x01 ∷ [])
-    ∷ (writeNumber 300 ++ writeNumber 16384, 0xac ∷ 0x02 ∷ 0x80 ∷ 0x80 ∷ 0x01 ∷ [])
+    ∷ (writeNumber 127, 0x7f ∷ []) ∷ (writeNumber 128, 0x80 ∷ 0x01 ∷ [])
+    ∷ (writeNumber 300, 0xac ∷ 0x02 ∷ []) ∷ (writeNumber 16384, 0x80 ∷ 0x80 ∷ 0x01 ∷ [])
     ∷ (onRecord [] [] (readNumber (0x80 ∷ 0x00 ∷ []) 0) (λ x. returned 0 [] [] []) .number ∷ [], 11 ∷ [])
     ∷ (writeTrees 1 0 (at 1 1 ∷ at 4 1 ∷ at 5 1 ∷ []), 1 ∷ 2 ∷ 0 ∷ [])
-    ∷ (field2 .multiple (2 ^ 60) (2 ∷ []) ++ field2 .multiple (p - 1) ((p - 1) ∷ []), 1 ∷ 1 ∷ [])
+    ∷ (field2 .multiple (2 ^ 60) (2 ∷ []), 1 ∷ []) ∷ (field2 .multiple (p - 1) ((p - 1) ∷ []), 1 ∷ [])
     ∷ (fieldOf 2 .leafElement (replicate 8 0xff), 7 ∷ [])
-    ∷ (joined 8 (accumulated (modulo 2) (μ (at 1 1 ∷ at 4 1 ∷ []) 2)), 0 ∷ 1 ∷ 1 ∷ 1 ∷ 0 ∷ 0 ∷ 0 ∷ 0 ∷ [])
-    ∷ (joined 8 (accumulated field2 (μ (at 1 5 ∷ at 4 (p - 2) ∷ []) 2)), 0 ∷ 5 ∷ 5 ∷ 5 ∷ 3 ∷ 3 ∷ 3 ∷ 3 ∷ [])
+    ∷ (joined 8 (accumulated (fieldOf 1 .noiseValues) (μ (at 1 1 ∷ at 4 1 ∷ []) 2)), 0 ∷ 1 ∷ 1 ∷ 1 ∷ 0 ∷ 0 ∷ 0 ∷ 0 ∷ [])
+    ∷ (joined 8 (accumulated (fieldOf 2 .noiseValues) (μ (at 1 5 ∷ at 4 (p - 2) ∷ []) 2)), 0 ∷ 5 ∷ 5 ∷ 5 ∷ 3 ∷ 3 ∷ 3 ∷ 3 ∷ [])
     ∷ (field2 .minus (7 ∷ []) (field2 .multiple 5 (3 ∷ [])), (p - 8) ∷ [])
     ∷ (dealt 1 .number ∷ dealt 1 .lengths, 0 ∷ 72 ∷ 71 ∷ [])
     ∷ (dealt 2 .number ∷ dealt 2 .lengths, 0 ∷ 72 ∷ 63 ∷ [])
