@@ -16,6 +16,7 @@
 #include <string.h>
 
 enum { MOST_LEAVES = EXPANDER_LEAVES_MAX, MOST_OUTPUTS = EXPANDER_OUTPUTS_MAX };
+LIMIT(a_dealing_has_its_trees, MAX_TREES >= EXPANDER_TREES_MAX && PLAIN_TREES >= EXPANDER_TREES_MAX);
 
 /* ---- The calls, on memory of the library's (0) and of the plain implementation's (1) ---- */
 

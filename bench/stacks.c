@@ -14,6 +14,8 @@
 #include <stdlib.h>
 
 enum { COUNT = EXPANDER_BATCH_MAX, CALLERS = EXPANDER_CALLERS_MAX };
+LIMIT(a_dealing_has_its_trees, MAX_TREES >= EXPANDER_TREES_MAX && PLAIN_TREES >= EXPANDER_TREES_MAX);
+LIMIT(a_number_takes_three_bytes, EXPANDER_WIRES_MAX < 1 << 21);
 
 /* A noise record of the largest sizes, batches whose bits are all 0, and a stock of two labels. */
 static uint8_t record[EXPANDER_NOISE_RECORD_MAX], other_record[EXPANDER_SCALAR_RECORD_MAX];

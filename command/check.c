@@ -7,6 +7,7 @@
 #include <time.h>
 
 enum { RECORD_FILE_MAX = 1 << 20, WINDOW = 32 };
+LIMIT(a_record_can_be_read, RECORD_FILE_MAX > EXPANDER_NOISE_RECORD_MAX && RECORD_FILE_MAX > EXPANDER_SCALAR_RECORD_MAX);
 
 static const char help[] =
     "usage: expander check [--bench] [--json] [--quiet] NOISE SCALAR\n"

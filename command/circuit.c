@@ -5,6 +5,8 @@
 #include <string.h>
 
 enum { CIRCUIT_FILE_MAX = 1 << 22, VALUES_FILE_MAX = 1 << 16 };
+LIMIT(a_circuit_can_be_read, CIRCUIT_FILE_MAX > COMPANION_CIRCUIT_MAX && CIRCUIT_FILE_MAX > COMPANION_BRISTOL_MAX);
+LIMIT(a_bit_for_each_wire_can_be_read, VALUES_FILE_MAX >= 8 * EXPANDER_WIRES_MAX);
 
 static const char help[] =
     "usage: expander circuit info [--json] CIRCUIT\n"

@@ -6,6 +6,13 @@
 
 #include <stdio.h>
 
+/* Stops the compiler where a limit of expander.h, or what follows from it, no longer fits what is built on it here. */
+#define LIMIT(name, holds) typedef char name[(holds) ? 1 : -1]
+
+/* A limit of expander.h as it stands in a text. */
+#define SAY_AS_IT_IS(number) #number
+#define SAY(limit) SAY_AS_IT_IS(limit)
+
 /* Exit statuses. */
 enum { WELL = 0, DIFFER = 1, UNUSABLE = 2 };
 
@@ -114,7 +121,7 @@ enum file { NOISE_FILE, SCALAR_FILE };
 
 /* A part that is wrong. Findings of one group are alternatives: one of them is, or more. altered is where the part's bytes
  * are not what all else calls for; its length is 0 where that is not known. A sibling's child is ANY_CHILD where it is not. */
-enum { ANY_CHILD = 99 };
+enum { ANY_CHILD = 1 << EXPANDER_BRANCH_BITS_MAX };
 struct finding {
     size_t group;
     enum part part;

@@ -19,7 +19,19 @@
 #include <stdlib.h>
 #include <string.h>
 
-enum { BLOCK = 16, LEVELS_MAX = 16, SIBLINGS_MAX = 35, BRANCHES_MAX = 8, FEW = 3, MANY = 6 };
+enum { BLOCK = 16, HEAD_MIN = 39, NUMBER_MAX = 3, FEW = 3, MANY = 6 };
+
+/* A node's children, and a tree's siblings: each level has one less than a node has children. Of the g that are admitted the largest has
+ * the most siblings, since their number never falls from one g to the next, up to d. */
+enum {
+    BRANCHES_MAX = 1 << EXPANDER_BRANCH_BITS_MAX,
+    SIBLINGS_MAX = EXPANDER_DEPTH_MAX / EXPANDER_BRANCH_BITS_MAX * (BRANCHES_MAX - 1)
+};
+LIMIT(a_tree_has_a_level, EXPANDER_BRANCH_BITS_MAX >= 1 && EXPANDER_BRANCH_BITS_MAX <= EXPANDER_DEPTH_MAX);
+LIMIT(depth_and_branch_bits_take_a_byte_each, EXPANDER_DEPTH_MAX < 128);
+LIMIT(a_position_takes_three_bytes, EXPANDER_LEAVES_MAX <= 1 << (7 * NUMBER_MAX) && EXPANDER_LEAVES_MAX >> EXPANDER_DEPTH_MAX == 1);
+LIMIT(the_longest_noise_record_fits, EXPANDER_NOISE_RECORD_MAX >= HEAD_MIN + EXPANDER_TREES_MAX * (2 + BLOCK + BLOCK * SIBLINGS_MAX));
+LIMIT(the_longest_scalar_record_fits, EXPANDER_SCALAR_RECORD_MAX >= HEAD_MIN + BLOCK + BLOCK * EXPANDER_TREES_MAX);
 
 /* ---- field 2 ---- */
 
@@ -69,12 +81,12 @@ static uint64_t word_at(const uint8_t *bytes)
 /* The children of a node, as the leaves of a tree of one level in field 1. */
 static void make_children(const uint8_t node[BLOCK], size_t branch_bits, uint8_t children[BRANCHES_MAX][BLOCK])
 {
-    uint8_t record[39 + 2 * BLOCK] = {EXPANDER_SCALAR_END, EXPANDER_BINARY, 0, 0, 1, 1, 1};
+    uint8_t record[HEAD_MIN + 2 * BLOCK] = {EXPANDER_SCALAR_END, EXPANDER_BINARY, 0, 0, 1, 1, 1};
     uint64_t leaves[2 * BRANCHES_MAX], delta[2];
     size_t count = (size_t)1 << branch_bits;
     record[2] = record[3] = (uint8_t)branch_bits;
-    record[39] = 1; /* Delta is not zero */
-    memcpy(record + 39 + BLOCK, node, BLOCK);
+    record[HEAD_MIN] = 1; /* Delta is not zero */
+    memcpy(record + HEAD_MIN + BLOCK, node, BLOCK);
     memset(leaves, 0, sizeof leaves);
     expander_scalar_offline(record, sizeof record, leaves, 2 * count, delta, 2);
     for (size_t k = 2 * count - 1; k >= 2; k--) /* accumulated: place k is the sum up to k */
@@ -449,11 +461,11 @@ static void find_positions(const struct pair *pair, struct diagnosis *to)
         const struct judged *judged = &pair->tree[k];
         size_t place = judged->known && leaf_known(pair, judged) ? judged->walk.place : tree->place + (before - claimed);
         size_t due = place - before - 1, written = tree->written;
-        uint8_t bytes[3] = {0, 0, 0};
+        uint8_t bytes[NUMBER_MAX] = {0};
         if (due != written && judged->known) {
             struct span altered = {0, 0};
             size_t many;
-            len = due < 128 ? 1 : due < 16384 ? 2 : 3;
+            len = due < 128 ? 1 : due < 16384 ? 2 : NUMBER_MAX;
             for (size_t b = 0; b < len; b++)
                 bytes[b] = (uint8_t)((due >> (7 * b) & 127) | (b + 1 < len ? 128u : 0u));
             if (len == tree->position.len && doubtful == 0)
@@ -640,7 +652,7 @@ void add_findings(struct diagnosis *to, const struct diagnosis *more)
 static size_t position_len(const struct shape *shape, const uint8_t *noise, size_t noise_len, size_t at, const uint8_t *root,
                            struct walk *walk)
 {
-    for (size_t len = 1; len <= 3; len++) {
+    for (size_t len = 1; len <= NUMBER_MAX; len++) {
         size_t siblings = at + len + 16;
         if (siblings > noise_len || noise_len - siblings < BLOCK * shape->siblings)
             return 0;
@@ -667,7 +679,7 @@ int realign(const uint8_t *noise, size_t noise_len, const uint8_t *scalar, const
         if (len == 0)
             break;
         due = walk.place - before - 1;
-        for (digits = 0; digits < 3; digits++) { /* the number as it is read */
+        for (digits = 0; digits < NUMBER_MAX; digits++) { /* the number as it is read */
             read |= (size_t)(noise[at + digits] & 127u) << (7 * digits);
             if (noise[at + digits] < 128)
                 break;
@@ -680,7 +692,7 @@ int realign(const uint8_t *noise, size_t noise_len, const uint8_t *scalar, const
         tree->place = (uint32_t)walk.place;
         tree->noise = tree->value.len == 0 ? 1 : word_at(noise + tree->value.first);
         if (digits + 1 != len || read != due) {
-            uint8_t bytes[3] = {0, 0, 0};
+            uint8_t bytes[NUMBER_MAX] = {0};
             size_t many;
             for (size_t b = 0; b < len; b++)
                 bytes[b] = (uint8_t)((due >> (7 * b) & 127) | (b + 1 < len ? 128u : 0u));

@@ -4,8 +4,10 @@
 #include <string.h>
 
 /* A text may number more wires than a circuit has, since EQW makes none. */
-enum { NUMBERED_MAX = EXPANDER_WIRES_MAX + EXPANDER_CIRCUIT_OUTPUTS_MAX, LIST_MAX = 3 * EXPANDER_WIRES_MAX };
-enum { NUMBER_MAX = 999999999, UNMADE = 0xffff };
+enum { NUMBERED_MAX = EXPANDER_WIRES_MAX + EXPANDER_CIRCUIT_OUTPUTS_MAX, LIST_MAX = 3 * EXPANDER_WIRES_MAX, UNMADE = 0xffff };
+enum { NUMBER_MAX = 999999999 };
+LIMIT(unmade_is_no_wire, NUMBERED_MAX <= UNMADE);
+LIMIT(a_gate_has_room, NUMBERED_MAX <= 1000000); /* COMPANION_BRISTOL_MAX: 32 characters a gate, 11 beside its three numbers */
 
 /* Where the reading is, its first fault, the circuit's wire for each number of the text, and a gate's numbers. */
 struct reading {

@@ -2,6 +2,9 @@
 
 #include <string.h>
 
+LIMIT(a_wire_and_a_width_fit_their_types, EXPANDER_WIRES_MAX <= 65535 && EXPANDER_CIRCUIT_OUTPUTS_MAX <= 65535);
+LIMIT(a_wire_takes_two_bytes, EXPANDER_WIRES_MAX <= 1 << 14); /* COMPANION_CIRCUIT_MAX: five bytes a gate, two an output */
+
 static void fault(struct companion_circuit *c, uint32_t number)
 {
     c->fault = c->fault == 0 ? number : c->fault;

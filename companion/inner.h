@@ -4,6 +4,13 @@
 
 #include "expander_companion.h"
 
+/* Stops the compiler where a limit of expander.h, or what follows from it, no longer fits what is built on it here. */
+#define LIMIT(name, holds) typedef char name[(holds) ? 1 : -1]
+
+/* A limit of expander.h as it stands in a text. */
+#define SAY_AS_IT_IS(number) #number
+#define SAY(limit) SAY_AS_IT_IS(limit)
+
 #pragma GCC visibility push(hidden) /* these are not for users of the shared object */
 
 /* A status; of a call of the expander (0: it accepted); of a test here (0: it is met); of memory that was asked for; of nothing amiss. */

@@ -26,10 +26,19 @@ __extension__ typedef unsigned __int128 wide;
 
 enum {
     LEAVES = EXPANDER_LEAVES_MAX, TERMS = EXPANDER_TERMS_MAX, OUTPUTS = EXPANDER_OUTPUTS_MAX,
-    NUMBER_BITS = 17, /* of a place */
-    A_BLOCK = 7,      /* strips that a block serves */
-    LANES = 8         /* rows that are compared at a time */
+    NUMBER_BITS = EXPANDER_DEPTH_MAX + 1, /* of a place, counted from 1 */
+    A_BLOCK = 128 / NUMBER_BITS,          /* strips that a block serves */
+    LANES = 8                             /* rows that are compared at a time */
 };
+
+/* Stops the compiler where a limit of expander.h no longer fits what is built on it here. */
+#define LIMIT(name, holds) typedef char name[(holds) ? 1 : -1]
+LIMIT(a_place_has_its_bits, LEAVES == 1 << EXPANDER_DEPTH_MAX && NUMBER_BITS < 32);
+LIMIT(an_offset_has_sixteen_bits, LEAVES - 1 <= 0xffff);
+
+/* A limit of expander.h as it stands in a text. */
+#define SAY_AS_IT_IS(number) #number
+#define SAY(limit) SAY_AS_IT_IS(limit)
 
 static unsigned depth, terms, outputs, leaves, strip;
 static uint8_t code_key[16], zeros[16];
@@ -413,10 +422,10 @@ static void read_sizes(char **argv)
         code_key[k] = (uint8_t)strtoul(digits, NULL, 16);
     }
     if (depth < 1 || depth > EXPANDER_DEPTH_MAX)
-        stop("d is 1 to 16");
+        stop("d is 1 to " SAY(EXPANDER_DEPTH_MAX));
     leaves = 1u << depth;
     if (terms < 1 || terms > EXPANDER_TERMS_MAX || terms > leaves)
-        stop("l is 1 to 32, and at most N");
+        stop("l is 1 to " SAY(EXPANDER_TERMS_MAX) ", and at most N");
     if (outputs < 2 || outputs > leaves / 2)
         stop("n is 2 to N / 2");
     strip = leaves / terms;
@@ -448,7 +457,7 @@ int main(int argc, char **argv)
     } else if (strcmp(what, "bias") == 0 && argc == 8) {
         unsigned long trees = number(argv[6]);
         if (trees < 1 || trees > EXPANDER_TREES_MAX || trees > leaves)
-            stop("t is 1 to 64, and at most N");
+            stop("t is 1 to " SAY(EXPANDER_TREES_MAX) ", and at most N");
         print_bias((unsigned)trees, number(argv[7]));
     } else {
         stop("no such measure");

@@ -12,6 +12,7 @@
  * see whether the houses' records were dealt together. */
 enum task { SUMS, COMPARISON, CHOICE, TASKS, CHECK = TASKS, CALLERS };
 extern const char *const caller_names[CALLERS];
+LIMIT(a_stock_has_these_callers, CALLERS <= EXPANDER_CALLERS_MAX);
 
 enum {
     TOTAL_BITS = QUANTITY_BITS + 1, /* both houses' quantities together */

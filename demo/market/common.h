@@ -6,6 +6,9 @@
 
 #include "expander_companion.h"
 
+/* Stops the compiler where a limit of expander.h no longer fits what is built on it here. */
+#define LIMIT(name, holds) typedef char name[(holds) ? 1 : -1]
+
 /* House 0 is North, house 1 is South. North is the noise end of a season's first dealing and the
  * scalar end of its second; South is the other end of each. */
 enum { HOUSES = 2 };

@@ -12,6 +12,7 @@
 #include <unistd.h>
 
 enum { SEASONS_MAX = 8, RECORD_MAX = 65535 };
+LIMIT(a_record_has_a_length_of_two_bytes, EXPANDER_NOISE_RECORD_MAX <= RECORD_MAX && EXPANDER_SCALAR_RECORD_MAX <= RECORD_MAX);
 
 struct house {
     uint8_t role;               /* in the circuit */

@@ -249,7 +249,21 @@ static int same_length(struct expander_one_length a, struct expander_one_length 
 
 /* ---- Dealings and records ---- */
 
-enum { TREES = 64, LEAVES = 1024, RECORD = 32768 };
+/* The largest dealing that is made here. A tree has at most so many siblings, since their number never falls from one g to the next, up
+ * to d. A record has room for a few bytes that are put behind it. */
+enum {
+    TREES = EXPANDER_TREES_MAX, DEPTH = 10, LEAVES = 1 << DEPTH,
+    SIBLINGS = DEPTH / EXPANDER_BRANCH_BITS_MAX * ((1 << EXPANDER_BRANCH_BITS_MAX) - 1),
+    HEAD = 41, NUMBER = 3, ADDED = 8,
+    RECORD = HEAD + TREES * (NUMBER + 16 + 16 * SIBLINGS) + ADDED
+};
+
+/* Stops the compiler where a limit of expander.h no longer fits what is built on it here. */
+#define LIMIT(name, holds) typedef char name[(holds) ? 1 : -1]
+LIMIT(a_dealing_is_admitted, DEPTH <= EXPANDER_DEPTH_MAX && EXPANDER_BRANCH_BITS_MAX <= 6);
+LIMIT(the_plain_implementation_takes_it, PLAIN_TREES >= TREES);
+LIMIT(a_record_can_be_lent, RECORD <= ROOM - SLACK);
+LIMIT(a_batch_can_be_lent, 32 * (EXPANDER_BATCH_MAX + 2) <= ROOM - SLACK);
 
 static struct dealing {
     uint8_t field;
@@ -279,12 +293,12 @@ static void make_dealing(void)
     size_t most, leaves, at = 0;
     memset(&x, 0, sizeof x);
     x.field = (uint8_t)(1 + byte() % 2);
-    x.branch_bits = 1 + below(3);
-    most = byte() % larger == 1 ? 10 / x.branch_bits : 6 / x.branch_bits;
+    x.branch_bits = 1 + below(EXPANDER_BRANCH_BITS_MAX);
+    most = byte() % larger == 1 ? DEPTH / x.branch_bits : 6 / x.branch_bits;
     x.depth = x.branch_bits * (1 + below(most));
     leaves = (size_t)1 << x.depth;
     x.trees = 1 + below(leaves < TREES ? leaves : byte() % 8 == 1 ? TREES : 6);
-    x.terms = 1 + below(leaves < 32 ? leaves : 32);
+    x.terms = 1 + below(leaves < EXPANDER_TERMS_MAX ? leaves : EXPANDER_TERMS_MAX);
     x.outputs = 1 + below(leaves / 2);
     spun(x.roots, sizeof x.roots);
     for (size_t k = 0; k < x.trees; k++) {
@@ -347,7 +361,7 @@ static void spoil_dealing(void)
         x.label_len = below(sizeof x.label + 1);
         break;
     case 12:
-        x.positions[at] = byte() % 2 ? (uint32_t)word() : (uint32_t)below(65536);
+        x.positions[at] = byte() % 2 ? (uint32_t)word() : (uint32_t)below(EXPANDER_LEAVES_MAX);
         break;
     case 13:
         x.values[at] = element();
@@ -692,7 +706,7 @@ static void make_batch(size_t count)
 
 static void noise_pads(void)
 {
-    size_t count = byte() % 64, first = size(below(32768)), v_len, choices_len, pads_len;
+    size_t count = byte() % 64, first = size(below(EXPANDER_PAD_WINDOW_END)), v_len, choices_len, pads_len;
     uint32_t r;
     make_batch(count);
     v_len = length(16 * count);
@@ -711,7 +725,7 @@ static void noise_pads(void)
 
 static void scalar_pads(void)
 {
-    size_t count = byte() % 64, first = size(below(32768)), w_len, delta_len, pads_len;
+    size_t count = byte() % 64, first = size(below(EXPANDER_PAD_WINDOW_END)), w_len, delta_len, pads_len;
     uint32_t r;
     uint8_t delta[32];
     make_batch(count);
@@ -846,8 +860,8 @@ static void stock(void)
     struct expander_label label = {{0}};
     struct expander_stock s;
     struct expander_opened_stock opened, other;
-    uint32_t shares[12];
-    size_t outputs = 1 + below(32768), callers = 1 + below(8), steps = byte() % 16;
+    uint32_t shares[EXPANDER_CALLERS_MAX + 4];
+    size_t outputs = 1 + below(EXPANDER_OUTPUTS_MAX), callers = 1 + below(EXPANDER_CALLERS_MAX), steps = byte() % 16;
     call = "open_stock";
     label = make_label(label);
     for (size_t k = 0; k < sizeof shares / sizeof *shares; k++) {
@@ -855,7 +869,7 @@ static void stock(void)
         shares[k] = kind == 1 ? (uint32_t)word() : kind % 4 == 0 ? 0 : (uint32_t)below(8192);
     }
     outputs = size(outputs);
-    callers = length(callers) % 13;
+    callers = length(callers) % (sizeof shares / sizeof *shares + 1);
     lend(0, shares, callers, 4);
     opened = plain_open_stock(label, outputs, PLAIN(0, uint32_t), callers);
     other = expander_open_stock(label, outputs, LIBRARY(0, uint32_t), callers);
@@ -864,13 +878,13 @@ static void stock(void)
     s = opened.stock;
     for (; steps > 0; steps--) {
         uint8_t kind = byte();
-        size_t caller = byte() % 8, count = below(1024);
+        size_t caller = byte() % EXPANDER_CALLERS_MAX, count = below(1024);
         label = s.label;
         if (kind % 4 == 3)
             label.bytes[0]++;
         label = make_label(label);
         if (kind >= 240) {
-            s.callers = byte() % 12;
+            s.callers = byte() % (EXPANDER_CALLERS_MAX + 4);
             s.next[caller] = (uint32_t)word();
             s.end[caller] = byte() % 2 ? s.next[caller] + byte() : (uint32_t)word();
         }
@@ -932,6 +946,7 @@ static void amounts(void)
 
 static uint8_t circuit[4096];
 static size_t circuit_len;
+LIMIT(a_circuit_is_admitted, EXPANDER_WIRES_MAX >= 64 + 48 && EXPANDER_CIRCUIT_OUTPUTS_MAX >= 32);
 
 static void put(size_t number)
 {
