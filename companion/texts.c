@@ -37,34 +37,39 @@ uint32_t companion_version(void)
     return COMPANION_VERSION_NUMBER;
 }
 
-/* What the expander's calls test. Calls are named by what follows expander_ in them, each between blanks; a row with none
- * is for all calls that are left. Of rows that fit, the first counts. */
+/* What the expander's calls test. Calls are named by what follows expander_ in them, each between blanks; a call that no row of a number
+ * names has the last of them (tests/calls.py holds the names to expander.h). From 100 on a row is for all calls. */
+#define NOISE_READERS " noise_offline noise_online noise_direct "
+#define SCALAR_READERS " scalar_offline scalar_online scalar_direct "
+#define READERS NOISE_READERS SCALAR_READERS
 static const struct { uint32_t number; const char *calls, *text; } tests[] = {
     {0, "", "done"},
     {1, " deal ", "field is not 1 or 2"},
-    {1, "", "the record's field byte is not 1 or 2"},
+    {1, " describe " READERS, "the record's field byte is not 1 or 2"},
     {2, " deal ", "depth, branch_bits, trees, terms or outputs is outside its range, or depth is no multiple of branch_bits"},
-    {2, " open_stock ", "the number of callers is not 1 to 8, or outputs is not 1 to 32768"},
-    {2, " pass_stock ", "outputs is not 1 to 32768"},
-    {2, "", "d, g, t, l or n of the record is outside its range, or d is no multiple of g"},
+    {2, " open_stock ",
+     "the number of callers is not 1 to " SAY(EXPANDER_CALLERS_MAX) ", or outputs is not 1 to " SAY(EXPANDER_OUTPUTS_MAX)},
+    {2, " pass_stock ", "outputs is not 1 to " SAY(EXPANDER_OUTPUTS_MAX)},
+    {2, " describe " READERS, "d, g, t, l or n of the record is outside its range, or d is no multiple of g"},
     {3, " deal ", "roots, positions, values, delta, code_key or label does not have its length"},
     {3, " noise_online ", "noise or v is not as long as the record says"},
     {3, " scalar_online ", "w is not as long as the record says"},
     {3, " noise_pads ", "v is not 16 bytes an output, or choices not 1"},
     {3, " scalar_pads ", "w is not 16 bytes an output, or delta not 16 bytes"},
-    {3, " correction_bits mask_messages unmask_messages ", "count is above 4096, or an input does not have its length for it"},
+    {3, " correction_bits mask_messages unmask_messages ",
+     "count is above " SAY(EXPANDER_BATCH_MAX) ", or an input does not have its length for it"},
     {3, " triples ", "pads are not 16 bytes a choice, or messages not 32"},
     {3, " circuit_step ", "shares are not one an input, or triples not three bytes each"},
-    {3, "", "shares are not one an input, triples not three bytes each, or far bits not two for each AND that waits"},
+    {3, " circuit_round ", "shares are not one an input, triples not three bytes each, or far bits not two for each AND that waits"},
     {4, " deal ", "a position is not above the one before, or is N or more"},
-    {4, "", "a position of the record is N or more"},
+    {4, " describe " NOISE_READERS, "a position of the record is N or more"},
     {5, " deal ", "a noise value is not 1 (field 1), or not 1 to p - 1 (field 2)"},
-    {5, "", "a noise value of the record is 0, or p or more"},
+    {5, " describe " NOISE_READERS, "a noise value of the record is 0, or p or more"},
     {6, " deal ", "delta is zero or, in field 2, p or more, or its last eight bytes are not 00"},
     {6, " scalar_pads ", "delta is zero"},
-    {6, "", "the record's Delta is zero, or p or more"},
-    {7, " noise_pads scalar_pads ", "first + count is above 32768"},
-    {7, "", "first + count is above the dealing's n"},
+    {6, " describe " SCALAR_READERS, "the record's Delta is zero, or p or more"},
+    {7, " noise_pads scalar_pads ", "first + count is above " SAY(EXPANDER_PAD_WINDOW_END)},
+    {7, " noise_online scalar_online noise_direct scalar_direct ", "first + count is above the dealing's n"},
     {8, " noise_pads triples ", "a choice is above 1"},
     {8, " correction_bits ", "a choice or a wanted bit is above 1"},
     {8, " mask_messages ", "a correction bit is above 1"},
@@ -72,27 +77,29 @@ static const struct { uint32_t number; const char *calls, *text; } tests[] = {
     {8, " circuit_step circuit_round ", "a share, a triple's bit or a far bit is above 1"},
     {8, " read_amount ", "element is p or more"},
     {8, " noise_online scalar_online ", "a correction of the record, or a word at a place that the window's rows use, is no element"},
-    {8, "", "a correction of the record is p or more"},
+    {8, " describe noise_offline noise_direct ", "a correction of the record is p or more"},
     {9, " circuit_step circuit_round ", "role is not 1 or 2"},
     {9, " describe ", "the record's end byte is not 1 or 2"},
-    {9, "", "the record is the other end's: its end byte"},
+    {9, READERS, "the record is the other end's: its end byte"},
     {10, " circuit_step circuit_round describe_circuit ", "the circuit ends before a number, or inside it"},
-    {10, "", "the record ends before a field, or inside it"},
-    {11, "", "a number that was read is not in its shortest form, or has more than three bytes"},
+    {10, " describe " READERS, "the record ends before a field, or inside it"},
+    {11, " describe circuit_step circuit_round describe_circuit " READERS,
+     "a number that was read is not in its shortest form, or has more than three bytes"},
     {12, " circuit_step circuit_round describe_circuit ", "bytes follow the circuit"},
-    {12, "", "bytes follow the record"},
+    {12, " describe " READERS, "bytes follow the record"},
     {13, " circuit_round ", "output is shorter than the outputs, or bits_out than two bytes an AND"},
-    {13, "", "an output buffer is shorter than what is to be written"},
-    {14, "", "caller is not below the stock's number of callers"},
-    {15, "", "the caller's remaining share is below count"},
+    {13, " deal noise_pads scalar_pads correction_bits mask_messages unmask_messages triples circuit_step " READERS,
+     "an output buffer is shorter than what is to be written"},
+    {14, " draw preview ", "caller is not below the stock's number of callers"},
+    {15, " draw preview ", "the caller's remaining share is below count"},
     {16, " pass_stock ", "what the callers have left sums to more than outputs"},
-    {16, "", "the shares sum to more than outputs"},
+    {16, " open_stock ", "the shares sum to more than outputs"},
     {17, " circuit_step ", "a size, kind or wire of the circuit is not admitted, or the state waits at no AND"},
-    {17, "", "a size, kind or wire of the circuit is not admitted"},
-    {18, "", "there are fewer triples than ANDs"},
-    {19, "", "amount is below -(2^60 - 1) or above 2^60 - 1"},
-    {20, "", "label is not above the one in use"},
-    {21, "", "label is not the one in use"},
+    {17, " circuit_round describe_circuit ", "a size, kind or wire of the circuit is not admitted"},
+    {18, " circuit_step circuit_round ", "there are fewer triples than ANDs"},
+    {19, " write_amount ", "amount is below -(2^60 - 1) or above 2^60 - 1"},
+    {20, " pass_stock ", "label is not above the one in use"},
+    {21, " draw preview ", "label is not the one in use"},
     {COMPANION_NO_MEMORY, "", "the system gives no memory"},
     {COMPANION_NO_RANDOM, "", "the system gives no random bytes"},
     {COMPANION_CLOSED, "", "the far end closed the link"},
@@ -111,8 +118,8 @@ static const struct { uint32_t number; const char *calls, *text; } tests[] = {
     {COMPANION_FILE_THERE, "", "a stock is to be created where there is a file"},
     {COMPANION_FILE_DAMAGED, "", "the file is no stock's, or not whole: its mark, length or sum"},
     {COMPANION_FILE_IN_USE, "", "the stock is open elsewhere"},
-    {COMPANION_WIRES, "", "the circuit has more wires than EXPANDER_WIRES_MAX, 4096"},
-    {COMPANION_OUTPUTS, "", "the circuit has more outputs than EXPANDER_CIRCUIT_OUTPUTS_MAX, 4096"},
+    {COMPANION_WIRES, "", "the circuit has more wires than EXPANDER_WIRES_MAX, " SAY(EXPANDER_WIRES_MAX)},
+    {COMPANION_OUTPUTS, "", "the circuit has more outputs than EXPANDER_CIRCUIT_OUTPUTS_MAX, " SAY(EXPANDER_CIRCUIT_OUTPUTS_MAX)},
     {COMPANION_BAD_WIRE, "", "a gate or output reads a wire that is not made"},
     {COMPANION_BAD_WORD, "", "a word's width is 0 or too large, or its role is not admitted"},
     {COMPANION_LATE_INPUT, "", "an input comes after a gate"},
@@ -152,13 +159,18 @@ static int is_among(const char *names, const char *name, size_t len)
 
 const char *companion_meaning(const char *call, uint32_t number)
 {
+    const char *last = "no such number";
     size_t skip = strncmp(call, "expander_", 9) == 0 ? 9 : 0, len = strlen(call + skip);
     if (number != COMPANION_DONE && number < COMPANION_NO_MEMORY && call[0] != '\0' && !is_among(calls, call + skip, len))
         return "no such call";
-    for (size_t k = 0; k < sizeof tests / sizeof *tests; k++)
-        if (tests[k].number == number && (tests[k].calls[0] == '\0' || is_among(tests[k].calls, call + skip, len)))
+    for (size_t k = 0; k < sizeof tests / sizeof *tests; k++) {
+        if (tests[k].number != number)
+            continue;
+        if (tests[k].calls[0] == '\0' || is_among(tests[k].calls, call + skip, len))
             return tests[k].text;
-    return "no such number";
+        last = tests[k].text;
+    }
+    return last;
 }
 
 /* A label as the number that it is: in decimal up to 64 bits, else in hexadecimal. */
