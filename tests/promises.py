@@ -27,6 +27,8 @@ the other definitions
   the functions reach that the eight pass on to, and the laws, which say of workings what the statements say of the page (LAWS
   below), with what they reach. Whether a working stands in specs/Inner/ or outside it means nothing;
 - each law is no row's, and has a proof that is declared with it;
+- no definition that a contract reaches lies in proofs/: no file of specs/ and no file of code names a module of a proofs/ folder, its own crate's or another's, so
+  that what a contract says can be read without one;
 
 the code and the edits
 - every exported function, and `line` of the pair program, has exactly one `ensures` and no `requires`;
@@ -408,6 +410,14 @@ faults += [f"{show(key)} is a law, and a row names it as a statement" for key in
 workings = reach(passed_on | LAWS) - reached
 faults += [f"{show(key)} is reached by no promise and is no working of document 01: it belongs in Inner/"
            for key in sorted(set(definitions) - inner - reached - workings) if key[:2] not in LINES]
+
+
+# ---- nothing that a contract says lies in proofs/
+
+PROOFS = re.compile(r"Rattle·\w+(?:·proofs|\.proofs)\b")
+for path in sorted(glob.glob("crates/*/src/**/*.rt", recursive=True) + glob.glob("crates/*/specs/**/*.antt", recursive=True)):
+    code = re.sub(r"(?m)//.*$" if path.endswith(".rt") else r"(?m)--.*$", "", text_of(path))
+    faults += [f"{path} names {name}: what a contract or a definition says must not lie in proofs/" for name in sorted(set(PROOFS.findall(code)))]
 
 
 # ---- exported functions
