@@ -102,8 +102,8 @@ for name, crates in sorted(calls.items()):
         faults.append(f"companion/texts.c has {'no' if number in due else 'a'} text for {call} and {number}, which the header "
                       f"{'lists' if number in due else 'does not list'}")
     if not any(tested.get(name, set()) & table.get(crate, set()) for crate in crates):
-        faults.append(f"tools/fast does not run {' or '.join(sorted(tested.get(name, {'a step'})))} for the crate of {call}: STEPS_OF_CRATE "
-                      f"has to name it for {' or '.join(sorted(crates))}")
+        wanted, of = " or ".join(sorted(tested.get(name, {"a step"}))), " or ".join(sorted(crates))
+        faults.append(f"tools/fast does not run {wanted} for the crate of {call}: STEPS_OF_CRATE has to name it for {of}")
 for fault in faults:
     print(f"tests/calls.py: {fault}", file=sys.stderr)
 print(f"calls: {len(calls)} exported calls, each with a test, a place in the fuzz target, the companion's texts and tools/fast's steps"

@@ -17,6 +17,9 @@ typedef struct plain_block block;
 enum { DEAL, DESCRIBE, NOISE_OFFLINE, SCALAR_OFFLINE, NOISE_ONLINE, SCALAR_ONLINE, NOISE_PADS,
        SCALAR_PADS, CALLS };
 
+/* Stops the compiler where the header admits more trees than a dealing here has room for. */
+typedef char a_dealing_has_its_trees[MAX_TREES >= EXPANDER_TREES_MAX ? 1 : -1];
+
 /* The numbers that the documents let each call give. */
 #define HEAD_NUMBERS (BIT(1) | BIT(2) | BIT(9) | BIT(10) | BIT(11) | BIT(12))
 static const struct call calls[CALLS] = {

@@ -417,7 +417,7 @@ faults += [f"{show(key)} is reached by no promise and is no working of document 
 PROOFS = re.compile(r"Rattle·\w+(?:·proofs|\.proofs)\b")
 for path in sorted(glob.glob("crates/*/src/**/*.rt", recursive=True) + glob.glob("crates/*/specs/**/*.antt", recursive=True)):
     code = re.sub(r"(?m)//.*$" if path.endswith(".rt") else r"(?m)--.*$", "", text_of(path))
-    faults += [f"{path} names {name}: what a contract or a definition says must not lie in proofs/" for name in sorted(set(PROOFS.findall(code)))]
+    faults += [f"{path} names {name}, and nothing that a contract says may lie in proofs/" for name in sorted(set(PROOFS.findall(code)))]
 
 
 # ---- exported functions
