@@ -124,12 +124,15 @@ static companion_wire carried(struct companion_circuit *c, companion_wire g, com
     return companion_xor(c, g, companion_and(c, p, below));
 }
 
-/* The carries out of every bit, one after the other: c where a and b differ, a where they are equal. */
+/* The carries out of every bit, one after the other: c where a and b differ, a where they are equal. Ends compare circuits byte by byte:
+ * no two gates are made as arguments of one call, whose order C leaves open. */
 static void ripple(struct companion_circuit *c, const companion_wire *a, const companion_wire *b, size_t width, companion_wire *g)
 {
     g[0] = companion_and(c, a[0], b[0]);
-    for (size_t k = 1; k < width; k++)
-        g[k] = companion_xor(c, g[k - 1], companion_and(c, companion_xor(c, a[k], g[k - 1]), companion_xor(c, b[k], g[k - 1])));
+    for (size_t k = 1; k < width; k++) {
+        companion_wire right = companion_xor(c, b[k], g[k - 1]), left = companion_xor(c, a[k], g[k - 1]);
+        g[k] = companion_xor(c, g[k - 1], companion_and(c, left, right));
+    }
 }
 
 /* The same by doubling (Sklansky): the upper half of each block takes what the whole lower half carries. */

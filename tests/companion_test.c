@@ -917,8 +917,10 @@ static void random_circuit(struct companion_circuit *circuit, size_t gates)
 {
     companion_wire word[64];
     memset(circuit, 0, sizeof *circuit);
-    for (size_t k = 1 + draw(4); k > 0; k--)
-        companion_input(circuit, (uint8_t)(1 + draw(2)), word, 1 + draw(12));
+    for (size_t k = 1 + draw(4); k > 0; k--) {
+        size_t width = 1 + draw(12);
+        companion_input(circuit, (uint8_t)(1 + draw(2)), word, width);
+    }
     while (circuit->gates < gates) {
         uint64_t made = circuit->inputs + circuit->gates, kind = draw(16);
         companion_wire a = (companion_wire)draw(made), b = (companion_wire)draw(made);

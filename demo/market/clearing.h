@@ -17,7 +17,9 @@ LIMIT(a_stock_has_these_callers, CALLERS <= EXPANDER_CALLERS_MAX);
 enum {
     TOTAL_BITS = QUANTITY_BITS + 1, /* both houses' quantities together */
     CHECKED = 40,                   /* triples: others pass with chance 2^-40 */
-    LEVEL_BITS = 4,                 /* 1 to 8, and 0 for no level */
+    /* Of 0 for no level and 1 to LEVELS: the length of LEVELS in binary. 4,096 wires hold no 256. */
+    LEVEL_BITS = (LEVELS > 0) + (LEVELS > 1) + (LEVELS > 3) + (LEVELS > 7) + (LEVELS > 15) +
+                 (LEVELS > 31) + (LEVELS > 63) + (LEVELS > 127),
     HOUSE_INPUTS = SIDES * LEVELS * QUANTITY_BITS,
     CLEARING_OUTPUTS = LEVEL_BITS + TOTAL_BITS
 };

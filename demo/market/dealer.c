@@ -21,13 +21,13 @@ int main(int argc, char **argv)
     static struct companion_dealt dealt[HOUSES]; /* house k is the noise end of dealing k */
     struct channel houses[HOUSES];
     struct companion_sizes sizes;
-    unsigned label;
+    unsigned label, seconds;
     begin("dealer");
     if (argc != 10)
         stop("usage: dealer NORTH SOUTH SECONDS LABEL DEPTH BRANCH_BITS TREES TERMS OUTPUTS");
+    seconds = number_argument(argv[3], 3600);
     for (unsigned k = 0; k < HOUSES; k++)
-        open_channel(&houses[k], (int)number_argument(argv[1 + k], 1023), house_names[k],
-                     number_argument(argv[3], 3600));
+        open_channel(&houses[k], (int)number_argument(argv[1 + k], 1023), house_names[k], seconds);
     label = number_argument(argv[4], 65534);
     sizes.field = EXPANDER_BINARY;
     sizes.depth = number_argument(argv[5], 255);

@@ -114,6 +114,7 @@ int main(int argc, char **argv)
 {
     static struct house house;
     struct bids bids[SEASONS_MAX];
+    unsigned seconds;
     begin("house");
     if (argc < 5 || argc > 4 + SEASONS_MAX)
         stop("usage: house ROLE FAR SECONDS BIDS...");
@@ -122,9 +123,10 @@ int main(int argc, char **argv)
         stop("a house's role is 1 or 2");
     begin(house_names[house.role - 1]);
     house.seasons = (unsigned)argc - 4;
-    open_channel(&house.dealer, STDIN_FILENO, "the dealer", number_argument(argv[3], 3600));
+    seconds = number_argument(argv[3], 3600);
+    open_channel(&house.dealer, STDIN_FILENO, "the dealer", seconds);
     open_channel(&house.far, (int)number_argument(argv[2], 1023), house_names[HOUSES - house.role],
-                 number_argument(argv[3], 3600));
+                 seconds);
     build_clearing(&house.circuit, house.ands);
     house.ands[CHECK] = CHECKED;
 
