@@ -59,7 +59,8 @@ static unsigned count_ands(const struct companion_circuit *circuit)
     return ands;
 }
 
-/* Ripple forms: a triple is dearer here than a round. */
+/* Ripple forms: a triple is dearer here than a round. These are the gates, in this order, of
+ * crates/market/specs/Circuit.antt, which are proved to find the price; tests/market compares. */
 void build_clearing(struct companion_circuit *circuit, unsigned ands[TASKS])
 {
     struct quantity given[HOUSES][SIDES][LEVELS];
