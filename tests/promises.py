@@ -243,9 +243,9 @@ def page_rows():
     for number, line in enumerate(text_of(PAGE).split("\n"), 1):
         if line.startswith("#"):
             section, head = line.lstrip("# "), ""
-            found = re.match(r"(\d+)\. |Request (\d+):|(Preface)|(The three demands)|(Beyond the documents)|(What a run shows)", section)
+            found = re.match(r"(\d+)\. |Request (\d+):|(Preface)|(The three demands)|(Beyond the documents)|(What a run shows)|(The market)", section)
             prefix = "" if not found else (f"{found[1]}." if found[1] else f"R{found[2]}." if found[2] else
-                                           "R0." if found[3] else "D" if found[4] else "B." if found[5] else "S.")
+                                           "R0." if found[3] else "D" if found[4] else "B." if found[5] else "S." if found[6] else "M.")
         elif line.startswith("|"):
             if not head:
                 head = line
@@ -324,7 +324,7 @@ spans = {}
 for number in numbers:
     section, last = number.rsplit(".", 1)
     spans[section] = max(spans.get(section, 0), int(last))
-due = {f"{section}.1 to {section}.{last}" for section, last in spans.items() if section not in ("B", "S")}
+due = {f"{section}.1 to {section}.{last}" for section, last in spans.items() if section not in ("B", "S", "M")}
 led = {span for cells in table("From the documents' sections to the rows") for span in cells[-1].split(", ")}
 faults += [f"{PAGE}: the table of sections does not have {span}" for span in sorted(due - led)]
 faults += [f"{PAGE}: the table of sections has {span}, and these are not the section's rows" for span in sorted(led - due)]
