@@ -35,8 +35,6 @@ LIMIT(the_longest_scalar_record_fits, EXPANDER_SCALAR_RECORD_MAX >= HEAD_MIN + B
 
 /* ---- field 2 ---- */
 
-__extension__ typedef unsigned __int128 wide;
-
 uint64_t prime_of(uint64_t word)
 {
     word = (word & EXPANDER_MODULUS) + (word >> 61);
@@ -48,10 +46,14 @@ uint64_t prime_sum(uint64_t a, uint64_t b)
     return prime_of(a + b);
 }
 
+/* By halves: not every machine has a type for the product of 122 bits. */
 uint64_t prime_product(uint64_t a, uint64_t b)
 {
-    wide product = (wide)a * b;
-    return prime_sum((uint64_t)product & EXPANDER_MODULUS, (uint64_t)(product >> 61));
+    uint64_t half = 0xFFFFFFFF, low = (a & half) * (b & half);
+    uint64_t middle = (a >> 32) * (b & half) + (low >> 32), other = (a & half) * (b >> 32) + (middle & half);
+    uint64_t high = (a >> 32) * (b >> 32) + (middle >> 32) + (other >> 32);
+    low = (other << 32) | (low & half);
+    return prime_sum(low & EXPANDER_MODULUS, (high << 3) | (low >> 61));
 }
 
 static uint64_t prime_difference(uint64_t a, uint64_t b)

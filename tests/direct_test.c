@@ -190,7 +190,7 @@ static void windows(size_t most)
 /* Windows at and past every bound, sums that would wrap among them; with 0 outputs too. */
 static void bounds(void)
 {
-    size_t n = x.outputs, top = (size_t)1 << 63, far = (size_t)1 << 32;
+    size_t n = x.outputs, top = SIZE_MAX / 2 + 1, far = (size_t)1 << 4 * sizeof(size_t);
     const size_t tries[][2] = {
         {0, 0}, {n, 0}, {n + 1, 0}, {0, n + 1}, {n - 1, 2}, {n, 1}, {1, n}, {n + 1, 1},
         {SIZE_MAX, 0}, {0, SIZE_MAX}, {SIZE_MAX, 1}, {1, SIZE_MAX}, {SIZE_MAX, SIZE_MAX},

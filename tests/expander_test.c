@@ -331,7 +331,7 @@ static void vary_offline(int end, int accepted_too)
 /* Windows at and past every bound, sums that would wrap among them. */
 static void vary_windows(void)
 {
-    size_t n = x.outputs, top = (size_t)1 << 63, far = (size_t)1 << 32;
+    size_t n = x.outputs, top = SIZE_MAX / 2 + 1, far = (size_t)1 << 4 * sizeof(size_t);
     const size_t windows[][2] = {
         {0, 0}, {n, 0}, {n + 1, 0}, {0, n + 1}, {n - 1, 1}, {n - 1, 2}, {n, 1}, {1, n},
         {SIZE_MAX, 0}, {0, SIZE_MAX}, {SIZE_MAX, 1}, {1, SIZE_MAX}, {SIZE_MAX, SIZE_MAX},
@@ -494,7 +494,7 @@ static void whole_dealing(int light)
 /* Put one random fault into a dealing of x, of so many trees at first, with lengths n. */
 static void spoil_deal(struct deal_lengths *n, size_t trees)
 {
-    size_t far = (size_t)1 << 32, i = random_below(x.trees - 1 < MAX_TREES ? x.trees : 1);
+    size_t far = (size_t)1 << 4 * sizeof(size_t), i = random_below(x.trees - 1 < MAX_TREES ? x.trees : 1);
     size_t *const lengths[] = {&n->roots, &n->positions, &n->values, &n->delta, &n->code_key,
                                &n->label, &n->noise, &n->scalar};
     const size_t whole[] = {16 * trees, trees, trees, 16, 16, 16};
@@ -1304,7 +1304,7 @@ static void faulty_pads(int rounds)
 {
     static const size_t spots[] = {0, 1, 255, 256, EXPANDER_PAD_WINDOW_END - 1,
                                    EXPANDER_PAD_WINDOW_END, EXPANDER_PAD_WINDOW_END + 1, 65536,
-                                   (size_t)1 << 32, (size_t)1 << 63, SIZE_MAX - 1, SIZE_MAX};
+                                   (size_t)1 << 4 * sizeof(size_t), SIZE_MAX / 2 + 1, SIZE_MAX - 1, SIZE_MAX};
     for (int round = 0; round < rounds; round++) {
         size_t c = random_below(20), first, room, a, b, k;
         uint8_t scalar[17];

@@ -198,7 +198,7 @@ static void wide_counts(int call)
     const struct shape *s = &shapes[call];
     const uint8_t *const in[INPUTS] = {input[0], input[1], input[2]};
     fill_inputs(call, 8);
-    for (int shift = 8; shift < 64; shift++)
+    for (int shift = 8; shift < 8 * (int)sizeof(size_t); shift++)
         for (size_t c = 0; c < 3; c++) {
             const size_t len[INPUTS] = {s->in[0] * c, s->in[1] * c, s->in[2] * c};
             EXPECT(try_call(call, ((size_t)1 << shift) + c, in, len, s->out * c, NULL) == 3);

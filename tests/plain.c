@@ -91,7 +91,7 @@ static uint32_t byte_of(uint32_t column, unsigned row)
     return column >> (8 * row) & 0xff;
 }
 
-/* Words least byte first, as x86-64 has them in memory. */
+/* Words least byte first, as a little-endian machine has them in memory. */
 static uint64_t load_word(const uint8_t *bytes)
 {
     uint64_t x;
@@ -205,13 +205,17 @@ uint64_t plain_reduce(uint64_t x)
 /* x modulo p, for x below 2^127. */
 uint64_t plain_reduce_wide(wide x)
 {
+#ifdef __SIZEOF_INT128__
     wide folded = (x & P) + (x >> 61); /* below 2^67 */
     return plain_reduce(((uint64_t)folded & P) + (uint64_t)(folded >> 61));
+#else
+    return plain_reduce(x);
+#endif
 }
 
 static uint64_t multiply_mod(uint64_t a, uint64_t b)
 {
-    return plain_reduce_wide((wide)a * b);
+    return plain_reduce_wide(plain_add_product(0, a, b));
 }
 
 block plain_add(unsigned field, block a, block b)
@@ -790,10 +794,10 @@ static int prime_row(const struct rows *r, uint64_t x, uint64_t *u_out, uint64_t
         size_t j = plain_term(&r->code, 2, r->strip, x, i, &coefficient);
         if (r->noise != NULL) {
             admitted &= r->noise[j] < P;
-            u += (wide)coefficient * r->noise[j];
+            u = plain_add_product(u, coefficient, r->noise[j]);
         }
         admitted &= r->elements[j] < P;
-        sum += (wide)coefficient * r->elements[j];
+        sum = plain_add_product(sum, coefficient, r->elements[j]);
     }
     if (r->noise != NULL)
         *u_out = plain_reduce_wide(u);

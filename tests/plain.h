@@ -11,7 +11,24 @@
 #define PLAIN_P ((((uint64_t)1) << 61) - 1)
 #define PLAIN_TREES 64
 
+/* A sum of at most 32 products of words below p; where C has no type of 128 bits, the sum modulo p. */
+#ifdef __SIZEOF_INT128__
 __extension__ typedef unsigned __int128 plain_wide;
+#else
+typedef uint64_t plain_wide;
+#endif
+
+static inline plain_wide plain_add_product(plain_wide sum, uint64_t a, uint64_t b)
+{
+#ifdef __SIZEOF_INT128__
+    return sum + (plain_wide)a * b;
+#else
+    for (; b != 0; b >>= 1, a = 2 * a % PLAIN_P)
+        if (b & 1)
+            sum = (sum + a) % PLAIN_P;
+    return sum;
+#endif
+}
 
 /* A number, and what was written to the first and the second output buffer. */
 struct plain_result {

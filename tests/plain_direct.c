@@ -123,9 +123,11 @@ static int entries_at(const struct window *w, struct row *rows, size_t count, si
 /* Add a × b, both below p, to a sum that stays below 2^127. */
 static void add_product(wide *sum, uint64_t a, uint64_t b)
 {
-    *sum += (wide)a * b;
+    *sum = plain_add_product(*sum, a, b);
+#ifdef __SIZEOF_INT128__
     if (*sum >> 126 != 0)
         *sum = (*sum & P) + (*sum >> 61);
+#endif
 }
 
 /* Add each row's entry × what stands at the place. */

@@ -279,7 +279,7 @@ static void test_branch_bits(void)
     make_dealing(&x, 1, 4, 2, 1, 1, 1);
     x.branch_bits = SIZE_MAX;
     CHECK(deal(&x, noise, scalar).number == 2);
-    x.branch_bits = ((size_t)1 << 32) + 2;
+    x.branch_bits = ((size_t)1 << 4 * sizeof(size_t)) + 2;
     CHECK(deal(&x, noise, scalar).number == 2);
 }
 

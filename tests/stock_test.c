@@ -119,7 +119,7 @@ static struct expander_opened_stock try_pass(stock from, label l, size_t outputs
 
 /* ---- What is asked, most often admitted ---- */
 
-static const size_t far = (size_t)1 << 32;
+static const size_t far = (size_t)1 << 4 * sizeof(size_t);
 
 static label any_label(void)
 {
@@ -622,7 +622,7 @@ static void wide_stocks(int rounds)
         uint64_t sum = 0;
         for (size_t k = 0; k < s.callers; k++) {
             uint32_t left = words[random_below(6)];
-            s.next[k] = (uint32_t)random_below((size_t)(UINT32_MAX - left) + 1);
+            s.next[k] = (uint32_t)(random_word() % ((uint64_t)(UINT32_MAX - left) + 1));
             s.end[k] = s.next[k] + left;
             sum += left;
         }
