@@ -1,6 +1,8 @@
 /* Correlation expander: dealing, the noise end and the scalar end, a slow expansion that verifies a
  * unit on a bench, pads, signed amounts, messages of the caller's choosing, AND triples, a stock of
- * outputs for several callers, circuits. For x86-64 Linux.
+ * outputs for several callers, circuits. The archive is for x86-64 Linux; dist/expander.c, a second
+ * back end from the same proved text, is for any machine that holds words least byte first, also one
+ * whose size_t has 32 bits.
  *
  * A dealing makes two key records. The noise end expands its record to u and v, the scalar end
  * expands its own to w, and w = Delta * u + v at every index below n. In field 1 the pad calls turn
@@ -61,8 +63,8 @@
  *   anything between calls, so calls on different output buffers may run at the same time.
  *
  * From words to bytes
- *   The pad calls take v, w and Delta as bytes, each word least byte first. On x86-64 memory holds
- *   words that way, so the words of the online and offline calls can be lent as they are: v_out as
+ *   The pad calls take v, w and Delta as bytes, each word least byte first. Memory holds words that
+ *   way, so the words of the online and offline calls can be lent as they are: v_out as
  *   (const uint8_t *)v_out, with 16 count as its length. The choice at an index is u there as a
  *   byte: choices[k] = (uint8_t)u_out[k], which is 0 or 1 in field 1.
  *

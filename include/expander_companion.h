@@ -1,6 +1,7 @@
 /* Companion of the correlation expander: what a program writes around the calls of expander.h.
  * Dealing at random, ends and pairs of ends, whether records were dealt together, a stock on disk,
- * circuits, also in Bristol Fashion, and joint runs over a link of the caller's. For x86-64 Linux.
+ * circuits, also in Bristol Fashion, and joint runs over a link of the caller's. For Linux on a
+ * machine that holds words least byte first.
  *
  * NOT PROVED. The calls of expander.h are proved; this is plain C99 above them, tested and no more.
  *
