@@ -11,7 +11,8 @@
 #define PLAIN_P ((((uint64_t)1) << 61) - 1)
 #define PLAIN_TREES 64
 
-/* A sum of at most 32 products of words below p; where C has no type of 128 bits, the sum modulo p. */
+/* A sum of at most 32 products of words below p; where C has no type of 128 bits, a number below
+ * 2^62 that is equal to it modulo p. */
 #ifdef __SIZEOF_INT128__
 __extension__ typedef unsigned __int128 plain_wide;
 #else
@@ -23,10 +24,13 @@ static inline plain_wide plain_add_product(plain_wide sum, uint64_t a, uint64_t 
 #ifdef __SIZEOF_INT128__
     return sum + (plain_wide)a * b;
 #else
-    for (; b != 0; b >>= 1, a = 2 * a % PLAIN_P)
-        if (b & 1)
-            sum = (sum + a) % PLAIN_P;
-    return sum;
+    uint64_t half = 0xFFFFFFFF, low = (a & half) * (b & half);
+    uint64_t middle = (a >> 32) * (b & half) + (low >> 32);
+    uint64_t other = (a & half) * (b >> 32) + (middle & half);
+    uint64_t high = (a >> 32) * (b >> 32) + (middle >> 32) + (other >> 32);
+    low = (other << 32) | (low & half);
+    sum += (low & PLAIN_P) + ((high << 3) | (low >> 61));
+    return (sum & PLAIN_P) + (sum >> 61);
 #endif
 }
 
