@@ -1353,8 +1353,8 @@ static void faulty_pads(int rounds)
     }
     /* Counts whose products with 16 or 32 would wrap. */
     for (size_t k = 0; k < sizeof spots / sizeof *spots; k++)
-        for (int shift = 57; shift < 64; shift++) {
-            size_t c = (size_t)1 << shift;
+        for (size_t shift = 1; shift < 8; shift++) {
+            size_t c = (size_t)1 << (8 * sizeof(size_t) - shift);
             EXPECT(try_scalar_pads(spots[k], c, w_bytes, 0, x.delta, 16, 0, NULL) == 3);
             EXPECT(try_noise_pads(spots[k], c, v_bytes, 0, choices, 0, 0, NULL) == 3);
             EXPECT(try_scalar_pads(spots[k], c + 1, w_bytes, 16, x.delta, 16, 32, NULL) == 3);
