@@ -21,9 +21,9 @@
 #error "expander.c is for machines that keep words least byte first"
 #endif
 
-/* gcc packs the two words of a block into one register through memory: not with this; and the cipher gains by free registers. */
+/* gcc packs the two words of a block into one register through memory: not with this. The cipher gains by what else is said here. */
 #if defined __GNUC__ && !defined __clang__
-#pragma GCC optimize("no-tree-slp-vectorize", "rename-registers")
+#pragma GCC optimize("no-tree-slp-vectorize", "rename-registers", "no-schedule-insns2")
 #endif
 #ifdef INLINE
 #elif defined __GNUC__
