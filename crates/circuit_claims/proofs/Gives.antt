@@ -47,11 +47,16 @@ module _ (c : Circuit) (l : RoundLent) (bytes : List ℕ) where
       (λ e. ap bitsBy (accepted-ends c l bytes e) ∙ empty sent (omega (arith, sent-count, e)))
       (λ n. ap bitsBy (accepted-waits c l bytes n) ∙ take-at sent (drop (length sent) (l .bits)) (length sent) refl)
 
+  number-is : o .number ≡ 0
+  number-is =
+      either (waitingIn c bytes) 0 (λ e. ap (λ (r : RoundOutcome). r .number) (accepted-ends c l bytes e))
+      (λ n. ap (λ (r : RoundOutcome). r .number) (accepted-waits c l bytes n))
+
   pub none-waits-if : Finished o → waitingIn c bytes ≡ 0
-  none-waits-if e = omega (arith, count, e)
+  none-waits-if e = omega (arith, count, e .1)
 
   pub finished-if : waitingIn c bytes ≡ 0 → Finished o
-  finished-if e = omega (arith, count, e)
+  finished-if e = (number-is, omega (arith, count, e))
 
   pub outputs-are : Finished o → outputsBy o ≡ atWires (sharesIn bytes) (c .outputs)
   unfolding withOutputs
@@ -77,12 +82,12 @@ module _ (c : Circuit) (l : RoundLent) (bytes : List ℕ) where
         bits-length = ap length bits-are ∙ sent-count ∙ sym count;
         outputs-length =
             either (o .bitsWritten) 0
-            (λ e. ap length (outputs-are e) ∙ length-map (c .outputs) _ ∙ sym (all-outputs e))
-            (λ n. ap (λ (k : ℕ). length (take k (o .lent .output))) (no-outputs n) ∙ sym (no-outputs n));
+            (λ e. ap length (outputs-are (number-is, e)) ∙ length-map (c .outputs) _ ∙ sym (all-outputs (number-is, e)))
+            (λ n. ap (λ (k : ℕ). length (take k (o .lent .output))) (no-outputs (λ f. n (f .1))) ∙ sym (no-outputs (λ f. n (f .1))));
         bits = λ i. subst (λ (b : List ℕ). getD b i 0 ≤ 1) (sym bits-are)
             (sent-bits c (l .triples) bytes (λ n. (xor-bit (share-bit _) (triples _), xor-bit (share-bit _) (triples _))) (c .gates) 0 i);
         outputs = λ i.
             either (o .bitsWritten) 0
-            (λ e. subst (λ (b : List ℕ). getD b i 0 ≤ 1) (sym (outputs-are e)) (outputs-bits (sharesIn bytes) (c .outputs) share-bit i))
-            (λ n. subst (λ (k : ℕ). getD (take k (o .lent .output)) i 0 ≤ 1) (sym (no-outputs n)) (omega arith));
+            (λ e. subst (λ (b : List ℕ). getD b i 0 ≤ 1) (sym (outputs-are (number-is, e))) (outputs-bits (sharesIn bytes) (c .outputs) share-bit i))
+            (λ n. subst (λ (k : ℕ). getD (take k (o .lent .output)) i 0 ≤ 1) (sym (no-outputs (λ f. n (f .1)))) (omega arith));
       }

@@ -124,14 +124,17 @@ module _ {c : Circuit} {l : RoundLent} {s : RoundState} (t : Took c l s) where
   none-left : ((w : ℕ) → IsWire c w → isKnown (getD after w 0) ≡ true) → waitingIn c after ≡ 0
   none-left all = wait-none (length (c .gates)) (c .inputs) after (λ j h. no-wait (getD after (c .inputs + j) 0) (all (c .inputs + j) (omega arith)))
 
+  pub number : round l s .number ≡ 0
+  number = ap (λ (o : RoundOutcome). o .number) (t .is) ∙ round-laws .accepted-number c l s
+
   pub moved : Moves c s (round l s)
   moved =
       record {
         keeps = λ w e. byte w ∙ keeps w e;
         gives = λ i a e. ap isKnown (byte (c .inputs + i)) ∙ gives i a e;
         ends = (
-          λ e w h. ap isKnown (byte w) ∙ all-known (omega (arith, counted, e)) w h,
-          λ all. omega (arith, counted, none-left (λ w h. ap isKnown (sym (byte w)) ∙ all w h)),
+          λ e w h. ap isKnown (byte w) ∙ all-known (omega (arith, counted, e .1)) w h,
+          λ all. (number, omega (arith, counted, none-left (λ w h. ap isKnown (sym (byte w)) ∙ all w h))),
         );
         next = λ l′ f e.
             let u = had-on round-laws l′ (round l s .state) f e in
@@ -160,6 +163,11 @@ module _ (circuit : List ℕ) (c : Circuit) (read : readCircuit circuit ≡ Whol
   module _ (k : ℕ) (m : RoundMade) (e : IsRound (roundsOf calls) k m) where
     moved-run : (s : RoundState) × Moves c s (m .gave)
     moved-run = let t = had-some round-laws freshState calls circuit read stays k m e in (t .0, subst (Moves c (t .0)) (sym (t .1)) (moved (t .2)))
+
+    number-run : m .gave .number ≡ 0
+    number-run =
+        let t = had-some round-laws freshState calls circuit read stays k m e in
+        ap (λ (o : RoundOutcome). o .number) (t .1) ∙ number (t .2)
 
     counted-run : m .gave .bitsWritten ≡ 2 * waitingIn c (m .gave .state .wires)
     counted-run =
@@ -203,18 +211,22 @@ module _ (circuit : List ℕ) (c : Circuit) (read : readCircuit circuit ≡ Whol
 
 -- ---- bytes in advance
 
-written-by : {c : Circuit} {o o′ : RoundOutcome} → Writes c o → Writes c o′ → o .bitsWritten ≡ o′ .bitsWritten → o .written ≡ o′ .written
-written-by {c} {o} {o′} a b e =
-    either (o .bitsWritten) 0 (λ z. a .finished z ∙ sym (b .finished (sym e ∙ z)))
-    (λ n. a .unfinished n ∙ sym (b .unfinished (λ z. n (e ∙ z))))
+written-by : {c : Circuit} {o o′ : RoundOutcome} → Writes c o → Writes c o′ → o .number ≡ 0 → o′ .number ≡ 0
+    → o .bitsWritten ≡ o′ .bitsWritten → o .written ≡ o′ .written
+written-by {c} {o} {o′} a b zero-o zero-o′ e =
+    either (o .bitsWritten) 0 (λ z. a .finished (zero-o, z) ∙ sym (b .finished (zero-o′, sym e ∙ z)))
+    (λ n. a .unfinished (λ f. n (f .1)) ∙ sym (b .unfinished (λ f. n (e ∙ f .1))))
 
 in-advance : (circuit : List ℕ) (c : Circuit) → readCircuit circuit ≡ Whole c → (calls calls′ : List RoundLent)
     → RoundsOn circuit (roundsOf calls) → RoundsOn circuit (roundsOf calls′)
     → (k : ℕ) (m m′ : RoundMade) → IsRound (roundsOf calls) k m → IsRound (roundsOf calls′) k m′
     → (m .gave .bitsWritten ≡ m′ .gave .bitsWritten) × (m .gave .written ≡ m′ .gave .written)
 in-advance circuit c read calls calls′ stays stays′ k m m′ e e′ =
-    let same = stands circuit c read calls stays k m e .written ∙ sym (stands circuit c read calls′ stays′ k m′ e′ .written) in
-    (same, written-by (moved-run circuit c read calls stays k m e .1 .writes) (moved-run circuit c read calls′ stays′ k m′ e′ .1 .writes) same)
+    let same = stands circuit c read calls stays k m e .written ∙ sym (stands circuit c read calls′ stays′ k m′ e′ .written) in (
+      same,
+      written-by (moved-run circuit c read calls stays k m e .1 .writes) (moved-run circuit c read calls′ stays′ k m′ e′ .1 .writes)
+          (number-run circuit c read calls stays k m e) (number-run circuit c read calls′ stays′ k m′ e′) same,
+    )
 
 -- ---- a finished run
 
@@ -266,6 +278,7 @@ pub progress : RoundProgress
 progress =
     record {
       refused = refused-is round-laws;
+      refused-unfinished = λ l s refused f. refused (f .0);
       moves = λ c l s f e. moved (had-on round-laws l s f e);
       first-round = first-round;
       stands = stands;

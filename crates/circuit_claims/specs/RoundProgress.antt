@@ -53,6 +53,8 @@ pub record StandsAt (c : Circuit) (k : ℕ) (o : RoundOutcome) : Type 0 where
 pub record RoundProgress : Type 0 where
   -- a refused round changes nothing, and gives zeros beside its number
   pub refused : (l : RoundLent) (s : RoundState) → (round l s .number ≡ accepted → ⊥) → round l s ≡ refusedRound l s (round l s .number)
+  -- so it finishes no run, whatever it wrote
+  pub refused-unfinished : (l : RoundLent) (s : RoundState) → (round l s .number ≡ accepted → ⊥) → Finished (round l s) → ⊥
   -- an accepted round, on any state
   pub moves : (c : Circuit) (l : RoundLent) (s : RoundState) → readCircuit (l .circuit) ≡ Whole c → round l s .number ≡ accepted → Moves c s (round l s)
   -- the first round gets no far bits

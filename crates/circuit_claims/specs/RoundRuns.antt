@@ -5,6 +5,7 @@ use mathlib.Core.Bool.{true}
 use mathlib.Core.List.{List}
 use mathlib.Core.Path.{_≡_}
 use lib.ListN.{length, getD, take, replicate}
+use Rattle.answer.specs.Numbers.{accepted}
 use Rattle.circuit.specs.Admitted.{mostWires}
 use Rattle.circuit.specs.Content.{Circuit}
 use Rattle.circuit_run.specs.Round.{RoundLent, RoundOutcome, waits, isKnown, stateWith, round}
@@ -34,9 +35,9 @@ outputsBy o = take (o .written) (o .lent .output)
 abbrev pub bitsBy : RoundOutcome → List ℕ
 bitsBy o = take (o .bitsWritten) (o .lent .bits)
 
--- a run is finished by an accepted round that writes no bits
+-- a run is finished by an accepted round that writes no bits; a refused one writes none either, and finishes nothing
 abbrev pub Finished : RoundOutcome → Type 0
-Finished o = o .bitsWritten ≡ 0
+Finished o = (o .number ≡ accepted) × (o .bitsWritten ≡ 0)
 
 -- a wire of the circuit; its byte in a state; its share is known; it waits for the far bits
 abbrev pub IsWire : Circuit → ℕ → Type 0
