@@ -18,6 +18,7 @@ use Rattle.stock.proofs.Blocks.{Well, blocks-next, blocks-end, blocks-w
 use Rattle.stock.proofs.Entries.{sum-grows, sum-same}
 use Rattle.stock.proofs.Opened.{up-to-most}
 use Rattle.stock.proofs.Callers.{preview-reply, numbers-alike, replies-alike}
+use Rattle.stock.proofs.Draws.{numbers-of-draws, replies-of-draws}
 use Rattle.stock.proofs.Runs.{last-well, sums-run, labels-run, hands-at, once-run, InUse, use-run}
 use Rattle.stock.proofs.Steps.{kept, accepted-draw, make-call}
 
@@ -129,6 +130,8 @@ module _ (label : Label) (outputs : ℕ) (shares : List ℕ) (O : Opened label o
             rw (r, take-run start calls i) (next-of outputs shares start well in-use (take i calls) l k c (rw r at z));
         refusals = λ k other same. numbers-alike k start well calls other same;
         own = λ k other same none. replies-alike k start well calls other same none;
+        refusals-of-draws = λ k other same. numbers-of-draws start well k calls other same;
+        own-of-draws = λ k none. replies-of-draws start well k calls none;
       }
 
 pub lists : StockLists

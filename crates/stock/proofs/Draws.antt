@@ -1,18 +1,17 @@
--- What `StockLists` and `Previews` say of a caller's draws alone: its numbers and, before any accepted passage, its replies to draws
--- do not depend on previews, its own among them.
+-- Draws alone: a caller's numbers for draws and, before any accepted passage, its replies to them do not depend on previews, its own
+-- among them. It follows from what two lists that are alike for a caller have in common, on the lists without previews.
 use mathlib.Core.Path.{_≡_, refl, sym, ap, _∙_}
 use mathlib.Core.Bool.{Bool, true, false, _&&_, _||_, false≢true}
 use mathlib.Core.List.{List, [], _∷_}
 use Prim.Native.Nat.{ℕ}
 use lib.Dec.{eqb}
 use Rattle.answer.specs.Numbers.{accepted}
-use Rattle.stock.specs.declared.Label.{Label}
 use Rattle.stock.specs.declared.Stock.{Stock}
-use Rattle.stock.specs.Calls.{openStock}
-use Rattle.stock.specs.Lists.{Call, draws, previews, passes, StockMade, make, callsMade, those, anyOf, drawsOf, asksOf, noPreview, aPassage, acceptedPassage, replies, replyNumbers, callsOf, asked, concerns}
+use Rattle.stock.specs.Lists.{Call, draws, previews, passes, StockMade, make, callsMade, those, anyOf, drawsOf, asksOf, noPreview, aPassage, acceptedPassage, replies, replyNumbers, callsOf, asked, concerns, drew, drewOrPassed, SameDraws}
 use Rattle.stock.proofs.Cases.{by-test}
-use Rattle.stock.proofs.Claims.{lists}
-use Rattle.stock.proofs.Picked.{some-out}
+use Rattle.stock.proofs.Blocks.{Well}
+use Rattle.stock.proofs.Callers.{numbers-alike, replies-alike}
+use Rattle.stock.proofs.Picked.{some-in, some-out}
 use Rattle.stock.proofs.Runs.{previews-nothing}
 use Rattle.stock.proofs.Steps.{make-call}
 
@@ -32,6 +31,12 @@ module _ {A : Type 0} where
   some-none p [] e = refl
   some-none p (a ∷ l) e =
       by-test (p a) (λ y. cc) (λ n. some-out p a l n ∙ some-none p l (cc))
+
+  none-some : (p : A → Bool) (l : List A) → anyOf p l ≡ false → those p l ≡ []
+  unfolding those
+  none-some p [] e = refl
+  none-some p (a ∷ l) e =
+      by-test (p a) (λ y. absurd (false≢true (sym e ∙ some-in p a l y))) (λ n. rw n (none-some p l (sym (some-out p a l n) ∙ e)))
 
   those-or : (p q : A → Bool) (l : List A) → anyOf q l ≡ false → those (λ a. p a || q a) l ≡ those p l
   unfolding those anyOf
@@ -58,13 +63,6 @@ alone p q all s (c ∷ calls) = by-test (p c) (λ y. rw (y, all s c y, alone p q
 
 -- ---- a caller's draws
 
--- caller k's draws, and these and the accepted passages
-abbrev pub drew : ℕ → StockMade → Bool
-drew k m = drawsOf k (m .call)
-
-abbrev pub drewOrPassed : ℕ → StockMade → Bool
-drewOrPassed k m = drew k m || acceptedPassage m
-
 -- all but previews
 abbrev notPreviewed : StockMade → Bool
 notPreviewed m = noPreview (m .call)
@@ -89,10 +87,7 @@ draws-asks k (draws l j c) y = y
 draws-asks k (previews l j c) y = absurd (false≢true y)
 draws-asks k (passes l n) y = absurd (false≢true y)
 
-module _ (label : Label) (outputs : ℕ) (shares : List ℕ) (opened : openStock label outputs shares .opened .number ≡ accepted) (k : ℕ) where
-  abbrev first : Stock
-  first = openStock label outputs shares .opened .stock
-
+module _ (first : Stock) (W : Well first) (k : ℕ) where
   -- the list without previews
   struck-run : (p r : StockMade → Bool) → ((m : StockMade) → (notPreviewed m && p m) ≡ r m) → (calls : List Call)
       → those p (callsMade first (those noPreview calls)) ≡ those r (callsMade first calls)
@@ -105,17 +100,16 @@ module _ (label : Label) (outputs : ℕ) (shares : List ℕ) (opened : openStock
   concerns-run = struck-run (concerns k) (drewOrPassed k) (λ m. passed-both k (m .call) (eqb (m .reply .number) accepted))
 
   -- the accepted passages and its own draws, in their order, decide a caller's numbers for draws
-  pub refusals-of-draws : (calls other : List Call)
-      → callsOf (those (drewOrPassed k) (callsMade first calls)) ≡ callsOf (those (drewOrPassed k) (callsMade first other))
+  pub numbers-of-draws : (calls other : List Call) → SameDraws k (callsMade first calls) (callsMade first other)
       → replyNumbers (those (drew k) (callsMade first calls)) ≡ replyNumbers (those (drew k) (callsMade first other))
-  refusals-of-draws calls other same =
+  numbers-of-draws calls other same =
       let alike = ap callsOf (concerns-run calls) ∙ same ∙ sym (ap callsOf (concerns-run other)) in
-      cc (drew-run calls, drew-run other, lists label outputs shares opened (those noPreview calls) .refusals k (those noPreview other) alike)
+      cc (drew-run calls, drew-run other, numbers-alike k first W (those noPreview calls) (those noPreview other) alike)
 
   -- before any accepted passage, a caller's replies to draws are those of the list with all but its own draws struck out
-  pub own-of-draws : (calls : List Call) → those acceptedPassage (callsMade first calls) ≡ []
+  pub replies-of-draws : (calls : List Call) → anyOf acceptedPassage (callsMade first calls) ≡ false
       → replies (those (drew k) (callsMade first calls)) ≡ replies (callsMade first (those (drawsOf k) calls))
-  own-of-draws calls none =
+  replies-of-draws calls none =
       let struck = those (drawsOf k) calls in
       let mine : (s : Stock) (c : Call) → drawsOf k c ≡ true → asked k (make s c) ≡ true = λ s c y. ap (asksOf k) (make-call s c) ∙ draws-asks k c y in
       let kept : callsOf (those (concerns k) (callsMade first struck)) ≡ struck =
@@ -125,8 +119,9 @@ module _ (label : Label) (outputs : ℕ) (shares : List ℕ) (opened : openStock
       ∙ those-those (drawsOf k) (drawsOf k) (drawsOf k) (λ c. by-test (drawsOf k c) (λ t. rw t) (λ t. rw t)) calls in
       let alike =
       ap callsOf (concerns-run calls)
-      ∙ ap callsOf (those-or (drew k) acceptedPassage (callsMade first calls) (some-none acceptedPassage (callsMade first calls) none))
+      ∙ ap callsOf (those-or (drew k) acceptedPassage (callsMade first calls) none)
       ∙ calls-run (drawsOf k) first calls ∙ sym kept in
       let passed = struck-run acceptedPassage acceptedPassage (λ m. passage-both (m .call) (eqb (m .reply .number) accepted)) calls in
-      let same = lists label outputs shares opened (those noPreview calls) .own k struck alike (some-none acceptedPassage _ (passed ∙ none)) in
+      let without = some-none acceptedPassage _ (passed ∙ none-some acceptedPassage (callsMade first calls) none) in
+      let same = replies-alike k first W (those noPreview calls) struck alike without in
       cc (drew-run calls, alone (drawsOf k) (asked k) mine first calls)

@@ -8,5 +8,5 @@ mod Picked
 mod Steps
 mod Callers
 pub mod Runs
+mod Draws
 pub mod Claims
-pub mod Draws

@@ -204,6 +204,17 @@ concerns k m = asked k m || acceptedPassage m
 abbrev pub AlikeFor : ℕ → List StockMade → List StockMade → Type 0
 AlikeFor k h g = callsOf (those (concerns k) h) ≡ callsOf (those (concerns k) g)
 
+-- caller k's draws, and these and the accepted passages
+abbrev pub drew : ℕ → StockMade → Bool
+drew k m = drawsOf k (m .call)
+
+abbrev pub drewOrPassed : ℕ → StockMade → Bool
+drewOrPassed k m = drew k m || acceptedPassage m
+
+-- two lists of made calls have the same draws of caller k and the same accepted passages, in their order; previews may differ
+abbrev pub SameDraws : ℕ → List StockMade → List StockMade → Type 0
+SameDraws k h g = callsOf (those (drewOrPassed k) h) ≡ callsOf (those (drewOrPassed k) g)
+
 -- a list of draws, previews and passages after an accepted opening
 pub record StockClaim (outputs : ℕ) (shares : List ℕ) (s : Stock) (calls : List Call) : Type 0 where
   -- no pair of label and index is handed out twice
@@ -225,6 +236,13 @@ pub record StockClaim (outputs : ℕ) (shares : List ℕ) (s : Stock) (calls : L
   -- with no accepted passage, so are its replies
   pub own : (k : ℕ) (other : List Call) → AlikeFor k (callsMade s calls) (callsMade s other) → anyOf acceptedPassage (callsMade s calls) ≡ false
       → replies (those (asked k) (callsMade s calls)) ≡ replies (those (asked k) (callsMade s other))
+  -- draws alone decide replies to draws: a caller's numbers for draws are those of every list with the same draws of it and the same
+  -- accepted passages, whatever the previews
+  pub refusals-of-draws : (k : ℕ) (other : List Call) → SameDraws k (callsMade s calls) (callsMade s other)
+      → replyNumbers (those (drew k) (callsMade s calls)) ≡ replyNumbers (those (drew k) (callsMade s other))
+  -- and with no accepted passage its replies to draws are those of the list that has its own draws and nothing else
+  pub own-of-draws : (k : ℕ) → anyOf acceptedPassage (callsMade s calls) ≡ false
+      → replies (those (drew k) (callsMade s calls)) ≡ replies (callsMade s (those (drawsOf k) calls))
 
 abbrev pub StockLists : Type 0
 StockLists =
