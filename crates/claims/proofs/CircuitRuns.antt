@@ -18,7 +18,8 @@ use Rattle.pads.specs.Triples.Call.{TriplesLent, triples}
 use Rattle.pads.specs.Triples.Matching.{triplesOf}
 use Rattle.claims.specs.Circuits.{Circuits}
 use Rattle.claims.specs.Formed.{GatheredAt}
-use Rattle.claims.specs.Taken.{Dealing, Taken}
+use Rattle.claims.specs.Taken.{Taken}
+use Rattle.claims.specs.Source.{Binary}
 use Rattle.claims.proofs.Gathered.{Drawn, drawn₁, drawn₂, drawn, drawn-length, gathered}
 use Rattle.claims.proofs.Triples.{gathered-match}
 
@@ -45,9 +46,9 @@ of-gathered n triples₁ triples₂ size G circuit c read calls₁ calls₂ shar
     circuits circuit c read calls₁ calls₂ shares₁ triples₁ shares₂ triples₂ E (λ j h. G j (omega arith)) k₁ k₂ m₁ m₂ s₁ s₂
 
 -- one call of each end, on one pair of dealings
-pub circuits-of-one-call : (first second : Dealing) (l l′ : TriplesLent) → length (l .choices) ≡ length (l′ .choices)
-    → Taken first (length (l .choices)) (l .choices) (l .pads) (l′ .padPairs)
-    → Taken second (length (l .choices)) (l′ .choices) (l′ .pads) (l .padPairs)
+pub circuits-of-one-call : (first second : Binary) (l l′ : TriplesLent) → length (l .choices) ≡ length (l′ .choices)
+    → Taken (first .source) (length (l .choices)) (l .choices) (l .pads) (l′ .padPairs)
+    → Taken (second .source) (length (l .choices)) (l′ .choices) (l′ .pads) (l .padPairs)
     → triples l .number ≡ 0 → triples l′ .number ≡ 0
     → Evaluates (triplesOf l) (triplesOf l′)
 circuits-of-one-call first second l l′ equal T T′ e e′ =
@@ -57,7 +58,8 @@ circuits-of-one-call first second l l′ equal T T′ e e′ =
       l = l;
       l′ = l′;
       i = j;
-      formed = record { dealing = first; dealing′ = second; accepted = e; accepted′ = e′; taken = T j h; taken′ = T′ j h };
+      i′ = j;
+      formed = record { source = first; source′ = second; accepted = e; accepted′ = e′; taken = T j h; taken′ = T′ j h };
       triple₁ = refl;
       triple₂ = refl;
     })

@@ -1,10 +1,12 @@
 -- The inhabitants of the statements about the calls of document 01 together: records, demand 3 entire, and what is accepted.
-use mathlib.Core.Path.{sym, _∙_}
-use mathlib.Core.List.{[]}
-use Prim.Native.Nat.{_+_, _*_}
+use mathlib.Core.Path.{_≡_, sym, _∙_}
+use mathlib.Core.List.{List, []}
+use Prim.Native.Nat.{ℕ, _+_, _*_}
 use lib.ListN.{length}
 use Rattle.answer.proofs.Faults.{at-most, fault-later, fault-nowhere}
 use Rattle.dealing.proofs.Laws as dealing
+use Rattle.dealing.specs.Deal.{deal}
+use Rattle.dealing.specs.Input.{Input}
 use Rattle.dealing.specs.Vectors.{field}
 use Rattle.ends.proofs.noise.Laws as noiseLaws
 use Rattle.record.proofs.Laws as records
@@ -12,9 +14,11 @@ use Rattle.ends.proofs.scalar.Laws as scalarLaws
 use Rattle.claims.specs.Acceptance.{Acceptance}
 use Rattle.claims.specs.Correlation.{Outputs, Pads, Demand3}
 use Rattle.claims.specs.Records.{Records}
+use Rattle.claims.specs.Source.{Binary, dealtBy}
+use Rattle.claims.specs.Taken.{Dealing}
 use Rattle.claims.proofs.Lists.{noise-number, scalar-number, lists}
 use Rattle.claims.proofs.Outputs.{admitted-correlated}
-use Rattle.claims.proofs.Pads.{admitted-pads}
+use Rattle.claims.proofs.Pads.{pads-of}
 
 pub record-laws : Records
 record-laws =
@@ -31,10 +35,15 @@ record-laws =
 pub outputs : Outputs
 outputs I a b z x h = admitted-correlated I (dealing.deal-number I a b z .admitted) x
 
+-- an accepted dealing of field 1 is a source
+abbrev pub dealt-source : (I : Input) → I .field ≡ 1 → (a b : List ℕ) → deal I a b .number ≡ 0 → Binary
+dealt-source I one a b z = record { source = dealtBy I; binary = one; correlates = outputs I a b z }
+
+abbrev pub of-dealing : Dealing → Binary
+of-dealing D = dealt-source (D .input) (D .binary) (D .noiseRecord) (D .scalarRecord) (D .dealt)
+
 pub pads : Pads
-pads I one a b z first count vs choices out noise-accepted first′ count′ ws Δs out′ scalar-accepted x h in-noise in-scalar lent =
-    admitted-pads first count vs choices out noise-accepted first′ count′ ws Δs out′ scalar-accepted x in-noise in-scalar I
-    (dealing.deal-number I a b z .admitted) one lent
+pads I one a b z = pads-of (dealt-source I one a b z)
 
 pub demand3 : Demand3
 demand3 = record { outputs = outputs; lists = lists; pads = pads }

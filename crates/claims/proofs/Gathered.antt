@@ -12,14 +12,14 @@ use Rattle.pads.specs.Triples.Matching.{triplesOf}
 use Rattle.pads.specs.Triples.Triple.{tripleBytes}
 use Rattle.claims.specs.Formed.{FormedAt, GatheredAt}
 
--- one draw: a call of each end, for equally many outputs, all of whose places are formed
+-- one draw: a call of each end, for equally many outputs, all of whose places are formed, equal places with each other
 pub record Drawn : Type 0 where
   pub l : TriplesLent
   pub l′ : TriplesLent
   pub equal : length (l .choices) ≡ length (l′ .choices)
   pub accepted : triples l .number ≡ 0
   pub accepted′ : triples l′ .number ≡ 0
-  pub formed : (i : ℕ) → i < length (l .choices) → FormedAt l l′ i
+  pub formed : (i : ℕ) → i < length (l .choices) → FormedAt l l′ i i
 
 -- both ends' triples of several draws, one after the other, and how many they are
 unfoldable pub drawn₁ : List Drawn → List ℕ
@@ -48,6 +48,7 @@ later front₁ rest₁ front₂ rest₂ count k j e₁ e₂ place G =
       l = G .l;
       l′ = G .l′;
       i = G .i;
+      i′ = G .i′;
       formed = G .formed;
       triple₁ = ap (λ (n : ℕ). at tripleBytes (front₁ ++ rest₁) n) (sym place) ∙ triple-past front₁ rest₁ k count e₁ ∙ G .triple₁;
       triple₂ = ap (λ (n : ℕ). at tripleBytes (front₂ ++ rest₂) n) (sym place) ∙ triple-past front₂ rest₂ k count e₂ ∙ G .triple₂;
@@ -66,6 +67,7 @@ gathered (d ∷ ds) j h =
       l = d .l;
       l′ = d .l′;
       i = j;
+      i′ = j;
       formed = d .formed j near;
       triple₁ = triple-front (triplesOf (d .l)) (drawn₁ ds) j count e₁ near;
       triple₂ = triple-front (triplesOf (d .l′)) (drawn₂ ds) j count e₂ near;

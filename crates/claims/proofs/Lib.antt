@@ -3,7 +3,7 @@
 mod Dealt
 pub mod Outputs
 pub mod Lists
-mod Pads
+pub mod Pads
 pub mod Entire
 pub mod Paired
 pub mod Starred

@@ -32,7 +32,7 @@ use Rattle.ends.specs.Noise.Vectors as noisePartVectors
 use Rattle.ends.proofs.scalar.Laws as scalarLaws
 use Rattle.ends.specs.Scalar.Online as scalarOnline
 use Rattle.ends.specs.Scalar.Vectors as scalarPartVectors
-use Rattle.claims.specs.Correlation.{Setting, noiseSource, scalarSource, Call, End, run, last, EndClaim, NoiseMemory, NoiseOut, noiseExpanded, noiseEnd, ScalarMemory, scalarExpanded, scalarEnd, Lists}
+use Rattle.claims.specs.Correlation.{Setting, noiseSource, scalarSource, Call, End, run, last, EndClaim, NoiseMemory, NoiseOut, noiseExpanded, noiseEnd, ScalarMemory, scalarExpanded, scalarDelta, scalarEnd, Lists}
 use Rattle.claims.proofs.Dealt.{delta-told, mu-dealt, v0-dealt, w0-dealt}
 use Rattle.claims.proofs.Outputs.{admitted-correlated}
 
@@ -60,7 +60,7 @@ module _ (E : End) (kept : (m : E .Memory) (c : Call (E .Out)) → E .memory (E 
   last-kept m (c ∷ calls) = ap (λ l. last E l calls) (kept m c) ∙ last-kept m calls
 
   -- so what is claimed of a list follows from what holds of each call on the first memory
-  end-claim : ((c : Call (E .Out)) → E .online (E .start) c .number ≡ firstFault (E .tests c))
+  pub end-claim : ((c : Call (E .Out)) → E .online (E .start) c .number ≡ firstFault (E .tests c))
       → ((c : Call (E .Out)) → E .online (E .start) c .number ≡ 0 → (k : ℕ) → k < c .count
       → E .standing (E .online (E .start) c .lent) k ≡ E .dealt (c .first + k))
       → (calls : List (Call (E .Out))) → EndClaim E calls
@@ -124,7 +124,7 @@ module _ (S : Setting) where
       let k = scalarLaws.online-kept (scalarOnline.lentWith (m .source) (m .w) (c .out)) (c .first) (c .count) in
       λ i. record { source = k .source i; w = k .w i }
 
-  A : Admitted I
+  pub A : Admitted I
   A = dealing.deal-number I (S .noiseRecord) (S .scalarRecord) (S .dealt) .admitted
 
   noise-reads : readNoise (noiseSource S) ≡ Whole (noisePart I)
@@ -151,10 +151,10 @@ module _ (S : Setting) where
   accW0 = accumulate (F .scaled .group) (w0 I)
 
   -- the memory that each offline call left holds the record and them
-  noise-start : readNoise (noiseEnd S .start .source) ≡ Whole (noisePart I)
+  pub noise-start : readNoise (noiseEnd S .start .source) ≡ Whole (noisePart I)
   noise-start = ap readNoise (noise-left .record-kept) ∙ noise-reads
 
-  scalar-start : readScalar (scalarEnd S .start .source) ≡ Whole (scalarPart I)
+  pub scalar-start : readScalar (scalarEnd S .start .source) ≡ Whole (scalarPart I)
   scalar-start = ap readScalar (scalar-left .record-kept) ∙ scalar-reads
 
   noise-words : noiseEnd S .start .noise ≡ flat (F .noiseValues) (2 ^ I .depth) accMu
@@ -177,6 +177,23 @@ module _ (S : Setting) where
       scalar-left .w
       ∙ flat-cong (F .elements) (kindLaws (I .field) .field .elements) (2 ^ I .depth) _ _
       (accumulate-same (F .scaled .group) (2 ^ I .depth) (scalarPartVectors.w0 (scalarPart I)) (w0 I) (λ j h. w0-dealt I A j))
+
+  -- the same in full
+  pub noise-front : noiseEnd S .start .noise ≡ flat (F .noiseValues) (2 ^ I .depth) (accumulate (F .ring .group) (mu I))
+  unfolding accMu
+  noise-front = noise-words
+
+  pub v-front : noiseEnd S .start .v ≡ flat (F .elements) (2 ^ I .depth) (accumulate (F .scaled .group) (v0 I))
+  unfolding accV0
+  v-front = v-words
+
+  pub w-front : scalarEnd S .start .w ≡ flat (F .elements) (2 ^ I .depth) (accumulate (F .scaled .group) (w0 I))
+  unfolding accW0
+  w-front = w-words
+
+  -- Δ, as the offline call left it
+  pub delta-front : at (F .elements) (scalarDelta S) 0 ≡ dealt.delta I
+  delta-front = ap (λ l. at (F .elements) l 0) (scalar-left .delta) ∙ delta-told (I .field) (scalarPart I .delta)
 
   accMu-element : (j : ℕ) → j < 2 ^ I .depth → Element (F .ring .group) (accMu j)
   unfolding accMu accumulate
@@ -258,9 +275,7 @@ lists S noiseCalls scalarCalls =
     record {
       noise = noise;
       scalar = scalar;
-      scalar-delta =
-          ap (λ l. at (F S .elements) l 0) (scalar-left S .delta)
-          ∙ delta-told (S .input .field) (scalarPart (S .input) .delta);
+      scalar-delta = delta-front S;
       correlated = λ x u′ v′ w′ N C.
           scalar .values x w′ C
           ∙ admitted-correlated (S .input) (A S) x

@@ -1,7 +1,7 @@
--- The choice bit names the matching pad: the choice law of `pads`, at the outputs of an admitted dealing of field 1.
+-- The choice bit names the matching pad: the choice law of `pads`, at the outputs of a source of field 1.
 use mathlib.Core.Path.{_≡_, refl, sym, ap, _∙_}
 use mathlib.Core.List.{List, [], _∷_}
-use Prim.Native.Nat.{ℕ, zero, suc, _+_, _-_, _*_}
+use Prim.Native.Nat.{ℕ, zero, suc, _+_, _-_, _*_, _<_}
 use native.Mathlib.Omega.{arith}
 use lib.ListN.{getD}
 use Rattle.algebra.specs.Expansion.{Correlated}
@@ -13,11 +13,8 @@ use Rattle.pads.proofs.Choice.{choice}
 use Rattle.pads.specs.Calls.{noisePads, scalarPads}
 use Rattle.pads.specs.Choice.{InWindow, padAt, oneOfTwoAt}
 use Rattle.pads.specs.Pad.{pad}
-use Rattle.dealing.specs.Admitted.{Admitted}
-use Rattle.dealing.specs.Input.{Input}
-use Rattle.dealing.specs.Vectors.{u, v, w, delta}
-use Rattle.claims.specs.Correlation.{PadsLent}
-use Rattle.claims.proofs.Outputs.{admitted-correlated}
+use Rattle.claims.specs.Correlation.{PadsLent, PadsOf}
+use Rattle.claims.specs.Source.{Source, sourceDelta, Correlates, Binary}
 
 -- two accepted pad calls and an index in both windows
 module _ (first count : ℕ) (vs choices pads : List ℕ) (noise-accepted : noisePads first count vs choices pads .number ≡ 0)
@@ -45,10 +42,15 @@ module _ (first count : ℕ) (vs choices pads : List ℕ) (noise-accepted : nois
       })
   by-field (suc (suc n)) e u v w Δ c a b d g = absurd (omega arith)
 
-  pub admitted-pads : (I : Input) → Admitted I → I .field ≡ 1 → PadsLent I x first vs choices first′ ws Δs
+  pub source-pads : (s : Source) → Correlates s → s .field ≡ 1 → x < s .outputs → PadsLent s x first vs choices first′ ws Δs
       → padAt (noisePads first count vs choices pads .lent .pads) first x
       ≡ oneOfTwoAt (scalarPads first′ count′ ws Δs pads′ .lent .pads) first′ x (getD choices (x - first) 0)
-  admitted-pads I A one L =
-      by-field (I .field) one (u I x) (v I x) (w I x) (delta I) (admitted-correlated I A x)
+  source-pads s C one h L =
+      by-field (s .field) one (s .u x) (s .v x) (s .w x) (sourceDelta s) (C x h)
       (L .v-lent) (L .u-lent) (L .w-lent)
-      (ap (λ l. kindOf (I .field) .field .elements .read (elementOf (I .field) (wordAt l 0) (wordAt l 8)) 0) (L .Δ-lent))
+      (ap (λ l. kindOf (s .field) .field .elements .read (elementOf (s .field) (wordAt l 0) (wordAt l 8)) 0) (L .Δ-lent))
+
+pub pads-of : (S : Binary) → PadsOf (S .source)
+pads-of S first count vs choices out noise-accepted first′ count′ ws Δs out′ scalar-accepted x h in-noise in-scalar lent =
+    source-pads first count vs choices out noise-accepted first′ count′ ws Δs out′ scalar-accepted x in-noise in-scalar
+    (S .source) (S .correlates) (S .binary) h lent

@@ -22,6 +22,7 @@ use Rattle.pads.specs.Calls.{noisePads, scalarPads}
 use Rattle.pads.specs.Choice.{InWindow, padAt, oneOfTwoAt}
 use Rattle.ends.specs.Scalar.Offline as scalarOffline
 use Rattle.ends.specs.Scalar.Online as scalarOnline
+use Rattle.claims.specs.Source.{Source, sourceField, dealtBy}
 
 -- w = Δu + v at each output of every accepted dealing
 abbrev pub Outputs : Type 0
@@ -218,28 +219,30 @@ Lists = (S : Setting) (noiseCalls : List (Call NoiseOut)) (scalarCalls : List (C
 -- ---- pads, which stand in no list
 
 -- the element of field 1 whose 16 bytes are those at an output's place: its two words, each LE
-abbrev pub lentElement : (I : Input) → List ℕ → ℕ → Value (field I)
-lentElement I bytes k = field I .elements .read (wordAt bytes (k * 16) ∷ wordAt bytes (k * 16 + 8) ∷ []) 0
+abbrev pub lentElement : (s : Source) → List ℕ → ℕ → Value (sourceField s)
+lentElement s bytes k = sourceField s .elements .read (wordAt bytes (k * 16) ∷ wordAt bytes (k * 16 + 8) ∷ []) 0
 
--- the bytes lent for x are the v and u, and at the scalar end the w, of output x, with the dealing's Δ; all others are
--- arbitrary
-pub record PadsLent (I : Input) (x first : ℕ) (vs choices : List ℕ) (first′ : ℕ) (ws Δ : List ℕ) : Type 0 where
-  pub v-lent : lentElement I vs (x - first) ≡ v I x
-  pub u-lent : field I .noiseValues .read choices (x - first) ≡ u I x
-  pub w-lent : lentElement I ws (x - first′) ≡ w I x
-  pub Δ-lent : Δ ≡ I .delta
+-- the bytes lent for x are the v and u, and at the scalar end the w, of output x of a source, with its Δ; all others are arbitrary
+pub record PadsLent (s : Source) (x first : ℕ) (vs choices : List ℕ) (first′ : ℕ) (ws Δ : List ℕ) : Type 0 where
+  pub v-lent : lentElement s vs (x - first) ≡ s .v x
+  pub u-lent : sourceField s .noiseValues .read choices (x - first) ≡ s .u x
+  pub w-lent : lentElement s ws (x - first′) ≡ s .w x
+  pub Δ-lent : Δ ≡ s .delta
 
--- for any accepted pad call of each end, on one dealing of field 1, and any index x below n in both windows, the noise end's 16 bytes
+-- for any accepted pad call of each end, on one source of field 1, and any index x below n in both windows, the noise end's 16 bytes
 -- for x are those of pad 0 or 1 (document 01's messages), as the choice bit says: the byte lent for x, which by `u-lent` is u at x
-abbrev pub Pads : Type 0
-Pads =
-    (I : Input) → I .field ≡ 1 → (a b : List ℕ) → deal I a b .number ≡ 0
-    → (first count : ℕ) (vs choices pads : List ℕ) → noisePads first count vs choices pads .number ≡ 0
+abbrev pub PadsOf : Source → Type 0
+PadsOf s =
+    (first count : ℕ) (vs choices pads : List ℕ) → noisePads first count vs choices pads .number ≡ 0
     → (first′ count′ : ℕ) (ws Δ pads′ : List ℕ) → scalarPads first′ count′ ws Δ pads′ .number ≡ 0
-    → (x : ℕ) → x < I .outputs → InWindow first count x → InWindow first′ count′ x
-    → PadsLent I x first vs choices first′ ws Δ
+    → (x : ℕ) → x < s .outputs → InWindow first count x → InWindow first′ count′ x
+    → PadsLent s x first vs choices first′ ws Δ
     → padAt (noisePads first count vs choices pads .lent .pads) first x
     ≡ oneOfTwoAt (scalarPads first′ count′ ws Δ pads′ .lent .pads) first′ x (getD choices (x - first) 0)
+
+-- on one accepted dealing of field 1
+abbrev pub Pads : Type 0
+Pads = (I : Input) → I .field ≡ 1 → (a b : List ℕ) → deal I a b .number ≡ 0 → PadsOf (dealtBy I)
 
 -- ---- demand 3, entire
 

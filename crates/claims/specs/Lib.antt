@@ -2,6 +2,7 @@
 -- buffers tell, and on messages, triples and circuits, in steps and in rounds, on pads of dealings (document 02, 1, 6 and 9; circuits in
 -- rounds), to be read without the proofs.
 pub mod Records
+pub mod Source
 pub mod Correlation
 pub mod Acceptance
 pub mod Pairing

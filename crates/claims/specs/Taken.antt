@@ -1,13 +1,13 @@
--- Pads of a dealing's outputs as later calls take them (document 02, 1 and 6: pads at equal indices of one accepted dealing).
+-- Pads of a source's outputs as later calls take them (document 02, 1 and 6: pads at equal indices of one accepted dealing).
 use mathlib.Core.Path.{_≡_}
 use mathlib.Core.List.{List}
 use Prim.Native.Nat.{ℕ, _≤_, _<_}
 use Rattle.dealing.specs.Deal.{deal}
 use Rattle.dealing.specs.Input.{Input}
-use Rattle.dealing.specs.Vectors.{field, u}
 use Rattle.pads.specs.Calls.{noisePads, scalarPads}
 use Rattle.pads.specs.Choice.{InWindow, padAt, oneOfTwoAt}
 use Rattle.claims.specs.Correlation.{PadsLent}
+use Rattle.claims.specs.Source.{Source, sourceField, dealtBy}
 
 -- an accepted dealing of field 1
 pub record Dealing : Type 0 where
@@ -17,12 +17,16 @@ pub record Dealing : Type 0 where
   pub scalarRecord : List ℕ
   pub dealt : deal input noiseRecord scalarRecord .number ≡ 0
 
--- what is lent for k to later calls of both ends belongs to one output x of the dealing: the choice is u at x, and the noise
--- end's 16 bytes and both pads of the scalar end's 32 are those that accepted pad calls, in any windows, write for x where
--- the bytes lent to them for x are the dealing's
-pub record TakenAt (D : Dealing) (choices pads padPairs : List ℕ) (k : ℕ) : Type 0 where
+-- its outputs
+abbrev pub outputsOf : Dealing → Source
+outputsOf D = dealtBy (D .input)
+
+-- what is lent to later calls of both ends, for place k of the noise end's and place k′ of the scalar end's, belongs to one output x of
+-- a source: the choice is u at x, and the noise end's 16 bytes and both pads of the scalar end's 32 are those that accepted pad calls, in
+-- any windows, write for x where the bytes lent to them for x are the source's
+pub record TakenAt (s : Source) (choices pads padPairs : List ℕ) (k k′ : ℕ) : Type 0 where
   pub x : ℕ
-  pub below : x < D .input .outputs
+  pub below : x < s .outputs
   -- the noise end's pad call
   pub first : ℕ
   pub count : ℕ
@@ -39,12 +43,12 @@ pub record TakenAt (D : Dealing) (choices pads padPairs : List ℕ) (k : ℕ) : 
   pub out′ : List ℕ
   pub accepted′ : scalarPads first′ count′ ws Δ out′ .number ≡ 0
   pub within′ : InWindow first′ count′ x
-  pub lent : PadsLent (D .input) x first vs us first′ ws Δ
-  -- what is lent for k
-  pub choice : field (D .input) .noiseValues .read choices k ≡ u (D .input) x
+  pub lent : PadsLent s x first vs us first′ ws Δ
+  -- what is lent for k and k′
+  pub choice : sourceField s .noiseValues .read choices k ≡ s .u x
   pub pad : padAt pads 0 k ≡ padAt (noisePads first count vs us out .lent .pads) first x
-  pub both : (bit : ℕ) → bit ≤ 1 → oneOfTwoAt padPairs 0 k bit ≡ oneOfTwoAt (scalarPads first′ count′ ws Δ out′ .lent .pads) first′ x bit
+  pub both : (bit : ℕ) → bit ≤ 1 → oneOfTwoAt padPairs 0 k′ bit ≡ oneOfTwoAt (scalarPads first′ count′ ws Δ out′ .lent .pads) first′ x bit
 
--- the same for each k below a count, each with an index x of its own, equal ones among them
-abbrev pub Taken : Dealing → ℕ → List ℕ → List ℕ → List ℕ → Type 0
-Taken D count choices pads padPairs = (k : ℕ) → k < count → TakenAt D choices pads padPairs k
+-- the same for each place below a count, one place of both ends, each with an index x of its own, equal ones among them
+abbrev pub Taken : Source → ℕ → List ℕ → List ℕ → List ℕ → Type 0
+Taken s count choices pads padPairs = (k : ℕ) → k < count → TakenAt s choices pads padPairs k k

@@ -28,7 +28,7 @@ use Rattle.example.proofs.Worked.{inWords, u-is, v-is, w-is, worked-dea
 -- ---- what lies in memory
 
 -- every number of a list is below a bound
-within : ℕ → List ℕ → Bool
+unfoldable pub within : ℕ → List ℕ → Bool
 within n [] = true
 within n (x ∷ l) = ltb x n && within n l
 
@@ -39,15 +39,15 @@ bounded n (x ∷ l) p e zero = ltb-true x n (and-left (ltb x n) (within n l) e)
 bounded n (x ∷ l) p e (suc i) = bounded n l p (and-right (ltb x n) (within n l) e) i
 
 -- the tests of an input's memory
-record Held (I : Input) : Type 0 where
-  roots : within 256 (I .roots) ≡ true
-  positions : within 4294967296 (I .positions) ≡ true
-  values : within 18446744073709551616 (I .values) ≡ true
-  delta : within 256 (I .delta) ≡ true
-  codeKey : within 256 (I .codeKey) ≡ true
-  label : within 256 (I .label) ≡ true
+pub record Held (I : Input) : Type 0 where
+  pub roots : within 256 (I .roots) ≡ true
+  pub positions : within 4294967296 (I .positions) ≡ true
+  pub values : within 18446744073709551616 (I .values) ≡ true
+  pub delta : within 256 (I .delta) ≡ true
+  pub codeKey : within 256 (I .codeKey) ≡ true
+  pub label : within 256 (I .label) ≡ true
 
-held : (I : Input) → Held I → InMemory I
+pub held : (I : Input) → Held I → InMemory I
 held I H =
     record {
       roots = bounded 256 (I .roots) (lit< tt) (H .roots);
@@ -58,17 +58,17 @@ held I H =
       label = bounded 256 (I .label) (lit< tt) (H .label);
     }
 
-binary-memory : InMemory binaryInput
+pub binary-memory : InMemory binaryInput
 unfolding within
 binary-memory = held binaryInput (record { roots = refl; positions = refl; values = refl; delta = refl; codeKey = refl; label = refl })
 
-prime-memory : InMemory primeInput
+pub prime-memory : InMemory primeInput
 unfolding within
 prime-memory = held primeInput (record { roots = refl; positions = refl; values = refl; delta = refl; codeKey = refl; label = refl })
 
 -- ---- the settings: buffers of 256 bytes for the records, and as many words as the vectors have
 
-settingOf : (I : Input) → InMemory I → deal I (replicate 256 0) (replicate 256 0) .number ≡ 0 → (words : ℕ)
+unfoldable pub settingOf : (I : Input) → InMemory I → deal I (replicate 256 0) (replicate 256 0) .number ≡ 0 → (words : ℕ)
     → 2 ^ I .depth ≤ 4 → 2 ^ I .depth * field I .elements .width ≤ length {A = ℕ} (replicate words 0) → Setting
 settingOf I M z words h k =
     record {
@@ -85,10 +85,10 @@ settingOf I M z words h k =
       scalarAccepted = acceptance .scalar-offline I M (replicate 256 0) (replicate 256 0) z (replicate words 0) (replicate 2 0) k (lit≤ tt);
     }
 
-binary-setting : Setting
+abbrev pub binary-setting : Setting
 binary-setting = settingOf binaryInput binary-memory binary-dealt 8 (lit≤ tt) (lit≤ tt)
 
-prime-setting : Setting
+abbrev pub prime-setting : Setting
 prime-setting = settingOf primeInput prime-memory prime-dealt 4 (lit≤ tt) (lit≤ tt)
 
 -- ---- what the calls of a list leave, with the outputs by their words
@@ -123,7 +123,7 @@ module _ (S : Setting) (N : Numbers) (W : Worked (S .input) N) where
       (lists.run-steps (scalarEnd S) (lists.scalar-kept S) (scalarEnd S .start) calls ∙ (λ i. map (λ c. (c, scalar-one c i)) calls))
 
 pub example : Example
-unfolding settingOf binary-setting prime-setting flat over answered byNumber firstFault isMet
+unfolding settingOf flat over answered byNumber firstFault isMet
 example =
     record {
       binary =

@@ -93,7 +93,7 @@ finished₂ = record { made = last₂; step = ap (λ (l : List StepMade). getEle
 -- the circuit's one AND takes triple 0, which is the triple at place 1 of both calls
 gathered : (j : ℕ) → j < andsIn (circuit .gates) → GatheredAt triple₁ triple₂ j
 unfolding andsIn anyAbove isMet firstFault byNumber answered triples flat over tripleFrom tripleOf
-gathered zero h = record { l = lent₁; l′ = lent₂; i = 1; formed = formed 1 (lit< tt); triple₁ = refl; triple₂ = refl }
+gathered zero h = record { l = lent₁; l′ = lent₂; i = 1; i′ = 1; formed = formed 1 (lit< tt); triple₁ = refl; triple₂ = refl }
 gathered (suc j) h = absurd (omega arith)
 
 pub circuit-example : CircuitExample

@@ -20,8 +20,9 @@ use Rattle.pads.specs.Calls.{lentNoise, lentScalar, noisePadsBy, scalarPadsBy, 
 use Rattle.pads.specs.Choice.{padAt, oneOfTwoAt}
 use Rattle.pads.specs.Pad.{padKey, padPair}
 use Rattle.claims.proofs.Entire.{pads}
+use Rattle.claims.specs.Source.{dealtBy}
 use Rattle.claims.specs.Correlation.{PadsLent}
-use Rattle.claims.specs.Taken.{Dealing, TakenAt}
+use Rattle.claims.specs.Taken.{Dealing, outputsOf, TakenAt}
 use Rattle.example.proofs.Cipher.{looked, lookedFrom, mixBy, subBy, roundBy, roundsBy, cipherBy, tempBy, wordsBy, lookedCipher, lookedWords, lookedKeys}
 use Rattle.example.proofs.Made.{lookedAes, lookedUnder, padBy, lookedPad, pad-looked}
 use Rattle.example.proofs.Dealt.{binary-dealt, second-dealt}
@@ -41,7 +42,7 @@ module _ (D : Dealing) (N : Numbers) (noise scalar : List ℕ)
     (noise-call : noisePads 0 2 (writeWords (N .vs)) (N .us) (replicate 32 0) ≡ wrote tt (lentNoise (writeWords (N .vs)) (N .us) noise))
     (scalar-call : scalarPads 0 2 (writeWords (N .ws)) (D .input .delta) (replicate 64 0)
     ≡ wrote tt (lentScalar (writeWords (N .ws)) (D .input .delta) scalar))
-    (lent : (x : ℕ) → x < 2 → PadsLent (D .input) x 0 (writeWords (N .vs)) (N .us) 0 (writeWords (N .ws)) (D .input .delta))
+    (lent : (x : ℕ) → x < 2 → PadsLent (dealtBy (D .input)) x 0 (writeWords (N .vs)) (N .us) 0 (writeWords (N .ws)) (D .input .delta))
     (outputs : D .input .outputs ≡ 2) where
   -- the pad that the choice names, by `Pads`
   named : (x : ℕ) → x < 2 → padAt noise 0 x ≡ oneOfTwoAt scalar 0 x (getD (N .us) x 0)
@@ -54,7 +55,7 @@ module _ (D : Dealing) (N : Numbers) (noise scalar : List ℕ)
       ∙ ap₂ (λ o (i : ℕ). oneOfTwoAt (o .lent .pads) 0 x (getD (N .us) i 0)) scalar-call (sub-zero x)
 
   -- what is taken for place x is that of output x
-  taken : (x : ℕ) → x < 2 → TakenAt D (N .us) noise scalar x
+  taken : (x : ℕ) → x < 2 → TakenAt (outputsOf D) (N .us) noise scalar x x
   taken x h =
       record {
         x = x;
@@ -92,7 +93,8 @@ unfolding looked lookedFrom mixBy subBy roundBy roundsBy cipherBy tempBy wordsBy
 first-scalar = ap (λ rule. scalarPadsBy rule 0 2 (writeWords (binaryNumbers .ws)) (binaryInput .delta) (replicate 64 0)) pad-looked
 
 first-lent : (x : ℕ) → x < 2
-    → PadsLent binaryInput x 0 (writeWords (binaryNumbers .vs)) (binaryNumbers .us) 0 (writeWords (binaryNumbers .ws)) (binaryInput .delta)
+    → PadsLent (dealtBy binaryInput) x 0 (writeWords (binaryNumbers .vs)) (binaryNumbers .us)
+    0 (writeWords (binaryNumbers .ws)) (binaryInput .delta)
 unfolding writing.writeEach leBytes leNumber wordAt
 first-lent zero h =
     record {
@@ -115,7 +117,7 @@ first-apart zero h e = eqb-false _ _ refl (ap (λ (l : List ℕ). getD l 0 0) e)
 first-apart (suc zero) h e = eqb-false _ _ refl (ap (λ (l : List ℕ). getD l 0 0) e)
 first-apart (suc (suc x)) h e = absurd (omega arith)
 
-pub first-taken : (x : ℕ) → x < 2 → TakenAt firstDealing (binaryNumbers .us) firstNoise firstScalar x
+pub first-taken : (x : ℕ) → x < 2 → TakenAt (outputsOf firstDealing) (binaryNumbers .us) firstNoise firstScalar x x
 first-taken = taken firstDealing binaryNumbers firstNoise firstScalar first-noise first-scalar first-lent refl
 
 -- ---- the second dealing
@@ -131,7 +133,8 @@ unfolding looked lookedFrom mixBy subBy roundBy roundsBy cipherBy tempBy wordsBy
 second-scalar = ap (λ rule. scalarPadsBy rule 0 2 (writeWords (secondNumbers .ws)) (secondInput .delta) (replicate 64 0)) pad-looked
 
 second-lent : (x : ℕ) → x < 2
-    → PadsLent secondInput x 0 (writeWords (secondNumbers .vs)) (secondNumbers .us) 0 (writeWords (secondNumbers .ws)) (secondInput .delta)
+    → PadsLent (dealtBy secondInput) x 0 (writeWords (secondNumbers .vs)) (secondNumbers .us)
+    0 (writeWords (secondNumbers .ws)) (secondInput .delta)
 unfolding writing.writeEach leBytes leNumber wordAt
 second-lent zero h =
     record {
@@ -154,7 +157,7 @@ second-apart zero h e = eqb-false _ _ refl (ap (λ (l : List ℕ). getD l 0 0) e
 second-apart (suc zero) h e = eqb-false _ _ refl (ap (λ (l : List ℕ). getD l 0 0) e)
 second-apart (suc (suc x)) h e = absurd (omega arith)
 
-pub second-taken : (x : ℕ) → x < 2 → TakenAt secondDealing (secondNumbers .us) secondNoise secondScalar x
+pub second-taken : (x : ℕ) → x < 2 → TakenAt (outputsOf secondDealing) (secondNumbers .us) secondNoise secondScalar x x
 second-taken = taken secondDealing secondNumbers secondNoise secondScalar second-noise second-scalar second-lent refl
 
 pub pads-example : PadsExample

@@ -1,6 +1,7 @@
 -- The triples of both ends, from what was taken of both dealings; that they match, by `Triples` itself.
 use mathlib.Core.Path.{refl}
 use Prim.Native.Nat.{ℕ, _<_}
+use Rattle.claims.proofs.Entire.{of-dealing}
 use Rattle.algebra.specs.Coding.{flat, over}
 use Rattle.answer.specs.Bytes.{anyAbove}
 use Rattle.answer.specs.Outcome.{byNumber, answered}
@@ -12,12 +13,12 @@ use Rattle.claims.specs.Formed.{FormedAt}
 use Rattle.example_pads.specs.Triples.{lent₁, lent₂, TriplesExample}
 use Rattle.example_pads.proofs.Pads.{firstDealing, secondDealing, first-taken, second-taken}
 
-pub formed : (i : ℕ) → i < 2 → FormedAt lent₁ lent₂ i
+pub formed : (i : ℕ) → i < 2 → FormedAt lent₁ lent₂ i i
 unfolding anyAbove isMet firstFault byNumber answered triples
 formed i h =
     record {
-      dealing = firstDealing;
-      dealing′ = secondDealing;
+      source = of-dealing firstDealing;
+      source′ = of-dealing secondDealing;
       accepted = refl;
       accepted′ = refl;
       taken = first-taken i h;
@@ -26,4 +27,4 @@ formed i h =
 
 pub triples-example : TriplesExample
 unfolding anyAbove isMet firstFault byNumber answered triples flat over tripleFrom tripleOf
-triples-example = record { formed = formed; triples₁ = refl; triples₂ = refl; match = λ i h. dealt.triples lent₁ lent₂ i (formed i h) .2 }
+triples-example = record { formed = formed; triples₁ = refl; triples₂ = refl; match = λ i h. dealt.triples lent₁ lent₂ i i (formed i h) .2 }

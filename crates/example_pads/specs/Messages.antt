@@ -4,7 +4,7 @@ use mathlib.Core.Path.{_≡_}
 use mathlib.Core.List.{[], _∷_, _++_}
 use lib.ListN.{replicate}
 use Rattle.pads.specs.Messages.Opening.{Batch, BatchFits, sentCorrectionBits, sentAnswers, openedBatch, Opens}
-use Rattle.claims.specs.Taken.{Dealing, Taken}
+use Rattle.claims.specs.Taken.{Dealing, outputsOf, Taken}
 use Rattle.example.specs.Worked.{bytesFrom, binaryInput, binaryNumbers}
 use Rattle.example_pads.specs.Pads.{firstNoise, firstScalar}
 
@@ -27,7 +27,7 @@ pub record MessagesExample : Type 0 where
   pub dealing : Dealing
   pub input : dealing .input ≡ binaryInput
   pub fits : BatchFits batch
-  pub taken : Taken dealing 2 (batch .choices) (batch .noisePads) (batch .scalarPads)
+  pub taken : Taken (outputsOf dealing) 2 (batch .choices) (batch .noisePads) (batch .scalarPads)
   -- what is sent, and what is opened: message 1 of each output
   pub bits : sentCorrectionBits batch ≡ 1 ∷ 0 ∷ []
   pub answers :

@@ -9,6 +9,7 @@ use Rattle.record.specs.Writing.{writeWords}
 use Rattle.dealing.specs.Input.{Input}
 use Rattle.pads.specs.Calls.{lentNoise, lentScalar, noisePads, scalarPads}
 use Rattle.pads.specs.Choice.{padAt, oneOfTwoAt}
+use Rattle.claims.specs.Source.{dealtBy}
 use Rattle.claims.specs.Correlation.{PadsLent}
 use Rattle.claims.specs.Taken.{Dealing}
 use Rattle.example.specs.Worked.{Numbers, binaryInput, secondInput, binaryNumbers, secondNumbers}
@@ -21,7 +22,7 @@ pub record PadsRan (I : Input) (N : Numbers) (noise scalar : List ℕ) : Type 0 
   pub noise-call : noisePads 0 2 (writeWords (N .vs)) (N .us) (replicate 32 0) ≡ wrote tt (lentNoise (writeWords (N .vs)) (N .us) noise)
   pub scalar-call : scalarPads 0 2 (writeWords (N .ws)) (I .delta) (replicate 64 0) ≡ wrote tt (lentScalar (writeWords (N .ws)) (I .delta) scalar)
   -- the bytes lent for each output are the dealing's
-  pub lent : (x : ℕ) → x < 2 → PadsLent I x 0 (writeWords (N .vs)) (N .us) 0 (writeWords (N .ws)) (I .delta)
+  pub lent : (x : ℕ) → x < 2 → PadsLent (dealtBy I) x 0 (writeWords (N .vs)) (N .us) 0 (writeWords (N .ws)) (I .delta)
   -- the noise end's pad is the one that the choice names, and not the other
   pub named : (x : ℕ) → x < 2 → padAt noise 0 x ≡ oneOfTwoAt scalar 0 x (getD (N .us) x 0)
   pub apart : (x : ℕ) → x < 2 → padAt noise 0 x ≡ oneOfTwoAt scalar 0 x (1 - getD (N .us) x 0) → ⊥

@@ -22,7 +22,7 @@ lent₂ = record { choices = secondNumbers .us; pads = secondNoise; padPairs = f
 
 pub record TriplesExample : Type 0 where
   -- what is lent for each place is that of an output of each dealing, and both calls are accepted
-  pub formed : (i : ℕ) → i < 2 → FormedAt lent₁ lent₂ i
+  pub formed : (i : ℕ) → i < 2 → FormedAt lent₁ lent₂ i i
   -- the triples; those at place 1 combine to 1 AND 1 = 1
   pub triples₁ : triplesOf lent₁ ≡ 0 ∷ 1 ∷ 0 ∷ 1 ∷ 0 ∷ 0 ∷ []
   pub triples₂ : triplesOf lent₂ ≡ 1 ∷ 0 ∷ 1 ∷ 0 ∷ 1 ∷ 1 ∷ []

@@ -7,6 +7,7 @@ use Rattle.algebra.specs.Field.{Value}
 use Rattle.dealing.specs.Input.{Input}
 use Rattle.dealing.specs.Vectors as vectors
 use Rattle.claims.specs.Correlation.{lentElement}
+use Rattle.claims.specs.Source.{dealtBy}
 use Rattle.claims.proofs.Entire as claims
 use Rattle.page.specs.Document01 as page
 use Rattle.page_claims.specs.Statements as says
@@ -18,7 +19,7 @@ use Rattle.page_claims.proofs.Outputs.{inputOf, u-is, v-is, w-is, outpu
 use Rattle.page_claims.proofs.Lists.{lists}
 
 -- an element whose words are lent as bytes
-element-lent : (I : Input) (l : List ℕ) (k : ℕ) (e : Value (vectors.field I)) → page.blockAt l k ≡ vectors.field I .elements .words e → lentElement I l k ≡ e
+element-lent : (I : Input) (l : List ℕ) (k : ℕ) (e : Value (vectors.field I)) → page.blockAt l k ≡ vectors.field I .elements .words e → lentElement (dealtBy I) l k ≡ e
 element-lent I l k e p =
     ap (λ (w : List ℕ). vectors.field I .elements .read w 0)
     (ap₂ (λ (x y : ℕ). x ∷ y ∷ []) (sym (word-at l (k * 16))) (sym (word-at l (k * 16 + 8))) ∙ p)

@@ -55,15 +55,15 @@ block-bytes l r a b e i h =
     ∙ getD-drop b r i 0
 
 -- where the noise end's pad is that which the choice names, so is each of its bytes
-pub named-byte : (choices noisePads scalarPads : List ℕ) (k : ℕ) → NamedAt choices noisePads scalarPads k → (i : ℕ) → i < 16
-    → getD noisePads (16 * k + i) 0 ≡ getD scalarPads (32 * k + 16 * getD choices k 0 + i) 0
-named-byte choices noisePads scalarPads k N =
-    block-bytes noisePads scalarPads (16 * k) (32 * k + 16 * getD choices k 0)
-    (sym (pad-from-0 noisePads k) ∙ N .pad ∙ message-from-0 scalarPads k (getD choices k 0))
+pub named-byte : (choices noisePads scalarPads : List ℕ) (k k′ : ℕ) → NamedAt choices noisePads scalarPads k k′ → (i : ℕ) → i < 16
+    → getD noisePads (16 * k + i) 0 ≡ getD scalarPads (32 * k′ + 16 * getD choices k 0 + i) 0
+named-byte choices noisePads scalarPads k k′ N =
+    block-bytes noisePads scalarPads (16 * k) (32 * k′ + 16 * getD choices k 0)
+    (sym (pad-from-0 noisePads k) ∙ N .pad ∙ message-from-0 scalarPads k′ (getD choices k 0))
 
 -- ---- the front that each call sends
 
-module _ (B : Batch) (F : BatchFits B) (N : (k : ℕ) → k < B .count → NamedAt (B .choices) (B .noisePads) (B .scalarPads) k) where
+module _ (B : Batch) (F : BatchFits B) (N : (k : ℕ) → k < B .count → NamedAt (B .choices) (B .noisePads) (B .scalarPads) k k) where
   corrected-zero : correctedBatch B .number ≡ 0
   corrected-zero =
       let choices-all = bits-all (B .count) (B .choices) (F .choices-length) (λ k h. N k h .bit) in
@@ -150,7 +150,7 @@ module _ (B : Batch) (F : BatchFits B) (N : (k : ℕ) → k < B .count → Named
   opened-byte k i h j =
       cc (
         wanted-byte k i (getD (B .choices) k 0) (getD (B .wanted) k 0) h j (N k h .bit) (F .wanted-bits k h) (bit-is k h),
-        named-byte (B .choices) (B .noisePads) (B .scalarPads) k (N k h) i j,
+        named-byte (B .choices) (B .noisePads) (B .scalarPads) k k (N k h) i j,
         xor-twice (getD (B .messages) (32 * k + 16 * getD (B .wanted) k 0 + i) 0)
             (getD (B .scalarPads) (32 * k + 16 * getD (B .choices) k 0 + i) 0),
       )

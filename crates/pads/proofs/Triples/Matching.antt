@@ -92,17 +92,17 @@ bits-of a h r q ha hh hr hq =
 -- ---- the bits of output k
 
 -- the pad bit is that of the far end's pad that the choice names
-pad-bit : (choices pads padPairs : List ℕ) (k : ℕ) → NamedAt choices pads padPairs k
-    → padBit pads k ≡ named (getD choices k 0) (padPairBit padPairs k 0) (padPairBit padPairs k 1)
-pad-bit choices pads padPairs k N =
+pad-bit : (choices pads padPairs : List ℕ) (k k′ : ℕ) → NamedAt choices pads padPairs k k′
+    → padBit pads k ≡ named (getD choices k 0) (padPairBit padPairs k′ 0) (padPairBit padPairs k′ 1)
+pad-bit choices pads padPairs k k′ N =
     let s : 16 * k ≡ 16 * k + 0 = omega arith in
     ap (λ (n : ℕ). getD pads n 0 % 2) s
-    ∙ ap (λ (n : ℕ). n % 2) (named-byte choices pads padPairs k N 0 (omega arith))
+    ∙ ap (λ (n : ℕ). n % 2) (named-byte choices pads padPairs k k′ N 0 (omega arith))
     ∙ by-choice (getD choices k 0) (N .bit)
   where
-    by-choice : (u : ℕ) → u ≤ 1 → getD padPairs (32 * k + 16 * u + 0) 0 % 2 ≡ named u (padPairBit padPairs k 0) (padPairBit padPairs k 1)
-    by-choice zero h = let z : 32 * k + 16 * 0 + 0 ≡ 32 * k + 16 * 0 = omega arith in ap (λ (n : ℕ). getD padPairs n 0 % 2) z
-    by-choice (suc zero) h = let z : 32 * k + 16 * 1 + 0 ≡ 32 * k + 16 * 1 = omega arith in ap (λ (n : ℕ). getD padPairs n 0 % 2) z
+    by-choice : (u : ℕ) → u ≤ 1 → getD padPairs (32 * k′ + 16 * u + 0) 0 % 2 ≡ named u (padPairBit padPairs k′ 0) (padPairBit padPairs k′ 1)
+    by-choice zero h = let z : 32 * k′ + 16 * 0 + 0 ≡ 32 * k′ + 16 * 0 = omega arith in ap (λ (n : ℕ). getD padPairs n 0 % 2) z
+    by-choice (suc zero) h = let z : 32 * k′ + 16 * 1 + 0 ≡ 32 * k′ + 16 * 1 = omega arith in ap (λ (n : ℕ). getD padPairs n 0 % 2) z
     by-choice (suc (suc u)) h = absurd (omega arith)
 
 -- ---- the bytes that an accepted call wrote
@@ -153,24 +153,24 @@ match-at t t′ s s′ e e′ m = rw (e, e′) m
 
 pub match : Match
 unfolding tripleOf
-match l l′ e e′ k h h′ N N′ =
+match l l′ e e′ k k′ h h′ N N′ =
     let a = getD (l .choices) k 0 in
-    let a′ = getD (l′ .choices) k 0 in
+    let a′ = getD (l′ .choices) k′ 0 in
     let r = padPairBit (l .padPairs) k 0 in
     let q = padPairBit (l .padPairs) k 1 in
-    let r′ = padPairBit (l′ .padPairs) k 0 in
-    let q′ = padPairBit (l′ .padPairs) k 1 in
-    match-at (at tripleBytes (triplesOf l) k) (at tripleBytes (triplesOf l′) k) (near a a′ r q r′ q′) (far a a′ r q r′ q′)
-    (triple-is l e k h ∙ ap (λ (p : ℕ). tripleFrom a p r q) (pad-bit (l .choices) (l .pads) (l′ .padPairs) k N))
-    (triple-is l′ e′ k h′ ∙ ap (λ (p : ℕ). tripleFrom a′ p r′ q′) (pad-bit (l′ .choices) (l′ .pads) (l .padPairs) k N′))
+    let r′ = padPairBit (l′ .padPairs) k′ 0 in
+    let q′ = padPairBit (l′ .padPairs) k′ 1 in
+    match-at (at tripleBytes (triplesOf l) k) (at tripleBytes (triplesOf l′) k′) (near a a′ r q r′ q′) (far a a′ r q r′ q′)
+    (triple-is l e k h ∙ ap (λ (p : ℕ). tripleFrom a p r q) (pad-bit (l .choices) (l .pads) (l′ .padPairs) k k′ N))
+    (triple-is l′ e′ k′ h′ ∙ ap (λ (p : ℕ). tripleFrom a′ p r′ q′) (pad-bit (l′ .choices) (l′ .pads) (l .padPairs) k′ k N′))
     (bits-match a a′ r q r′ q′ (N .bit) (N′ .bit) (omega arith) (omega arith) (omega arith) (omega arith))
 
 -- for equally many outputs, all of them
 pub match-all : (l l′ : TriplesLent) → length (l .choices) ≡ length (l′ .choices) → triples l .number ≡ 0 → triples l′ .number ≡ 0
-    → ((k : ℕ) → k < length (l .choices) → NamedAt (l .choices) (l .pads) (l′ .padPairs) k)
-    → ((k : ℕ) → k < length (l .choices) → NamedAt (l′ .choices) (l′ .pads) (l .padPairs) k)
+    → ((k : ℕ) → k < length (l .choices) → NamedAt (l .choices) (l .pads) (l′ .padPairs) k k)
+    → ((k : ℕ) → k < length (l .choices) → NamedAt (l′ .choices) (l′ .pads) (l .padPairs) k k)
     → Matching (length (l .choices)) (triplesOf l) (triplesOf l′)
-match-all l l′ equal e e′ N N′ k h = match l l′ e e′ k h (omega arith) (N k h) (N′ k h)
+match-all l l′ equal e e′ N N′ k h = match l l′ e e′ k k h (omega arith) (N k h) (N′ k h)
 
 -- ---- triples of several calls, one after the other
 

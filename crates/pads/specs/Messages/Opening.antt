@@ -53,10 +53,11 @@ sentAnswers B = take (maskedBatch B .written) (maskedBatch B .lent .answers)
 abbrev pub openedBatch : Batch → Outcome ℕ UnmaskLent
 openedBatch B = unmaskMessages (B .count) (lentUnmask (B .wanted) (B .noisePads) (sentAnswers B) (B .messagesOut))
 
--- the choice at k is 0 or 1, and the noise end's 16 bytes for k are those of the scalar end's pad that it names
-pub record NamedAt (choices noisePads scalarPads : List ℕ) (k : ℕ) : Type 0 where
+-- the noise end's choice at its place k is 0 or 1, and its 16 bytes there are those of the pad that the choice names of the two at the
+-- scalar end's place k′
+pub record NamedAt (choices noisePads scalarPads : List ℕ) (k k′ : ℕ) : Type 0 where
   pub bit : getD choices k 0 ≤ 1
-  pub pad : padAt noisePads 0 k ≡ oneOfTwoAt scalarPads 0 k (getD choices k 0)
+  pub pad : padAt noisePads 0 k ≡ oneOfTwoAt scalarPads 0 k′ (getD choices k 0)
 
 -- all three calls are accepted, and what is opened at each k is exactly the message wanted there; messages lie as pads do, so `padAt`
 -- and `oneOfTwoAt` take their 16 bytes too
@@ -69,4 +70,4 @@ pub record Opens (B : Batch) : Type 0 where
 
 abbrev pub Opening : Type 0
 Opening =
-    (B : Batch) → BatchFits B → ((k : ℕ) → k < B .count → NamedAt (B .choices) (B .noisePads) (B .scalarPads) k) → Opens B
+    (B : Batch) → BatchFits B → ((k : ℕ) → k < B .count → NamedAt (B .choices) (B .noisePads) (B .scalarPads) k k) → Opens B

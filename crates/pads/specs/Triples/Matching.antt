@@ -28,13 +28,13 @@ triplesOf l = take (triples l .written) (triples l .lent .triples)
 abbrev pub ZeroOrOne : Type 0
 ZeroOrOne = (l : TriplesLent) → triples l .number ≡ 0 → AreBits (3 * length (l .choices)) (triplesOf l)
 
--- in the bytes that both ends' accepted calls write, the triples at a place of both match, if in each pairing the choice there
--- names the noise end's pad among the scalar end's: one end is the noise end of the first pairing and the scalar end of the
--- second, the other the scalar end of the first and the noise end of the second
+-- in the bytes that both ends' accepted calls write, the triples at a place of each match, if in each pairing the choice at the noise
+-- end's place names its pad among the two at the scalar end's place: one end, with place k, is the noise end of the first pairing and
+-- the scalar end of the second, the other, with place k′, the scalar end of the first and the noise end of the second
 abbrev pub Match : Type 0
 Match =
     (l l′ : TriplesLent) → triples l .number ≡ 0 → triples l′ .number ≡ 0
-    → (k : ℕ) → k < length (l .choices) → k < length (l′ .choices)
-    → NamedAt (l .choices) (l .pads) (l′ .padPairs) k
-    → NamedAt (l′ .choices) (l′ .pads) (l .padPairs) k
-    → MatchingAt (at tripleBytes (triplesOf l) k) (at tripleBytes (triplesOf l′) k)
+    → (k k′ : ℕ) → k < length (l .choices) → k′ < length (l′ .choices)
+    → NamedAt (l .choices) (l .pads) (l′ .padPairs) k k′
+    → NamedAt (l′ .choices) (l′ .pads) (l .padPairs) k′ k
+    → MatchingAt (at tripleBytes (triplesOf l) k) (at tripleBytes (triplesOf l′) k′)
