@@ -20,6 +20,7 @@ use Rattle.tree.proofs.Levels.{level-leaves}
 use Rattle.tree.specs.Child.{child, childKey}
 use Rattle.tree.specs.Columns.{columnsAt, columnsBytes}
 use Rattle.tree.specs.Tree.{siblings, leafAt, fromSiblings}
+use Rattle.field.specs.ByNumber.{elementOf}
 use Rattle.dealing.specs.Admitted.{Admitted}
 use Rattle.dealing.specs.Input.{Input, position}
 use Rattle.dealing.specs.Parts.{noiseTree, noisePart, scalarPart}
@@ -46,6 +47,17 @@ delta-told f d = of (eqb f 1)
   where
     of : (b : Bool) → at (choose b binaryKind primeKind .field .elements) (getD d 0 0 ∷ choose b (getD d 1 0) 0 ∷ []) 0
         ≡ choose b binaryKind primeKind .field .elements .read d 0
+    of true = refl
+    of false = refl
+
+-- and they are the dealing's: its two words in field 1, its one and a 0 in field 2
+pub delta-whole : (f a b : ℕ)
+    → (getD (elementOf f a b) 0 0 ∷ choose (eqb f 1) (getD (elementOf f a b) 1 0) 0 ∷ [])
+    ≡ (getD (elementOf f a b) 0 0 ∷ getD (elementOf f a b) 1 0 ∷ [])
+delta-whole f a b = of (eqb f 1)
+  where
+    of : (t : Bool) → (getD (choose t (a ∷ b ∷ []) (a ∷ [])) 0 0 ∷ choose t (getD (choose t (a ∷ b ∷ []) (a ∷ [])) 1 0) 0 ∷ [])
+        ≡ (getD (choose t (a ∷ b ∷ []) (a ∷ [])) 0 0 ∷ getD (choose t (a ∷ b ∷ []) (a ∷ [])) 1 0 ∷ [])
     of true = refl
     of false = refl
 

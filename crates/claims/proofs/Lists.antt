@@ -33,7 +33,7 @@ use Rattle.ends.proofs.scalar.Laws as scalarLaws
 use Rattle.ends.specs.Scalar.Online as scalarOnline
 use Rattle.ends.specs.Scalar.Vectors as scalarPartVectors
 use Rattle.claims.specs.Correlation.{Setting, noiseSource, scalarSource, Call, End, run, last, EndClaim, NoiseMemory, NoiseOut, noiseExpanded, noiseEnd, ScalarMemory, scalarExpanded, scalarDelta, scalarEnd, Lists}
-use Rattle.claims.proofs.Dealt.{delta-told, mu-dealt, v0-dealt, w0-dealt}
+use Rattle.claims.proofs.Dealt.{delta-told, delta-whole, mu-dealt, v0-dealt, w0-dealt}
 use Rattle.claims.proofs.Outputs.{admitted-correlated}
 
 -- ---- a list of calls, each of which leaves the memory as it was
@@ -276,6 +276,7 @@ lists S noiseCalls scalarCalls =
       noise = noise;
       scalar = scalar;
       scalar-delta = delta-front S;
+      scalar-words = scalar-left S .delta ∙ delta-whole (S .input .field) _ _;
       correlated = λ x u′ v′ w′ N C.
           scalar .values x w′ C
           ∙ admitted-correlated (S .input) (A S) x

@@ -13,7 +13,7 @@ use Rattle.answer.specs.Tests.{Test, _atMost_, _or_, firstFault}
 use Rattle.answer.specs.Outcome.{Outcome, TwoWritten}
 use Rattle.dealing.specs.Admitted.{InMemory}
 use Rattle.dealing.specs.Deal.{DealOutcome, deal, noiseRecordOf, scalarRecordOf}
-use Rattle.dealing.specs.Input.{Input}
+use Rattle.dealing.specs.Input.{Input, deltaWords}
 use Rattle.dealing.specs.Vectors.{field, delta, u, v, w}
 use Rattle.field.specs.Bytes.{wordAt}
 use Rattle.ends.specs.Noise.Offline as noiseOffline
@@ -205,8 +205,9 @@ pub record Claim (S : Setting) (noiseCalls : List (Call NoiseOut)) (scalarCalls 
   -- of each: the numbers, what is handed out, and the memory
   pub noise : EndClaim (noiseEnd S) noiseCalls
   pub scalar : EndClaim (scalarEnd S) scalarCalls
-  -- the scalar end's Δ, as its offline call left it, is the dealing's
+  -- the scalar end's Δ, as its offline call left it, is the dealing's; whole, it is two words, the second 0 in field 2
   pub scalar-delta : at (field (S .input) .elements) (scalarDelta S) 0 ≡ delta (S .input)
+  pub scalar-words : scalarDelta S ≡ getD (deltaWords (S .input)) 0 0 ∷ getD (deltaWords (S .input)) 1 0 ∷ []
   -- w = Δu + v at each index that both ends hand out
   pub correlated : (x : ℕ) (u′ : NoiseValue (field (S .input))) (v′ w′ : Value (field (S .input)))
       → Hands (noiseEnd S) noiseCalls x (u′, v′) → Hands (scalarEnd S) scalarCalls x w′
