@@ -1,6 +1,6 @@
 -- What is made with the cipher is what is made with the one that looks up: leaves, the vectors of a dealing, rows and pads.
 use mathlib.Core.Path.{_≡_, ap, _∙_}
-use mathlib.Core.List.{List}
+use mathlib.Core.List.{List, map}
 use Prim.Native.Nat.{ℕ, _/_, _^_}
 use Rattle.algebra.specs.Expansion.{correction, punctured, whole}
 use Rattle.algebra.specs.Field.{Value}
@@ -11,12 +11,13 @@ use Rattle.field.specs.declared.block.Block.{Block}
 use Rattle.field.specs.Binary.{blockAdd, blockOf}
 use Rattle.field.specs.Bytes.{columnsOf, lowOf, highOf}
 use Rattle.tree.specs.Child.{childKey, child}
-use Rattle.tree.specs.Columns.{columnsAt}
-use Rattle.tree.specs.Tree.{leafAt}
+use Rattle.tree.specs.Columns.{columnsAt, columnsBytes}
+use Rattle.tree.specs.Tree.{leafAt, siblings}
 use Rattle.code.specs.Row.{placeOf, termBlock, termPlace, rowOfBlocks}
 use Rattle.record.specs.Content.{Head}
 use Rattle.window.specs.Head.{kind, fieldOf, places, row}
 use Rattle.dealing.specs.Input.{Input, position}
+use Rattle.dealing.specs.Parts.{noiseTree}
 use Rattle.dealing.specs.Vectors.{head, field, value, root, leaf, delta, treeCorrection, v0, w0}
 use Rattle.pads.specs.Pad.{padKey, indexBlock, state, underPadKey, pad}
 use Rattle.example.proofs.Cipher.{lookedCipher, lookedKeys, cipher-looked, keys-looked}
@@ -44,6 +45,9 @@ module _ (grow : ℕ → List (List ℕ) → List (List ℕ)) (I : Input) where
   unfoldable pub leafBy : ℕ → ℕ → Value (field I)
   leafBy i j = kind (head I) .leaf (leafAt (2 ^ I .branchBits) grow (I .depth / I .branchBits) (root I i) j)
 
+  unfoldable pub siblingsBy : ℕ → List (List ℕ)
+  siblingsBy i = map columnsBytes (siblings (2 ^ I .branchBits) grow (I .depth / I .branchBits) (root I i) (position I i))
+
   unfoldable pub correctionBy : ℕ → Value (field I)
   correctionBy i = correction (field I .scaled) (delta I) (leafBy i (position I i)) (value I i)
 
@@ -57,6 +61,10 @@ module _ (I : Input) where
   pub leaf-looked : leaf I ≡ leafBy lookedChild I
   unfolding leafBy
   leaf-looked i = leafBy (child-looked i) I
+
+  pub siblings-looked : (i : ℕ) → noiseTree I i .siblings ≡ siblingsBy lookedChild I i
+  unfolding siblingsBy noiseTree
+  siblings-looked i j = siblingsBy (child-looked j) I i
 
   pub correction-looked : treeCorrection I ≡ correctionBy lookedChild I
   unfolding leafBy correctionBy

@@ -55,19 +55,19 @@ coefficientIn I N x i = at (field I .noiseValues) (getD (N .coefficients) x []) 
 abbrev outputIn : (I : Input) → Numbers → (S : Scaled (field I .ring)) → (ℕ → S .group .Of) → ℕ → S .group .Of
 outputIn I N S f x = sum (S .group) (I .terms) (λ i. S .scale (coefficientIn I N x i) (f (placeIn N x i)))
 
-record Computed (I : Input) (N : Numbers) : Type 0 where
-  leaves : listed (I .trees) (λ i. flat (field I .elements) (places (head I)) (leafBy lookedChild I i)) ≡ N .leaves
-  corrections : flat (field I .elements) (I .trees) (λ i. correction (field I .scaled) (delta I) (leafIn I N i (position I i)) (value I i)) ≡ N .corrections
-  noise : flat (field I .noiseValues) (places (head I)) (accumulate (field I .ring .group) (mu I)) ≡ N .noise
-  v-accumulated : flat (field I .elements) (places (head I))
+pub record Computed (I : Input) (N : Numbers) : Type 0 where
+  pub leaves : listed (I .trees) (λ i. flat (field I .elements) (places (head I)) (leafBy lookedChild I i)) ≡ N .leaves
+  pub corrections : flat (field I .elements) (I .trees) (λ i. correction (field I .scaled) (delta I) (leafIn I N i (position I i)) (value I i)) ≡ N .corrections
+  pub noise : flat (field I .noiseValues) (places (head I)) (accumulate (field I .ring .group) (mu I)) ≡ N .noise
+  pub v-accumulated : flat (field I .elements) (places (head I))
       (accumulate (field I .scaled .group) (punctured (field I .scaled) (I .trees) (position I) (at (field I .elements) (N .corrections)) (leafIn I N)))
       ≡ N .v
-  w-accumulated : flat (field I .elements) (places (head I)) (accumulate (field I .scaled .group) (whole (field I .scaled) (I .trees) (leafIn I N))) ≡ N .w
-  row-places : listed (I .outputs) (λ x. listed (I .terms) (lookedRow (head I) x .place)) ≡ N .places
-  coefficients : listed (I .outputs) (λ x. flat (field I .noiseValues) (I .terms) (lookedRow (head I) x .coefficient)) ≡ N .coefficients
-  u-outputs : flat (field I .noiseValues) (I .outputs) (outputIn I N (itself (field I .ring)) (at (field I .noiseValues) (N .noise))) ≡ N .us
-  v-outputs : flat (field I .elements) (I .outputs) (outputIn I N (field I .scaled) (at (field I .elements) (N .v))) ≡ N .vs
-  w-outputs : flat (field I .elements) (I .outputs) (outputIn I N (field I .scaled) (at (field I .elements) (N .w))) ≡ N .ws
+  pub w-accumulated : flat (field I .elements) (places (head I)) (accumulate (field I .scaled .group) (whole (field I .scaled) (I .trees) (leafIn I N))) ≡ N .w
+  pub row-places : listed (I .outputs) (λ x. listed (I .terms) (lookedRow (head I) x .place)) ≡ N .places
+  pub coefficients : listed (I .outputs) (λ x. flat (field I .noiseValues) (I .terms) (lookedRow (head I) x .coefficient)) ≡ N .coefficients
+  pub u-outputs : flat (field I .noiseValues) (I .outputs) (outputIn I N (itself (field I .ring)) (at (field I .noiseValues) (N .noise))) ≡ N .us
+  pub v-outputs : flat (field I .elements) (I .outputs) (outputIn I N (field I .scaled) (at (field I .elements) (N .v))) ≡ N .vs
+  pub w-outputs : flat (field I .elements) (I .outputs) (outputIn I N (field I .scaled) (at (field I .elements) (N .w))) ≡ N .ws
 
 module _ (I : Input) (A : Admitted I) (N : Numbers) (C : Computed I N) where
   leaves-are : listed (I .trees) (λ i. flat (field I .elements) (places (head I)) (leaf I i)) ≡ N .leaves
@@ -153,7 +153,7 @@ module _ (I : Input) (A : Admitted I) (N : Numbers) (C : Computed I N) where
       (itself-laws (field I .ring) (kindLaws (I .field) .field .ring)) (places (head I)) (row (head I) x) (row-within (head I) (A .terms .2) x) (mu I))
       ∙ output-at (itself (field I .ring)) (accumulate (field I .ring .group) (mu I)) (at (field I .noiseValues) (N .noise)) noise-at x h
 
-  worked : Worked I N
+  pub worked : Worked I N
   unfolding v w
   worked =
       record {
