@@ -1,0 +1,95 @@
+-- Nothing is vacuous: pad calls whose windows begin at different indices (document 01, 'Pads from outputs'), on the dealings of
+-- `WorkedLevels`: an index has one pad, wherever a window begins. One end is the noise end of the dealing with two levels and the scalar
+-- end of that with three, the other end the other way round; each divides its outputs into windows as it likes.
+use mathlib.Core.Path.{_≡_}
+use mathlib.Core.List.{List, [], _∷_}
+use Prim.Native.Nat.{ℕ, _-_, _*_, _<_}
+use lib.ListN.{getD, take, drop, replicate}
+use Rattle.answer.specs.Outcome.{wrote}
+use Rattle.record.specs.Writing.{writeWords}
+use Rattle.pads.specs.Calls.{lentNoise, lentScalar, noisePads, scalarPads}
+use Rattle.pads.specs.Choice.{InWindow, padAt, oneOfTwoAt}
+use Rattle.dealing.specs.Input.{Input}
+use Rattle.example.specs.Worked.{Numbers}
+use Rattle.example_levels.specs.Levels.{twoLevels, threeLevels, twoLevelNumbers, threeLevelNumbers}
+
+-- the bytes of v, the choices and the bytes of w, from index first on, for count indices; two words are an element
+abbrev pub vFrom : Numbers → ℕ → ℕ → List ℕ
+vFrom N first count = writeWords (take (2 * count) (drop (2 * first) (N .vs)))
+
+abbrev pub uFrom : Numbers → ℕ → ℕ → List ℕ
+uFrom N first count = take count (drop first (N .us))
+
+abbrev pub wFrom : Numbers → ℕ → ℕ → List ℕ
+wFrom N first count = writeWords (take (2 * count) (drop (2 * first) (N .ws)))
+
+-- an accepted pad call of the noise end, and one of the scalar end, in the window of count indices from first on, and the pads it leaves
+abbrev pub NoiseRan : Numbers → ℕ → ℕ → List ℕ → Type 0
+NoiseRan N first count pads =
+    noisePads first count (vFrom N first count) (uFrom N first count) (replicate (16 * count) 0)
+    ≡ wrote tt (lentNoise (vFrom N first count) (uFrom N first count) pads)
+
+abbrev pub ScalarRan : Input → Numbers → ℕ → ℕ → List ℕ → Type 0
+ScalarRan I N first count pads =
+    scalarPads first count (wFrom N first count) (I .delta) (replicate (32 * count) 0)
+    ≡ wrote tt (lentScalar (wFrom N first count) (I .delta) pads)
+
+-- the dealing with two levels, where the choices are 1, 0 and 0: index 0, and indices 1 and 2, at the noise end; all at the scalar end
+abbrev pub noise₀ : List ℕ
+noise₀ =
+    0x6d ∷ 0xef ∷ 0x65 ∷ 0xcd ∷ 0x9c ∷ 0xed ∷ 0x90 ∷ 0xf9 ∷ 0x3a ∷ 0x65 ∷ 0xf3 ∷ 0xc3 ∷ 0x7c ∷ 0x6c ∷ 0x3c ∷ 0xa9
+    ∷ []
+
+abbrev pub noise₁₂ : List ℕ
+noise₁₂ =
+    0xe9 ∷ 0x68 ∷ 0x01 ∷ 0x8c ∷ 0xfe ∷ 0x0c ∷ 0xe8 ∷ 0xc2 ∷ 0xb3 ∷ 0x8d ∷ 0x30 ∷ 0x7c ∷ 0xf8 ∷ 0x09 ∷ 0xd4 ∷ 0x6a
+    ∷ 0x1c ∷ 0xd5 ∷ 0x99 ∷ 0x20 ∷ 0xd4 ∷ 0x96 ∷ 0xc8 ∷ 0x2d ∷ 0x93 ∷ 0x22 ∷ 0xb7 ∷ 0xaf ∷ 0xcf ∷ 0x49 ∷ 0xec ∷ 0xb2
+    ∷ []
+
+abbrev pub scalar₀₁₂ : List ℕ
+scalar₀₁₂ =
+    0x0c ∷ 0x93 ∷ 0x10 ∷ 0x46 ∷ 0x3b ∷ 0x23 ∷ 0xec ∷ 0x82 ∷ 0x00 ∷ 0x29 ∷ 0x80 ∷ 0x66 ∷ 0x77 ∷ 0xfb ∷ 0x04 ∷ 0x07
+    ∷ 0x6d ∷ 0xef ∷ 0x65 ∷ 0xcd ∷ 0x9c ∷ 0xed ∷ 0x90 ∷ 0xf9 ∷ 0x3a ∷ 0x65 ∷ 0xf3 ∷ 0xc3 ∷ 0x7c ∷ 0x6c ∷ 0x3c ∷ 0xa9
+    ∷ 0xe9 ∷ 0x68 ∷ 0x01 ∷ 0x8c ∷ 0xfe ∷ 0x0c ∷ 0xe8 ∷ 0xc2 ∷ 0xb3 ∷ 0x8d ∷ 0x30 ∷ 0x7c ∷ 0xf8 ∷ 0x09 ∷ 0xd4 ∷ 0x6a
+    ∷ 0x87 ∷ 0x48 ∷ 0x7e ∷ 0xdc ∷ 0x2f ∷ 0x65 ∷ 0x1b ∷ 0x70 ∷ 0xa9 ∷ 0xf1 ∷ 0x53 ∷ 0xa9 ∷ 0x0f ∷ 0xf8 ∷ 0x32 ∷ 0xef
+    ∷ 0x1c ∷ 0xd5 ∷ 0x99 ∷ 0x20 ∷ 0xd4 ∷ 0x96 ∷ 0xc8 ∷ 0x2d ∷ 0x93 ∷ 0x22 ∷ 0xb7 ∷ 0xaf ∷ 0xcf ∷ 0x49 ∷ 0xec ∷ 0xb2
+    ∷ 0xfa ∷ 0x1d ∷ 0x71 ∷ 0xf4 ∷ 0x03 ∷ 0xa1 ∷ 0xfe ∷ 0xc2 ∷ 0xab ∷ 0xed ∷ 0xda ∷ 0xba ∷ 0xe9 ∷ 0x1a ∷ 0xce ∷ 0x8b
+    ∷ []
+
+-- the dealing with three levels, where the choices are 1, 1 and 0: all at the noise end; indices 0 and 1, and index 2, at the scalar end
+abbrev pub noise₀₁₂ : List ℕ
+noise₀₁₂ =
+    0x21 ∷ 0xb0 ∷ 0x0e ∷ 0x0b ∷ 0x68 ∷ 0x0a ∷ 0xa8 ∷ 0x42 ∷ 0x16 ∷ 0x8e ∷ 0x34 ∷ 0x25 ∷ 0x95 ∷ 0xbd ∷ 0xa6 ∷ 0x1d
+    ∷ 0x27 ∷ 0x66 ∷ 0x73 ∷ 0xc0 ∷ 0xe0 ∷ 0xc9 ∷ 0x01 ∷ 0x1d ∷ 0x80 ∷ 0x7e ∷ 0x53 ∷ 0x2d ∷ 0x83 ∷ 0x88 ∷ 0xef ∷ 0xdf
+    ∷ 0x19 ∷ 0x6c ∷ 0xcf ∷ 0x41 ∷ 0x7b ∷ 0xdf ∷ 0xcb ∷ 0x68 ∷ 0xe7 ∷ 0x5b ∷ 0x25 ∷ 0x08 ∷ 0x78 ∷ 0xa5 ∷ 0x94 ∷ 0xb5
+    ∷ []
+
+abbrev pub scalar₀₁ : List ℕ
+scalar₀₁ =
+    0x76 ∷ 0x40 ∷ 0x19 ∷ 0xc0 ∷ 0x2e ∷ 0xfe ∷ 0x66 ∷ 0x07 ∷ 0x42 ∷ 0x75 ∷ 0xe4 ∷ 0x94 ∷ 0xbe ∷ 0x53 ∷ 0x00 ∷ 0x9e
+    ∷ 0x21 ∷ 0xb0 ∷ 0x0e ∷ 0x0b ∷ 0x68 ∷ 0x0a ∷ 0xa8 ∷ 0x42 ∷ 0x16 ∷ 0x8e ∷ 0x34 ∷ 0x25 ∷ 0x95 ∷ 0xbd ∷ 0xa6 ∷ 0x1d
+    ∷ 0xb4 ∷ 0x37 ∷ 0xe8 ∷ 0xd7 ∷ 0xdc ∷ 0xdc ∷ 0xe1 ∷ 0xf2 ∷ 0xea ∷ 0x3a ∷ 0x5c ∷ 0xf5 ∷ 0xc3 ∷ 0x89 ∷ 0x8b ∷ 0xb1
+    ∷ 0x27 ∷ 0x66 ∷ 0x73 ∷ 0xc0 ∷ 0xe0 ∷ 0xc9 ∷ 0x01 ∷ 0x1d ∷ 0x80 ∷ 0x7e ∷ 0x53 ∷ 0x2d ∷ 0x83 ∷ 0x88 ∷ 0xef ∷ 0xdf
+    ∷ []
+
+abbrev pub scalar₂ : List ℕ
+scalar₂ =
+    0x19 ∷ 0x6c ∷ 0xcf ∷ 0x41 ∷ 0x7b ∷ 0xdf ∷ 0xcb ∷ 0x68 ∷ 0xe7 ∷ 0x5b ∷ 0x25 ∷ 0x08 ∷ 0x78 ∷ 0xa5 ∷ 0x94 ∷ 0xb5
+    ∷ 0xbc ∷ 0xa1 ∷ 0xca ∷ 0x6a ∷ 0x71 ∷ 0xed ∷ 0x40 ∷ 0x28 ∷ 0x01 ∷ 0xe8 ∷ 0x04 ∷ 0xc8 ∷ 0xde ∷ 0xc1 ∷ 0x49 ∷ 0x77
+    ∷ []
+
+-- the pad that the choice names of the scalar end's two stands at the noise end, where one window begins at first and the other at first′
+abbrev pub NamedIn : Numbers → List ℕ → ℕ → ℕ → List ℕ → ℕ → ℕ → Type 0
+NamedIn N noise first count scalar first′ count′ =
+    (x : ℕ) → InWindow first count x → InWindow first′ count′ x → x < 3
+    → padAt noise first x ≡ oneOfTwoAt scalar first′ x (getD (uFrom N first count) (x - first) 0)
+
+pub record WindowsExample : Type 0 where
+  pub two-noise₀ : NoiseRan twoLevelNumbers 0 1 noise₀
+  pub two-noise₁₂ : NoiseRan twoLevelNumbers 1 2 noise₁₂
+  pub two-scalar : ScalarRan twoLevels twoLevelNumbers 0 3 scalar₀₁₂
+  pub three-noise : NoiseRan threeLevelNumbers 0 3 noise₀₁₂
+  pub three-scalar₀₁ : ScalarRan threeLevels threeLevelNumbers 0 2 scalar₀₁
+  pub three-scalar₂ : ScalarRan threeLevels threeLevelNumbers 2 1 scalar₂
+  pub named₁₂ : NamedIn twoLevelNumbers noise₁₂ 1 2 scalar₀₁₂ 0 3
+  pub named₂ : NamedIn threeLevelNumbers noise₀₁₂ 0 3 scalar₂ 2 1
