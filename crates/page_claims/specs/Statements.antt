@@ -47,10 +47,10 @@ InMemory D =
     Below 256 (D .roots) × Below (2 ^ 32) (D .positions) × Below (2 ^ 64) (D .values) × Below 256 (D .Δ)
     × Below 256 (D .head .codeKey) × Below 256 (D .head .label)
 
+-- a slice of several; what a call wrote to output buffer i: its front, of the length returned
 abbrev pub slice : List (List ℕ) → ℕ → List ℕ
 slice l i = getD l i []
 
--- what a call wrote to output buffer i: its front, of the length returned
 abbrev pub wrote : Return → ℕ → List ℕ
 wrote r i = take (r .lengths ! i) (slice (r .outputs) i)
 
@@ -110,7 +110,8 @@ run online memory (x ∷ calls) = online memory x ∷ run online (online memory 
 -- what a listed call returns: 7 if its window passes n, else 13 if a buffer is too short, else what the dealing has in its window
 abbrev pub listed : End → ℕ → Call → Return
 listed E n x =
-    let outputs : List Output = list (length (E .dealt 0)) (λ i. (slice (x .buffers) i, joined (x .c) (λ k. slice (E .dealt (x .first + k)) i))) in
+    let values : ℕ → List ℕ = λ i. joined (x .c) (λ k. slice (E .dealt (x .first + k)) i) in
+    let outputs : List Output = list (length (E .dealt 0)) (λ i. (slice (x .buffers) i, values i)) in
     answer (E .memory) outputs (leb (x .first + x .c) n otherwise 7 ∷ map room outputs)
 
 -- a list hands out a at index x: an accepted call of it has x in its window, first + k, and a stands at place k of its buffers
@@ -184,7 +185,6 @@ AdmittedScalar h Δ roots =
     AdmittedHead h × (length Δ ≡ F h .elements .width) × Below (2 ^ 64) Δ × (isScalar (h .field) Δ ≡ true)
     × (length roots ≡ h .t) × Each IsBlock roots
 
--- a reading is accepted with this content
 abbrev pub Gives : {A : Type 0} → Read A → A → Type 0
 Gives r a = (next : ℕ) × (r ≡ got a next)
 
@@ -211,8 +211,9 @@ abbrev pub Admitted : Input → Type 0
 Admitted D =
     let h = D .head in
     ((h .field ≡ 1) ⊎ (h .field ≡ 2)) × (1 ≤ h .d) × (h .d ≤ 16) × (1 ≤ h .g) × (h .g ≤ 3) × (h .d % h .g ≡ 0) × (1 ≤ h .t) × (h .t ≤ 64)
-    × (h .t ≤ N h) × (1 ≤ h .ℓ) × (h .ℓ ≤ 32) × (h .ℓ ≤ N h) × (1 ≤ h .n) × (h .n ≤ N h / 2) × (length (D .roots) ≡ 16 * h .t)
-    × (length (D .positions) ≡ h .t) × (length (D .values) ≡ h .t) × (length (D .Δ) ≡ 16) × (length (h .codeKey) ≡ 16) × (length (h .label) ≡ 16)
+    × (h .t ≤ N h) × (1 ≤ h .ℓ) × (h .ℓ ≤ 32) × (h .ℓ ≤ N h) × (1 ≤ h .n) × (h .n ≤ N h / 2)
+    × (length (D .roots) ≡ 16 * h .t) × (length (D .positions) ≡ h .t) × (length (D .values) ≡ h .t) × (length (D .Δ) ≡ 16)
+    × (length (h .codeKey) ≡ 16) × (length (h .label) ≡ 16)
     × (every (h .t - 1) (λ i. ltb (D .positions ! i) (D .positions ! suc i)) ≡ true) × ((i : ℕ) → i < h .t → D .positions ! i < N h)
     × (h .field ≡ 1 → ((i : ℕ) → i < h .t → D .values ! i ≡ 1) × ((word (D .Δ) 0 ≡ 0) × (word (D .Δ) 8 ≡ 0) → ⊥))
     × (h .field ≡ 2 → ((i : ℕ) → i < h .t → (1 ≤ D .values ! i) × (D .values ! i ≤ p - 1))
@@ -239,14 +240,13 @@ pub record Acceptance : Type 0 where
       → ((length ws ≡ 16 * c) × (length Δ ≡ 16) × (first + c ≤ 32768) × (blockAt Δ 0 ≢ 0 ∷ 0 ∷ []) × (32 * c ≤ length pads))
       ↔ scalarPads first c ws Δ pads .number ≡ 0
 
--- ==== Trees, and rows: all leaves but q follow from the siblings at q, for any number of children; a row's ℓ places differ (document 02, 7)
+-- ==== Trees, and rows: all leaves but q follow from the siblings at q, for any number of children; a row's ℓ places differ
 pub record TreesAndRows : Type 0 where
   pub leaves : (k m : ℕ) (s : List ℕ) (q j : ℕ) → q < k ^ m → j < k ^ m → q ≢ j → leafBeside k m (siblingsOf k m s q) q j ≡ leaf k m s j
   pub places : (h : Head) → 1 ≤ h .ℓ → h .ℓ ≤ N h → (x i : ℕ) → i < h .ℓ
       → (place h x i < N h) × ((j : ℕ) → j < h .ℓ → place h x i ≡ place h x j → i ≡ j)
 
--- ==== Cases
--- a dealing's own records, of at most 1,024 leaves, print `checked n held n`
+-- ==== Cases: a dealing's own records, of at most 1,024 leaves, print `checked n held n`
 abbrev pub Held : Type 0
 Held = (D : Input) → InMemory D → (a b : List ℕ) → deal D a b .number ≡ 0 → N (D .head) ≤ 1024
     → lineText (wrote (deal D a b) 0) (wrote (deal D a b) 1)
