@@ -9,6 +9,7 @@ use Rattle.algebra.specs.Every.{every}
 use Rattle.algebra.specs.Expansion.{rising}
 use Rattle.claims.proofs.Entire as claims
 use Rattle.dealing.specs.Admitted as dealing
+use Rattle.dealing.proofs.Faults.{field-says, field-is}
 use Rattle.ends.proofs.noise.Laws as noiseLaws
 use Rattle.ends.proofs.scalar.Laws as scalarLaws
 use Rattle.field.specs.Binary.{blockZero}
@@ -36,7 +37,7 @@ admitted-out : (D : page.Input) → says.Admitted D → dealing.Admitted (inputO
 unfolding page.every every rising
 admitted-out D A =
     record {
-      field = A .0;
+      field = field-says (D .head .field) (A .0);
       depth = (A .1, A .2);
       branch = (A .3, A .4, A .5);
       trees = (A .6, A .7, A .8);
@@ -62,7 +63,7 @@ admitted-out D A =
 admitted-in : (D : page.Input) → dealing.Admitted (inputOf D) → says.Admitted D
 unfolding page.every every rising
 admitted-in D A = (
-  A .field,
+  field-is (D .head .field) (A .field),
   A .depth .0,
   A .depth .1,
   A .branch .0,

@@ -4,7 +4,7 @@ use Prim.Native.Nat.{ℕ, suc, _+_, _-_, _*_, _/_, _%_, _^_, _≤_, _<_}
 use mathlib.Core.Path.{_≡_}
 use mathlib.Core.Bool.{true}
 use mathlib.Core.List.{List, [], _∷_, _++_, map}
-use mathlib.Core.Logic.{_↔_, _≢_, _⊎_}
+use mathlib.Core.Logic.{_↔_, _≢_}
 use mathlib.Core.Option.{some}
 use lib.Dec.{eqb, leb, ltb}
 use lib.ListN.{length, take, drop, getD, getElem?, replicate}
@@ -210,7 +210,7 @@ pub record Records : Type 0 where
 abbrev pub Admitted : Input → Type 0
 Admitted D =
     let h = D .head in
-    ((h .field ≡ 1) ⊎ (h .field ≡ 2)) × (1 ≤ h .d) × (h .d ≤ 16) × (1 ≤ h .g) × (h .g ≤ 3) × (h .d % h .g ≡ 0) × (1 ≤ h .t) × (h .t ≤ 64)
+    (isField (h .field) ≡ true) × (1 ≤ h .d) × (h .d ≤ 16) × (1 ≤ h .g) × (h .g ≤ 3) × (h .d % h .g ≡ 0) × (1 ≤ h .t) × (h .t ≤ 64)
     × (h .t ≤ N h) × (1 ≤ h .ℓ) × (h .ℓ ≤ 32) × (h .ℓ ≤ N h) × (1 ≤ h .n) × (h .n ≤ N h / 2)
     × (length (D .roots) ≡ 16 * h .t) × (length (D .positions) ≡ h .t) × (length (D .values) ≡ h .t) × (length (D .Δ) ≡ 16)
     × (length (h .codeKey) ≡ 16) × (length (h .label) ≡ 16)
