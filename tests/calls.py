@@ -3,11 +3,11 @@
 
 Finds what a new call lacks. Fails, with a sentence for each fault, unless every call that crates/expander/src exports
 
-- is declared in include/expander.h, under a comment that lists its numbers;
-- stands in the table of calls of a test (tests/NAME_test.c) that a step of tests/run compiles;
+- is declared in include/expander.h, under a comment that lists its numbers; one that takes nothing, `(void)`, has none;
+- stands in the table of calls of a test (tests/NAME_test.c) that a step of tests/run compiles; one that takes nothing is called there;
 - is called by tests/fuzz/fuzz.c;
 - has a text in companion/texts.c for each number above 0 that the header lists, and for no other;
-- has its crate in the table of tools/fast (STEPS_OF_CRATE), with the step that tests it.
+- has its crate in the table of tools/fast (STEPS_OF_CRATE), with the step that tests it; a call that passes on to no crate has `expander`.
 """
 import glob
 import importlib.machinery
@@ -38,16 +38,17 @@ def exported():
         code = re.sub(r"(?m)//.*$", "", read(path))
         for part in re.split(r"(?m)^pub extern \"C\" fn expander_", code)[1:]:
             body = part.partition("\n{")[2].partition("\n}")[0]
-            found[re.match(r"\w+", part)[0]] = set(re.findall(r"\b(\w+)::", body))
+            found[re.match(r"\w+", part)[0]] = set(re.findall(r"\b(\w+)::", body)) or {"expander"}
     return found
 
 
 def declared():
     """By call of the header: the numbers that its comment lists."""
     found = {}
-    for comment, name in re.findall(r"/\*\*((?:(?!\*/).)*)\*/\s*\n[a-z][^;{]*?\bexpander_(\w+)\(", read("include/expander.h"), re.S):
+    declaration = r"/\*\*((?:(?!\*/).)*)\*/\s*\n[a-z][^;{]*?\bexpander_(\w+)\((void\))?"
+    for comment, name, nothing in re.findall(declaration, read("include/expander.h"), re.S):
         returns = comment.partition("Returns:")[2].partition(" In: ")[0]
-        found[name] = {int(number) for number in re.findall(r"\b(\d+) [A-Z]{2}[A-Z_]+\b", returns)}
+        found[name] = {int(number) for number in re.findall(r"\b(\d+) [A-Z]{2}[A-Z_]+\b", returns)} or ({0} if nothing else set())
     return found
 
 
@@ -60,7 +61,8 @@ def steps():
         step = "calls" if subject == "expander" else subject
         compiled = re.search(rf"(?m)^{step}\(\) \{{ subject {subject}\b", run) or f"tests/{subject}_test.c" in run
         table = re.search(r"struct call calls\[CALLS\] = \{(.*?)\};", read(path), re.S)
-        for name in re.findall(r"\{\"(\w+)\",", table[1]) if table and compiled and step in names else []:
+        listed = re.findall(r"\{\"(\w+)\",", table[1]) + re.findall(r"\bexpander_(\w+)\(\) ==", read(path)) if table else []
+        for name in listed if compiled and step in names else []:
             found.setdefault(name, set()).add(step)
     return found
 
