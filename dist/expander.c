@@ -1,5 +1,5 @@
 /*
- * Censerlotus 2.0.0 as one C99 file: all calls of expander.h, which lies beside it.
+ * Censerlotus 2.1.0 as one C99 file: all calls of expander.h, which lies beside it.
  *
  *     cc -O2 program.c expander.c
  *
@@ -10323,7 +10323,7 @@ INLINE answer_OneLength triple_call_triples(slice choices, slice pads, slice pad
     return result;
 }
 
-/* expander, src/lib.rt:25: Deals both records from field, sizes, roots, positions, noise values, Δ, code key and label. */
+/* expander, src/lib.rt:21: Deals both records from field, sizes, roots, positions, noise values, Δ, code key and label. */
 INLINE answer_TwoLengths expander_expander_deal(uint8_t field, uint64_t depth, uint64_t branch_bits, uint64_t trees, uint64_t terms,
     uint64_t outputs, slice roots, slice positions, slice values, slice delta, slice code_key, slice label, slice noise_record, slice
     scalar_record)
@@ -10347,7 +10347,7 @@ INLINE describe_Described expander_record_heads_expander_describe(slice source)
     return result;
 }
 
-/* expander, src/lib.rt:70: The noise end's offline call: the accumulated noise and v. */
+/* expander, src/lib.rt:79: The noise end's offline call: the accumulated noise and v. */
 INLINE answer_TwoLengths expander_expander_noise_offline(slice source, slice noise, slice v)
 {
     answer_TwoLengths result;
@@ -10361,7 +10361,7 @@ INLINE answer_TwoLengths expander_expander_noise_offline(slice source, slice noi
     return result;
 }
 
-/* expander, src/lib.rt:83: The scalar end's offline call: the accumulated w, and Δ. */
+/* expander, src/lib.rt:93: The scalar end's offline call: the accumulated w, and Δ. */
 INLINE answer_TwoLengths expander_expander_scalar_offline(slice source, slice w, slice delta)
 {
     answer_TwoLengths result;
@@ -10375,7 +10375,7 @@ INLINE answer_TwoLengths expander_expander_scalar_offline(slice source, slice w,
     return result;
 }
 
-/* expander, src/lib.rt:96: The noise end's online call: a window of u and v. */
+/* expander, src/lib.rt:107: The noise end's online call: a window of u and v. */
 INLINE answer_TwoLengths expander_expander_noise_online(slice source, slice noise, slice v, uint64_t first, uint64_t count, slice u_out,
     slice v_out)
 {
@@ -10390,7 +10390,7 @@ INLINE answer_TwoLengths expander_expander_noise_online(slice source, slice nois
     return result;
 }
 
-/* expander, src/lib.rt:114: The scalar end's online call: a window of w. */
+/* expander, src/lib.rt:125: The scalar end's online call: a window of w. */
 INLINE answer_OneLength expander_expander_scalar_online(slice source, slice w, uint64_t first, uint64_t count, slice w_out)
 {
     answer_OneLength result;
@@ -10429,7 +10429,7 @@ INLINE answer_OneLength expander_bench_windows_expander_scalar_direct(slice sour
     return result;
 }
 
-/* expander, src/lib.rt:129: The noise end's pads of a window. */
+/* expander, src/lib.rt:140: The noise end's pads of a window. */
 INLINE uint32_t expander_expander_noise_pads(uint64_t first, uint64_t count, slice v, slice choices, slice pads)
 {
     uint32_t result;
@@ -10441,7 +10441,7 @@ INLINE uint32_t expander_expander_noise_pads(uint64_t first, uint64_t count, sli
     return result;
 }
 
-/* expander, src/lib.rt:144: The scalar end's pads of a window, both messages of each output. */
+/* expander, src/lib.rt:155: The scalar end's pads of a window, both messages of each output. */
 INLINE uint32_t expander_expander_scalar_pads(uint64_t first, uint64_t count, slice w, slice delta, slice pads)
 {
     uint32_t result;
@@ -10585,6 +10585,14 @@ INLINE amounts_WrittenAmount expander_signed_amounts_expander_write_amount(uint6
 {
     amounts_WrittenAmount result;
     result = amounts_write_amount(amount);
+    return result;
+}
+
+/* expander, src/versions.rt:7: The version as a number, as the header has it. */
+INLINE uint32_t expander_versions_expander_version(void)
+{
+    uint32_t result;
+    result = 20100u;
     return result;
 }
 
@@ -10989,4 +10997,9 @@ struct expander_amount expander_read_amount(uint64_t element)
 struct expander_written_amount expander_write_amount(int64_t amount)
 {
     return to_expander_written_amount(expander_signed_amounts_expander_write_amount((uint64_t)amount));
+}
+
+uint32_t expander_version(void)
+{
+    return expander_versions_expander_version();
 }

@@ -161,10 +161,11 @@ extern "C" {
  * answers and writes what it did; records and circuits stay readable. A minor version adds calls,
  * with structs and names of their own; a patch adds nothing. So what was built with this header
  * links with any library of its major version that is not older. Across major versions build again:
- * a struct may have grown, and neither linker nor library notices (the shared object's name has no
- * version, and no call tells it). CHANGELOG.md says what each version changed. */
-#define EXPANDER_VERSION "2.0.0"
-#define EXPANDER_VERSION_NUMBER 20000
+ * a struct may have grown, and the linker of an archive does not notice. The shared object's name has
+ * the major version, libexpander.so.2, and expander_version gives the number of the library that is
+ * linked or loaded (from 2.1.0 on). CHANGELOG.md says what each version changed. */
+#define EXPANDER_VERSION "2.1.0"
+#define EXPANDER_VERSION_NUMBER 20100
 
 /* Fields. */
 #define EXPANDER_BINARY 1
@@ -902,6 +903,12 @@ struct expander_amount expander_read_amount(uint64_t element);
  *  In:       amount: a signed amount, -EXPANDER_AMOUNT_MAX to EXPANDER_AMOUNT_MAX
  */
 struct expander_written_amount expander_write_amount(int64_t amount);
+
+/** Give the version of the library, so that who loads it can compare it with the header.
+ *
+ *  Returns:  EXPANDER_VERSION_NUMBER of the header that goes with the library
+ */
+uint32_t expander_version(void);
 
 #ifdef __cplusplus
 }
