@@ -24,8 +24,8 @@ walk-from-spec =
     (λ c κs. search branch-few)  -- power-requires
     (λ c. search (needs, going-start))  -- loop-holds
     (λ c. search needs)  -- sub-levels
-    (λ c. search going-shift)  -- mul-digit
-    (λ c. search going-few)  -- shr-digit
+    (λ c. search (needs, going-shift))  -- mul-digit
+    (λ c. search (needs, going-few))  -- shr-digit
     (λ c. search going-count)  -- rem-digit
     (λ c κs. (search needs, search going-level))  -- pass-level-requires
     (λ c. search going-count)  -- sub-at
