@@ -27,8 +27,8 @@ the other definitions
   the functions reach that the eight pass on to, and the laws, which say of workings what the statements say of the page (LAWS
   below), with what they reach. Whether a working stands in specs/Inner/ or outside it means nothing;
 - each law is no row's, and has a proof that is declared with it;
-- no definition that a contract reaches lies in proofs/: no file of specs/ and no file of code names a module of a proofs/ folder, its own crate's or another's, so
-  that what a contract says can be read without one;
+- no definition that a contract reaches lies in proofs/: no file of specs/ and no file of code names a module of a proofs/
+  folder, its own crate's or another's, so that what a contract says can be read without one;
 
 the code and the edits
 - every exported function, and `line` of the pair program, has exactly one `ensures` and no `requires`;
