@@ -2268,12 +2268,14 @@ INLINE uint8_4_4 block_cipher_round_last_round(char *tables, uint8_4_4 s, char *
 }
 
 /* block_cipher, src/lib.rt:41: The ciphers of two blocks, each under round keys of its own, in alternation. */
-static block_cipher_TwoBlocks block_cipher_encrypt_two(char *tables, char *one_keys, char *other_keys, field_block_Block one,
-    field_block_Block other)
+static block_cipher_TwoBlocks block_cipher_encrypt_two(char *tables, char *one_keys, char *other_keys, uint64_t one_low, uint64_t one_high,
+    uint64_t other_low, uint64_t other_high)
 {
     block_cipher_TwoBlocks result;
+    field_block_Block one, other, t28, t29;
     uint8_4_4 a0, a1, b0, b1, a2, b2, a3, b3, a4, b4, a5, b5, a6, b6, a7, b7, a8, b8, a9, b9, a10, b10;
-    field_block_Block t28, t29;
+    one = (field_block_Block){one_low, one_high};
+    other = (field_block_Block){other_low, other_high};
     a0 = block_cipher_round_first_key(one, one_keys);
     a1 = block_cipher_round_full_round(tables, a0, one_keys, 2ull);
     b0 = block_cipher_round_first_key(other, other_keys);
@@ -2303,10 +2305,11 @@ static block_cipher_TwoBlocks block_cipher_encrypt_two(char *tables, char *one_k
 }
 
 /* block_cipher, src/lib.rt:22: The cipher of a block. */
-static field_block_Block block_cipher_encrypt(char *tables, char *keys, field_block_Block s)
+static field_block_Block block_cipher_encrypt(char *tables, char *keys, uint64_t s_low, uint64_t s_high)
 {
-    field_block_Block result;
+    field_block_Block result, s;
     uint8_4_4 a0, a1, a2, a3, a4, a5, a6, a7, a8, a9, a10;
+    s = (field_block_Block){s_low, s_high};
     a0 = block_cipher_round_first_key(s, keys);
     a1 = block_cipher_round_full_round(tables, a0, keys, 2ull);
     a2 = block_cipher_round_full_round(tables, a1, keys, 6ull);
@@ -2545,7 +2548,7 @@ INLINE code_row_Term code_row_row_term(char *tables, char *keys, code_Shape shap
     t7 = x;
     t8 = i;
     t9 = (field_block_Block){t7, t8};
-    block = block_cipher_encrypt(tables, keys, t9);
+    block = block_cipher_encrypt(tables, keys, t9.low, t9.high);
     t10 = code_row_place_of(shape, i, block.low);
     result = (code_row_Term){t10, block.high};
     return result;
@@ -3908,7 +3911,7 @@ INLINE block_cipher_TwoBlocks tree_walk_node_children(char *tables, char *keys, 
     t12 = keys;
     t13 = t12 + t11;
     t14 = t13;
-    both = block_cipher_encrypt_two(tables, t9, t14, s, s);
+    both = block_cipher_encrypt_two(tables, t9, t14, s.low, s.high, s.low, s.high);
     t15 = field_block_Block_add(both.one, s);
     t16 = field_block_Block_add(both.other, s);
     result = (block_cipher_TwoBlocks){t15, t16};
@@ -4163,7 +4166,7 @@ INLINE field_block_Block tree_walk_node_child(char *tables, char *keys, uint64_t
     t7 = keys;
     t8 = t7 + t6;
     t9 = t8;
-    e = block_cipher_encrypt(tables, t9, s);
+    e = block_cipher_encrypt(tables, t9, s.low, s.high);
     result = field_block_Block_add(e, s);
     return result;
 }
@@ -4206,7 +4209,7 @@ INLINE block_cipher_TwoBlocks tree_walk_node_child_of_both(char *tables, char *k
     t12 = keys;
     t13 = t12 + t11;
     t14 = t13;
-    both = block_cipher_encrypt_two(tables, t10, t14, a, b);
+    both = block_cipher_encrypt_two(tables, t10, t14, a.low, a.high, b.low, b.high);
     t15 = field_block_Block_add(both.one, a);
     t16 = field_block_Block_add(both.other, b);
     result = (block_cipher_TwoBlocks){t15, t16};
@@ -4781,7 +4784,7 @@ INLINE void leaf_sums_sums_add_pair(char *tables, char *keys, uint64_t field, ui
     t15 = keys;
     t16 = t15 + t14;
     t17 = t16;
-    ciphers = block_cipher_encrypt_two(tables, t12, t17, s, s);
+    ciphers = block_cipher_encrypt_two(tables, t12, t17, s.low, s.high, s.low, s.high);
     t18 = field_block_Block_add(ciphers.one, s);
     t19 = field_block_Block_add(ciphers.other, s);
     both = (block_cipher_TwoBlocks){t18, t19};
@@ -4817,12 +4820,15 @@ INLINE void leaf_sums_sums_add_four(char *tables, char *keys, uint64_t field, ui
 }
 
 /* leaf_sums, src/sums.rt:137: The same of two, four or eight children. */
-static void leaf_sums_sums_add_bottom(char *tables, char *keys, uint64_t field, uint64_t bits, uint64_t c, field_block_Block s, slice acc)
+static void leaf_sums_sums_add_bottom(char *tables, char *keys, uint64_t field, uint64_t bits, uint64_t c, uint64_t s_low, uint64_t s_high,
+    slice acc)
 {
+    field_block_Block s;
     uint64_t mid, t17, t23;
     bool t9, t13;
     char *t11, *t15, *t19, *t22, *t24;
     slice t12, t16, t20, t25;
+    s = (field_block_Block){s_low, s_high};
     t9 = bits == 1ull;
     if (t9) {
         t11 = acc.at;
@@ -5008,7 +5014,7 @@ static void fill_fill_add_range(char *tables, char *keys, uint64_t field, leaf_s
         if (t21) {
             t23 = acc.at;
             t24 = (slice){t23, acc.count};
-            leaf_sums_sums_add_bottom(tables, keys, field, bits, from, s, t24);
+            leaf_sums_sums_add_bottom(tables, keys, field, bits, from, s.low, s.high, t24);
         } else {
             t25 = bits == 1ull;
             if (t25) {
@@ -6322,14 +6328,17 @@ INLINE block_cipher_TwoBlocks bench_leaves_walk_walk_two(char *tables, char *key
 }
 
 /* bench_leaves, src/values.rt:61: The sum of the elements of leaf j below two blocks. */
-static field_element_Element bench_leaves_values_two_walked(char *tables, char *keys, slice source, record_Layout layout,
-    tree_walk_down_Start a, tree_walk_down_Start b, uint64_t j)
+static field_element_Element bench_leaves_values_two_walked(char *tables, char *keys, slice source, record_Layout layout, uint64_t a_at,
+    uint64_t a_left, uint64_t b_at, uint64_t b_left, uint64_t j)
 {
     field_element_Element result, t12, t14;
+    tree_walk_down_Start a, b;
     bench_leaves_walk_Levels levels;
     field_block_Block one, other;
     block_cipher_TwoBlocks leaves;
     uint8_4_4 t13, t15;
+    a = (tree_walk_down_Start){a_at, a_left};
+    b = (tree_walk_down_Start){b_at, b_left};
     levels = (bench_leaves_walk_Levels){layout.branch_bits, a.left, b.left};
     one = tree_walk_columns_node_at(source, a.at);
     other = tree_walk_columns_node_at(source, b.at);
@@ -6363,7 +6372,7 @@ INLINE field_element_Element bench_leaves_values_two_leaves(char *tables, char *
     a_2 = bench_leaves_trees_start_at(source, table, vector.number, layout, i, j);
     t15 = i + 1ull;
     b_2 = bench_leaves_trees_start_at(source, table, vector.number, layout, t15, j);
-    result = bench_leaves_values_two_walked(tables, keys, source, layout, a_2, b_2, j);
+    result = bench_leaves_values_two_walked(tables, keys, source, layout, a_2.at, a_2.left, b_2.at, b_2.left, j);
     return result;
 }
 
@@ -8454,7 +8463,7 @@ INLINE void pad_calls_write_start_two(char *tables, char *keys, field_block_Bloc
     char *t9, *t11;
     slice t10, t12;
     uint64_t t13;
-    s = block_cipher_encrypt_two(tables, keys, keys, a, b);
+    s = block_cipher_encrypt_two(tables, keys, keys, a.low, a.high, b.low, b.high);
     t9 = pads.at;
     t10 = (slice){t9, pads.count};
     pads_bytes_put_block(t10, at, s.one);
@@ -8502,7 +8511,7 @@ INLINE block_cipher_TwoBlocks pad_calls_rule_second_steps(char *tables, char *ke
     t10 = y;
     t11 = (field_block_Block){t10, 0ull};
     q = field_block_Block_add(t, t11);
-    e = block_cipher_encrypt_two(tables, keys, keys, p, q);
+    e = block_cipher_encrypt_two(tables, keys, keys, p.low, p.high, q.low, q.high);
     t11 = field_block_Block_add(e.one, s);
     t12 = field_block_Block_add(e.other, t);
     result = (block_cipher_TwoBlocks){t11, t12};
@@ -8576,7 +8585,7 @@ INLINE field_block_Block pad_calls_rule_one_pad(char *tables, char *keys, uint64
 {
     field_block_Block result, s;
     block_cipher_TwoBlocks p;
-    s = block_cipher_encrypt(tables, keys, a);
+    s = block_cipher_encrypt(tables, keys, a.low, a.high);
     p = pad_calls_rule_second_steps(tables, keys, x, x, s, s);
     result = p.one;
     return result;

@@ -2496,7 +2496,8 @@ static void create_at_once(size_t count)
            PROCESSES, in_use);
 }
 
-/* Processes that remove the lock, open the stock, draw and close it, all at once: each index goes to one of them. */
+/* Processes that remove the lock, open the stock, draw and close it, all at once: each index goes to one of them. A process goes on until it
+   has opened the stock a quarter of count times, however often it is refused: that hangs on how the system shares out its time. */
 static void races(size_t count)
 {
     enum { PROCESSES = 4 };
@@ -2520,11 +2521,12 @@ static void races(size_t count)
         if ((ids[process] = fork()) == 0) {
             char name[128];
             seed = process + 1;
-            for (size_t turn = 0; turn < count; turn++) {
+            for (size_t times = 0; times < (count + 3) / 4;) {
                 struct companion_status opened;
                 snprintf(name, sizeof name, "%s%s", path, draw(2) == 0 ? "" : ".link");
                 remove(lock);
                 opened = companion_open_stock(name, companion_label(1), &stock);
+                times += opened.number == 0;
                 handed.label = opened.number;
                 handed.count = 0;
                 for (size_t k = opened.number == 0 ? 1 + draw(3) : 0; k > 0; k--) {
@@ -2554,9 +2556,9 @@ static void races(size_t count)
         CHECK(waitpid(ids[process], &status, 0) == ids[process] && status == 0, "a process failed: %d", status);
     __real_close(fds[0]);
     remove_folder();
-    CHECK(given > count && refused > 0, "%zu indices, %zu refused", given, refused);
+    CHECK(given >= count, "%zu indices, %zu refused", given, refused);
     printf("races: %d processes remove the lock, open and draw at once, %zu times each: %zu indices, none twice; %zu times it was in use\n",
-           PROCESSES, count, given, refused);
+           PROCESSES, (count + 3) / 4, given, refused);
 }
 
 /* ---- Texts ---- */
