@@ -15,7 +15,7 @@
  * in rounds, each of all ANDs that are ready. A stock divides a dealing's outputs among callers, so
  * that no index is used twice; what is left of it can pass to another dealing.
  *
- * In use, with each number looked at (tests/example.c of the source is a whole program)
+ * In use, with each number looked at (examples/calls/expansion.c of the source is a whole program)
  *   dealt = expander_deal(EXPANDER_BINARY, d, g, t, l, n, roots, 16 * t, positions, t, values, t,
  *       scalar, 16, code_key, 16, label, 16, nr, sizeof nr, sr, sizeof sr);
  *   head = expander_describe(nr, dealt.first_written);          the noise end, which has nr alone
@@ -125,11 +125,14 @@
  *              of that root with another position, and with the correction it gives Delta times the
  *              noise value.
  *              Delta in two pairings: who learns it in one has it in the other. The two dealings of
- *              AND triples have a Delta each.
+ *              AND triples have a Delta each. One exception: the layers of one source, dealt together
+ *              by one dealer, of which each end holds all. Their roots and labels are used once, as
+ *              those of any dealing; a layer that is added twice cancels in field 1.
  *              A pad: the exclusive or of two messages masked by one pad is that of the messages.
  *              An index of a dealing: it stands for one output, one choice, one pad and one triple.
  *              A stock hands each index out once, if every call gets the stock that the call before
- *              returned and no two dealings have the same label.
+ *              returned and no two dealings have the same label. A stock of layers has the highest of
+ *              their labels, and passes to layers whose lowest is above it.
  *              A triple: the bits sent for two ANDs under one triple give the exclusive or of the
  *              shares of both ANDs' wires. It serves one AND of one run, and not that run made
  *              again: on other far bits, what is sent for a later AND can differ by a bit of the
@@ -139,8 +142,8 @@
  *   Sizes      None is recommended; the limits say what the calls admit. In field 1 whoever knows
  *              the code key finds two outputs whose u are equal a little more often than not: with
  *              one key the excess was 2^-26 (n = 32768) to 2^-55 (n = 64, d = 10) at t = 64 and
- *              l = 32, the largest. Smaller t and l are worse by far. docs/SIZES.md says what known
- *              attacks cost and what the papers say.
+ *              l = 32, the largest. Smaller t and l are worse by far; over layers excesses multiply.
+ *              docs/SIZES.md says what known attacks cost and what the papers say.
  *   Wiping     Nothing is wiped: no call clears a buffer, or the stack that it used.
  */
 #ifndef EXPANDER_H
@@ -157,15 +160,16 @@ extern "C" {
  * rises, 10000 major + 100 minor + patch.
  *
  * Structs cross by value, so their members are part of the binary interface, as the parameters are.
- * Within a major version no struct, parameter, number or name changes, no call goes, and a call
- * answers and writes what it did; records and circuits stay readable. A minor version adds calls,
+ * Within a major version no struct, parameter, number or name changes (of a parameter its place and
+ * type count, and not what this header calls it), no call goes, and a call answers and writes what
+ * it did; records and circuits stay readable. A minor version adds calls,
  * with structs and names of their own; a patch adds nothing. So what was built with this header
  * links with any library of its major version that is not older. Across major versions build again:
  * a struct may have grown, and the linker of an archive does not notice. The shared object's name has
  * the major version, libexpander.so.2, and expander_version gives the number of the library that is
  * linked or loaded (from 2.1.0 on). CHANGELOG.md says what each version changed. */
-#define EXPANDER_VERSION "2.1.0"
-#define EXPANDER_VERSION_NUMBER 20100
+#define EXPANDER_VERSION "2.2.0"
+#define EXPANDER_VERSION_NUMBER 20200
 
 /* Fields. */
 #define EXPANDER_BINARY 1
@@ -482,6 +486,23 @@ struct expander_two_lengths expander_scalar_offline(
     uint64_t *w, size_t w_len,
     uint64_t *delta, size_t delta_len);
 
+/** Add one accumulated vector to another, word for word: by exclusive or in field 1, modulo p in
+ *  field 2. The layers of one source are added up with it: at the noise end all noise vectors and all
+ *  v, at the scalar end all w, in any order. Delta is not added: every layer has the same.
+ *
+ *  Returns:  a number, and the words written to into (into_len).
+ *             0 ACCEPTED
+ *             1 BAD_FIELD: field is not 1 or 2
+ *             3 BAD_LENGTH: from_len is not into_len
+ *             8 NOT_ELEMENT: a word of from or of into is p or more (field 2)
+ *  In:       field: 1 binary, 2 prime
+ *            from:  the words to add, any in field 1, below p in field 2
+ *  Out:      into:  the words to which they are added, as from, and on return the sums; it is read
+ *                   too, and must not overlap from; into_len = from_len
+ */
+struct expander_one_length expander_add(
+    uint8_t field, const uint64_t *from, size_t from_len, uint64_t *into, size_t into_len);
+
 /** Give the noise end's outputs u and v in a window.
  *
  *  Returns:  a number, and the words written to u_out (count) and to v_out (W count).
@@ -690,21 +711,21 @@ struct expander_one_length expander_unmask_messages(
  *
  *  Returns:  a number, and the bytes written to triples_out (3 c, where c is choices_len).
  *             0 ACCEPTED
- *             3 BAD_LENGTH: pads_len is not 16 c, or messages_len is not 32 c
+ *             3 BAD_LENGTH: pads_len is not 16 c, or pad_pairs_len is not 32 c
  *            13 BUFFER_SHORT: triples_out_len is below 3 c
  *             8 NOT_ELEMENT: a choice is above 1
  *  In:       choices:     u at each output of the first dealing, as one byte 0 or 1; any number of
  *                         them, 0 too
  *            pads:        the pads of those outputs as expander_noise_pads wrote them, 16 bytes an
  *                         output; pads_len = 16 c
- *            messages:    the pads of as many outputs of the second dealing as expander_scalar_pads
- *                         wrote them, 32 bytes an output; messages_len = 32 c
+ *            pad_pairs:   the pads of as many outputs of the second dealing as expander_scalar_pads
+ *                         wrote them, 32 bytes an output; pad_pairs_len = 32 c
  *  Out:      triples_out: three bytes an output, each 0 or 1
  */
 struct expander_one_length expander_triples(
     const uint8_t *choices, size_t choices_len,
     const uint8_t *pads, size_t pads_len,
-    const uint8_t *messages, size_t messages_len,
+    const uint8_t *pad_pairs, size_t pad_pairs_len,
     uint8_t *triples_out, size_t triples_out_len);
 
 /** Run one end's shares of a circuit up to the next AND, or to the end. What a wire carries is the

@@ -1,5 +1,5 @@
 """Reads what a promise is made of: the definitions of crates/*/specs, the structs and enums of the code that they speak of, and the
-contracts of functions. Used by tools/book, tools/evidence and tests/promises.py. It reads Rattle and antt by their layout: a definition
+contracts of functions. Used by tools/book, tools/evidence and tests/scripts/promises.py. It reads Rattle and antt by their layout: a definition
 begins at a line that is not indented and declares a name, its comment stands right above it, and its clauses follow.
 """
 import os

@@ -8,6 +8,10 @@
  *                                     many places a trial with them keeps
  *   sizes bias   SIZES T SAMPLES      the lightest pair's weight, the mean of (-1)^(u_x + u_x') over
  *                                     dealings, and in how many of them the library's calls were asked
+ *   sizes layers SIZES FIELD T T' SAMPLES
+ *                                     a word's weight, the lightest pair's or in field 2 the lightest row's,
+ *                                     and its excess in each of two layers and in their sum, over sources
+ *                                     that the library deals, expands and adds up
  *   sizes least  L OUTPUTS TRIALS     for the codes of a source: the mean of the least weight of a row
  *
  * SIZES stands for D L OUTPUTS KEY.
@@ -40,7 +44,7 @@ LIMIT(an_offset_has_sixteen_bits, LEAVES - 1 <= 0xffff);
 #define SAY_AS_IT_IS(number) #number
 #define SAY(limit) SAY_AS_IT_IS(limit)
 
-static unsigned depth, terms, outputs, leaves, strip;
+static unsigned field = EXPANDER_BINARY, depth, terms, outputs, leaves, strip;
 static uint8_t code_key[16], zeros[16];
 static uint16_t offset[TERMS][OUTPUTS + LANES]; /* of each term's place from its strip's start */
 static uint8_t noise_record[EXPANDER_NOISE_RECORD_MAX], scalar_record[EXPANDER_SCALAR_RECORD_MAX];
@@ -87,10 +91,10 @@ static void deal(size_t trees, const uint32_t *positions)
     for (size_t k = 0; k < trees; k++) {
         uint64_t word = draw();
         memcpy(roots + 16 * k, &word, sizeof word);
-        values[k] = 1;
+        values[k] = field == EXPANDER_BINARY ? 1 : 1 + draw() % (EXPANDER_MODULUS - 1);
     }
     struct expander_two_lengths r = expander_deal(
-        EXPANDER_BINARY, depth, 1, trees, terms, outputs, roots, 16 * trees, positions, trees,
+        (uint8_t)field, depth, 1, trees, terms, outputs, roots, 16 * trees, positions, trees,
         values, trees, delta, 16, code_key, 16, zeros, 16, noise_record, sizeof noise_record,
         scalar_record, sizeof scalar_record);
     accepted(r.number);
@@ -269,6 +273,70 @@ static void print_bias(unsigned trees, unsigned long samples)
     printf("%u %.9f %d\n", p.weight, (double)sum / (double)samples, ASKED);
 }
 
+/* ---- Layers ---- */
+
+static uint64_t layer_noise[2][LEAVES], layer_v[2][2 * LEAVES]; /* of each layer; the second becomes their sum */
+
+/* A layer with places drawn at random, dealt and expanded by the library. */
+static void expand_layer(unsigned trees, uint64_t *noise, uint64_t *v, size_t v_len)
+{
+    static uint32_t met[LEAVES], layer; /* the last layer in which a place was drawn */
+    uint32_t positions[EXPANDER_TREES_MAX];
+    layer++;
+    for (unsigned k = 0; k < trees;) {
+        uint32_t place = draw_below(leaves);
+        if (met[place] != layer)
+            positions[k++] = place;
+        met[place] = layer;
+    }
+    qsort(positions, trees, sizeof *positions, rising);
+    deal(trees, positions);
+    accepted(expander_noise_offline(noise_record, noise_len, noise, leaves, v, v_len).number);
+}
+
+/* What the excess is the mean of: in field 1 -1 to u_x + u_y, in field 2 whether u_x is 0. */
+static int seen(unsigned x, unsigned y, const uint64_t *noise, const uint64_t *v, size_t v_len)
+{
+    uint64_t u[2] = {0, 0}, v_out[2];
+    for (unsigned k = 0; k < (field == EXPANDER_BINARY ? 2u : 1u); k++)
+        accepted(expander_noise_online(noise_record, noise_len, noise, leaves, v, v_len, k == 0 ? x : y, 1,
+                                       u + k, 1, v_out, 2).number);
+    return field == EXPANDER_BINARY ? (u[0] == u[1] ? 1 : -1) : u[0] == 0;
+}
+
+/* In field 2 a row's word is not 0 from place 0 to its highest place, which is its last term's. */
+static struct pair lightest_prime_row(void)
+{
+    struct pair best = {0, 0, UINT32_MAX};
+    for (unsigned x = 0; x < outputs; x++) {
+        unsigned weight = (terms - 1) * strip + offset[terms - 1][x] + 1;
+        if (weight < best.weight)
+            best = (struct pair){x, x, weight};
+    }
+    return best;
+}
+
+static void print_layers(unsigned of_field, const unsigned *trees, unsigned long samples)
+{
+    struct pair p = of_field == EXPANDER_BINARY ? lightest_pair() : lightest_prime_row();
+    size_t v_len = (size_t)leaves * (unsigned)EXPANDER_ELEMENT_WORDS(of_field);
+    long long sum[3] = {0, 0, 0};
+    field = of_field;
+    for (unsigned long s = 0; s < samples; s++) {
+        for (unsigned k = 0; k < 2; k++) {
+            expand_layer(trees[k], layer_noise[k], layer_v[k], v_len);
+            sum[k] += seen(p.x, p.y, layer_noise[k], layer_v[k], v_len);
+        }
+        accepted(expander_add((uint8_t)field, layer_noise[0], leaves, layer_noise[1], leaves).number);
+        accepted(expander_add((uint8_t)field, layer_v[0], v_len, layer_v[1], v_len).number);
+        sum[2] += seen(p.x, p.y, layer_noise[1], layer_v[1], v_len);
+    }
+    printf("%u", p.weight);
+    for (unsigned k = 0; k < 3; k++)
+        printf(" %.9f", (double)sum[k] / (double)samples);
+    putchar('\n');
+}
+
 /* ---- Rows that lie close together ---- */
 
 static unsigned chosen[OUTPUTS]; /* rows, the closest to the centre first */
@@ -309,7 +377,7 @@ static int falling(const void *a, const void *b)
  * highest place columns are zero: noise there is in no equation. In field 1 a column between the
  * last place of a strip and the first of the next has the same entry in every row, 0 or 1: all of
  * them together are one unknown. */
-static unsigned kept_places(unsigned rows, unsigned unknowns, unsigned field)
+static unsigned kept_places(unsigned rows, unsigned unknowns, unsigned of_field)
 {
     static uint8_t begins[LEAVES + 1]; /* whether a run begins at a column */
     static uint32_t run[LEAVES + 1];
@@ -322,14 +390,14 @@ static unsigned kept_places(unsigned rows, unsigned unknowns, unsigned field)
         if (j < leaves && !begins[j])
             continue;
         unsigned strip_here = begins[j] ? (j - 1) / strip : terms;
-        if (strip_here == terms || (field == EXPANDER_BINARY && strip_here != strip_before))
+        if (strip_here == terms || (of_field == EXPANDER_BINARY && strip_here != strip_before))
             kept += j - start;
         else
             run[runs++] = j - start;
         strip_before = strip_here;
         start = j;
     }
-    if (field == EXPANDER_BINARY)
+    if (of_field == EXPANDER_BINARY)
         unknowns--;
     qsort(run, runs, sizeof *run, falling);
     for (unsigned k = 0; k < runs && k < unknowns; k++)
@@ -339,7 +407,7 @@ static unsigned kept_places(unsigned rows, unsigned unknowns, unsigned field)
 
 /* Tries centres: a row drawn, then the mean of the rows that kept most, a few times. A trial has as
  * many unknowns as rows, less the checks. */
-static void print_merged(unsigned field, unsigned rows_min, unsigned checks)
+static void print_merged(unsigned of_field, unsigned rows_min, unsigned checks)
 {
     enum { TRIES = 24, STEPS = 4, ROWS_MAX = 1024 };
     static const unsigned powers[] = {2, 4, 6};
@@ -353,7 +421,7 @@ static void print_merged(unsigned field, unsigned rows_min, unsigned checks)
             unsigned most = 0, most_rows = 1;
             order_by(centre, powers[k % 3]);
             for (unsigned rows = rows_min; rows <= outputs && rows <= ROWS_MAX; rows += 1 + rows / 12) {
-                unsigned kept = kept_places(rows, rows - checks, field);
+                unsigned kept = kept_places(rows, rows - checks, of_field);
                 if (kept > most) {
                     most = kept;
                     most_rows = rows;
@@ -432,6 +500,14 @@ static void read_sizes(char **argv)
     ask_rows();
 }
 
+static unsigned read_trees(const char *text)
+{
+    unsigned long trees = number(text);
+    if (trees < 1 || trees > EXPANDER_TREES_MAX || trees > leaves)
+        stop("t is 1 to " SAY(EXPANDER_TREES_MAX) ", and at most N");
+    return (unsigned)trees;
+}
+
 int main(int argc, char **argv)
 {
     const char *what = argc > 1 ? argv[1] : "";
@@ -455,10 +531,12 @@ int main(int argc, char **argv)
             stop("ROWS is above CHECKS, and at most n");
         print_merged((unsigned)number(argv[6]), (unsigned)rows, (unsigned)checks);
     } else if (strcmp(what, "bias") == 0 && argc == 8) {
-        unsigned long trees = number(argv[6]);
-        if (trees < 1 || trees > EXPANDER_TREES_MAX || trees > leaves)
-            stop("t is 1 to " SAY(EXPANDER_TREES_MAX) ", and at most N");
-        print_bias((unsigned)trees, number(argv[7]));
+        print_bias(read_trees(argv[6]), number(argv[7]));
+    } else if (strcmp(what, "layers") == 0 && argc == 10) {
+        unsigned trees[2];
+        trees[0] = read_trees(argv[7]);
+        trees[1] = read_trees(argv[8]);
+        print_layers((unsigned)number(argv[6]), trees, number(argv[9]));
     } else {
         stop("no such measure");
     }

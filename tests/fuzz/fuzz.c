@@ -13,6 +13,7 @@
 #include "plain_amounts.h"
 #include "plain_circuit.h"
 #include "plain_direct.h"
+#include "plain_layers.h"
 #include "plain_messages.h"
 #include "plain_round.h"
 #include "plain_stock.h"
@@ -611,6 +612,35 @@ static void scalar_online(void)
            r.number, 2, 1, 8 * r.first, 0);
 }
 
+/* ---- Layers ---- */
+
+/* Two vectors of elements but for a few words at most. */
+static void add(void)
+{
+    uint8_t field = (uint8_t)(1 + byte() % 2);
+    size_t into_len = byte() % 8 == 1 ? below(LEAVES + 1) : byte(), from_len = length(into_len);
+    struct expander_one_length r;
+    spun(noise, sizeof noise);
+    spun(vector, sizeof vector);
+    for (size_t k = 0; field == 2 && k < sizeof noise / sizeof *noise; k++) {
+        noise[k] %= EXPANDER_MODULUS;
+        vector[k] %= EXPANDER_MODULUS;
+    }
+    for (int changes = byte() % 4; changes > 0; changes--) {
+        uint64_t *changed = byte() % 2 ? noise : vector;
+        size_t at = below(into_len + 1);
+        changed[at] = element();
+    }
+    if (byte() % 16 == 1)
+        field = byte();
+    lend(0, noise, from_len, 8);
+    lend(1, vector, into_len, 8);
+    r = plain_add_vector(field, PLAIN(0, uint64_t), from_len, PLAIN(1, uint64_t), into_len);
+    settle(same_length(expander_add(field, LIBRARY(0, uint64_t), from_len, LIBRARY(1, uint64_t),
+                                    into_len), r),
+           r.number, 1, 1, 8 * r.written, 0);
+}
+
 /* ---- The expansion for the bench ---- */
 
 /* A record, as make_source makes it, every other one with outputs for several batches of 32. */
@@ -1136,6 +1166,7 @@ static const struct job {
             {"describe", describe},
             {"noise_offline", noise_offline},
             {"scalar_offline", scalar_offline},
+            {"add", add},
             {"noise_online", noise_online},
             {"scalar_online", scalar_online},
             {"noise_direct", noise_direct},

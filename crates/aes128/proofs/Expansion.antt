@@ -8,7 +8,7 @@ use borrow.Author.Tests.{ne-eqb}
 use lib.Dec.{lit<}
 use lib.ListN.{length, getD, length-append, List·getD-append}
 use lib.Seq.{getD-at}
-use Rattle.sbox.specs.Byte.{xtime}
+use Rattle.aes_sbox.specs.Byte.{xtime}
 use Rattle.aes128.specs.State.{xorWord}
 use Rattle.aes128.specs.Cipher.{rotWord, subWord, power, temp, nextWord, scheduleWords, keyOf, keysOf, keyExpansion}
 use Rattle.aes128.specs.Inner.Steps.{nextKey}

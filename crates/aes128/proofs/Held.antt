@@ -10,7 +10,7 @@ use lib.Dec.{eqb, lit<}
 use lib.ListN.{length, getD, set, length-set}
 use lib.Seq.{getD-set-same, getD-set-other, ext-getD}
 use Rattle.field.specs.Bytes.{columnsOf}
-use Rattle.sbox.specs.Inner.Wide.{wideRows}
+use Rattle.aes_sbox.specs.Inner.Wide.{wideRows}
 use Rattle.aes128.specs.Inner.Words.{wideKey, blockKey, roundKeys}
 use Rattle.aes128.proofs.Words.{four-eq}
 

@@ -5,9 +5,9 @@ use Prim.Native.Nat.{ℕ, _+_, _*_, _/_, _%_, _^_, _<_}
 use native.Mathlib.Omega.{arith}
 use lib.Bits.{bitXor, xor-comm, xor-shifted, xor-shr, xor-zero-r}
 use Rattle.field.specs.Bytes.{leBytes, columnsOf}
-use Rattle.sbox.specs.Byte.{sBox}
-use Rattle.sbox.specs.Inner.Tables.{RoundTables}
-use Rattle.sbox.proofs.Bounds.{sbox-lt}
+use Rattle.aes_sbox.specs.Byte.{sBox}
+use Rattle.aes_sbox.specs.Inner.Tables.{RoundTables}
+use Rattle.aes_sbox.proofs.Bounds.{sbox-lt}
 use Rattle.aes128.specs.State.{xorWord, xorState}
 use Rattle.aes128.specs.Inner.Steps.{IsEntry}
 use Rattle.aes128.specs.Inner.Blocks.{IsHalf, LastWord}

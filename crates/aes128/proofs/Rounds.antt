@@ -7,7 +7,7 @@ use lib.ListN.{getD}
 use Rattle.field.specs.Binary.{blockOf}
 use Rattle.field.specs.Bytes.{columnsOf}
 use Rattle.field.specs.declared.block.Block.{Block}
-use Rattle.sbox.specs.Inner.Wide.{wideRows}
+use Rattle.aes_sbox.specs.Inner.Wide.{wideRows}
 use Rattle.aes128.specs.State.{xorWord, xorState}
 use Rattle.aes128.specs.Cipher.{subBytes, shiftRows, addRoundKey, rounds, cipher}
 use Rattle.aes128.specs.Inner.Words.{wideKey, blockKey, roundKeys}

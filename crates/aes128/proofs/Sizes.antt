@@ -13,8 +13,8 @@ use borrow.Author.Tests.{ltb-true, ltb-false}
 use lib.Seq.{getD-at}
 use Rattle.field.specs.Bytes.{leBytes, columnsOf}
 use Rattle.field.specs.declared.block.Block.{Block}
-use Rattle.sbox.specs.Byte.{sBox}
-use Rattle.sbox.proofs.Bounds.{xtime-lt, sbox-lt}
+use Rattle.aes_sbox.specs.Byte.{sBox}
+use Rattle.aes_sbox.proofs.Bounds.{xtime-lt, sbox-lt}
 use Rattle.aes128.specs.State.{column, xorWord, xorState}
 use Rattle.aes128.specs.Inner.Words.{roundKeys}
 use Rattle.aes128.specs.Inner.Blocks.{cipherOf}

@@ -7,10 +7,10 @@ use native.Mathlib.Omega.{arith}
 use lib.Bits.{bitXor, xor-shr, xor-mod, xor-comm}
 use lib.ListN.{length}
 use Rattle.field.proofs.Xor.{xor-assoc}
-use Rattle.sbox.specs.Byte.{sBox}
-use Rattle.sbox.specs.Inner.Wide.{wideRows}
-use Rattle.sbox.specs.Inner.Tables.{RoundTables, mixed0, mixed1, mixed2, mixed3}
-use Rattle.sbox.proofs.Columns.{rows-of-column}
+use Rattle.aes_sbox.specs.Byte.{sBox}
+use Rattle.aes_sbox.specs.Inner.Wide.{wideRows}
+use Rattle.aes_sbox.specs.Inner.Tables.{RoundTables, mixed0, mixed1, mixed2, mixed3}
+use Rattle.aes_sbox.proofs.Columns.{rows-of-column}
 use Rattle.aes128.specs.State.{column, xorWord}
 use Rattle.aes128.specs.Cipher.{mixColumn}
 use Rattle.aes128.specs.Inner.Words.{wideKey}

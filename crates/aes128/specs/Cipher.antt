@@ -5,7 +5,7 @@ use lib.Bits.{bitXor}
 use lib.Dec.{eqb}
 use lib.ListN.{getD}
 use Rattle.algebra.specs.Choice.{choose}
-use Rattle.sbox.specs.Byte.{xtime, mulBytes, sBox}
+use Rattle.aes_sbox.specs.Byte.{xtime, mulBytes, sBox}
 use Rattle.aes128.specs.State.{four, column, byteAt, xorWord, xorState}
 
 -- FIPS 197, 5.1.1: SubBytes

@@ -91,7 +91,7 @@ module _ {A : Type 0} (C : Coding A) (L : CodingLaws C) where
   pub drop-over : (n : ℕ) (f : ℕ → A) (b : List ℕ) → drop (n * C .width) (over C n f b) ≡ drop (n * C .width) b
   drop-over = front-drop C (L .length-words)
 
-  -- the same for any place past the values
+  -- from any place past the values on a buffer is as it was
   pub drop-over-add : (n : ℕ) (f : ℕ → A) (b : List ℕ) (k : ℕ) → drop (n * C .width + k) (over C n f b) ≡ drop (n * C .width + k) b
   drop-over-add = front-past C (L .length-words)
 

@@ -156,7 +156,7 @@ module _ (R : Ring) (S : Scaled R) (RL : RingLaws R) (L : ScaledLaws R S) (D : D
         (accumulate-correlated R S RL L (D .delta) N u v w
         (λ j h. noise-element R RL (D .trees) (D .position) (D .value) (D .value-element) j) (λ j h. dealt-correlated j))
 
-    -- the same with u the code matrix times the noise
+    -- a row is correlated with u as the code matrix times the noise
     pub matrix-correlated :
         Correlated S (D .delta) (rowTimes (itself R) N (entry row) (dealtNoise D))
         (output S row (accumulate (S .group) (dealtPunctured D)))

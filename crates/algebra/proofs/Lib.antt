@@ -13,5 +13,7 @@ pub mod Loop
 pub mod Tests
 pub mod Every
 pub mod Same
+pub mod Linear
+pub mod Orders
 pub mod Inverse
 pub mod Common

@@ -3,6 +3,7 @@ pub mod Choice
 pub mod Every
 pub mod Group
 pub mod Sum
+pub mod Order
 pub mod Row
 pub mod Coding
 pub mod Words

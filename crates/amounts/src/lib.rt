@@ -1,6 +1,7 @@
 // Signed amounts: an element of field 2 read as a signed 64-bit number, and written back.
 ghost use mathlib.Core.Path.{_≡_};
 ghost use Rattle.amounts.specs.Calls.{readAmount, writeAmount};
+use answer::ACCEPTED;
 use answer::AMOUNT_OUT_OF_RANGE;
 use answer::NOT_ELEMENT;
 use prime::FromSigned;
@@ -26,7 +27,10 @@ pub fn read_amount(element: u64) -> Amount
 {
     if element < Prime::MODULUS {
         let amount = Prime { word: element }.to_signed();
-        Amount { number: 0, amount }
+        Amount {
+            number: ACCEPTED,
+            amount,
+        }
     } else {
         Amount {
             number: NOT_ELEMENT,
@@ -47,7 +51,7 @@ pub fn write_amount(amount: i64) -> WrittenAmount
         };
     };
     WrittenAmount {
-        number: 0,
+        number: ACCEPTED,
         element: element.word,
     }
 }

@@ -7,7 +7,8 @@ use Prim.Native.Nat.{ℕ, zero, suc}
 use lib.Dec.{eqb, eqb·suc-zero}
 use borrow.Author.Tests.{ne-eqb}
 use Rattle.answer.specs.Tests.{Test, firstFault, AllMet}
-use Rattle.answer.specs.Outcome.{byNumber, answered, Outcome, TwoWritten, refusedNone, refusedOne, refusedTwo, wrote}
+use Rattle.answer.specs.declared.TwoLengths.{TwoLengths}
+use Rattle.answer.specs.Outcome.{byNumber, answered, Outcome, TwoWritten, outcomeTwo, refusedNone, refusedOne, refusedTwo, wrote}
 use Rattle.answer.specs.Inner.Numbered.{numbered}
 use Rattle.answer.proofs.Faults.{all-met, admitted-by, no-fault}
 
@@ -122,7 +123,7 @@ answered-cases {O} {C} tests refusal acceptance r met not-met = cases (firstFaul
     cases zero e = met (admitted-by tests 0 r e refl) (sym (accepted-now tests refusal acceptance acceptance e refl))
     cases (suc n) e = not-met n (sym (refused-with tests refusal acceptance (refusal (suc n)) (suc n) e (eqb·suc-zero n) refl))
 
--- the same of a number and lengths
+-- which calls are accepted, where the answer is a number and lengths
 module _ {Written Lent : Type 0} (zeros written : Written) (lent after : Lent) (tests : List Test) where
   abbrev call : Outcome Written Lent
   call = answered tests (λ k. record { number = k; written = zeros; lent = lent }) (wrote written after)
@@ -135,3 +136,8 @@ module _ {Written Lent : Type 0} (zeros written : Written) (lent after : Lent) (
 
   pub outcome-is : call .number ≡ 0 → call ≡ wrote written after
   outcome-is = accepted-is (λ (o : Outcome Written Lent). o .number) _ _ (λ n. refl) refl tests
+
+-- what is returned with no length written
+pub answers-two : {Lent : Type 0} {lent : Lent} {x : Outcome TwoWritten Lent} {r : TwoLengths} {n : ℕ}
+    → r ≡ record { number = n; «first_written» = 0; «second_written» = 0 } → refusedTwo lent n ≡ x → outcomeTwo r lent ≡ x
+answers-two e g = rw e g

@@ -163,7 +163,7 @@ said (a or suc n ∷ tests) r e = let p = passed (isMet a) n (firstFault tests) 
 pub all-met : (tests : List Test) → numbered tests ≡ true → firstFault tests ≡ 0 → AllMet tests
 all-met tests r e = record { all = said tests r e }
 
--- the same from the number that a function gives
+-- all that is asked is so, by the number that a function gives
 pub admitted-by : (tests : List Test) (n : ℕ) → numbered tests ≡ true → n ≡ firstFault tests → n ≡ 0 → AllMet tests
 admitted-by tests n r e z = all-met tests r (sym e ∙ z)
 

@@ -33,7 +33,7 @@ pub record TwoWritten : Type 0 where
 abbrev pub outcomeNone : {Lent : Type 0} → ℕ → Lent → Outcome (Unit {0}) Lent
 outcomeNone number lent = record { number = number; written = tt; lent = lent }
 
--- the same of an answer with one length, and of one with two
+-- what an answer with one length, or with two, and all that is lent at exit, say
 abbrev pub outcomeOne : {Lent : Type 0} → OneLength → Lent → Outcome ℕ Lent
 outcomeOne r lent = record { number = r .number; written = r .written; lent = lent }
 

@@ -26,7 +26,7 @@ pub fn deal(
     let values = [1u64; 2];
     let delta = [9u8, 1, 2, 3, 4, 5, 6, 7, 0, 0, 0, 0, 0, 0, 0, 0];
     let code_key = [key; 16];
-    deal_call::deal(
+    dealing_call::deal(
         field,
         depth,
         1,
@@ -64,10 +64,10 @@ pub fn dealings() {
 fn noise_window(source: &[u8], first: usize, count: usize) -> usize {
     let mut noise = [0u64; 8];
     let mut v = [0u64; 8];
-    end_calls::noise::offline(source, &mut noise, &mut v);
+    ends_calls::noise::offline(source, &mut noise, &mut v);
     let mut u_out = [0u64; 4];
     let mut v_out = [0u64; 4];
-    let r = end_calls::noise::online(source, &noise, &v, first, count, &mut u_out, &mut v_out);
+    let r = ends_calls::noise::online(source, &noise, &v, first, count, &mut u_out, &mut v_out);
     r.number as usize
 }
 
@@ -75,9 +75,9 @@ fn noise_window(source: &[u8], first: usize, count: usize) -> usize {
 fn scalar_window(source: &[u8], first: usize, count: usize) -> usize {
     let mut w = [0u64; 8];
     let mut delta = [0u64; 2];
-    end_calls::scalar::offline(source, &mut w, &mut delta);
+    ends_calls::scalar::offline(source, &mut w, &mut delta);
     let mut w_out = [0u64; 4];
-    let r = end_calls::scalar::online(source, &w, first, count, &mut w_out);
+    let r = ends_calls::scalar::online(source, &w, first, count, &mut w_out);
     r.number as usize
 }
 
@@ -128,7 +128,7 @@ pub fn windows() {
 fn offline_number(source: &[u8]) -> usize {
     let mut noise = [0u64; 2];
     let mut v = [0u64; 4];
-    let r = end_calls::noise::offline(source, &mut noise, &mut v);
+    let r = ends_calls::noise::offline(source, &mut noise, &mut v);
     r.number as usize
 }
 
@@ -136,7 +136,7 @@ fn offline_number(source: &[u8]) -> usize {
 pub fn records() {
     let mut noise = [0u8; 96];
     let mut scalar = [0u8; 96];
-    let r = deal_call::deal(
+    let r = dealing_call::deal(
         1,
         1,
         1,

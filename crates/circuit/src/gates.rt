@@ -5,6 +5,8 @@ ghost use Rattle.number.specs.Answer.{numberRead};
 ghost use Rattle.circuit.specs.Admitted.{mostWires};
 ghost use Rattle.circuit.specs.Inner.GateNumbers.{gateKind, andOf, countedAnds, placed};
 ghost use Rattle.circuit.specs.Reading.{readWithin, readWire, readGate, readGates, readWires};
+use crate::GATE_AND;
+use crate::GATE_NOT;
 use answer::BAD_CIRCUIT;
 use number::Number;
 use number::read_number;
@@ -52,7 +54,7 @@ fn read_gate(source: &[u8], at: usize, wire: usize) -> Number
     let Number::Value(_, at2) = r1 else {
         return r1;
     };
-    if kind == 3 {
+    if kind == GATE_NOT {
         return Number::Value(kind, at2);
     }
     let r2 = read_wire(source, at2, wire);
@@ -66,7 +68,7 @@ fn read_gate(source: &[u8], at: usize, wire: usize) -> Number
 pub fn and_of(kind: usize) -> usize
     ensures { λ r. ⌜ r ≡ andOf kind ⌝ }
 {
-    if kind == 2 { 1 } else { 0 }
+    if kind == GATE_AND { 1 } else { 0 }
 }
 
 // Gates, the first at wire `inputs`; the value is the number of ANDs.

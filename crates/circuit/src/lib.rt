@@ -9,6 +9,13 @@ pub use gates::and_of;
 pub use reading::circuit_fault;
 pub use reading::read_circuit;
 
+// The kinds of gates.
+pub const GATE_XOR: usize = 1;
+
+pub const GATE_AND: usize = 2;
+
+pub const GATE_NOT: usize = 3;
+
 // The numbers of an accepted circuit: inputs, gates, outputs, ANDs, and the places of the first gate and the first output wire.
 pub struct Layout {
     pub inputs: usize,

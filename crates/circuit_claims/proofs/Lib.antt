@@ -16,7 +16,7 @@ pub mod RoundChains
 pub mod RoundTranscripts
 pub mod Transcripts
 mod Bits
-mod Counts
+pub mod Counts
 mod Gives
 mod Reaches
-mod Stages
+pub mod Stages

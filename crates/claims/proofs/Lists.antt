@@ -178,7 +178,7 @@ module _ (S : Setting) where
       ∙ flat-cong (F .elements) (kindLaws (I .field) .field .elements) (2 ^ I .depth) _ _
       (accumulate-same (F .scaled .group) (2 ^ I .depth) (scalarPartVectors.w0 (scalarPart I)) (w0 I) (λ j h. w0-dealt I A j))
 
-  -- the same in full
+  -- what each vector holds when the online calls begin, with its definition written out
   pub noise-front : noiseEnd S .start .noise ≡ flat (F .noiseValues) (2 ^ I .depth) (accumulate (F .ring .group) (mu I))
   unfolding accMu
   noise-front = noise-words

@@ -5,7 +5,7 @@ use Rattle.algebra.specs.Expansion.{rising, noise, correction}
 use Rattle.algebra.specs.Sum.{sum, accumulate}
 use Rattle.field.specs.Bytes.{leNumber, leBytes, wordAt}
 use Rattle.prime.specs.Prime.{primeAdd, primeSub, primeMul, primeReduce}
-use Rattle.sbox.specs.Byte.{xtime, multiples, mulBytes, squares, inverse, fromBits, affine, sBox}
+use Rattle.aes_sbox.specs.Byte.{xtime, multiples, mulBytes, squares, inverse, fromBits, affine, sBox}
 use Rattle.number.specs.Number.{writeNumber, lastGroup, readNumber}
 use Rattle.number.specs.Reading.{readByte}
 use Rattle.record.specs.Writing as writing

@@ -10,7 +10,7 @@ use Rattle.algebra.specs.Expansion.{noise, correction}
 use Rattle.algebra.specs.Sum.{accumulate}
 use Rattle.field.specs.Binary.{binary}
 use Rattle.prime.specs.Prime.{modulus, prime, primeMul, primeReduce, primes}
-use Rattle.sbox.specs.Byte.{sBox}
+use Rattle.aes_sbox.specs.Byte.{sBox}
 use Rattle.dealing.specs.Deal.{DealOutcome, deal}
 use Rattle.number.specs.Number.{writeNumber, readNumber}
 use Rattle.number.specs.Reading.{Parsed, Whole, Refused}

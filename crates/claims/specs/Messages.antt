@@ -11,6 +11,6 @@ MessagesOf s = (B : Batch) → BatchFits B → Taken s (B .count) (B .choices) (
 abbrev pub Messages : Type 0
 Messages = (D : Dealing) → MessagesOf (outputsOf D)
 
--- the same of every source of field 1
+-- every source of field 1 opens the messages wanted
 abbrev pub SourceMessages : Type 0
 SourceMessages = (S : Binary) → MessagesOf (S .source)

@@ -49,6 +49,6 @@ pub record TakenAt (s : Source) (choices pads padPairs : List ℕ) (k k′ : ℕ
   pub pad : padAt pads 0 k ≡ padAt (noisePads first count vs us out .lent .pads) first x
   pub both : (bit : ℕ) → bit ≤ 1 → oneOfTwoAt padPairs 0 k′ bit ≡ oneOfTwoAt (scalarPads first′ count′ ws Δ out′ .lent .pads) first′ x bit
 
--- the same for each place below a count, one place of both ends, each with an index x of its own, equal ones among them
+-- at each place below a count both ends lend pads of one index x; two places may have equal ones
 abbrev pub Taken : Source → ℕ → List ℕ → List ℕ → List ℕ → Type 0
 Taken s count choices pads padPairs = (k : ℕ) → k < count → TakenAt s choices pads padPairs k k

@@ -3,4 +3,3 @@ pub mod Laws
 pub mod Strips
 pub mod Terms
 pub mod Tested
-mod InPlace

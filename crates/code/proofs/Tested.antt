@@ -34,7 +34,7 @@ module _ (bound : ℕ) (words : List ℕ) (keys : List (List (List ℕ))) (s : S
     unfolding termsBelow
     terms-none = every-none (λ k. wordBelow bound words (placeIn keys s x k))
 
-    -- the same as a value
+    -- before the first term the value so far is true
     pub below-none : true ≡ termsBelow bound words keys s x 0
     below-none = sym terms-none
 

@@ -1,15 +1,4 @@
-// Accumulation in place, the terms of a row of the code, and the test of the words that rows use.
-mod accumulation;
-mod row;
-mod used;
-
-pub use accumulation::accumulate_elements;
-pub use accumulation::accumulate_noise;
-pub use row::Term;
-pub use row::place_of;
-pub use row::row_term;
-pub use used::still_below;
-pub use used::used_below;
+// No code: the rows of the code in definitions and laws, and the structs that its functions take.
 
 // The code's shape: its places N, the terms ℓ of a row, and the strip N / ℓ.
 pub struct Shape {

@@ -1,6 +1,6 @@
 -- The tests of a dealing's input are met exactly where document 01 admits it.
 use mathlib.Core.Path.{_≡_, refl, sym}
-use mathlib.Core.Bool.{Bool, true, _&&_, not, true≢false}
+use mathlib.Core.Bool.{Bool, true, false, _&&_, not, true≢false}
 use mathlib.Core.Logic.{_⊎_, inl, inr, ⊎-elim}
 use Prim.Native.Nat.{ℕ, zero, suc, _-_, _%_, _^_, _≤_, _<_}
 use native.Mathlib.Omega.{arith}
@@ -10,13 +10,14 @@ use lib.ListN.{getD}
 use Rattle.dealing.proofs.Positions.{positions-rising, positions-below, positions-are}
 use Rattle.algebra.proofs.Every.{every-at, every-all}
 use Rattle.algebra.proofs.Tests.{and-left, and-right, and-both, or-cases}
-use Rattle.answer.specs.Tests.{AllMet}
+use Rattle.answer.specs.Numbers.{badPosition}
+use Rattle.answer.specs.Tests.{AllMet, isMet, firstFault}
 use Rattle.field.specs.Bytes.{wordAt}
 use Rattle.prime.specs.Prime.{modulus}
 use Rattle.field.specs.ByNumber.{isField, isNoise, elementOf, restZero, isScalar}
 use Rattle.record.specs.Admitted.{isSize, isBranch, mostTrees, mostTerms, mostOutputs}
 use Rattle.dealing.specs.Admitted.{Admitted, DeltaAdmitted, NoiseAdmitted}
-use Rattle.dealing.specs.Input.{Input, deltaAdmitted, sizeTests, lengthTests, contentTests}
+use Rattle.dealing.specs.Input.{Input, positionsAdmitted, deltaAdmitted, sizeTests, lengthTests, contentTests}
 
 -- ---- single tests
 
@@ -130,6 +131,11 @@ module _ (I : Input) where
         noise = λ i h. noise-says (I .field) _ (every-at (λ i. isNoise (I .field) (getD (I .values) i 0)) i (I .trees) (search c) h);
         scalar = delta-says I (search c);
       }
+
+  -- a bad position gives its number, also before bad noise values and a bad Δ
+  pub position-first : positionsAdmitted (2 ^ I .depth) (I .trees) (I .positions) ≡ false → firstFault (contentTests I) ≡ badPosition
+  unfolding firstFault isMet
+  position-first e = rw e
 
   -- and of admitted input all are met
   module _ (A : Admitted I) where

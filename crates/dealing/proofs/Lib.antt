@@ -1,5 +1,5 @@
 -- What the dealing's numbers mean, and that both ends' parts are admitted contents.
-mod Positions
+pub mod Positions
 pub mod Faults
 pub mod Parts
 pub mod Laws

@@ -1,7 +1,1 @@
-// The dealing: its definitions and laws, and the tests of its input in document 01's order. Its call stands in crate `deal_call`.
-mod fault;
-mod input;
-
-pub use fault::Rooms;
-pub use fault::deal_number;
-pub use input::wide;
+// No code: the dealing in definitions and laws. The tests of its input stand in crate `dealing_tests`, its call in `dealing_call`.

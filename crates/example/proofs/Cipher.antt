@@ -11,7 +11,7 @@ use lib.ListN.{getD}
 use Rattle.algebra.specs.Choice.{choose}
 use Rattle.algebra.specs.Every.{every}
 use Rattle.algebra.proofs.Every.{every-at}
-use Rattle.sbox.specs.Byte.{xtime, multiples, mulBytes, squares, inverse, fromBits, affine, sBox}
+use Rattle.aes_sbox.specs.Byte.{xtime, multiples, mulBytes, squares, inverse, fromBits, affine, sBox}
 use Rattle.aes128.specs.State.{four, column, byteAt, xorWord}
 use Rattle.aes128.specs.Cipher.{subBytes, shiftRows, mixColumn, mixColumns, addRoundKey, roundKey, rounds, cipher, rotWord, rcon, temp, scheduleWords, keysOf, keyExpansion}
 

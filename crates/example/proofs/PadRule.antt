@@ -3,7 +3,7 @@
 -- pad was computed from that by OpenSSL.
 use mathlib.Core.Path.{_≡_, ap}
 use mathlib.Core.List.{[], _∷_}
-use Rattle.sbox.specs.Byte.{xtime}
+use Rattle.aes_sbox.specs.Byte.{xtime}
 use Rattle.aes128.specs.State.{xorWord, xorState}
 use Rattle.aes128.specs.Cipher.{shiftRows, power, keysOf}
 use Rattle.field.specs.Binary.{block}

@@ -22,7 +22,7 @@ use Rattle.field.proofs.BothKinds.{kindLaws}
 use Rattle.field.specs.Binary.{blockScale}
 use Rattle.field.specs.Bytes.{leNumber, leBytes, wordAt, columnsOf, lowOf, highOf}
 use Rattle.prime.specs.Prime.{primeAdd, primeSub, primeMul, primeReduce}
-use Rattle.sbox.specs.Byte.{xtime}
+use Rattle.aes_sbox.specs.Byte.{xtime}
 use Rattle.aes128.specs.State.{xorWord, xorState}
 use Rattle.aes128.specs.Cipher.{shiftRows, power, keysOf}
 use Rattle.tree.proofs.Listed.{listed-at}

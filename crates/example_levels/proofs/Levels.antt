@@ -10,7 +10,7 @@ use Rattle.algebra.specs.Sum.{accumulate, sum}
 use Rattle.field.specs.Binary.{blockScale}
 use Rattle.field.specs.Bytes.{columnsOf, highOf, leBytes, leNumber, lowOf, wordAt}
 use Rattle.prime.specs.Prime.{primeAdd, primeMul, primeReduce, primeSub}
-use Rattle.sbox.specs.Byte.{xtime}
+use Rattle.aes_sbox.specs.Byte.{xtime}
 use Rattle.aes128.specs.State.{xorState, xorWord}
 use Rattle.aes128.specs.Cipher.{keysOf, power, shiftRows}
 use Rattle.tree.specs.Columns.{columnsAt, columnsBytes}

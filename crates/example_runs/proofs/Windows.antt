@@ -10,7 +10,7 @@ use Rattle.algebra.specs.Coding.{flat, over}
 use Rattle.answer.specs.Bytes.{anyAbove}
 use Rattle.answer.specs.Outcome.{byNumber, answered, wrote}
 use Rattle.answer.specs.Tests.{isMet, firstFault}
-use Rattle.sbox.specs.Byte.{xtime}
+use Rattle.aes_sbox.specs.Byte.{xtime}
 use Rattle.aes128.specs.State.{xorWord, xorState}
 use Rattle.aes128.specs.Cipher.{shiftRows, power, keysOf}
 use Rattle.field.specs.Bytes.{leBytes, leNumber, wordAt, columnsOf, lowOf, highOf}

@@ -1,7 +1,8 @@
 // The call that forms AND triples, by its exported name.
 ghost use mathlib.Core.Path.{_≡_};
-ghost use Rattle.answer.specs.Outcome.{outcomeOne};
-ghost use Rattle.pads.specs.Triples.Call.{lentTriples, triples};
+ghost use mathlib.Core.List.{[], _∷_};
+ghost use Rattle.page.specs.Document01 as document;
+ghost use Rattle.page_two.specs.Document02 as document02;
 use answer::OneLength;
 
 // An end's triples, from its choices and pads in one pairing and its pairs of pads in another.
@@ -12,8 +13,9 @@ pub extern "C" fn expander_triples(
     pad_pairs: &[u8],
     triples_out: &mut [u8],
 ) -> OneLength
-    ensures { λ r. ⌜ outcomeOne r (lentTriples (now (choices .exit)) (now (pads .exit)) (now («pad_pairs» .exit)) (now («triples_out» .exit)))
-        ≡ triples (lentTriples (now (choices .entry)) (now (pads .entry)) (now («pad_pairs» .entry)) (now («triples_out» .entry))) ⌝ }
+    ensures { λ r. ⌜ document.returned (r .number) (r .written ∷ [])
+        (now (choices .exit) ∷ now (pads .exit) ∷ now («pad_pairs» .exit) ∷ []) (now («triples_out» .exit) ∷ [])
+        ≡ document02.triples (now (choices .entry)) (now (pads .entry)) (now («pad_pairs» .entry)) (now («triples_out» .entry)) ⌝ }
 {
-    triple_call::triples(choices, pads, pad_pairs, triples_out)
+    pads_triples::triples(choices, pads, pad_pairs, triples_out)
 }

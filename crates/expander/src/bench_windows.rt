@@ -1,8 +1,8 @@
-// The expansion for the bench under its exported names. Each meets the contract of the call that it passes on to.
+// The expansion for the bench under its exported names.
 ghost use mathlib.Core.Path.{_≡_};
-ghost use Rattle.answer.specs.Outcome.{outcomeOne, outcomeTwo};
-ghost use Rattle.ends.specs.Noise.Bench as noise;
-ghost use Rattle.ends.specs.Scalar.Bench as scalar;
+ghost use mathlib.Core.List.{[], _∷_};
+ghost use Rattle.page.specs.Document01 as document;
+ghost use Rattle.page_two.specs.Document02 as document02;
 use answer::OneLength;
 use answer::TwoLengths;
 
@@ -15,10 +15,11 @@ pub extern "C" fn expander_noise_direct(
     u_out: &mut [u64],
     v_out: &mut [u64],
 ) -> TwoLengths
-    ensures { λ r. ⌜ outcomeTwo r (noise.lentWith (now (source .exit)) (now («u_out» .exit)) (now («v_out» .exit)))
-        ≡ noise.benchExpansion (noise.lentWith (now (source .entry)) (now («u_out» .entry)) (now («v_out» .entry))) first count ⌝ }
+    ensures { λ r. ⌜ document.returned (r .number) (r .«first_written» ∷ r .«second_written» ∷ [])
+        (now (source .exit) ∷ []) (now («u_out» .exit) ∷ now («v_out» .exit) ∷ [])
+        ≡ document02.noiseDirect (now (source .entry)) first count (now («u_out» .entry)) (now («v_out» .entry)) ⌝ }
 {
-    bench_expansion::noise_bench(source, first, count, u_out, v_out)
+    ends_bench::noise_bench(source, first, count, u_out, v_out)
 }
 
 // Writes a window of w from a scalar record alone.
@@ -29,8 +30,8 @@ pub extern "C" fn expander_scalar_direct(
     count: usize,
     w_out: &mut [u64],
 ) -> OneLength
-    ensures { λ r. ⌜ outcomeOne r (scalar.lentWith (now (source .exit)) (now («w_out» .exit)))
-        ≡ scalar.benchExpansion (scalar.lentWith (now (source .entry)) (now («w_out» .entry))) first count ⌝ }
+    ensures { λ r. ⌜ document.returned (r .number) (r .written ∷ []) (now (source .exit) ∷ []) (now («w_out» .exit) ∷ [])
+        ≡ document02.scalarDirect (now (source .entry)) first count (now («w_out» .entry)) ⌝ }
 {
-    bench_expansion::scalar_bench(source, first, count, w_out)
+    ends_bench::scalar_bench(source, first, count, w_out)
 }

@@ -1,7 +1,8 @@
 // The three calls that pass messages of the callers' own choosing under pads, by their exported names.
 ghost use mathlib.Core.Path.{_≡_};
-ghost use Rattle.answer.specs.Outcome.{outcomeOne};
-ghost use Rattle.pads.specs.Messages.Calls.{lentCorrection, lentMask, lentUnmask, correctionBits, maskMessages, unmaskMessages};
+ghost use mathlib.Core.List.{[], _∷_};
+ghost use Rattle.page.specs.Document01 as document;
+ghost use Rattle.page_two.specs.Document02 as document02;
 use answer::OneLength;
 
 // The noise end's bits to send: choice exclusive-or wanted bit of each output.
@@ -12,10 +13,11 @@ pub extern "C" fn expander_correction_bits(
     wanted: &[u8],
     bits_out: &mut [u8],
 ) -> OneLength
-    ensures { λ r. ⌜ outcomeOne r (lentCorrection (now (choices .exit)) (now (wanted .exit)) (now («bits_out» .exit)))
-        ≡ correctionBits count (lentCorrection (now (choices .entry)) (now (wanted .entry)) (now («bits_out» .entry))) ⌝ }
+    ensures { λ r. ⌜ document.returned (r .number) (r .written ∷ [])
+        (now (choices .exit) ∷ now (wanted .exit) ∷ []) (now («bits_out» .exit) ∷ [])
+        ≡ document02.correctionBits count (now (choices .entry)) (now (wanted .entry)) (now («bits_out» .entry)) ⌝ }
 {
-    message_calls::correction_bits(count, choices, wanted, bits_out)
+    pads_messages::correction_bits(count, choices, wanted, bits_out)
 }
 
 // The scalar end's answers: both messages of each output, masked.
@@ -27,10 +29,11 @@ pub extern "C" fn expander_mask_messages(
     messages: &[u8],
     answers_out: &mut [u8],
 ) -> OneLength
-    ensures { λ r. ⌜ outcomeOne r (lentMask (now (bits .exit)) (now (pads .exit)) (now (messages .exit)) (now («answers_out» .exit)))
-        ≡ maskMessages count (lentMask (now (bits .entry)) (now (pads .entry)) (now (messages .entry)) (now («answers_out» .entry))) ⌝ }
+    ensures { λ r. ⌜ document.returned (r .number) (r .written ∷ [])
+        (now (bits .exit) ∷ now (pads .exit) ∷ now (messages .exit) ∷ []) (now («answers_out» .exit) ∷ [])
+        ≡ document02.maskMessages count (now (bits .entry)) (now (pads .entry)) (now (messages .entry)) (now («answers_out» .entry)) ⌝ }
 {
-    message_calls::mask_messages(count, bits, pads, messages, answers_out)
+    pads_messages::mask_messages(count, bits, pads, messages, answers_out)
 }
 
 // The noise end's messages: the wanted one of each output, unmasked.
@@ -42,8 +45,9 @@ pub extern "C" fn expander_unmask_messages(
     answers: &[u8],
     messages_out: &mut [u8],
 ) -> OneLength
-    ensures { λ r. ⌜ outcomeOne r (lentUnmask (now (wanted .exit)) (now (pads .exit)) (now (answers .exit)) (now («messages_out» .exit)))
-        ≡ unmaskMessages count (lentUnmask (now (wanted .entry)) (now (pads .entry)) (now (answers .entry)) (now («messages_out» .entry))) ⌝ }
+    ensures { λ r. ⌜ document.returned (r .number) (r .written ∷ [])
+        (now (wanted .exit) ∷ now (pads .exit) ∷ now (answers .exit) ∷ []) (now («messages_out» .exit) ∷ [])
+        ≡ document02.unmaskMessages count (now (wanted .entry)) (now (pads .entry)) (now (answers .entry)) (now («messages_out» .entry)) ⌝ }
 {
-    message_calls::unmask_messages(count, wanted, pads, answers, messages_out)
+    pads_messages::unmask_messages(count, wanted, pads, answers, messages_out)
 }

@@ -1,13 +1,13 @@
-// Evaluating and describing a circuit. Each call meets the contract of the call that it passes on to.
+// Evaluating and describing a circuit.
 ghost use mathlib.Core.Path.{_≡_};
-ghost use Rattle.circuit_run.specs.Round.{roundWith, rounded, round};
-ghost use Rattle.circuit_run.specs.Step.{lentWith, stepped, step};
-ghost use Rattle.describe_circuit.specs.Describe.{descriptionOf, describeCircuit};
+ghost use mathlib.Core.List.{[], _∷_};
+ghost use Rattle.page.specs.Document01 as document;
+ghost use Rattle.page_two.specs.Document02 as document02;
+use circuit_describe::DescribedCircuit;
 use circuit_run::RoundState;
 use circuit_run::Rounded;
 use circuit_run::StepState;
 use circuit_run::Stepped;
-use describe_circuit::DescribedCircuit;
 
 // One step of an end's run of a circuit, on the state that the step before left.
 #[no_mangle]
@@ -21,10 +21,25 @@ pub extern "C" fn expander_circuit_step(
     far_second: u8,
     state: StepState,
 ) -> Stepped
-    ensures { λ r. ⌜ stepped r (lentWith role (now (circuit .exit)) (now (shares .exit)) (now (triples .exit)) (now (output .exit)) «far_first» «far_second»)
-        ≡ step (lentWith role (now (circuit .entry)) (now (shares .entry)) (now (triples .entry)) (now (output .entry)) «far_first» «far_second») state ⌝ }
+    ensures { λ r. ⌜ (
+      document.returned (r .number) (r .written ∷ [])
+          (now (circuit .exit) ∷ now (shares .exit) ∷ now (triples .exit) ∷ («far_first» ∷ «far_second» ∷ []) ∷ [])
+          (now (output .exit) ∷ (r .«first_bit» ∷ r .«second_bit» ∷ []) ∷ []),
+      document02.stepState (r .state .phase) (r .state .gate) (r .state .wires),
+    )
+        ≡ document02.step
+        (record {
+          role = role;
+          circuit = now (circuit .entry);
+          shares = now (shares .entry);
+          triples = now (triples .entry);
+          far = «far_first» ∷ «far_second» ∷ [];
+          output = now (output .entry);
+          bits = [];
+        })
+        (document02.stepState (state .phase) (state .gate) (state .wires)) ⌝ }
 {
-    step_call::step_run(
+    circuit_step::step_run(
         role,
         circuit,
         shares,
@@ -48,13 +63,25 @@ pub extern "C" fn expander_circuit_round(
     bits_out: &mut [u8],
     state: RoundState,
 ) -> Rounded
-    ensures { λ r. ⌜ rounded r
-        (roundWith role (now (circuit .exit)) (now (shares .exit)) (now (triples .exit)) (now (output .exit)) (now («far_bits» .exit)) (now («bits_out» .exit)))
-        ≡ round
-        (roundWith role (now (circuit .entry)) (now (shares .entry)) (now (triples .entry))
-        (now (output .entry)) (now («far_bits» .entry)) (now («bits_out» .entry))) state ⌝ }
+    ensures { λ r. ⌜ (
+      document.returned (r .number) (r .written ∷ r .«bits_written» ∷ [])
+          (now (circuit .exit) ∷ now (shares .exit) ∷ now (triples .exit) ∷ now («far_bits» .exit) ∷ [])
+          (now (output .exit) ∷ now («bits_out» .exit) ∷ []),
+      r .state .wires,
+    )
+        ≡ document02.round
+        (record {
+          role = role;
+          circuit = now (circuit .entry);
+          shares = now (shares .entry);
+          triples = now (triples .entry);
+          far = now («far_bits» .entry);
+          output = now (output .entry);
+          bits = now («bits_out» .entry);
+        })
+        (state .wires) ⌝ }
 {
-    round_call::round_run(
+    circuit_round::round_run(
         role,
         circuit,
         shares,
@@ -69,7 +96,8 @@ pub extern "C" fn expander_circuit_round(
 // What a circuit is: its inputs, gates, outputs, ANDs and rounds, or the number that it is refused with.
 #[no_mangle]
 pub extern "C" fn expander_describe_circuit(circuit: &[u8]) -> DescribedCircuit
-    ensures { λ r. ⌜ descriptionOf r (now (circuit .exit)) ≡ describeCircuit (now (circuit .entry)) ⌝ }
+    ensures { λ r. ⌜ document.returned (r .number) (r .inputs ∷ r .gates ∷ r .outputs ∷ r .ands ∷ r .rounds ∷ []) (now (circuit .exit) ∷ []) []
+        ≡ document02.describeCircuit (now (circuit .entry)) ⌝ }
 {
-    describe_circuit::describe_circuit(circuit)
+    circuit_describe::describe_circuit(circuit)
 }

@@ -8,6 +8,7 @@ mod and_triples;
 mod bench_windows;
 mod chosen_messages;
 mod circuits;
+mod layer_sums;
 mod record_heads;
 mod signed_amounts;
 mod stocks;
@@ -56,7 +57,7 @@ pub extern "C" fn expander_deal(
         })
         (now («noise_record» .entry)) (now («scalar_record» .entry)) ⌝ }
 {
-    deal_call::deal(
+    dealing_call::deal(
         field,
         depth,
         branch_bits,
@@ -85,7 +86,7 @@ pub extern "C" fn expander_noise_offline(
         (now (source .exit) ∷ []) (now (noise .exit) ∷ now (v .exit) ∷ [])
         ≡ document.noiseOffline (now (source .entry)) (now (noise .entry)) (now (v .entry)) ⌝ }
 {
-    end_calls::noise::offline(source, noise, v)
+    ends_calls::noise::offline(source, noise, v)
 }
 
 // The scalar end's offline call: the accumulated w, and Δ.
@@ -99,7 +100,7 @@ pub extern "C" fn expander_scalar_offline(
         (now (source .exit) ∷ []) (now (w .exit) ∷ now (delta .exit) ∷ [])
         ≡ document.scalarOffline (now (source .entry)) (now (w .entry)) (now (delta .entry)) ⌝ }
 {
-    end_calls::scalar::offline(source, w, delta)
+    ends_calls::scalar::offline(source, w, delta)
 }
 
 // The noise end's online call: a window of u and v.
@@ -117,7 +118,7 @@ pub extern "C" fn expander_noise_online(
         (now (source .exit) ∷ now (noise .exit) ∷ now (v .exit) ∷ []) (now («u_out» .exit) ∷ now («v_out» .exit) ∷ [])
         ≡ document.noiseOnline (now (source .entry)) (now (noise .entry)) (now (v .entry)) first count (now («u_out» .entry)) (now («v_out» .entry)) ⌝ }
 {
-    end_calls::noise::online(source, noise, v, first, count, u_out, v_out)
+    ends_calls::noise::online(source, noise, v, first, count, u_out, v_out)
 }
 
 // The scalar end's online call: a window of w.
@@ -132,7 +133,7 @@ pub extern "C" fn expander_scalar_online(
     ensures { λ r. ⌜ document.returned (r .number) (r .written ∷ []) (now (source .exit) ∷ now (w .exit) ∷ []) (now («w_out» .exit) ∷ [])
         ≡ document.scalarOnline (now (source .entry)) (now (w .entry)) first count (now («w_out» .entry)) ⌝ }
 {
-    end_calls::scalar::online(source, w, first, count, w_out)
+    ends_calls::scalar::online(source, w, first, count, w_out)
 }
 
 // The noise end's pads of a window.
@@ -147,7 +148,7 @@ pub extern "C" fn expander_noise_pads(
     ensures { λ r. ⌜ document.returned r [] (now (v .exit) ∷ now (choices .exit) ∷ []) (now (pads .exit) ∷ [])
         ≡ document.noisePads first count (now (v .entry)) (now (choices .entry)) (now (pads .entry)) ⌝ }
 {
-    pad_calls::noise_pads(first, count, v, choices, pads)
+    pads_calls::noise_pads(first, count, v, choices, pads)
 }
 
 // The scalar end's pads of a window, both messages of each output.
@@ -162,5 +163,5 @@ pub extern "C" fn expander_scalar_pads(
     ensures { λ r. ⌜ document.returned r [] (now (w .exit) ∷ now (delta .exit) ∷ []) (now (pads .exit) ∷ [])
         ≡ document.scalarPads first count (now (w .entry)) (now (delta .entry)) (now (pads .entry)) ⌝ }
 {
-    pad_calls::scalar_pads(first, count, w, delta, pads)
+    pads_calls::scalar_pads(first, count, w, delta, pads)
 }

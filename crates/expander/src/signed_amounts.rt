@@ -1,13 +1,13 @@
-// The calls on signed amounts under their exported names. Each meets the contract of the call that it passes on to.
+// The calls on signed amounts under their exported names.
 ghost use mathlib.Core.Path.{_≡_};
-ghost use Rattle.amounts.specs.Calls.{readAmount, writeAmount};
+ghost use Rattle.page_two.specs.Document02 as document02;
 use amounts::Amount;
 use amounts::WrittenAmount;
 
 // The amount that an element of field 2 is read as.
 #[no_mangle]
 pub extern "C" fn expander_read_amount(element: u64) -> Amount
-    ensures { λ r. ⌜ r ≡ readAmount element ⌝ }
+    ensures { λ r. ⌜ document02.amount (r .number) (r .amount) ≡ document02.readAmount element ⌝ }
 {
     amounts::read_amount(element)
 }
@@ -15,7 +15,7 @@ pub extern "C" fn expander_read_amount(element: u64) -> Amount
 // The element of field 2 that is read as an amount.
 #[no_mangle]
 pub extern "C" fn expander_write_amount(amount: i64) -> WrittenAmount
-    ensures { λ r. ⌜ r ≡ writeAmount amount ⌝ }
+    ensures { λ r. ⌜ r ≡ document02.writeAmount amount ⌝ }
 {
     amounts::write_amount(amount)
 }

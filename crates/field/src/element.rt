@@ -7,6 +7,7 @@ ghost use Rattle.field.specs.ByNumber.{elementOf, restZero, isElement, i
 ghost use Rattle.field.specs.Kind.{kindOf};
 ghost use Rattle.field.specs.Inner.Elements.{elementLength, noiseIn, elementIn, elementAt, Compared};
 ghost use Rattle.field.specs.Inner.Written.{withWords};
+use crate::BINARY;
 use crate::block::Block;
 use crate::bytes::low_word;
 use crate::bytes::put_word;
@@ -23,14 +24,14 @@ pub struct Element {
 pub fn element_length(field: usize) -> usize
     ensures { λ r. ⌜ r ≡ elementLength field ⌝ }
 {
-    if field == 1 { 16 } else { 8 }
+    if field == BINARY { 16 } else { 8 }
 }
 
 // The element of a leaf.
 pub fn leaf_element(field: usize, leaf: [[u8; 4]; 4]) -> Element
     ensures { λ r. ⌜ elementIn field r ≡ kindOf field .leaf leaf ⌝ }
 {
-    if field == 1 {
+    if field == BINARY {
         let block = Block::of_columns(leaf);
         return Element {
             low: block.low,
@@ -50,7 +51,7 @@ pub fn element_at(field: usize, bytes: &[u8], at: usize) -> Element
     ensures { λ r. ⌜ r ≡ elementAt field (now (bytes .entry)) at ⌝ }
 {
     let low = word_at(bytes, at);
-    if field == 1 {
+    if field == BINARY {
         return Element {
             low: low,
             high: word_at(bytes, at + 8),
@@ -64,7 +65,7 @@ pub fn element_of(field: usize, words: &[u64], i: usize) -> Element
     requires { ⌜ i * 2 + 2 ≤ length (now words) ⌝ }
     ensures { λ r. ⌜ elementIn field r ≡ at (kindOf field .field .elements) (now (words .entry)) i ⌝ }
 {
-    if field == 1 {
+    if field == BINARY {
         let low = i * 2;
         return Element {
             low: words[low],
@@ -81,7 +82,7 @@ pub fn element_of(field: usize, words: &[u64], i: usize) -> Element
 pub fn element_sum(field: usize, a: Element, b: Element) -> Element
     ensures { λ r. ⌜ elementIn field r ≡ kindOf field .field .scaled .group .add (elementIn field a) (elementIn field b) ⌝ }
 {
-    if field == 1 {
+    if field == BINARY {
         return Element {
             low: a.low ^ b.low,
             high: a.high ^ b.high,
@@ -100,7 +101,7 @@ pub fn element_sum(field: usize, a: Element, b: Element) -> Element
 pub fn element_difference(field: usize, a: Element, b: Element) -> Element
     ensures { λ r. ⌜ elementIn field r ≡ kindOf field .field .scaled .group .sub (elementIn field a) (elementIn field b) ⌝ }
 {
-    if field == 1 {
+    if field == BINARY {
         return Element {
             low: a.low ^ b.low,
             high: a.high ^ b.high,
@@ -119,7 +120,7 @@ pub fn element_difference(field: usize, a: Element, b: Element) -> Element
 pub fn element_scaled(field: usize, value: u64, a: Element) -> Element
     ensures { λ r. ⌜ elementIn field r ≡ kindOf field .field .scaled .scale (noiseIn field value) (elementIn field a) ⌝ }
 {
-    if field == 1 {
+    if field == BINARY {
         let block = Block {
             low: a.low,
             high: a.high,
@@ -146,7 +147,7 @@ pub fn same_element(field: usize, a: Element, b: Element) -> bool
     if a.low != b.low {
         return false;
     }
-    if field == 1 {
+    if field == BINARY {
         return a.high == b.high;
     }
     true
@@ -156,7 +157,7 @@ pub fn same_element(field: usize, a: Element, b: Element) -> bool
 pub fn is_element(field: usize, a: Element) -> bool
     ensures { λ r. ⌜ r ≡ isElement field (elementOf field (a .low) (a .high)) ⌝ }
 {
-    if field == 1 {
+    if field == BINARY {
         return true;
     }
     a.low < Prime::MODULUS
@@ -169,7 +170,7 @@ fn is_zero(field: usize, a: Element) -> bool
     if a.low != 0 {
         return false;
     }
-    if field == 1 {
+    if field == BINARY {
         return a.high == 0;
     }
     true
@@ -189,7 +190,7 @@ pub fn is_scalar(field: usize, a: Element) -> bool
 pub fn rest_zero(field: usize, high: u64) -> bool
     ensures { λ r. ⌜ r ≡ restZero field high ⌝ }
 {
-    field == 1 || high == 0
+    field == BINARY || high == 0
 }
 
 // Writes the bytes of an element from a place on.
@@ -198,7 +199,7 @@ pub fn put_element(field: usize, bytes: &mut [u8], at: usize, element: Element)
     ensures { λ _. ⌜ now (bytes .exit) ≡ withWords (now (bytes .entry)) at (elementOf field (element .low) (element .high)) ⌝ }
 {
     put_word(bytes, at, element.low);
-    if field == 1 {
+    if field == BINARY {
         put_word(bytes, at + 8, element.high);
     }
 }

@@ -30,3 +30,8 @@ pub use noise::noise_sum;
 pub use noise::one_noise;
 pub use width::element_width;
 pub use width::put_block;
+
+// The fields' numbers.
+pub const BINARY: usize = 1;
+
+pub const PRIME: usize = 2;

@@ -3,6 +3,8 @@ ghost use mathlib.Core.Path.{_≡_};
 ghost use Rattle.field.specs.ByNumber.{isField, isNoise, oneNoise};
 ghost use Rattle.field.specs.Kind.{kindOf};
 ghost use Rattle.field.specs.Inner.Elements.{noiseIn, noiseSum};
+use crate::BINARY;
+use crate::PRIME;
 use crate::block::add_bits;
 use prime::Prime;
 
@@ -10,21 +12,21 @@ use prime::Prime;
 pub fn is_field(field: usize) -> bool
     ensures { λ r. ⌜ r ≡ isField field ⌝ }
 {
-    field == 1 || field == 2
+    field == BINARY || field == PRIME
 }
 
 // Whether 1 is the only noise value that is admitted, so that records do not write it.
 pub fn one_noise(field: usize) -> bool
     ensures { λ r. ⌜ r ≡ oneNoise field ⌝ }
 {
-    field == 1
+    field == BINARY
 }
 
 // Whether a noise value is admitted.
 pub fn is_noise(field: usize, value: u64) -> bool
     ensures { λ r. ⌜ r ≡ isNoise field value ⌝ }
 {
-    if field == 1 {
+    if field == BINARY {
         return value == 1;
     }
     1 <= value && value <= Prime::MODULUS - 1
@@ -34,7 +36,7 @@ pub fn is_noise(field: usize, value: u64) -> bool
 pub fn coefficient(field: usize, word: u64) -> u64
     ensures { λ r. ⌜ noiseIn field r ≡ kindOf field .coefficient word ⌝ }
 {
-    if field == 1 {
+    if field == BINARY {
         return 1;
     }
     let reduced = Prime::reduce(word);
@@ -45,7 +47,7 @@ pub fn coefficient(field: usize, word: u64) -> u64
 pub fn noise_sum(field: usize, a: u64, b: u64) -> u64
     ensures { λ r. ⌜ r ≡ noiseSum field a b ⌝ }
 {
-    if field == 1 {
+    if field == BINARY {
         return add_bits(a, b);
     }
     let first = Prime { word: a };

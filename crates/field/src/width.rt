@@ -5,13 +5,14 @@ ghost use lib.ListN.{length};
 ghost use Rattle.algebra.specs.Inner.Put.{put};
 ghost use Rattle.field.specs.Binary.{binary};
 ghost use Rattle.field.specs.Kind.{elementWords};
+use crate::BINARY;
 use crate::block::Block;
 
 // How many words an element of a field takes.
 pub fn element_width(field: usize) -> usize
     ensures { λ r. ⌜ r ≡ elementWords field ⌝ }
 {
-    if field == 1 { 2 } else { 1 }
+    if field == BINARY { 2 } else { 1 }
 }
 
 // Writes element i of field 1, two words.

@@ -4,8 +4,8 @@ mod vectors;
 
 ghost use Prim.Native.Nat.{_+_, _<_, _≤_};
 ghost use lib.ListN.{length};
-ghost use Rattle.sbox.specs.Inner.Tables.{RoundTables};
-ghost use Rattle.sbox.specs.Table.{SBoxTable};
+ghost use Rattle.aes_sbox.specs.Inner.Tables.{RoundTables};
+ghost use Rattle.aes_sbox.specs.Table.{SBoxTable};
 use field::Block;
 use field::put_word;
 use field::word_at;
@@ -124,7 +124,7 @@ fn block_wrong(sbox: &[u8; 256], tables: &[u64; 1536], plain: &[u8; 256], case: 
     requires { ⌜ SBoxTable (now sbox) × RoundTables (now tables) ⌝ }
 {
     let keys = lent_of(sbox, case.key);
-    let mine = block_cipher::encrypt(tables, &keys, case.block);
+    let mine = aes_blocks::encrypt(tables, &keys, case.block);
     let w = plain_of(plain, case.key);
     differ(mine, case.want) | differ(plain_block(plain, &w, case.block), case.want)
 }
@@ -135,7 +135,7 @@ fn pair_wrong(sbox: &[u8; 256], tables: &[u64; 1536], one: Case, other: Case) ->
 {
     let keys = lent_of(sbox, one.key);
     let others = lent_of(sbox, other.key);
-    let mine = block_cipher::encrypt_two(tables, &keys, &others, one.block, other.block);
+    let mine = aes_blocks::encrypt_two(tables, &keys, &others, one.block, other.block);
     differ(mine.one, one.want) | differ(mine.other, other.want)
 }
 
@@ -186,8 +186,8 @@ fn chain_wrong(sbox: &[u8; 256], tables: &[u64; 1536], plain: &[u8; 256]) -> u64
         let v = plain_of(plain, last);
         let mut m: u32 = 0;
         while m < 100 {
-            let mine = block_cipher::encrypt(tables, &keys, block);
-            let two = block_cipher::encrypt_two(tables, &keys, &lasts, block, key);
+            let mine = aes_blocks::encrypt(tables, &keys, block);
+            let two = aes_blocks::encrypt_two(tables, &keys, &lasts, block, key);
             d = d
                 | apart(plain, &w, block, mine)
                 | apart(plain, &w, block, two.one)
@@ -258,9 +258,9 @@ fn others(sbox: &[u8; 256], tables: &[u64; 1536], plain: &[u8; 256])
 }
 
 fn main() {
-    let sb = sbox::table();
+    let sb = aes_sbox::table();
     let mut tables = [0u64; 1536];
-    sbox::fill_tables(&mut tables);
+    aes_sbox::fill_tables(&mut tables);
     let pl = plain::sub_table();
     key_schedule(&sb, &pl);
     standard(&sb, &tables, &pl);

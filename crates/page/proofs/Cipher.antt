@@ -8,7 +8,7 @@ use lib.Dec.{eqb}
 use lib.ListN.{getD}
 use Rattle.algebra.specs.Choice.{choose}
 use Rattle.field.proofs.Xor.{xor-assoc}
-use Rattle.sbox.specs.Byte as byte
+use Rattle.aes_sbox.specs.Byte as byte
 use Rattle.aes128.specs.State.{four, byteAt, xorWord, xorState}
 use Rattle.aes128.specs.Cipher as aes
 use Rattle.aes128.proofs.Words.{four-eq}

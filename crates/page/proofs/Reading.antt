@@ -38,7 +38,7 @@ pub fault-is : {A B : Type 0} (c : A → B) (n : ℕ) → page.fault n ≡ read 
 unfolding read
 fault-is c n = refl
 
-abbrev same : {A : Type 0} → A → A
+abbrev pub same : {A : Type 0} → A → A
 same a = a
 
 -- ---- one field after another
@@ -58,7 +58,7 @@ then-assoc : {A B C : Type 0} (r : Parsed A) (k : A → ℕ → Parsed B) (m : B
 then-assoc (Whole x) k m = refl
 then-assoc (Refused n) k m = refl
 
-if-read : {A B : Type 0} (c : A → B) (t : Bool) (p q : page.Reader B) (s : List ℕ) (at : ℕ) (x y : Parsed A)
+pub if-read : {A B : Type 0} (c : A → B) (t : Bool) (p q : page.Reader B) (s : List ℕ) (at : ℕ) (x y : Parsed A)
     → p s at ≡ read c x → q s at ≡ read c y → page.if_then_else_ t p q s at ≡ read c (choose t x y)
 unfolding page.if_then_else_
 if-read c true p q s at x y e f = e

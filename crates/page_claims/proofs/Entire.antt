@@ -19,7 +19,7 @@ use Rattle.page_claims.proofs.Outputs.{inputOf, u-is, v-is, w-is, outpu
 use Rattle.page_claims.proofs.Lists.{lists}
 
 -- an element whose words are lent as bytes
-element-lent : (I : Input) (l : List ℕ) (k : ℕ) (e : Value (vectors.field I)) → page.blockAt l k ≡ vectors.field I .elements .words e → lentElement (dealtBy I) l k ≡ e
+pub element-lent : (I : Input) (l : List ℕ) (k : ℕ) (e : Value (vectors.field I)) → page.blockAt l k ≡ vectors.field I .elements .words e → lentElement (dealtBy I) l k ≡ e
 element-lent I l k e p =
     ap (λ (w : List ℕ). vectors.field I .elements .read w 0)
     (ap₂ (λ (x y : ℕ). x ∷ y ∷ []) (sym (word-at l (k * 16))) (sym (word-at l (k * 16 + 8))) ∙ p)

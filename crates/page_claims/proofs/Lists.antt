@@ -40,13 +40,13 @@ run-is online given m e k (x ∷ calls) =
     (ap (λ (m′ : List (List ℕ)). says.run online m′ calls) (ap (λ (r : page.Return). r .inputs) (e x) ∙ k x) ∙ run-is online given m e k calls)
 
 -- the member of a mapped list
-mapped-at : {A B : Type 0} (f : A → B) (l : List A) (i : ℕ) (a : A) (b : B) → getElem? l i ≡ some a → getElem? (map f l) i ≡ some b → b ≡ f a
+pub mapped-at : {A B : Type 0} (f : A → B) (l : List A) (i : ℕ) (a : A) (b : B) → getElem? l i ≡ some a → getElem? (map f l) i ≡ some b → b ≡ f a
 mapped-at f [] i a b e g = absurd (Option·none-ne-some _ e)
 mapped-at f (x ∷ l) zero a b e g = sym (Option·some-injective _ _ g) ∙ ap f (Option·some-injective _ _ e)
 mapped-at f (x ∷ l) (suc i) a b e g = mapped-at f l i a b e g
 
 -- what a list hands out stands in the buffers of a call all of whose outputs are written
-abbrev outputs : says.End → says.Call → List page.Output
+abbrev pub outputs : says.End → says.Call → List page.Output
 outputs E x = page.list (length (E .dealt 0)) (λ i. (says.slice (x .buffers) i, page.joined (x .c) (λ k. says.slice (E .dealt (x .first + k)) i)))
 
 handed : (E : says.End) (n : ℕ) (calls : List says.Call) → says.run (E .online) (E .memory) calls ≡ map (says.listed E n) calls
@@ -60,7 +60,7 @@ handed E n calls e x a h =
     ∙ all-written _ _ (answers.more _ _ (numbered-rooms (outputs E (h .call)))) (sym (ap (λ (r : page.Return). r .number) same) ∙ h .accepted))
 
 -- an end with other memory
-abbrev on : List (List ℕ) → says.End → says.End
+abbrev pub on : List (List ℕ) → says.End → says.End
 on m E = record { memory = m; online = E .online; standing = E .standing; dealt = E .dealt }
 
 module _ (I : Input) (σ : says.Setting (input I)) where

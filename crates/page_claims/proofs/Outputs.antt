@@ -51,7 +51,7 @@ module _ (I : Input) where
       ∙ if-both (λ a b. a ≡ vectors.field I .noiseValues .words b) (eqb (position I t) j) _ _ _ _
       (sym (same .one _ ∙ ap (λ (y : ℕ). y ∷ []) (same .num-read _ t))) (noise-to t (λ i k. below i (omega arith)) j)
 
-  noise-is : (j : ℕ) → page.μ (page.dealtTrees (input I)) (I .trees) j ≡ vectors.field I .noiseValues .words (vectors.mu I j)
+  pub noise-is : (j : ℕ) → page.μ (page.dealtTrees (input I)) (I .trees) j ≡ vectors.field I .noiseValues .words (vectors.mu I j)
   unfolding vectors.mu
   noise-is = noise-to (I .trees) (λ i k. k)
 
@@ -77,7 +77,7 @@ module _ (I : Input) where
   unfolding says.w vectors.w
   w-is x = output-is (vectors.head I) x (same .elements) _ _ (accumulated-is (same .elements) _ _ w0-is)
 
-  entry-is : (x j : ℕ) → says.entry (head (vectors.head I)) x j ≡ same .num (rows.entry (row (vectors.head I) x) j)
+  pub entry-is : (x j : ℕ) → says.entry (head (vectors.head I)) x j ≡ same .num (rows.entry (row (vectors.head I) x) j)
   unfolding says.entry rows.entry rowOfBlocks
   entry-is x j =
       ap (λ (l : List ℕ). getD l 0 0)

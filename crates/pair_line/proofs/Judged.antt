@@ -16,10 +16,10 @@ use Rattle.ends.specs.Inner.Scalar as scalar
 use Rattle.ends.proofs.scalar.Content as scalarContent
 use Rattle.pairing.specs.declared.Finding.the-variants as finding
 use Rattle.pairing.specs.Answer.{verdictOf}
-use Rattle.pair_line.specs.Inner.Steps.{KeyIn}
+use Rattle.pairing_tests.specs.Inner.Steps.{KeyIn}
 use Rattle.pairing.specs.Verdict.{sameDealing, verdict}
 use Rattle.pairing.proofs.Laws.{noise-refusal, scalar-refusal, noise-large, scalar-large, not-same}
-use Rattle.pair_line.proofs.Same.{dealing-equal}
+use Rattle.pairing_tests.proofs.Same.{dealing-equal}
 
 -- ---- reading
 

@@ -3,5 +3,3 @@ mod Digits
 mod Judged
 mod Lines
 mod Outputs
-mod Same
-mod Turns

@@ -40,7 +40,7 @@ use Rattle.ends.specs.Inner.Scalar as scalar
 use Rattle.ends.specs.Scalar.Offline as scalarOffline
 use Rattle.ends.specs.Scalar.Online as scalarOnline
 use Rattle.ends.specs.Scalar.Vectors as scalarVectors
-use Rattle.pair_line.specs.Inner.Steps.{Paired, NoiseOutputs, ScalarOutputs, counted, holdsAt, heldWords}
+use Rattle.pairing_tests.specs.Inner.Steps.{Paired, NoiseOutputs, ScalarOutputs, counted, holdsAt, heldWords}
 use Rattle.pairing.specs.Verdict.{Checked, uAt, vAt, wAt, Pair, scalarOf, pairOf, heldAt, heldOf, verdict}
 use Rattle.pairing.proofs.Laws.{same-checked}
 use Rattle.pairing.proofs.Same.{same-dealing}

@@ -5,11 +5,11 @@ ghost use lib.ListN.{length};
 ghost use Rattle.ends.specs.Inner.Noise as noise;
 ghost use Rattle.ends.specs.Inner.Scalar as scalar;
 ghost use Rattle.pairing.specs.Answer.{verdictOf};
-ghost use Rattle.pair_line.specs.Inner.Steps.{Paired, NoiseOutputs, ScalarOutputs};
+ghost use Rattle.pairing_tests.specs.Inner.Steps.{Paired, NoiseOutputs, ScalarOutputs};
 ghost use Rattle.pairing.specs.Verdict.{Checked, verdict};
-use crate::heads::same_dealing;
-use crate::held::count_held;
 use pairing::Finding;
+use pairing_tests::count_held;
+use pairing_tests::same_dealing;
 use record::Layout;
 use record::RecordAnswer;
 use record::leaves;
@@ -27,10 +27,10 @@ fn noise_outputs(source: &[u8], layout: Layout, u_out: &mut [u64], v_out: &mut [
 {
     let mut noise = [0u64; 1024];
     let mut v = [0u64; 2048];
-    let lengths = end_calls::noise::offline(source, &mut noise, &mut v);
+    let lengths = ends_calls::noise::offline(source, &mut noise, &mut v);
     let noise_words = lengths.first_written;
     let v_words = lengths.second_written;
-    end_calls::noise::online(
+    ends_calls::noise::online(
         source,
         &noise[..noise_words],
         &v[..v_words],
@@ -47,9 +47,9 @@ fn scalar_outputs(source: &[u8], layout: Layout, w_out: &mut [u64], delta: &mut 
     ensures { λ _. ⌜ ScalarOutputs (now (source .entry)) layout (now («w_out» .exit)) (now (delta .exit)) ⌝ }
 {
     let mut w = [0u64; 2048];
-    let lengths = end_calls::scalar::offline(source, &mut w, delta);
+    let lengths = ends_calls::scalar::offline(source, &mut w, delta);
     let w_words = lengths.first_written;
-    end_calls::scalar::online(source, &w[..w_words], 0, layout.outputs, w_out);
+    ends_calls::scalar::online(source, &w[..w_words], 0, layout.outputs, w_out);
 }
 
 // How many outputs hold, for two accepted records of one dealing.

@@ -3,8 +3,6 @@ ghost use mathlib.Core.Path.{_≡_};
 ghost use mathlib.Core.List.{[], _∷_};
 ghost use Rattle.page.specs.Document01 as document;
 
-mod heads;
-mod held;
 mod judge;
 mod text;
 

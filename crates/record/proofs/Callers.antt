@@ -167,7 +167,7 @@ module _ (field depth beside n base : ℕ) (s : List ℕ) (at i : ℕ) (more : i
         ap (λ (x : NoiseTree × ℕ). readTrees field depth beside (n - (i + 1)) (x .0 .position + 1) s (x .1)) z ∙ p .5,
       )
 
--- the same by the list of all trees
+-- a tree read again is the one of its number in the list of all trees, and those after it are left
 pub again-at : (field depth beside n base : ℕ) (s : List ℕ) (at i : ℕ) → i < n → (all : List NoiseTree) (d : NoiseTree) {end : ℕ}
     → readTrees field depth beside (n - i) base s at ≡ Whole (drop i all, end) → {t : NoiseTree} {after : ℕ} → Whole (t, after) ≡ readTree field depth beside base s at
     → (getD all i d ≡ t) × (readTrees field depth beside (n - (i + 1)) (t .position + 1) s after ≡ Whole (drop (i + 1) all, end))

@@ -20,7 +20,7 @@ unfoldable pub items : {A : Type 0} → (List ℕ → ℕ → A) → ℕ → Lis
 items item size s at zero = []
 items item size s at (suc n) = item s at ∷ items item size s (at + size) n
 
--- the same as a field; 10: record ends inside it
+-- n items read as one field; 10: record ends inside it
 unfoldable pub readItems : {A : Type 0} → (List ℕ → ℕ → A) → ℕ → ℕ → List ℕ → ℕ → Parsed (List A)
 readItems item size n s at = choose (leb (at + size * n) (length s)) (Whole (items item size s at n, at + size * n)) (Refused recordEnds)
 

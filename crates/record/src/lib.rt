@@ -17,6 +17,11 @@ pub use writing::write_head;
 pub use writing::write_scalar;
 pub use writing::write_tree_start;
 
+// The end byte of a record.
+pub const NOISE_END: u8 = 1;
+
+pub const SCALAR_END: u8 = 2;
+
 // The head of a record in numbers: field, d, g, t, ℓ, n, and the place after it, where the body begins.
 pub struct Layout {
     pub field: usize,

@@ -11,6 +11,7 @@ ghost use Rattle.record.specs.Writing.{writeHead, writeValue, writeWords
 ghost use Rattle.record.specs.Inner.Lengths.{Writable, afterDepthBytes, sizesBytes, treeStartBytes};
 ghost use Rattle.record.specs.Inner.Lengths.{headLength, treeStartLength, treeLength, noiseLength, scalarLength};
 use crate::Layout;
+use crate::SCALAR_END;
 use crate::sizes::sibling_count;
 use field::Element;
 use field::element_length;
@@ -127,7 +128,7 @@ pub fn write_scalar(
         (writeScalar (scalarWith layout (now («code_key» .entry)) (now (label .entry))
         (elementOf (layout .field) (delta .low) (delta .high)) (now (roots .entry)))) r (now (buffer .exit)) ⌝ }
 {
-    let at = write_head(buffer, 2, layout, code_key, label);
+    let at = write_head(buffer, SCALAR_END, layout, code_key, label);
     let next = write_element(buffer, at, layout.field, delta);
     write_bytes(buffer, next, roots, 0, 16 * layout.trees)
 }

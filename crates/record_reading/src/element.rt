@@ -4,7 +4,6 @@ ghost use Prim.Native.Nat.{_+_};
 ghost use Rattle.number.specs.Answer.{numberRead};
 ghost use Rattle.record.specs.Reading.{readValue, readCorrection, readDelta};
 ghost use Rattle.record.specs.Inner.Answers.{firstWord};
-use crate::head::has_bytes;
 use answer::BAD_DELTA;
 use answer::BAD_NOISE;
 use answer::NOT_ELEMENT;
@@ -17,6 +16,7 @@ use field::is_scalar;
 use field::one_noise;
 use field::word_at;
 use number::Number;
+use record_head::has_bytes;
 
 // The noise value of a tree; where it is always 1 it takes no bytes.
 pub fn read_value(source: &[u8], at: usize, field: usize) -> Number

@@ -1,6 +1,5 @@
 // Reading the noise record and the scalar record with every test, and a second pass over what was accepted.
 mod element;
-mod head;
 mod noise;
 mod scalar;
 

@@ -12,8 +12,6 @@ ghost use Rattle.record.specs.Inner.Answers.{treePosition, treeOf};
 ghost use Rattle.record.specs.Answer.{headIfWhole, recordRead};
 use crate::element::read_correction;
 use crate::element::read_value;
-use crate::head::read_head;
-use crate::head::skip;
 use answer::BAD_POSITION;
 use answer::BYTES_AFTER;
 use field::element_at;
@@ -23,10 +21,13 @@ use number::Number;
 use number::known_number;
 use number::number_fault;
 use number::read_number;
+use record::NOISE_END;
 use record::RecordAnswer;
 use record::Tree;
 use record::leaves;
 use record::sibling_count;
+use record_head::read_head;
+use record_head::skip;
 
 // A position below `all`, after positions below `base`.
 fn read_position(source: &[u8], at: usize, base: usize, all: usize) -> Number
@@ -50,10 +51,10 @@ fn read_tree(
     base: usize,
     field: usize,
     depth: usize,
-    beside: usize,
+    siblings: usize,
 ) -> Number
-    requires { ⌜ (base ≤ 2 ^ depth) × (depth ≤ 16) × (beside ≤ 112) ⌝ }
-    ensures { λ r. ⌜ numberRead r ≡ treePosition (readTree field depth beside base (now (source .entry)) at) ⌝ }
+    requires { ⌜ (base ≤ 2 ^ depth) × (depth ≤ 16) × (siblings ≤ 112) ⌝ }
+    ensures { λ r. ⌜ numberRead r ≡ treePosition (readTree field depth siblings base (now (source .entry)) at) ⌝ }
 {
     let r0 = read_position(source, at, base, leaves(depth));
     let Number::Value(position, at1) = r0 else {
@@ -67,7 +68,7 @@ fn read_tree(
     let Number::Value(_, at3) = r2 else {
         return r2;
     };
-    let r3 = skip(source, at3, 16 * beside);
+    let r3 = skip(source, at3, 16 * siblings);
     let Number::Value(_, at4) = r3 else {
         return r3;
     };
@@ -78,19 +79,19 @@ fn read_tree(
 pub fn read_noise(source: &[u8]) -> RecordAnswer
     ensures { λ r. ⌜ recordRead (now (source .entry)) r ≡ headIfWhole (readNoise (now (source .entry))) (readHead 1 (now (source .entry))) ⌝ }
 {
-    let r = read_head(source, 1);
+    let r = read_head(source, NOISE_END);
     let RecordAnswer::Accepted(layout) = r else {
         return r;
     };
     let field = layout.field;
     let depth = layout.depth;
-    let beside = sibling_count(depth, layout.branch_bits);
+    let siblings = sibling_count(depth, layout.branch_bits);
     let trees = layout.trees;
     let mut at = layout.body;
     let mut base: usize = 0;
     let mut i: usize = 0;
     while i < trees {
-        let t = read_tree(source, at, base, field, depth, beside);
+        let t = read_tree(source, at, base, field, depth, siblings);
         let Number::Value(position, next) = t else {
             return RecordAnswer::Fault(number_fault(t));
         };
@@ -111,11 +112,11 @@ pub fn known_tree(
     base: usize,
     field: usize,
     depth: usize,
-    beside: usize,
+    siblings: usize,
 ) -> Tree
-    requires { ⌜ (isWhole (readTree field depth beside base (now source) at) ≡ true) × (depth ≤ 16) ⌝ }
-    ensures { λ r. ⌜ (Whole (treeOf (now (source .entry)) field beside r, r .siblings + 16 * beside)
-        ≡ readTree field depth beside base (now (source .entry)) at)
+    requires { ⌜ (isWhole (readTree field depth siblings base (now source) at) ≡ true) × (depth ≤ 16) ⌝ }
+    ensures { λ r. ⌜ (Whole (treeOf (now (source .entry)) field siblings r, r .siblings + 16 * siblings)
+        ≡ readTree field depth siblings base (now (source .entry)) at)
         × (r .high ≡ getD (elementOf field (r .low) (r .high)) 1 0) ⌝ }
 {
     let number = known_number(source, at);

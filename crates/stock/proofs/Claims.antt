@@ -70,7 +70,7 @@ pub record Opened (label : Label) (outputs : ℕ) (shares : List ℕ) : Type 0 w
   pub sum : sumOf (length shares) (openingShare shares) ≤ outputs
   pub stock : openStock label outputs shares .opened .stock ≡ shareBlocks label (length shares) (openingShare shares)
 
-opened : (label : Label) (outputs : ℕ) (shares : List ℕ) → openStock label outputs shares .opened .number ≡ accepted → Opened label outputs shares
+pub opened : (label : Label) (outputs : ℕ) (shares : List ℕ) → openStock label outputs shares .opened .number ≡ accepted → Opened label outputs shares
 unfolding openStock
 opened label outputs shares =
     answered-cases (openTests outputs shares) (withStock noCallers) (withStock (shareBlocks label (length shares) (openingShare shares)) accepted) refl
@@ -81,16 +81,16 @@ module _ (label : Label) (outputs : ℕ) (shares : List ℕ) (O : Opened label o
   abbrev start : Stock
   start = shareBlocks label (length shares) (openingShare shares)
 
-  well : Well start
+  pub well : Well start
   well = blocks-well label (length shares) (openingShare shares) (O .most)
 
   none-past : (k : ℕ) → length shares ≤ k → openingShare shares k ≡ 0
   none-past k h = List·getD-eq-default shares 0 h
 
-  start-holds : (k : ℕ) → remaining start k ≡ openingShare shares k
+  pub start-holds : (k : ℕ) → remaining start k ≡ openingShare shares k
   start-holds = blocks-holds label (length shares) (openingShare shares) (O .most) none-past
 
-  start-held : held start ≡ sumOf (length shares) (openingShare shares)
+  pub start-held : held start ≡ sumOf (length shares) (openingShare shares)
   start-held = blocks-held label (length shares) (openingShare shares) (O .most) none-past
 
   -- before any call the shares in use are those of the opening

@@ -3,9 +3,9 @@ pub mod Cases
 pub mod Entries
 pub mod Calls
 pub mod Opened
-mod Blocks
+pub mod Blocks
 mod Picked
-mod Steps
+pub mod Steps
 mod Callers
 pub mod Runs
 mod Draws

@@ -9,6 +9,7 @@ ghost use Rattle.stock.specs.Stock.{isCaller, remaining};
 mod labels;
 mod shares;
 
+use answer::ACCEPTED;
 use answer::BAD_SIZE;
 use answer::LABEL_NOT_ABOVE;
 use answer::LABEL_NOT_IN_USE;
@@ -51,7 +52,10 @@ pub fn open(label: Label, outputs: usize, shares: &[u32]) -> OpenedStock
         return refused_opening(SHARES_ABOVE);
     }
     let stock = blocks_of(label, shares.len() as u32, each);
-    OpenedStock { number: 0, stock }
+    OpenedStock {
+        number: ACCEPTED,
+        stock,
+    }
 }
 
 // A refused opening: a stock without callers, under label 0.
@@ -93,7 +97,7 @@ fn accepted_draw(stock: Stock, caller: usize, count: usize) -> Drawn
     let mut after = stock;
     after.next[caller] = first + count as u32;
     Drawn {
-        number: 0,
+        number: ACCEPTED,
         first: first as usize,
         count,
         stock: after,
@@ -143,7 +147,7 @@ pub fn pass(stock: Stock, label: Label, outputs: usize) -> OpenedStock
     }
     let fresh = blocks_of(label, stock.callers, each);
     OpenedStock {
-        number: 0,
+        number: ACCEPTED,
         stock: fresh,
     }
 }

@@ -13,8 +13,8 @@ use Rattle.algebra.specs.Choice.{choose}
 use Rattle.algebra.proofs.Choice.{choose-true}
 use Rattle.field.specs.Bytes.{lowOf, highOf}
 use Rattle.field.proofs.ByteWords.{lowOf-below, highOf-below}
-use Rattle.sbox.specs.Inner.Wide.{wideRows}
-use Rattle.sbox.proofs.Columns.{rows-of-column}
+use Rattle.aes_sbox.specs.Inner.Wide.{wideRows}
+use Rattle.aes_sbox.proofs.Columns.{rows-of-column}
 use Rattle.aes128.specs.State.{four, column}
 use Rattle.aes128.specs.Inner.Words.{roundKeys}
 use Rattle.aes128.specs.Inner.Sizes.{IsWord, IsState}

@@ -1,6 +1,6 @@
 -- What expanding a tree gives (document 01, 'Trees', 'Dealing', 'Offline and online'), for any number k of children and any child
 -- function: the walk to a leaf, the leaves of a tree added into words, and those of a punctured tree. The contracts of `walk` in
--- crate `tree_walk`, and of `add_leaves` and `add_punctured` in crate `fill`, cite these with `childBy` the round keys that they are
+-- crate `tree_walk`, and of `add_leaves` and `add_punctured` in crate `tree_fill`, cite these with `childBy` the round keys that they are
 -- lent, whatever those are (document 02, 3).
 use mathlib.Core.List.{List, []}
 use Prim.Native.Nat.{ℕ, _-_, _*_, _^_}
@@ -30,7 +30,7 @@ walked k child root tree bytes =
 abbrev pub leavesAdded : Kind → ℕ → (ℕ → List (List ℕ) → List (List ℕ)) → ℕ → List (List ℕ) → List ℕ → List ℕ
 leavesAdded K k child levels root words = added (K .field) (k ^ levels) (leafElement (K .leaf) k child levels root) words
 
--- the same of a punctured tree: the correction at its position, the other leaves from the siblings among bytes
+-- those words after a punctured tree is added: the correction at its position, the other leaves from the siblings among bytes
 abbrev pub puncturedAdded : (K : Kind) → ℕ → (ℕ → List (List ℕ) → List (List ℕ)) → Punctured → List ℕ → Value (K .field) → List ℕ → List ℕ
 puncturedAdded K k child tree bytes correction words =
     added (K .field) (k ^ tree .levels)

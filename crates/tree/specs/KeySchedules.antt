@@ -1,5 +1,5 @@
 -- Key schedules out of the node loop (document 02, 3). 'The walk is proved for any round keys it is lent': the contracts of
--- `walk` in crate `tree_walk`, and of `add_leaves` and `add_punctured` in crate `fill`, say `walked`, `leavesAdded` and
+-- `walk` in crate `tree_walk`, and of `add_leaves` and `add_punctured` in crate `tree_fill`, say `walked`, `leavesAdded` and
 -- `puncturedAdded` (Expanded) with `childBy` the family of round keys lent, and ask nothing of it. 'Those of the child keys give the
 -- trees as before': the record KeySchedules, for any number k of children and any such family.
 use mathlib.Core.Path.{_≡_}

@@ -2,7 +2,7 @@
 // punctured tree follows from.
 ghost use mathlib.Core.Path.{_≡_};
 ghost use Prim.Native.Nat.{_/_, _%_, _^_, _≤_, _<_};
-ghost use Rattle.sbox.specs.Inner.Tables.{RoundTables};
+ghost use Rattle.aes_sbox.specs.Inner.Tables.{RoundTables};
 ghost use Rattle.tree.specs.Child.{childBy};
 ghost use Rattle.tree.specs.Inner.Keys.{keysFor};
 ghost use Rattle.tree.specs.Inner.Nodes.{nodeOf};
@@ -11,7 +11,7 @@ ghost use Rattle.tree_walk.specs.Inner.Ways.{IsWay, IsBeside, FromSiblin
 use crate::node::child;
 use crate::node::child_of_both;
 use crate::powers::power;
-use block_cipher::TwoBlocks;
+use aes_blocks::TwoBlocks;
 use field::Block;
 
 // The place of a block's bytes, and how many levels are left below it.

@@ -2,7 +2,7 @@
 ghost use mathlib.Core.Path.{_≡_};
 ghost use Prim.Native.Nat.{_+_, _*_, _/_, _^_, _≤_, _<_};
 ghost use lib.ListN.{length};
-ghost use Rattle.sbox.specs.Inner.Tables.{RoundTables};
+ghost use Rattle.aes_sbox.specs.Inner.Tables.{RoundTables};
 ghost use Rattle.tree.specs.Child.{childBy};
 ghost use Rattle.tree.specs.Inner.Keys.{keysFor};
 ghost use Rattle.tree.specs.Expanded.{walk, walked};

@@ -1,14 +1,14 @@
 // The round keys of the child keys, and two children of a node.
 ghost use mathlib.Core.Path.{_≡_};
 ghost use Prim.Native.Nat.{_+_, _^_, _≤_, _<_};
-ghost use Rattle.sbox.specs.Inner.Tables.{RoundTables};
-ghost use Rattle.sbox.specs.Table.{SBoxTable};
+ghost use Rattle.aes_sbox.specs.Inner.Tables.{RoundTables};
+ghost use Rattle.aes_sbox.specs.Table.{SBoxTable};
 ghost use Rattle.tree.specs.Child.{childBy};
 ghost use Rattle.tree.specs.Inner.Keys.{keysFor};
 ghost use Rattle.tree.specs.KeySchedules.{OfChildKeys};
 ghost use Rattle.tree.specs.Inner.Nodes.{nodeOf};
 use crate::powers::power;
-use block_cipher::TwoBlocks;
+use aes_blocks::TwoBlocks;
 use field::Block;
 
 // The round keys of the child keys of a node's 2^branch_bits children, those of child c at place c.
@@ -35,7 +35,7 @@ pub fn children(tables: &[u64; 1536], keys: &[[u64; 40]; 8], c: usize, s: Block)
     ensures { λ r. ⌜ (nodeOf (r .one) ≡ childBy (keysFor (now (keys .entry))) c (nodeOf s))
         × (nodeOf (r .other) ≡ childBy (keysFor (now (keys .entry))) (c + 1) (nodeOf s)) ⌝ }
 {
-    let both = block_cipher::encrypt_two(tables, &keys[c], &keys[c + 1], s, s);
+    let both = aes_blocks::encrypt_two(tables, &keys[c], &keys[c + 1], s, s);
     TwoBlocks {
         one: both.one.add(s),
         other: both.other.add(s),
@@ -47,7 +47,7 @@ pub fn child(tables: &[u64; 1536], keys: &[[u64; 40]; 8], c: usize, s: Block) ->
     requires { ⌜ RoundTables (now tables) × (c < 8) ⌝ }
     ensures { λ r. ⌜ nodeOf r ≡ childBy (keysFor (now (keys .entry))) c (nodeOf s) ⌝ }
 {
-    let e = block_cipher::encrypt(tables, &keys[c], s);
+    let e = aes_blocks::encrypt(tables, &keys[c], s);
     e.add(s)
 }
 
@@ -63,7 +63,7 @@ pub fn child_of_both(
     ensures { λ r. ⌜ (nodeOf (r .one) ≡ childBy (keysFor (now (keys .entry))) c (nodeOf a))
         × (nodeOf (r .other) ≡ childBy (keysFor (now (keys .entry))) c (nodeOf b)) ⌝ }
 {
-    let both = block_cipher::encrypt_two(tables, &keys[c], &keys[c], a, b);
+    let both = aes_blocks::encrypt_two(tables, &keys[c], &keys[c], a, b);
     TwoBlocks {
         one: both.one.add(a),
         other: both.other.add(b),

@@ -51,7 +51,7 @@ module _ {r : WindowRows} {noise room : ℕ} (fits : NoiseFitting r noise room) 
   pub noise-now : {b : ℕ} → b ≡ room → NoiseFitting r noise b
   noise-now e = rw e fits
 
-  module _ (some : r .pairs ≡ 0 → ⊥) where
+  module _ (some : r .«u_words» ≡ 0 → ⊥) where
     pub whole-noise : noise ≡ r .shape .places
     whole-noise = fits .testing .all some .1 .whole ∙ mul-one (r .shape .places)
 
@@ -82,14 +82,14 @@ module _ (keys : List (List (List ℕ))) (r : WindowRows) (words : List ℕ) (k 
 -- ---- what a row's sums write and tell
 
 module _ (keys : List (List (List ℕ))) (r : WindowRows) (k : ℕ) (noise v uOut vOut : List ℕ) where
-  module _ (none : r .pairs ≡ 0) where
+  module _ (none : r .«u_words» ≡ 0) where
     pub alone-binary : {y : Block} → y ≡ output blocks (binaryRow keys (r .shape) (r .window .first + k)) (at (binary .elements) v)
-        → {b : List ℕ} → b ≡ put (binary .elements) vOut k y → RowWritten binaryKind (eqb (r .pairs) 0) keys r k noise v uOut vOut true uOut b
+        → {b : List ℕ} → b ≡ put (binary .elements) vOut k y → RowWritten binaryKind (eqb (r .«u_words») 0) keys r k noise v uOut vOut true uOut b
     alone-binary s q = rw none record { told = row-blocks keys r v k; u-is = refl; v-is = q ∙ ap (put (binary .elements) vOut k) s }
 
     pub alone-prime : k < length vOut → {y : Prime} → y ≡ output (itself primeRing) (primeRow keys (r .shape) (r .window .first + k)) (at (primes .elements) v)
         → {t : Bool} → t ≡ rowBelow modulus v keys (r .shape) (r .window .first + k)
-        → RowWritten primeKind (eqb (r .pairs) 0) keys r k noise v uOut vOut t uOut (set vOut k (y .word))
+        → RowWritten primeKind (eqb (r .«u_words») 0) keys r k noise v uOut vOut t uOut (set vOut k (y .word))
     alone-prime h {y} s q =
         rw none record {
           told = q ∙ row-primes keys r v k;
@@ -97,13 +97,13 @@ module _ (keys : List (List (List ℕ))) (r : WindowRows) (k : ℕ) (noise v uOu
           v-is = sym (put-one (λ x. x .word) prime vOut k y h) ∙ ap (put (primes .elements) vOut k) s;
         }
 
-  module _ (some : r .pairs ≡ 0 → ⊥) (room : k < length uOut) where
+  module _ (some : r .«u_words» ≡ 0 → ⊥) (room : k < length uOut) where
     pub pair-binary : {x : ℕ} → x ≡ output (itself bitRing) (binaryRow keys (r .shape) (r .window .first + k)) (at (binary .noiseValues) noise)
         → {y : Block} → y ≡ output blocks (binaryRow keys (r .shape) (r .window .first + k)) (at (binary .elements) v)
         → {t : Bool} → t ≡ rowBelow 2 noise keys (r .shape) (r .window .first + k) → {b : List ℕ} → b ≡ put (binary .elements) vOut k y
-        → RowWritten binaryKind (eqb (r .pairs) 0) keys r k noise v uOut vOut t (set uOut k x) b
+        → RowWritten binaryKind (eqb (r .«u_words») 0) keys r k noise v uOut vOut t (set uOut k x) b
     pair-binary {x} a s {t} q p =
-        rw (ne-eqb (r .pairs) 0 some) record {
+        rw (ne-eqb (r .«u_words») 0 some) record {
           told = sym (and-true t) ∙ ap₂ _&&_ (q ∙ row-bits keys r noise k) (row-blocks keys r v k);
           u-is = sym (put-one (λ x. x) (λ x. x) uOut k x room) ∙ ap (put (binary .noiseValues) uOut k) a;
           v-is = p ∙ ap (put (binary .elements) vOut k) s;
@@ -113,9 +113,9 @@ module _ (keys : List (List (List ℕ))) (r : WindowRows) (k : ℕ) (noise v uOu
         → {x : Prime} → x ≡ output (itself primeRing) (primeRow keys (r .shape) (r .window .first + k)) (at (primes .noiseValues) noise)
         → {y : Prime} → y ≡ output (itself primeRing) (primeRow keys (r .shape) (r .window .first + k)) (at (primes .elements) v)
         → {t : Bool} → t ≡ (rowBelow modulus noise keys (r .shape) (r .window .first + k) && rowBelow modulus v keys (r .shape) (r .window .first + k))
-        → RowWritten primeKind (eqb (r .pairs) 0) keys r k noise v uOut vOut t (set uOut k (x .word)) (set vOut k (y .word))
+        → RowWritten primeKind (eqb (r .«u_words») 0) keys r k noise v uOut vOut t (set uOut k (x .word)) (set vOut k (y .word))
     pair-prime h {x} a {y} s q =
-        rw (ne-eqb (r .pairs) 0 some) record {
+        rw (ne-eqb (r .«u_words») 0 some) record {
           told = q ∙ ap₂ _&&_ (row-primes keys r noise k) (row-primes keys r v k);
           u-is = sym (put-one (λ x. x .word) prime uOut k x room) ∙ ap (put (primes .noiseValues) uOut k) a;
           v-is = sym (put-one (λ x. x .word) prime vOut k y h) ∙ ap (put (primes .elements) vOut k) s;
@@ -136,11 +136,11 @@ module _ {alone : Bool} {keys : List (List (List ℕ))} {r : WindowRows} {k : �
 -- the window's first k rows
 abbrev pub rowsTo : WindowRows → ℕ → WindowRows
 rowsTo r k =
-    record { field = r .field; shape = r .shape; window = record { first = r .window .first; count = k }; pairs = choose (eqb (r .pairs) 0) 0 k }
+    record { field = r .field; shape = r .shape; window = record { first = r .window .first; count = k }; «u_words» = choose (eqb (r .«u_words») 0) 0 k }
 
-no-pairs : (alone : Bool) → _≡_ {A = ℕ} (choose alone 0 0) 0
-no-pairs true = refl
-no-pairs false = refl
+no-u : (alone : Bool) → _≡_ {A = ℕ} (choose alone 0 0) 0
+no-u true = refl
+no-u false = refl
 
 -- a turn writes one value more, and tests one index more, of u unless no row gives it
 turn-put : {A : Type 0} (C : Coding A) → CodingLaws C → (f : ℕ → A) (b : List ℕ) (k : ℕ) (alone : Bool) {l next : List ℕ} → l ≡ over C (choose alone 0 k) f b
@@ -158,28 +158,28 @@ module _ (keys : List (List (List ℕ))) (r : WindowRows) (noise v uOut vOut : L
   pub filled-none : Filled keys (rowsTo r 0) noise v uOut vOut true uOut vOut
   unfolding elementsUsed every
   filled-none =
-      rw (no-pairs (eqb (r .pairs) 0)) record { told = refl; u-is = front-none _ _ uOut; v-is = front-none _ _ vOut }
+      rw (no-u (eqb (r .«u_words») 0)) record { told = refl; u-is = front-none _ _ uOut; v-is = front-none _ _ vOut }
 
   module _ {k : ℕ} {t : Bool} {a b : List ℕ} (f : Filled keys (rowsTo r k) noise v uOut vOut t a b) where
-    pub filled-more : {x : Bool} {c d : List ℕ} → RowWritten (kindOf (r .field)) (eqb (r .pairs) 0) keys r k noise v a b x c d
+    pub filled-more : {x : Bool} {c d : List ℕ} → RowWritten (kindOf (r .field)) (eqb (r .«u_words») 0) keys r k noise v a b x c d
         → Filled keys (rowsTo r (k + 1)) noise v uOut vOut (t && x) c d
     unfolding elementsUsed
     filled-more w =
         let L = kindLaws (r .field) .field in
         record {
-          told = turn-test _ _ k (eqb (r .pairs) 0) (f .told) (w .told);
-          u-is = turn-put _ (L .noiseValues) _ uOut k (eqb (r .pairs) 0) (f .u-is) (w .u-is);
+          told = turn-test _ _ k (eqb (r .«u_words») 0) (f .told) (w .told);
+          u-is = turn-put _ (L .noiseValues) _ uOut k (eqb (r .«u_words») 0) (f .u-is) (w .u-is);
           v-is = value-put _ (L .elements) _ vOut k (f .v-is) (w .v-is) refl;
         }
 
     pub filled-all : {n : ℕ} → NoiseTesting r n → k ≤ r .window .count → r .window .count ≤ k → Filled keys r noise v uOut vOut t a b
     filled-all fits h g = subst (λ (s : WindowRows). Filled keys s noise v uOut vOut t a b) same f
       where
-        pairs : (alone : Bool) → eqb (r .pairs) 0 ≡ alone → choose alone 0 (r .window .count) ≡ r .pairs
-        pairs true e = sym (eqb-true (r .pairs) 0 e)
-        pairs false e = sym (fits .all (eqb-false (r .pairs) 0 e) .0)
+        words : (alone : Bool) → eqb (r .«u_words») 0 ≡ alone → choose alone 0 (r .window .count) ≡ r .«u_words»
+        words true e = sym (eqb-true (r .«u_words») 0 e)
+        words false e = sym (fits .all (eqb-false (r .«u_words») 0 e) .0)
 
         same : rowsTo r k ≡ r
         same =
             ap (rowsTo r) (le-antisymm {n = k} {m = r .window .count} h g)
-            ∙ ap (λ (p : ℕ). record { field = r .field; shape = r .shape; window = r .window; pairs = p }) (pairs (eqb (r .pairs) 0) refl)
+            ∙ ap (λ (p : ℕ). record { field = r .field; shape = r .shape; window = r .window; «u_words» = p }) (words (eqb (r .«u_words») 0) refl)

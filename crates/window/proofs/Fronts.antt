@@ -45,7 +45,7 @@ module _ {s b : List ℕ} where
 -- ---- a window of at most 32 outputs
 
 module _ (own : List ℕ) {r : WindowRows} (few : r .window .count ≤ 32) {vector room : ℕ} where
-  pub u-own : length own ≡ 32 → NoiseFitting r vector room → r .pairs ≤ length own
+  pub u-own : length own ≡ 32 → NoiseFitting r vector room → r .«u_words» ≤ length own
   u-own e fits = omega (arith, fits .testing .few)
 
   pub own-words : length own ≡ 32 → NoiseFitting r vector room → NoiseFitting r vector (length own)

@@ -3,8 +3,8 @@ pub mod Rows
 pub mod Sizes
 pub mod Blocks
 pub mod Numbers
-mod Windows
-mod Fronts
-mod Passed
-mod Filled
-mod Tested
+pub mod Windows
+pub mod Fronts
+pub mod Passed
+pub mod Filled
+pub mod Tested

@@ -41,10 +41,10 @@ pub room-lacks : (field count room : ℕ) {width : ℕ} → width ≡ elementWor
 room-lacks field count room {width} we q = q ∙ rw (mul-comm width count, we)
 
 -- a vector, a window and a buffer that pass all three tests fit each other
-pub passed-fits : (width : ℕ) (s : List ℕ) (f : Layout) (vector : ℕ) (w : Window) (room pairs : ℕ) → Sizes s (headOf s f) (f .body)
+pub passed-fits : (width : ℕ) (s : List ℕ) (f : Layout) (vector : ℕ) (w : Window) (room words : ℕ) → Sizes s (headOf s f) (f .body)
     → vector ≡ 2 ^ f .depth * width → w .first + w .count ≤ f .outputs → w .count * width ≤ room
-    → Fitting width (rowsOf f w pairs) vector room
-passed-fits width s f vector w room pairs sizes whole within enough =
+    → Fitting width (rowsOf f w words) vector room
+passed-fits width s f vector w room words sizes whole within enough =
     record {
       testing = record {
         shaped = record { some = sizes .some; full = sizes .full; few = sizes .terms; most = pow-mono (sizes .depth); strip = refl };
@@ -55,11 +55,11 @@ passed-fits width s f vector w room pairs sizes whole within enough =
     }
 
 -- a word of u from every row, and from none
-pub all-pairs : (f : Layout) (w : Window) {noise room : ℕ} → Fitting 1 (rowsOf f w (w .count)) noise room → NoiseFitting (rowsOf f w (w .count)) noise room
-all-pairs f w fits = record { testing = record { few = omega arith; all = λ some. (refl, fits .testing) }; enough = omega (arith, fits .enough) }
+pub all-u : (f : Layout) (w : Window) {noise room : ℕ} → Fitting 1 (rowsOf f w (w .count)) noise room → NoiseFitting (rowsOf f w (w .count)) noise room
+all-u f w fits = record { testing = record { few = omega arith; all = λ some. (refl, fits .testing) }; enough = omega (arith, fits .enough) }
 
-pub no-pairs : (f : Layout) (w : Window) (noise room : ℕ) → NoiseFitting (rowsOf f w 0) noise room
-no-pairs f w noise room = record { testing = record { few = omega arith; all = λ some. absurd (some refl) }; enough = omega arith }
+pub no-u : (f : Layout) (w : Window) (noise room : ℕ) → NoiseFitting (rowsOf f w 0) noise room
+no-u f w noise room = record { testing = record { few = omega arith; all = λ some. absurd (some refl) }; enough = omega arith }
 
 -- with as many words of noise as there are places, and as much room for u as the window's count, the tests of the elements are left
 pub elements-alone : (f : Layout) (vector : ℕ) (w : Window) (room : ℕ) {noise : ℕ} → noise ≡ 2 ^ f .depth

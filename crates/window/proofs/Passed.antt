@@ -14,7 +14,7 @@ use Rattle.prime.specs.Prime.{primes, modulus}
 use Rattle.field.proofs.KindOf.{kind-2, words-2}
 use Rattle.window.specs.declared.WindowRows.{WindowRows}
 use Rattle.window.specs.Head.{ofNoise}
-use Rattle.window.specs.Inner.Outputs.{pairRows}
+use Rattle.window.specs.Inner.Outputs.{uRows}
 use Rattle.window.specs.Inner.Testing.{Testing, NoiseTesting, elementsUsed}
 
 module _ (keys : List (List (List ℕ))) (r : WindowRows) (words : List ℕ) where
@@ -54,17 +54,17 @@ module _ (keys : List (List (List ℕ))) (r : WindowRows) (words : List ℕ) whe
     noise-prime h q = q ∙ rw (kind-2 field h)
 
   -- rows that give no word of u use no noise; or all rows do
-  pub noise-none : (F : Field) → r .pairs ≡ 0 → true ≡ elementsUsed F keys (pairRows r) words
+  pub noise-none : (F : Field) → r .«u_words» ≡ 0 → true ≡ elementsUsed F keys (uRows r) words
   unfolding elementsUsed
   noise-none F e = rw e (passed-none _)
 
-  pub noise-all : (F : Field) {n : ℕ} → NoiseTesting r n → (r .pairs ≡ 0 → ⊥) → {t : Bool} → t ≡ elementsUsed F keys r words
-      → t ≡ elementsUsed F keys (pairRows r) words
+  pub noise-all : (F : Field) {n : ℕ} → NoiseTesting r n → (r .«u_words» ≡ 0 → ⊥) → {t : Bool} → t ≡ elementsUsed F keys r words
+      → t ≡ elementsUsed F keys (uRows r) words
   unfolding elementsUsed
   noise-all F fits some q = rw (fits .all some .0) q
 
 pub testing-prime : (field : ℕ) (r : WindowRows) (n : ℕ) → (field ≡ 1 → ⊥) → Testing 1 r n → Testing (elementWords field) r n
 testing-prime field r n h fits = rw (words-2 field h) fits
 
-pub pairs-testing : (r : WindowRows) (n : ℕ) → NoiseTesting r n → (r .pairs ≡ 0 → ⊥) → Testing 1 r n
-pairs-testing r n fits some = fits .all some .1
+pub u-testing : (r : WindowRows) (n : ℕ) → NoiseTesting r n → (r .«u_words» ≡ 0 → ⊥) → Testing 1 r n
+u-testing r n fits some = fits .all some .1

@@ -12,7 +12,7 @@ use Rattle.field.specs.Kind.{kindOf, elementWords}
 use Rattle.field.proofs.BothKinds.{kindLaws}
 use Rattle.window.specs.declared.WindowRows.{WindowRows}
 use Rattle.window.specs.Head.{ofNoise}
-use Rattle.window.specs.Inner.Outputs.{pairRows}
+use Rattle.window.specs.Inner.Outputs.{uRows}
 use Rattle.window.specs.Inner.Testing.{elementsUsed}
 use Rattle.window.specs.Inner.Written.{bothUsed, uOver, vOver, Filled, WindowWritten}
 
@@ -25,7 +25,7 @@ module _ (keys : List (List (List ℕ))) (r : WindowRows) (noise v uOut vOut : L
   all-written e p q = record { told = sym e; u-is = p; v-is = q }
 
   -- tested before they are written, the noise and then v
-  module _ {x : Bool} (xe : x ≡ elementsUsed (ofNoise (kindOf (r .field) .field)) keys (pairRows r) noise) where
+  module _ {x : Bool} (xe : x ≡ elementsUsed (ofNoise (kindOf (r .field) .field)) keys (uRows r) noise) where
     pub noise-not-usable : not x ≡ true → WindowWritten keys r noise v uOut vOut false uOut vOut
     noise-not-usable e = none-written (rw (← xe, not-true x e))
 
@@ -43,13 +43,13 @@ module _ (keys : List (List (List ℕ))) (r : WindowRows) (noise v uOut vOut : L
     small-refused e = none-written (sym (f .told) ∙ not-true t e)
 
     pub small-written : not t ≡ false → {width : ℕ} → width ≡ elementWords (r .field)
-        → {a : List ℕ} → a ≡ take (r .pairs) x ++ drop (r .pairs) uOut
+        → {a : List ℕ} → a ≡ take (r .«u_words») x ++ drop (r .«u_words») uOut
         → {b : List ℕ} → b ≡ take (r .window .count * width) y ++ drop (r .window .count * width) vOut
         → WindowWritten keys r noise v uOut vOut true a b
     small-written e we ae be =
         let F = kindOf (r .field) .field in
         let L = kindLaws (r .field) .field in
-        let one : r .pairs ≡ r .pairs * F .noiseValues .width = sym (ap (λ (n : ℕ). r .pairs * n) (kindLaws (r .field) .noise-width) ∙ mul-one (r .pairs)) in
+        let one : r .«u_words» ≡ r .«u_words» * F .noiseValues .width = sym (ap (λ (n : ℕ). r .«u_words» * n) (kindLaws (r .field) .noise-width) ∙ mul-one (r .«u_words»)) in
         all-written (sym (f .told) ∙ not-false t e)
-        (front-over (F .noiseValues) (L .noiseValues) (r .pairs) _ uOwn uOut (f .u-is) one ae)
+        (front-over (F .noiseValues) (L .noiseValues) (r .«u_words») _ uOwn uOut (f .u-is) one ae)
         (front-over (F .elements) (L .elements) (r .window .count) _ vOwn vOut (f .v-is) (ap (λ (n : ℕ). r .window .count * n) we) be)

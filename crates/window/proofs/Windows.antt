@@ -13,17 +13,17 @@ use Rattle.window.specs.Inner.Testing.{Fitting, NoiseFitting}
 use Rattle.window.specs.Inner.Written.{WindowWritten}
 
 abbrev rowsIn : Layout → Window → ℕ → Shape → WindowRows
-rowsIn f w pairs shape = record { field = f .field; shape = shape; window = w; pairs = pairs }
+rowsIn f w words shape = record { field = f .field; shape = shape; window = w; «u_words» = words }
 
-module _ (f : Layout) (w : Window) (pairs : ℕ) {shape : Shape} (e : shape ≡ shapeOf f) where
-  pub fits-rows : {vector room : ℕ} → Fitting (elementWords (f .field)) (rowsOf f w pairs) vector room
-      → Fitting (elementWords (f .field)) (rowsIn f w pairs shape) vector room
-  fits-rows {vector} {room} = subst (λ (s : Shape). Fitting (elementWords (f .field)) (rowsIn f w pairs s) vector room) (sym e)
+module _ (f : Layout) (w : Window) (words : ℕ) {shape : Shape} (e : shape ≡ shapeOf f) where
+  pub fits-rows : {vector room : ℕ} → Fitting (elementWords (f .field)) (rowsOf f w words) vector room
+      → Fitting (elementWords (f .field)) (rowsIn f w words shape) vector room
+  fits-rows {vector} {room} = subst (λ (s : Shape). Fitting (elementWords (f .field)) (rowsIn f w words s) vector room) (sym e)
 
-  pub fits-noise : {noise room : ℕ} → NoiseFitting (rowsOf f w pairs) noise room → NoiseFitting (rowsIn f w pairs shape) noise room
-  fits-noise {noise} {room} = subst (λ (s : Shape). NoiseFitting (rowsIn f w pairs s) noise room) (sym e)
+  pub fits-noise : {noise room : ℕ} → NoiseFitting (rowsOf f w words) noise room → NoiseFitting (rowsIn f w words shape) noise room
+  fits-noise {noise} {room} = subst (λ (s : Shape). NoiseFitting (rowsIn f w words s) noise room) (sym e)
 
   pub written-for : (noise v uOut vOut : List ℕ) {keys keys′ : List (List (List ℕ))} → keys′ ≡ keys → {t : Bool} {x y : List ℕ}
-      → WindowWritten keys′ (rowsIn f w pairs shape) noise v uOut vOut t x y → WindowWritten keys (rowsOf f w pairs) noise v uOut vOut t x y
+      → WindowWritten keys′ (rowsIn f w words shape) noise v uOut vOut t x y → WindowWritten keys (rowsOf f w words) noise v uOut vOut t x y
   written-for noise v uOut vOut {keys} ke {t} {x} {y} z =
-      subst (λ (s : Shape). WindowWritten keys (rowsIn f w pairs s) noise v uOut vOut t x y) e (rw (← ke) z)
+      subst (λ (s : Shape). WindowWritten keys (rowsIn f w words s) noise v uOut vOut t x y) e (rw (← ke) z)

@@ -3,8 +3,8 @@ use mathlib.Core.Path.{_≡_}
 use mathlib.Core.List.{List, [], _∷_}
 use Prim.Native.Nat.{ℕ, _+_, _%_, _<_}
 use lib.ListN.{getD}
-use Rattle.sbox.specs.Byte.{sBox}
-use Rattle.sbox.specs.Inner.Tables.{RoundTables}
+use Rattle.aes_sbox.specs.Byte.{sBox}
+use Rattle.aes_sbox.specs.Inner.Tables.{RoundTables}
 use Rattle.aes128.specs.State.{column, byteAt, xorWord}
 use Rattle.aes128.specs.Cipher.{subBytes, shiftRows, mixColumns, addRoundKey, rotWord, subWord}
 

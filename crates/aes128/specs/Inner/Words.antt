@@ -4,7 +4,7 @@ use mathlib.Core.List.{List, [], _∷_}
 use Prim.Native.Nat.{ℕ, _+_}
 use lib.ListN.{getD}
 use Rattle.field.specs.Bytes.{columnsOf}
-use Rattle.sbox.specs.Inner.Wide.{wideRows}
+use Rattle.aes_sbox.specs.Inner.Wide.{wideRows}
 use Rattle.aes128.specs.State.{four}
 
 -- the round key that four words hold as wide columns

@@ -30,7 +30,7 @@ twin c = 2 * (c / 2) + (1 - c % 2)
 unfoldable pub twinPut : (ℕ → List (List ℕ) → List (List ℕ)) → List (List ℕ) → ℕ → ℕ → List ℕ → Walk
 twinPut child s digit at bytes = walk (child digit s) (sets bytes at (columnsBytes (child (twin digit) s)))
 
--- the same with the children before the pair too
+-- the child that a digit names, and bytes with the children before its pair and the other of the pair written from a place on
 unfoldable pub beforePut : (ℕ → List (List ℕ) → List (List ℕ)) → List (List ℕ) → ℕ → ℕ → List ℕ → Walk
 beforePut child s digit at bytes =
     walk (child digit s) (sets bytes at (blocksBytes (childrenFrom child s 0 (2 * (digit / 2)) ++ (child (twin digit) s ∷ []))))

@@ -25,11 +25,11 @@ shapeOf f = record { places = 2 ^ f .depth; terms = f .terms; strip = strip (2 ^
 
 -- the rows of a window, of which so many give a word of u too
 abbrev pub rowsOf : Layout → Window → ℕ → WindowRows
-rowsOf f w pairs = record { field = f .field; shape = shapeOf f; window = w; pairs = pairs }
+rowsOf f w words = record { field = f .field; shape = shapeOf f; window = w; «u_words» = words }
 
 -- those that do
-abbrev pub pairRows : WindowRows → WindowRows
-pairRows r = record { field = r .field; shape = r .shape; window = record { first = r .window .first; count = r .pairs }; pairs = r .pairs }
+abbrev pub uRows : WindowRows → WindowRows
+uRows r = record { field = r .field; shape = r .shape; window = record { first = r .window .first; count = r .«u_words» }; «u_words» = r .«u_words» }
 
 -- output k of the window, for a rule of coefficients
 abbrev pub outputAt : (F : Field) → (ℕ → NoiseValue F) → List (List (List ℕ)) → WindowRows → List ℕ → ℕ → Value F

@@ -31,10 +31,10 @@ pub record Fitting (width : ℕ) (r : WindowRows) (vector room : ℕ) : Type 0 w
 
 -- rows that give no word of u; or all give one, and then there is a whole vector of noise values
 pub record NoiseTesting (r : WindowRows) (noise : ℕ) : Type 0 where
-  pub few : r .pairs ≤ r .window .count
-  pub all : (r .pairs ≡ 0 → ⊥) → (r .pairs ≡ r .window .count) × Testing 1 r noise
+  pub few : r .«u_words» ≤ r .window .count
+  pub all : (r .«u_words» ≡ 0 → ⊥) → (r .«u_words» ≡ r .window .count) × Testing 1 r noise
 
 -- and a buffer with room for the words of u
 pub record NoiseFitting (r : WindowRows) (noise room : ℕ) : Type 0 where
   pub testing : NoiseTesting r noise
-  pub enough : r .pairs ≤ room
+  pub enough : r .«u_words» ≤ room

@@ -9,16 +9,16 @@ use Rattle.algebra.specs.Inner.Put.{put}
 use Rattle.field.specs.Kind.{Kind, kindOf}
 use Rattle.window.specs.declared.WindowRows.{WindowRows}
 use Rattle.window.specs.Head.{ofNoise}
-use Rattle.window.specs.Inner.Outputs.{pairRows, outputAt, windowOver}
+use Rattle.window.specs.Inner.Outputs.{uRows, outputAt, windowOver}
 use Rattle.window.specs.Inner.Testing.{rowUsed, elementsUsed}
 
 -- the test of the words that the rows use, of the noise and of v
 abbrev pub bothUsed : List (List (List ℕ)) → WindowRows → List ℕ → List ℕ → Bool
-bothUsed keys r noise v = elementsUsed (ofNoise (kindOf (r .field) .field)) keys (pairRows r) noise && elementsUsed (kindOf (r .field) .field) keys r v
+bothUsed keys r noise v = elementsUsed (ofNoise (kindOf (r .field) .field)) keys (uRows r) noise && elementsUsed (kindOf (r .field) .field) keys r v
 
 -- the windows over the fronts of both buffers; where no row gives a word of u, its buffer stays as it is
 abbrev pub uOver : List (List (List ℕ)) → WindowRows → List ℕ → List ℕ → List ℕ
-uOver keys r noise uOut = windowOver (ofNoise (kindOf (r .field) .field)) (kindOf (r .field) .coefficient) keys (pairRows r) noise uOut
+uOver keys r noise uOut = windowOver (ofNoise (kindOf (r .field) .field)) (kindOf (r .field) .coefficient) keys (uRows r) noise uOut
 
 abbrev pub vOver : List (List (List ℕ)) → WindowRows → List ℕ → List ℕ → List ℕ
 vOver keys r v vOut = windowOver (kindOf (r .field) .field) (kindOf (r .field) .coefficient) keys r v vOut

@@ -3,6 +3,7 @@ use mathlib.Core.Path.{ap, _∙_}
 use borrow.Author.Needs.{needs}
 use mir.Facts.{toZ-ofZ}
 use Rattle.amounts.specs.Calls.{writeAmount}
+use Rattle.page_two.proofs.Amounts.{write-returned}
 use Rattle.expander.proofs.signed_amounts.expander_write_amount.Statement.{statement}
 use Rattle.expander.proofs.signed_amounts.expander_write_amount.Tie as tie
 
@@ -11,5 +12,5 @@ expander-write-amount-spec =
     tie.close
     (tie.spec
     (λ c κs. search needs)  -- write-amount-requires
-    (λ c. c .write-amount .ensures ∙ ap writeAmount (toZ-ofZ (c .before .fits .amount)))  -- returns
+    (λ c. write-returned _ _ (c .write-amount .ensures ∙ ap writeAmount (toZ-ofZ (c .before .fits .amount))))  -- returns
     )

@@ -1,0 +1,3 @@
+-- The laws of `aes_rows`.
+mod Sharing
+mod RowRounds

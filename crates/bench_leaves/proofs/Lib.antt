@@ -1,5 +1,0 @@
--- The laws of `bench_leaves`, which its functions' proofs use.
-mod Starts
-mod Tables
-mod Leaves
-mod Words

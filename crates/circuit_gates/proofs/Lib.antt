@@ -1,0 +1,2 @@
+-- The laws of `circuit_gates`, which its functions' proofs use.
+mod Leaves

@@ -1,0 +1,2 @@
+-- The laws of `code_sums`.
+mod InPlace

@@ -1,4 +1,0 @@
--- The laws of `end_calls`, which its functions' proofs use.
-mod Calls
-mod Delta
-mod Trees

@@ -1,0 +1,2 @@
+-- The definitions of `ends_bench_leaves`, all of them inner.
+pub mod Inner

@@ -1,0 +1,2 @@
+-- The two layers of each field, by computation.
+pub mod Two

@@ -1,0 +1,2 @@
+-- Two layers of each field.
+pub mod Two

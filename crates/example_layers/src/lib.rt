@@ -1,0 +1,1 @@
+// Two layers of each field, computed. It has no code.

@@ -1,4 +1,0 @@
--- The laws of `fill`.
-mod Ranges
-mod Elements
-mod Filled

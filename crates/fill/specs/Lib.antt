@@ -1,2 +1,0 @@
--- The definitions of `fill`, all of them inner: its contracts cite what `tree` says that expanding a tree gives.
-pub mod Inner

@@ -1,0 +1,3 @@
+-- The definitions of `layer_add`.
+pub mod Add
+pub mod Inner

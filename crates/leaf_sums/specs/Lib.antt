@@ -1,2 +1,0 @@
--- The definitions of `leaf_sums`, all of them inner.
-pub mod Inner

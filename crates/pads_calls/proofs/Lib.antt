@@ -1,0 +1,2 @@
+-- The laws of `pads_calls`.
+mod Outcomes

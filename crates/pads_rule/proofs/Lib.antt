@@ -1,0 +1,2 @@
+-- The laws of `pads_rule`.
+mod Needs

@@ -1,0 +1,2 @@
+-- The loops of `pads_write`.
+pub mod Turns

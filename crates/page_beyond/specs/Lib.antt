@@ -1,0 +1,2 @@
+-- What stands beyond both documents.
+pub mod Beyond

@@ -1,0 +1,2 @@
+-- Document 02 on one page.
+pub mod Document02

@@ -1,0 +1,1 @@
+// What document 02 says beyond each call alone, over the pages; no code.

@@ -1,0 +1,3 @@
+-- The laws of `pairing_tests`. Callers use Same.
+pub mod Same
+mod Turns

@@ -1,3 +1,0 @@
--- The laws of `row_cipher`.
-mod Sharing
-mod RowRounds

@@ -1,3 +1,0 @@
--- The laws of `row_sums`.
-mod Turns
-mod Sums

@@ -1,2 +1,0 @@
--- The definitions of `row_sums`, all of them inner: its contracts cite the rows as `code` says them.
-pub mod Inner

@@ -1,7 +1,0 @@
--- The laws of `sbox`.
-mod Every
-mod Rules
-pub mod Bounds
-mod Bytes
-pub mod Columns
-mod Filled

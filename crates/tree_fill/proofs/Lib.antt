@@ -1,0 +1,4 @@
+-- The laws of `tree_fill`.
+mod Ranges
+mod Elements
+mod Filled

@@ -1,0 +1,2 @@
+-- The definitions of `tree_sums`, all of them inner.
+pub mod Inner
