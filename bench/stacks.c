@@ -4,6 +4,7 @@
 #include "expander.h"
 #include "plain.h"
 #include "plain_amounts.h"
+#include "plain_layers.h"
 #include "plain_messages.h"
 #include "plain_round.h"
 #include "plain_stock.h"
@@ -17,9 +18,10 @@ enum { COUNT = EXPANDER_BATCH_MAX, CALLERS = EXPANDER_CALLERS_MAX };
 LIMIT(a_dealing_has_its_trees, MAX_TREES >= EXPANDER_TREES_MAX && PLAIN_TREES >= EXPANDER_TREES_MAX);
 LIMIT(a_number_takes_three_bytes, EXPANDER_WIRES_MAX < 1 << 21);
 
-/* A noise record of the largest sizes, batches whose bits are all 0, and a stock of two labels. */
+/* A noise record and vectors of the largest sizes, batches whose bits are all 0, and a stock of two labels. */
 static uint8_t record[EXPANDER_NOISE_RECORD_MAX], other_record[EXPANDER_SCALAR_RECORD_MAX];
 static size_t record_len;
+static uint64_t vectors[2][2 * EXPANDER_LEAVES_MAX];
 static uint8_t bits[2][COUNT], blocks[2][32 * COUNT], out[32 * COUNT];
 static const uint32_t shares[CALLERS] = {1, 2, 3, 4, 5, 6, 7, 8};
 static const struct expander_label first_label = {{1}}, second_label = {{2}};
@@ -71,6 +73,11 @@ static void make(void)
 }
 
 #define DESCRIBE(prefix) prefix##_describe(record, record_len).number
+#define ADD(prefix) \
+    ADD_##prefix(EXPANDER_PRIME, vectors[0], 2 * EXPANDER_LEAVES_MAX, vectors[1], \
+                 2 * EXPANDER_LEAVES_MAX).number
+#define ADD_expander expander_add
+#define ADD_plain plain_add_vector
 #define CORRECTION_BITS(prefix) \
     prefix##_correction_bits(COUNT, bits[0], COUNT, bits[1], COUNT, out, COUNT).number
 #define MASK_MESSAGES(prefix) \
@@ -102,6 +109,7 @@ static void make(void)
     }
 
 CALL(describe, DESCRIBE)
+CALL(add, ADD)
 CALL(correction_bits, CORRECTION_BITS)
 CALL(mask_messages, MASK_MESSAGES)
 CALL(unmask_messages, UNMASK_MESSAGES)
@@ -120,6 +128,7 @@ static const struct job {
     void (*call)(int who);
     size_t limit; /* 0 for none */
 } jobs[] = {{"describe", describe, 0},
+            {"add", add, 0},
             {"correction_bits", correction_bits, 0},
             {"mask_messages", mask_messages, 0},
             {"unmask_messages", unmask_messages, 0},

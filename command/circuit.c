@@ -27,7 +27,7 @@ static const char help[] =
     "                        but where CIRCUIT is\n"
     "  --input-widths W,..   how many bits the words of inputs have, lowest bit first; needed of bytes, which do not say it,\n"
     "  --output-widths W,..  if there is more than one word of inputs, or of outputs\n"
-    "  --output FILE         a new file that its owner alone can read, instead of standard output\n"
+    "  --output FILE         a new file that its owner alone can read, instead of standard output (-)\n"
     "  --json                print one JSON object\n"
     "\n"
     "Exit status: 0 done, 2 the circuit or an input is refused or a file is unusable. NOT PROVED.\n";
@@ -120,7 +120,7 @@ static int read_circuit(const char *path, int bristol_only, struct companion_cir
         drop_bytes(&file);
         return 1;
     }
-    for (size_t k = 0; k < file.len && k < 64; k++)
+    for (size_t k = file.len >= 3 && memcmp(file.at, "\xEF\xBB\xBF", 3) == 0 ? 3 : 0; k < file.len && k < 64; k++)
         looks_like_text &= (file.at[k] >= 0x20 && file.at[k] < 0x7F) || (file.at[k] >= 9 && file.at[k] <= 13);
     status = companion_read_bristol((const char *)file.at, file.len, circuit);
     drop_bytes(&file);
@@ -170,8 +170,8 @@ static int show_info(const char *path, struct companion_circuit *circuit, int br
         return complain("%s: %s", path, text);
     }
     if (json) {
-        printf("{\"file\":");
-        print_json_text(path);
+        printf("{");
+        print_json_path("file", path);
         printf(",\"format\":\"%s\",\"inputs\":%zu,\"gates\":%zu,\"outputs\":%zu,\"ands\":%zu,\"rounds\":%zu,\"triples\":%zu",
                bristol ? "bristol" : "bytes", counts.inputs, counts.gates, counts.outputs, counts.ands, counts.rounds, counts.ands);
         if (bristol) {
@@ -388,8 +388,8 @@ int run_circuit(int argc, char **argv)
             status = write_circuit(argv[1], circuit, action == 2, output);
     }
     if (json && status == UNUSABLE) {
-        printf("{\"file\":");
-        print_json_text(argv[1]);
+        printf("{");
+        print_json_path("file", argv[1]);
         printf(",");
         print_json_error();
         printf("\n");

@@ -31,10 +31,15 @@ int complain(const char *format, ...)
     return UNUSABLE;
 }
 
-void print_json_error(void)
+void print_json_complaint(void)
 {
     printf("\"error\":");
     print_json_text(said);
+}
+
+void print_json_error(void)
+{
+    print_json_complaint();
     printf(",\"status\":%d}", UNUSABLE);
 }
 
@@ -132,6 +137,16 @@ int read_file(const char *path, size_t most, struct bytes *file)
         drop_bytes(file);
     }
     return !failed;
+}
+
+int one_standard_input(char **paths, int count)
+{
+    int times = 0;
+    for (int k = 0; k < count; k++)
+        times += strcmp(paths[k], "-") == 0;
+    if (times > 1)
+        complain("standard input can be one of the files, and - is given %d times", times);
+    return times <= 1;
 }
 
 void drop_bytes(struct bytes *file)
@@ -235,7 +250,7 @@ int give(const char *path, const void *bytes, size_t len)
 {
     struct new_file file;
     int done;
-    if (path == NULL) { /* at once, since standard output's buffer is not wiped */
+    if (path == NULL || strcmp(path, "-") == 0) { /* at once, since standard output's buffer is not wiped */
         size_t written = 0;
         fflush(stdout);
         while (written < len) {
@@ -261,34 +276,65 @@ int end_output(int status)
     return status;
 }
 
-/* Whether a text is UTF-8: no surrogates, nothing longer than it need be, nothing above U+10FFFF. */
-static int is_utf8(const char *text)
+/* How many bytes of UTF-8 stand here as one character, 0 if none do: no surrogates, nothing longer than it need be, nothing above
+ * U+10FFFF. */
+static size_t utf8_len(const unsigned char *at)
 {
-    for (const unsigned char *at = (const unsigned char *)text; *at != 0; at++) {
-        unsigned first = *at, least = first == 0xE0 ? 0xA0 : first == 0xF0 ? 0x90 : 0x80, most = first == 0xED ? 0x9F : first == 0xF4 ? 0x8F : 0xBF;
-        int more = first < 0x80 ? 0 : first >= 0xC2 && first < 0xE0 ? 1 : first >= 0xE0 && first < 0xF0 ? 2 : first >= 0xF0 && first < 0xF5 ? 3 : -1;
-        if (more < 0)
+    unsigned first = *at, least = first == 0xE0 ? 0xA0 : first == 0xF0 ? 0x90 : 0x80;
+    unsigned most = first == 0xED ? 0x9F : first == 0xF4 ? 0x8F : 0xBF;
+    size_t len = first < 0x80 ? 1 : first < 0xC2 ? 0 : first < 0xE0 ? 2 : first < 0xF0 ? 3 : first < 0xF5 ? 4 : 0;
+    for (size_t k = 1; k < len; k++, least = 0x80, most = 0xBF)
+        if (at[k] < least || at[k] > most)
             return 0;
-        for (; more > 0; more--, least = 0x80, most = 0xBF)
-            if (*++at < least || *at > most)
-                return 0;
-    }
-    return 1;
+    return len;
 }
 
 void print_json_text(const char *text)
 {
-    int plain = is_utf8(text);
     putchar('"');
-    for (const unsigned char *at = (const unsigned char *)text; *at != 0; at++) {
-        if (*at == '"' || *at == '\\')
+    for (const unsigned char *at = (const unsigned char *)text; *at != 0;) {
+        size_t len = utf8_len(at);
+        if (len == 0)
+            printf("\\ufffd");
+        else if (*at == '"' || *at == '\\')
             printf("\\%c", *at);
-        else if (*at < 0x20 || *at == 0x7F || (*at >= 0x80 && !plain))
+        else if (*at < 0x20 || *at == 0x7F)
             printf("\\u%04x", *at);
         else
-            putchar(*at);
+            fwrite(at, 1, len, stdout);
+        at += len > 0 ? len : 1;
     }
     putchar('"');
+}
+
+void print_json_path(const char *name, const char *path)
+{
+    size_t at = 0, len = 1;
+    printf("\"%s\":", name);
+    print_json_text(path);
+    for (; path[at] != '\0' && len > 0; at += len)
+        len = utf8_len((const unsigned char *)path + at);
+    if (len == 0) {
+        printf(",\"%s_bytes\":\"", name);
+        print_hex((const uint8_t *)path, strlen(path));
+        printf("\"");
+    }
+}
+
+int label_number(const uint8_t label[16], uint64_t *number)
+{
+    struct expander_label same;
+    memcpy(number, label, sizeof *number);
+    same = companion_label(*number);
+    return memcmp(same.bytes, label, 16) == 0;
+}
+
+void print_label(const uint8_t label[16])
+{
+    uint64_t number;
+    print_hex(label, 16);
+    if (label_number(label, &number))
+        printf(" (number %llu)", (unsigned long long)number);
 }
 
 void print_hex(const uint8_t *bytes, size_t len)

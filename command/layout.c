@@ -2,11 +2,12 @@
  * to the number that expander_describe gives. */
 #include "command.h"
 
+#include <stdlib.h>
 #include <string.h>
 
 static const char *const names[] = {
     "end", "field", "d", "g", "t", "l", "n", "code key", "label", "position", "noise value", "correction", "sibling", "Delta",
-    "root", "bytes after the record", "tree", "cut off: the file ends early",
+    "root", "bytes after the record", "tree", "cut off: the file ends early", "bytes too many", "missing bytes",
 };
 
 const char *part_name(enum part part)
@@ -138,7 +139,7 @@ static int take_head(struct reader *r)
     return 1;
 }
 
-static uint64_t word_at(const uint8_t *bytes)
+uint64_t word_at(const uint8_t *bytes)
 {
     uint64_t word;
     memcpy(&word, bytes, sizeof word);
@@ -222,4 +223,91 @@ void lay_out(const uint8_t *record, size_t len, struct layout *layout)
     layout->whole = 1;
     if (r.at < len)
         refuse(&r, EXPANDER_BYTES_AFTER, SURPLUS, r.at, r.at);
+}
+
+int due_length(const struct layout *layout, uint8_t end, size_t *least, size_t *most)
+{
+    size_t trees = layout->trees, leaves = (size_t)1 << layout->depth, rest, longer;
+    if (layout->head_len == 0)
+        return 0;
+    *least = *most = layout->head_len + (layout->field == EXPANDER_BINARY ? 16 : 8) + 16 * trees;
+    if (end == EXPANDER_SCALAR_END)
+        return 1;
+    *least = layout->head_len + trees * (1 + 16 + 16 * layout->siblings);
+    /* Positions rise below N: one that is written in two bytes skips 128 places or more, in three 16,384. */
+    rest = leaves - trees;
+    longer = rest / 128 < trees ? rest / 128 : trees;
+    rest = longer == trees ? rest - 128 * trees : 0;
+    *most = *least + longer + (rest / (16384 - 128) < trees ? rest / (16384 - 128) : trees);
+    return 1;
+}
+
+int print_due_length(const struct layout *layout, uint8_t end, size_t len, const char *whose)
+{
+    size_t least, most;
+    if (!due_length(layout, end, &least, &most))
+        return 0;
+    printf("; it has %zu bytes, and %s head calls for %zu", len, whose, least);
+    if (most > least)
+        printf(" to %zu", most);
+    return 1;
+}
+
+/* A record's bytes from digits of 4 or 6 bits each, with blanks between; their number, 0 if there are other characters. */
+static size_t from_digits(const uint8_t *text, size_t len, int bits, uint8_t *bytes)
+{
+    static const char digits[] = "ABCDEFGHIJKLMNOPQRSTUVWXYZabcdefghijklmnopqrstuvwxyz0123456789+/";
+    size_t made = 0, ends = 0;
+    unsigned held = 0, word = 0;
+    for (size_t k = 0; k < len; k++) {
+        uint8_t c = text[k];
+        const char *at = c != 0 ? strchr(digits, c) : NULL;
+        unsigned digit = at != NULL ? (unsigned)(at - digits) : 64;
+        if (c == ' ' || (c >= 9 && c <= 13))
+            continue;
+        if (bits == 4) /* 0 to 9 stand at 52, A at 0, a at 26 */
+            digit = digit >= 52 && digit < 62 ? digit - 52 : digit < 6 ? digit + 10 : digit >= 26 && digit < 32 ? digit - 16 : 64;
+        if (bits == 6 && c == '=' && ++ends <= 2)
+            continue;
+        if (digit == 64 || ends > 0)
+            return 0;
+        word = (word << bits | digit) & 0xFFFF;
+        held += (unsigned)bits;
+        if (held >= 8) {
+            held -= 8;
+            bytes[made++] = (uint8_t)(word >> held);
+        }
+    }
+    return bits == 4 && held != 0 ? 0 : made;
+}
+
+/* Whether bytes are a text: no control characters but blanks. */
+static int is_text(const uint8_t *bytes, size_t len)
+{
+    for (size_t k = 0; k < len; k++)
+        if ((bytes[k] < 0x20 && (bytes[k] < 9 || bytes[k] > 13)) || bytes[k] == 0x7F)
+            return 0;
+    return 1;
+}
+
+const char *what_instead(const uint8_t *bytes, size_t len)
+{
+    const char *said = "it is a text, and a record's bytes are expected";
+    uint8_t *made;
+    size_t made_len;
+    if (len == 0)
+        return "the file is empty";
+    if (!is_text(bytes, len))
+        return NULL;
+    if ((made = malloc(len)) == NULL)
+        return said;
+    made_len = from_digits(bytes, len, 4, made);
+    if (made_len > 0)
+        said = expander_describe(made, made_len).number == 0 ? "it is a record written in hexadecimal digits, and its bytes are expected"
+                                                              : "it is hexadecimal digits, and a record's bytes are expected";
+    else if ((made_len = from_digits(bytes, len, 6, made)) > 0 && expander_describe(made, made_len).number == 0)
+        said = "it is a record written in base64, and its bytes are expected";
+    companion_wipe(made, len);
+    free(made);
+    return said;
 }

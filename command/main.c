@@ -13,21 +13,30 @@ static const char help[] =
     "  expand     give a window of a record's outputs\n"
     "  circuit    show, convert and evaluate circuits\n"
     "\n"
-    "expander SUBCOMMAND --help says more, and so does the manual page expander(1). expander --version gives the version.\n"
+    "expander help SUBCOMMAND, or expander SUBCOMMAND --help, says more, and so does the manual page expander(1).\n"
+    "expander --version gives the version.\n"
     "Exit status: 0 well, 1 two records differ (check), 2 refused or unusable.\n"
     "This command is not proved; the calls of expander.h that it makes are.\n";
 
 int main(int argc, char **argv)
 {
+    static char want_help[] = "--help";
     static const struct { const char *name; int (*run)(int, char **); } subcommands[] = {
         {"deal", run_deal}, {"describe", run_describe}, {"check", run_check}, {"expand", run_expand}, {"circuit", run_circuit}};
-    if (argc == 2 && (strcmp(argv[1], "--help") == 0 || strcmp(argv[1], "-h") == 0)) {
+    int asked = argc >= 2 && (strcmp(argv[1], "help") == 0 || strcmp(argv[1], "--help") == 0 || strcmp(argv[1], "-h") == 0);
+    if (asked && argc == 2) {
         fputs(help, stdout);
         return end_output(WELL);
     }
-    if (argc == 2 && strcmp(argv[1], "--version") == 0) {
+    if (argc >= 2 && strcmp(argv[1], "--version") == 0) {
+        if (argc > 2)
+            return complain("--version takes nothing behind it, and '%.40s' stands there", argv[2]);
         printf("expander %s\n", EXPANDER_VERSION);
         return end_output(WELL);
+    }
+    if (asked) { /* help SUBCOMMAND is SUBCOMMAND --help */
+        argv[1] = argv[2];
+        argv[2] = want_help;
     }
     for (size_t k = 0; argc >= 2 && k < sizeof subcommands / sizeof *subcommands; k++)
         if (strcmp(argv[1], subcommands[k].name) == 0) {

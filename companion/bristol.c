@@ -168,6 +168,8 @@ struct companion_status companion_read_bristol(const char *text, size_t text_len
 {
     struct reading reading = {text, text + text_len, 1, 0, 0, c, {0}, {0}};
     struct companion_status status;
+    if (text_len >= 3 && memcmp(text, "\xEF\xBB\xBF", 3) == 0)
+        reading.at += 3; /* a byte-order mark */
     memset(c, 0, sizeof *c);
     memset(reading.made, 0xff, sizeof reading.made);
     read_text(&reading, c);

@@ -12,7 +12,7 @@ static void fault(struct companion_circuit *c, uint32_t number)
 
 void companion_input(struct companion_circuit *c, uint8_t role, companion_wire *word, size_t width)
 {
-    if (width == 0 || (role != COMPANION_ROLE_1 && role != COMPANION_ROLE_2))
+    if (width == 0 || (role != COMPANION_ROLE_1 && role != COMPANION_ROLE_2 && role != COMPANION_SHARED))
         fault(c, COMPANION_BAD_WORD);
     if (c->gates > 0 || width > EXPANDER_WIRES_MAX - c->inputs)
         fault(c, c->gates > 0 ? COMPANION_LATE_INPUT : COMPANION_WIRES);
@@ -27,7 +27,7 @@ void companion_input(struct companion_circuit *c, uint8_t role, companion_wire *
 
 void companion_output(struct companion_circuit *c, uint8_t role, const companion_wire *word, size_t width)
 {
-    if (width == 0 || role < COMPANION_ROLE_1 || role > COMPANION_BOTH)
+    if (width == 0 || role < COMPANION_ROLE_1 || role > COMPANION_SHARED)
         fault(c, COMPANION_BAD_WORD);
     if (width > EXPANDER_CIRCUIT_OUTPUTS_MAX - c->outputs)
         fault(c, COMPANION_OUTPUTS);
@@ -135,7 +135,7 @@ static void ripple(struct companion_circuit *c, const companion_wire *a, const c
     }
 }
 
-/* The same by doubling (Sklansky): the upper half of each block takes what the whole lower half carries. */
+/* The carries out of every bit by doubling (Sklansky): the upper half of each block takes what the whole lower half carries. */
 static void flat(struct companion_circuit *c, const companion_wire *a, const companion_wire *b, size_t width, companion_wire *g)
 {
     companion_wire p[EXPANDER_WIRES_MAX];

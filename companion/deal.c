@@ -72,16 +72,23 @@ static struct companion_status draw_position(uint32_t leaves, uint32_t *position
     return status;
 }
 
-static struct companion_status draw(const struct companion_sizes *sizes, struct drawn *drawn)
+/* What every layer has of its own. */
+static struct companion_status draw_layer(const struct companion_sizes *sizes, struct drawn *drawn)
 {
     struct companion_status status = companion_random(drawn->roots, sizeof drawn->roots);
-    NEXT(status, companion_random(drawn->code_key, sizeof drawn->code_key));
     for (size_t k = 0; k < sizes->trees; k++) {
         drawn->values[k] = 1;
         NEXT(status, draw_position((uint32_t)1 << sizes->depth, drawn->positions, k));
         if (sizes->field == EXPANDER_PRIME)
             NEXT(status, draw_value(&drawn->values[k]));
     }
+    return status;
+}
+
+/* What all layers of one source share. */
+static struct companion_status draw_shared(const struct companion_sizes *sizes, struct drawn *drawn)
+{
+    struct companion_status status = companion_random(drawn->code_key, sizeof drawn->code_key);
     if (sizes->field == EXPANDER_PRIME)
         NEXT(status, draw_value(&drawn->delta[0]));
     while (status.number == 0 && drawn->delta[0] == 0 && drawn->delta[1] == 0)
@@ -96,28 +103,54 @@ struct expander_label companion_label(uint64_t number)
     return label;
 }
 
-struct companion_status companion_deal(const struct companion_sizes *sizes, struct expander_label label,
-                                       struct companion_dealt *dealt)
+/* The next label, where there is one: it wraps after the highest. */
+static int next_label(struct expander_label *label)
+{
+    size_t k = 0;
+    while (k < sizeof label->bytes && ++label->bytes[k] == 0)
+        k++;
+    return k < sizeof label->bytes;
+}
+
+struct companion_status companion_deal_layers(const struct companion_sizes *sizes, struct expander_label label, size_t layers,
+                                              struct companion_dealt *dealt)
 {
     struct drawn drawn;
-    struct companion_status status = companion_done();
+    struct companion_status status = companion_failed(layers < 1 || layers > COMPANION_LAYERS_MAX ? COMPANION_BAD_LAYERS : COMPANION_DONE);
     struct expander_two_lengths made;
     /* Nothing is drawn where there is no room for it, and the expander refuses the sizes. */
     int room = sizes->depth <= EXPANDER_DEPTH_MAX && sizes->trees <= EXPANDER_TREES_MAX && sizes->trees <= (size_t)1 << sizes->depth;
     size_t trees = room ? sizes->trees : 0;
     memset(&drawn, 0, sizeof drawn);
-    memset(dealt, 0, sizeof *dealt);
+    if (status.number == 0)
+        memset(dealt, 0, layers * sizeof *dealt);
     if (trees > 0)
-        status = draw(sizes, &drawn);
-    if (status.number == 0) {
+        NEXT(status, draw_shared(sizes, &drawn));
+    for (size_t k = 0; status.number == 0 && k < layers; k++) {
+        struct expander_label before = label;
+        if (k > 0 && !next_label(&label))
+            status = companion_in_layer(k + 1, companion_with_labels(companion_failed(COMPANION_LAYER_LABEL), COMPANION_LAYER_LABEL,
+                                                                     label.bytes, before.bytes));
+        if (trees > 0)
+            NEXT(status, draw_layer(sizes, &drawn));
+        if (status.number != 0)
+            break;
         made = expander_deal(sizes->field, sizes->depth, sizes->branch_bits, sizes->trees, sizes->terms, sizes->outputs,
                              drawn.roots, 16 * trees, drawn.positions, trees, drawn.values, trees,
-                             (const uint8_t *)drawn.delta, 16, drawn.code_key, 16, label.bytes, 16, dealt->noise,
-                             sizeof dealt->noise, dealt->scalar, sizeof dealt->scalar);
+                             (const uint8_t *)drawn.delta, 16, drawn.code_key, 16, label.bytes, 16, dealt[k].noise,
+                             sizeof dealt[k].noise, dealt[k].scalar, sizeof dealt[k].scalar);
         status = companion_refused("expander_deal", made.number);
-        dealt->noise_len = made.first_written;
-        dealt->scalar_len = made.second_written;
+        dealt[k].noise_len = made.first_written;
+        dealt[k].scalar_len = made.second_written;
     }
+    if (status.number != 0 && layers <= COMPANION_LAYERS_MAX)
+        companion_wipe(dealt, layers * sizeof *dealt);
     companion_wipe(&drawn, sizeof drawn);
     return status;
+}
+
+struct companion_status companion_deal(const struct companion_sizes *sizes, struct expander_label label,
+                                       struct companion_dealt *dealt)
+{
+    return companion_deal_layers(sizes, label, 1, dealt);
 }

@@ -7,34 +7,6 @@ static size_t vector_words(const struct companion_end *end)
     return end->head.leaves * end->head.element_words;
 }
 
-struct companion_status companion_open(const uint8_t *record, size_t record_len, struct companion_end *end)
-{
-    struct companion_status status;
-    size_t words, leaves;
-    memset(end, 0, sizeof *end);
-    end->head = expander_describe(record, record_len);
-    status = companion_refused("expander_describe", end->head.number);
-    words = vector_words(end);
-    leaves = end->head.end == EXPANDER_NOISE_END ? end->head.leaves : 0;
-    end->record_len = record_len;
-    end->held = 8 * (words + leaves) + record_len; /* vectors first, since words are aligned */
-    NEXT(status, companion_given(end->elements = companion_take(end->held)));
-    if (status.number == 0) {
-        end->noise = leaves > 0 ? end->elements + words : NULL;
-        end->record = (uint8_t *)(end->elements + words + leaves);
-        memcpy(end->record, record, record_len);
-    }
-    if (leaves > 0)
-        NEXT(status, companion_refused("expander_noise_offline", expander_noise_offline(
-            end->record, record_len, end->noise, leaves, end->elements, words).number));
-    else
-        NEXT(status, companion_refused("expander_scalar_offline", expander_scalar_offline(
-            end->record, record_len, end->elements, words, end->delta, 2).number));
-    if (status.number != 0)
-        companion_close(end);
-    return status;
-}
-
 void companion_close(struct companion_end *end)
 {
     companion_give_back(end->elements, end->held);
@@ -94,37 +66,6 @@ void companion_free_window(struct companion_window *window)
 {
     companion_give_back(window->elements, window->held);
     memset(window, 0, sizeof *window);
-}
-
-/* Labels compare as numbers, least byte first. */
-static int label_order(const uint8_t *a, const uint8_t *b)
-{
-    for (size_t k = 16; k-- > 0;)
-        if (a[k] != b[k])
-            return a[k] < b[k] ? -1 : 1;
-    return 0;
-}
-
-struct companion_status companion_open_pair(const uint8_t *noise, size_t noise_len, const uint8_t *scalar, size_t scalar_len,
-                                            struct companion_pair *pair)
-{
-    const struct expander_described *n = &pair->noise.head, *s = &pair->scalar.head;
-    struct companion_status status;
-    int order;
-    memset(pair, 0, sizeof *pair);
-    status = companion_open(noise, noise_len, &pair->noise);
-    NEXT(status, companion_open(scalar, scalar_len, &pair->scalar));
-    order = label_order(n->label, s->label);
-    if (n->end != EXPANDER_NOISE_END || s->end != EXPANDER_SCALAR_END || n->field + s->field != 2 * EXPANDER_BINARY)
-        NEXT(status, companion_failed(COMPANION_WRONG_RECORD));
-    else if (order == 0)
-        NEXT(status, companion_with_labels(companion_failed(COMPANION_SAME_LABEL), COMPANION_SAME_LABEL, n->label, s->label));
-    pair->role = order < 0 ? EXPANDER_ROLE_NOISE : EXPANDER_ROLE_SCALAR;
-    pair->outputs = n->outputs < s->outputs ? n->outputs : s->outputs;
-    memcpy(pair->label.bytes, order < 0 ? n->label : s->label, sizeof pair->label.bytes);
-    if (status.number != 0)
-        companion_close_pair(pair);
-    return status;
 }
 
 void companion_close_pair(struct companion_pair *pair)

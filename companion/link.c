@@ -172,13 +172,23 @@ struct head {
     uint8_t code_key[16], label[16];
 };
 
-static struct head head_of(const struct companion_end *end)
+static struct head head_of(const struct companion_end *end, size_t layer)
 {
-    const struct expander_described *h = &end->head;
-    struct head head = {COMPANION_TAG_HEAD, h->end, {h->field, h->depth, h->branch_bits, h->trees, h->terms, h->outputs}, {0}, {0}};
-    memcpy(head.code_key, h->code_key, sizeof head.code_key);
-    memcpy(head.label, h->label, sizeof head.label);
+    size_t layers = companion_layers(end);
+    struct expander_described h = companion_layer(end, layer);
+    struct head head = {layers > 1 ? COMPANION_TAG_LAYERS + layers : COMPANION_TAG_HEAD, h.end,
+                        {h.field, h.depth, h.branch_bits, h.trees, h.terms, h.outputs}, {0}, {0}};
+    memcpy(head.code_key, h.code_key, sizeof head.code_key);
+    memcpy(head.label, h.label, sizeof head.label);
     return head;
+}
+
+/* How many layers a head's tag says; 0 if it is no head's. */
+static size_t layers_of(const struct head *head)
+{
+    return head->tag == COMPANION_TAG_HEAD ? 1
+           : head->tag > COMPANION_TAG_LAYERS + 1 && head->tag <= COMPANION_TAG_LAYERS + COMPANION_LAYERS_MAX
+           ? (size_t)(head->tag - COMPANION_TAG_LAYERS) : 0;
 }
 
 /* What of two heads differs; of one dealing they name both ends. */
@@ -193,35 +203,55 @@ static uint32_t parts_of(const struct head *own, const struct head *far)
     return memcmp(own->label, far->label, sizeof own->label) != 0 ? parts | COMPANION_PART_LABEL : parts;
 }
 
-/* Exchanges the heads of one end, or of two; of these the far end sends the other dealing's first. */
-static struct companion_status compare(const struct companion_link *link, const struct head *own, size_t count)
+/* What is found of two heads of a layer; of the last one, also how many layers there are. */
+static struct companion_status compare_heads(const struct head *own, const struct head *far, size_t layer)
 {
-    struct head far[2];
-    struct companion_status status = companion_exchange(link, own, count * sizeof *own, far, count * sizeof *far);
-    NEXT(status, companion_failed(far[0].tag != own->tag || far[count - 1].tag != own->tag ? COMPANION_OUT_OF_STEP : COMPANION_DONE));
+    uint32_t parts = parts_of(own, far) | (own->tag != far->tag ? COMPANION_PART_LAYERS : 0);
+    struct companion_status status = companion_failed(parts == 0 ? COMPANION_DONE : COMPANION_OTHER_DEALING);
+    status = companion_with_labels(status, COMPANION_OTHER_DEALING, own->label, far->label);
+    if (parts & COMPANION_PART_LAYERS)
+        status = companion_with_counts(status, COMPANION_OTHER_DEALING, layers_of(own), layers_of(far));
+    status.parts = parts;
+    return companion_in_layer(layers_of(own) > 1 && own->tag == far->tag ? layer : 0, status);
+}
+
+/* Exchanges the heads of the last layers of one end, or of two; of these the far end sends the other dealing's first. Where they fit and
+ * say that there are more layers, those heads follow in the same order. */
+static struct companion_status compare(const struct companion_link *link, const struct companion_end *const *ends, size_t count)
+{
+    struct head own[2 * COMPANION_LAYERS_MAX], far[2 * COMPANION_LAYERS_MAX];
+    struct companion_status status;
+    size_t all = count, at = count;
+    memset(own, 0, sizeof own);
+    for (size_t k = 0; k < count; k++) {
+        own[k] = head_of(ends[k], companion_layers(ends[k]));
+        for (size_t layer = 1; layer < layers_of(&own[k]); layer++)
+            own[all++] = head_of(ends[k], layer);
+    }
+    status = companion_exchange(link, own, count * sizeof *own, far, count * sizeof *far);
+    for (size_t k = 0; k < count; k++)
+        NEXT(status, companion_failed(layers_of(&far[k]) == 0 ? COMPANION_OUT_OF_STEP : COMPANION_DONE));
     if (status.number != COMPANION_DONE)
         return companion_tell(link, status);
-    for (size_t k = 0; k < count && status.number == 0; k++) {
-        const struct head *other = &far[count - 1 - k];
-        uint32_t parts = parts_of(&own[k], other);
-        if (parts == 0)
-            continue;
-        status = companion_with_labels(companion_failed(COMPANION_OTHER_DEALING), COMPANION_OTHER_DEALING, own[k].label, other->label);
-        status.parts = parts;
-    }
+    for (size_t k = 0; k < count; k++)
+        NEXT(status, compare_heads(&own[k], &far[count - 1 - k], layers_of(&own[k])));
+    if (all > count)
+        NEXT(status, companion_exchange(link, own + count, (all - count) * sizeof *own, far + count, (all - count) * sizeof *far));
+    for (size_t k = 0; k < count; k++)
+        for (size_t layer = 1, more = layers_of(&own[k]) - 1; layer <= more; layer++, at++)
+            NEXT(status, compare_heads(&own[at], &far[(k + 1 < count ? all - more : count) + layer - 1], layer));
     return companion_settle(link, status);
 }
 
 struct companion_status companion_compare(const struct companion_link *link, const struct companion_end *end)
 {
-    struct head own = head_of(end);
-    return compare(link, &own, 1);
+    return compare(link, &end, 1);
 }
 
 struct companion_status companion_compare_pair(const struct companion_link *link, struct companion_pair *pair)
 {
-    struct head own[2] = {head_of(&pair->noise), head_of(&pair->scalar)};
-    struct companion_status status = compare(link, own, 2);
+    const struct companion_end *ends[2] = {&pair->noise, &pair->scalar};
+    struct companion_status status = compare(link, ends, 2);
     pair->compared = status.number == 0;
     return status;
 }

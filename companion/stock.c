@@ -318,12 +318,43 @@ struct companion_status companion_draw(struct companion_stock *stock, const stru
     return status;
 }
 
-struct companion_status companion_pass(struct companion_stock *stock, struct expander_label label, size_t outputs)
+/* Passes the stock to a label, where all labels of the fresh source are above the one in use: the lowest is. */
+static struct companion_status pass(struct companion_stock *stock, struct expander_label lowest, struct expander_label label,
+                                    size_t outputs)
 {
-    struct expander_opened_stock passed = expander_pass_stock(stock->stock, label, outputs);
+    struct expander_opened_stock passed = expander_pass_stock(stock->stock, lowest, outputs);
     struct companion_status status = test_process(stock);
-    NEXT(status, companion_with_labels(companion_refused("expander_pass_stock", passed.number), EXPANDER_LABEL_NOT_ABOVE, label.bytes,
+    NEXT(status, companion_with_labels(companion_refused("expander_pass_stock", passed.number), EXPANDER_LABEL_NOT_ABOVE, lowest.bytes,
                                        stock->stock.label.bytes));
+    passed = expander_pass_stock(stock->stock, label, outputs);
+    NEXT(status, companion_refused("expander_pass_stock", passed.number));
     NEXT(status, save(stock, &passed.stock));
     return status;
+}
+
+struct companion_status companion_pass(struct companion_stock *stock, struct expander_label label, size_t outputs)
+{
+    return pass(stock, label, label, outputs);
+}
+
+/* The first layer's label, which is an end's lowest. */
+static struct expander_label lowest_of(const struct companion_end *end)
+{
+    struct expander_described head = companion_layer(end, 1);
+    struct expander_label label;
+    memcpy(label.bytes, head.label, sizeof label.bytes);
+    return label;
+}
+
+struct companion_status companion_pass_end(struct companion_stock *stock, const struct companion_end *fresh)
+{
+    struct expander_label label;
+    memcpy(label.bytes, fresh->head.label, sizeof label.bytes);
+    return pass(stock, lowest_of(fresh), label, fresh->head.outputs);
+}
+
+struct companion_status companion_pass_pair(struct companion_stock *stock, const struct companion_pair *fresh)
+{
+    struct expander_label noise = lowest_of(&fresh->noise), scalar = lowest_of(&fresh->scalar);
+    return pass(stock, companion_label_order(noise.bytes, scalar.bytes) < 0 ? noise : scalar, fresh->label, fresh->outputs);
 }

@@ -32,19 +32,26 @@ struct companion_status companion_with_counts(struct companion_status status, ui
     return status;
 }
 
+struct companion_status companion_in_layer(size_t layer, struct companion_status status)
+{
+    if (status.number != COMPANION_DONE)
+        status.line = layer;
+    return status;
+}
+
 uint32_t companion_version(void)
 {
     return COMPANION_VERSION_NUMBER;
 }
 
 /* What the expander's calls test. Calls are named by what follows expander_ in them, each between blanks; a call that no row of a number
- * names has the last of them (tests/calls.py holds the names to expander.h). From 100 on a row is for all calls. */
+ * names has the last of them (tests/scripts/calls.py holds the names to expander.h). From 100 on a row is for all calls. */
 #define NOISE_READERS " noise_offline noise_online noise_direct "
 #define SCALAR_READERS " scalar_offline scalar_online scalar_direct "
 #define READERS NOISE_READERS SCALAR_READERS
 static const struct { uint32_t number; const char *calls, *text; } tests[] = {
     {0, "", "done"},
-    {1, " deal ", "field is not 1 or 2"},
+    {1, " deal add ", "field is not 1 or 2"},
     {1, " describe " READERS, "the record's field byte is not 1 or 2"},
     {2, " deal ", "depth, branch_bits, trees, terms or outputs is outside its range, or depth is no multiple of branch_bits"},
     {2, " open_stock ",
@@ -52,6 +59,7 @@ static const struct { uint32_t number; const char *calls, *text; } tests[] = {
     {2, " pass_stock ", "outputs is not 1 to " SAY(EXPANDER_OUTPUTS_MAX)},
     {2, " describe " READERS, "d, g, t, l or n of the record is outside its range, or d is no multiple of g"},
     {3, " deal ", "roots, positions, values, delta, code_key or label does not have its length"},
+    {3, " add ", "from and into do not have the same length"},
     {3, " noise_online ", "noise or v is not as long as the record says"},
     {3, " scalar_online ", "w is not as long as the record says"},
     {3, " noise_pads ", "v is not 16 bytes an output, or choices not 1"},
@@ -75,6 +83,7 @@ static const struct { uint32_t number; const char *calls, *text; } tests[] = {
     {8, " mask_messages ", "a correction bit is above 1"},
     {8, " unmask_messages ", "a wanted bit is above 1"},
     {8, " circuit_step circuit_round ", "a share, a triple's bit or a far bit is above 1"},
+    {8, " add ", "a word of from or of into is p or more"},
     {8, " read_amount ", "element is p or more"},
     {8, " noise_online scalar_online ", "a correction of the record, or a word at a place that the window's rows use, is no element"},
     {8, " describe noise_offline noise_direct ", "a correction of the record is p or more"},
@@ -141,11 +150,18 @@ static const struct { uint32_t number; const char *calls, *text; } tests[] = {
     {COMPANION_FORKED, "", "the stock was opened in another process: a process that forks opens its stock afterwards"},
     {COMPANION_FILE_CHANGED, "", "the stock's file is not what was written last: it was replaced, changed, moved or removed"},
     {COMPANION_FILE_LINKED, "", "the stock's file has a second name, a hard link, under which it would be handed out again"},
+    {COMPANION_BAD_LAYERS, "", "the number of layers is not 1 to " SAY(COMPANION_LAYERS_MAX)},
+    {COMPANION_OTHER_LAYER, "", "the layer does not fit the first one"},
+    {COMPANION_LAYER_LABEL, "", "the layer's label is not above that of the layer before"},
+    {COMPANION_OTHER_DELTA, "", "the layer's Delta is not the first one's: they were not dealt as layers of one source"},
+    {COMPANION_SHARES_COUNT, "", "the circuit takes, or the part has, another number of shares than there are"},
+    {COMPANION_OTHER_ORIGIN, "", "the far end's shares come from another run, or are another part of it"},
+    {COMPANION_NOT_KEPT, "", "kept is NULL, and the circuit has outputs that stay shared"},
 };
 
 /* The calls of the expander, as above. */
 static const char calls[] =
-    " deal describe noise_offline scalar_offline noise_online scalar_online noise_direct scalar_direct noise_pads scalar_pads"
+    " deal describe noise_offline scalar_offline add noise_online scalar_online noise_direct scalar_direct noise_pads scalar_pads"
     " correction_bits mask_messages unmask_messages triples describe_circuit circuit_step circuit_round open_stock draw preview"
     " pass_stock read_amount write_amount version ";
 
@@ -187,15 +203,17 @@ static void label_text(struct expander_label label, char text[LABEL_TEXT])
 }
 
 /* What a status says beyond its meaning: counts, labels, parts of heads. */
-enum { DETAIL_TEXT = 170 };
+enum { DETAIL_TEXT = 200 };
 static void detail_text(const struct companion_status *status, char text[DETAIL_TEXT])
 {
-    static const char *const parts[] = {"end", "field", "d", "g", "t", "l", "n", "code key", "label"};
+    static const char *const parts[] = {"end", "field", "d", "g", "t", "l", "n", "code key", "label", "layers"};
     char label[LABEL_TEXT], other[LABEL_TEXT];
     size_t len = 0;
     int labels = strcmp((label_text(status->label, label), label), (label_text(status->other, other), other)) != 0;
+    int heads = status->number == COMPANION_OTHER_DEALING || status->number == COMPANION_OTHER_LAYER;
     text[0] = '\0';
-    if (status->number == EXPANDER_TOO_FEW_TRIPLES && status->needed > 0)
+    if ((status->number == EXPANDER_TOO_FEW_TRIPLES && status->needed > 0)
+        || (status->number == COMPANION_SHARES_COUNT && status->needed != status->there))
         snprintf(text, DETAIL_TEXT, ": %zu are needed, %zu are there", status->needed, status->there);
     if (status->number == EXPANDER_SHARE_SPENT && status->needed > 0)
         snprintf(text, DETAIL_TEXT, ": %zu are asked for, %zu are left", status->needed, status->there);
@@ -203,30 +221,38 @@ static void detail_text(const struct companion_status *status, char text[DETAIL_
         snprintf(text, DETAIL_TEXT, ": label is %s, in use is %s", label, other);
     if (status->number == COMPANION_SAME_LABEL)
         snprintf(text, DETAIL_TEXT, ": %s", label);
-    for (size_t k = 0; status->number == COMPANION_OTHER_DEALING && k < sizeof parts / sizeof *parts; k++)
+    if (status->number == COMPANION_LAYER_LABEL)
+        snprintf(text, DETAIL_TEXT, ": %s after %s", label, other);
+    for (size_t k = 0; heads && k < sizeof parts / sizeof *parts; k++)
         if (status->parts >> k & 1)
             len += (size_t)snprintf(text + len, DETAIL_TEXT - len, "%s%s", len == 0 ? ": what differs is " : ", ", parts[k]);
     if (len > 0 && labels)
-        snprintf(text + len, DETAIL_TEXT - len, "; label %s here, %s there", label, other);
+        len += (size_t)snprintf(text + len, DETAIL_TEXT - len, "; label %s here, %s there", label, other);
+    if (len > 0 && status->parts & COMPANION_PART_LAYERS)
+        snprintf(text + len, DETAIL_TEXT - len, "; %zu layers here, %zu there", status->needed, status->there);
 }
 
 void companion_text(struct companion_status status, char *text, size_t text_len)
 {
-    char reason[100] = "", detail[DETAIL_TEXT];
+    char reason[100] = "", detail[DETAIL_TEXT], layer[32] = "";
     const char *meaning = companion_meaning(status.call, status.number);
     int named = status.number != COMPANION_DONE && status.call[0] != '\0';
     if (status.system != 0 && strerror_r(status.system, reason, sizeof reason) != 0)
         reason[0] = '\0';
+    int of_text = (status.number >= COMPANION_TEXT_NUMBER && status.number <= COMPANION_TEXT_UNMADE) || status.number == COMPANION_WIRES
+                  || status.number == COMPANION_OUTPUTS;
     detail_text(&status, detail);
-    if (status.line > 0)
+    if (status.line > 0 && !of_text)
+        snprintf(layer, sizeof layer, "layer %zu: ", status.line);
+    if (status.line > 0 && of_text)
         snprintf(text, text_len, "line %zu: %s", status.line, meaning);
     else if (status.number == COMPANION_FAR)
         snprintf(text, text_len, "%s with %u: %s", meaning, (unsigned)status.far, companion_meaning("", status.far));
     else if (status.number != COMPANION_DONE && status.number < COMPANION_NO_MEMORY)
-        snprintf(text, text_len, "%s refused with %u: %s%s", status.call, (unsigned)status.number, meaning, detail);
+        snprintf(text, text_len, "%s%s refused with %u: %s%s", layer, status.call, (unsigned)status.number, meaning, detail);
     else if (detail[0] != '\0')
-        snprintf(text, text_len, "%s%s", meaning, detail);
+        snprintf(text, text_len, "%s%s%s", layer, meaning, detail);
     else
-        snprintf(text, text_len, "%s%s%s%s%s", meaning, named ? ": " : "", named ? status.call : "",
+        snprintf(text, text_len, "%s%s%s%s%s%s", layer, meaning, named ? ": " : "", named ? status.call : "",
                  reason[0] != '\0' ? ": " : "", reason);
 }

@@ -26,25 +26,6 @@ static struct companion_dealt dealt[2];
 static struct expander_described_circuit counts;
 static uint8_t own[EXPANDER_WIRES_MAX], outputs[EXPANDER_CIRCUIT_OUTPUTS_MAX], plain[EXPANDER_CIRCUIT_OUTPUTS_MAX];
 
-static struct companion_status run_end(int end, int fd)
-{
-    static struct companion_pair pair;
-    static struct companion_triples triples;
-    struct companion_socket far = {fd, 30000, 0, 0, 0};
-    struct companion_link link = {companion_socket_send, companion_socket_receive, &far};
-    struct companion_status status = companion_open_pair(dealt[end].noise, dealt[end].noise_len, dealt[1 - end].scalar,
-                                                         dealt[1 - end].scalar_len, &pair);
-    if (status.number == 0)
-        status = companion_compare_pair(&link, &pair);
-    if (status.number == 0)
-        status = companion_add_triples(&pair, 0, counts.ands, &triples);
-    companion_limit(&far, 300000); /* for the whole run, beside half a minute for each move */
-    if (status.number == 0)
-        status = companion_run(&link, pair.role, &circuit, own, &triples, outputs, NULL);
-    companion_close_pair(&pair);
-    return status;
-}
-
 int main(int argc, char **argv)
 {
     static char text[COMPANION_BRISTOL_MAX], said[300];
@@ -56,17 +37,19 @@ int main(int argc, char **argv)
     if (argc > 1) {
         FILE *file = fopen(argv[1], "rb");
         len = file == NULL ? 0 : fread(text, 1, sizeof text, file);
-        if (file != NULL)
-            fclose(file);
+        if (file == NULL || ferror(file)) {
+            fprintf(stderr, "%s cannot be read\n", argv[1]);
+            return 1;
+        }
+        fclose(file);
     }
     status = companion_read_bristol(text, len, &circuit);
-    if (status.number == 0)
-        status = companion_count(&circuit, &counts);
-    while ((size_t)1 << sizes.depth < 4 * counts.ands)
+    COMPANION_NEXT(status, companion_count(&circuit, &counts));
+    while ((size_t)1 << sizes.depth < 4 * (counts.ands + COMPANION_CHECKED))
         sizes.depth += 2;
-    sizes.outputs = (size_t)1 << (sizes.depth - 2); /* n = N / 4, and at least one for each AND */
-    for (int k = 0; k < 2 && status.number == 0; k++)
-        status = companion_deal(&sizes, companion_label((uint64_t)k + 1), &dealt[k]);
+    sizes.outputs = (size_t)1 << (sizes.depth - 2); /* n = N / 4, and at least one for each AND and each triple that is opened */
+    for (int k = 0; k < 2; k++)
+        COMPANION_NEXT(status, companion_deal(&sizes, companion_label((uint64_t)k + 1), &dealt[k]));
     companion_text(status, said, sizeof said);
     if (status.number != 0 || socketpair(AF_UNIX, SOCK_STREAM, 0, fds) != 0) {
         printf("%s: %s\n", argc > 1 ? argv[1] : "the adder", said);
@@ -74,10 +57,16 @@ int main(int argc, char **argv)
     }
     memset(own, 1, sizeof own);
     end = fork() == 0;
-    status = run_end(end, fds[end]);
-    if (end == 1)
-        return status.number != 0;
+    struct companion_record noise = {dealt[end].noise, dealt[end].noise_len}, scalar = {dealt[1 - end].scalar, dealt[1 - end].scalar_len};
+    struct companion_records records = {&noise, &scalar, 1, 1, 1};
+    struct companion_socket far = {fds[end], 30000, 0, 0, 0};
+    struct companion_link link = {companion_socket_send, companion_socket_receive, &far};
+    companion_limit(&far, 300000); /* for all of it, beside half a minute for each move */
+    status = companion_once(&link, &records, NULL, 0, &circuit, own, outputs);
+    companion_wipe(dealt, sizeof dealt);
     companion_text(status, said, sizeof said);
+    if (status.number != 0) fprintf(stderr, "end %d: %s\n", end + 1, said);
+    if (end == 1 || status.number != 0) return status.number != 0;
     printf("%s; %d ANDs, %d rounds; outputs", said, (int)counts.ands, (int)counts.rounds);
     for (size_t k = 0; k < circuit.outputs && k < 64; k++)
         printf(" %d", outputs[k]);

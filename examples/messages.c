@@ -27,15 +27,12 @@ static struct companion_status choose(const struct companion_link *link, const s
     uint8_t bits[COUNT], answers[32 * COUNT];
     struct companion_window window;
     struct companion_status status = companion_expand(end, FIRST, COUNT, &window);
-    if (status.number == 0)
-        status = refused("expander_correction_bits", expander_correction_bits(COUNT, window.choices, COUNT, wanted, COUNT, bits, sizeof bits).number);
-    if (status.number == 0)
-        status = companion_send(link, bits, sizeof bits);
-    if (status.number == 0)
-        status = companion_receive(link, answers, sizeof answers);
-    if (status.number == 0)
-        status = refused("expander_unmask_messages", expander_unmask_messages(COUNT, wanted, COUNT, window.pads, 16 * COUNT, answers,
-                                                                              sizeof answers, opened, 16 * COUNT).number);
+    COMPANION_NEXT(status, refused("expander_correction_bits", expander_correction_bits(
+        COUNT, window.choices, COUNT, wanted, COUNT, bits, sizeof bits).number));
+    COMPANION_NEXT(status, companion_send(link, bits, sizeof bits));
+    COMPANION_NEXT(status, companion_receive(link, answers, sizeof answers));
+    COMPANION_NEXT(status, refused("expander_unmask_messages", expander_unmask_messages(
+        COUNT, wanted, COUNT, window.pads, 16 * COUNT, answers, sizeof answers, opened, 16 * COUNT).number));
     companion_free_window(&window);
     return status;
 }
@@ -45,13 +42,10 @@ static struct companion_status offer(const struct companion_link *link, const st
     uint8_t bits[COUNT], answers[32 * COUNT];
     struct companion_window window;
     struct companion_status status = companion_expand(end, FIRST, COUNT, &window);
-    if (status.number == 0)
-        status = companion_receive(link, bits, sizeof bits);
-    if (status.number == 0)
-        status = refused("expander_mask_messages", expander_mask_messages(COUNT, bits, sizeof bits, window.pads, 32 * COUNT, messages,
-                                                                          32 * COUNT, answers, sizeof answers).number);
-    if (status.number == 0)
-        status = companion_send(link, answers, sizeof answers);
+    COMPANION_NEXT(status, companion_receive(link, bits, sizeof bits));
+    COMPANION_NEXT(status, refused("expander_mask_messages", expander_mask_messages(
+        COUNT, bits, sizeof bits, window.pads, 32 * COUNT, messages, 32 * COUNT, answers, sizeof answers).number));
+    COMPANION_NEXT(status, companion_send(link, answers, sizeof answers));
     companion_free_window(&window);
     return status;
 }
@@ -78,10 +72,8 @@ int main(void)
     struct companion_link link = {companion_socket_send, companion_socket_receive, &far};
     status = noise ? companion_open(dealt.noise, dealt.noise_len, &end) : companion_open(dealt.scalar, dealt.scalar_len, &end);
     companion_wipe(&dealt, sizeof dealt);
-    if (status.number == 0)
-        status = companion_compare(&link, &end);
-    if (status.number == 0)
-        status = noise ? choose(&link, &end, opened) : offer(&link, &end, messages);
+    COMPANION_NEXT(status, companion_compare(&link, &end));
+    COMPANION_NEXT(status, noise ? choose(&link, &end, opened) : offer(&link, &end, messages));
     companion_close(&end);
     companion_text(status, text, sizeof text);
     if (!noise)

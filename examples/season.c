@@ -14,8 +14,7 @@ static struct companion_status open_dealing(uint64_t label, size_t outputs, stru
     struct companion_status status;
     sizes.outputs = outputs;
     status = companion_deal(&sizes, companion_label(label), &dealt);
-    if (status.number == 0)
-        status = companion_open(dealt.noise, dealt.noise_len, end);
+    COMPANION_NEXT(status, companion_open(dealt.noise, dealt.noise_len, end));
     companion_wipe(&dealt, sizeof dealt);
     return status;
 }
@@ -26,8 +25,7 @@ static struct companion_status use(struct companion_stock *stock, const struct c
     struct companion_window window;
     size_t first;
     struct companion_status status = companion_draw(stock, NULL, companion_label(label), task, count, &first);
-    if (status.number == 0)
-        status = companion_expand(end, first, count, &window);
+    COMPANION_NEXT(status, companion_expand(end, first, count, &window));
     if (status.number == 0) {
         printf(" task %d has %d to %d;", (int)task, (int)first, (int)(first + count - 1));
         companion_free_window(&window);
@@ -39,26 +37,18 @@ static struct companion_status season(struct companion_stock *stock, struct comp
 {
     static const uint32_t shares[TASKS] = {150, 100};
     struct companion_status status = open_dealing(1, 256, spring);
-    if (status.number == 0)
-        status = open_dealing(2, 200, autumn); /* a higher label */
-    if (status.number == 0)
-        status = companion_create_stock("season.stock", companion_label(1), spring->head.outputs, shares, TASKS, stock);
+    COMPANION_NEXT(status, open_dealing(2, 200, autumn)); /* a higher label */
+    COMPANION_NEXT(status, companion_create_stock("season.stock", companion_label(1), spring->head.outputs, shares, TASKS, stock));
     printf("spring:");
-    if (status.number == 0)
-        status = use(stock, spring, 1, 0, 60);
+    COMPANION_NEXT(status, use(stock, spring, 1, 0, 60));
     companion_close_stock(stock);
     printf(" the program ends and starts again;"); /* its records are kept, as the file is */
-    if (status.number == 0)
-        status = companion_open_stock("season.stock", companion_label(1), stock);
-    if (status.number == 0)
-        status = use(stock, spring, 1, 0, 10);
-    if (status.number == 0)
-        status = use(stock, spring, 1, 1, 40);
+    COMPANION_NEXT(status, companion_open_stock("season.stock", companion_label(1), stock));
+    COMPANION_NEXT(status, use(stock, spring, 1, 0, 10));
+    COMPANION_NEXT(status, use(stock, spring, 1, 1, 40));
     printf(" autumn:"); /* left are 80 and 60 */
-    if (status.number == 0)
-        status = companion_pass(stock, companion_label(2), autumn->head.outputs);
-    if (status.number == 0)
-        status = use(stock, autumn, 2, 1, 60);
+    COMPANION_NEXT(status, companion_pass(stock, companion_label(2), autumn->head.outputs));
+    COMPANION_NEXT(status, use(stock, autumn, 2, 1, 60));
     return status;
 }
 

@@ -1,7 +1,8 @@
 /* Companion of the correlation expander: what a program writes around the calls of expander.h.
- * Dealing at random, ends and pairs of ends, whether records were dealt together, a stock on disk,
- * circuits, also in Bristol Fashion, and joint runs over a link of the caller's. For Linux on a
- * machine that holds words least byte first.
+ * Dealing at random, also in layers, ends and pairs of ends, whether records were dealt together, a
+ * stock on disk, circuits, also in Bristol Fashion, and joint runs over a link of the caller's, whose
+ * results are opened or stay shared; the usual sequence of these in one call (companion_once). For
+ * Linux on a machine that holds words least byte first, with POSIX threads (-pthread).
  *
  * NOT PROVED. The calls of expander.h are proved; this is plain C99 above them, tested and no more.
  *
@@ -20,6 +21,10 @@
  *             on different structs may run at the same time.
  *   Stack     A call takes at most 96 KiB. What crosses to the expander by value, and what its calls
  *             leave on the stack, is not wiped.
+ *   Threads   Only the calls that are told how many start any: as many as that less one, for the caller's
+ *             does its part, and no more than there are layers. Each has 256 KiB of stack and gets no
+ *             signals; all have ended when the call returns. Where one does not start, or has no memory,
+ *             the others do its work, the caller's alone if it must.
  *   Links     Both ends make the same calls in the same order. Each sends first and then receives, so
  *             a link is to hold 8,192 bytes of one end before the other reads. Every call that is lent
  *             a link may also return COMPANION_CLOSED, COMPANION_NOT_MOVED and COMPANION_FAR.
@@ -38,6 +43,8 @@
  *             not lies: what an end, or who stands between both, alters within what is admitted, sums
  *             too, goes unnoticed. Who is at a link's other end, and who reads it, is for the caller to
  *             settle.
+ *   Layers    A Delta serves one dealing, with one exception: the layers of one source, which one dealer
+ *             dealt together, and of which each end holds all. Roots and labels serve once there too.
  *   Sizes     None is recommended. In field 1 whoever knows the code key finds two outputs whose u
  *             lean to being equal: by 2^-26 (n = 32,768) to 2^-55 (n = 64, N = 2^10) at t = 64 and
  *             l = 32, the largest, and by 2^-17 to 2^-23 at l = 16, n = 1,024, N = 2^12. Smaller t
@@ -58,9 +65,9 @@ extern "C" {
  * Within a major version no struct, parameter, number or name changes and no call goes; a call sends what
  * it sent, so both ends may have different versions of it; and a stock's file stays readable. A minor
  * version adds calls and numbers, a patch adds nothing. Sentences may change in any version. The shared
- * object's name has the major version, and it needs an expander of major version 2, 2.1.0 or later. */
-#define COMPANION_VERSION "1.0.0"
-#define COMPANION_VERSION_NUMBER 10000
+ * object's name has the major version, and it needs an expander of major version 2, 2.2.0 or later. */
+#define COMPANION_VERSION "1.1.0"
+#define COMPANION_VERSION_NUMBER 10100
 
 /* Numbers of the companion's own. */
 #define COMPANION_DONE 0u
@@ -107,12 +114,27 @@ extern "C" {
 #define COMPANION_FORKED 138u        /* the stock was opened in another process */
 #define COMPANION_FILE_CHANGED 139u  /* the stock's file is not what was written last */
 #define COMPANION_FILE_LINKED 140u   /* the stock's file has a second name, a hard link */
+/* Of layers, with the layer; from 1.1.0 on. */
+#define COMPANION_BAD_LAYERS 141u    /* the number of layers is not 1 to COMPANION_LAYERS_MAX (16) */
+#define COMPANION_OTHER_LAYER 142u   /* end, field, d, l, n or code key is not the first layer's */
+#define COMPANION_LAYER_LABEL 143u   /* the label is not above that of the layer before */
+#define COMPANION_OTHER_DELTA 144u   /* the scalar record's Delta is not the first layer's */
+/* Of shares. */
+#define COMPANION_SHARES_COUNT 145u  /* another number of shares than the circuit takes, or the part has */
+#define COMPANION_OTHER_ORIGIN 146u  /* the far end's shares come from another run, or are another part */
+#define COMPANION_NOT_KEPT 147u      /* kept is NULL, and outputs stay shared */
 
 /* Who gives an input (one of the two), and to whom an output is opened. Role 1 is the noise end of a
- * pair's first dealing, as in expander.h. */
+ * pair's first dealing, as in expander.h. What is shared both ends hold together: an input as shares of
+ * an earlier run, an output that is opened to nobody and kept as shares. */
 #define COMPANION_ROLE_1 1
 #define COMPANION_ROLE_2 2
 #define COMPANION_BOTH 3
+#define COMPANION_SHARED 4
+
+/* Triples that a session opens when it begins, so that records which were not dealt together pass with
+ * chance 2^-40. */
+#define COMPANION_CHECKED 40
 
 /* Forms of sums and comparisons: ripple has the fewest ANDs, and as many rounds as bits; flat, by
  * prefixes, has about log2 of that many rounds, and more ANDs. */
@@ -123,18 +145,28 @@ extern "C" {
 #define COMPANION_CIRCUIT_MAX (9 + 5 * EXPANDER_WIRES_MAX + 2 * EXPANDER_CIRCUIT_OUTPUTS_MAX)
 #define COMPANION_BRISTOL_MAX (64 + 32 * EXPANDER_WIRES_MAX + 32 * EXPANDER_CIRCUIT_OUTPUTS_MAX)
 
+/* The most layers of a source. */
+#define COMPANION_LAYERS_MAX 16
+
 /* A number; the call of the expander or of the system that refused, or ""; the line of a Bristol
- * text, or 0; what errno was, or 0. What follows is 0 but with the numbers named. */
+ * text, or of several layers the one that was refused, from 1 on, or 0; what errno was, or 0. What
+ * follows is 0 but with the numbers named. */
 struct companion_status {
     uint32_t number;
     const char *call;
     size_t line;
     int system;
     uint32_t far;                       /* COMPANION_FAR: the far end's number */
-    uint32_t parts;                     /* COMPANION_OTHER_DEALING: COMPANION_PART_.. that differ */
-    size_t needed, there;               /* 18: triples; 15: indices that were asked for, and are left */
-    struct expander_label label, other; /* 20, 21: the caller's, the one in use; 105, 109: here, there */
+    uint32_t parts;                     /* 105, 142: COMPANION_PART_.. that differ */
+    size_t needed, there;               /* 18: triples; 145: shares; 15: indices asked for, and left;
+                                           105, of other layers: how many here, and there */
+    struct expander_label label, other; /* 20, 21: the caller's, the one in use; 105, 109: here, there;
+                                           143: the layer's, and that of the layer before */
 };
+
+/* The next step of a sequence, unless one before it failed. */
+#define COMPANION_NEXT(status, call) \
+    ((status).number == COMPANION_DONE ? (void)((status) = (call)) : (void)0)
 
 /* Parts of a record's head. */
 #define COMPANION_PART_END 1u
@@ -146,6 +178,7 @@ struct companion_status {
 #define COMPANION_PART_OUTPUTS 64u
 #define COMPANION_PART_CODE_KEY 128u
 #define COMPANION_PART_LABEL 256u
+#define COMPANION_PART_LAYERS 512u /* how many there are */
 
 /* The field, and d, g, t, l and n of expander.h. */
 struct companion_sizes {
@@ -159,7 +192,15 @@ struct companion_dealt {
     uint8_t noise[EXPANDER_NOISE_RECORD_MAX], scalar[EXPANDER_SCALAR_RECORD_MAX];
 };
 
-/* One end of a dealing: what its record says, a copy of the record, and what offline makes of it. */
+/* A record that is lent: of exactly len bytes. */
+struct companion_record {
+    const uint8_t *bytes;
+    size_t len;
+};
+
+/* One end of a dealing: what its record says, a copy of the record, and what offline makes of it. Of
+ * layers, head and record are the last one's, whose label is the highest, and the vectors are the
+ * layers' sums; every call takes such an end, or a pair of them, as it takes one of a single dealing. */
 struct companion_end {
     struct expander_described head;
     size_t record_len, held;
@@ -180,12 +221,14 @@ struct companion_window {
 
 /* An end's part in two dealings of field 1 with the roles exchanged. The dealing with the lower label
  * is the first, and its noise end has role 1. Both dealings go by one window, and by one stock, whose
- * label is the first one's and whose n is the smaller of both. A pair remembers which outputs were
+ * label is the first one's and whose n is the smaller of both. Where a dealing has layers, its label
+ * for this order is its highest, and the stock's label is the highest of all; so no layer's label can
+ * come again in a passage (companion_pass_pair). A pair remembers which outputs were
  * opened or made triples, and refuses them a second time (COMPANION_USED). Once it is closed that is
  * forgotten: across openings a stock keeps it. */
 struct companion_pair {
     struct companion_end noise, scalar;
-    struct expander_label label; /* the first dealing's */
+    struct expander_label label; /* the first dealing's; of layers the highest of all */
     size_t outputs;              /* the smaller n */
     uint8_t role;                /* 1 or 2 */
     uint8_t compared;            /* 1 once companion_compare_pair is done */
@@ -198,6 +241,17 @@ struct companion_triples {
     size_t count;
     uint8_t *bytes;
     uint64_t windows;
+};
+
+/* Bits that both ends hold together and neither knows; all 0 at first. Each end has a share of each, a
+ * byte 0 or 1, and the exclusive or of both ends' shares is the bit. origin is a sum of the runs and parts
+ * that they come from, the same at both ends, which a run compares. They belong to no pair: what one
+ * season kept serves the next. A copy of the three members that the caller holds, as from a file, may be
+ * given to a run too; companion_free_shares is for those alone that the companion made. */
+struct companion_shares {
+    size_t count;
+    uint8_t *bits;
+    uint64_t origin;
 };
 
 /* How an end reaches the other: two functions of the caller's, as write and read. Each moves 1 to len
@@ -226,6 +280,22 @@ struct companion_stock {
     int folder, lock, file; /* descriptors: the folder, the lock file, and the file as written last */
     uint64_t device, inode; /* which file that is */
     int64_t process;        /* which opened it */
+};
+
+/* An end's records of a pair, which are lent: noise records of one dealing and scalar records of the
+ * other, one each, or of layers one a layer; and how many threads open them, at most (0 is 1). */
+struct companion_records {
+    const struct companion_record *noise, *scalar;
+    size_t noise_layers, scalar_layers, threads;
+};
+
+/* A session of an end: its open pair, compared and checked; the link; and what its triples are drawn
+ * from, the caller's stock or, where that is NULL, one in memory alone. */
+struct companion_session {
+    const struct companion_link *link;
+    struct companion_pair pair;
+    struct companion_stock *stock, memory;
+    size_t caller;
 };
 
 /* A wire of a circuit: inputs first, then gates. A word is wires, lowest bit first. */
@@ -260,7 +330,7 @@ void companion_text(struct companion_status status, char *text, size_t text_len)
  *  Returns:  a text that stays; "no such call", "no such number"
  *  In:       call:   the call's name, "expander_deal", or "" for what a number says in most calls; for 0
  *                    and from 100 on it does not count
- *            number: 0 to 21, or 100 to 140
+ *            number: 0 to 21, or 100 to 147
  */
 const char *companion_meaning(const char *call, uint32_t number);
 
@@ -281,6 +351,23 @@ void companion_wipe(void *memory, size_t len);
 struct companion_status companion_deal(
     const struct companion_sizes *sizes, struct expander_label label, struct companion_dealt *dealt);
 
+/** Deal the layers of one source: as many dealings under one Delta and one code key, each with roots,
+ *  positions and values of its own, whose correlations add. All noise records are for the one end and
+ *  all scalar records for the other. In field 1 places of different layers that are equal cancel, so
+ *  there are up to layers times t places of noise.
+ *
+ *  Returns:  0; as companion_deal; COMPANION_BAD_LAYERS; COMPANION_LAYER_LABEL (there are not so many
+ *            labels from this one on)
+ *  In:       sizes
+ *            label:  the first layer's; each further one has the next label
+ *            layers: 1 to COMPANION_LAYERS_MAX
+ *  Out:      dealt:  as many, in the layers' order
+ *  Failed:   all of dealt is 0; where the number of layers is not admitted it is as it was.
+ */
+struct companion_status companion_deal_layers(
+    const struct companion_sizes *sizes, struct expander_label label, size_t layers,
+    struct companion_dealt *dealt);
+
 /** The label that stands for a number. */
 struct expander_label companion_label(uint64_t number);
 
@@ -293,6 +380,27 @@ struct expander_label companion_label(uint64_t number);
 struct companion_status companion_open(
     const uint8_t *record, size_t record_len, struct companion_end *end);
 void companion_close(struct companion_end *end);
+
+/** Open an end from the records of all layers of its source, and add them up. All tests are made before
+ *  anything is expanded. What is closed is the whole of it: no layer stays open alone.
+ *
+ *  Returns:  0; COMPANION_BAD_LAYERS; COMPANION_NO_MEMORY; with the layer in line, where there are
+ *            several: the number of expander_describe; COMPANION_OTHER_LAYER (with the parts),
+ *            COMPANION_LAYER_LABEL, and at the scalar end COMPANION_OTHER_DELTA. The noise end cannot see
+ *            Delta: that its layers have one is found by companion_check.
+ *  In:       records: one a layer, of one end, with labels that rise; copied as far as they are kept
+ *            layers:  1 to COMPANION_LAYERS_MAX
+ *            threads: how many work at once, at most; 0 is 1. Each takes memory for a vector of its own.
+ *  Out:      end:     closed by companion_close
+ */
+struct companion_status companion_open_layers(
+    const struct companion_record *records, size_t layers, size_t threads,
+    struct companion_end *end);
+
+/** How many layers an end has, 0 if it is closed; and what the record of one said, 1 to that many, or
+ *  all 0 where there is none. */
+size_t companion_layers(const struct companion_end *end);
+struct expander_described companion_layer(const struct companion_end *end, size_t layer);
 
 /** Give the outputs first to first + count - 1 of an end, and in field 1 choices and pads.
  *
@@ -315,6 +423,21 @@ struct companion_status companion_open_pair(
     const uint8_t *noise, size_t noise_len, const uint8_t *scalar, size_t scalar_len,
     struct companion_pair *pair);
 void companion_close_pair(struct companion_pair *pair);
+
+/** Open both ends of a pair from the records of all layers of each, on threads that take layers of
+ *  both. Tests are made before anything is expanded.
+ *
+ *  Returns:  0; as companion_open_layers, noise first; COMPANION_WRONG_RECORD; COMPANION_SAME_LABEL (a
+ *            label is in both)
+ *  In:       noise:  the noise records of one source's layers; noise_layers of them
+ *            scalar: the scalar records of the other's; scalar_layers of them
+ *            threads: as companion_open_layers
+ *  Out:      pair:   closed by companion_close_pair
+ */
+struct companion_status companion_open_pair_layers(
+    const struct companion_record *noise, size_t noise_layers,
+    const struct companion_record *scalar, size_t scalar_layers, size_t threads,
+    struct companion_pair *pair);
 
 /** Add the triples of a window of a pair to those that are there. The pair gives them once, whether a
  *  run spends them or they are closed.
@@ -356,11 +479,11 @@ struct companion_status companion_receive(
 
 /** Same dealing: exchange the heads of records (field, sizes, code key, label), which both ends know,
  *  and compare them: of one dealing with an end here and an end there, or of both dealings of a pair,
- *  of which no triples are made before. Records with equal heads need not have been dealt together:
- *  that is companion_check's.
+ *  of which no triples are made before. Of layers, how many there are and the head of each. Records with
+ *  equal heads need not have been dealt together: that is companion_check's.
  *
- *  Returns:  0; COMPANION_OTHER_DEALING (the status has the parts that differ, and both labels),
- *            COMPANION_OUT_OF_STEP
+ *  Returns:  0; COMPANION_OTHER_DEALING (the status has the parts that differ, both labels, and the
+ *            layer, the last one first, or how many each end has), COMPANION_OUT_OF_STEP
  *  In:       link
  *            end, or pair, whose member compared says afterwards whether it is done
  */
@@ -406,7 +529,7 @@ struct companion_status companion_check(
  *            open:   21 (the file's stock has another label), 14 (it has no callers);
  *                    COMPANION_FILE_DAMAGED, COMPANION_FILE_LINKED
  *  In:       path:   the file's; where it is NULL, create keeps the stock in memory alone
- *            label:  of the dealing, or of a pair its label
+ *            label:  of the dealing, or of a pair its label; of layers the highest
  *            outputs, shares: as expander_open_stock has them
  *  Out:      stock:  closed by companion_close_stock
  */
@@ -451,11 +574,26 @@ struct companion_status companion_draw(
 struct companion_status companion_pass(
     struct companion_stock *stock, struct expander_label label, size_t outputs);
 
+/** The same, to a fresh end or pair that is open: to its label (of layers the highest) and its n, where
+ *  its lowest label is above the one in use. With companion_pass alone a passage would admit a layer's
+ *  label again.
+ *
+ *  Returns:  as companion_pass; 20 also where the lowest label of all layers is not above the one in use
+ *  In:       fresh
+ *  Out:      stock: as above
+ *  Failed:   as above.
+ */
+struct companion_status companion_pass_end(
+    struct companion_stock *stock, const struct companion_end *fresh);
+struct companion_status companion_pass_pair(
+    struct companion_stock *stock, const struct companion_pair *fresh);
+
 /** Add a word of inputs, before any gate, or a word of outputs.
  *
  *  Faults:   COMPANION_BAD_WORD; COMPANION_LATE_INPUT, COMPANION_WIRES (input); COMPANION_OUTPUTS,
  *            COMPANION_BAD_WIRE (output)
- *  In:       role:  who gives it, 1 or 2; to whom it is opened, 1, 2 or COMPANION_BOTH
+ *  In:       role:  who gives it, 1 or 2; to whom it is opened, 1, 2 or COMPANION_BOTH; COMPANION_SHARED:
+ *                   given, or kept, as shares
  *            width: at least 1
  *  Out:      word:  of an input, its wires
  */
@@ -560,7 +698,7 @@ void companion_to_bits(uint64_t number, uint8_t *bits, size_t width);
 uint64_t companion_from_bits(const uint8_t *bits, size_t width);
 
 /** Read a circuit in Bristol Fashion: XOR, AND, INV, EQ, EQW, MAND; gates in order, wire numbers in
- *  any. The first input value is role 1's and all others role 2's; outputs are opened to both.
+ *  any; a byte-order mark is passed over. The first input value is role 1's and all others role 2's; outputs are opened to both.
  *
  *  Returns:  0; with the line COMPANION_TEXT_.., COMPANION_WIRES, COMPANION_OUTPUTS
  *  In:       text: of text_len characters
@@ -596,7 +734,9 @@ struct companion_status companion_write_bristol(
  *            COMPANION_NOT_BITS: an input, or the far end's share of an output; 8: another byte of the
  *            far end's
  *            COMPANION_NO_INPUTS: own is NULL, and the circuit has inputs of this end
- *            COMPANION_BAD_WORD: the role of an input is not 1 or 2; 9: this end's role is not
+ *            COMPANION_SHARES_COUNT, COMPANION_NOT_KEPT: the circuit has inputs, or outputs, that are shared,
+ *            which are for companion_run_shared
+ *            COMPANION_BAD_WORD: the role of an input is not admitted; 9: this end's role is not 1 or 2
  *            COMPANION_NO_RANDOM, COMPANION_NO_MEMORY
  *            What is wrong at this end alone, its role and inputs too, is found before anything but the
  *            number is sent.
@@ -604,13 +744,113 @@ struct companion_status companion_write_bristol(
  *            own:     this end's input bits in the circuit's order, a byte 0 or 1 each; NULL if none
  *  Out:      triples: spent: wiped and freed, also where the run fails; their windows serve no other
  *                     run, nor this one made again
- *            outputs: a byte for each output of the circuit, 0 where it is not opened to this end
+ *            outputs: a byte for each output of the circuit, 0 where it is not opened to this end; may be
+ *                     NULL from 1.1.0 on
  *            rounds:  how many were made; may be NULL
  *  Failed:   outputs are as they were.
  */
 struct companion_status companion_run(
     const struct companion_link *link, uint8_t role, const struct companion_circuit *circuit,
     const uint8_t *own, struct companion_triples *triples, uint8_t *outputs, size_t *rounds);
+
+/** Run a circuit jointly whose inputs may be shares, and whose outputs may stay shares, so that a state
+ *  that both ends hold goes through any number of circuits (examples/aes.c). It is companion_run, with its
+ *  numbers, for words that are COMPANION_SHARED too. A circuit without gates shares inputs, or opens what
+ *  was kept.
+ *
+ *  Claimed   Of a shared word nothing is opened, neither of what is given nor of what is kept: of shares
+ *            only their origin is sent. What the ANDs of a run send is masked by triples, as ever, and sums
+ *            of all that was sent and received are compared before anything is given.
+ *  Not       An end that alters its shares alters the bits that they stand for, and nobody finds it.
+ *  Twice     Shares may go into any number of circuits, and into a run that is made again. A triple may not:
+ *            each run takes fresh ones.
+ *  Last      The last exchange can fail, as in companion_run. Then one end has kept and the other has not;
+ *            the next run finds it (COMPANION_OTHER_ORIGIN). Both go back to what was given, and run again
+ *            with fresh triples. So hold what was given until the next run is done. Where kept is given
+ *            itself there is no way back for the end that has kept.
+ *  Wiping    Shares are wiped when they are freed, or replaced. Both ends' shares of a state tell the state.
+ *
+ *  Returns:  as companion_run, but for shared words:
+ *            COMPANION_SHARES_COUNT: not as many are given as the circuit's shared inputs have bits (the
+ *            status has both); COMPANION_NOT_KEPT: kept is NULL, and the circuit has shared outputs
+ *            COMPANION_OTHER_ORIGIN: the far end gives shares of another run, or another part
+ *            COMPANION_NOT_BITS: a share that is given is above 1
+ *  In:       given:   shares for the circuit's shared inputs, in its order; NULL if none
+ *            the others as in companion_run
+ *  Out:      triples: spent, also where the run fails
+ *            outputs: as in companion_run, and 0 where an output stays shared; may be NULL
+ *            kept:    shares of the circuit's shared outputs, in its order; what it held before is wiped
+ *                     and freed. It may be given itself; NULL if none are kept
+ *  Failed:   outputs, kept and what was given are as they were.
+ */
+struct companion_status companion_run_shared(
+    const struct companion_link *link, uint8_t role, const struct companion_circuit *circuit,
+    const uint8_t *own, const struct companion_shares *given, struct companion_triples *triples,
+    uint8_t *outputs, struct companion_shares *kept);
+
+/** Add a part of some shares to those that are there, so that a circuit takes parts of several runs'. Both
+ *  ends make the same calls. Nothing is sent.
+ *
+ *  Returns:  0; COMPANION_SHARES_COUNT (there are fewer than first + count); COMPANION_NO_MEMORY
+ *  In:       from:   it stays as it is; it may be shares itself
+ *            first, count: the part
+ *  Out:      shares: all 0 at first; closed by companion_free_shares, which wipes them
+ *  Failed:   shares are as they were.
+ */
+struct companion_status companion_add_shares(
+    const struct companion_shares *from, size_t first, size_t count, struct companion_shares *shares);
+void companion_free_shares(struct companion_shares *shares);
+
+/** One call for the usual sequence: open the records, compare, check, draw, run, close. It is
+ *  companion_join, companion_compute without shares, and companion_leave.
+ *
+ *  Returns:  as these
+ *  In:       link, records, stock, caller: as companion_join
+ *            circuit, own: as companion_run
+ *  Out:      stock:   what was checked and what was run is drawn from it, also where a later step fails
+ *            outputs: as companion_run
+ *  Failed:   outputs are as they were.
+ */
+struct companion_status companion_once(
+    const struct companion_link *link, const struct companion_records *records,
+    struct companion_stock *stock, size_t caller, const struct companion_circuit *circuit,
+    const uint8_t *own, uint8_t *outputs);
+
+/** Begin a session for any number of circuits: open the records (companion_open_pair_layers), compare them
+ *  with the far end's (companion_compare_pair), draw COMPANION_CHECKED outputs (companion_draw, with the
+ *  link) and open their triples (companion_check). An end whose records or stock are refused tells the
+ *  other.
+ *
+ *  Returns:  0; as these; COMPANION_NO_MEMORY
+ *  In:       link:    lent until the session is left
+ *            records: lent for this call alone
+ *            stock:   open, under the pair's label, and lent until the session is left. NULL: the session
+ *                     counts from output 0 on in memory, which is forgotten when it is left. Then the
+ *                     records serve this session and nothing else, before or after
+ *            caller:  of the stock; 0 where it is NULL
+ *  Out:      session: left by companion_leave; its pair.role is this end's
+ */
+struct companion_status companion_join(
+    const struct companion_link *link, const struct companion_records *records,
+    struct companion_stock *stock, size_t caller, struct companion_session *session);
+void companion_leave(struct companion_session *session);
+
+/** Run a circuit in a session: draw a triple for each AND (companion_draw, with the link), and run it
+ *  (companion_run_shared, under the pair's role). What is wrong at this end alone is found, and told to the
+ *  far end, before anything is drawn.
+ *
+ *  Returns:  0; as these; COMPANION_NOT_COMPARED (the session was left, or never begun)
+ *  In:       circuit, own: as companion_run
+ *            given:   shares for shared inputs; NULL if none
+ *  Out:      session: its triples are spent, also where the run fails
+ *            outputs: as companion_run; may be NULL
+ *            kept:    shares of shared outputs; it may be given itself; NULL if none are kept
+ *  Failed:   outputs, kept and what was given are as they were. The session is to be left and the link to be
+ *            closed; but where both ends' draws return 15 it goes on, with a smaller circuit.
+ */
+struct companion_status companion_compute(
+    struct companion_session *session, const struct companion_circuit *circuit, const uint8_t *own,
+    const struct companion_shares *given, uint8_t *outputs, struct companion_shares *kept);
 
 #ifdef __cplusplus
 }

@@ -60,7 +60,7 @@ static unsigned count_ands(const struct companion_circuit *circuit)
 }
 
 /* Ripple forms: a triple is dearer here than a round. These are the gates, in this order, of
- * crates/market/specs/Circuit.antt, which are proved to find the price; tests/market compares. */
+ * crates/market/specs/Circuit.antt, which are proved to find the price; tests/market/run compares. */
 void build_clearing(struct companion_circuit *circuit, unsigned ands[TASKS])
 {
     struct quantity given[HOUSES][SIDES][LEVELS];

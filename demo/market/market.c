@@ -1,12 +1,14 @@
 /* The harness: starts two houses and, each season, a dealer; shows what the houses print on one
  * screen, and beside it what the plain computation gives, since it may read both houses' bids.
  *
- *   market PROGRAMS BIDS SECONDS DEPTH BRANCH_BITS TREES TERMS OUTPUTS
+ *   market PROGRAMS BIDS SECONDS DEPTH BRANCH_BITS TREES TERMS OUTPUTS LAYERS TENTHS
  *
  * PROGRAMS is the folder of the programs dealer and house. BIDS has the files spring/north.bids,
  * spring/south.bids, autumn/north.bids and autumn/south.bids. SECONDS is how long the processes
- * wait for each other; the harness waits twice as long for them. The rest are the dealings' sizes.
- * Ends with status 0 if in both seasons both houses find what the plain computation gives.
+ * wait for each other; the harness waits twice as long for them. The rest are the dealings' sizes,
+ * how many layers a source has, and the tenths of a bit that docs/SIZES.md gives a layer at these
+ * sizes (0: nothing is said). Ends with status 0 if in both seasons both houses find what the plain
+ * computation gives.
  */
 #define _POSIX_C_SOURCE 200809L
 #include "report.h"
@@ -21,7 +23,7 @@
 #include <time.h>
 #include <unistd.h>
 
-enum { SEASONS = 2, SIZES = 5, PATH_BYTES = 1024 };
+enum { SEASONS = 2, SIZES = 6, PATH_BYTES = 1024 };
 
 static const char *const season_names[SEASONS] = {"spring", "autumn"};
 static const char *const season_titles[SEASONS] = {"SPRING", "AUTUMN"};
@@ -35,8 +37,8 @@ struct market {
     char dealer[PATH_BYTES], house[PATH_BYTES]; /* the programs */
     char bid_files[HOUSES][SEASONS][PATH_BYTES];
     char *seconds; /* an argument of dealer and house */
-    char **sizes;  /* SIZES arguments of the dealer */
-    unsigned harness_seconds;
+    char **sizes;  /* SIZES arguments of the dealer; the last, of the houses too */
+    unsigned harness_seconds, layers;
     struct pipe_ends records[HOUSES]; /* from the dealers to each house */
     struct pipe_ends reports[HOUSES]; /* from each house to the harness */
     int sockets[HOUSES];              /* each house's end of the socket pair */
@@ -72,6 +74,17 @@ static void keep_in_program_as(int fd, int as)
 {
     if (dup2(fd, as) < 0)
         stop("cannot set up a pipe: %s", strerror(errno));
+}
+
+/* A standard stream that is closed is opened on /dev/null: else a pipe would get its number, which a house's own streams take. */
+static void open_standard_streams(void)
+{
+    int fd;
+    do
+        fd = open("/dev/null", O_RDWR);
+    while (fd >= 0 && fd <= STDERR_FILENO);
+    if (fd >= 0)
+        close(fd);
 }
 
 static struct pipe_ends open_pipe(void)
@@ -116,8 +129,8 @@ static void run_program(char **arguments)
 static pid_t start_house(struct market *market, unsigned house)
 {
     char role[12], far[12];
-    char *arguments[] = {market->house, role, far, market->seconds, market->bid_files[house][0],
-                         market->bid_files[house][1], NULL};
+    char *arguments[] = {market->house, role, far, market->seconds, market->sizes[SIZES - 1],
+                         market->bid_files[house][0], market->bid_files[house][1], NULL};
     pid_t id = fork_process();
     if (id == 0) {
         snprintf(role, sizeof role, "%u", house + 1);
@@ -146,7 +159,7 @@ static pid_t start_dealer(struct market *market, unsigned label)
     char north[12], south[12], label_text[12];
     char **sizes = market->sizes;
     char *arguments[] = {market->dealer, north, south, market->seconds, label_text, sizes[0],
-                         sizes[1], sizes[2], sizes[3], sizes[4], NULL};
+                         sizes[1], sizes[2], sizes[3], sizes[4], sizes[5], NULL};
     pid_t id = fork_process();
     if (id == 0) {
         snprintf(north, sizeof north, "%d", market->records[0].to);
@@ -262,8 +275,8 @@ static void show_results(const struct report reports[HOUSES], const struct clear
 
 static void show_times(const struct report *report, const char *name)
 {
-    printf("  %-12s %7.1f %7.2f %7.1f  ", name, report->ms[OFFLINE], report->ms[TRIPLES],
-           report->ms[CIRCUIT]);
+    printf("  %-12s %7.1f %7.1f %7.2f %7.1f  ", name, report->ms[OFFLINE], report->ms[ON_TWO],
+           report->ms[TRIPLES], report->ms[CIRCUIT]);
 }
 
 static void show_caller(const struct report *report, unsigned caller)
@@ -274,14 +287,14 @@ static void show_caller(const struct report *report, unsigned caller)
 /* Each house's times, and beside them what each caller drew from the stock and has left. */
 static void show_times_and_stock(const struct report reports[HOUSES])
 {
-    printf("  %-12s %7s %7s %7s  %-10s %6s %6s\n", "milliseconds", "offline", "triples", "circuit",
-           "caller", "drew", "left");
+    printf("  %-12s %7s %7s %7s %7s  %-10s %6s %6s\n", "milliseconds", "offline", "on two", "triples",
+           "circuit", "caller", "drew", "left");
     show_times(&reports[0], house_names[0]);
     show_caller(&reports[0], SUMS);
     show_times(&reports[1], house_names[1]);
     show_caller(&reports[0], COMPARISON);
     for (unsigned caller = CHOICE; caller < CALLERS; caller++) {
-        printf("%*s", 40, "");
+        printf("%*s", 48, "");
         show_caller(&reports[0], caller);
     }
     printf("\n");
@@ -315,15 +328,15 @@ static enum outcome show_auction(struct market *market, unsigned season,
 static enum outcome run_season(struct market *market, unsigned season)
 {
     struct report reports[HOUSES];
-    unsigned label = 1 + 2 * season; /* of the first dealing; the second one's is the next */
+    unsigned count = HOUSES * market->layers, label = 1 + count * season; /* of the first layer */
     if (!ended_well(market, start_dealer(market, label), 0))
         return NO_PRICE;
     for (unsigned house = 0; house < HOUSES; house++)
         if (!read_report(market, house, &reports[house]))
             return NO_PRICE;
-    printf("  %s   %s dealings %u and %u. The dealer is gone.\n\n", season_titles[season],
+    printf("  %s   %s dealings %u to %u. The dealer is gone.\n\n", season_titles[season],
            season == 0 ? "A stock is opened on" : "What is left of the stock passes to", label,
-           label + 1);
+           label + count - 1);
     return show_auction(market, season, reports);
 }
 
@@ -367,19 +380,27 @@ int main(int argc, char **argv)
 {
     static struct market market;
     enum outcome outcome;
+    unsigned tenths;
     begin("market");
-    if (argc != 4 + SIZES)
-        stop("usage: market PROGRAMS BIDS SECONDS DEPTH BRANCH_BITS TREES TERMS OUTPUTS");
+    open_standard_streams();
+    if (argc != 4 + SIZES + 1)
+        stop("usage: market PROGRAMS BIDS SECONDS DEPTH BRANCH_BITS TREES TERMS OUTPUTS LAYERS TENTHS");
     set_paths(&market, argv[1], argv[2]);
     market.seconds = argv[3];
     market.harness_seconds = 2 * number_argument(argv[3], 3600);
     market.sizes = argv + 4;
+    market.layers = number_argument(market.sizes[SIZES - 1], COMPANION_LAYERS_MAX);
+    tenths = number_argument(argv[4 + SIZES], 9999);
 
     printf("\n  TWO HOUSES, ONE PRICE\n\n"
            "  Neither house sees the other's bids. The curves are both houses' together,\n"
            "  added up for this screen alone.\n\n"
-           "  Dealings of field 1: d = %s, g = %s, t = %s, l = %s, n = %s\n\n",
-           argv[4], argv[5], argv[6], argv[7], argv[8]);
+           "  Dealings of field 1: d = %s, g = %s, t = %s, l = %s, n = %s; layers: %u\n",
+           argv[4], argv[5], argv[6], argv[7], argv[8], market.layers);
+    if (tenths > 0)
+        printf("  Lightest pair, worst of sixteen keys: %u.%u bits a layer, %u in all (docs/SIZES.md)\n",
+               tenths / 10, tenths % 10, tenths * market.layers / 10);
+    printf("  Offline is on one thread, and then on two; the houses take turns.\n\n");
     open_connections(&market);
     start_houses(&market);
     outcome = run_seasons(&market);

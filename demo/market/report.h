@@ -6,9 +6,10 @@
 
 #include <stdio.h>
 
-/* The phases whose time is told. TRIPLES goes from the draws to triples. CIRCUIT has the sharing of
- * inputs and the opening of outputs in it, so it has the waiting for the other house. */
-enum phase { OFFLINE, TRIPLES, CIRCUIT, PHASES };
+/* The phases whose time is told. OFFLINE is on one thread, ON_TWO the same on two. TRIPLES goes from
+ * the draws to triples. CIRCUIT has the sharing of inputs and the opening of outputs in it, so it has
+ * the waiting for the other house. */
+enum phase { OFFLINE, ON_TWO, TRIPLES, CIRCUIT, PHASES };
 
 struct report {
     struct clearing found;
