@@ -8931,35 +8931,51 @@ static answer_OneLength ends_bench_scalar_bench(slice source, uint64_t first, ui
     return result;
 }
 
-/* layer_add, src/number.rt:14: Whether some word is above a limit. The first that is ends the search: machines without a comparison of
- * 64 bits in vectors take longer for the largest of several words than for one after the other. */
+/* layer_add, src/number.rt:14: Whether some word is above a limit, two words a turn. The first that is ends the search: machines without
+ * a comparison of 64 bits in vectors take longer for the largest of several words than for one after the other. */
 static bool layer_add_number_any_above(uint64_t limit, slice words)
 {
-    bool result, t5;
-    uint64_t i, t4, t7;
-    char *t6;
+    bool result, t5, t11;
+    uint64_t i, left, t6, t8, t14;
+    char *t7, *t10, *t13;
     i = 0ull;
+    left = words.count;
     for (;;) {
-        t4 = words.count;
-        t5 = i < t4;
+        t5 = 1ull < left;
         if (!t5) {
             break;
         }
-        t4 = i * 8ull;
-        t6 = (char *)((uint64_t *)words.at + i);
-        t7 = *(uint64_t *)t6;
-        t5 = limit < t7;
+        t6 = i * 8ull;
+        t7 = (char *)((uint64_t *)words.at + i);
+        t8 = *(uint64_t *)t7;
+        t5 = limit < t8;
         if (t5) {
             result = true;
             return result;
         }
-        i = i + 1ull;
+        t6 = i + 1ull;
+        t10 = (char *)((uint64_t *)words.at + t6);
+        t8 = *(uint64_t *)t10;
+        t5 = limit < t8;
+        if (t5) {
+            result = true;
+            return result;
+        }
+        i = i + 2ull;
+        left = left - 2ull;
     }
-    result = false;
+    t11 = left == 0ull;
+    if (t11) {
+        result = false;
+        return result;
+    }
+    t13 = (char *)((uint64_t *)words.at + i);
+    t14 = *(uint64_t *)t13;
+    result = limit < t14;
     return result;
 }
 
-/* layer_add, src/number.rt:28: Whether every word may be added: each in field 1, those below p in field 2. */
+/* layer_add, src/number.rt:36: Whether every word may be added: each in field 1, those below p in field 2. */
 INLINE bool layer_add_number_are_words(uint64_t field, slice words)
 {
     bool result, t3;
@@ -8976,7 +8992,7 @@ INLINE bool layer_add_number_are_words(uint64_t field, slice words)
     return result;
 }
 
-/* layer_add, src/number.rt:38: The number of the first test that is not met, or 0. */
+/* layer_add, src/number.rt:46: The number of the first test that is not met, or 0. */
 INLINE uint32_t layer_add_number_add_number(uint64_t field, slice from, slice into)
 {
     uint32_t result;

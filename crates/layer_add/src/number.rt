@@ -9,19 +9,27 @@ use answer::NOT_ELEMENT;
 use field::is_field;
 use prime::Prime;
 
-// Whether some word is above a limit. The first that is ends the search: machines without a comparison of 64 bits in vectors take
-// longer for the largest of several words than for one after the other.
+// Whether some word is above a limit, two words a turn. The first that is ends the search: machines without a comparison of 64 bits in
+// vectors take longer for the largest of several words than for one after the other.
 fn any_above(limit: u64, words: &[u64]) -> bool
     ensures { λ r. ⌜ r ≡ anyAbove limit (now (words .entry)) ⌝ }
 {
     let mut i: usize = 0;
-    while i < words.len() {
+    let mut left: usize = words.len();
+    while left > 1 {
         if words[i] > limit {
             return true;
         }
-        i += 1;
+        if words[i + 1] > limit {
+            return true;
+        }
+        i += 2;
+        left -= 2;
     }
-    false
+    if left == 0 {
+        return false;
+    }
+    words[i] > limit
 }
 
 // Whether every word may be added: each in field 1, those below p in field 2.
