@@ -10,7 +10,7 @@ mod round;
 pub use round::{entry, first_key, full_round, last_round, rows};
 
 // Two blocks.
-#[derive(Drop)]
+#[derive(Clone, Copy)]
 pub struct TwoBlocks {
     pub one: Block,
     pub other: Block,

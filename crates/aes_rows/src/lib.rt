@@ -12,7 +12,7 @@ use aes128::wide_of;
 use field::Block;
 
 // Two words.
-#[derive(Drop)]
+#[derive(Clone, Copy)]
 pub struct TwoWords {
     pub one: u64,
     pub other: u64,

@@ -7,7 +7,7 @@ use prime::{FromSigned, Prime};
 
 // What reading answers: the number, and the amount, 0 where the call is refused.
 #[repr(C)]
-#[derive(Drop)]
+#[derive(Clone, Copy)]
 pub struct Amount {
     pub number: u32,
     pub amount: i64,
@@ -15,7 +15,7 @@ pub struct Amount {
 
 // What writing answers: the number, and the element, 0 where the call is refused.
 #[repr(C)]
-#[derive(Drop)]
+#[derive(Clone, Copy)]
 pub struct WrittenAmount {
     pub number: u32,
     pub element: u64,

@@ -56,7 +56,7 @@ pub const LABEL_NOT_IN_USE: u32 = 21;
 
 // The answer of a call with two output buffers.
 #[repr(C)]
-#[derive(Drop)]
+#[derive(Clone, Copy)]
 pub struct TwoLengths {
     pub number: u32,
     pub first_written: usize,
@@ -76,7 +76,7 @@ pub fn refused_two(number: u32) -> TwoLengths
 
 // The answer of a call with one output buffer.
 #[repr(C)]
-#[derive(Drop)]
+#[derive(Clone, Copy)]
 pub struct OneLength {
     pub number: u32,
     pub written: usize,

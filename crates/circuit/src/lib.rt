@@ -15,7 +15,7 @@ pub const GATE_AND: usize = 2;
 pub const GATE_NOT: usize = 3;
 
 // The numbers of an accepted circuit: inputs, gates, outputs, ANDs, and the places of the first gate and the first output wire.
-#[derive(Drop)]
+#[derive(Clone, Copy)]
 pub struct Layout {
     pub inputs: usize,
     pub gates: usize,
@@ -26,7 +26,7 @@ pub struct Layout {
 }
 
 // What reading a circuit gives.
-#[derive(Drop)]
+#[derive(Clone, Copy)]
 pub enum Answer {
     // A circuit that passed every test.
     Accepted(Layout),
@@ -35,7 +35,7 @@ pub enum Answer {
 }
 
 // A gate of an accepted circuit: kind, wires (the second of a NOT is 0), and the place after it.
-#[derive(Drop)]
+#[derive(Clone, Copy)]
 pub struct GateRead {
     pub kind: usize,
     pub first_wire: usize,

@@ -11,7 +11,7 @@ use circuit::{Answer, GATE_AND, GATE_NOT, Layout, circuit_fault, known_gate, rea
 // The answer: the number, and how many inputs, gates, outputs, ANDs and rounds the circuit has. A refused circuit has zeros beside
 // its number.
 #[repr(C)]
-#[derive(Drop)]
+#[derive(Clone, Copy)]
 pub struct DescribedCircuit {
     pub number: u32,
     pub inputs: usize,

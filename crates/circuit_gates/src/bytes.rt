@@ -34,7 +34,7 @@ fn opened_byte(
 }
 
 // The byte of a gate's own wire, and those of the wires that it takes.
-#[derive(Drop)]
+#[derive(Clone, Copy)]
 pub struct GateBytes {
     pub own: u8,
     pub x: u8,

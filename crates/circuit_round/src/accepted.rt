@@ -9,7 +9,7 @@ use crate::tests::Frame;
 use crate::writing::write_shares;
 
 // The outputs and the bits that a round wrote.
-#[derive(Drop)]
+#[derive(Clone, Copy)]
 pub struct Lengths {
     pub written: usize,
     pub bits_written: usize,

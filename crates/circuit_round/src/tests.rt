@@ -14,7 +14,7 @@ use circuit::Layout;
 use circuit_gates::is_role;
 
 // What a round has of its circuit, once read, and the role that it is run in.
-#[derive(Drop)]
+#[derive(Clone, Copy)]
 pub struct Frame {
     pub layout: Layout,
     pub role: u8,

@@ -16,7 +16,7 @@ pub const RUN_FINISHED: u32 = 2;
 
 // An end's run by steps: 0 fresh, 1 waits for the far bits of the AND at `gate`, 2 finished; this end's shares of the wires passed.
 #[repr(C)]
-#[derive(Drop)]
+#[derive(Clone, Copy)]
 pub struct StepState {
     pub phase: u32,
     pub gate: u32,
@@ -25,7 +25,7 @@ pub struct StepState {
 
 // The answer of a step.
 #[repr(C)]
-#[derive(Drop)]
+#[derive(Clone, Copy)]
 pub struct Stepped {
     pub number: u32,
     pub written: usize,
@@ -37,14 +37,14 @@ pub struct Stepped {
 // An end's run by rounds: a byte for each wire, 0 while its share is not known, 1 for an AND that waits for the far bits, 2 + share
 // once known.
 #[repr(C)]
-#[derive(Drop)]
+#[derive(Clone, Copy)]
 pub struct RoundState {
     pub wires: [u8; 4096],
 }
 
 // The answer of a round.
 #[repr(C)]
-#[derive(Drop)]
+#[derive(Clone, Copy)]
 pub struct Rounded {
     pub number: u32,
     pub written: usize,

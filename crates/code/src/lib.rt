@@ -1,7 +1,7 @@
 // No code: the rows of the code in definitions and laws, and the structs that its functions take.
 
 // The code's shape: its places N, the terms ℓ of a row, and the strip N / ℓ.
-#[derive(Drop)]
+#[derive(Clone, Copy)]
 pub struct Shape {
     pub places: usize,
     pub terms: usize,
@@ -9,7 +9,7 @@ pub struct Shape {
 }
 
 // A window: a first index and a count.
-#[derive(Drop)]
+#[derive(Clone, Copy)]
 pub struct Window {
     pub first: usize,
     pub count: usize,

@@ -19,7 +19,7 @@ pub fn place_of(shape: Shape, i: usize, word: u64) -> usize
 }
 
 // A term of a row: its place, and the last eight bytes of its block as a word.
-#[derive(Drop)]
+#[derive(Clone, Copy)]
 pub struct Term {
     pub place: usize,
     pub word: u64,

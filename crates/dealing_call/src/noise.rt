@@ -27,7 +27,7 @@ fn correction(field: usize, leaf: [[u8; 4]; 4], value: u64, delta: &[u8]) -> Ele
 }
 
 // A tree to be written: field, d, g, position, noise value, one more than the position before, and the place for it.
-#[derive(Drop)]
+#[derive(Clone, Copy)]
 pub struct Planned {
     pub field: usize,
     pub depth: usize,

@@ -9,7 +9,7 @@ use answer::{ACCEPTED, BUFFER_SHORT};
 use record::{Layout, noise_length, scalar_length};
 
 // The lengths of both buffers.
-#[derive(Drop)]
+#[derive(Clone, Copy)]
 pub struct Rooms {
     pub noise: usize,
     pub scalar: usize,

@@ -68,7 +68,7 @@ fn scalar_number(layout: Layout, window: Window, room: usize) -> u32
 }
 
 // So many rows of a record's code from an index on.
-#[derive(Drop)]
+#[derive(Clone, Copy)]
 pub struct Rows {
     pub layout: Layout,
     pub first: usize,

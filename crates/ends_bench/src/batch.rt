@@ -14,7 +14,7 @@ use record::{Layout, leaves};
 use tree_sums::zero_words;
 
 // Strip i of the places, for a batch.
-#[derive(Drop)]
+#[derive(Clone, Copy)]
 pub struct Strip {
     pub batch: Batch,
     pub number: usize,

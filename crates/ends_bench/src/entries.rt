@@ -14,7 +14,7 @@ use record::Layout;
 use window_tests::shape_of;
 
 // So many rows of the code from an index on, and the vector that they are summed over.
-#[derive(Drop)]
+#[derive(Clone, Copy)]
 pub struct Batch {
     pub vector: Vector,
     pub first: usize,
@@ -22,7 +22,7 @@ pub struct Batch {
 }
 
 // A term's place and coefficient.
-#[derive(Drop)]
+#[derive(Clone, Copy)]
 pub struct Pending {
     pub place: usize,
     pub coefficient: u64,

@@ -15,7 +15,7 @@ use record::Layout;
 use tree_walk::{Start, node_at, walk_to};
 
 // A vector of a record: 1 is μ, 2 is v0 and 3 is w0.
-#[derive(Drop)]
+#[derive(Clone, Copy)]
 pub struct Vector {
     pub number: usize,
     pub layout: Layout,

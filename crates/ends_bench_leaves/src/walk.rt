@@ -13,7 +13,7 @@ use record::smaller;
 use tree_walk::{walk_both, walk_to};
 
 // How many bits name a child, and how many levels are left below each of two nodes.
-#[derive(Drop)]
+#[derive(Clone, Copy)]
 pub struct Levels {
     pub branch_bits: usize,
     pub one: usize,

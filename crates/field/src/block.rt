@@ -6,7 +6,7 @@ ghost use Rattle.field.specs.Binary.{block_zero, block_add, block_sub, block_sca
 use crate::bytes::{high_word, low_word, word_columns};
 
 // An element of field 1: 16 bytes as two words, each least byte first.
-#[derive(Drop)]
+#[derive(Clone, Copy)]
 pub struct Block {
     pub low: u64,
     pub high: u64,
@@ -18,7 +18,7 @@ impl Block {
     // The zero of the element kind.
     pub fn zero() -> Block
         ensures value { result ≡ block_zero }
-        ensures* constant { do ⌜ (result.low ≡ (← (⟦Block::ZERO.low⟧).entry)) × (result.high ≡ (← (⟦Block::ZERO.high⟧).entry)) ⌝ }
+        ensures constant { (result.low ≡ Block.ZERO.low) × (result.high ≡ Block.ZERO.high) }
     {
         Block::ZERO
     }

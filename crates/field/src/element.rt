@@ -12,7 +12,7 @@ use crate::bytes::{low_word, put_word, word_at};
 use prime::Prime;
 
 // An element: in field 1 its two words, in field 2 its word and any second one. A noise value is one word and any second one.
-#[derive(Drop)]
+#[derive(Clone, Copy)]
 pub struct Element {
     pub low: u64,
     pub high: u64,

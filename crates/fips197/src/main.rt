@@ -100,7 +100,7 @@ fn schedule_wrong(sbox: &[u8; 256], plain: &[u8; 256], key: Block, want: &[u8; 1
 }
 
 // A key, a block and its encryption under the key.
-#[derive(Drop)]
+#[derive(Clone, Copy)]
 struct Case {
     pub key: Block,
     pub block: Block,

@@ -9,7 +9,7 @@ ghost use Rattle.number.specs.Answer.{number_read, number_fault};
 use answer::{BAD_NUMBER, RECORD_ENDS};
 
 // What reading a number gives.
-#[derive(Drop)]
+#[derive(Clone, Copy)]
 pub enum Number {
     // The number, and the place after its last byte.
     Value(usize, usize),
@@ -73,7 +73,7 @@ pub fn read_number(source: &[u8], at: usize) -> Number
 }
 
 // A number that has been read before, and the place after it.
-#[derive(Drop)]
+#[derive(Clone, Copy)]
 pub struct Known {
     pub number: usize,
     pub next: usize,

@@ -1,7 +1,7 @@
 // What the pair program finds of two records, and the line that it prints, in definitions and laws. Their code stands in crate `pair_line`.
 
 // What is found of two records.
-#[derive(Drop)]
+#[derive(Clone, Copy)]
 pub enum Finding {
     // A record is refused with this number.
     Refused(u32),

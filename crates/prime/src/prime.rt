@@ -3,7 +3,7 @@ ghost use Rattle.std.specs.Prelude.{◌≡◌, ◌<◌, ◌*◌, ◌%◌, ◌+�
 ghost use Rattle.prime.specs.Prime.{modulus, prime, prime_zero, prime_one, prime_reduce, prime_add, prime_sub, prime_mul};
 
 // An element of field 2.
-#[derive(Drop)]
+#[derive(Clone, Copy)]
 pub struct Prime {
     pub word: u64,
 }
@@ -18,7 +18,7 @@ impl Prime {
     // The modulus p.
     pub fn modulus() -> u64
         ensures value { result ≡ modulus }
-        ensures* constant { do ⌜ result ≡ (← (⟦Prime::MODULUS⟧).entry) ⌝ }
+        ensures constant { result ≡ Prime.MODULUS }
     {
         Prime::MODULUS
     }
@@ -26,7 +26,7 @@ impl Prime {
     // The zero of the element kind.
     pub fn zero() -> Prime
         ensures value { result ≡ prime_zero }
-        ensures* constant { do ⌜ result.word ≡ (← (⟦Prime::ZERO.word⟧).entry) ⌝ }
+        ensures constant { result.word ≡ Prime.ZERO.word }
     {
         Prime::ZERO
     }
@@ -34,7 +34,7 @@ impl Prime {
     // The one of the element kind.
     pub fn one() -> Prime
         ensures value { result ≡ prime_one }
-        ensures* constant { do ⌜ result.word ≡ (← (⟦Prime::ONE.word⟧).entry) ⌝ }
+        ensures constant { result.word ≡ Prime.ONE.word }
     {
         Prime::ONE
     }

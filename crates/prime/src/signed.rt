@@ -5,7 +5,7 @@ ghost use Rattle.prime.specs.Signed.{to_signed, from_signed, prime_negate};
 use crate::prime::Prime;
 
 // What a signed number is written as: its element, or none for a number out of range.
-#[derive(Drop)]
+#[derive(Clone, Copy)]
 pub enum FromSigned {
     Element(Prime),
     OutOfRange,

@@ -17,7 +17,7 @@ pub const NOISE_END: u8 = 1;
 pub const SCALAR_END: u8 = 2;
 
 // The head of a record in numbers: field, d, g, t, ℓ, n, and the place after it, where the body begins.
-#[derive(Drop)]
+#[derive(Clone, Copy)]
 pub struct Layout {
     pub field: usize,
     pub depth: usize,
@@ -29,7 +29,7 @@ pub struct Layout {
 }
 
 // What reading a record gives.
-#[derive(Drop)]
+#[derive(Clone, Copy)]
 pub enum RecordAnswer {
     // A record that passed every test.
     Accepted(Layout),
@@ -38,7 +38,7 @@ pub enum RecordAnswer {
 }
 
 // A tree of a noise record: the correction's first and second word (0 where it has one), the siblings' place.
-#[derive(Drop)]
+#[derive(Clone, Copy)]
 pub struct Tree {
     pub position: usize,
     pub value: u64,

@@ -12,7 +12,7 @@ use record_reading::{read_noise, read_scalar};
 // The answer: the number; the end, the field and the sizes of the record; N, and the words of an element; the label and the code
 // key. A refused record has zeros beside its number.
 #[repr(C)]
-#[derive(Drop)]
+#[derive(Clone, Copy)]
 pub struct Described {
     pub number: u32,
     pub end: u8,

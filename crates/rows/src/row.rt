@@ -8,7 +8,7 @@ use field::Block;
 use prime::Prime;
 
 // A row of the code: the code's shape, and the row's number.
-#[derive(Drop)]
+#[derive(Clone, Copy)]
 pub struct CodeRow {
     pub shape: Shape,
     pub x: u64,
@@ -16,7 +16,7 @@ pub struct CodeRow {
 
 // A row's outputs at the noise end in field 1, and whether every noise word that it uses is a bit; before the row's end, those
 // of its terms so far.
-#[derive(Drop)]
+#[derive(Clone, Copy)]
 pub struct BinaryPair {
     pub u: u64,
     pub v: Block,
@@ -24,7 +24,7 @@ pub struct BinaryPair {
 }
 
 // A row's outputs at the noise end in field 2, and whether every word that it uses is an element.
-#[derive(Drop)]
+#[derive(Clone, Copy)]
 pub struct PrimePair {
     pub u: Prime,
     pub v: Prime,
@@ -32,14 +32,14 @@ pub struct PrimePair {
 }
 
 // A row's output at the scalar end in field 2, and whether every word that it uses is an element.
-#[derive(Drop)]
+#[derive(Clone, Copy)]
 pub struct PrimeRow {
     pub w: Prime,
     pub admitted: bool,
 }
 
 // The sums of u and v so far in field 2, not reduced, and whether every word in them is an element.
-#[derive(Drop)]
+#[derive(Clone, Copy)]
 pub struct PrimeSums {
     pub u: u64,
     pub v: u64,
@@ -47,7 +47,7 @@ pub struct PrimeSums {
 }
 
 // The sum of w so far in field 2, not reduced, and whether every word in it is an element.
-#[derive(Drop)]
+#[derive(Clone, Copy)]
 pub struct PrimeSum {
     pub total: u64,
     pub admitted: bool,

@@ -3,14 +3,14 @@
 
 // A dealing's label.
 #[repr(C)]
-#[derive(Drop)]
+#[derive(Clone, Copy)]
 pub struct Label {
     pub bytes: [u8; 16],
 }
 
 // Under the label in use, caller k draws from next[k] up to end[k]; entries past `callers` are zero.
 #[repr(C)]
-#[derive(Drop)]
+#[derive(Clone, Copy)]
 pub struct Stock {
     pub callers: u32,
     pub label: Label,
@@ -20,7 +20,7 @@ pub struct Stock {
 
 // The answer of an opening or a passage: its number, and the stock.
 #[repr(C)]
-#[derive(Drop)]
+#[derive(Clone, Copy)]
 pub struct OpenedStock {
     pub number: u32,
     pub stock: Stock,
@@ -28,7 +28,7 @@ pub struct OpenedStock {
 
 // The answer of a draw: its number, a window, and the stock afterwards.
 #[repr(C)]
-#[derive(Drop)]
+#[derive(Clone, Copy)]
 pub struct Drawn {
     pub number: u32,
     pub first: usize,
@@ -38,7 +38,7 @@ pub struct Drawn {
 
 // The answer of a preview: a draw's number and window, and the stock as it would be afterwards.
 #[repr(C)]
-#[derive(Drop)]
+#[derive(Clone, Copy)]
 pub struct Previewed {
     pub number: u32,
     pub first: usize,

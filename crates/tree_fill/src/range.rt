@@ -7,7 +7,7 @@ use tree_sums::Range;
 use tree_walk::power;
 
 // A range with a position among the leaves below it, and the place where the bytes of its level's siblings begin.
-#[derive(Drop)]
+#[derive(Clone, Copy)]
 pub struct Path {
     pub range: Range,
     pub position: usize,
@@ -16,7 +16,7 @@ pub struct Path {
 
 // The halves of a range that holds a path: the one that holds it, the other as a run of siblings, and whether it is the first
 // that holds it.
-#[derive(Drop)]
+#[derive(Clone, Copy)]
 pub struct Halves {
     pub below: Path,
     pub beside: Range,

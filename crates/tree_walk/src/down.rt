@@ -14,7 +14,7 @@ use aes_blocks::TwoBlocks;
 use field::Block;
 
 // The place of a block's bytes, and how many levels are left below it.
-#[derive(Drop)]
+#[derive(Clone, Copy)]
 pub struct Start {
     pub at: usize,
     pub left: usize,

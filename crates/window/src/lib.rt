@@ -4,7 +4,7 @@ use code::{Shape, Window};
 
 // The rows of a window: the field, the code's shape, the window, and how many words of u it gives: one for each row at the noise end, none
 // at the scalar end.
-#[derive(Drop)]
+#[derive(Clone, Copy)]
 pub struct WindowRows {
     pub field: usize,
     pub shape: Shape,
