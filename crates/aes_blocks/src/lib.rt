@@ -1,4 +1,6 @@
 // FIPS 197's cipher under a key of 128 bits, of one block and of two in alternation, on tables and round keys that the caller lends.
+#![tactic(auto)]
+
 ghost use Rattle.std.specs.Prelude.{◌≡◌};
 ghost use Rattle.aes_sbox.specs.Inner.Tables.{RoundTables};
 ghost use Rattle.aes128.specs.Inner.Blocks.{cipher_of};

@@ -1,4 +1,6 @@
 // The cipher on the blocks of one row: of x and i, for one x and i below 256. They share most of the first two rounds.
+#![tactic(auto)]
+
 ghost use Rattle.std.specs.Prelude.{◌≡◌, ◌+◌, ◌%◌, ◌<◌, ◌≤◌, get_or};
 ghost use Rattle.std.specs.Int.Bits.{bit_xor};
 ghost use Rattle.field.specs.Binary.{block};

@@ -1,4 +1,6 @@
 // FIPS 197's S-box as a constant whose rule is proved by one computed test, and the tables of the rounds, which are filled from it.
+#![tactic(auto)]
+
 ghost use Rattle.std.specs.Prelude.{◌≡◌, ◌+◌, ◌*◌, ◌^◌, ◌<◌, length};
 ghost use Rattle.aes_sbox.specs.Byte.{mul_bytes};
 ghost use Rattle.aes_sbox.specs.Inner.Tables.{half_turned, wide_column, RoundTables};

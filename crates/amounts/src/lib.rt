@@ -1,4 +1,6 @@
 // Signed amounts: an element of field 2 read as a signed 64-bit number, and written back.
+#![tactic(auto)]
+
 ghost use Rattle.std.specs.Prelude.{◌≡◌};
 ghost use Rattle.amounts.specs.Calls.{read_amount, write_amount};
 

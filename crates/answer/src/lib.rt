@@ -1,5 +1,6 @@
 // What the calls answer: a number of document 01 or 02, and the lengths written to each output buffer, which are zero where a call is
 // refused; and what the calls' tests ask of slices, lengths and windows.
+#![tactic(auto)]
 
 ghost use Rattle.std.specs.Prelude.{◌≡◌};
 

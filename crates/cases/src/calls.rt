@@ -1,13 +1,13 @@
 // The calls' numbers, one line a case.
+use crate::STDOUT;
 use crate::lines::front;
 use answer::TwoLengths;
-use libc::STDOUT_FILENO;
 
 // Prints a case and its number.
 fn say(label: &[u8], number: usize) {
-    io::write_all(STDOUT_FILENO, label);
-    io::print_decimal(STDOUT_FILENO, number as u64);
-    io::write_all(STDOUT_FILENO, b"\n");
+    io::write_all(STDOUT, label);
+    io::print_decimal(STDOUT, number as u64);
+    io::write_all(STDOUT, b"\n");
 }
 
 // Deals two trees at two positions, with three terms a row. Roots come from `seed`, the code key from `key`.

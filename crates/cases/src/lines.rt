@@ -1,8 +1,8 @@
 // Every kind of line that the pair program prints, on records dealt here.
 ghost use Rattle.io.specs.Counts.{IsPrefixLen};
 
+use crate::STDOUT;
 use crate::calls::deal;
-use libc::STDOUT_FILENO;
 
 // A count of the bytes of a buffer: n, or none if there are fewer.
 pub fn front(bytes: &[u8], n: usize) -> usize
@@ -15,9 +15,9 @@ pub fn front(bytes: &[u8], n: usize) -> usize
 fn show(label: &[u8], noise: &[u8], scalar: &[u8]) {
     let mut out = [0u8; 64];
     let length = pair_line::line(noise, scalar, &mut out);
-    io::write_all(STDOUT_FILENO, label);
-    io::write_all(STDOUT_FILENO, &out[..length]);
-    io::write_all(STDOUT_FILENO, b"\n");
+    io::write_all(STDOUT, label);
+    io::write_all(STDOUT, &out[..length]);
+    io::write_all(STDOUT, b"\n");
 }
 
 // Refused: the noise record, the scalar record, and both, where the noise record's number is printed.

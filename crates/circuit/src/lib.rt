@@ -1,4 +1,6 @@
 // Circuits: reading a circuit with every test, and a second pass over what was accepted.
+#![tactic(auto)]
+
 mod again;
 mod gates;
 mod reading;

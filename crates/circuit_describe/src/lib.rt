@@ -1,4 +1,6 @@
 // What a circuit is, so that a run's triples, messages and buffers are known before it starts.
+#![tactic(auto)]
+
 ghost use Rattle.std.specs.Prelude.{◌≡◌, ◌≤◌};
 ghost use Rattle.circuit.specs.Answer.{content, HasLayout};
 ghost use Rattle.circuit.specs.Levels.{greater, depth};

@@ -1,5 +1,7 @@
 // What a gate makes of the shares of its wires at one end: a share in a step, a byte in a round. The calls' code stands in crates
 // `circuit_step` and `circuit_round`.
+#![tactic(auto)]
+
 mod bytes;
 mod shares;
 

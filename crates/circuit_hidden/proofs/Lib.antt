@@ -4,7 +4,7 @@ pub mod Received
 pub mod Example
 mod Agrees
 mod Formed
-mod Hides
+mod Hiding
 mod Lists
 mod Plays
 mod Rounds

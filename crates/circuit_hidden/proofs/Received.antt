@@ -35,7 +35,7 @@ use Rattle.circuit_claims.specs.Transcript.{BitsByAnd, pair_at, sent_at_gate, fa
 use Rattle.circuit_run.specs.Round.{RoundLent}
 use Rattle.circuit_run.specs.Step.{ands_before}
 use Rattle.circuit_run.specs.declared.RoundState.{RoundState}
-use Rattle.circuit_hidden.proofs.Agrees.{by_and}
+use Rattle.circuit_hidden.proofs.Agrees.{by_and_lem}
 use Rattle.circuit_hidden.specs.Run.{SameByAnd, InRounds, InSteps, ReceivedByAnd}
 use Rattle.number.proofs.Places.{split}
 use Rattle.number.specs.Reading.{Whole}
@@ -132,7 +132,7 @@ module _ (circuit : List ℕ) (c : Circuit) (read : read_circuit circuit ≡ Who
       whole-rounds,
       λ receives j h.
           sym (run.each-got j h)
-          ∙ by_and c (far_in_rounds c (rounds_of run.calls)) (sent_in_rounds c (rounds_of far.calls))
+          ∙ by_and_lem c (far_in_rounds c (rounds_of run.calls)) (sent_in_rounds c (rounds_of far.calls))
           (Rounds.received c (admitted circuit c read).gates run.calls far.calls receives run.number far.number run.last
           far.last
           run.is_last far.is_last

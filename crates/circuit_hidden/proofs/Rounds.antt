@@ -23,8 +23,8 @@ use Rattle.circuit_claims.specs.Same.{level_at, place_at}
 use Rattle.circuit_claims.specs.Transcript.{BitsByAnd, pair_at, far_of_round, far_in_rounds, sent_in_rounds, Transcript}
 use Rattle.circuit_run.specs.Round.{RoundLent, round_with, waiting_in}
 use Rattle.circuit_run.specs.Step.{is_role}
-use Rattle.circuit_hidden.proofs.Agrees.{by_and, told_by}
-use Rattle.circuit_hidden.proofs.Hides.{Kind}
+use Rattle.circuit_hidden.proofs.Agrees.{by_and_lem, told_by}
+use Rattle.circuit_hidden.proofs.Hiding.{Kind}
 use Rattle.circuit_hidden.proofs.Lists.{from}
 use Rattle.circuit_hidden.proofs.Plays.{before, before_first, before_next, made, Accepted, AllAccepted, played_at, played_is}
 use Rattle.circuit_hidden.proofs.Received.{got-length}
@@ -127,7 +127,7 @@ module _ (circuit : List ℕ) (c : Circuit) (read : read_circuit circuit ≡ Who
     -- each AND got what it got
     again-got : SameByAnd c (far_in_rounds c (rounds_of calls)) (far_in_rounds c (rounds_of run.calls))
     again-got =
-        by_and c (far_in_rounds c (rounds_of calls)) (far_in_rounds c (rounds_of run.calls))
+        by_and_lem c (far_in_rounds c (rounds_of calls)) (far_in_rounds c (rounds_of run.calls))
         (λ i a.
         let passed = levels_passed circuit c read run.calls stays run.number run.last run.is_last run.finished
         (c.inputs + i) in

@@ -1,6 +1,6 @@
 -- Finished runs in rounds and in steps are transcripts, and show no more than the opened outputs. Assumes nothing.
 use Rattle.circuit.proofs.Exact.{admitted}
-use Rattle.circuit_hidden.proofs.Hides.{hides}
+use Rattle.circuit_hidden.proofs.Hiding.{hides}
 use Rattle.circuit_hidden.proofs.Rounds.{in-rounds}
 use Rattle.circuit_hidden.proofs.Steps.{in-steps}
 use Rattle.circuit_hidden.specs.Hidden.{HiddenRounds, HiddenSteps}

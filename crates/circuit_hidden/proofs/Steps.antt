@@ -21,7 +21,7 @@ use Rattle.circuit_claims.specs.Runs.{fresh, StepMade, steps_of, IsStep, written
 use Rattle.circuit_claims.specs.Transcript.{BitsByAnd, sent_in_steps, Transcript}
 use Rattle.circuit_run.specs.Step.{StepLent, lent_with, far_admitted, is_role}
 use Rattle.circuit_hidden.proofs.Agrees.{told_by}
-use Rattle.circuit_hidden.proofs.Hides.{Kind}
+use Rattle.circuit_hidden.proofs.Hiding.{Kind}
 use Rattle.circuit_hidden.proofs.Lists.{from}
 use Rattle.circuit_hidden.proofs.Plays.{before, before_first, before_next, made, Accepted, played_at, played_is}
 use Rattle.circuit_hidden.specs.Hidden.{Bits}

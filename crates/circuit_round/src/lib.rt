@@ -1,4 +1,6 @@
 // A round of an end's run of a circuit: opens every AND whose wires are known.
+#![tactic(auto)]
+
 ghost use Rattle.std.specs.Prelude.{◌≡◌};
 ghost use Rattle.circuit_run.specs.Inner.RoundPasses.{rounded_with};
 ghost use Rattle.circuit_run.specs.Round.{round_with, rounded, round};

@@ -1,5 +1,7 @@
 // An end's run of a circuit in definitions and laws: by steps, each up to the next AND, and by rounds, each of which opens every AND
 // whose wires are known. The code stands in crates `circuit_gates`, `circuit_step` and `circuit_round`.
+#![tactic(auto)]
+
 mod places;
 
 pub use places::{Asked, Checked, Place, Reached, Spot};

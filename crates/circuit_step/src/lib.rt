@@ -1,4 +1,6 @@
 // A step of an end's run of a circuit: up to the next AND, or to the end.
+#![tactic(auto)]
+
 ghost use Rattle.std.specs.Prelude.{◌≡◌};
 ghost use Rattle.circuit_run.specs.Inner.Places.{stepped_with};
 ghost use Rattle.circuit_run.specs.Step.{lent_with, stepped, step};

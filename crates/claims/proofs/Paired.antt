@@ -34,16 +34,16 @@ module _ (I : Input) (A : Admitted I) (x : ℕ) where
       output-same (field I).ring (field I).scaled (places (head I)) (row (head I) x) (row_within (head I) A.terms.2 x) _ _
       (accumulate-same (field I).scaled.group (places (head I)) (noise_vectors.v0 (noise_part I)) (v0 I) (v0_dealt I A))
 
-  w_at : w_at (scalar_part I) x ≡ w I x
+  w_at_lem : w_at (scalar_part I) x ≡ w I x
   unfolding w
-  w_at =
+  w_at_lem =
       output-same (field I).ring (field I).scaled (places (head I)) (row (head I) x) (row_within (head I) A.terms.2 x) _ _
       (accumulate-same (field I).scaled.group (places (head I)) (scalar_vectors.w0 (scalar_part I)) (w0 I) (λ j h. w0_dealt I A j))
 
   dealt-held : held_at (pair_of (noise_part I) (scalar_part I)) x ≡ true
   dealt-held =
       held-at (pair_of (noise_part I) (scalar_part I)) x
-      (w_at ∙ admitted-correlated I A x
+      (w_at_lem ∙ admitted-correlated I A x
       ∙ ap₂ (λ a b. (field I).scaled.group.add ((field I).scaled.scale a (delta I)) b) (sym u-at) (sym v-at))
 
 pub held : Held

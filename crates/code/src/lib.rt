@@ -1,4 +1,5 @@
 // No code: the rows of the code in definitions and laws, and the structs that its functions take.
+#![tactic(auto)]
 
 // The code's shape: its places N, the terms ℓ of a row, and the strip N / ℓ.
 #[derive(Clone, Copy)]

@@ -1,4 +1,6 @@
 // The terms of a row of the code and their places, and the test of the words that rows use. Definitions and laws stand in crate `code`.
+#![tactic(auto)]
+
 mod row;
 mod used;
 

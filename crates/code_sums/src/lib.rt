@@ -1,4 +1,6 @@
 // Accumulation in place.
+#![tactic(auto)]
+
 mod accumulation;
 
 pub use accumulation::{accumulate_elements, accumulate_noise};

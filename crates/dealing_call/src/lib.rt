@@ -1,4 +1,6 @@
 // The dealing call: the tests of its input, then both records.
+#![tactic(auto)]
+
 ghost use Rattle.std.specs.Prelude.{◌≡◌};
 ghost use Rattle.answer.specs.Outcome.{outcome_two};
 ghost use Rattle.dealing.specs.Deal.{lent_deal, deal};

@@ -1,4 +1,6 @@
 // The tests of a dealing's input, in document 01's order.
+#![tactic(auto)]
+
 mod fault;
 mod tests;
 

@@ -1,5 +1,7 @@
 // The expansion for the bench: a window's outputs as rows of the code matrix times μ, v0 or w0, each leaf walked from its root or
 // sibling alone, with no accumulated vector and no buffer of N. A refused call writes nothing.
+#![tactic(auto)]
+
 ghost use Rattle.std.specs.Prelude.{◌≡◌};
 ghost use Rattle.answer.specs.Outcome.{outcome_one, outcome_two};
 ghost use Rattle.ends.specs.Noise.Bench as noise;

@@ -30,7 +30,6 @@ use Rattle.tree.proofs.Levels.{whole-levels}
 use Rattle.ends.specs.Noise.Vectors as noise_end
 use Rattle.ends.specs.Inner.Noise.{content_of}
 use Rattle.ends.specs.Scalar.Vectors as scalar_end
-use Rattle.ends.specs.Inner.Scalar as scalar_ready
 use Rattle.field.specs.Inner.Elements.{noise_in, element_in}
 use Rattle.field.proofs.Elements.{element-zero, noise-zero}
 use Rattle.ends_bench_leaves.specs.Inner.Vectors.{field_by, element_value, leaf_of, leaves_of, values_by, values_of}

@@ -1,5 +1,7 @@
 // What the expansion for the bench needs of a vector: its value at a place, for which a noise record's trees stand in a table and each leaf
 // is walked from its root or sibling alone, and such a value added to an output.
+#![tactic(auto)]
+
 mod elements;
 mod table;
 mod trees;

@@ -1,5 +1,7 @@
 // Both ends' calls: offline writes an end's accumulated vectors, online a window of its outputs. A refused call writes nothing. Their
 // definitions and laws stand in crate `ends`.
+#![tactic(auto)]
+
 pub mod noise;
 mod noise_trees;
 pub mod scalar;

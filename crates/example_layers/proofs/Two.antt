@@ -44,7 +44,7 @@ use Rattle.layer_claims.specs.Adding.{added_up}
 use Rattle.layer_claims.specs.Correlation.{Orders, noise_at, v_at, w_at}
 use Rattle.layer_claims.specs.Layers.{Layers, Alike, input_at, shared, field, u, v, w}
 use Rattle.layer_claims.proofs.Sums.{Left, layer-left, u-sum}
-use Rattle.example_layers.specs.Two.{second, second_binary, second_prime, binary_sums, prime_sums, LayersExample}
+use Rattle.example_layers.specs.Two.{second, second_binary, second_prime, LayersExample}
 
 -- ---- the second dealing of each field
 

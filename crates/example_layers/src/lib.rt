@@ -1,1 +1,2 @@
 // Two layers of each field, computed. It has no code.
+#![tactic(auto)]

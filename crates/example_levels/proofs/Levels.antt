@@ -1,6 +1,6 @@
 -- The dealings with trees of two and of three levels: accepted, so admitted, and their numbers and siblings by computation with the cipher
 -- that looks up.
-use mathlib.Core.Path.{◌≡◌, refl, ap, ◌∙◌}
+use mathlib.Core.Path.{◌≡◌, refl, ap}
 use mathlib.Core.List.{List, [], ◌∷◌, map}
 use Prim.Native.Nat.{ℕ}
 use lib.ListN.{replicate}
@@ -16,7 +16,6 @@ use Rattle.aes128.specs.Cipher.{keys_of, power, shift_rows}
 use Rattle.tree.specs.Columns.{columns_at, columns_bytes}
 use Rattle.tree.specs.Tree.{beside, leaf_at, listed, others, path, reach, siblings}
 use Rattle.code.specs.Row.{place_of}
-use Rattle.dealing.specs.Admitted.{Admitted}
 use Rattle.dealing.specs.Input.{delta_admitted, positions_admitted}
 use Rattle.dealing.specs.Vectors.{mu}
 use Rattle.algebra.specs.Every.{every}

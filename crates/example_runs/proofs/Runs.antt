@@ -1,6 +1,6 @@
 -- The circuit of three ANDs run by both ends: their runs by computation, what they got and received call by call, and what follows by
 -- the statements themselves.
-use mathlib.Core.Path.{◌≡◌, refl, sym, ap, ap₂, ◌∙◌}
+use mathlib.Core.Path.{◌≡◌, refl, sym, ap, ◌∙◌}
 use mathlib.Core.Bool.{true, false≢true}
 use mathlib.Core.List.{List, [], ◌∷◌, ◌++◌}
 use mathlib.Core.Option.{some, none-ne-some, some-injective}
@@ -29,7 +29,7 @@ use Rattle.circuit_claims.specs.Calls.{accepted_calls}
 use Rattle.circuit_claims.specs.Evaluation.{combined, Own, Ends}
 use Rattle.circuit_claims.specs.RoundEvaluation.{OwnRound, RoundEnds}
 use Rattle.circuit_claims.specs.RoundRuns.{fresh_state, RoundMade, rounds_of, IsRound, bits_by, Waits}
-use Rattle.circuit_claims.specs.Runs.{fresh, StepMade, steps_of, IsStep}
+use Rattle.circuit_claims.specs.Runs.{fresh, StepMade, steps_of}
 use Rattle.circuit_claims.specs.Same.{SameFar, Alike}
 use Rattle.claims.proofs.CircuitRuns.{circuits}
 use Rattle.claims.proofs.Entire.{of_dealing}

@@ -2,13 +2,13 @@
 -- what is taken for a place of later calls.
 use mathlib.Core.Path.{◌≡◌, refl, sym, ap, ◌∙◌}
 use mathlib.Core.List.{List}
-use Prim.Native.Nat.{ℕ, zero, suc, ◌+◌, ◌-◌, ◌*◌, ◌≤◌, ◌<◌}
+use Prim.Native.Nat.{ℕ, zero, suc, ◌-◌, ◌*◌, ◌≤◌, ◌<◌}
 use native.Mathlib.Omega.{arith}
 use lib.Dec.{lit<, lit≤}
 use lib.ListN.{get_or, replicate}
 use Rattle.algebra.specs.Coding.{flat, over}
 use Rattle.answer.specs.Bytes.{any_above}
-use Rattle.answer.specs.Outcome.{by_number, answered, wrote}
+use Rattle.answer.specs.Outcome.{by_number, answered}
 use Rattle.answer.specs.Tests.{is_met, first_fault}
 use Rattle.aes_sbox.specs.Byte.{xtime}
 use Rattle.aes128.specs.State.{xor_word, xor_state}

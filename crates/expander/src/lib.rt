@@ -1,5 +1,7 @@
 // The public calls under their exported names. Document 01's calls, here, cite its page (`crates/page/specs/Document01.antt`); the others
 // have the contract of the call that they pass on to.
+#![tactic(auto)]
+
 ghost use Rattle.std.specs.Prelude.{◌≡◌, [], ◌∷◌};
 ghost use Rattle.page.specs.Document01 as document;
 

@@ -1,5 +1,7 @@
 // Fields by their number: `Block`, an element of field 1, 16 bytes as two words under exclusive or; `Element` and noise values of either
 // field, which say what differs from field to field; elements in words, and words in bytes. Field 2's arithmetic stands in crate `prime`.
+#![tactic(auto)]
+
 mod block;
 mod bytes;
 mod element;

@@ -1,4 +1,6 @@
 // Published vectors of AES-128, and a chain of blocks, through the proved code and through a plain second implementation.
+#![tactic(auto)]
+
 mod plain;
 mod vectors;
 

@@ -1,4 +1,6 @@
 // The sum of two vectors of words, in either field: layers of one source are added by it.
+#![tactic(auto)]
+
 ghost use Rattle.std.specs.Prelude.{◌≡◌};
 ghost use Rattle.answer.specs.Outcome.{outcome_one};
 ghost use Rattle.layer_add.specs.Add.{lent_add, add};

@@ -11,7 +11,7 @@ use Rattle.algebra.proofs.Sum.{sum-element}
 use Rattle.algebra.specs.Choice.{choose}
 use Rattle.algebra.specs.Coding.{Coding, CodingLaws, at, flat, over}
 use Rattle.algebra.specs.Field.{Field, NoiseValue, Value}
-use Rattle.algebra.specs.Group.{Group, Element, GroupLaws, Scaled, itself}
+use Rattle.algebra.specs.Group.{Element, Scaled, itself}
 use Rattle.algebra.specs.Row.{output}
 use Rattle.algebra.specs.Order.{Order, Once}
 use Rattle.algebra.specs.Sum.{sum, accumulate}

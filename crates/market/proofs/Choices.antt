@@ -10,7 +10,6 @@ use lib.Dec.{eqb}
 use lib.ListN.{length}
 use Rattle.algebra.specs.Choice.{choose}
 use Rattle.number.proofs.Places.{split, either}
-use Rattle.market.specs.Building.{Part, and}
 use Rattle.market.specs.Circuit.{bit, gather_to, gather, having, level_bit, choose_to, chosen}
 use Rattle.market.proofs.Holds.{From, end, more, Gives, holds-give, holds_then, holds-map, gives-xor, gives-and}
 use Rattle.market.proofs.Words.{half, product}
@@ -96,7 +95,7 @@ module _ (v : ℕ → ℕ) (bits : (w : ℕ) → v w < 2) where
       none true e = sym (bit-none i) ∙ ap (bit i) (sym (eqb-true j 0 e))
       none false e = refl
 
-  gives-choose_to : (q : ℕ → ℕ) (w : ℕ) {R : ℕ → ℕ → Type 0} {k n : ℕ} {ms ds : List ℕ} → From R k n ms → From (λ i d. v d ≡ q i) k n ds
+  gives-choose_to : (q : ℕ → ℕ) {R : ℕ → ℕ → Type 0} (w : ℕ) {k n : ℕ} {ms ds : List ℕ} → From R k n ms → From (λ i d. v d ≡ q i) k n ds
       → v w + weighed q k ms ≤ 1 → Gives v (choose_to w ms ds) (λ r. v r ≡ v w + weighed q k ms)
   unfolding choose_to weighed
   gives-choose_to q w end end h = holds-give w (omega arith)

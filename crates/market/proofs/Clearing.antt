@@ -13,7 +13,6 @@ use lib.ListN.{length, get_or}
 use Rattle.algebra.specs.Choice.{choose}
 use Rattle.number.proofs.Places.{split, either}
 use Rattle.market.specs.Bids.{Bids, demand_of, supply_of}
-use Rattle.market.specs.Building.{Part, each}
 use Rattle.market.specs.Circuit.{Given, Total, sum, total, meets, bit, level_bit, quantity_bit, bit_length, given_from, clearing}
 use Rattle.market.proofs.Holds.{From, end, more, from-over, from_self, from-length, Gives, holds-give, holds_then, holds-map, holds-each}
 use Rattle.market.proofs.Words.{number, gives-sum, gives-meets}

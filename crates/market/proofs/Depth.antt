@@ -12,8 +12,8 @@ use Rattle.circuit.specs.Levels.{greater, gate_level, levels, level_of, round_co
 use Rattle.circuit.specs.Writing.{write_circuit, write_gate, write_gates, write_wires}
 use Rattle.number.proofs.Places.{split}
 use Rattle.number.specs.Number.{write_number}
-use Rattle.market.specs.Building.{Built, Part, give, then, each, xor, and, invert}
-use Rattle.market.specs.Circuit.{carries, higher_sum, sum, last, highest_carry, less, Given, Total, total, meets, marks_above, marks, gather_to, gather, bit, having, level_bit, choose_to, chosen, quantity_bit, from, bit_length, given_from, clearing, clearing_circuit, length_within}
+use Rattle.market.specs.Building.{Part, give, then, each, xor, and, invert}
+use Rattle.market.specs.Circuit.{carries, higher_sum, sum, last, highest_carry, less, Given, Total, total, meets, marks_above, marks, gather_to, gather, having, level_bit, choose_to, chosen, quantity_bit, from, bit_length, given_from, clearing, clearing_circuit, length_within}
 use Rattle.market.specs.Bytes.{market_bytes, MarketBytes}
 use Rattle.market.specs.Counts.{MarketCounts}
 use Rattle.market.proofs.Holds.{From, end, more, from-map, from-over, from_get, from_self, Every, every_of, every_at, Holds, holds-give, holds_then, holds-map, holds-each}

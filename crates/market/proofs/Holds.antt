@@ -9,7 +9,7 @@ use lib.Bits.{bit_xor, bit_and}
 use lib.ListN.{length, get_or}
 use Rattle.circuit.specs.Content.{Gate, Xor, And, Not}
 use Rattle.number.proofs.Places.{split}
-use Rattle.market.specs.Building.{Built, Part, give, then, each, xor, and, invert}
+use Rattle.market.specs.Building.{Part, give, then, each, xor, and, invert}
 use Rattle.market.specs.Circuit.{from}
 
 -- members numbered from k, n of them

@@ -10,7 +10,6 @@ use lib.Bits.{bit_xor, bit_and}
 use lib.Dec.{eqb}
 use Rattle.algebra.specs.Choice.{choose}
 use Rattle.number.proofs.Places.{split}
-use Rattle.market.specs.Building.{Part, and}
 use Rattle.market.specs.Circuit.{marks_above, marks}
 use Rattle.market.proofs.Holds.{From, end, more, from-map, Gives, holds-give, holds_then, holds-map, gives-xor, gives-and, gives-invert}
 use Rattle.market.proofs.Words.{product}

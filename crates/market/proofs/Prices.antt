@@ -30,6 +30,8 @@ length_most (suc most) n = at (eqb n 0) (length_most most (n / 2))
     at false h = omega (arith, h)
 
 factors_below : (L b : ℕ) → 1 ≤ L → 1 ≤ b → (L ≤ L * b) × (b ≤ L * b)
+factors_below zero b h g = elim h [ ]
+factors_below (suc l) zero h g = elim g [ ]
 factors_below (suc l) (suc c) h g = (omega arith, omega arith)
 
 pub market_admitted : MarketAdmitted

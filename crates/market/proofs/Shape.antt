@@ -13,7 +13,7 @@ use Rattle.circuit.proofs.Ands.{ands_append}
 use Rattle.circuit.specs.Admitted.{GateBelow, GatesBelow, WiresBelow}
 use Rattle.circuit.specs.Content.{Gate, ands_in}
 use Rattle.number.proofs.Places.{either}
-use Rattle.market.specs.Building.{Built, Part, give, then, each, xor, and, invert}
+use Rattle.market.specs.Building.{Part, give, then, each, xor, and, invert}
 use Rattle.market.specs.Circuit.{carries, higher_sum, sum, last, highest_carry, less, Given, Total, total, meets, marks_above, marks, gather_to, gather, bit, having, level_bit, choose_to, chosen, quantity_bit, from, bit_length, given_from, clearing, clearing_circuit}
 use Rattle.market.specs.Counts.{sum_of, ones_to}
 use Rattle.market.proofs.Digits.{bit_below, bit-own, power-some, length_least}
@@ -82,7 +82,7 @@ shape_each g a S s f end = shape_give [] end
 shape_each g a S {n = n} {k = k} s f (more {n = c} {x = x} u v) =
     shape_as
     (shape_then (f n k x (omega arith) (omega arith) u) λ y t.
-    shape_then (shape_each g a S s (λ m i z h l. f m i z (omega (arith, h)) (omega (arith, l))) v) λ ys w.
+    shape_then (shape_each g a S {n = n + g k} s (λ m i z h l. f m i z (omega (arith, h)) (omega (arith, l))) v) λ ys w.
     shape_give (y ∷ ys) (more (s (n + g k) (n + g k + sum_of g (suc k) c) k y (omega arith) t) w))
     (omega arith) (omega arith)
 
@@ -106,13 +106,13 @@ shape_carries : {o n j m : ℕ} (g : ℕ) {xs ys : List ℕ} → o ≤ n → g <
     → Shape n (carries g xs ys) (4 * m) m (λ k. Wires k j m)
 unfolding carries
 shape_carries g e h end end = shape_give [] end
-shape_carries g e h (more {x = a} p r) (more {x = b} q s) =
+shape_carries {n = n} g e h (more {x = a} p r) (more {x = b} q s) =
     shape_as
     (shape_then (shape_xor b g (omega (arith, e, q)) h) λ w1 l1.
     shape_then (shape_xor a g (omega (arith, e, p)) (omega (arith, h))) λ w2 l2.
     shape_then (shape_and w2 w1 l2 (omega (arith, l1))) λ w3 l3.
     shape_then (shape_xor g w3 (omega (arith, h)) l3) λ w4 l4.
-    shape_then (shape_carries w4 (omega (arith, e)) l4 r s) λ cs l5.
+    shape_then (shape_carries {n = n + 1 + 1 + 1 + 1} w4 (omega (arith, e)) l4 r s) λ cs l5.
     shape_give (w4 ∷ cs) (more (omega (arith, l4)) l5))
     (omega arith) (omega arith)
 
@@ -120,11 +120,11 @@ shape_higher : {o n j m : ℕ} (g : ℕ) {xs ys cs : List ℕ} → o ≤ n → g
     → Shape n (higher_sum xs ys (g ∷ cs)) (2 * m) 0 (λ k. Wires k j (suc m))
 unfolding higher_sum
 shape_higher g e h end end end = shape_give (g ∷ []) (more (omega (arith, e, h)) end)
-shape_higher g e h (more {x = a} p r) (more {x = b} q s) (more {x = c} u t) =
+shape_higher {n = n} g e h (more {x = a} p r) (more {x = b} q s) (more {x = c} u t) =
     shape_as
     (shape_then (shape_xor a b (omega (arith, e, p)) (omega (arith, e, q))) λ w1 l1.
     shape_then (shape_xor w1 g l1 (omega (arith, e, h))) λ w2 l2.
-    shape_then (shape_higher c (omega (arith, e)) u r s t) λ ss l3.
+    shape_then (shape_higher {n = n + 1 + 1} c (omega (arith, e)) u r s t) λ ss l3.
     shape_give (w2 ∷ ss) (more (omega (arith, l2)) l3))
     (omega arith) (omega arith)
 
@@ -186,11 +186,11 @@ shape_above : {o n j m : ℕ} (none : ℕ) {ms : List ℕ} → o ≤ n → none 
     → Shape n (marks_above none ms) (2 * m) m (λ k. Wires k j m)
 unfolding marks_above
 shape_above none e h end = shape_give [] end
-shape_above none e h (more {x = w} p r) =
+shape_above {n = n} none e h (more {x = w} p r) =
     shape_as
     (shape_then (shape_and w none (omega (arith, e, p)) h) λ l l1.
     shape_then (shape_xor none l (omega (arith, h)) l1) λ none' l2.
-    shape_then (shape_above none' (omega (arith, e)) l2 r) λ ls l3.
+    shape_then (shape_above {n = n + 1 + 1} none' (omega (arith, e)) l2 r) λ ls l3.
     shape_give (l ∷ ls) (more (omega (arith, l1)) l3))
     (omega arith) (omega arith)
 
@@ -230,8 +230,8 @@ having-length i {k = k} (more {n = n} {x = w} {xs = ws} p r) = at (eqb (bit i k)
 shape_gather_to : {o n : ℕ} (w : ℕ) {us : List ℕ} → o ≤ n → w < n → All (λ u. u < o) us → Shape n (gather_to w us) (length us) 0 Wire
 unfolding gather_to
 shape_gather_to w e h done = shape_give w h
-shape_gather_to w e h (with {w = u} p r) =
-    shape_as (shape_then (shape_xor w u h (omega (arith, e, p))) λ x l. shape_gather_to x (omega (arith, e)) l r) (omega arith) refl
+shape_gather_to {n = n} w e h (with {w = u} p r) =
+    shape_as (shape_then (shape_xor w u h (omega (arith, e, p))) λ x l. shape_gather_to {n = n + 1} x (omega (arith, e)) l r) (omega arith) refl
 
 shape_gather : {n : ℕ} {us : List ℕ} → 1 ≤ n → All (λ u. u < n) us → Shape n (gather us) (length us - 1) 0 Wire
 unfolding gather
@@ -246,11 +246,11 @@ shape_choose_to : {o n j m : ℕ} (w : ℕ) {ms ds : List ℕ} → o ≤ n → w
     → Shape n (choose_to w ms ds) (2 * m) m Wire
 unfolding choose_to
 shape_choose_to w e h end end = shape_give w h
-shape_choose_to w e h (more {x = u} p r) (more {x = d} q s) =
+shape_choose_to {n = n} w e h (more {x = u} p r) (more {x = d} q s) =
     shape_as
     (shape_then (shape_and u d (omega (arith, e, p)) (omega (arith, e, q))) λ x l1.
     shape_then (shape_xor w x (omega (arith, h)) l1) λ y l2.
-    shape_choose_to y (omega (arith, e)) l2 r s)
+    shape_choose_to {n = n + 1 + 1} y (omega (arith, e)) l2 r s)
     (omega arith) (omega arith)
 
 shape_quantity_bit : {n b l : ℕ} {ms : List ℕ} {ts : List Total} (i : ℕ) → i < suc b → Wires n 1 (suc l) ms

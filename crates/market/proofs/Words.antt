@@ -12,7 +12,7 @@ use lib.ListN.{length}
 use Rattle.algebra.proofs.Tests.{and_left, and_right}
 use Rattle.algebra.specs.Choice.{choose}
 use Rattle.number.proofs.Places.{split}
-use Rattle.market.specs.Building.{Part, each, and, invert}
+use Rattle.market.specs.Building.{each, invert}
 use Rattle.market.specs.Circuit.{carries, higher_sum, sum, last, highest_carry, less, Total, meets}
 use Rattle.market.proofs.Holds.{Gives, holds-give, holds_then, holds-map, gives-xor, gives-and, gives-invert}
 
@@ -93,6 +93,10 @@ module _ (v : ℕ → ℕ) (bits : (w : ℕ) → v w < 2) where
       → Gives v (higher_sum xs ys (g ∷ cs)) (λ ss. (number v ss ≡ number v xs + number v ys + v g) × (length ss ≡ suc (length xs)))
   unfolding higher_sum number
   gives_higher g [] [] [] none = holds-give (g ∷ []) (omega arith, refl)
+  gives_higher g [] [] (c ∷ cs) f = elim f [ ]
+  gives_higher g [] (y ∷ ys) cs f = elim f [ ]
+  gives_higher g (x ∷ xs) [] cs f = elim f [ ]
+  gives_higher g (x ∷ xs) (y ∷ ys) [] f = elim f [ ]
   gives_higher g (x ∷ xs) (y ∷ ys) (c ∷ cs) (over e k) =
       holds_then (gives-xor v x y) λ d ed.
       holds_then (gives-xor v d g) λ s es.

@@ -1,4 +1,6 @@
 // Both ends' pad calls on byte slices.
+#![tactic(auto)]
+
 ghost use Rattle.std.specs.Prelude.{◌≡◌};
 ghost use Rattle.answer.specs.Outcome.{outcome_none};
 ghost use Rattle.pads.specs.Calls.{lent_noise, lent_scalar, noise_pads, scalar_pads};

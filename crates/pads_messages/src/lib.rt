@@ -1,5 +1,7 @@
 // Messages of the callers' own choosing, passed under pads of field 1: the noise end's correction bits, the scalar end's
 // answers, and their opening. The definitions and laws stand in crate `pads`.
+#![tactic(auto)]
+
 ghost use Rattle.std.specs.Prelude.{◌≡◌};
 ghost use Rattle.answer.specs.Outcome.{outcome_one};
 ghost use Rattle.pads.specs.Messages.Calls.{lent_correction, lent_mask, lent_unmask, correction_bits, mask_messages, unmask_messages};

@@ -1,4 +1,6 @@
 // The pad rule, on tables and round keys that the caller lends: a pad, and two in alternation, one step after the other.
+#![tactic(auto)]
+
 mod rule;
 mod steps;
 

@@ -1,5 +1,7 @@
 // AND triples: an end's three bits of each output, from its choices and pads in one pairing and its pairs of pads in another with
 // the roles exchanged. The definitions and laws stand in crate `pads`.
+#![tactic(auto)]
+
 ghost use Rattle.std.specs.Prelude.{◌≡◌};
 ghost use Rattle.answer.specs.Outcome.{outcome_one};
 ghost use Rattle.pads.specs.Triples.Call.{lent_triples, triples};

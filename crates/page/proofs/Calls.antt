@@ -1,7 +1,7 @@
 -- The page's calls are the library's: offline and online at both ends, and pads.
 use Prim.Native.Nat.{ℕ, suc, ◌*◌, ◌^◌}
 use mathlib.Core.Path.{◌≡◌, refl, ap, ap₂, ◌∙◌}
-use mathlib.Core.Bool.{Bool, true, false, not, ◌&&◌}
+use mathlib.Core.Bool.{Bool, true, false, ◌&&◌}
 use mathlib.Core.List.{List, [], ◌∷◌, ◌++◌, map}
 use lib.Dec.{eqb, leb}
 use lib.ListN.{length, drop}
@@ -34,14 +34,14 @@ module _ {O : Type 0} (o : O → page.Return) (inputs : List (List ℕ)) (refusa
       → ((n : ℕ) → page.refused inputs (map (λ (buffer, l). buffer) outputs) n ≡ o (refusal n)) → page.answer inputs outputs [] ≡ o acceptance
       → {page-tests : List page.Test} {tests : List Test} → Tests page-tests tests
       → page.answer inputs outputs page-tests ≡ o (answered tests refusal acceptance)
-  unfolding page.answer answered by_number first_fault page.if◌then◌else◌
+  unfolding page.answer answered by_number first_fault page.when◌then◌else◌
   answer_is outputs f e none = e
   answer_is outputs f e (more {page-tests} {tests} ask k ok m rest) =
-      ap (λ (t : Bool). page.if◌then◌else◌ t (page.answer inputs outputs page-tests) (page.refused inputs (map (λ (buffer, l). buffer) outputs) (suc k))) m
+      ap (λ (t : Bool). page.when◌then◌else◌ t (page.answer inputs outputs page-tests) (page.refused inputs (map (λ (buffer, l). buffer) outputs) (suc k))) m
       ∙ go (is_met ask) (answer_is outputs f e rest)
     where
       go : (t : Bool) → page.answer inputs outputs page-tests ≡ o (answered tests refusal acceptance)
-          → page.if◌then◌else◌ t (page.answer inputs outputs page-tests) (page.refused inputs (map (λ (buffer, l). buffer) outputs) (suc k))
+          → page.when◌then◌else◌ t (page.answer inputs outputs page-tests) (page.refused inputs (map (λ (buffer, l). buffer) outputs) (suc k))
           ≡ o (by_number (choose t (first_fault tests) (suc k)) refusal acceptance)
       go true h = h
       go false h = f (suc k)
@@ -96,7 +96,7 @@ scalar_off_return o =
     page.returned o.number (o.written.first_written ∷ o.written.second_written ∷ []) (o.lent.source ∷ []) (o.lent.w ∷ o.lent.delta ∷ [])
 
 pub scalar-offline : (source w delta : List ℕ) → page.scalar_offline source w delta ≡ scalar_off_return (scalar_off.offline source w delta)
-unfolding page.scalar_offline scalar_off.offline scalar_off.expanded is_met page.if◌then◌else◌
+unfolding page.scalar_offline scalar_off.offline scalar_off.expanded is_met page.when◌then◌else◌
 scalar-offline source w delta =
     scalar_is scalar_off_return _ _ _ _ _ (λ n. refl)
     (λ P.

@@ -96,7 +96,7 @@ unfolding page.power aes.power page.xtime byte.xtime
 power_is n = refl
 
 pub temp_is : (i : ℕ) (t : List ℕ) → page.temp i t ≡ aes.temp i t
-unfolding page.temp aes.temp page.if◌then◌else◌ page.xor page.list xor_word
+unfolding page.temp aes.temp page.when◌then◌else◌ page.xor page.list xor_word
 temp_is i t =
     ap (λ (f : ℕ → ℕ). choose (eqb (i % 4) 0) (xor_word (four (λ r. f (get_or t ((r + 1) % 4) 0))) (page.power (i / 4 - 1) ∷ 0 ∷ 0 ∷ 0 ∷ [])) t) (fun_ext s-box)
     ∙ ap (λ x. choose (eqb (i % 4) 0) (xor_word (aes.sub_word (aes.rot_word t)) (x ∷ 0 ∷ 0 ∷ 0 ∷ [])) t) (power_is (i / 4 - 1))

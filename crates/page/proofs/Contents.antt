@@ -24,10 +24,10 @@ mapped c (Whole a) = Whole (c a)
 mapped c (Refused k) = Refused k
 
 content-end : {A B : Type 0} (c : A → B) (s : List ℕ) (at : ℕ) (a : A) → content (page.ended (c a) s at) ≡ mapped c (rec.ended s at a)
-unfolding content mapped page.ended page.if◌then◌else◌
+unfolding content mapped page.ended page.when◌then◌else◌
 content-end {A} c s at a = go (ltb at (length s))
   where
-    go : (t : Bool) → content (page.if◌then◌else◌ t (page.fault bytes_after) (page.got (c a) at)) ≡ mapped c (choose {A = Reading A} t (Refused bytes_after) (Whole a))
+    go : (t : Bool) → content (page.when◌then◌else◌ t (page.fault bytes_after) (page.got (c a) at)) ≡ mapped c (choose {A = Reading A} t (Refused bytes_after) (Whole a))
     go true = refl
     go false = refl
 

@@ -40,7 +40,7 @@ use Rattle.page.proofs.Calls.{none, more, answer-two}
 -- ---- writing
 
 number-written : (x : ℕ) → page.write_number x ≡ numbers.write_number x
-unfolding page.write_number numbers.write_number page.if◌then◌else◌
+unfolding page.write_number numbers.write_number page.when◌then◌else◌
 number-written x = refl
 
 -- the writings of a list's members, before what follows
@@ -49,7 +49,7 @@ before [] r = r
 before (x ∷ l) r = numbers.write_number x ++ before l r
 
 each_before : (l r : List ℕ) → page.each page.write_number l ++ r ≡ before l r
-unfolding page.each page.write_number numbers.write_number page.if◌then◌else◌
+unfolding page.each page.write_number numbers.write_number page.when◌then◌else◌
 each_before [] r = refl
 each_before (x ∷ l) r = append_assoc (numbers.write_number x) (page.each page.write_number l) r ∙ ap (λ (m : List ℕ). numbers.write_number x ++ m) (each_before l r)
 
@@ -68,7 +68,7 @@ unfolding page.to_bytes le_bytes
 bytes_is n x = refl
 
 pub trees-written : (f base : ℕ) (l : List NoiseTree) → page.write_trees f base (map tree l) ≡ rec.write_trees f base l
-unfolding page.write_trees rec.write_trees rec.write_tree rec.write_tree_start page.if◌then◌else◌ page.write_number numbers.write_number page.each rec.write_each page.to_bytes le_bytes
+unfolding page.write_trees rec.write_trees rec.write_tree rec.write_tree_start page.when◌then◌else◌ page.write_number numbers.write_number page.each rec.write_each page.to_bytes le_bytes
 trees-written f base [] = refl
 trees-written f base (x ∷ l) =
     ap₂ (λ (a r : List ℕ). a ++ rec.write_blocks x.siblings ++ r)
@@ -175,7 +175,7 @@ deal_return o =
     (o.lent.noise_record ∷ o.lent.scalar_record ∷ [])
 
 pub deal_is : (I : Input) (a b : List ℕ) → page.deal (input I) a b ≡ deal_return (deal I a b)
-unfolding page.deal deal is_met positions_admitted rising page.every every page.if◌then◌else◌
+unfolding page.deal deal is_met positions_admitted rising page.every every page.when◌then◌else◌
 deal_is I a b =
     let n = noise-record I in
     let s = scalar-record I in

@@ -53,7 +53,7 @@ pub record KindIs (F : page.Field) (K : Kind) : Type 0 where
   pub coefficient : (w : ℕ) → F.coefficient w ≡ num (K.coefficient w)
 
 times-one : (y : ℕ) (b : Block) → (page.blocks).multiple y (b.low ∷ b.high ∷ []) ≡ (block_scale y b).low ∷ (block_scale y b).high ∷ []
-unfolding page.if◌then◌else◌ block_scale
+unfolding page.when◌then◌else◌ block_scale
 times-one zero b = refl
 times-one (suc zero) b = refl
 times-one (suc (suc y)) b = rw (ne_eqb (suc (suc y)) 1 (omega arith))
@@ -76,13 +76,13 @@ residues =
     }
 
 read_first : (t : Bool) (l v : List ℕ)
-    → page.xor 2 (page.if◌then◌else◌ t l (0 ∷ 0 ∷ [])) v ≡ page.xor 2 (page.if◌then◌else◌ t (get_or l 0 0 ∷ get_or l 1 0 ∷ []) (0 ∷ 0 ∷ [])) v
-unfolding page.if◌then◌else◌ page.xor page.list
+    → page.xor 2 (page.when◌then◌else◌ t l (0 ∷ 0 ∷ [])) v ≡ page.xor 2 (page.when◌then◌else◌ t (get_or l 0 0 ∷ get_or l 1 0 ∷ []) (0 ∷ 0 ∷ [])) v
+unfolding page.when◌then◌else◌ page.xor page.list
 read_first true l v = refl
 read_first false l v = refl
 
 binary_is : KindIs (page.field_of 1) binary_kind
-unfolding page.field_of page.if◌then◌else◌ page.list page.xor page.words
+unfolding page.field_of page.when◌then◌else◌ page.list page.xor page.words
 binary_is =
     record {
       num = λ y. y;
@@ -122,7 +122,7 @@ binary_is =
     }
 
 prime_is : KindIs (page.field_of 2) prime_kind
-unfolding page.field_of page.if◌then◌else◌ prime_reduce
+unfolding page.field_of page.when◌then◌else◌ prime_reduce
 prime_is =
     record {
       num = λ a. a.word;
@@ -140,10 +140,10 @@ prime_is =
     }
 
 pub kind_is : (f : ℕ) → KindIs (page.field_of f) (kind_of f)
-unfolding page.field_of page.if◌then◌else◌
+unfolding page.field_of page.when◌then◌else◌
 kind_is f = of (eqb f 1)
   where
-    of : (t : Bool) → KindIs (page.if◌then◌else◌ t (page.field_of 1) (page.field_of 2)) (choose t binary_kind prime_kind)
+    of : (t : Bool) → KindIs (page.when◌then◌else◌ t (page.field_of 1) (page.field_of 2)) (choose t binary_kind prime_kind)
     of true = binary_is
     of false = prime_is
 

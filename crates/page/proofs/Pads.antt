@@ -112,14 +112,14 @@ alone_is : {O : Type 0} (o : O → page.Return) (inputs : List (List ℕ)) (buff
     → (acceptance : O) → page.returned 0 [] inputs (page.front l buffer ∷ []) ≡ o acceptance
     → {page-tests : List page.Test} {tests : List Test} → Tests page-tests tests
     → page.alone (page.answer inputs ((buffer, l) ∷ []) page-tests) ≡ o (answered tests refusal acceptance)
-unfolding page.answer answered by_number first_fault page.if◌then◌else◌
+unfolding page.answer answered by_number first_fault page.when◌then◌else◌
 alone_is o inputs buffer l refusal f acceptance e none = e
 alone_is o inputs buffer l refusal f acceptance e (more {page-tests} {tests} ask k ok m rest) =
-    ap (λ (t : Bool). page.alone (page.if◌then◌else◌ t (page.answer inputs ((buffer, l) ∷ []) page-tests) (page.refused inputs (buffer ∷ []) (suc k)))) m
+    ap (λ (t : Bool). page.alone (page.when◌then◌else◌ t (page.answer inputs ((buffer, l) ∷ []) page-tests) (page.refused inputs (buffer ∷ []) (suc k)))) m
     ∙ go (is_met ask) (alone_is o inputs buffer l refusal f acceptance e rest)
   where
     go : (t : Bool) → page.alone (page.answer inputs ((buffer, l) ∷ []) page-tests) ≡ o (answered tests refusal acceptance)
-        → page.alone (page.if◌then◌else◌ t (page.answer inputs ((buffer, l) ∷ []) page-tests) (page.refused inputs (buffer ∷ []) (suc k)))
+        → page.alone (page.when◌then◌else◌ t (page.answer inputs ((buffer, l) ∷ []) page-tests) (page.refused inputs (buffer ∷ []) (suc k)))
         ≡ o (by_number (choose t (first_fault tests) (suc k)) refusal acceptance)
     go true h = h
     go false h = f (suc k)

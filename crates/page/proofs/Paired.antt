@@ -22,7 +22,7 @@ use Rattle.page.proofs.Vectors.{tree, noise_record, scalar_record, mu_is, v0_is,
 use Rattle.page.proofs.Contents.{content, mapped, noise-content, scalar-content}
 
 digits_is : (n x : ℕ) → page.decimal n x ≡ digits n x
-unfolding page.decimal digits page.if◌then◌else◌
+unfolding page.decimal digits page.when◌then◌else◌
 digits_is n x = refl
 
 same_is : (a b : List ℕ) → page.same a b ≡ same_list a b
@@ -39,7 +39,7 @@ by_content (Whole a) go = go a
 by_content (Refused k) go = lines.refused_text ++ digits 9 k
 
 or-refused : {A : Type 0} (r : page.Read A) (go : A → List ℕ) → page.or_refused r go ≡ by_content (content r) go
-unfolding page.or_refused by_content content page.decimal digits page.if◌then◌else◌
+unfolding page.or_refused by_content content page.decimal digits page.when◌then◌else◌
 or-refused (page.got a next) go = refl
 or-refused (page.fault k) go = refl
 
@@ -65,13 +65,13 @@ module _ (P : NoisePart) (Q : ScalarPart) where
       ∙ F.elements.plus _ (v_at P x))
 
   count_is : (n : ℕ) → page.count_of n (page.holds_at (head h) (map tree P.trees) Q.delta Q.roots) ≡ held_of (pair_of P Q) n
-  unfolding page.count_of held_of page.if◌then◌else◌
+  unfolding page.count_of held_of page.when◌then◌else◌
   count_is zero = refl
   count_is (suc n) = ap₂ (λ (a : ℕ) (t : Bool). a + choose t 1 0) (count_is n) (held_is n)
 
   -- two accepted records
   pair_is : page.pair_line (noise_record P) (scalar_record Q) ≡ text (paired P Q)
-  unfolding page.pair_line text paired page.if◌then◌else◌ page.decimal digits
+  unfolding page.pair_line text paired page.when◌then◌else◌ page.decimal digits
   pair_is =
       ap₂ (λ (t : Bool) (n : ℕ). choose (ltb 1024 (2 ^ h.depth) || ltb 1024 (2 ^ Q.head.depth)) lines.too_large_text
       (choose (not t) lines.different_text (text (Checked h.outputs n)))) (dealing_is h Q.head) (count_is h.outputs)

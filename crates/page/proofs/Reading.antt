@@ -59,8 +59,8 @@ then_assoc (Whole x) k m = refl
 then_assoc (Refused n) k m = refl
 
 pub if_read : {A B : Type 0} (c : A → B) (t : Bool) (p q : page.Reader B) (s : List ℕ) (at : ℕ) (x y : Parsed A)
-    → p s at ≡ read c x → q s at ≡ read c y → page.if◌then◌else◌ t p q s at ≡ read c (choose t x y)
-unfolding page.if◌then◌else◌
+    → p s at ≡ read c x → q s at ≡ read c y → page.when◌then◌else◌ t p q s at ≡ read c (choose t x y)
+unfolding page.when◌then◌else◌
 if_read c true p q s at x y e f = e
 if_read c false p q s at x y e f = f
 
@@ -70,7 +70,7 @@ module _ {A : Type 0} where
   unfolding page.test tested
   test_is r s at r' e ok ok' h k =
       then_is same same r' (r s at) e _ _ λ a next.
-      ap (λ t. page.if◌then◌else◌ t (page.give a) (page.fail k) s next) (h a)
+      ap (λ t. page.when◌then◌else◌ t (page.give a) (page.fail k) s next) (h a)
       ∙ if_read same (ok' a) _ _ s next (Whole (a, next)) (Refused k) (give_is same a next) (fault_is same k)
 
   tested_twice : (r : Parsed A) (p q : A → Bool) (k : ℕ) → tested r (λ a. p a && q a) k ≡ tested (tested r p k) q k
@@ -104,10 +104,10 @@ pub byte_is : (s : List ℕ) (at : ℕ) → page.read_byte s at ≡ read same (r
 unfolding page.item read_byte
 byte_is s at =
     let m : at + 1 ≡ suc at = omega arith in
-    ap (λ (x : ℕ). page.if◌then◌else◌ (leb x (length s)) (page.got (get_or s at 0) (at + 1)) (page.fault record_ends)) m
+    ap (λ (x : ℕ). page.when◌then◌else◌ (leb x (length s)) (page.got (get_or s at 0) (at + 1)) (page.fault record_ends)) m
     ∙ if_both (λ x y. x ≡ read same y) (ltb at (length s)) _ _ (Whole (get_or s at 0, at + 1)) (Refused record_ends) (give_is same (get_or s at 0) (at + 1)) (fault_is same record_ends)
 
-last : (s : List ℕ) (b n next : ℕ) → page.if◌then◌else◌ (eqb b 0) (page.fail 11) (page.give n) s next ≡ read same (last_group b n next)
+last : (s : List ℕ) (b n next : ℕ) → page.when◌then◌else◌ (eqb b 0) (page.fail 11) (page.give n) s next ≡ read same (last_group b n next)
 unfolding last_group
 last s b n next = if_read same (eqb b 0) _ _ s next (Refused bad_number) (Whole (n, next)) (fault_is same bad_number) (give_is same n next)
 
@@ -168,14 +168,14 @@ module _ (s : List ℕ) where
 
 -- ---- trees, Δ and roots
 
-zero_is : (l : List ℕ) (t : Bool) → page.every (page.if◌then◌else◌ t (page.field_of 1) (page.field_of 2)).elements.width (λ i. eqb (get_or l i 0) 0)
+zero_is : (l : List ℕ) (t : Bool) → page.every (page.when◌then◌else◌ t (page.field_of 1) (page.field_of 2)).elements.width (λ i. eqb (get_or l i 0) 0)
     ≡ choose t (eqb (get_or l 0 0) 0 && eqb (get_or l 1 0) 0) (eqb (get_or l 0 0) 0)
-unfolding page.field_of page.if◌then◌else◌ page.every
+unfolding page.field_of page.when◌then◌else◌ page.every
 zero_is l true = refl
 zero_is l false = refl
 
 pub is-scalar : (f : ℕ) (l : List ℕ) → page.is_scalar f l ≡ is_scalar f l
-unfolding page.field_of page.if◌then◌else◌
+unfolding page.field_of page.when◌then◌else◌
 is-scalar f l = ap₂ (λ a b. a && not b) ((kind_is f).elements.is_value-read l) (zero_is l (eqb f 1))
 
 module _ (h : Head) (s : List ℕ) where
@@ -206,9 +206,9 @@ module _ (h : Head) (s : List ℕ) where
       (λ q. ltb q (2 ^ h.depth)) (λ q. ltb q (2 ^ h.depth)) (λ q. refl) bad_position
 
   value_is : (at : ℕ)
-      → page.if◌then◌else◌ (eqb h.field 1) (page.give 1) (page.test (page.item 8 page.word) (page.is_noise_value h.field) 5) s at
+      → page.when◌then◌else◌ (eqb h.field 1) (page.give 1) (page.test (page.item 8 page.word) (page.is_noise_value h.field) 5) s at
       ≡ read same (rec.read_value h.field s at)
-  unfolding rec.read_value page.if◌then◌else◌
+  unfolding rec.read_value page.when◌then◌else◌
   value_is at =
       if_read same (eqb h.field 1) _ _ s at _ _ (give_is same 1 at)
       (test_is (page.item 8 page.word) s at _ (item_is 8 page.word word_at s at (word-at s at)) (page.is_noise_value h.field) (is_noise h.field) (λ y. refl) bad_noise)
@@ -243,10 +243,10 @@ module _ (h : Head) (s : List ℕ) where
 module _ {A B O : Type 0} (c : A → B) (o : O → page.Return) (refusal : ℕ → O) (call : A → O) (inputs buffers : List (List ℕ)) (call' : B → page.Return)
     (on-no : (n : ℕ) → page.refused inputs buffers n ≡ o (refusal n)) (on-yes : (a : A) → call' (c a) ≡ o (call a)) where
   end_is : (s : List ℕ) (at : ℕ) (a : A) → page.on_record inputs buffers (page.ended (c a) s at) call' ≡ o (after_reading (rec.ended s at a) refusal call)
-  unfolding page.on_record page.ended after_reading page.if◌then◌else◌
+  unfolding page.on_record page.ended after_reading page.when◌then◌else◌
   end_is s at a = go (ltb at (length s))
     where
-      go : (t : Bool) → page.on_record inputs buffers (page.if◌then◌else◌ t (page.fault bytes_after) (page.got (c a) at)) call'
+      go : (t : Bool) → page.on_record inputs buffers (page.when◌then◌else◌ t (page.fault bytes_after) (page.got (c a) at)) call'
           ≡ o (after_reading (choose t (Refused bytes_after) (Whole a)) refusal call)
       go true = on-no bytes_after
       go false = on-yes a

@@ -77,7 +77,7 @@ list-map f (suc n) g = append_map f (page.list n g) _ ∙ ap (λ r. r ++ (f (g n
 
 pub punctured_is : (k m : ℕ) (xs : List (List ℕ)) (q j : ℕ)
     → state (page.leaf_beside k m xs q j) ≡ tidy (lib.from_siblings k child [] (map state xs) m q j)
-unfolding page.leaf_beside lib.from_siblings lib.follow lib.path columns_at page.if◌then◌else◌
+unfolding page.leaf_beside lib.from_siblings lib.follow lib.path columns_at page.when◌then◌else◌
 punctured_is k zero xs q j = refl
 punctured_is k (suc m) xs q j =
     if_both (λ x y. state x ≡ tidy y) (eqb (q / k ^ m % k) (j / k ^ m % k)) _ _ _ _

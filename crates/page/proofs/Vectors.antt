@@ -37,7 +37,7 @@ module _ (P : NoisePart) where
   unfolding page.μ noise
   mu_to zero j = same.none
   mu_to (suc t) j =
-      ap (λ (x : page.Tree). page.if◌then◌else◌ (eqb x.position j) (x.value ∷ []) (page.μ (map tree P.trees) t j)) (tree-at P.trees t)
+      ap (λ (x : page.Tree). page.when◌then◌else◌ (eqb x.position j) (x.value ∷ []) (page.μ (map tree P.trees) t j)) (tree-at P.trees t)
       ∙ if_both (λ a b. a ≡ (field_of P.head).noise_values.words b) (eqb (noise_end.tree P t).position j) _ _ _ _
       (sym (same.one _ ∙ ap (λ (y : ℕ). y ∷ []) (same.num_read _ 0))) (mu_to t j)
 
@@ -49,7 +49,7 @@ module _ (P : NoisePart) where
   unfolding page.v0 noise_end.v0 punctured
   v0_is j =
       sum-reads same.elements P.head.trees _ _ λ i.
-      ap (λ (x : page.Tree). (field_of P.head).elements.read (page.if◌then◌else◌ (eqb x.position j) x.correction
+      ap (λ (x : page.Tree). (field_of P.head).elements.read (page.when◌then◌else◌ (eqb x.position j) x.correction
       ((page.F (head P.head)).leaf_element
       (page.leaf_beside (2 ^ P.head.branch_bits) (P.head.depth / P.head.branch_bits) x.siblings x.position j))) 0)
       (tree-at P.trees i)

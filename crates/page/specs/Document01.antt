@@ -5,14 +5,14 @@
 use Rattle.std.specs.Prelude.{ℕ, zero, suc, ◌+◌, ◌-◌, ◌*◌, ◌/◌, ◌%◌, ◌^◌, min, Bool, true, false, not, ◌&&◌, ◌||◌, List, [], ◌∷◌, ◌++◌, map, eqb, leb, ltb, length, take, drop, get_or, replicate}
 use Rattle.std.specs.Int.Bits.{bit_xor}
 
-infix 20 if◌then◌else◌
+infix 20 when◌then◌else◌
 infixl 85 ◌!◌
 infix 68 ◌otherwise◌
 infixr 10 ◌>>=◌
 -- ==== Lists, bytes and words
-unfoldable pub if◌then◌else◌ : {A : Type 0} → Bool → A → A → A
-if true then a else b = a
-if false then a else b = b
+unfoldable pub when◌then◌else◌ : {A : Type 0} → Bool → A → A → A
+when true then a else b = a
+when false then a else b = b
 
 -- member i of a list of numbers, 0 past its end
 abbrev pub ◌!◌ : List ℕ → ℕ → ℕ
@@ -121,7 +121,7 @@ sub_word w = list 4 (λ r. s_box (w ! r))
 
 -- temp, which is added to w[i − 4], from w[i − 1]
 unfoldable pub temp : ℕ → List ℕ → List ℕ
-temp i w = if eqb (i % 4) 0 then xor 4 (sub_word (rot_word w)) (rcon (i / 4)) else w
+temp i w = when eqb (i % 4) 0 then xor 4 (sub_word (rot_word w)) (rcon (i / 4)) else w
 
 -- FIPS 197's words, of four bytes: w[0] to w[n + 3]; round key i is w[4i] to w[4i + 3]
 unfoldable pub schedule : List ℕ → ℕ → List (List ℕ)
@@ -164,7 +164,7 @@ modulo m =
 
 -- blocks as two words, under exclusive or
 abbrev pub blocks : Space
-blocks = record { width = 2; is_value = λ a. true; plus = xor 2; minus = xor 2; multiple = λ y a. if eqb y 1 then a else (0 ∷ 0 ∷ []) }
+blocks = record { width = 2; is_value = λ a. true; plus = xor 2; minus = xor 2; multiple = λ y a. when eqb y 1 then a else (0 ∷ 0 ∷ []) }
 
 abbrev pub p : ℕ
 p = 2 ^ 61 - 1
@@ -179,7 +179,7 @@ is_field f = eqb f 1 || eqb f 2
 
 unfoldable pub field_of : ℕ → Field
 field_of f =
-    if eqb f 1
+    when eqb f 1
     then record { noise_values = modulo 2; elements = blocks; leaf_element = words; coefficient = λ w. 1 }
     else record { noise_values = modulo p; elements = modulo p; leaf_element = λ b. word b 0 % p ∷ []; coefficient = λ w. w % p }
 
@@ -249,8 +249,8 @@ leaf_beside k zero siblings q j = []
 leaf_beside k (suc m) siblings q j =
     let a = digit k m q in
     let b = digit k m j in
-    if eqb a b then leaf_beside k m (drop (k - 1) siblings) q j
-    else leaf k m (get_or siblings (if ltb b a then b else (b - 1)) []) j
+    when eqb a b then leaf_beside k m (drop (k - 1) siblings) q j
+    else leaf k m (get_or siblings (when ltb b a then b else (b - 1)) []) j
 
 -- ==== Dealing
 -- the head, t roots one after another (16 t bytes), t positions, t noise values, the 16 bytes of Δ
@@ -259,14 +259,14 @@ Input = record { head : Head; roots : List ℕ; positions : List ℕ; values : L
 
 -- a noise value that a dealing admits; an element that may be Δ, not zero
 abbrev pub is_noise_value : ℕ → ℕ → Bool
-is_noise_value f y = if eqb f 1 then eqb y 1 else (leb 1 y && leb y (p - 1))
+is_noise_value f y = when eqb f 1 then eqb y 1 else (leb 1 y && leb y (p - 1))
 
 abbrev pub is_scalar : ℕ → List ℕ → Bool
 is_scalar f Δ = (field_of f).elements.is_value Δ && not (every (field_of f).elements.width (λ i. eqb (Δ ! i) 0))
 
 -- Δ as an element; field 2 uses the first eight bytes
 abbrev pub scalar : Input → List ℕ
-scalar D = if eqb D.head.field 1 then words D.Δ else (word D.Δ 0 ∷ [])
+scalar D = when eqb D.head.field 1 then words D.Δ else (word D.Δ 0 ∷ [])
 
 abbrev pub root : Input → ℕ → List ℕ
 root D i = list 16 (λ k. D.roots ! (16 * i + k))
@@ -298,8 +298,8 @@ dealt_trees D = list D.head.t (dealt_tree D)
 -- their writing: a number in groups of seven bits, lowest first, in the shortest form; the head; the records
 unfoldable pub write_number : ℕ → List ℕ
 write_number x =
-    if ltb x 128 then (x ∷ [])
-    else (if ltb x 16384 then ((128 + x % 128) ∷ x / 128 ∷ []) else ((128 + x % 128) ∷ (128 + x / 128 % 128) ∷ x / 16384 ∷ []))
+    when ltb x 128 then (x ∷ [])
+    else (when ltb x 16384 then ((128 + x % 128) ∷ x / 128 ∷ []) else ((128 + x % 128) ∷ (128 + x / 128 % 128) ∷ x / 16384 ∷ []))
 
 unfoldable pub write_head : ℕ → Head → List ℕ
 write_head end h = end ∷ h.field ∷ each write_number (h.d ∷ h.g ∷ h.t ∷ h.ℓ ∷ h.n ∷ []) ++ h.code_key ++ h.label
@@ -309,7 +309,7 @@ unfoldable pub write_trees : ℕ → ℕ → List Tree → List ℕ
 write_trees f base [] = []
 write_trees f base (x ∷ trees) =
     write_number (x.position - base)
-    ++ (if eqb f 1 then [] else to_bytes 8 x.value)
+    ++ (when eqb f 1 then [] else to_bytes 8 x.value)
     ++ each (to_bytes 8) x.correction
     ++ each (λ b. b) x.siblings
     ++ write_trees f (x.position + 1) trees
@@ -351,11 +351,11 @@ fail k s at = fault k
 
 -- the next `count` bytes, read as `value` says; 10: the record ends inside them
 unfoldable pub item : {A : Type 0} → ℕ → (List ℕ → ℕ → A) → Reader A
-item count value s at = if leb (at + count) (length s) then got (value s at) (at + count) else fault 10
+item count value s at = when leb (at + count) (length s) then got (value s at) (at + count) else fault 10
 
 -- what was read, tested once it is whole
 unfoldable pub test : {A : Type 0} → Reader A → (A → Bool) → ℕ → Reader A
-test r ok k = r >>= λ a. if ok a then give a else fail k
+test r ok k = r >>= λ a. when ok a then give a else fail k
 
 abbrev pub read_byte : Reader ℕ
 read_byte = item 1 (λ s at. s ! at)
@@ -373,11 +373,11 @@ read_words n = item (8 * n) (λ s at. list n (λ i. word s (at + 8 * i)))
 unfoldable pub read_number : Reader ℕ
 read_number = do
   a ← read_byte
-  if ltb a 128 then give a else do
+  when ltb a 128 then give a else do
     b ← read_byte
-    if ltb b 128 then (if eqb b 0 then fail 11 else give (a - 128 + b * 128)) else do
+    when ltb b 128 then (when eqb b 0 then fail 11 else give (a - 128 + b * 128)) else do
       c ← read_byte
-      if ltb c 128 then (if eqb c 0 then fail 11 else give (a - 128 + (b - 128) * 128 + c * 16384)) else fail 11
+      when ltb c 128 then (when eqb c 0 then fail 11 else give (a - 128 + (b - 128) * 128 + c * 16384)) else fail 11
 
 unfoldable pub read_head : ℕ → Reader Head
 read_head end = do
@@ -396,7 +396,7 @@ read_head end = do
 unfoldable pub read_tree : Head → ℕ → Reader Tree
 read_tree h base = do
   position ← test (read_number >>= λ x. give (base + x)) (λ q. ltb q (N h)) 4
-  value ← if eqb h.field 1 then give 1 else test (item 8 word) (is_noise_value h.field) 5
+  value ← when eqb h.field 1 then give 1 else test (item 8 word) (is_noise_value h.field) 5
   correction ← test (read_words (F h).elements.width) (F h).elements.is_value 8
   siblings ← read_blocks (levels h * (children h - 1))
   give (record { position = position; value = value; correction = correction; siblings = siblings })
@@ -410,7 +410,7 @@ read_trees h (suc n) base = do
 
 -- 12: bytes after the record
 unfoldable pub ended : {A : Type 0} → A → Reader A
-ended a s at = if ltb at (length s) then fault 12 else got a at
+ended a s at = when ltb at (length s) then fault 12 else got a at
 
 unfoldable pub read_noise : Reader (Head × List Tree)
 read_noise = do
@@ -444,14 +444,14 @@ tree_at trees i = get_or trees i (record { position = 0; value = 0; correction =
 -- μ at j, of the first i trees: the noise value at its position, zero elsewhere
 unfoldable pub μ : List Tree → ℕ → ℕ → List ℕ
 μ trees zero j = 0 ∷ []
-μ trees (suc i) j = if eqb (tree_at trees i).position j then ((tree_at trees i).value ∷ []) else μ trees i j
+μ trees (suc i) j = when eqb (tree_at trees i).position j then ((tree_at trees i).value ∷ []) else μ trees i j
 
 -- v0 at j: the sum of the trees' leaves, the correction standing in for the punctured leaf
 unfoldable pub v0 : Head → List Tree → ℕ → List ℕ
 v0 h trees j =
     sum (F h).elements h.t λ i.
     let x = tree_at trees i in
-    if eqb x.position j then x.correction
+    when eqb x.position j then x.correction
     else (F h).leaf_element (leaf_beside (children h) (levels h) x.siblings x.position j)
 
 -- w0 at j: the sum of all leaves
@@ -512,7 +512,7 @@ room (buffer, l) = leb (length l) (length buffer) otherwise 13
 unfoldable pub answer : List (List ℕ) → List Output → List Test → Return
 answer inputs outputs [] = returned 0 (map (λ (buffer, l). length l) outputs) inputs (map (λ (buffer, l). front l buffer) outputs)
 answer inputs outputs (ok otherwise k ∷ tests) =
-    if ok then answer inputs outputs tests else refused inputs (map (λ (buffer, l). buffer) outputs) k
+    when ok then answer inputs outputs tests else refused inputs (map (λ (buffer, l). buffer) outputs) k
 
 -- a call on a record: refused with the record's number, else what follows from its content
 unfoldable pub on_record : {A : Type 0} → List (List ℕ) → List (List ℕ) → Read A → (A → Return) → Return
@@ -561,7 +561,7 @@ unfoldable pub scalar_offline : List ℕ → List ℕ → List ℕ → Return
 scalar_offline source w_out ΔOut =
     on_record (source ∷ []) (w_out ∷ ΔOut ∷ []) (read_scalar source 0) λ (h, Δ, roots).
     let w' : Output = (w_out, joined (N h) (accumulated (F h).elements (w0 h roots))) in
-    let Δ' : Output = (ΔOut, Δ ! 0 ∷ (if eqb h.field 1 then Δ ! 1 else 0) ∷ []) in
+    let Δ' : Output = (ΔOut, Δ ! 0 ∷ (when eqb h.field 1 then Δ ! 1 else 0) ∷ []) in
     answer (source ∷ []) (w' ∷ Δ' ∷ []) (room w' ∷ room Δ' ∷ [])
 
 -- online tests the record, 3, 7, 13, 8
@@ -578,7 +578,8 @@ noise_online source noise v first c u_out v_out =
     ∷ leb (first + c) h.n otherwise 7
     ∷ room u'
     ∷ room v'
-    ∷ every_used h first c (λ j. noise_values.is_value (value_at noise_values noise j) && elements.is_value (value_at elements v j)) otherwise 8
+    ∷ every_used h first c (λ j. noise_values.is_value (value_at noise_values noise j) && elements.is_value (value_at elements v j))
+    otherwise 8
     ∷ [])
 
 unfoldable pub scalar_online : List ℕ → List ℕ → ℕ → ℕ → List ℕ → Return
@@ -625,7 +626,7 @@ scalar_pads first c w Δ pads =
 -- the decimal digits of a number, at most n + 1
 unfoldable pub decimal : ℕ → ℕ → List ℕ
 decimal zero x = (48 + x % 10) ∷ []
-decimal (suc n) x = if ltb x 10 then ((48 + x) ∷ []) else (decimal n (x / 10) ++ ((48 + x % 10) ∷ []))
+decimal (suc n) x = when ltb x 10 then ((48 + x) ∷ []) else (decimal n (x / 10) ++ ((48 + x % 10) ∷ []))
 
 -- `refused ` and the number of a record that is refused, else what follows from its content
 unfoldable pub or_refused : {A : Type 0} → Read A → (A → List ℕ) → List ℕ
@@ -657,13 +658,13 @@ holds_at h trees Δ roots x =
 -- how many of 0 to n − 1 hold
 unfoldable pub count_of : ℕ → (ℕ → Bool) → ℕ
 count_of zero ok = 0
-count_of (suc n) ok = count_of n ok + (if ok n then 1 else 0)
+count_of (suc n) ok = count_of n ok + (when ok n then 1 else 0)
 
 -- two accepted records: `too large`, `different dealing`, or `checked ` and ` held ` with the outputs tried and those that hold
 unfoldable pub pair_line : Head × List Tree → Head × List ℕ × List (List ℕ) → List ℕ
 pair_line (h, trees) (h', Δ, roots) =
-    if ltb 1024 (N h) || ltb 1024 (N h') then (116 ∷ 111 ∷ 111 ∷ 32 ∷ 108 ∷ 97 ∷ 114 ∷ 103 ∷ 101 ∷ [])
-    else (if not (same_dealing h h')
+    when ltb 1024 (N h) || ltb 1024 (N h') then (116 ∷ 111 ∷ 111 ∷ 32 ∷ 108 ∷ 97 ∷ 114 ∷ 103 ∷ 101 ∷ [])
+    else (when not (same_dealing h h')
     then (100 ∷ 105 ∷ 102 ∷ 102 ∷ 101 ∷ 114 ∷ 101 ∷ 110 ∷ 116 ∷ 32 ∷ 100 ∷ 101 ∷ 97 ∷ 108 ∷ 105 ∷ 110 ∷ 103 ∷ [])
     else ((99 ∷ 104 ∷ 101 ∷ 99 ∷ 107 ∷ 101 ∷ 100 ∷ 32 ∷ []) ++ (decimal 9 h.n
     ++ ((32 ∷ 104 ∷ 101 ∷ 108 ∷ 100 ∷ 32 ∷ []) ++ decimal 9 (count_of h.n (holds_at h trees Δ roots))))))

@@ -1,12 +1,10 @@
 -- Layers over the page: orders, the added vectors and the ends are those of the workings, and each call with the record of any layer
 -- returns what it returns there.
 use Prim.Native.Nat.{ℕ, zero, suc, ◌+◌, ◌-◌, ◌*◌, ◌≤◌, ◌<◌}
-use native.Mathlib.Nat.{not-suc-le-zero, le_of_suc-le-suc}
 use native.Mathlib.Omega.{arith}
 use mathlib.Core.Path.{◌≡◌, refl, sym, ap, ap₂, ◌∙◌, subst}
-use mathlib.Core.Bool.{Bool, true, false}
+use mathlib.Core.Bool.{true, false}
 use mathlib.Core.List.{List, [], ◌∷◌, ◌++◌, map}
-use mathlib.Core.Option.{some}
 use lib.Dec.{eqb, ltb}
 use lib.ListN.{length, get_or, get_elem?, take, drop, take-append-drop}
 use lib.Seq.{drop-cons}
@@ -15,7 +13,6 @@ use Rattle.algebra.specs.Order as order
 use Rattle.answer.specs.Tests.{is_met}
 use Rattle.field.specs.Kind.{kind_of}
 use Rattle.dealing.specs.Input.{Input}
-use Rattle.dealing.specs.Vectors as vectors
 use Rattle.tree.specs.Tree.{listed}
 use Rattle.tree.proofs.Listed.{length-listed, listed_at}
 use Rattle.claims.proofs.Pads.{pads_of}
@@ -49,12 +46,12 @@ order_of (layer i) = order.term i
 order_of (a into b) = order.◌into◌ (order_of a) (order_of b)
 
 occurs_is : (i : ℕ) (o : says.Order) → says.occurs i o ≡ order.occurs i (order_of o)
-unfolding says.occurs order.occurs order_of page.if◌then◌else◌
+unfolding says.occurs order.occurs order_of page.when◌then◌else◌
 occurs_is i (layer j) = refl
 occurs_is i (a into b) = ap₂ (λ (m n : ℕ). m + n) (occurs_is i a) (occurs_is i b)
 
-once_is : (k : ℕ) (o : says.Order) → ((i : ℕ) → says.occurs i o ≡ page.if◌then◌else◌ (ltb i k) 1 0) → order.Once k (order_of o)
-unfolding page.if◌then◌else◌
+once_is : (k : ℕ) (o : says.Order) → ((i : ℕ) → says.occurs i o ≡ page.when◌then◌else◌ (ltb i k) 1 0) → order.Once k (order_of o)
+unfolding page.when◌then◌else◌
 once_is k o once i = sym (occurs_is i o) ∙ once i
 
 module _ (f : ℕ) (mine theirs : ℕ → List ℕ) (same : (i : ℕ) → mine i ≡ theirs i) where
@@ -80,7 +77,7 @@ module _ (f : ℕ) (mine theirs : ℕ → List ℕ) (same : (i : ℕ) → mine i
 other-inputs : (m m' : List (List ℕ)) (out : List page.Output) (tests : List page.Test)
     → page.returned (page.answer m out tests).number (page.answer m out tests).lengths m' (page.answer m out tests).outputs
     ≡ page.answer m' out tests
-unfolding page.answer page.if◌then◌else◌
+unfolding page.answer page.when◌then◌else◌
 other-inputs m m' out [] = refl
 other-inputs m m' out (page.◌otherwise◌ true k ∷ tests) = other-inputs m m' out tests
 other-inputs m m' out (page.◌otherwise◌ false k ∷ tests) = refl
@@ -375,9 +372,9 @@ module _ (L : says.Layered) (O : says.Orders L) where
 
 in_field_1 : (f : ℕ) → f ≡ 1 → (Δ u v w : List ℕ)
     → w ≡ (page.field_of f).elements.plus
-    ((page.field_of f).elements.multiple (get_or u 0 0) (page.if◌then◌else◌ (eqb f 1) (page.words Δ) (page.word Δ 0 ∷ []))) v
+    ((page.field_of f).elements.multiple (get_or u 0 0) (page.when◌then◌else◌ (eqb f 1) (page.words Δ) (page.word Δ 0 ∷ []))) v
     → w ≡ (page.blocks).plus ((page.blocks).multiple (get_or u 0 0) (page.words Δ)) v
-unfolding page.field_of page.if◌then◌else◌
+unfolding page.field_of page.when◌then◌else◌
 in_field_1 f one Δ u v w c = rw one at c
 
 -- pad calls of both ends

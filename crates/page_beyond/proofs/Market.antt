@@ -1,5 +1,5 @@
 -- Bids to price, from the laws of the market's circuit.
-use Prim.Native.Nat.{ℕ, zero, suc, ◌+◌, ◌*◌, ◌/◌, ◌%◌, ◌^◌, ◌≤◌, ◌<◌}
+use Prim.Native.Nat.{ℕ, zero, suc, ◌+◌, ◌*◌, ◌/◌, ◌%◌, ◌^◌, ◌≤◌}
 use mathlib.Core.Path.{◌≡◌, refl, sym, ap, ap₂, ◌∙◌, subst, fun_ext}
 use mathlib.Core.Bool.{Bool, true, false}
 use mathlib.Core.List.{List, [], ◌∷◌, ◌++◌, append_assoc}
@@ -23,9 +23,8 @@ use Rattle.market.proofs.Prices.{market_admitted}
 use Rattle.market.proofs.Words.{two_more}
 use Rattle.number.proofs.Places.{split}
 use Rattle.page.specs.Document01 as page
-use Rattle.page_claims.specs.Statements.{wrote}
 use Rattle.page_two.specs.Document02 as page2
-use Rattle.page_two.proofs.Circuits.Content.{gate, circuit, value_is, written_is, length-gates, ands_is, rounds_is}
+use Rattle.page_two.proofs.Circuits.Content.{circuit, value_is, written_is, length-gates, ands_is, rounds_is}
 use Rattle.page_two_claims.specs.Statements as second
 use Rattle.page_two_claims.proofs.Circuits.Rounds.{rounds-run}
 use Rattle.page_two_claims.proofs.Circuits.Steps.{steps-run}
@@ -57,11 +56,11 @@ total-front (suc n) g = omega (arith, total-front n g)
 
 -- the length of a number is how many powers of 2 are at most it
 abbrev up_to : ℕ → ℕ → ℕ
-up_to n i = page.if◌then◌else◌ (leb (2 ^ i) n) 1 0
+up_to n i = page.when◌then◌else◌ (leb (2 ^ i) n) 1 0
 
 half : (n i : ℕ) → up_to n (suc i) ≡ up_to (n / 2) i
 half n i =
-    ap (λ (t : Bool). page.if◌then◌else◌ t 1 0)
+    ap (λ (t : Bool). page.when◌then◌else◌ t 1 0)
     (split n (2 ^ suc i)
     (λ l. lt-leb (2 ^ suc i) n l ∙ sym (lt-leb (2 ^ i) (n / 2) (omega (arith, l, two_more i))))
     (λ g. le-leb (2 ^ suc i) n g ∙ sym (le-leb (2 ^ i) (n / 2) (omega (arith, g, two_more i)))))
@@ -72,11 +71,11 @@ none_within zero = refl
 none_within (suc most) = refl
 
 length_is : (most n : ℕ) → page2.total most (up_to n) ≡ market.length_within most n
-unfolding market.length_within page2.total page.if◌then◌else◌
+unfolding market.length_within page2.total page.when◌then◌else◌
 length_is zero n = refl
 length_is (suc most) n =
     let rest = ap (page2.total most) (fun_ext (half n)) ∙ length_is most (n / 2) in
-    let test : (b : Bool) → leb (2 ^ 0) n ≡ b → up_to n 0 ≡ page.if◌then◌else◌ b 1 0 = λ b e. ap (λ (t : Bool). page.if◌then◌else◌ t 1 0) e in
+    let test : (b : Bool) → leb (2 ^ 0) n ≡ b → up_to n 0 ≡ page.when◌then◌else◌ b 1 0 = λ b e. ap (λ (t : Bool). page.when◌then◌else◌ t 1 0) e in
     total-front most (up_to n)
     ∙ split n 1
     (λ l. let halved : n / 2 ≡ 0 = omega (arith, l) in

@@ -1,7 +1,7 @@
 -- What a run shows, from the laws about the library's runs.
-use Prim.Native.Nat.{ℕ, zero, suc, ◌+◌, ◌-◌, ◌*◌, ◌≤◌, ◌<◌}
+use Prim.Native.Nat.{ℕ, zero, suc, ◌+◌, ◌-◌, ◌*◌, ◌<◌}
 use mathlib.Core.Path.{◌≡◌, refl, sym, ap, ap₂, ◌∙◌, subst}
-use mathlib.Core.Bool.{Bool, true, false, not}
+use mathlib.Core.Bool.{Bool, true, false}
 use mathlib.Core.List.{List, [], ◌∷◌, map}
 use native.Mathlib.Nat.{add-zero}
 use native.Mathlib.Omega.{arith}
@@ -31,11 +31,11 @@ use Rattle.circuit_hidden.proofs.Runs.{transcripts, hidden-rounds, hidden-steps}
 use Rattle.number.specs.Reading.{Whole}
 use Rattle.pads.specs.Triples.Matching as pads
 use Rattle.page.specs.Document01 as page
-use Rattle.page_claims.specs.Statements.{wrote, Gives}
+use Rattle.page_claims.specs.Statements.{wrote}
 use Rattle.page_two.specs.Document02 as page2
 use Rattle.page_two.proofs.Circuits.Content.{circuit, value_is, ands_is}
 use Rattle.page_two.proofs.Circuits.Round.{lent_round}
-use Rattle.page_two.proofs.Circuits.Step.{lent_step, librarys}
+use Rattle.page_two.proofs.Circuits.Step.{lent_step}
 use Rattle.page_two_claims.specs.Statements.{Matching}
 use Rattle.page_two_claims.proofs.Circuits.Levels.{and_is, before_is, level_is, place_is}
 use Rattle.page_two_claims.proofs.Circuits.Made.{is_accepted, on_read, combined_is}
@@ -52,18 +52,18 @@ end true = hidden.One
 end false = hidden.Two
 
 abbrev role : Bool → ℕ
-role one = page.if◌then◌else◌ one 1 2
+role one = page.when◌then◌else◌ one 1 2
 
 abbrev far_role : Bool → ℕ
-far_role one = page.if◌then◌else◌ one 2 1
+far_role one = page.when◌then◌else◌ one 2 1
 
 role_is : (one : Bool) → role one ≡ hidden.role_of (end one)
-unfolding page.if◌then◌else◌
+unfolding page.when◌then◌else◌
 role_is true = refl
 role_is false = refl
 
 other_is : (one : Bool) → far_role one ≡ hidden.role_of (hidden.other (end one))
-unfolding page.if◌then◌else◌
+unfolding page.when◌then◌else◌
 other_is true = refl
 other_is false = refl
 
@@ -149,8 +149,8 @@ module _ (x : own.Circuit) (R : ℕ → says.View → Type 0) (L : run.Run)
     two : transcript.Transcript role x v.shares v.triples (by_and x got) (by_and x sent) outputs
     two = told _ _ _ _ _ _ (to role (record { shares = v.shares; triples = v.triples; got = got; sent = sent; outputs = outputs }) r')
 
-    by_and : (j : ℕ) → j < own.ands_in x.gates → by_and x got j ≡ by_and x v.got j
-    by_and j h = let i = transcript.and_gate x.gates j in equal i (and_is x i ∙ (and_at x.gates j h).0)
+    by_and_lem : (j : ℕ) → j < own.ands_in x.gates → by_and x got j ≡ by_and x v.got j
+    by_and_lem j h = let i = transcript.and_gate x.gates j in equal i (and_is x i ∙ (and_at x.gates j h).0)
 
     sent-follows : (i : ℕ) → page2.is_and (page2.gate_at (circuit x) i) ≡ true → sent i ≡ v.sent i
     sent-follows i b =
@@ -158,7 +158,7 @@ module _ (x : own.Circuit) (R : ℕ → says.View → Type 0) (L : run.Run)
         let here = gate-of x.gates i a in
         ap sent (sym here) ∙ two.sends i a
         ∙ sent_determined role x v.triples v.triples (by_and x got) (by_and x v.got) v.shares one.one_each ok.gates (λ j h. refl) i a
-        (and-inside x i a) (λ j h. by_and j (let z = and_before x i a in omega (arith, h, z)))
+        (and-inside x i a) (λ j h. by_and_lem j (let z = and_before x i a in omega (arith, h, z)))
         ∙ sym (one.sends i a) ∙ ap v.sent here
 
     written-follows : outputs ≡ v.outputs
@@ -168,7 +168,7 @@ module _ (x : own.Circuit) (R : ℕ → says.View → Type 0) (L : run.Run)
         ∙ outputs-same (x.inputs + length x.gates) (transcript.wire_shares role x v.triples (by_and x got) v.shares)
         (transcript.wire_shares role x v.triples (by_and x v.got) v.shares) x.outputs
         (determined role x v.triples v.triples (by_and x got) (by_and x v.got) v.shares one.one_each ok.gates (λ j h. refl) (length x.gates)
-        (omega arith) (λ j h. by_and j (omega (arith, h, all))))
+        (omega arith) (λ j h. by_and_lem j (omega (arith, h, all))))
         ok.output_wires
         ∙ sym one.written
 

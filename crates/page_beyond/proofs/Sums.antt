@@ -1,5 +1,5 @@
 -- u, v and w of layers, over the page, are those of the workings, so that w = Δu + v.
-use Prim.Native.Nat.{ℕ, zero, suc, ◌^◌, ◌≤◌, ◌<◌}
+use Prim.Native.Nat.{ℕ, zero, suc, ◌^◌, ◌<◌}
 use native.Mathlib.Omega.{arith}
 use mathlib.Core.Path.{◌≡◌, refl, sym, ap, ap₂, ◌∙◌}
 use mathlib.Core.List.{List}
@@ -10,7 +10,7 @@ use Rattle.dealing.specs.Input.{Input}
 use Rattle.dealing.specs.Vectors as vectors
 use Rattle.window.specs.Head.{row}
 use Rattle.layer_claims.specs.Layers as layers
-use Rattle.layer_claims.specs.Layers.{input_at, shared}
+use Rattle.layer_claims.specs.Layers.{input_at}
 use Rattle.layer_claims.proofs.Sums.{layers-correlated}
 use Rattle.layer_claims.proofs.Outputs.{one-layer}
 use Rattle.page.specs.Document01 as page

@@ -2,7 +2,7 @@
 use Rattle.std.specs.Prelude.{ℕ, suc, ◌+◌, ◌-◌, ◌*◌, ◌/◌, ◌%◌, ◌^◌, ◌≤◌, ◌<◌, ◌≡◌, Bool, true, List, [], ◌∷◌, ◌++◌, map, ◌⊎◌, eqb, leb, ltb, length, take, drop, get_or}
 use Rattle.std.proofs.Math.Option.{some}
 use Rattle.std.proofs.Math.ListN.{get_elem?}
-use Rattle.page.specs.Document01.{if◌then◌else◌, ◌!◌, list, joined, xor, from_bits, Head, Space, F, N, Input, scalar, dealt_trees, sum, μ, block_at, Return, returned, noise_pads, scalar_pads}
+use Rattle.page.specs.Document01.{when◌then◌else◌, ◌!◌, list, joined, xor, from_bits, Head, Space, F, N, Input, scalar, dealt_trees, sum, μ, block_at, Return, returned, noise_pads, scalar_pads}
 use Rattle.page_two.specs.Document02.{add, total, Circuit, value_of, read_circuit, write_circuit, AdmittedCircuit, gate_at, is_and, ands, Lent, round_count, RunKind, in_steps, in_rounds, accepted_from, IsCall, Finished, Unaltered, ands_before, level_at, place_at}
 use Rattle.page_claims.specs.Statements.{entry, u, v, w, Correlated, slice, wrote, Gives, Setting, noise_left, scalar_left, Call, End, noise_end, scalar_end, listed}
 use Rattle.page_two_claims.specs.Statements.{Correlates, Matching, Ends}
@@ -44,7 +44,7 @@ pub data Order : Type 0 where
 
 -- how often layer i stands in it
 unfoldable pub occurs : ℕ → Order → ℕ
-occurs i (layer j) = if eqb i j then 1 else 0
+occurs i (layer j) = when eqb i j then 1 else 0
 occurs i (a into b) = occurs i a + occurs i b
 
 -- what its calls leave, from the vector of each layer, and the sum of their numbers: 0 if all are accepted
@@ -60,7 +60,7 @@ vectors L i = wrote (noise_left (L.setting i)) 0 ∷ wrote (noise_left (L.settin
 
 pub record Orders (L : Layered) : Type 0 where
   pub order : ℕ → Order
-  pub once : (q i : ℕ) → occurs i (order q) ≡ (if ltb i L.k then 1 else 0)
+  pub once : (q i : ℕ) → occurs i (order q) ≡ (when ltb i L.k then 1 else 0)
 
 abbrev pub added_up : (L : Layered) → Orders L → ℕ → List ℕ × ℕ
 added_up L O q = added (head L).field (λ i. slice (vectors L i) q) (O.order q)
@@ -153,8 +153,8 @@ pub record HasRun (K : RunKind) (opens : ℕ → ℕ × ℕ) (circuit : List ℕ
 -- two such runs on matching triples, each with the bits that the other sent: an end's view, in role 1 or 2; far shares, triples, outputs
 abbrev pub Together : (ℕ → View → Type 0) → Circuit → Bool → View → List ℕ → List ℕ → List ℕ → Type 0
 Together R c one view x T outputs =
-    R (if one then 1 else 2) view
-    × R (if one then 2 else 1) (record { shares = x; triples = T; got = view.sent; sent = view.got; outputs = outputs })
+    R (when one then 1 else 2) view
+    × R (when one then 2 else 1) (record { shares = x; triples = T; got = view.sent; sent = view.got; outputs = outputs })
     × ((j : ℕ) → j < ands c.gates → Matching view.triples j T j)
 
 abbrev pub SameAt : (ℕ → Bool) → List ℕ → List ℕ → Type 0
@@ -199,7 +199,7 @@ Clears L demand supply level q =
 
 -- the length of a number in binary: how many powers of 2 are at most it
 abbrev pub bit_length : ℕ → ℕ
-bit_length n = total n (λ i. if leb (2 ^ i) n then 1 else 0)
+bit_length n = total n (λ i. when leb (2 ^ i) n then 1 else 0)
 
 -- a house's bids: what it would buy and sell at each level, below 2^b; as bits, first what it buys, lowest level and lowest bit first
 pub record Bids (L b : ℕ) : Type 0 where
@@ -234,7 +234,8 @@ pub record Market : Type 0 where
   pub circuit : ℕ → ℕ → Circuit
   pub bytes : write_circuit (circuit 8 8) ≡ market_bytes
   -- on the bits of both houses' bids it says what clears, and so do two ends that run it in rounds or in steps
-  pub clears : (L b : ℕ) → 1 ≤ L → 1 ≤ b → (x y : Bids L b) → SaysClearing L b x y (value_of (circuit L b) (bid_bits L b x ++ bid_bits L b y))
+  pub clears : (L b : ℕ) → 1 ≤ L → 1 ≤ b → (x y : Bids L b)
+      → SaysClearing L b x y (value_of (circuit L b) (bid_bits L b x ++ bid_bits L b y))
   pub runs : (L b : ℕ) → 1 ≤ L → 1 ≤ b → Prices in_rounds L b (circuit L b) × Prices in_steps L b (circuit L b)
   -- with at most 4,096 wires it is admitted; its inputs, wires, ANDs, outputs and rounds
   pub admitted : (L b : ℕ) → 1 ≤ L → 1 ≤ b → (circuit L b).inputs + length (circuit L b).gates ≤ 4096 → AdmittedCircuit (circuit L b)

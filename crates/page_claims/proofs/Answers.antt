@@ -31,26 +31,26 @@ met (page.◌otherwise◌ ok k ∷ tests) = ok && met tests
 
 module _ (inputs : List (List ℕ)) (outputs : List page.Output) where
   pub inputs_stay : (tests : List page.Test) → (page.answer inputs outputs tests).inputs ≡ inputs
-  unfolding page.answer page.if◌then◌else◌
+  unfolding page.answer page.when◌then◌else◌
   inputs_stay [] = refl
   inputs_stay (page.◌otherwise◌ true k ∷ tests) = inputs_stay tests
   inputs_stay (page.◌otherwise◌ false k ∷ tests) = refl
 
   pub accepted : {tests : List page.Test} → Numbered tests → met tests ≡ true → (page.answer inputs outputs tests).number ≡ 0
-  unfolding met page.answer page.if◌then◌else◌
+  unfolding met page.answer page.when◌then◌else◌
   accepted none e = refl
   accepted (more true k rest) e = accepted rest e
   accepted (more false k rest) e = absurd (false≢true e)
 
   pub all_met : {tests : List page.Test} → Numbered tests → (page.answer inputs outputs tests).number ≡ 0 → met tests ≡ true
-  unfolding met page.answer page.if◌then◌else◌
+  unfolding met page.answer page.when◌then◌else◌
   all_met none e = refl
   all_met (more true k rest) e = all_met rest e
   all_met (more false k rest) e = absurd (suc-ne-zero k e)
 
   pub all-written : {tests : List page.Test} → Numbered tests → (page.answer inputs outputs tests).number ≡ 0
       → (page.answer inputs outputs tests).outputs ≡ map (λ (buffer, l). page.front l buffer) outputs
-  unfolding page.answer page.if◌then◌else◌
+  unfolding page.answer page.when◌then◌else◌
   all-written none e = refl
   all-written (more true k rest) e = all-written rest e
   all-written (more false k rest) e = absurd (suc-ne-zero k e)

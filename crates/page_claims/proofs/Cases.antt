@@ -10,11 +10,11 @@ use Rattle.page_claims.proofs.Outputs.{input_of}
 use Rattle.page_claims.proofs.Records.{memory, number}
 
 pub cases : says.Cases
-unfolding says.starred page.s_box page.squares page.times page.xtime page.from_bits page.write_number page.read_number page.item page.and_then page.on_record page.if◌then◌else◌ page.write_trees page.each page.to_bytes page.field_of page.word page.from_bytes page.list page.joined page.sum page.μ page.deal page.answer page.every page.write_noise page.write_scalar page.write_head page.dealt_tree page.siblings_of page.words page.child page.xor
+unfolding says.starred page.s_box page.squares page.times page.xtime page.from_bits page.write_number page.read_number page.item page.and_then page.on_record page.when◌then◌else◌ page.write_trees page.each page.to_bytes page.field_of page.word page.from_bytes page.list page.joined page.sum page.μ page.deal page.answer page.every page.write_noise page.write_scalar page.write_head page.dealt_tree page.siblings_of page.words page.child page.xor
 cases = refl
 
 pub held : says.Held
-unfolding page.decimal digits page.if◌then◌else◌
+unfolding page.decimal digits page.when◌then◌else◌
 held D M a b dealt small =
     let I = input_of D in
     ap (λ (r : page.Return). page.line_text (says.wrote r 0) (says.wrote r 1)) (deal_is I a b)

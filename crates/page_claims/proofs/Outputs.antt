@@ -1,5 +1,5 @@
 -- u, v and w of a dealing, over the page, are those of the workings, so that w = Δu + v.
-use Prim.Native.Nat.{ℕ, zero, suc, ◌+◌, ◌/◌, ◌^◌, ◌<◌}
+use Prim.Native.Nat.{ℕ, zero, suc, ◌/◌, ◌^◌, ◌<◌}
 use native.Mathlib.Omega.{arith}
 use mathlib.Core.Path.{◌≡◌, sym, ap, ap₂, ◌∙◌}
 use mathlib.Core.List.{List, [], ◌∷◌}
@@ -45,7 +45,7 @@ module _ (I : Input) where
   unfolding page.μ expansion.noise page.list listed page.dealt_tree
   noise_to zero below j = same.none
   noise_to (suc t) below j =
-      ap (λ (x : page.Tree). page.if◌then◌else◌ (eqb x.position j) (x.value ∷ [])
+      ap (λ (x : page.Tree). page.when◌then◌else◌ (eqb x.position j) (x.value ∷ [])
       (page.μ (page.list I.trees (page.dealt_tree (input I))) t j))
       (listed_at I.trees (page.dealt_tree (input I)) _ t (below t (omega arith)))
       ∙ if_both (λ a b. a ≡ (vectors.field I).noise_values.words b) (eqb (position I t) j) _ _ _ _
@@ -57,7 +57,7 @@ module _ (I : Input) where
 
   v0_is : (j : ℕ)
       → page.sum (page.field_of I.field).elements I.trees
-      (λ i. page.if◌then◌else◌ (eqb (position I i) j) (page.dealt_tree (input I) i).correction (page.leaf_element_of (input I) i j))
+      (λ i. page.when◌then◌else◌ (eqb (position I i) j) (page.dealt_tree (input I) i).correction (page.leaf_element_of (input I) i j))
       ≡ (vectors.field I).elements.words (vectors.v0 I j)
   unfolding vectors.v0 expansion.punctured
   v0_is j =
@@ -82,7 +82,7 @@ module _ (I : Input) where
   entry_is x j =
       ap (λ (l : List ℕ). get_or l 0 0)
       (sum_is same.noise_values I.terms _ _ (λ i.
-      ap (λ (q : ℕ). page.if◌then◌else◌ (leb j q) ((page.field_of I.field).coefficient (page.word (page.term (head (vectors.head I)) x i) 8) ∷ []) (0 ∷ []))
+      ap (λ (q : ℕ). page.when◌then◌else◌ (leb j q) ((page.field_of I.field).coefficient (page.word (page.term (head (vectors.head I)) x i) 8) ∷ []) (0 ∷ []))
       (place_is (vectors.head I) x i)
       ∙ if_both (λ a b. a ≡ (vectors.field I).noise_values.words b) (leb j ((row (vectors.head I) x).place i)) _ _ _ _
       (ap (λ (c : ℕ). c ∷ []) (coefficient_is (vectors.head I) x i) ∙ sym (same.one _)) same.none)

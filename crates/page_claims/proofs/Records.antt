@@ -126,7 +126,7 @@ module _ (h : Head) where
   beside = sibling_count h.depth h.branch_bits
 
   tree-in : (x : NoiseTree) → adm.AdmittedTree h.field h.depth beside x → says.AdmittedTree (head h) (tree x)
-  unfolding sibling_count page.if◌then◌else◌
+  unfolding sibling_count page.when◌then◌else◌
   tree-in x A = (
     A.below,
     A.value,
@@ -138,7 +138,7 @@ module _ (h : Head) where
   )
 
   tree-out : (x : page.Tree) → says.AdmittedTree (head h) x → adm.AdmittedTree h.field h.depth beside (untree x)
-  unfolding sibling_count page.if◌then◌else◌
+  unfolding sibling_count page.when◌then◌else◌
   tree-out x A =
       record {
         below = A.0;

@@ -26,7 +26,7 @@ siblings_are k (suc m) s j = ap (λ (l : List (List ℕ)). tree.others k page.ch
 
 beside_is : (k m : ℕ) (xs : List (List ℕ)) (q j : ℕ)
     → page.leaf_beside k m xs q j ≡ tree.follow k page.child [] xs (tree.path k m q) (tree.path k m j)
-unfolding page.leaf_beside tree.follow tree.path page.if◌then◌else◌
+unfolding page.leaf_beside tree.follow tree.path page.when◌then◌else◌
 beside_is k zero xs q j = refl
 beside_is k (suc m) xs q j =
     if_both (λ x y. x ≡ y) (eqb (q / k ^ m % k) (j / k ^ m % k)) _ _ _ _ (beside_is k m (drop (k - 1) xs) q j) (leaf_is k m _ j)

@@ -3,13 +3,13 @@
 use Rattle.std.specs.Prelude.{ℕ, suc, ◌+◌, ◌-◌, ◌*◌, ◌/◌, ◌%◌, ◌^◌, ◌≤◌, ◌<◌, ◌≡◌, true, List, [], ◌∷◌, ◌++◌, map, ◌↔◌, ◌≢◌, eqb, leb, ltb, length, take, drop, get_or, replicate}
 use Rattle.std.proofs.Math.Option.{some}
 use Rattle.std.proofs.Math.ListN.{get_elem?}
-use Rattle.page.specs.Document01.{if◌then◌else◌, ◌!◌, ◌otherwise◌, list, joined, every, front, word, s_box, Space, p, field_of, is_field, is_depth, is_branch, is_tree_count, is_term_count, is_output_count, is_noise_value, is_scalar, Head, F, N, children, levels, leaf, siblings_of, leaf_beside, Input, scalar, root, leaf_element_of, Tree, tree_at, dealt_tree, dealt_trees, write_number, write_trees, write_noise, write_scalar, noise_record, scalar_record, Read, got, read_number, read_noise, read_scalar, value_at, sum, accumulated, μ, term, place, output, block_at, Return, returned, on_record, Output, room, answer, deal, noise_offline, scalar_offline, noise_online, scalar_online, noise_pads, scalar_pads, decimal, line_text}
+use Rattle.page.specs.Document01.{when◌then◌else◌, ◌!◌, ◌otherwise◌, list, joined, every, front, word, s_box, Space, p, field_of, is_field, is_depth, is_branch, is_tree_count, is_term_count, is_output_count, is_noise_value, is_scalar, Head, F, N, children, levels, leaf, siblings_of, leaf_beside, Input, scalar, root, leaf_element_of, Tree, tree_at, dealt_tree, dealt_trees, write_number, write_trees, write_noise, write_scalar, noise_record, scalar_record, Read, got, read_number, read_noise, read_scalar, value_at, sum, accumulated, μ, term, place, output, block_at, Return, returned, on_record, Output, room, answer, deal, noise_offline, scalar_offline, noise_online, scalar_online, noise_pads, scalar_pads, decimal, line_text}
 
 -- ==== Offline and online
 -- the code matrix in row x at place j: the sum of the coefficients of those terms of the row whose place is j or more
 unfoldable pub entry : Head → ℕ → ℕ → ℕ
 entry h x j =
-    sum (F h).noise_values h.ℓ (λ i. if leb j (place h x i) then ((F h).coefficient (word (term h x i) 8) ∷ []) else (0 ∷ [])) ! 0
+    sum (F h).noise_values h.ℓ (λ i. when leb j (place h x i) then ((F h).coefficient (word (term h x i) 8) ∷ []) else (0 ∷ [])) ! 0
 
 -- ==== Lists of calls at both ends
 -- from a dealing's input: u, the code matrix times the dealt noise; v and w, the outputs of the accumulated v0 and w0
@@ -21,7 +21,7 @@ u D x =
 unfoldable pub v : Input → ℕ → List ℕ
 v D x =
     let v0 : ℕ → List ℕ = λ j. sum (F D.head).elements D.head.t λ i.
-    if eqb (D.positions ! i) j then (dealt_tree D i).correction else leaf_element_of D i j in
+    when eqb (D.positions ! i) j then (dealt_tree D i).correction else leaf_element_of D i j in
     output (F D.head).elements D.head (accumulated (F D.head).elements v0) x
 
 unfoldable pub w : Input → ℕ → List ℕ

@@ -1,7 +1,7 @@
 -- The page's signed amounts are the library's (request 13).
 use Prim.Native.Nat.{ℕ, suc, ◌-◌}
 use mathlib.Core.Path.{◌≡◌, refl, sym, ap, ◌∙◌}
-use mathlib.Core.Bool.{Bool, true, false, not, ◌||◌}
+use mathlib.Core.Bool.{Bool, true, false, ◌||◌}
 use lib.Dec.{leb, ltb, leb-suc-suc}
 use lib.IntN.{ℤ, pos, negsuc}
 use Rattle.algebra.specs.Choice.{choose}
@@ -26,8 +26,8 @@ read_is x =
     (ap (λ (z : ℤ). (0, z)) (if_both (λ a b. a ≡ b) (leb x page2.greatest) _ _ _ _ refl refl)) refl
 
 -- an amount that a test refuses, or its element
-by_test : (t : Bool) (a : Prime) → written_as (page.if◌then◌else◌ t OutOfRange (Element a)) ≡ written_as (choose t OutOfRange (Element a))
-unfolding page.if◌then◌else◌
+by_test : (t : Bool) (a : Prime) → written_as (page.when◌then◌else◌ t OutOfRange (Element a)) ≡ written_as (choose t OutOfRange (Element a))
+unfolding page.when◌then◌else◌
 by_test t a = refl
 
 or-false : (t : Bool) → t ≡ (t || false)
@@ -39,7 +39,7 @@ unfolding page2.write_amount write_amount from_signed signed_element
 write_is (pos n) = by_test (ltb page2.greatest n) (prime n)
 write_is (negsuc n) =
     let low = leb-suc-suc page2.greatest n ∙ or-false (leb page2.greatest n) in
-    ap (λ (t : Bool). written_as (page.if◌then◌else◌ t OutOfRange (Element (prime (page.p - suc n))))) low
+    ap (λ (t : Bool). written_as (page.when◌then◌else◌ t OutOfRange (Element (prime (page.p - suc n))))) low
     ∙ by_test (leb page2.greatest n || false) (prime (page.p - suc n))
 
 pub read-returned : (r : Amount) (x : ℕ) → r ≡ read_amount x → (r.number, r.amount) ≡ page2.read_amount x

@@ -29,7 +29,7 @@ module _ (h : Head) (x : ℕ) where
   abbrev entry : ℕ → ℕ
   entry j =
       get_or (page.sum (page.F (head h)).noise_values h.terms λ i.
-      page.if◌then◌else◌ (leb j (page.place (head h) x i))
+      page.when◌then◌else◌ (leb j (page.place (head h) x i))
       ((page.F (head h)).coefficient (page.word (page.term (head h) x i) 8) ∷ []) (0 ∷ [])) 0 0
 
   entry_is : (j : ℕ) → entry j ≡ (kind_is h.field).num (rows.entry (row h x) j)
@@ -39,7 +39,7 @@ module _ (h : Head) (x : ℕ) where
       let words = (field_of h).noise_values.words in
       ap (λ (l : List ℕ). get_or l 0 0)
       (sum_is F.noise_values h.terms _ _ (λ i.
-      ap₂ (λ (q c : ℕ). page.if◌then◌else◌ (leb j q) (c ∷ []) (0 ∷ [])) (place_is h x i) (coefficient_is h x i)
+      ap₂ (λ (q c : ℕ). page.when◌then◌else◌ (leb j q) (c ∷ []) (0 ∷ [])) (place_is h x i) (coefficient_is h x i)
       ∙ if_both (λ a b. a ≡ words b) (leb j ((row h x).place i)) _ _ _ _ (sym (F.one ((row h x).coefficient i))) F.none)
       ∙ F.one (rows.entry (row h x) j))
 

@@ -1,15 +1,14 @@
 -- The page's description of a record is the library's.
 use Prim.Native.Nat.{ℕ}
 use mathlib.Core.Path.{◌≡◌, refl, sym, ap, ◌∙◌}
-use mathlib.Core.Bool.{Bool, true, false, ◌||◌}
+use mathlib.Core.Bool.{Bool, ◌||◌}
 use mathlib.Core.List.{List}
 use lib.Dec.{eqb}
 use Rattle.answer.specs.Numbers.{wrong_end}
 use Rattle.record_describe.specs.Describe as library
 use Rattle.record_describe.specs.declared.Described.{Described}
 use Rattle.number.specs.Reading.{Reading, Whole, Refused, Parsed, tested, read_byte, after_reading}
-use Rattle.record.specs.Content.{Head, NoisePart, ScalarPart}
-use Rattle.record.specs.Reading as rec
+use Rattle.record.specs.Content.{Head}
 use Rattle.page.specs.Document01 as page
 use Rattle.page.proofs.Basics.{if_both}
 use Rattle.page.proofs.Fields.{kind_is}
@@ -75,7 +74,7 @@ module _ (s : List ℕ) where
     where
       by_end : ℕ → page2.Description
       by_end e =
-          page.if◌then◌else◌ (eqb e 1)
+          page.when◌then◌else◌ (eqb e 1)
           (page2.or_undescribed s (page.read_noise s 0) (λ (h, trees). page2.described s 1 h))
           (page2.or_undescribed s (page.read_scalar s 0) (λ (h, Δ, roots). page2.described s 2 h))
 

@@ -29,9 +29,9 @@ words_are field l = ap (λ (t : Bool). eqb field 1 || t) (below ∙ none_over (p
     below = ap (page.every (length l)) (fun_ext (λ k. leb-suc-suc (get_or l k 0) (page.p - 1)))
 
 sums_are : (field : ℕ) (from into : List ℕ) (k : ℕ)
-    → page.if◌then◌else◌ (eqb field 1) (bit_xor (get_or from k 0) (get_or into k 0)) ((get_or from k 0 + get_or into k 0) % page.p)
+    → page.when◌then◌else◌ (eqb field 1) (bit_xor (get_or from k 0) (get_or into k 0)) ((get_or from k 0 + get_or into k 0) % page.p)
     ≡ library.sum_at (library.word_sum field) from into k
-unfolding page.if◌then◌else◌ library.sum_at library.prime_sum
+unfolding page.when◌then◌else◌ library.sum_at library.prime_sum
 sums_are field from into k = refl
 
 pub add_is : (field : ℕ) (from into : List ℕ) → page2.add field from into ≡ add_return (library.add field (library.lent_add from into))

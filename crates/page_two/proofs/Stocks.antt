@@ -43,14 +43,14 @@ tested_is : {O : Type 0} (o : O → page2.Reply × page2.Stock) (s : page2.Stock
     → (a : page2.Reply × page2.Stock) (acceptance : O) → a ≡ o acceptance
     → {page-tests : List page.Test} {tests : List Test} → Tests page-tests tests
     → page2.tested page-tests s a ≡ o (answered tests refusal acceptance)
-unfolding page2.tested answered by_number first_fault page.if◌then◌else◌
+unfolding page2.tested answered by_number first_fault page.when◌then◌else◌
 tested_is o s refusal f a acceptance e none = e
 tested_is o s refusal f a acceptance e (more {page-tests} {tests} ask k ok m rest) =
-    ap (λ (t : Bool). page.if◌then◌else◌ t (page2.tested page-tests s a) (page2.gives (suc k) 0 0 s)) m
+    ap (λ (t : Bool). page.when◌then◌else◌ t (page2.tested page-tests s a) (page2.gives (suc k) 0 0 s)) m
     ∙ go (is_met ask) (tested_is o s refusal f a acceptance e rest)
   where
     go : (t : Bool) → page2.tested page-tests s a ≡ o (answered tests refusal acceptance)
-        → page.if◌then◌else◌ t (page2.tested page-tests s a) (page2.gives (suc k) 0 0 s)
+        → page.when◌then◌else◌ t (page2.tested page-tests s a) (page2.gives (suc k) 0 0 s)
         ≡ o (by_number (choose t (first_fault tests) (suc k)) refusal acceptance)
     go true h = h
     go false h = f (suc k)
@@ -66,15 +66,15 @@ unfolding page2.total stocks.sum_of
 total_is n f = refl
 
 pub remaining_is : (s : Stock) (k : ℕ) → page2.remaining (stock s) k ≡ stocks.remaining s k
-unfolding page2.remaining stocks.remaining stocks.is_caller page.if◌then◌else◌
+unfolding page2.remaining stocks.remaining stocks.is_caller page.when◌then◌else◌
 remaining_is s k = refl
 
 pub held_is : (s : Stock) → page2.held (stock s) ≡ stocks.held s
-unfolding stocks.held page2.total stocks.sum_of page2.remaining stocks.remaining stocks.is_caller page.if◌then◌else◌
+unfolding stocks.held page2.total stocks.sum_of page2.remaining stocks.remaining stocks.is_caller page.when◌then◌else◌
 held_is s = refl
 
 shared_is : (l : Label) (n : ℕ) (f : ℕ → ℕ) → page2.shared l.bytes n f ≡ stock (stocks.share_blocks l n f)
-unfolding page2.shared stocks.share_blocks stocks.entries page.list page.if◌then◌else◌ page2.total stocks.sum_of
+unfolding page2.shared stocks.share_blocks stocks.entries page.list page.when◌then◌else◌ page2.total stocks.sum_of
 shared_is l n f = refl
 
 -- ---- the calls

@@ -6,7 +6,7 @@ use Rattle.std.specs.Prelude.{ℕ, zero, suc, ◌+◌, ◌-◌, ◌*◌, ◌%◌
 use Rattle.std.proofs.Math.Option.{some}
 use Rattle.std.specs.Int.Bits.{bit_and, bit_xor}
 use Rattle.std.proofs.Math.ListN.{get_elem?}
-use Rattle.page.specs.Document01.{if◌then◌else◌, ◌!◌, ◌otherwise◌, list, joined, every, each, xor, from_bytes, word, Space, p, is_field, within, Head, F, N, write_number, Read, got, fault, Reader, and_then, ◌>>=◌, give, test, read_byte, read_number, ended, read_noise, read_scalar, sum, μ, v0, w0, term, place, Return, returned, refused, on_record, Output, Test, room, answer, count_of}
+use Rattle.page.specs.Document01.{when◌then◌else◌, ◌!◌, ◌otherwise◌, list, joined, every, each, xor, from_bytes, word, Space, p, is_field, within, Head, F, N, write_number, Read, got, fault, Reader, and_then, ◌>>=◌, give, test, read_byte, read_number, ended, read_noise, read_scalar, sum, μ, v0, w0, term, place, Return, returned, refused, on_record, Output, Test, room, answer, count_of}
 use Rattle.prime.specs.Prime.{prime}
 use Rattle.prime.specs.declared.signed.FromSigned.TheVariants.{Element, OutOfRange}
 use Rattle.amounts.specs.declared.WrittenAmount.{WrittenAmount}
@@ -83,7 +83,7 @@ total (suc n) f = total n f + f n
 
 -- a caller's remaining share; all outputs still held
 unfoldable pub remaining : Stock → ℕ → ℕ
-remaining s k = if is_caller s k then (s.end ! k - s.next ! k) else 0
+remaining s k = when is_caller s k then (s.end ! k - s.next ! k) else 0
 
 abbrev pub held : Stock → ℕ
 held s = total 8 (remaining s)
@@ -91,7 +91,7 @@ held s = total 8 (remaining s)
 -- shares as consecutive blocks, from index 0 in caller order, and zeros for those who are no callers
 unfoldable pub shared : List ℕ → ℕ → (ℕ → ℕ) → Stock
 shared label callers share =
-    let entries : (ℕ → ℕ) → List ℕ = λ f. list 8 (λ k. if ltb k callers then f k else 0) in
+    let entries : (ℕ → ℕ) → List ℕ = λ f. list 8 (λ k. when ltb k callers then f k else 0) in
     stock callers label (entries (λ k. total k share)) (entries (λ k. total (suc k) share))
 
 -- a reply: its number, and a window, of 0 and 0 where it names no index: an opening and a passage name none; a call gives it with a stock
@@ -104,7 +104,7 @@ gives number first count s = (record { number = number; first = first; count = c
 -- a call that is refused, with this stock, by the first test that fails; else it is accepted
 unfoldable pub tested : List Test → Stock → Reply × Stock → Reply × Stock
 tested [] s accepted = accepted
-tested (ok otherwise k ∷ tests) s accepted = if ok then tested tests s accepted else gives k 0 0 s
+tested (ok otherwise k ∷ tests) s accepted = when ok then tested tests s accepted else gives k 0 0 s
 
 -- an opening tests 2, 16; refused, it gives a stock without callers, of label 0; the shares lent to it are as they were
 unfoldable pub open_stock : List ℕ → ℕ → List ℕ → Reply × Stock × List ℕ
@@ -204,9 +204,9 @@ unfoldable pub read_gate : ℕ → Reader Gate
 read_gate wire = do
   kind ← admitted (within 3)
   a ← admitted (λ w. ltb w wire)
-  if eqb kind 3 then give (Not a) else do
+  when eqb kind 3 then give (Not a) else do
     b ← admitted (λ w. ltb w wire)
-    give (if eqb kind 1 then Xor a b else And a b)
+    give (when eqb kind 1 then Xor a b else And a b)
 
 -- n readings, the first for a wire and each later one for the next; a reading may ignore its wire, as that of output wires does
 unfoldable pub read_each : {A : Type 0} → (ℕ → Reader A) → ℕ → ℕ → Reader (List A)
@@ -243,7 +243,7 @@ is_and (Not a) = false
 -- how many ANDs
 unfoldable pub ands : List Gate → ℕ
 ands [] = 0
-ands (g ∷ gates) = (if is_and g then 1 else 0) + ands gates
+ands (g ∷ gates) = (when is_and g then 1 else 0) + ands gates
 
 -- what a call of a run is lent: the role, 1 for the first pairing's noise end and 2 for the other; the circuit's bytes, this end's shares
 -- of the inputs, its triples, the far bits; the buffers for its shares of the outputs and, in rounds, for the bits to send
@@ -256,19 +256,19 @@ read_only x = x.circuit ∷ x.shares ∷ x.triples ∷ x.far ∷ []
 -- such a call: what it returns, and the state that it leaves, which is as it was where the call is refused
 unfoldable pub on_circuit : {S : Type 0} → Lent → List ℕ → S → Read Circuit → (Circuit → Return × S) → Return × S
 on_circuit x bits_out s (fault k) call = (refused (read_only x) (x.output ∷ bits_out ∷ []) k, s)
-on_circuit x bits_out s (got c next) call = ((call c).0, if eqb (call c).0.number 0 then (call c).1 else s)
+on_circuit x bits_out s (got c next) call = ((call c).0, when eqb (call c).0.number 0 then (call c).1 else s)
 
 -- an accepted call writes the bits to send; where there are none, the run has finished, and it writes the shares of the outputs
 abbrev pub ran : Lent → List ℕ → List ℕ → List ℕ → List Test → Return
 ran x bits_out sent outputs tests =
-    answer (read_only x) ((x.output, if eqb (length sent) 0 then outputs else []) ∷ (bits_out, sent) ∷ []) tests
+    answer (read_only x) ((x.output, when eqb (length sent) 0 then outputs else []) ∷ (bits_out, sent) ∷ []) tests
 
 abbrev pub is_role : ℕ → Bool
 is_role role = eqb role 1 || eqb role 2
 
 -- NOT of a share: role 1 alone flips
 unfoldable pub not_share : ℕ → ℕ → ℕ
-not_share role a = if eqb role 1 then bit_xor a 1 else a
+not_share role a = when eqb role 1 then bit_xor a 1 else a
 
 -- AND of shares a and b, by the first of the triples left: the two bits to send; its share, when the far bits d and e have come. The AND
 -- with j ANDs before it takes triple j
@@ -280,7 +280,7 @@ and_share role triples a b d e =
     let D = bit_xor (masked triples a b ! 0) d in
     let E = bit_xor (masked triples a b ! 1) e in
     let share = bit_xor (bit_xor (triples ! 2) (bit_and D (triples ! 1))) (bit_and E (triples ! 0)) in
-    if eqb role 1 then bit_xor share (bit_and D E) else share
+    when eqb role 1 then bit_xor share (bit_and D E) else share
 
 -- the state of a run in steps: phase 0 is fresh, 1 waits for the far bits of the AND at `gate`, 2 has finished; the shares of the wires
 -- passed, and 0 past them in states that steps left
@@ -307,9 +307,9 @@ run_on role inputs (And a b ∷ gates) i wires triples (d ∷ rest) =
 unfoldable pub stepped : Circuit → Lent → StepState → StepState × List ℕ
 stepped c x s =
     let i = s.gate in
-    if eqb s.phase 0
+    when eqb s.phase 0
     then run_on x.role c.inputs c.gates 0 (x.shares ++ replicate (4096 - c.inputs) 0) x.triples []
-    else (if eqb s.phase 1
+    else (when eqb s.phase 1
     then run_on x.role c.inputs (drop i c.gates) i s.wires (drop (3 * ands (take i c.gates)) x.triples)
     (x.far ! 0 ∷ x.far ! 1 ∷ [])
     else (s, []))
@@ -343,7 +343,7 @@ step x s =
 unfoldable pub row_times : Space → Head → (ℕ → List ℕ) → ℕ → List ℕ
 row_times S h f x =
     let coefficient : ℕ → List ℕ = λ i. (F h).coefficient (word (term h x i) 8) ∷ [] in
-    let entry : ℕ → ℕ = λ j. sum (F h).noise_values h.ℓ (λ i. if leb j (place h x i) then coefficient i else (0 ∷ [])) ! 0 in
+    let entry : ℕ → ℕ = λ j. sum (F h).noise_values h.ℓ (λ i. when leb j (place h x i) then coefficient i else (0 ∷ [])) ! 0 in
     sum S (N h) (λ j. S.multiple (entry j) (f j))
 
 -- both ends test the record, 7, 13
@@ -369,12 +369,12 @@ abbrev pub amount : ℕ → ℤ → ℕ × ℤ
 amount number z = (number, z)
 
 unfoldable pub read_amount : ℕ → ℕ × ℤ
-read_amount x = if ltb x p then amount 0 (if leb x greatest then pos x else (pos x -ℤ pos p)) else amount 8 (pos 0)
+read_amount x = when ltb x p then amount 0 (when leb x greatest then pos x else (pos x -ℤ pos p)) else amount 8 (pos 0)
 
 -- `negsuc n` is −(n + 1); `written_as` gives the number and the element: 19 and 0 of `OutOfRange`, as the statement `Amounts` says
 unfoldable pub write_amount : ℤ → WrittenAmount
-write_amount (pos n) = written_as (if ltb greatest n then OutOfRange else Element (prime n))
-write_amount (negsuc n) = written_as (if ltb greatest (suc n) then OutOfRange else Element (prime (p - suc n)))
+write_amount (pos n) = written_as (when ltb greatest n then OutOfRange else Element (prime n))
+write_amount (negsuc n) = written_as (when ltb greatest (suc n) then OutOfRange else Element (prime (p - suc n)))
 
 -- ==== 14. A fresh dealing under a live stock
 -- a passage to another label and n tests 2, 20, 16; each caller keeps what it has not drawn
@@ -395,7 +395,7 @@ pub data StockCall : Type 0 where
 
 -- what a call replies, and the stock that it leaves: a preview leaves it as it was
 unfoldable pub make : Stock → StockCall → Reply × Stock
-make s (asks draws l k c) = if draws then draw s l k c else ((preview s l k c).0, s)
+make s (asks draws l k c) = when draws then draw s l k c else ((preview s l k c).0, s)
 make s (passes l n) = pass_stock s l n
 
 -- the calls of a list as they are made, each on the stock that the call before left; the stock after the last
@@ -413,7 +413,7 @@ last s (c ∷ calls) = last (make s c).1 calls
 -- those members of a list that a test picks, in their order
 unfoldable pub those : {A : Type 0} → (A → Bool) → List A → List A
 those ok [] = []
-those ok (a ∷ l) = if ok a then (a ∷ those ok l) else those ok l
+those ok (a ∷ l) = when ok a then (a ∷ those ok l) else those ok l
 
 -- passages; those that were accepted
 abbrev pub is_passage : StockCall → Bool
@@ -439,20 +439,20 @@ share_in bytes w = bytes ! w % 2
 -- far bits left
 unfoldable pub gate_byte : ℕ → Gate → Bool → List ℕ → List ℕ → List ℕ → ℕ
 gate_byte role (Xor a b) waited bytes triples far =
-    if known (bytes ! a) && known (bytes ! b) then 2 + bit_xor (share_in bytes a) (share_in bytes b) else 0
-gate_byte role (Not a) waited bytes triples far = if known (bytes ! a) then 2 + not_share role (share_in bytes a) else 0
+    when known (bytes ! a) && known (bytes ! b) then 2 + bit_xor (share_in bytes a) (share_in bytes b) else 0
+gate_byte role (Not a) waited bytes triples far = when known (bytes ! a) then 2 + not_share role (share_in bytes a) else 0
 gate_byte role (And a b) waited bytes triples far =
-    if waited then 2 + and_share role triples (share_in bytes a) (share_in bytes b) (far ! 0) (far ! 1)
-    else (if known (bytes ! a) && known (bytes ! b) then 1 else 0)
+    when waited then 2 + and_share role triples (share_in bytes a) (share_in bytes b) (far ! 0) (far ! 1)
+    else (when known (bytes ! a) && known (bytes ! b) then 1 else 0)
 
 -- through gates: the bytes of all wires, from those of the wires before these gates, those that stood from there on, and the triples and
 -- far bits left. A known byte stays; each gate whose byte was 1 has two far bits
 unfoldable pub round_on : ℕ → List Gate → List ℕ → List ℕ → List ℕ → List ℕ → List ℕ
 round_on role [] bytes old triples far = bytes ++ old
 round_on role (g ∷ gates) bytes old triples far =
-    let byte = if known (old ! 0) then old ! 0 else gate_byte role g (waits (old ! 0)) bytes triples far in
+    let byte = when known (old ! 0) then old ! 0 else gate_byte role g (waits (old ! 0)) bytes triples far in
     round_on role gates (bytes ++ (byte ∷ [])) (drop 1 old)
-    (if is_and g then drop 3 triples else triples) (if waits (old ! 0) then drop 2 far else far)
+    (when is_and g then drop 3 triples else triples) (when waits (old ! 0) then drop 2 far else far)
 
 -- the bits to send, two for each AND that waits after the round, which are those that it opened; `rest`: the bytes from these gates on
 unfoldable pub opened_bits : List Gate → List ℕ → List ℕ → List ℕ → List ℕ
@@ -460,7 +460,7 @@ opened_bits [] bytes rest triples = []
 opened_bits (Xor a b ∷ gates) bytes rest triples = opened_bits gates bytes (drop 1 rest) triples
 opened_bits (Not a ∷ gates) bytes rest triples = opened_bits gates bytes (drop 1 rest) triples
 opened_bits (And a b ∷ gates) bytes rest triples =
-    (if waits (rest ! 0) then masked triples (share_in bytes a) (share_in bytes b) else [])
+    (when waits (rest ! 0) then masked triples (share_in bytes a) (share_in bytes b) else [])
     ++ opened_bits gates bytes (drop 1 rest) (drop 3 triples)
 
 -- a round tests the reading (10, 11, 17, 12), 3, 13, 8, 18, 9
@@ -481,7 +481,7 @@ round_tests c x state =
 unfoldable pub round : Lent → List ℕ → Return × List ℕ
 round x state =
     on_circuit x x.bits state (read_circuit x.circuit 0) λ c.
-    let input_bytes = list c.inputs (λ i. if known (state ! i) then state ! i else (2 + x.shares ! i)) in
+    let input_bytes = list c.inputs (λ i. when known (state ! i) then state ! i else (2 + x.shares ! i)) in
     let after = round_on x.role c.gates input_bytes (drop c.inputs state) x.triples x.far in
     let sent = opened_bits c.gates after (drop c.inputs after) x.triples in
     (ran x x.bits sent (map (share_in after) c.outputs) (round_tests c x state), after)
@@ -536,7 +536,7 @@ unfoldable pub accepted_from : (K : RunKind) → K.State → List Lent → List 
 accepted_from K s [] = []
 accepted_from K s (x ∷ run) =
     let later = accepted_from K (K.call (x, s)).1 run in
-    if eqb (K.call (x, s)).0.number 0 then ((x, s) ∷ later) else later
+    when eqb (K.call (x, s)).0.number 0 then ((x, s) ∷ later) else later
 
 -- accepted call k, from 0, of a run is m; a call is accepted and ends the run
 abbrev pub IsCall : (K : RunKind) → List Lent → ℕ → Lent × K.State → Type 0
@@ -606,7 +606,7 @@ or_undescribed source (fault k) go = undescribed source k
 unfoldable pub describe : List ℕ → Description
 describe source =
     or_undescribed source (test read_byte (λ e. eqb e 1 || eqb e 2) 9 source 0) λ e.
-    if eqb e 1
+    when eqb e 1
     then or_undescribed source (read_noise source 0) (λ (h, trees). described source 1 h)
     else or_undescribed source (read_scalar source 0) (λ (h, Δ, roots). described source 2 h)
 
@@ -626,7 +626,7 @@ are_words field l = eqb field 1 || every (length l) (λ k. ltb (l ! k) p)
 
 unfoldable pub add : ℕ → List ℕ → List ℕ → Return
 add field from into =
-    let sum_at : ℕ → ℕ = λ k. if eqb field 1 then bit_xor (from ! k) (into ! k) else (from ! k + into ! k) % p in
+    let sum_at : ℕ → ℕ = λ k. when eqb field 1 then bit_xor (from ! k) (into ! k) else (from ! k + into ! k) % p in
     answer (from ∷ []) ((into, list (length into) sum_at) ∷ [])
     (is_field field otherwise 1
     ∷ eqb (length from) (length into) otherwise 3

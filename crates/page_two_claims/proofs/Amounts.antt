@@ -1,14 +1,13 @@
 -- Signed amounts over the page, from the law of `amounts`.
 use Prim.Native.Nat.{ℕ, ◌+◌, ◌-◌, ◌%◌, ◌<◌}
 use mathlib.Core.Path.{◌≡◌, refl, sym, ap, ap₂, ◌∙◌}
-use mathlib.Core.Logic.{◌↔◌}
 use native.Mathlib.Omega.{arith}
-use lib.IntN.{ℤ, pos, neg_ℤ, ◌+ℤ◌}
+use lib.IntN.{ℤ, neg_ℤ, ◌+ℤ◌}
 use Rattle.amounts.specs.Agree.{InRange}
 use Rattle.amounts.specs.Calls as library
 use Rattle.amounts.specs.declared.WrittenAmount.{WrittenAmount}
 use Rattle.amounts.proofs.Agreeing.{agree}
-use Rattle.prime.specs.Prime.{prime, prime_add, prime_sub}
+use Rattle.prime.specs.Prime.{prime_add, prime_sub}
 use Rattle.prime.specs.Signed.{from_signed, prime_negate}
 use Rattle.prime.specs.declared.signed.FromSigned.{FromSigned}
 use Rattle.prime.specs.declared.signed.FromSigned.TheVariants.{Element, OutOfRange}

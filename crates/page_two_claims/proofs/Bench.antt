@@ -2,21 +2,17 @@
 use Prim.Native.Nat.{ℕ}
 use mathlib.Core.Path.{◌≡◌, sym, ap, ◌∙◌}
 use mathlib.Core.List.{List, [], ◌∷◌}
-use Rattle.answer.specs.Outcome.{Outcome, TwoWritten}
-use Rattle.ends.specs.Bench.{noise_online_call, scalar_online_call, noise_seen, scalar_seen}
+use Rattle.ends.specs.Bench.{noise_online_call, scalar_online_call}
 use Rattle.ends.specs.Noise.Offline as noise_off
 use Rattle.ends.specs.Scalar.Offline as scalar_off
-use Rattle.ends.specs.Noise.Bench as noise_bench
-use Rattle.ends.specs.Scalar.Bench as scalar_bench
 use Rattle.ends.proofs.Same.{bench as law}
 use Rattle.number.specs.Reading.{Whole}
 use Rattle.record.specs.Content.{NoisePart, ScalarPart}
 use Rattle.record.specs.Reading as rec
 use Rattle.page.specs.Document01 as page
-use Rattle.page.proofs.Calls.{noise_off_return, noise-offline, scalar_off_return, scalar-offline, noise_on_return, noise-online, scalar_on_return, scalar-online}
+use Rattle.page.proofs.Calls.{noise-offline, scalar-offline, noise_on_return, noise-online, scalar_on_return, scalar-online}
 use Rattle.page_claims.specs.Statements as first
 use Rattle.page_claims.proofs.Records.{noise-given, scalar-given}
-use Rattle.page_two.specs.Document02 as page2
 use Rattle.page_two.proofs.Bench.{noise_return, noise-direct, scalar_return, scalar-direct}
 use Rattle.page_two_claims.specs.Statements as says
 use Rattle.page_two_claims.proofs.Faults.{noise-read, scalar_read}

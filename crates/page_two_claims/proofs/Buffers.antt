@@ -8,13 +8,11 @@ use lib.ListN.{get_or}
 use Rattle.algebra.specs.Coding.{at}
 use Rattle.algebra.specs.Expansion.{Correlated}
 use Rattle.algebra.specs.Field.{NoiseValue, Value}
-use Rattle.claims.specs.Buffers.{AccumulatedAt, VectorsAt, Below}
+use Rattle.claims.specs.Buffers.{Below}
 use Rattle.claims.proofs.Buffers as law
 use Rattle.ends.specs.Noise.Offline as noise_off
 use Rattle.ends.specs.Scalar.Offline as scalar_off
-use Rattle.ends.specs.Noise.Vectors as noise_end
-use Rattle.ends.specs.Scalar.Vectors as scalar_end
-use Rattle.number.specs.Reading.{Reading, Whole, Bytes}
+use Rattle.number.specs.Reading.{Whole, Bytes}
 use Rattle.record.specs.Content.{Head, NoiseTree, NoisePart, ScalarPart}
 use Rattle.record.specs.Reading as rec
 use Rattle.window.specs.Head.{field_of}

@@ -39,15 +39,15 @@ module _ (s : List ℕ) where
   scalar-said (page.fault k) e = inr (inr (k, refl))
 
   by_end_lem : (t : Bool)
-      → Said (page.if◌then◌else◌ t (page2.or_undescribed s (page.read_noise s 0) (λ (h, trees). page2.described s 1 h))
+      → Said (page.when◌then◌else◌ t (page2.or_undescribed s (page.read_noise s 0) (λ (h, trees). page2.described s 1 h))
       (page2.or_undescribed s (page.read_scalar s 0) (λ (h, Δ, roots). page2.described s 2 h)))
-  unfolding page.if◌then◌else◌
+  unfolding page.when◌then◌else◌
   by_end_lem true = noise-said (page.read_noise s 0) refl
   by_end_lem false = scalar-said (page.read_scalar s 0) refl
 
   by_byte : (r : page.Read ℕ)
       → Said (page2.or_undescribed s r λ e.
-      page.if◌then◌else◌ (eqb e 1) (page2.or_undescribed s (page.read_noise s 0) (λ (h, trees). page2.described s 1 h))
+      page.when◌then◌else◌ (eqb e 1) (page2.or_undescribed s (page.read_noise s 0) (λ (h, trees). page2.described s 1 h))
       (page2.or_undescribed s (page.read_scalar s 0) (λ (h, Δ, roots). page2.described s 2 h)))
   unfolding page2.or_undescribed
   by_byte (page.got e next) = by_end_lem (eqb e 1)

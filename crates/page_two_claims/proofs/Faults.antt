@@ -1,10 +1,10 @@
 -- A record is never refused with 0: what an accepted call was lent is read. Assumes nothing.
-use Prim.Native.Nat.{ℕ, zero, suc, ◌+◌, ◌*◌, ◌-◌, ◌≤◌}
-use mathlib.Core.Path.{◌≡◌, refl, sym, subst}
+use Prim.Native.Nat.{ℕ, zero, suc, ◌+◌, ◌-◌, ◌≤◌}
+use mathlib.Core.Path.{◌≡◌, refl}
 use mathlib.Core.Bool.{Bool, true, false}
 use mathlib.Core.List.{List, [], ◌∷◌}
 use native.Mathlib.Omega.{arith}
-use lib.Dec.{eqb, leb, ltb}
+use lib.Dec.{eqb, ltb}
 use lib.ListN.{length}
 use Rattle.page.specs.Document01 as page
 use Rattle.page_claims.specs.Statements as first
@@ -28,15 +28,15 @@ unfolding Numbered page.and_then
 after (page.got a next) f h g = g a next
 after (page.fault k) f h g = h
 
-either : {A : Type 0} (t : Bool) (x y : page.Read A) → Numbered x → Numbered y → Numbered (page.if◌then◌else◌ t x y)
-unfolding page.if◌then◌else◌
+either : {A : Type 0} (t : Bool) (x y : page.Read A) → Numbered x → Numbered y → Numbered (page.when◌then◌else◌ t x y)
+unfolding page.when◌then◌else◌
 either true x y h g = h
 either false x y h g = g
 
 module _ (s : List ℕ) where
   one_of : {A : Type 0} (t : Bool) (x y : page.Reader A) (at : ℕ) → Numbered (x s at) → Numbered (y s at)
-      → Numbered (page.if◌then◌else◌ t x y s at)
-  unfolding page.if◌then◌else◌
+      → Numbered (page.when◌then◌else◌ t x y s at)
+  unfolding page.when◌then◌else◌
   one_of true x y at h g = h
   one_of false x y at h g = g
 

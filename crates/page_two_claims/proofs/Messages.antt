@@ -2,9 +2,9 @@
 use Prim.Native.Nat.{ℕ, ◌+◌, ◌-◌, ◌*◌, ◌<◌}
 use native.Mathlib.Nat.{add-zero}
 use native.Mathlib.Omega.{arith}
-use mathlib.Core.Path.{◌≡◌, refl, sym, ap, ap₂, ◌∙◌}
-use mathlib.Core.Bool.{Bool, true}
-use mathlib.Core.List.{List, [], ◌∷◌}
+use mathlib.Core.Path.{◌≡◌, sym, ap, ap₂, ◌∙◌}
+use mathlib.Core.Bool.{true}
+use mathlib.Core.List.{List}
 use borrow.Author.Tests.{leb-true}
 use lib.Bits.{bit_and, bit_xor}
 use lib.Dec.{leb}
@@ -13,7 +13,6 @@ use Rattle.algebra.specs.Coding.{at}
 use Rattle.algebra.specs.Every.{every}
 use Rattle.algebra.proofs.Every.{every_at}
 use Rattle.answer.specs.Bytes.{AreBits}
-use Rattle.pads.specs.Messages.Calls as library
 use Rattle.pads.specs.Messages.Opening.{Batch, BatchFits, corrected_batch, sent_correction_bits, masked_batch, sent_answers, opened_batch}
 use Rattle.pads.specs.Triples.Call.{TriplesLent, lent_triples, triples}
 use Rattle.pads.specs.Triples.Matching.{MatchingAt}

@@ -1,9 +1,8 @@
 -- An accepted dealing of field 1 correlates, and accepted pad calls write the pads of their indices.
 use Prim.Native.Nat.{ℕ, zero, suc, ◌+◌, ◌*◌, ◌<◌}
-use native.Mathlib.Nat.{eq-or-lt_of_le, le_of_suc-le-suc, suc-mul}
+use native.Mathlib.Nat.{eq-or-lt_of_le, le_of_suc-le-suc}
 use native.Mathlib.Omega.{arith}
 use mathlib.Core.Path.{◌≡◌, refl, sym, ap, ap₂, ◌∙◌}
-use mathlib.Core.Bool.{Bool}
 use mathlib.Core.List.{List, [], ◌∷◌, ◌++◌, append_assoc}
 use mathlib.Core.Logic.{⊎_elim}
 use lib.Dec.{eqb}
@@ -17,9 +16,9 @@ use Rattle.page_two_claims.specs.Statements as says
 
 in_field_1 : (f : ℕ) → f ≡ 1 → (Δ u v w : List ℕ)
     → w ≡ (page.field_of f).elements.plus
-    ((page.field_of f).elements.multiple (get_or u 0 0) (page.if◌then◌else◌ (eqb f 1) (page.words Δ) (page.word Δ 0 ∷ []))) v
+    ((page.field_of f).elements.multiple (get_or u 0 0) (page.when◌then◌else◌ (eqb f 1) (page.words Δ) (page.word Δ 0 ∷ []))) v
     → w ≡ (page.blocks).plus ((page.blocks).multiple (get_or u 0 0) (page.words Δ)) v
-unfolding page.field_of page.if◌then◌else◌
+unfolding page.field_of page.when◌then◌else◌
 in_field_1 f one Δ u v w c = rw one at c
 
 -- values of w bytes one after another: what stands from value k on

@@ -1,5 +1,5 @@
 -- Every list of calls on a stock over the page, from the library's claim.
-use Prim.Native.Nat.{ℕ, zero, suc, ◌+◌, ◌-◌, ◌≤◌, ◌<◌}
+use Prim.Native.Nat.{ℕ, suc, ◌+◌, ◌-◌, ◌≤◌, ◌<◌}
 use mathlib.Core.Path.{◌≡◌, refl, sym, ap, ap₂, ◌∙◌, fun_ext, subst}
 use mathlib.Core.Bool.{Bool, true, false, false≢true, ◌&&◌, ◌||◌}
 use mathlib.Core.List.{List, [], ◌∷◌, map}
@@ -14,7 +14,7 @@ use Rattle.stock.specs.declared.Label.{Label}
 use Rattle.stock.specs.declared.Stock.{Stock}
 use Rattle.stock.specs.Label.{number_of}
 use Rattle.stock.specs.Stock as holds
-use Rattle.stock.specs.Calls.{open_stock, draw, pass}
+use Rattle.stock.specs.Calls.{draw, pass}
 use Rattle.stock.specs.Lists as stocks
 use Rattle.stock.proofs.Blocks.{Well, blocks-next, blocks_end, is-caller, fits-block}
 use Rattle.stock.proofs.Cases.{by_test}
@@ -53,7 +53,7 @@ view m = record { call = back m.call; reply = reply m.reply; after = stock m.aft
 
 make_is : (s : Stock) (c : page2.StockCall)
     → page2.make (stock s) c ≡ (reply (stocks.make s (call c)).reply, stock (stocks.make s (call c)).after)
-unfolding page2.make stocks.make call page.if◌then◌else◌
+unfolding page2.make stocks.make call page.when◌then◌else◌
 make_is s (page2.asks true l k c) = draw_is s _ k c
 make_is s (page2.asks false l k c) = ap (λ (a : page2.Reply × page2.Stock). (a.0, stock s)) (preview_is s _ k c)
 make_is s (page2.passes l n) = pass_is s _ n
@@ -118,21 +118,21 @@ passed_is m = ap (λ (t : Bool). t && eqb m.reply.number 0) (is-passage m.call)
 
 module _ {A B : Type 0} (view : A → B) (p : B → Bool) (q : A → Bool) (e : (a : A) → p (view a) ≡ q a) where
   those_is : (l : List A) → page2.those p (map view l) ≡ map view (stocks.those q l)
-  unfolding page2.those stocks.those page.if◌then◌else◌
+  unfolding page2.those stocks.those page.when◌then◌else◌
   those_is [] = refl
-  those_is (a ∷ l) = ap₂ (λ (t : Bool) (m : List B). page.if◌then◌else◌ t (view a ∷ m) m) (e a) (those_is l) ∙ go (q a)
+  those_is (a ∷ l) = ap₂ (λ (t : Bool) (m : List B). page.when◌then◌else◌ t (view a ∷ m) m) (e a) (those_is l) ∙ go (q a)
     where
-      go : (t : Bool) → page.if◌then◌else◌ t (view a ∷ map view (stocks.those q l)) (map view (stocks.those q l))
+      go : (t : Bool) → page.when◌then◌else◌ t (view a ∷ map view (stocks.those q l)) (map view (stocks.those q l))
           ≡ map view (choose t (a ∷ stocks.those q l) (stocks.those q l))
       go true = refl
       go false = refl
 
 handed_is : (p : page2.StockCall → Bool) (q : stocks.Call → Bool) → ((c : stocks.Call) → p (back c) ≡ q c)
     → (h : List stocks.StockMade) → says.handed p (map view h) ≡ stocks.handed q h
-unfolding says.handed stocks.handed page.if◌then◌else◌
+unfolding says.handed stocks.handed page.when◌then◌else◌
 handed_is p q e [] = refl
 handed_is p q e (m ∷ h) =
-    ap₂ (λ (t : Bool) (x : ℕ). page.if◌then◌else◌ (t && eqb m.reply.number 0) m.reply.count 0 + x) (e m.call) (handed_is p q e h)
+    ap₂ (λ (t : Bool) (x : ℕ). page.when◌then◌else◌ (t && eqb m.reply.number 0) m.reply.count 0 + x) (e m.call) (handed_is p q e h)
 
 calls_are : (h : List stocks.StockMade) → map (λ (m : page2.Made). m.call) (map view h) ≡ map back (stocks.calls_of h)
 unfolding stocks.calls_of
@@ -224,15 +224,15 @@ module _ (L : ℕ) where
 
   -- one more stock before others
   in_use_more : (s : Stock) (l : List Stock) → in_use (s ∷ l) ≡ choose (eqb L (number_of s.label)) (holds.held s ∷ in_use l) (in_use l)
-  unfolding page2.those page.if◌then◌else◌
+  unfolding page2.those page.when◌then◌else◌
   in_use_more s l =
-      ap (λ (x : ℕ). map page2.held (page.if◌then◌else◌ (eqb L x) (stock s ∷ rest) rest)) (number_is s.label)
+      ap (λ (x : ℕ). map page2.held (page.when◌then◌else◌ (eqb L x) (stock s ∷ rest) rest)) (number_is s.label)
       ∙ go (eqb L (number_of s.label))
     where
       rest : List page2.Stock
       rest = page2.those (λ (t : page2.Stock). eqb L (page.from_bytes t.label)) (map stock l)
 
-      go : (t : Bool) → map page2.held (page.if◌then◌else◌ t (stock s ∷ rest) rest)
+      go : (t : Bool) → map page2.held (page.when◌then◌else◌ t (stock s ∷ rest) rest)
           ≡ choose t (holds.held s ∷ map page2.held rest) (map page2.held rest)
       go true = ap (λ (x : ℕ). x ∷ map page2.held rest) (held_is s)
       go false = refl
@@ -544,20 +544,20 @@ struct s = record { callers = s.callers; label = record { bytes = s.label }; nex
 
 refused_stays : (tests : List page.Test) (s : page2.Stock) (a : page2.Reply × page2.Stock)
     → ((page2.tested tests s a).0.number ≡ 0 → ⊥) → a.0.number ≡ 0 → (page2.tested tests s a).1 ≡ s
-unfolding page2.tested page.if◌then◌else◌
+unfolding page2.tested page.when◌then◌else◌
 refused_stays [] s a not e = absurd (not e)
 refused_stays (page.◌otherwise◌ true k ∷ tests) s a not e = refused_stays tests s a not e
 refused_stays (page.◌otherwise◌ false k ∷ tests) s a not e = refl
 
 refused : (s : page2.Stock) (c : page2.StockCall) → ((page2.make s c).0.number ≡ 0 → ⊥) → (page2.make s c).1 ≡ s
-unfolding page2.make page2.draw page2.pass_stock page.if◌then◌else◌
+unfolding page2.make page2.draw page2.pass_stock page.when◌then◌else◌
 refused s (page2.asks true l k c) not = refused_stays _ s _ not refl
 refused s (page2.asks false l k c) not = refl
 refused s (page2.passes l n) not = refused_stays _ s _ not refl
 
 rises : (s : page2.Stock) (l : List ℕ) (n : ℕ) → (page2.pass_stock s l n).0.number ≡ 0
     → (page.from_bytes s.label < page.from_bytes l) × ((page2.pass_stock s l n).1.label ≡ l)
-unfolding page2.pass_stock page2.tested page.if◌then◌else◌ page2.shared
+unfolding page2.pass_stock page2.tested page.when◌then◌else◌ page2.shared
 rises s l n =
     by_test (page.within 32768 n)
     (λ a. rw a
@@ -578,7 +578,7 @@ others c = says.is_draw c || page2.is_passage c
 
 -- the calls without previews, as the library has them
 struck : (calls : List page2.StockCall) → map call (page2.those others calls) ≡ stocks.those stocks.no_preview (map call calls)
-unfolding page2.those stocks.those page.if◌then◌else◌ call
+unfolding page2.those stocks.those page.when◌then◌else◌ call
 struck [] = refl
 struck (page2.asks true l k c ∷ calls) = ap (λ (rest : List stocks.Call). stocks.draws (record { bytes = l }) k c ∷ rest) (struck calls)
 struck (page2.asks false l k c ∷ calls) = struck calls

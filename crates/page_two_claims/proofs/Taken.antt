@@ -1,5 +1,5 @@
 -- Of the pads taken for an index, the choice names the noise end's among the scalar end's. What accepted pad calls write.
-use Prim.Native.Nat.{ℕ, zero, suc, ◌+◌, ◌-◌, ◌*◌, ◌≤◌, ◌<◌}
+use Prim.Native.Nat.{ℕ, zero, suc, ◌+◌, ◌-◌, ◌*◌, ◌≤◌}
 use native.Mathlib.Nat.{min-le_right}
 use native.Mathlib.Omega.{arith}
 use mathlib.Core.Path.{◌≡◌, refl, sym, ap, ap₂, ◌∙◌}
@@ -10,7 +10,6 @@ use Rattle.field.proofs.Xor.{xor-back}
 use Rattle.pads.specs.Choice.{pad_at, one_of_two_at}
 use Rattle.pads.specs.Messages.Opening.{NamedAt}
 use Rattle.page.specs.Document01 as page
-use Rattle.page_claims.proofs.Entire.{demand3}
 use Rattle.page_two_claims.specs.Statements as says
 
 -- a pad is that of its block's two words
@@ -21,14 +20,14 @@ pad-words x v = refl
 module _ (x : ℕ) (D v : List ℕ) where
   -- w is v under choice 0, and w exclusive-or Δ is v under choice 1
   choice_0 : page.pad x (page.xor 2 ((page.blocks).multiple 0 D) v) ≡ page.pad x v
-  unfolding page.xor page.list page.if◌then◌else◌
+  unfolding page.xor page.list page.when◌then◌else◌
   choice_0 = ap₂ (λ (a b : ℕ). page.pad x (a ∷ b ∷ [])) (xor_zero_l (get_or v 0 0)) (xor_zero_l (get_or v 1 0)) ∙ sym (pad-words x v)
 
   off : (d a : ℕ) → bit_xor (bit_xor d a) d ≡ a
   off d a = xor_comm (bit_xor d a) d ∙ ap (bit_xor d) (xor_comm d a) ∙ xor-back a d
 
   choice_1 : page.pad x (page.xor 2 (page.xor 2 ((page.blocks).multiple 1 D) v) D) ≡ page.pad x v
-  unfolding page.xor page.list page.if◌then◌else◌
+  unfolding page.xor page.list page.when◌then◌else◌
   choice_1 =
       ap₂ (λ (a b : ℕ). page.pad x (a ∷ b ∷ [])) (off (get_or D 0 0) (get_or v 0 0)) (off (get_or D 1 0) (get_or v 1 0)) ∙ sym (pad-words x v)
 

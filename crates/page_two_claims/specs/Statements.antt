@@ -2,7 +2,7 @@
 -- statement has one proof, in proofs/.
 use Rattle.std.specs.Prelude.{ℕ, suc, ◌+◌, ◌-◌, ◌*◌, ◌%◌, ◌≤◌, ◌<◌, ◌≡◌, Bool, true, false, ◌&&◌, ◌||◌, List, [], ◌∷◌, map, ◌↔◌, ◌≢◌, eqb, leb, ltb, ℤ, pos, neg_ℤ, ◌+ℤ◌, length, take, drop, ◌≤ℤ◌}
 use Rattle.std.specs.Int.Bits.{bit_and, bit_xor}
-use Rattle.page.specs.Document01.{if◌then◌else◌, ◌!◌, from_bytes, xor, words, block, blocks, p, Head, F, N, Input, Tree, read_noise, read_scalar, value_at, μ, v0, w0, pad, block_at, block_from, Return, returned, deal, noise_offline, scalar_offline, noise_online, scalar_online, noise_pads, scalar_pads}
+use Rattle.page.specs.Document01.{when◌then◌else◌, ◌!◌, from_bytes, xor, words, block, blocks, p, Head, F, N, Input, Tree, read_noise, read_scalar, value_at, μ, v0, w0, pad, block_at, block_from, Return, returned, deal, noise_offline, scalar_offline, noise_online, scalar_online, noise_pads, scalar_pads}
 use Rattle.page_claims.specs.Statements.{u, v, w, Below, slice, wrote, Gives}
 use Rattle.page_two.specs.Document02.{are_bits, correction_bits, mask_messages, unmask_messages, Stock, total, remaining, held, Reply, open_stock, draw, pass_stock, StockCall, asks, passes, make, Made, made, last, those, is_passage, accepted_passage, triples, Circuit, value_of, write_circuit, read_circuit, gate_at, AdmittedCircuit, is_and, ands, Lent, StepState, step, waits, known, round, wire_levels, round_count, RunKind, in_steps, in_rounds, IsCall, Finished, OnCircuit, IsOwn, Unaltered, Receives, ands_before, level_at, ands_at, place_at, noise_direct, scalar_direct, greatest, amount, read_amount, write_amount, undescribed, described, describe}
 
@@ -82,7 +82,7 @@ draws_of k c = is_draw c && asks_of k c
 -- the outputs handed out by accepted calls that a test picks: the sum of the counts replied
 unfoldable pub handed : (StockCall → Bool) → List Made → ℕ
 handed ok [] = 0
-handed ok (m ∷ h) = (if ok m.call && eqb m.reply.number 0 then m.reply.count else 0) + handed ok h
+handed ok (m ∷ h) = (when ok m.call && eqb m.reply.number 0 then m.reply.count else 0) + handed ok h
 
 -- from stock t of n outputs on, as long as no passage is accepted, a draw of c by caller k gives its next c indices: after those that it
 -- drew since, within its block, which begins after the shares of the callers before it and ends within n
@@ -251,7 +251,8 @@ pub record Buffers : Type 0 where
   -- two noise records with one head give the same accumulated noise only if positions and noise values are equal
   pub noise : (s s' a b a' b' : List ℕ) (h : Head) (trees trees' : List Tree) → Below 256 s → Below 256 s'
       → Gives (read_noise s 0) (h, trees) → Gives (read_noise s' 0) (h, trees')
-      → (noise_offline s a b).number ≡ 0 → (noise_offline s' a' b').number ≡ 0 → wrote (noise_offline s a b) 0 ≡ wrote (noise_offline s' a' b') 0
+      → (noise_offline s a b).number ≡ 0 → (noise_offline s' a' b').number ≡ 0
+      → wrote (noise_offline s a b) 0 ≡ wrote (noise_offline s' a' b') 0
       → (map (λ x. x.position) trees ≡ map (λ x. x.position) trees') × (map (λ x. x.value) trees ≡ map (λ x. x.value) trees')
 
 -- ==== 13. Signed amounts
@@ -291,7 +292,7 @@ pub record Rounds : Type 0 where
       ↔ ((is_and (gate_at c i) ≡ true) × (level_at c i ≡ suc k)))
       × (Finished in_rounds m ↔ round_count c ≤ suc k)
       × ((in_rounds.call m).0.lengths
-      ≡ (if leb (round_count c) (suc k) then length c.outputs else 0) ∷ 2 * ands_at c (suc k) (length c.gates) ∷ [])
+      ≡ (when leb (round_count c) (suc k) then length c.outputs else 0) ∷ 2 * ands_at c (suc k) (length c.gates) ∷ [])
   pub first : (x : Lent) → (round x in_rounds.fresh).0.number ≡ 0 → length x.far ≡ 0
 
 -- for the AND at gate i of a run in steps and a run in rounds: the same far bits, where both got them; the same bits sent

@@ -1,35 +1,56 @@
 // Reads `noise.key`, then `scalar.key`, and prints the line of the two records. An argument changes nothing, and is said on standard error.
+#![tactic(auto)]
+
 ghost use Rattle.io.specs.Counts.{IsPrefixLen};
 
-use libc::{STDERR_FILENO, STDOUT_FILENO};
+use std::env::FillError;
+use std::fs;
+use std::io::Read;
+use std::rt::{Env, Files};
+
+// Reads to the front of `bytes` until they are full, the file ends or a read fails, and returns how many bytes were read.
+fn read_front<F: Read>(file: &mut F, bytes: &mut [u8]) -> usize
+    ensures { IsPrefixLen result bytes.new }
+{
+    let mut done = 0;
+    while done < bytes.len() {
+        match file.read(&mut bytes[done..]) {
+            Ok(0) | Err(_) => break,
+            Ok(n) => done += n,
+        }
+    }
+    done
+}
 
 // Reads a file to the front of `bytes`, as far as it can be read, and returns how many bytes were read. A missing file counts
 // as empty.
-fn read_file(path: &[u8], bytes: &mut [u8]) -> usize
+fn read_file<R: Files>(rt: &R, path: &str, bytes: &mut [u8]) -> usize
     ensures { IsPrefixLen result bytes.new }
 {
-    let fd = os::open_read(path);
-    if fd < 0 {
-        return 0;
+    match fs::open(rt, path) {
+        Ok(mut file) => read_front(&mut file, bytes),
+        Err(_) => 0,
     }
-    let count = io::read_full(fd, bytes);
-    libc::close(fd);
-    count
 }
 
-fn main() {
-    if os::arg_count() > 1 {
-        io::write_all(
-            STDERR_FILENO,
-            b"pair: takes no argument: it reads noise.key and scalar.key in the folder where it is run\n",
+// Whether the program was given an argument, of any length.
+fn has_argument(rt: &impl Env) -> bool {
+    !matches!(rt.arg(1, &mut [0u8; 1]), Err(FillError::NotPresent))
+}
+
+// What cannot be printed is left out.
+fn main(rt: HostRuntime) {
+    if has_argument(&rt) {
+        let _ = eprintln!(rt;
+            "pair: takes no argument: it reads noise.key and scalar.key in the folder where it is run"
         );
     }
     let mut noise = io::large_buffer();
     let mut scalar = io::large_buffer();
-    let noise_length = read_file(b"noise.key", &mut noise);
-    let scalar_length = read_file(b"scalar.key", &mut scalar);
+    let noise_length = read_file(&rt, "noise.key", &mut noise);
+    let scalar_length = read_file(&rt, "scalar.key", &mut scalar);
     let mut out = [0u8; 64];
     let length = pair_line::line(&noise[..noise_length], &scalar[..scalar_length], &mut out);
-    io::write_all(STDOUT_FILENO, &out[..length]);
-    io::write_all(STDOUT_FILENO, b"\n");
+    let _ = rt.write_all(&out[..length]);
+    let _ = rt.write_all(b"\n");
 }

@@ -1,4 +1,6 @@
 // The pair program's work: from the bytes of both records to the line that it prints. Its definitions and laws stand in crate `pairing`.
+#![tactic(auto)]
+
 ghost use Rattle.std.specs.Prelude.{◌≡◌, [], ◌∷◌};
 ghost use Rattle.page.specs.Document01 as document;
 

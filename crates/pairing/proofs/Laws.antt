@@ -1,5 +1,5 @@
 -- What is found of two records, case by case, and that correlated records are found to hold at every output. Assumes nothing.
-use mathlib.Core.Path.{◌≡◌, refl, sym, ap, ap₂, ◌∙◌}
+use mathlib.Core.Path.{◌≡◌, refl, ap, ap₂, ◌∙◌}
 use mathlib.Core.Bool.{true, false}
 use mathlib.Core.List.{List}
 use Prim.Native.Nat.{ℕ, zero, suc, ◌+◌, ◌≤◌, ◌<◌}
@@ -14,7 +14,7 @@ use Rattle.window.specs.Head.{field_of, places}
 use Rattle.ends.specs.Scalar.Vectors as scalar_end
 use Rattle.pairing.specs.AllHeld.{CorrelatedHeld}
 use Rattle.pairing.specs.Line.{text}
-use Rattle.pairing.specs.Verdict.{Verdict, Refusal, TooLarge, Different, Checked, same_dealing, paired, verdict}
+use Rattle.pairing.specs.Verdict.{Refusal, TooLarge, Different, Checked, same_dealing, paired, verdict}
 use Rattle.pairing.specs.Verdict.{u_at, v_at, w_at, holds, Pair, noise_of, scalar_of, pair_of, held_at, held_of}
 use Rattle.pairing.proofs.Same.{same_refl, same-dealing}
 

@@ -1,4 +1,5 @@
 // What the pair program finds of two records, and the line that it prints, in definitions and laws. Their code stands in crate `pair_line`.
+#![tactic(auto)]
 
 // What is found of two records.
 #[derive(Clone, Copy)]

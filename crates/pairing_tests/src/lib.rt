@@ -1,4 +1,6 @@
 // Whether two heads are those of one dealing, and how many outputs hold.
+#![tactic(auto)]
+
 mod heads;
 mod held;
 

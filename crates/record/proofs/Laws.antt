@@ -1,6 +1,6 @@
 -- Key records have one writing for each content: reading the writing of admitted content gives it back, what reads as a content
 -- is exactly the writing of it and is admitted, and no record is read at both ends. The length of a writing. Assumes nothing.
-use Prim.Native.Nat.{ℕ, ◌+◌, ◌-◌, ◌≤◌}
+use Prim.Native.Nat.{ℕ, ◌+◌, ◌≤◌}
 use mathlib.Core.Bool.{false}
 use mathlib.Core.List.{List, [], ◌∷◌, ◌++◌}
 use mathlib.Core.Path.{◌≡◌, sym, ap, ◌∙◌, subst}

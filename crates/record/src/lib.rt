@@ -1,4 +1,6 @@
 // Key records: the head and a tree in numbers, what reading gives, sizes that follow, and writing. Reading is crate `record_reading`.
+#![tactic(auto)]
+
 ghost use Rattle.std.specs.Prelude.{◌≡◌};
 ghost use Rattle.record.specs.Answer.{record_fault};
 

@@ -1,4 +1,6 @@
 // What a record's head says, so that an end that holds only bytes can size its buffers and tell which dealing it is of.
+#![tactic(auto)]
+
 ghost use Rattle.std.specs.Prelude.{◌≡◌, ◌+◌, ◌≤◌, ◌<◌, length};
 ghost use Rattle.record.specs.Answer.{head_of};
 ghost use Rattle.record.specs.Reading.{block_at, read_noise, read_scalar};

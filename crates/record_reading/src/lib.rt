@@ -1,4 +1,6 @@
 // Reading the noise record and the scalar record with every test, and a second pass over what was accepted.
+#![tactic(auto)]
+
 mod element;
 mod noise;
 mod scalar;

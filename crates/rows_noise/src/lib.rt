@@ -1,4 +1,6 @@
 // A row's outputs at the noise end in each field, two terms at a time, with the test of the words that the row uses.
+#![tactic(auto)]
+
 mod noise_binary;
 mod noise_prime;
 

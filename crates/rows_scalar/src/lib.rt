@@ -1,4 +1,6 @@
 // A row's output at the scalar end in each field, two terms at a time, in field 2 with the test of the words that the row uses.
+#![tactic(auto)]
+
 mod scalar_binary;
 mod scalar_prime;
 

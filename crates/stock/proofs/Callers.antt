@@ -95,13 +95,13 @@ asks_passage k (passes l n) y = absurd (false≢true y)
 draw-reply : (k : ℕ) (s : Stock) (l : Label) (c : ℕ)
     → (make s (draws l k c)).reply ≡ reply_by (is_caller s k) (number_of s.label) (next_of s k) (remaining s k) l c
 unfolding make draw answered by_number number_by
-draw-reply k s l c = by_number (first_fault (draw_tests s l k c))
+draw-reply k s l c = by_number_lem (first_fault (draw_tests s l k c))
   where
-    by_number : (n : ℕ) → let d = by_number n (refused_draw s) (accepted_draw s k c) in
+    by_number_lem : (n : ℕ) → let d = by_number n (refused_draw s) (accepted_draw s k c) in
         ◌≡◌ {A = Reply} (record { number = d.number; first = d.first; count = d.count })
         (record { number = n; first = given n (next_of s k); count = given n c })
-    by_number zero = refl
-    by_number (suc n) = refl
+    by_number_lem zero = refl
+    by_number_lem (suc n) = refl
 
 pub preview-reply : (k : ℕ) (s : Stock) (l : Label) (c : ℕ) → (make s (previews l k c)).reply ≡ (make s (draws l k c)).reply
 unfolding make preview
@@ -160,7 +160,12 @@ module _ {A : Type 0} (look : Reply → A) (shown : List StockMade → List A) (
         let left : remaining m.after k ≡ remaining s k - given n c = let h = (kept s W d).remaining k in omega arith in
         let same = same_caller s m.after k (kept s W d).callers in
         let h = calls_made m.after calls in
-        rw (asked-call k s d true (eq-eqb k k refl), more m (those (asked k) h), make-call s d, draw-reply k s l c) (cc (S.label, S.next k))
+        let next : next_of m.after k ≡ next_of s k + given n c = let e = S.next k in omega arith in
+        let on : sees look k m.after (calls_of (those (concerns k) h))
+        ≡ looks_by look (is_caller s k) (number_of s.label) (next_of s k + given n c) (remaining s k - given n c) (calls_of (those (concerns k) h)) =
+        cc (same, S.label, next, left) in
+        rw (asked-call k s d true (eq-eqb k k refl), more m (those (asked k) h), make-call s d, draw-reply k s l c)
+        (ap (λ (t : List A). look (reply_by (is_caller s k) (number_of s.label) (next_of s k) (remaining s k) l c) ∷ t) (ih ∙ on))
 
     by_preview : (l : Label) (c : ℕ) (calls : List Call) → ByModel (make s (previews l k c)).after calls → ByModel s (previews l k c ∷ calls)
     unfolding calls_made those calls_of looks_by

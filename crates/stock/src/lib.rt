@@ -1,5 +1,6 @@
 // A dealing's outputs shared among up to eight callers, in definitions and laws: opening a stock, draws from it, previews of draws, the
 // passage to a fresh dealing, and what is claimed of every list of calls on one stock. The calls' code stands in crate `stock_calls`.
+#![tactic(auto)]
 
 // A dealing's label.
 #[repr(C)]

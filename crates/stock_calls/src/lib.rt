@@ -1,4 +1,6 @@
 // The calls on a stock: opening it, draws from it, previews of draws, and the passage to a fresh dealing.
+#![tactic(auto)]
+
 ghost use Rattle.std.specs.Prelude.{◌≡◌, true, ◌≤◌};
 ghost use Rattle.stock.specs.Calls.{stock_opening, open_stock, draw as draw_stock, preview as preview_stock, pass as pass_stock};
 ghost use Rattle.stock.specs.Calls.{no_callers, with_stock, refused_draw, accepted_draw};

@@ -38,7 +38,7 @@ use Rattle.tree.specs.Inner.Nodes.{node_of}
 
 -- a condition on each element of an array, from one on a value of the elements' type
 each-value : (R : RattleType) (P : R.Denot → Type 0) → ((x : R.Denot) (vs : List Val) → Is R x vs → P x)
-    → (none : R.Denot) (xs : List R.Denot) (us : List Val) → shadow (array.each R.Denot R.own xs us)
+    → (none : R.Denot) (xs : List R.Denot) (us : List Val) → shadow (array.each R.Denot R.own_val xs us)
     → (i : ℕ) → i < length xs → P (get_or xs i none)
 each-value R P of none [] us s i h = absurd (omega arith)
 each-value R P of none (x ∷ xs) [] s i h = absurd s

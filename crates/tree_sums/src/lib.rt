@@ -1,5 +1,7 @@
 // Leaves of the last levels of a tree added to elements in lent words, in both fields, and words zeroed before. Tables and round keys
 // are lent by the caller.
+#![tactic(auto)]
+
 mod range;
 mod sums;
 mod zero;

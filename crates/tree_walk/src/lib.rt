@@ -1,5 +1,7 @@
 // A node's children in a tree of blocks, the walk to a leaf with the siblings beside it, and ways down to a leaf alone. Tables and round
 // keys are lent by the caller.
+#![tactic(auto)]
+
 mod columns;
 mod down;
 mod leaf;

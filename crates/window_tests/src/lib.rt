@@ -1,4 +1,6 @@
 // What a record's head gives its windows, and the tests of a window by lengths alone.
+#![tactic(auto)]
+
 mod head;
 mod lengths;
 

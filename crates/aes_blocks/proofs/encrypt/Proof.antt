@@ -8,18 +8,18 @@ pub encrypt_spec : {M : Type 1} → statement M
 encrypt_spec =
     tie.close
     (tie.spec
-    (λ c κs. search rules)  -- first-key-requires
-    (λ c κs. search rules)  -- full-round-requires
-    (λ c κs. search rules)  -- full-round-requires-2
-    (λ c κs. search rules)  -- full-round-requires-3
-    (λ c κs. search rules)  -- full-round-requires-4
-    (λ c κs. search rules)  -- full-round-requires-5
-    (λ c κs. search rules)  -- full-round-requires-6
-    (λ c κs. search rules)  -- full-round-requires-7
-    (λ c κs. search rules)  -- full-round-requires-8
-    (λ c κs. search rules)  -- full-round-requires-9
-    (λ c κs. search rules)  -- last-round-requires
-    (λ c κs. search rules)  -- of-columns-requires
+    (λ c κs. search rules)  -- first_key-a0-requires
+    (λ c κs. search rules)  -- full_round-a1-requires
+    (λ c κs. search rules)  -- full_round-a2-requires
+    (λ c κs. search rules)  -- full_round-a3-requires
+    (λ c κs. search rules)  -- full_round-a4-requires
+    (λ c κs. search rules)  -- full_round-a5-requires
+    (λ c κs. search rules)  -- full_round-a6-requires
+    (λ c κs. search rules)  -- full_round-a7-requires
+    (λ c κs. search rules)  -- full_round-a8-requires
+    (λ c κs. search rules)  -- full_round-a9-requires
+    (λ c κs. search rules)  -- last_round-a10-requires
+    (λ c κs. search rules)  -- of_columns-requires
     (λ c.
     let last = c.before in
     let r9 = last.before in
@@ -32,7 +32,7 @@ encrypt_spec =
     let r2 = r3.before in
     let r1 = r2.before in
     let r0 = r1.before in
-    ten_rounds _ _ c.of-columns.ensures last.last-round.ensures r9.full-round9.ensures r8.full-round8.ensures r7.full-round7.ensures
-    r6.full-round6.ensures r5.full-round5.ensures r4.full-round4.ensures r3.full-round3.ensures r2.full-round2.ensures
-    r1.full-round.ensures r0.first_key.ensures)  -- returns
+    ten_rounds _ _ c.of_columns.ensures last.last_round-a10.ensures r9.full_round-a9.ensures r8.full_round-a8.ensures r7.full_round-a7.ensures
+    r6.full_round-a6.ensures r5.full_round-a5.ensures r4.full_round-a4.ensures r3.full_round-a3.ensures r2.full_round-a2.ensures
+    r1.full_round-a1.ensures r0.first_key-a0.ensures)  -- returns
     )

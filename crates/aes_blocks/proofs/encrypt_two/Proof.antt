@@ -8,30 +8,30 @@ pub encrypt_two_spec : {M : Type 1} → statement M
 encrypt_two_spec =
     tie.close
     (tie.spec
-    (λ c κs. search rules)  -- first-key-requires
-    (λ c κs. search rules)  -- full-round-requires
-    (λ c κs. search rules)  -- first-key-requires-2
-    (λ c κs. search rules)  -- full-round-requires-2
-    (λ c κs. search rules)  -- full-round-requires-3
-    (λ c κs. search rules)  -- full-round-requires-4
-    (λ c κs. search rules)  -- full-round-requires-5
-    (λ c κs. search rules)  -- full-round-requires-6
-    (λ c κs. search rules)  -- full-round-requires-7
-    (λ c κs. search rules)  -- full-round-requires-8
-    (λ c κs. search rules)  -- full-round-requires-9
-    (λ c κs. search rules)  -- full-round-requires-10
-    (λ c κs. search rules)  -- full-round-requires-11
-    (λ c κs. search rules)  -- full-round-requires-12
-    (λ c κs. search rules)  -- full-round-requires-13
-    (λ c κs. search rules)  -- full-round-requires-14
-    (λ c κs. search rules)  -- full-round-requires-15
-    (λ c κs. search rules)  -- full-round-requires-16
-    (λ c κs. search rules)  -- full-round-requires-17
-    (λ c κs. search rules)  -- full-round-requires-18
-    (λ c κs. search rules)  -- last-round-requires
-    (λ c κs. search rules)  -- last-round-requires-2
-    (λ c κs. search rules)  -- of-columns-requires
-    (λ c κs. search rules)  -- of-columns-requires-2
+    (λ c κs. search rules)  -- first_key-a0-requires
+    (λ c κs. search rules)  -- full_round-a1-requires
+    (λ c κs. search rules)  -- first_key-b0-requires
+    (λ c κs. search rules)  -- full_round-b1-requires
+    (λ c κs. search rules)  -- full_round-a2-requires
+    (λ c κs. search rules)  -- full_round-b2-requires
+    (λ c κs. search rules)  -- full_round-a3-requires
+    (λ c κs. search rules)  -- full_round-b3-requires
+    (λ c κs. search rules)  -- full_round-a4-requires
+    (λ c κs. search rules)  -- full_round-b4-requires
+    (λ c κs. search rules)  -- full_round-a5-requires
+    (λ c κs. search rules)  -- full_round-b5-requires
+    (λ c κs. search rules)  -- full_round-a6-requires
+    (λ c κs. search rules)  -- full_round-b6-requires
+    (λ c κs. search rules)  -- full_round-a7-requires
+    (λ c κs. search rules)  -- full_round-b7-requires
+    (λ c κs. search rules)  -- full_round-a8-requires
+    (λ c κs. search rules)  -- full_round-b8-requires
+    (λ c κs. search rules)  -- full_round-a9-requires
+    (λ c κs. search rules)  -- full_round-b9-requires
+    (λ c κs. search rules)  -- last_round-a10-requires
+    (λ c κs. search rules)  -- last_round-b10-requires
+    (λ c κs. search rules)  -- of_columns-requires
+    (λ c κs. search rules)  -- of_columns-requires-2
     (λ c.
     let one = c.before in
     let b10 = one.before in let a10 = b10.before in
@@ -46,11 +46,11 @@ encrypt_two_spec =
     let b1 = a2.before in
     let b0 = b1.before in let a1 = b0.before in
     let a0 = a1.before in (
-      ten_rounds _ _ one.of-columns.ensures a10.last-round.ensures a9.full-round17.ensures a8.full-round15.ensures a7.full-round13.ensures
-          a6.full-round11.ensures a5.full-round9.ensures a4.full-round7.ensures a3.full-round5.ensures a2.full-round3.ensures
-          a1.full-round.ensures a0.first_key.ensures,
-      ten_rounds _ _ c.of-columns2.ensures b10.last-round2.ensures b9.full-round18.ensures b8.full-round16.ensures b7.full-round14.ensures
-          b6.full-round12.ensures b5.full-round10.ensures b4.full-round8.ensures b3.full-round6.ensures b2.full-round4.ensures
-          b1.full-round2.ensures b0.first-key2.ensures,
+      ten_rounds _ _ one.of_columns.ensures a10.last_round-a10.ensures a9.full_round-a9.ensures a8.full_round-a8.ensures a7.full_round-a7.ensures
+          a6.full_round-a6.ensures a5.full_round-a5.ensures a4.full_round-a4.ensures a3.full_round-a3.ensures a2.full_round-a2.ensures
+          a1.full_round-a1.ensures a0.first_key-a0.ensures,
+      ten_rounds _ _ c.of_columns-2.ensures b10.last_round-b10.ensures b9.full_round-b9.ensures b8.full_round-b8.ensures b7.full_round-b7.ensures
+          b6.full_round-b6.ensures b5.full_round-b5.ensures b4.full_round-b4.ensures b3.full_round-b3.ensures b2.full_round-b2.ensures
+          b1.full_round-b1.ensures b0.first_key-b0.ensures,
     ))  -- returns
     )

@@ -8,11 +8,11 @@ pub first_round_spec : {M : Type 1} → statement M
 first_round_spec =
     tie.close
     (tie.spec
-    (λ c. search rules)  -- element-copy-out-x
-    (λ c. search rules)  -- cast-x
-    (λ c κs. search rules)  -- with-entry-requires
-    (λ c. search rules)  -- array-copy-out-t16
-    (λ c. search rules)  -- array-copy-out-t19
-    (λ c. search rules)  -- array-copy-out-t22
+    (λ c. search rules)  -- bounds-keys-1
+    (λ c. search rules)  -- overflow_cast-x
+    (λ c κs. search rules)  -- with_entry-c-requires
+    (λ c. search rules)  -- bounds-s-0
+    (λ c. search rules)  -- bounds-s-1
+    (λ c. search rules)  -- bounds-s-3
     (λ c. search one_entered)  -- returns
     )

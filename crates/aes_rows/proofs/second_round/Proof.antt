@@ -8,17 +8,17 @@ pub second_round_spec : {M : Type 1} → statement M
 second_round_spec =
     tie.close
     (tie.spec
-    (λ c. search rules)  -- index-1-with-entry
-    (λ c. search rules)  -- index-2-with-entry
-    (λ c κs. search rules)  -- with-entry-requires
-    (λ c. search rules)  -- index-1-with-entry-2
-    (λ c. search rules)  -- index-2-with-entry-2
-    (λ c κs. search rules)  -- with-entry-requires-2
-    (λ c. search rules)  -- index-1-with-entry-3
-    (λ c. search rules)  -- index-2-with-entry-3
-    (λ c κs. search rules)  -- with-entry-requires-3
-    (λ c. search rules)  -- index-1-with-entry-4
-    (λ c. search rules)  -- index-2-with-entry-4
-    (λ c κs. search rules)  -- with-entry-requires-4
+    (λ c. search rules)  -- bounds-t-2
+    (λ c. search rules)  -- bounds-t-2-2
+    (λ c κs. search rules)  -- with_entry-c0-requires
+    (λ c. search rules)  -- bounds-t-2-3
+    (λ c. search rules)  -- bounds-t-1
+    (λ c κs. search rules)  -- with_entry-c1-requires
+    (λ c. search rules)  -- bounds-t-2-4
+    (λ c. search rules)  -- bounds-t-0
+    (λ c κs. search rules)  -- with_entry-c2-requires
+    (λ c. search rules)  -- bounds-t-2-5
+    (λ c. search rules)  -- bounds-t-3
+    (λ c κs. search rules)  -- with_entry-c3-requires
     (λ c. search four_entered)  -- returns
     )

@@ -8,20 +8,20 @@ pub share_spec : {M : Type 1} → statement M
 share_spec =
     tie.close
     (tie.spec
-    (λ c κs. search rules)  -- first-key-requires
-    (λ c κs. search rules)  -- full-round-requires
-    (λ c. search rules)  -- element-copy-out-without-row0
-    (λ c κs. search rules)  -- without-row0-requires
-    (λ c. search rules)  -- element-copy-out-without-row2
-    (λ c κs. search rules)  -- without-row2-requires
-    (λ c. search rules)  -- element-copy-out-without-row1
-    (λ c κs. search rules)  -- without-row1-requires
-    (λ c. search rules)  -- element-copy-out-without-row0-2
-    (λ c κs. search rules)  -- without-row0-requires-2
-    (λ c. search rules)  -- element-copy-out-without-row3
-    (λ c κs. search rules)  -- without-row3-requires
-    (λ c. search rules)  -- array-copy-out-t32
-    (λ c. search rules)  -- array-copy-out-t35
-    (λ c. search rules)  -- array-copy-out-t38
+    (λ c κs. search rules)  -- first_key-s-requires
+    (λ c κs. search rules)  -- full_round-t-requires
+    (λ c. search rules)  -- bounds-keys-4
+    (λ c κs. search rules)  -- without_row0-column2-requires
+    (λ c. search rules)  -- bounds-keys-6
+    (λ c κs. search rules)  -- without_row2-c0-requires
+    (λ c. search rules)  -- bounds-keys-7
+    (λ c κs. search rules)  -- without_row1-c1-requires
+    (λ c. search rules)  -- bounds-keys-8
+    (λ c κs. search rules)  -- without_row0-c2-requires
+    (λ c. search rules)  -- bounds-keys-9
+    (λ c κs. search rules)  -- without_row3-c3-requires
+    (λ c. search rules)  -- bounds-t-0
+    (λ c. search rules)  -- bounds-t-1
+    (λ c. search rules)  -- bounds-t-3
     (λ c. search shared)  -- returns
     )

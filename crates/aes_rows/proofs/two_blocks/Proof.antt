@@ -9,33 +9,33 @@ pub two_blocks_spec : {M : Type 1} → statement M
 two_blocks_spec =
     tie.close
     (tie.spec
-    (λ c. search rules)  -- array-copy-out-first-round
-    (λ c κs. search rules)  -- first-round-requires
-    (λ c. search rules)  -- array-copy-out-second-round
-    (λ c κs. search rules)  -- second-round-requires
-    (λ c. search rules)  -- array-copy-out-first-round-2
-    (λ c. search rules)  -- add-first-round
-    (λ c κs. search rules)  -- first-round-requires-2
-    (λ c. search rules)  -- array-copy-out-second-round-2
-    (λ c κs. search rules)  -- second-round-requires-2
-    (λ c κs. search rules)  -- full-round-requires
-    (λ c κs. search rules)  -- full-round-requires-2
-    (λ c κs. search rules)  -- full-round-requires-3
-    (λ c κs. search rules)  -- full-round-requires-4
-    (λ c κs. search rules)  -- full-round-requires-5
-    (λ c κs. search rules)  -- full-round-requires-6
-    (λ c κs. search rules)  -- full-round-requires-7
-    (λ c κs. search rules)  -- full-round-requires-8
-    (λ c κs. search rules)  -- full-round-requires-9
-    (λ c κs. search rules)  -- full-round-requires-10
-    (λ c κs. search rules)  -- full-round-requires-11
-    (λ c κs. search rules)  -- full-round-requires-12
-    (λ c κs. search rules)  -- full-round-requires-13
-    (λ c κs. search rules)  -- full-round-requires-14
-    (λ c κs. search rules)  -- last-round-requires
-    (λ c κs. search rules)  -- last-round-requires-2
-    (λ c κs. search rules)  -- of-columns-requires
-    (λ c κs. search rules)  -- of-columns-requires-2
+    (λ c. search rules)  -- bounds-shared-0
+    (λ c κs. search rules)  -- first_round-a1-requires
+    (λ c. search rules)  -- bounds-shared-1
+    (λ c κs. search rules)  -- second_round-a2-requires
+    (λ c. search rules)  -- bounds-shared-0-2
+    (λ c. search rules)  -- overflow_add-i
+    (λ c κs. search rules)  -- first_round-b1-requires
+    (λ c. search rules)  -- bounds-shared-1-2
+    (λ c κs. search rules)  -- second_round-b2-requires
+    (λ c κs. search rules)  -- full_round-a3-requires
+    (λ c κs. search rules)  -- full_round-b3-requires
+    (λ c κs. search rules)  -- full_round-a4-requires
+    (λ c κs. search rules)  -- full_round-b4-requires
+    (λ c κs. search rules)  -- full_round-a5-requires
+    (λ c κs. search rules)  -- full_round-b5-requires
+    (λ c κs. search rules)  -- full_round-a6-requires
+    (λ c κs. search rules)  -- full_round-b6-requires
+    (λ c κs. search rules)  -- full_round-a7-requires
+    (λ c κs. search rules)  -- full_round-b7-requires
+    (λ c κs. search rules)  -- full_round-a8-requires
+    (λ c κs. search rules)  -- full_round-b8-requires
+    (λ c κs. search rules)  -- full_round-a9-requires
+    (λ c κs. search rules)  -- full_round-b9-requires
+    (λ c κs. search rules)  -- last_round-a10-requires
+    (λ c κs. search rules)  -- last_round-b10-requires
+    (λ c κs. search rules)  -- of_columns-requires
+    (λ c κs. search rules)  -- of_columns-requires-2
     (λ c.
     let first = c.before in
     let b10 = first.before in let a10 = b10.before in
@@ -50,11 +50,11 @@ two_blocks_spec =
     let b1 = b2.before.before in let a2 = b1.before.before in
     let a1 = a2.before.before in
     let start = a1.before.before.requires in (
-      row_block _ _ _ start.1 (omega (arith, start.2)) first.of-columns.ensures a10.last-round.ensures a9.full-round13.ensures
-          a8.full-round11.ensures a7.full-round9.ensures a6.full-round7.ensures a5.full-round5.ensures a4.full-round3.ensures
-          a3.full-round.ensures a2.second-round.ensures a1.first_round.ensures,
-      row_block _ _ _ start.1 start.2 c.of-columns2.ensures b10.last-round2.ensures b9.full-round14.ensures b8.full-round12.ensures
-          b7.full-round10.ensures b6.full-round8.ensures b5.full-round6.ensures b4.full-round4.ensures b3.full-round2.ensures
-          b2.second-round2.ensures b1.first-round2.ensures,
+      row_block _ _ _ start.1 (omega (arith, start.2)) first.of_columns.ensures a10.last_round-a10.ensures a9.full_round-a9.ensures
+          a8.full_round-a8.ensures a7.full_round-a7.ensures a6.full_round-a6.ensures a5.full_round-a5.ensures a4.full_round-a4.ensures
+          a3.full_round-a3.ensures a2.second_round-a2.ensures a1.first_round-a1.ensures,
+      row_block _ _ _ start.1 start.2 c.of_columns-2.ensures b10.last_round-b10.ensures b9.full_round-b9.ensures b8.full_round-b8.ensures
+          b7.full_round-b7.ensures b6.full_round-b6.ensures b5.full_round-b5.ensures b4.full_round-b4.ensures b3.full_round-b3.ensures
+          b2.second_round-b2.ensures b1.first_round-b1.ensures,
     ))  -- returns
     )

@@ -8,19 +8,19 @@ pub with_entry_spec : {M : Type 1} → statement M
 with_entry_spec =
     tie.close
     (tie.spec
-    (λ c. search rules)  -- mul-wide-of
-    (λ c. search rules)  -- index-1-wide-of
-    (λ c. search rules)  -- index-2-wide-of
-    (λ c. search rules)  -- mul-wide-of-2
-    (λ c. search rules)  -- index-1-wide-of-2
-    (λ c. search rules)  -- index-2-wide-of-2
-    (λ c. search rules)  -- mul-wide-of-3
-    (λ c. search rules)  -- index-1-wide-of-3
-    (λ c. search rules)  -- index-2-wide-of-3
-    (λ c. search rules)  -- mul-wide-of-4
-    (λ c. search rules)  -- index-1-wide-of-4
-    (λ c. search rules)  -- index-2-wide-of-4
-    (λ c κs. search rules)  -- wide-of-requires
+    (λ c. search rules)  -- offset_bounds-s-c
+    (λ c. search rules)  -- bounds-s-c
+    (λ c. search rules)  -- bounds-s-0
+    (λ c. search rules)  -- offset_bounds-s-c-2
+    (λ c. search rules)  -- bounds-s-c-2
+    (λ c. search rules)  -- bounds-s-1
+    (λ c. search rules)  -- offset_bounds-s-c-3
+    (λ c. search rules)  -- bounds-s-c-3
+    (λ c. search rules)  -- bounds-s-2
+    (λ c. search rules)  -- offset_bounds-s-c-4
+    (λ c. search rules)  -- bounds-s-c-4
+    (λ c. search rules)  -- bounds-s-3
+    (λ c κs. search rules)  -- wide_of-requires
     (λ c κs. search rules)  -- entry-requires
     (λ c κs. search rules)  -- rows-requires
     (λ c. search entered)  -- returns

@@ -10,14 +10,14 @@ unfolding Lacks
 without_row3_spec =
     tie.close
     (tie.spec
-    (λ c. search rules)  -- index-1-entry
-    (λ c. search rules)  -- index-2-entry
+    (λ c. search rules)  -- bounds-s-3
+    (λ c. search rules)  -- bounds-s-0
     (λ c κs. search rules)  -- entry-requires
-    (λ c. search rules)  -- index-1-entry-2
-    (λ c. search rules)  -- index-2-entry-2
+    (λ c. search rules)  -- bounds-s-0-2
+    (λ c. search rules)  -- bounds-s-1
     (λ c κs. search rules)  -- entry-requires-2
-    (λ c. search rules)  -- index-1-entry-3
-    (λ c. search rules)  -- index-2-entry-3
+    (λ c. search rules)  -- bounds-s-1-2
+    (λ c. search rules)  -- bounds-s-2
     (λ c κs. search rules)  -- entry-requires-3
     (λ c κs. search rules)  -- rows-requires
     (λ c. search lacks_row3)  -- returns

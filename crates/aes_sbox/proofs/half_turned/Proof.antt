@@ -9,7 +9,7 @@ pub half_turned_spec : {M : Type 1} → statement M
 half_turned_spec =
     tie.close
     (tie.spec
-    (λ c. search rules)  -- mul-result
-    (λ c. record { fits = halves_fit (search rules) })  -- add-result
+    (λ c. search rules)  -- overflow_mul-result
+    (λ c. record { fits = halves_fit (search rules) })  -- overflow_add-result
     (λ c. refl)  -- returns
     )

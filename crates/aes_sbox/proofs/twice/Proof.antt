@@ -8,7 +8,7 @@ pub twice_spec : {M : Type 1} → statement M
 twice_spec =
     tie.close
     (tie.spec
-    (λ c. search rules)  -- mul-result
-    (λ c. search rules)  -- mul-result-2
+    (λ c. search rules)  -- overflow_mul-result
+    (λ c. search rules)  -- overflow_mul-result-2
     (λ c. twice_of (search rules))  -- returns
     )

@@ -8,7 +8,7 @@ pub read_amount_spec : {M : Type 1} → statement M
 read_amount_spec =
     tie.close
     (tie.spec
-    (λ c κs. search rules)  -- to-signed-requires
-    (λ c. search elements)  -- returns
-    (λ c. search no_elements)  -- returns-2
+    (λ c κs. search rules)  -- to_signed-amount-requires
+    (λ c. search elements)  -- returns-then-element-lt-MODULUS
+    (λ c. search no_elements)  -- returns-else-element-lt-MODULUS
     )

@@ -8,9 +8,9 @@ pub write_amount_spec : {M : Type 1} → statement M
 write_amount_spec =
     tie.close
     (tie.spec
-    (λ c κs. search rules)  -- from-signed-requires
-    (λ c. search rules)  -- enum-known-answer
-    (λ c. search rules)  -- enum-told
-    (λ c. search unranged)  -- returns
-    (λ c. search ranged)  -- returns-2
+    (λ c κs. search rules)  -- from_signed-answer-requires
+    (λ c. search rules)  -- enum_known-answer
+    (λ c. search rules)  -- enum_told-1
+    (λ c. search unranged)  -- returns-in_default
+    (λ c. search ranged)  -- returns
     )

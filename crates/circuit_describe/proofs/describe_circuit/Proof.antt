@@ -8,13 +8,13 @@ pub describe_circuit_spec : {M : Type 1} → statement M
 describe_circuit_spec =
     tie.close
     (tie.spec
-    (λ c κs. search rules)  -- read-circuit-requires
-    (λ c. search rules)  -- enum-known-read
-    (λ c. search rules)  -- enum-told
-    (λ c κs. search rules)  -- circuit-fault-requires
+    (λ c κs. search rules)  -- read_circuit-read-requires
+    (λ c. search rules)  -- enum_known-read
+    (λ c. search rules)  -- enum_told-1
+    (λ c κs. search rules)  -- circuit_fault-requires
     (λ c κs. search rules)  -- refusal-requires
-    (λ c. search circuit-refused)  -- returns
-    (λ c κs. search circuit-layout)  -- depth-of-requires
-    (λ c. search rules)  -- add-t6
-    (λ c. search circuit-said)  -- returns-2
+    (λ c. search circuit-refused)  -- returns-in_default
+    (λ c κs. search circuit-layout)  -- depth_of-requires
+    (λ c. search rules)  -- overflow_add-result
+    (λ c. search circuit-said)  -- returns
     )

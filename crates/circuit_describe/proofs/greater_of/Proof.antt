@@ -7,6 +7,6 @@ pub greater_of_spec : {M : Type 1} → statement M
 greater_of_spec =
     tie.close
     (tie.spec
-    (λ c. search greater-second)  -- returns
-    (λ c. search greater-first)  -- returns-2
+    (λ c. search greater-second)  -- returns-then-a-b
+    (λ c. search greater-first)  -- returns-else-a-b
     )

@@ -8,9 +8,9 @@ pub level_of_spec : {M : Type 1} → statement M
 level_of_spec =
     tie.close
     (tie.spec
-    (λ c. search level_not)  -- returns
-    (λ c κs. search rules)  -- greater-of-requires
-    (λ c. search (level_fits, rules))  -- add-result
-    (λ c. search level_and)  -- returns-2
-    (λ c. search level_other)  -- returns-3
+    (λ c. search level_not)  -- returns-then-kind-eq-GATE_NOT
+    (λ c κs. search rules)  -- greater_of-most-requires
+    (λ c. search (level_fits, rules))  -- overflow_add-result
+    (λ c. search level_and)  -- returns-then-kind-eq-GATE_AND
+    (λ c. search level_other)  -- returns
     )

@@ -9,19 +9,19 @@ pub round_run_spec : {M : Type 1} → statement M
 round_run_spec =
     tie.close
     (tie.spec
-    (λ c κs. search rules)  -- read-circuit-requires
-    (λ c. search rules)  -- enum-known-read
-    (λ c. search rules)  -- enum-told
-    (λ c κs. search rules)  -- circuit-fault-requires
+    (λ c κs. search rules)  -- read_circuit-read-requires
+    (λ c. search rules)  -- enum_known-read
+    (λ c. search rules)  -- enum_told-1
+    (λ c κs. search rules)  -- circuit_fault-requires
     (λ c κs. search rules)  -- refused-requires
-    (λ c. search circuit-refused)  -- returns
-    (λ c κs. (search layout-most, search rules))  -- check-requires
-    (λ c κs. search rules)  -- refused-requires-2
-    (λ c. search (round-refused, layout-read))  -- returns-2
+    (λ c. search circuit-refused)  -- returns-in_default
+    (λ c κs. (search layout-most, search rules))  -- check-number-requires
+    (λ c κs. search rules)  -- refused-requires-then-number-ne-ACCEPTED
+    (λ c. search (round-refused, layout-read))  -- returns-then-number-ne-ACCEPTED
     (λ c κs.
     let tested = c.before.before.before in
-    (search layout-read, checked_tested tested.before.check.ensures tested.if1.false))  -- accepted-round-requires
-    (λ c. search rules)  -- same-length
-    (λ c. search rules)  -- same-length-2
-    (λ c. search (round-accepted, layout-read))  -- returns-3
+    (search layout-read, checked_tested tested.before.check-number.ensures tested.if-number-ne-ACCEPTED.false))  -- accepted_round-lengths-requires
+    (λ c. search rules)  -- shape_of-output
+    (λ c. search rules)  -- shape_of-bits_out
+    (λ c. search (round-accepted, layout-read))  -- returns
     )

@@ -9,17 +9,17 @@ pub step_run_spec : {M : Type 1} → statement M
 step_run_spec =
     tie.close
     (tie.spec
-    (λ c κs. search rules)  -- read-circuit-requires
-    (λ c. search rules)  -- enum-known-read
-    (λ c. search rules)  -- enum-told
-    (λ c κs. search rules)  -- circuit-fault-requires
+    (λ c κs. search rules)  -- read_circuit-read-requires
+    (λ c. search rules)  -- enum_known-read
+    (λ c. search rules)  -- enum_told-1
+    (λ c κs. search rules)  -- circuit_fault-requires
     (λ c κs. search rules)  -- refused-requires
-    (λ c. search circuit-refused)  -- returns
-    (λ c. search rules)  -- cast-gate
-    (λ c κs. (search layout-read, refl))  -- check-requires
-    (λ c κs. search rules)  -- refused-requires-2
-    (λ c. search (step-refused, layout-read))  -- returns-2
-    (λ c κs. search checked_tested)  -- accepted-step-requires
-    (λ c. search rules)  -- same-length
-    (λ c. search (step-accepted, layout-read))  -- returns-3
+    (λ c. search circuit-refused)  -- returns-in_default
+    (λ c. search rules)  -- overflow_cast-gate
+    (λ c κs. (search layout-read, refl))  -- check-checked-requires
+    (λ c κs. search rules)  -- refused-requires-then-checked-ne-ACCEPTED
+    (λ c. search (step-refused, layout-read))  -- returns-then-checked-ne-ACCEPTED
+    (λ c κs. search checked_tested)  -- accepted_step-requires
+    (λ c. search rules)  -- shape_of-output
+    (λ c. search (step-accepted, layout-read))  -- returns
     )

@@ -10,15 +10,15 @@ pub deal_spec : {M : Type 1} → statement M
 deal_spec =
     tie.close
     (tie.spec
-    (λ c κs. search rules)  -- head-length-requires
-    (λ c κs. search rules)  -- deal-number-requires
-    (λ c κs. search rules)  -- refused-two-requires
-    (λ c. search (answers-two, deal-refused))  -- returns
-    (λ c κs. search noise-placed)  -- write-noise-requires
+    (λ c κs. search rules)  -- head_length-requires
+    (λ c κs. search rules)  -- deal_number-number-requires
+    (λ c κs. search rules)  -- refused_two-requires
+    (λ c. search (answers-two, deal-refused))  -- returns-then-number-ne-ACCEPTED
+    (λ c κs. search noise-placed)  -- write_noise-noise_bytes-requires
     (λ c κs.
     let d = c.before.before.before.before.before in
-    scalar-placed _ _ _ _ _ _ _ _ _ d.if1.false d.before.deal-number.ensures d.before.before.head-length.ensures)  -- write-scalar-part-requires
-    (λ c. search rules)  -- same-length
-    (λ c. search rules)  -- same-length-2
-    (λ c. search deal_done)  -- returns-2
+    scalar-placed _ _ _ _ _ _ _ _ _ d.if-number-ne-ACCEPTED.false d.before.deal_number-number.ensures d.before.before.head_length.ensures)  -- write_scalar_part-scalar_bytes-requires
+    (λ c. search rules)  -- shape_of-noise_record
+    (λ c. search rules)  -- shape_of-scalar_record
+    (λ c. search deal_done)  -- returns
     )

@@ -10,14 +10,14 @@ pub noise_bench_spec : {M : Type 1} → statement M
 noise_bench_spec =
     tie.close
     (tie.spec
-    (λ c κs. search rules)  -- read-noise-requires
-    (λ c. search rules)  -- enum-known-r
-    (λ c. search rules)  -- enum-told
-    (λ c κs. search rules)  -- record-fault-requires
-    (λ c κs. search rules)  -- refused-two-requires
-    (λ c. search (answers-two, noise-fault))  -- returns
-    (λ c κs. search ready)  -- write-noise-requires
-    (λ c. search rules)  -- same-length
-    (λ c. search rules)  -- same-length-2
-    (λ c. search noise-opened)  -- returns-2
+    (λ c κs. search rules)  -- read_noise-r-requires
+    (λ c. search rules)  -- enum_known-r
+    (λ c. search rules)  -- enum_told-1
+    (λ c κs. search rules)  -- record_fault-requires
+    (λ c κs. search rules)  -- refused_two-requires
+    (λ c. search (answers-two, noise-fault))  -- returns-in_default
+    (λ c κs. search ready)  -- write_noise-requires
+    (λ c. search rules)  -- shape_of-u_out
+    (λ c. search rules)  -- shape_of-v_out
+    (λ c. search noise-opened)  -- returns
     )

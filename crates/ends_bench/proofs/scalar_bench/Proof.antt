@@ -9,12 +9,12 @@ pub scalar_bench_spec : {M : Type 1} → statement M
 scalar_bench_spec =
     tie.close
     (tie.spec
-    (λ c κs. search rules)  -- read-scalar-requires
-    (λ c. search rules)  -- enum-known-r
-    (λ c. search rules)  -- enum-told
-    (λ c κs. search rules)  -- record-fault-requires
-    (λ c. search scalar-fault)  -- returns
-    (λ c κs. search ready)  -- write-scalar-requires
-    (λ c. search rules)  -- same-length
-    (λ c. search scalar-opened)  -- returns-2
+    (λ c κs. search rules)  -- read_scalar-r-requires
+    (λ c. search rules)  -- enum_known-r
+    (λ c. search rules)  -- enum_told-1
+    (λ c κs. search rules)  -- record_fault-requires
+    (λ c. search scalar-fault)  -- returns-in_default
+    (λ c κs. search ready)  -- write_scalar-requires
+    (λ c. search rules)  -- shape_of-w_out
+    (λ c. search scalar-opened)  -- returns
     )

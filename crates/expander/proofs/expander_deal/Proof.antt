@@ -9,7 +9,7 @@ expander_deal_spec =
     tie.close
     (tie.spec
     (λ c κs. search rules)  -- deal-requires
-    (λ c. search rules)  -- same-length
-    (λ c. search rules)  -- same-length-2
+    (λ c. search rules)  -- shape_of-noise_record
+    (λ c. search rules)  -- shape_of-scalar_record
     (λ c. search dealt)  -- returns
     )

@@ -9,7 +9,7 @@ expander_noise_offline_spec =
     tie.close
     (tie.spec
     (λ c κs. search rules)  -- offline-requires
-    (λ c. search rules)  -- same-length
-    (λ c. search rules)  -- same-length-2
+    (λ c. search rules)  -- shape_of-noise
+    (λ c. search rules)  -- shape_of-v
     (λ c. search noise-offline-returned)  -- returns
     )

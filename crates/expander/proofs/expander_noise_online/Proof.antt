@@ -9,7 +9,7 @@ expander_noise_online_spec =
     tie.close
     (tie.spec
     (λ c κs. search rules)  -- online-requires
-    (λ c. search rules)  -- same-length
-    (λ c. search rules)  -- same-length-2
+    (λ c. search rules)  -- shape_of-u_out
+    (λ c. search rules)  -- shape_of-v_out
     (λ c. search noise-online-returned)  -- returns
     )

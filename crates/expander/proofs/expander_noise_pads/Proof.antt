@@ -8,7 +8,7 @@ pub expander_noise_pads_spec : {M : Type 1} → statement M
 expander_noise_pads_spec =
     tie.close
     (tie.spec
-    (λ c κs. search rules)  -- noise-pads-requires
-    (λ c. search rules)  -- same-length
+    (λ c κs. search rules)  -- noise_pads-requires
+    (λ c. search rules)  -- shape_of-pads
     (λ c. search noise-pads-returned)  -- returns
     )

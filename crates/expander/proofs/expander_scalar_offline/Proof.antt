@@ -9,7 +9,7 @@ expander_scalar_offline_spec =
     tie.close
     (tie.spec
     (λ c κs. search rules)  -- offline-requires
-    (λ c. search rules)  -- same-length
-    (λ c. search rules)  -- same-length-2
+    (λ c. search rules)  -- shape_of-w
+    (λ c. search rules)  -- shape_of-delta
     (λ c. search scalar-offline-returned)  -- returns
     )

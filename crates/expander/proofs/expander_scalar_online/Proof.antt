@@ -9,6 +9,6 @@ expander_scalar_online_spec =
     tie.close
     (tie.spec
     (λ c κs. search rules)  -- online-requires
-    (λ c. search rules)  -- same-length
+    (λ c. search rules)  -- shape_of-w_out
     (λ c. search scalar-online-returned)  -- returns
     )

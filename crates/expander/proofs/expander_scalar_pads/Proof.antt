@@ -8,7 +8,7 @@ pub expander_scalar_pads_spec : {M : Type 1} → statement M
 expander_scalar_pads_spec =
     tie.close
     (tie.spec
-    (λ c κs. search rules)  -- scalar-pads-requires
-    (λ c. search rules)  -- same-length
+    (λ c κs. search rules)  -- scalar_pads-requires
+    (λ c. search rules)  -- shape_of-pads
     (λ c. search scalar-pads-returned)  -- returns
     )

@@ -4,29 +4,29 @@ use borrow.Author.Rules.{rules}
 use Rattle.fips197.proofs.blocks_wrong.Statement.{statement}
 use Rattle.fips197.proofs.blocks_wrong.Tie as tie
 
-abbrev invariant-loop : tie.invariant-loop
-invariant-loop sbox tables plain keys blocks want d₀ i₀ d i = i ≤ 2
+abbrev invariant-loop-i : tie.invariant-loop-i
+invariant-loop-i sbox tables plain keys blocks want d₀ i₀ d i = i ≤ 2
 
-abbrev decreases-loop : tie.decreases-loop
-decreases-loop sbox tables plain keys blocks want d₀ i₀ d i = 2 - i
+abbrev decreases-loop-i : tie.decreases-loop-i
+decreases-loop-i sbox tables plain keys blocks want d₀ i₀ d i = 2 - i
 
 pub blocks_wrong_spec : {M : Type 1} → statement M
 blocks_wrong_spec =
     tie.close
     (tie.spec
-    invariant-loop
-    decreases-loop
-    (λ c. search rules)  -- loop-holds
-    (λ c. search rules)  -- mul-case-at
-    (λ c κs. search rules)  -- case-at-requires
-    (λ c. search rules)  -- mul-case-at-2
-    (λ c. search rules)  -- add-case-at
-    (λ c κs. search rules)  -- case-at-requires-2
-    (λ c κs. search rules)  -- block-wrong-requires
-    (λ c κs. search rules)  -- block-wrong-requires-2
-    (λ c κs. search rules)  -- pair-wrong-requires
-    (λ c. search rules)  -- add-i
-    (λ c. search rules)  -- loop-less
-    (λ c. search rules)  -- loop-again
+    invariant-loop-i
+    decreases-loop-i
+    (λ c. search rules)  -- loop-i-init
+    (λ c. search rules)  -- overflow_mul-i
+    (λ c κs. search rules)  -- case_at-one-requires
+    (λ c. search rules)  -- overflow_mul-i-in-loop-i
+    (λ c. search rules)  -- overflow_add-i
+    (λ c κs. search rules)  -- case_at-other-requires
+    (λ c κs. search rules)  -- block_wrong-requires
+    (λ c κs. search rules)  -- block_wrong-requires-in-loop-i
+    (λ c κs. search rules)  -- pair_wrong-requires
+    (λ c. search rules)  -- overflow_add-i-in-loop-i
+    (λ c. search rules)  -- loop-i-smaller
+    (λ c. search rules)  -- loop-i-preserved
     (λ c. search rules)  -- returns
     )

@@ -4,31 +4,31 @@ use borrow.Author.Rules.{rules}
 use Rattle.fips197.proofs.schedule_wrong.Statement.{statement}
 use Rattle.fips197.proofs.schedule_wrong.Tie as tie
 
-abbrev invariant-loop : tie.invariant-loop
-invariant-loop sbox plain want keys w d₀ i₀ d i = i ≤ 11
+abbrev invariant-loop-i : tie.invariant-loop-i
+invariant-loop-i sbox plain want keys w d₀ i₀ d i = i ≤ 11
 
-abbrev decreases-loop : tie.decreases-loop
-decreases-loop sbox plain want keys w d₀ i₀ d i = 11 - i
+abbrev decreases-loop-i : tie.decreases-loop-i
+decreases-loop-i sbox plain want keys w d₀ i₀ d i = 11 - i
 
 pub schedule_wrong_spec : {M : Type 1} → statement M
 schedule_wrong_spec =
     tie.close
     (tie.spec
-    invariant-loop
-    decreases-loop
-    (λ c κs. search rules)  -- lent-of-requires
-    (λ c κs. search rules)  -- plain-of-requires
-    (λ c. search rules)  -- loop-holds
-    (λ c. search rules)  -- mul-block-at
-    (λ c κs. search rules)  -- block-at-requires
-    (λ c κs. search rules)  -- lent-key-requires
-    (λ c. search rules)  -- slice-aggregate-block-at
-    (λ c. search rules)  -- mul-block-at-2
-    (λ c κs. search rules)  -- block-at-requires-2
+    invariant-loop-i
+    decreases-loop-i
+    (λ c κs. search rules)  -- lent_of-keys-requires
+    (λ c κs. search rules)  -- plain_of-w-requires
+    (λ c. search rules)  -- loop-i-init
+    (λ c. search rules)  -- overflow_mul-i
+    (λ c κs. search rules)  -- block_at-round_key-requires
+    (λ c κs. search rules)  -- lent_key-mine-requires
+    (λ c. search rules)  -- slice_bounds-block_at-end-in-loop-i
+    (λ c. search rules)  -- overflow_mul-i-in-loop-i
+    (λ c κs. search rules)  -- block_at-other-requires
     (λ c κs. search rules)  -- differ-requires
-    (λ c κs. search rules)  -- differ-requires-2
-    (λ c. search rules)  -- add-i
-    (λ c. search rules)  -- loop-less
-    (λ c. search rules)  -- loop-again
+    (λ c κs. search rules)  -- differ-requires-in-loop-i
+    (λ c. search rules)  -- overflow_add-i
+    (λ c. search rules)  -- loop-i-smaller
+    (λ c. search rules)  -- loop-i-preserved
     (λ c. search rules)  -- returns
     )

@@ -9,10 +9,10 @@ pub add_spec : {M : Type 1} → statement M
 add_spec =
     tie.close
     (tie.spec
-    (λ c κs. search rules)  -- add-number-requires
-    (λ c. search rules)  -- same-length
-    (λ c. search (add-refused, ne_eqb))  -- returns
-    (λ c κs. search admitted)  -- add-words-requires
-    (λ c. search rules)  -- same-length-2
-    (λ c. search add-accepted)  -- returns-2
+    (λ c κs. search rules)  -- add_number-number-requires
+    (λ c. search rules)  -- shape_of-into-then-number-ne0
+    (λ c. search (add-refused, ne_eqb))  -- returns-then-number-ne0
+    (λ c κs. search admitted)  -- add_words-requires
+    (λ c. search rules)  -- shape_of-into
+    (λ c. search add-accepted)  -- returns
     )

@@ -8,9 +8,9 @@ pub known_number_spec : {M : Type 1} → statement M
 known_number_spec =
     tie.close
     (tie.spec
-    (λ c κs. search rules)  -- read-number-requires
-    (λ c. search rules)  -- enum-known-number
-    (λ c. search rules)  -- enum-told
-    (λ c. search known-value)  -- returns
-    (λ c. search known-fault)  -- returns-2
+    (λ c κs. search rules)  -- read_number-requires
+    (λ c. search rules)  -- enum_known-number
+    (λ c. search rules)  -- enum_told-1
+    (λ c. search known-value)  -- returns-in-Value
+    (λ c. search known-fault)  -- returns-in-Fault
     )

@@ -7,7 +7,7 @@ pub number_length_spec : {M : Type 1} → statement M
 number_length_spec =
     tie.close
     (tie.spec
-    (λ c. search one)  -- returns
-    (λ c. search two)  -- returns-2
-    (λ c. search three)  -- returns-3
+    (λ c. search one)  -- returns-then-n-lt128
+    (λ c. search two)  -- returns-then-n-lt16384
+    (λ c. search three)  -- returns
     )

@@ -8,28 +8,28 @@ pub read_number_spec : {M : Type 1} → statement M
 read_number_spec =
     tie.close
     (tie.spec
-    (λ c. search ends_0)  -- returns
-    (λ c. search rules)  -- shared-slice-read-byte-number
-    (λ c κs. search rules)  -- byte-number-requires
-    (λ c. search rules)  -- add-at1
-    (λ c. search value_0)  -- returns-2
-    (λ c. search ends_1)  -- returns-3
-    (λ c. search rules)  -- shared-slice-read-byte-number-2
-    (λ c κs. search rules)  -- byte-number-requires-2
-    (λ c. search rules)  -- add-at2
-    (λ c. search zero_1)  -- returns-4
-    (λ c. search rules)  -- mul-t16
-    (λ c. search rules)  -- add-t17
-    (λ c. search value_1)  -- returns-5
-    (λ c. search ends_2)  -- returns-6
-    (λ c. search rules)  -- shared-slice-read-byte-number-3
-    (λ c κs. search rules)  -- byte-number-requires-3
-    (λ c. search rules)  -- add-at3
-    (λ c. search zero_2)  -- returns-7
-    (λ c. search rules)  -- mul-t22
-    (λ c. search rules)  -- add-t23
-    (λ c. search rules)  -- mul-t24
-    (λ c. search rules)  -- add-t25
-    (λ c. search value_2)  -- returns-8
-    (λ c. search top_bit)  -- returns-9
+    (λ c. search ends_0)  -- returns-then-end-at
+    (λ c. search rules)  -- bounds-source-at
+    (λ c κs. search rules)  -- byte_number-a-requires
+    (λ c. search rules)  -- overflow_add-at1
+    (λ c. search value_0)  -- returns-then-a-lt128
+    (λ c. search ends_1)  -- returns-then-end-at1
+    (λ c. search rules)  -- bounds-source-at1
+    (λ c κs. search rules)  -- byte_number-b-requires
+    (λ c. search rules)  -- overflow_add-at2
+    (λ c. search zero_1)  -- returns-then-b-eq0
+    (λ c. search rules)  -- overflow_mul-result
+    (λ c. search rules)  -- overflow_add-result
+    (λ c. search value_1)  -- returns-then-b-lt128
+    (λ c. search ends_2)  -- returns-then-end-at2
+    (λ c. search rules)  -- bounds-source-at2
+    (λ c κs. search rules)  -- byte_number-c-requires
+    (λ c. search rules)  -- overflow_add-at3
+    (λ c. search zero_2)  -- returns-then-c-eq0
+    (λ c. search rules)  -- overflow_mul-result-then-c-lt128
+    (λ c. search rules)  -- overflow_add-result-then-c-lt128
+    (λ c. search rules)  -- overflow_mul-result-then-c-lt128-2
+    (λ c. search rules)  -- overflow_add-result-then-c-lt128-2
+    (λ c. search value_2)  -- returns-then-c-lt128
+    (λ c. search top_bit)  -- returns
     )

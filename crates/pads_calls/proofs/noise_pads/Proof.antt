@@ -10,12 +10,12 @@ pub noise_pads_spec : {M : Type 1} → statement M
 noise_pads_spec =
     tie.close
     (tie.spec
-    (λ c κs. search rules)  -- noise-number-requires
-    (λ c. search (noise-refused, ne_eqb))  -- returns
-    (λ c κs. search rules)  -- table-requires
-    (λ c κs. search rules)  -- fill-tables-requires
-    (λ c κs. search rules)  -- pad-keys-requires
-    (λ c κs. (search rules, search noise-fits))  -- write-pads-requires
-    (λ c. search rules)  -- same-length
-    (λ c. search noise-accepted)  -- returns-2
+    (λ c κs. search rules)  -- noise_number-number-requires
+    (λ c. search (noise-refused, ne_eqb))  -- returns-then-number-ne-ACCEPTED
+    (λ c κs. search rules)  -- table-sb-requires
+    (λ c κs. search rules)  -- fill_tables-requires
+    (λ c κs. search rules)  -- pad_keys-keys-requires
+    (λ c κs. (search rules, search noise-fits))  -- write_pads-requires
+    (λ c. search rules)  -- shape_of-pads
+    (λ c. search noise-accepted)  -- returns
     )

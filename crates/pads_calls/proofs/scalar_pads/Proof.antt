@@ -10,13 +10,13 @@ pub scalar_pads_spec : {M : Type 1} → statement M
 scalar_pads_spec =
     tie.close
     (tie.spec
-    (λ c κs. search rules)  -- scalar-number-requires
-    (λ c. search (scalar-refused, ne_eqb))  -- returns
-    (λ c κs. search rules)  -- table-requires
-    (λ c κs. search rules)  -- fill-tables-requires
-    (λ c κs. search rules)  -- pad-keys-requires
-    (λ c κs. search scalar-delta)  -- block-at-requires
-    (λ c κs. (search rules, search scalar_fits))  -- write-both-pads-requires
-    (λ c. search rules)  -- same-length
-    (λ c. search scalar-accepted)  -- returns-2
+    (λ c κs. search rules)  -- scalar_number-number-requires
+    (λ c. search (scalar-refused, ne_eqb))  -- returns-then-number-ne-ACCEPTED
+    (λ c κs. search rules)  -- table-sb-requires
+    (λ c κs. search rules)  -- fill_tables-requires
+    (λ c κs. search rules)  -- pad_keys-keys-requires
+    (λ c κs. search scalar-delta)  -- block_at-d-requires
+    (λ c κs. (search rules, search scalar_fits))  -- write_both_pads-requires
+    (λ c. search rules)  -- shape_of-pads
+    (λ c. search scalar-accepted)  -- returns
     )

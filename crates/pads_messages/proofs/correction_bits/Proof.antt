@@ -14,9 +14,9 @@ unfolding correction_bits
 correction_bits_spec =
     tie.close
     (tie.spec
-    (λ c κs. search rules)  -- correction-number-requires
-    (λ c. search (correction-refused, ne_eqb))  -- returns
-    (λ c κs. search admitted_by)  -- write-bits-requires
-    (λ c. search rules)  -- same-length
-    (λ c. search (accepted_with, correction-left))  -- returns-2
+    (λ c κs. search rules)  -- correction_number-number-requires
+    (λ c. search (correction-refused, ne_eqb))  -- returns-then-number-ne-ACCEPTED
+    (λ c κs. search admitted_by)  -- write_bits-requires
+    (λ c. search rules)  -- shape_of-bits_out
+    (λ c. search (accepted_with, correction-left))  -- returns
     )

@@ -14,10 +14,10 @@ unfolding mask_messages
 mask_messages_spec =
     tie.close
     (tie.spec
-    (λ c κs. search rules)  -- mask-number-requires
-    (λ c. search (mask-refused, ne_eqb))  -- returns
-    (λ c κs. search admitted_by)  -- write-answers-requires
-    (λ c. search mask_fit)  -- mul-t7
-    (λ c. search rules)  -- same-length
-    (λ c. search (accepted_with, mask-left))  -- returns-2
+    (λ c κs. search rules)  -- mask_number-number-requires
+    (λ c. search (mask-refused, ne_eqb))  -- returns-then-number-ne-ACCEPTED
+    (λ c κs. search admitted_by)  -- write_answers-requires
+    (λ c. search mask_fit)  -- overflow_mul-result
+    (λ c. search rules)  -- shape_of-answers_out
+    (λ c. search (accepted_with, mask-left))  -- returns
     )

@@ -14,10 +14,10 @@ unfolding unmask_messages
 unmask_messages_spec =
     tie.close
     (tie.spec
-    (λ c κs. search rules)  -- unmask-number-requires
-    (λ c. search (unmask-refused, ne_eqb))  -- returns
-    (λ c κs. search admitted_by)  -- write-opened-requires
-    (λ c. search unmask_fit)  -- mul-t7
-    (λ c. search rules)  -- same-length
-    (λ c. search (accepted_with, unmask-left))  -- returns-2
+    (λ c κs. search rules)  -- unmask_number-number-requires
+    (λ c. search (unmask-refused, ne_eqb))  -- returns-then-number-ne-ACCEPTED
+    (λ c κs. search admitted_by)  -- write_opened-requires
+    (λ c. search unmask_fit)  -- overflow_mul-result
+    (λ c. search rules)  -- shape_of-messages_out
+    (λ c. search (accepted_with, unmask-left))  -- returns
     )

@@ -14,10 +14,10 @@ unfolding triples
 triples_spec =
     tie.close
     (tie.spec
-    (λ c κs. search rules)  -- triples-number-requires
-    (λ c. search (triples-refused, ne_eqb))  -- returns
-    (λ c κs. search admitted_by)  -- write-triples-requires
-    (λ c. search (rules, triples_fit))  -- mul-t11
-    (λ c. search rules)  -- same-length
-    (λ c. search (accepted_with, triples-left))  -- returns-2
+    (λ c κs. search rules)  -- triples_number-number-requires
+    (λ c. search (triples-refused, ne_eqb))  -- returns-then-number-ne-ACCEPTED
+    (λ c κs. search admitted_by)  -- write_triples-requires
+    (λ c. search (rules, triples_fit))  -- overflow_mul-result
+    (λ c. search rules)  -- shape_of-triples_out
+    (λ c. search (accepted_with, triples-left))  -- returns
     )

@@ -1,5 +1,5 @@
 -- The page's content, value, writing and levels of circuits are the library's.
-use Prim.Native.Nat.{ℕ, zero, suc, ◌+◌, ◌*◌, ◌≤◌, ◌<◌, max}
+use Prim.Native.Nat.{ℕ, zero, suc, ◌+◌, max}
 use mathlib.Core.Path.{◌≡◌, refl, sym, ap, ap₂, ◌∙◌}
 use mathlib.Core.Bool.{Bool}
 use mathlib.Core.List.{List, [], ◌∷◌, ◌++◌, map, append_assoc}
@@ -82,7 +82,7 @@ is-and (own.And a b) = refl
 is-and (own.Not a) = refl
 
 pub ands_is : (gs : List own.Gate) → page2.ands (map gate gs) ≡ own.ands_in gs
-unfolding page2.ands own.ands_in page.if◌then◌else◌
+unfolding page2.ands own.ands_in page.when◌then◌else◌
 ands_is [] = refl
 ands_is (g ∷ gs) = ap₂ (λ (t : Bool) (n : ℕ). choose t 1 0 + n) (is-and g) (ands_is gs)
 
@@ -108,7 +108,7 @@ abbrev W : List ℕ → List ℕ
 W = page.each page.write_number
 
 gate-written : (g : own.Gate) (r : List ℕ) → W (page2.gate_numbers (gate g) ++ r) ≡ writing.write_gate g ++ W r
-unfolding gate page2.gate_numbers writing.write_gate page.each page.write_number numbers.write_number page.if◌then◌else◌
+unfolding gate page2.gate_numbers writing.write_gate page.each page.write_number numbers.write_number page.when◌then◌else◌
 gate-written (own.Xor a b) r =
     let n = numbers.write_number in
     ap (λ (l : List ℕ). n 1 ++ l) (sym (append_assoc (n a) (n b) (W r))) ∙ sym (append_assoc (n 1) (n a ++ n b) (W r))
@@ -127,12 +127,12 @@ gates-written (g ∷ gs) r =
     ∙ sym (append_assoc (writing.write_gate g) (writing.write_gates gs) (W r))
 
 wires-written : (l : List ℕ) → W l ≡ writing.write_wires l
-unfolding page.each writing.write_wires page.write_number numbers.write_number page.if◌then◌else◌
+unfolding page.each writing.write_wires page.write_number numbers.write_number page.when◌then◌else◌
 wires-written [] = refl
 wires-written (w ∷ l) = ap (λ (r : List ℕ). numbers.write_number w ++ r) (wires-written l)
 
 pub written_is : (x : own.Circuit) → page2.write_circuit (circuit x) ≡ writing.write_circuit x
-unfolding page2.write_circuit writing.write_circuit page.each page.write_number numbers.write_number page.if◌then◌else◌
+unfolding page2.write_circuit writing.write_circuit page.each page.write_number numbers.write_number page.when◌then◌else◌
 written_is x =
     let n = numbers.write_number in
     ap₂ (λ (k : ℕ) (l : List ℕ). n x.inputs ++ (n k ++ (n (length x.outputs) ++ l))) (length-gates x.gates)

@@ -1,16 +1,15 @@
 -- The page describes circuits as the library does.
 use Prim.Native.Nat.{ℕ}
 use mathlib.Core.Path.{◌≡◌, refl, sym, ap, ◌∙◌}
-use mathlib.Core.List.{List, [], ◌∷◌, map}
-use lib.ListN.{length, replicate}
+use mathlib.Core.List.{List, [], ◌∷◌}
+use lib.ListN.{length}
 use Rattle.circuit.specs.Content as own
-use Rattle.circuit.specs.Reading as reading
 use Rattle.circuit_describe.specs.Describe as library
 use Rattle.circuit_describe.specs.declared.DescribedCircuit.{DescribedCircuit}
 use Rattle.number.specs.Reading.{Reading, after_reading}
 use Rattle.page.specs.Document01 as page
 use Rattle.page_two.specs.Document02 as page2
-use Rattle.page_two.proofs.Circuits.Content.{gate, circuit, length-gates, ands_is, rounds_is}
+use Rattle.page_two.proofs.Circuits.Content.{length-gates, ands_is, rounds_is}
 use Rattle.page_two.proofs.Circuits.Reading.{Agrees, whole, no, reads}
 
 abbrev pub circuit_return : library.CircuitDescription → page.Return

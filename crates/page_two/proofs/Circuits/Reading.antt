@@ -10,7 +10,7 @@ use borrow.Author.Tests.{le-leb}
 use Rattle.algebra.specs.Choice.{choose}
 use Rattle.answer.specs.Numbers.{bad_circuit, bytes_after}
 use Rattle.number.specs.Number.{read_number}
-use Rattle.number.specs.Reading.{Reading, Whole, Refused, Parsed, then, tested}
+use Rattle.number.specs.Reading.{Reading, Whole, Refused, Parsed, then}
 use Rattle.record.specs.Reading as rec
 use Rattle.circuit.specs.Admitted.{most_wires, is_within}
 use Rattle.circuit.specs.Content as own
@@ -30,8 +30,8 @@ module _ (s : List ℕ) where
   unfolding reading.read_wire
   wire_is limit at = test_is page.read_number s at _ (number_is s at) (λ w. ltb w limit) (λ w. ltb w limit) (λ w. refl) bad_circuit
 
-  two-wires : (t : Bool) (a b : ℕ) → page.if◌then◌else◌ t (page2.Xor a b) (page2.And a b) ≡ gate (choose t (own.Xor a b) (own.And a b))
-  unfolding gate page.if◌then◌else◌
+  two-wires : (t : Bool) (a b : ℕ) → page.when◌then◌else◌ t (page2.Xor a b) (page2.And a b) ≡ gate (choose t (own.Xor a b) (own.And a b))
+  unfolding gate page.when◌then◌else◌
   two-wires true a b = refl
   two-wires false a b = refl
 
@@ -80,10 +80,10 @@ then_agrees c r r' e k k' h = subst (λ x. Agrees (page.and_then x k') (then r k
     go (Refused n) = no n
 
 end_agrees : (s : List ℕ) (at : ℕ) (x : own.Circuit) → Agrees (page.ended (circuit x) s at) (rec.ended s at x)
-unfolding page.ended page.if◌then◌else◌
+unfolding page.ended page.when◌then◌else◌
 end_agrees s at x = go (ltb at (length s))
   where
-    go : (t : Bool) → Agrees (page.if◌then◌else◌ t (page.fault bytes_after) (page.got (circuit x) at)) (choose t (Refused bytes_after) (Whole x))
+    go : (t : Bool) → Agrees (page.when◌then◌else◌ t (page.fault bytes_after) (page.got (circuit x) at)) (choose t (Refused bytes_after) (Whole x))
     go true = no bytes_after
     go false = whole x at
 

@@ -1,5 +1,5 @@
 -- The page's round is the library's.
-use Prim.Native.Nat.{ℕ, zero, suc, ◌+◌, ◌-◌, ◌*◌, ◌%◌, ◌<◌}
+use Prim.Native.Nat.{ℕ, zero, suc, ◌+◌, ◌-◌, ◌*◌, ◌<◌}
 use mathlib.Core.Path.{◌≡◌, refl, sym, ap, ap₂, ◌∙◌}
 use mathlib.Core.Bool.{Bool, true, false, ◌&&◌, true≢false}
 use mathlib.Core.List.{List, [], ◌∷◌, ◌++◌, map}
@@ -14,7 +14,6 @@ use Rattle.answer.specs.Outcome.{answered}
 use Rattle.answer.specs.Tests.{is_met}
 use Rattle.answer.proofs.Faults.{all_met}
 use Rattle.circuit.specs.Content as own
-use Rattle.circuit.specs.Reading as reading
 use Rattle.circuit.specs.Value as value
 use Rattle.circuit.proofs.Ands.{head_at, tail_at}
 use Rattle.circuit.proofs.Folds.{fold_length, fold_holds}
@@ -28,7 +27,7 @@ use Rattle.circuit_run.proofs.RoundGates.{share-at}
 use Rattle.number.proofs.Places.{either, split}
 use Rattle.number.specs.Reading.{Reading, after_reading}
 use Rattle.page.specs.Document01 as page
-use Rattle.page.proofs.Calls.{Tests, none, more}
+use Rattle.page.proofs.Calls.{none, more}
 use Rattle.page.proofs.Pads.{none_over}
 use Rattle.tree.specs.Tree.{listed}
 use Rattle.tree.proofs.Listed.{listed-front}
@@ -56,16 +55,16 @@ module _ (x : own.Circuit) (state : List ℕ) where
       ∙ ap (λ (b : ℕ). run.waiting_before x state i + choose (run.waits b) 1 0) (at_drop x.inputs i (x.inputs + i) state refl)
 
   count_is : (n : ℕ) → page.count_of n (λ i. page2.waits (get_or state (x.inputs + i) 0)) ≡ run.waiting_before x state n
-  unfolding page.count_of run.waiting page.if◌then◌else◌
+  unfolding page.count_of run.waiting page.when◌then◌else◌
   count_is zero = refl
   count_is (suc n) =
       ap (λ (k : ℕ). k + choose (run.waits (get_or state (x.inputs + n) 0)) 1 0) (count_is n) ∙ sym (waiting_more n)
       ∙ ap (run.waiting_before x state) {x = n + 1} {y = suc n} (omega arith)
 
 inputs_are : (shares state : List ℕ)
-    → page.list (length shares) (λ i. page.if◌then◌else◌ (page2.known (get_or state i 0)) (get_or state i 0) (2 + get_or shares i 0))
+    → page.list (length shares) (λ i. page.when◌then◌else◌ (page2.known (get_or state i 0)) (get_or state i 0) (2 + get_or shares i 0))
     ≡ run.input_bytes shares state
-unfolding page.list listed run.input_bytes page.if◌then◌else◌
+unfolding page.list listed run.input_bytes page.when◌then◌else◌
 inputs_are [] state = refl
 inputs_are (a ∷ shares) [] = listed-front (length shares) _ ∙ ap (λ (l : List ℕ). (2 + a) ∷ l) (inputs_are shares [])
 inputs_are (a ∷ shares) (b ∷ state) =
@@ -80,7 +79,7 @@ module _ (x : own.Circuit) (l : run.RoundLent) where
 
   computed_is : (i p : ℕ) (waited : Bool) (g : own.Gate) → step.gate_at x i ≡ g → (bytes : List ℕ)
       → page2.gate_byte l.role (gate g) waited bytes (T i) (drop (2 * p) l.far) ≡ run.computed x l i p waited g bytes
-  unfolding gate page2.gate_byte run.computed run.ready run.opened_share page.if◌then◌else◌
+  unfolding gate page2.gate_byte run.computed run.ready run.opened_share page.when◌then◌else◌
   computed_is i p waited (own.Xor a b) e bytes =
       ap₂ (λ (u v : ℕ). choose (run.is_known (get_or bytes a 0) && run.is_known (get_or bytes b 0)) (2 + bit_xor u v) 0) (shared bytes a) (shared bytes b)
   computed_is i p waited (own.And a b) e bytes =
@@ -97,8 +96,8 @@ module _ (x : own.Circuit) (l : run.RoundLent) where
     F i = drop (2 * run.waiting_before x state i) l.far
 
     far-next : (i : ℕ) (b : ℕ) → get_or state (x.inputs + i) 0 ≡ b
-        → page.if◌then◌else◌ (page2.waits b) (drop 2 (F i)) (F i) ≡ F (i + 1)
-    unfolding page.if◌then◌else◌
+        → page.when◌then◌else◌ (page2.waits b) (drop 2 (F i)) (F i) ≡ F (i + 1)
+    unfolding page.when◌then◌else◌
     far-next i b e = go (run.waits b) (waiting_more x state i ∙ ap (λ (y : ℕ). run.waiting_before x state i + choose (run.waits y) 1 0) e)
       where
         go : (t : Bool) → run.waiting_before x state (i + 1) ≡ run.waiting_before x state i + choose t 1 0
@@ -110,8 +109,8 @@ module _ (x : own.Circuit) (l : run.RoundLent) where
 
     byte_is : (i : ℕ) (g : own.Gate) → step.gate_at x i ≡ g → (bytes : List ℕ) → length bytes ≡ x.inputs + i
         → let b = get_or (drop (x.inputs + i) state) 0 0 in
-        page.if◌then◌else◌ (page2.known b) b (page2.gate_byte l.role (gate g) (page2.waits b) bytes (T i) (F i)) ≡ run.gate_byte x l state g bytes
-    unfolding run.gate_byte page.if◌then◌else◌
+        page.when◌then◌else◌ (page2.known b) b (page2.gate_byte l.role (gate g) (page2.waits b) bytes (T i) (F i)) ≡ run.gate_byte x l state g bytes
+    unfolding run.gate_byte page.when◌then◌else◌
     byte_is i g e bytes n =
         let b = at_drop (x.inputs + i) 0 (length bytes) state (omega (arith, n)) in
         let was = get_or state (length bytes) 0 in
@@ -142,7 +141,7 @@ module _ (x : own.Circuit) (l : run.RoundLent) where
     after = run.wires_after x l state
 
     abbrev taken : ℕ → ℕ
-    taken i = page.if◌then◌else◌ (page2.known (get_or state i 0)) (get_or state i 0) (2 + get_or l.shares i 0)
+    taken i = page.when◌then◌else◌ (page2.known (get_or state i 0)) (get_or state i 0) (2 + get_or l.shares i 0)
 
     made_no_wait : (g : own.Gate) → own.is_and g ≡ false → (j p : ℕ) (w : Bool) (bytes : List ℕ) → run.waits (run.computed x l j p w g bytes) ≡ false
     unfolding run.computed
@@ -192,7 +191,7 @@ module _ (x : own.Circuit) (l : run.RoundLent) where
 
       opened_is : (gs : List own.Gate) (i : ℕ) → drop i x.gates ≡ gs
           → page2.opened_bits (map gate gs) after (drop (x.inputs + i) after) (T i) ≡ run.opened_bits x l.triples after i gs
-      unfolding page2.opened_bits run.opened_bits gate page.if◌then◌else◌
+      unfolding page2.opened_bits run.opened_bits gate page.when◌then◌else◌
       opened_is [] i e = refl
       opened_is (g ∷ gs) i e =
           let next = drop_more (x.inputs + i) 1 (x.inputs + (i + 1)) after (omega arith) in
@@ -212,7 +211,7 @@ module _ (x : own.Circuit) (l : run.RoundLent) where
           silent false f = refl
 
           go : (g : own.Gate) → step.gate_at x i ≡ g → drop 1 (drop (x.inputs + i) after) ≡ drop (x.inputs + (i + 1)) after
-              → page.if◌then◌else◌ (page2.is_and (gate g)) (drop 3 (T i)) (T i) ≡ T (i + 1)
+              → page.when◌then◌else◌ (page2.is_and (gate g)) (drop 3 (T i)) (T i) ≡ T (i + 1)
               → page2.opened_bits (map gate gs) after (drop (x.inputs + (i + 1)) after) (T (i + 1)) ≡ run.opened_bits x l.triples after (i + 1) gs
               → (own.is_and g ≡ false → run.waits (get_or after (x.inputs + i) 0) ≡ false)
               → page2.opened_bits (gate g ∷ map gate gs) after (drop (x.inputs + i) after) (T i)
@@ -280,7 +279,7 @@ module _ (x : own.Circuit) (l : page2.Lent) where
   wrote_is : (bytes : List ℕ)
       → (wrote l l.bits (eqb (length (run.bits_to_send x l.triples bytes)) 0) (run.bits_to_send x l.triples bytes) (shares bytes), bytes)
       ≡ round_left (run.accepted_round x (lent_round l) bytes)
-  unfolding run.accepted_round run.with_outputs run.with_bits page.if◌then◌else◌
+  unfolding run.accepted_round run.with_outputs run.with_bits page.when◌then◌else◌
   wrote_is bytes =
       let sent = run.bits_to_send x l.triples bytes in
       go sent ∙ ap (λ (t : Bool). gave t sent bytes) (none-sent x l.triples bytes)
@@ -302,14 +301,14 @@ module _ (l : page2.Lent) (state : List ℕ) where
   abbrev from : page2.Circuit → List ℕ
   from c =
       page2.round_on l.role c.gates
-      (page.list c.inputs (λ i. page.if◌then◌else◌ (page2.known (get_or state i 0)) (get_or state i 0) (2 + get_or l.shares i 0)))
+      (page.list c.inputs (λ i. page.when◌then◌else◌ (page2.known (get_or state i 0)) (get_or state i 0) (2 + get_or l.shares i 0)))
       (drop c.inputs state) l.triples l.far
 
   abbrev sends : page2.Circuit → List ℕ → List ℕ
   sends c bytes = page2.opened_bits c.gates bytes (drop c.inputs bytes) l.triples
 
   abbrev leaves : page2.Circuit → page.Return → page.Return × List ℕ
-  leaves c r = (r, page.if◌then◌else◌ (eqb r.number 0) (from c) state)
+  leaves c r = (r, page.when◌then◌else◌ (eqb r.number 0) (from c) state)
 
   on-circuit : (x : own.Circuit)
       → leaves (circuit x) (page2.ran l l.bits (sends (circuit x) (from (circuit x))) (map (page2.share_in (from (circuit x))) x.outputs)

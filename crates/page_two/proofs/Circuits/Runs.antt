@@ -7,7 +7,7 @@ use native.Mathlib.Omega.{arith}
 use borrow.Author.Tests.{ne_eqb}
 use lib.Bits.{bit_xor}
 use lib.Dec.{eqb}
-use lib.ListN.{length, take, drop, get_or}
+use lib.ListN.{length, drop, get_or}
 use lib.Seq.{get_or-drop, drop-drop}
 use Rattle.algebra.specs.Choice.{choose}
 use Rattle.answer.specs.Tests.{Test, is_met, first_fault}
@@ -25,23 +25,23 @@ use Rattle.page_two.proofs.Circuits.Content.{gate, is-and}
 -- what an accepted call returns that has finished or not
 abbrev pub wrote : page2.Lent → List ℕ → Bool → List ℕ → List ℕ → page.Return
 wrote x bits finished sent outputs =
-    let written = page.if◌then◌else◌ finished outputs [] in
+    let written = page.when◌then◌else◌ finished outputs [] in
     page.returned 0 (length written ∷ length sent ∷ []) (page2.read_only x) (page.front written x.output ∷ page.front sent bits ∷ [])
 
 -- f is what the call makes of it, o what the library's outcome stands for
 module _ {S R O : Type 0} (f : page.Return × S → R) (o : O → R) (x : page2.Lent) (bits : List ℕ) (s after : S) (refusal : ℕ → O) (acceptance : O)
     (on-no : (n : ℕ) → f (page.refused (page2.read_only x) (x.output ∷ bits ∷ []) n, s) ≡ o (refusal n)) (sent outputs : List ℕ) where
   abbrev left : page.Return → R
-  left r = f (r, page.if◌then◌else◌ (eqb r.number 0) after s)
+  left r = f (r, page.when◌then◌else◌ (eqb r.number 0) after s)
 
   -- what an accepted call leaves is asked for only where every test is met
   pub ran_is : {page-tests : List page.Test} {tests : List Test} → Tests page-tests tests
       → (first_fault tests ≡ 0 → f (wrote x bits (eqb (length sent) 0) sent outputs, after) ≡ o acceptance)
       → left (page2.ran x bits sent outputs page-tests) ≡ o (answered tests refusal acceptance)
-  unfolding page.answer answered by_number first_fault page.if◌then◌else◌
+  unfolding page.answer answered by_number first_fault page.when◌then◌else◌
   ran_is none e = e refl
   ran_is (more {page-tests} {tests} ask k ok m rest) e =
-      ap (λ (t : Bool). left (page.if◌then◌else◌ t (page2.ran x bits sent outputs page-tests) (refused_with (suc k)))) m
+      ap (λ (t : Bool). left (page.when◌then◌else◌ t (page2.ran x bits sent outputs page-tests) (refused_with (suc k)))) m
       ∙ go (is_met ask) (ran_is rest) e
     where
       refused_with : ℕ → page.Return
@@ -51,11 +51,11 @@ module _ {S R O : Type 0} (f : page.Return × S → R) (o : O → R) (x : page2.
           → ((first_fault tests ≡ 0 → f (wrote x bits (eqb (length sent) 0) sent outputs, after) ≡ o acceptance)
           → left (page2.ran x bits sent outputs page-tests) ≡ o (answered tests refusal acceptance))
           → (choose t (first_fault tests) (suc k) ≡ 0 → f (wrote x bits (eqb (length sent) 0) sent outputs, after) ≡ o acceptance)
-          → left (page.if◌then◌else◌ t (page2.ran x bits sent outputs page-tests) (refused_with (suc k)))
+          → left (page.when◌then◌else◌ t (page2.ran x bits sent outputs page-tests) (refused_with (suc k)))
           ≡ o (by_number (choose t (first_fault tests) (suc k)) refusal acceptance)
       go true rest h = rest h
       go false rest h =
-          ap (λ (t : Bool). f (refused_with (suc k), page.if◌then◌else◌ t after s)) (ne_eqb (suc k) 0 (λ z. omega arith)) ∙ on-no (suc k)
+          ap (λ (t : Bool). f (refused_with (suc k), page.when◌then◌else◌ t after s)) (ne_eqb (suc k) 0 (λ z. omega arith)) ∙ on-no (suc k)
 
 -- ---- triples left
 
@@ -71,8 +71,8 @@ module _ (x : own.Circuit) (triples : List ℕ) where
 
   -- after a gate they are those of the next
   pub triples-next : (i : ℕ) {g : own.Gate} {later : List own.Gate} → drop i x.gates ≡ g ∷ later
-      → page.if◌then◌else◌ (page2.is_and (gate g)) (drop 3 (triples_from i)) (triples_from i) ≡ triples_from (i + 1)
-  unfolding page.if◌then◌else◌
+      → page.when◌then◌else◌ (page2.is_and (gate g)) (drop 3 (triples_from i)) (triples_from i) ≡ triples_from (i + 1)
+  unfolding page.when◌then◌else◌
   triples-next i {g} e =
       ap (λ (t : Bool). choose t (drop 3 (triples_from i)) (triples_from i)) (is-and g)
       ∙ go (own.is_and g) (ands_more x.gates i e)
@@ -108,10 +108,10 @@ module _ (x : own.Circuit) (triples : List ℕ) where
       pub share_is : (role d e : ℕ) → page2.and_share role (triples_from i) (get_or shares a 0) (get_or shares b 0) d e
           ≡ step.and_share role (bit_xor (step.masked_first x triples shares i) d) (bit_xor (step.masked_second x triples shares i) e)
           (step.triple_first triples j) (step.triple_second triples j) (step.triple_third triples j)
-      unfolding page2.and_share step.and_share page.if◌then◌else◌
+      unfolding page2.and_share step.and_share page.when◌then◌else◌
       share_is role d e =
           λ k. step.and_share role (bit_xor (get_or (masked_is k) 0 0) d) (bit_xor (get_or (masked_is k) 1 0) e) (bit1 k) (bit2 k) (bit3 k)
 
 pub not_is : (role a : ℕ) → page2.not_share role a ≡ step.flipped role a
-unfolding page2.not_share step.flipped page.if◌then◌else◌
+unfolding page2.not_share step.flipped page.when◌then◌else◌
 not_is role a = refl

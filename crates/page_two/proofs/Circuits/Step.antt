@@ -1,11 +1,9 @@
 -- The page's step is the library's.
-use Prim.Native.Nat.{ℕ, zero, suc, ◌+◌, ◌*◌, ◌%◌, ◌-◌}
-use mathlib.Core.Path.{◌≡◌, refl, sym, ap, ap₂, ◌∙◌}
-use mathlib.Core.Bool.{Bool, true, false, not, ◌&&◌, ◌||◌, true≢false, false≢true}
+use Prim.Native.Nat.{ℕ, zero, suc, ◌+◌, ◌*◌, ◌-◌}
+use mathlib.Core.Path.{◌≡◌, refl, sym, ap, ◌∙◌}
+use mathlib.Core.Bool.{Bool, true, false, not, ◌&&◌, ◌||◌, false≢true}
 use mathlib.Core.List.{List, [], ◌∷◌, ◌++◌, map}
 use native.Mathlib.Nat.{suc-ne-zero}
-use native.Mathlib.Omega.{arith}
-use borrow.Author.Tests.{eq-eqb, ne_eqb, eqb-true}
 use lib.Bits.{bit_xor}
 use lib.Dec.{eqb, leb}
 use lib.ListN.{length, take, drop, get_or, set, replicate, length-map}
@@ -15,14 +13,13 @@ use Rattle.answer.specs.Outcome.{answered}
 use Rattle.answer.specs.Tests.{is_met}
 use Rattle.answer.proofs.Faults.{all_met}
 use Rattle.circuit.specs.Content as own
-use Rattle.circuit.specs.Value as value
 use Rattle.circuit.proofs.Ands.{head_at, tail_at}
 use Rattle.circuit_run.specs.Step as run
 use Rattle.circuit_run.specs.declared.StepState.{StepState}
 use Rattle.circuit_run.specs.declared.Stepped.{Stepped}
 use Rattle.number.specs.Reading.{Reading, after_reading}
 use Rattle.page.specs.Document01 as page
-use Rattle.page.proofs.Calls.{Tests, none, more}
+use Rattle.page.proofs.Calls.{none, more}
 use Rattle.page.proofs.Pads.{none_over}
 use Rattle.page_two.specs.Document02 as page2
 use Rattle.page_two.proofs.Circuits.Content.{gate, circuit, is-and, ands_is, gate-at, take-gates, drop-gates}
@@ -47,7 +44,7 @@ module _ (x : own.Circuit) (triples : List ℕ) where
   -- the state that is left, and the bits to send where the run waits
   abbrev sent_at : StepState → List ℕ
   sent_at s =
-      page.if◌then◌else◌ (eqb s.phase 1)
+      page.when◌then◌else◌ (eqb s.phase 1)
       (run.masked_first x triples s.wires s.gate ∷ run.masked_second x triples s.wires s.gate ∷ []) []
 
   abbrev leaves : StepState → page2.StepState × List ℕ
@@ -55,7 +52,7 @@ module _ (x : own.Circuit) (triples : List ℕ) where
 
   on_is : (role : ℕ) (gs : List own.Gate) (i : ℕ) (wires : List ℕ) → drop i x.gates ≡ gs
       → page2.run_on role x.inputs (map gate gs) i wires (T i) [] ≡ leaves (run.run_on role x.inputs gs i wires)
-  unfolding gate page2.run_on run.run_on page.if◌then◌else◌
+  unfolding gate page2.run_on run.run_on page.when◌then◌else◌
   on_is role [] i wires e = refl
   on_is role (own.Xor a b ∷ gs) i wires e =
       let w = set wires (x.inputs + i) (bit_xor (get_or wires a 0) (get_or wires b 0)) in
@@ -93,7 +90,7 @@ module _ (x : own.Circuit) (l : page2.Lent) where
   waited-from : (s : page2.StepState) (gs : List own.Gate) → own.is_and (run.gate_at x s.gate) ≡ true → drop s.gate x.gates ≡ gs
       → page2.run_on l.role x.inputs (map gate gs) s.gate s.wires (triples_from x l.triples s.gate) far
       ≡ left (run.advance l.role x (s.gate + 1) (run.with_and x (lent_step l) (librarys s)))
-  unfolding gate page2.run_on run.with_and run.waiting_share page.if◌then◌else◌
+  unfolding gate page2.run_on run.with_and run.waiting_share page.when◌then◌else◌
   waited-from s [] and e =
       absurd (false≢true (sym (ap own.is_and (nothing_at x.gates s.gate e)) ∙ and))
   waited-from s (own.Xor a b ∷ gs) and e = absurd (false≢true (sym (ap own.is_and (head_at x.gates s.gate e (own.Not 0))) ∙ and))
@@ -120,7 +117,7 @@ module _ (x : own.Circuit) (l : page2.Lent) where
 
   stepped_is : (s : page2.StepState) → length l.shares ≡ x.inputs → run.state_admitted x s.phase s.gate ≡ true
       → page2.stepped (circuit x) l s ≡ left (run.state_after x (lent_step l) (librarys s))
-  unfolding page2.stepped run.state_after page.if◌then◌else◌
+  unfolding page2.stepped run.state_after page.when◌then◌else◌
   stepped_is s size ok =
       go (eqb s.phase 0) (eqb s.phase 1) refl refl (fresh_is size) (λ waits. waited_is s (and waits))
     where
@@ -131,13 +128,13 @@ module _ (x : own.Circuit) (l : page2.Lent) where
 
       go : (t u : Bool) → eqb s.phase 0 ≡ t → eqb s.phase 1 ≡ u → {a b : page2.StepState × List ℕ} {a' b' : StepState}
           → a ≡ left a' → (u ≡ true → b ≡ left b')
-          → page.if◌then◌else◌ t a (page.if◌then◌else◌ u b (s, [])) ≡ left (choose t a' (choose u b' (librarys s)))
+          → page.when◌then◌else◌ t a (page.when◌then◌else◌ u b (s, [])) ≡ left (choose t a' (choose u b' (librarys s)))
       go true u d e f g = f
       go false true d e f g = g refl
       go false false d e f g =
           ap (λ (w : Bool). (
             s,
-            page.if◌then◌else◌ w
+            page.when◌then◌else◌ w
                 (run.masked_first x l.triples s.wires s.gate ∷ run.masked_second x l.triples s.wires s.gate ∷ []) [],
           )) (sym e)
 
@@ -164,7 +161,7 @@ module _ (x : own.Circuit) (l : page2.Lent) where
   wrote_is : (s : StepState)
       → one_length (wrote l zeros (eqb (length (sent_at x l.triples s)) 0) (sent_at x l.triples s) (shares s.wires), step_state_of s)
       ≡ step_left l (run.accepted_step x (lent_step l) s)
-  unfolding run.accepted_step run.with_outputs page.if◌then◌else◌
+  unfolding run.accepted_step run.with_outputs page.when◌then◌else◌
   wrote_is s = go (eqb s.phase 1)
     where
       one : ℕ
@@ -175,7 +172,7 @@ module _ (x : own.Circuit) (l : page2.Lent) where
 
       go : (t : Bool)
           → one_length (
-            wrote l zeros (eqb (length (page.if◌then◌else◌ t (one ∷ two ∷ []) [])) 0) (page.if◌then◌else◌ t (one ∷ two ∷ []) [])
+            wrote l zeros (eqb (length (page.when◌then◌else◌ t (one ∷ two ∷ []) [])) 0) (page.when◌then◌else◌ t (one ∷ two ∷ []) [])
                 (shares s.wires),
             step_state_of s,
           )
@@ -191,7 +188,7 @@ module _ (l : page2.Lent) (s : page2.StepState) where
   refusal n = run.refused_step (lent_step l) (librarys s) n
 
   abbrev leaves_at : page2.Circuit → page.Return → page.Return × page2.StepState
-  leaves_at c r = one_length (r, page.if◌then◌else◌ (eqb r.number 0) (page2.stepped c l s).0 s)
+  leaves_at c r = one_length (r, page.when◌then◌else◌ (eqb r.number 0) (page2.stepped c l s).0 s)
 
   abbrev said : page2.Circuit → page2.StepState × List ℕ → page.Return
   said c after = page2.ran l zeros after.1 (map (λ (w : ℕ). get_or after.0.wires w 0) c.outputs) (page2.step_tests c l s)

@@ -1,7 +1,7 @@
 -- The levels of ANDs and the places of their bits on the page are the library's.
 use Prim.Native.Nat.{ℕ, zero, suc, ◌+◌, ◌*◌}
-use mathlib.Core.Path.{◌≡◌, refl, sym, ap, ap₂, ◌∙◌, fun_ext}
-use mathlib.Core.Bool.{Bool, true, false, ◌&&◌}
+use mathlib.Core.Path.{◌≡◌, refl, sym, ap, ap₂, ◌∙◌}
+use mathlib.Core.Bool.{Bool, ◌&&◌}
 use mathlib.Core.List.{List, [], ◌∷◌, map}
 use native.Mathlib.Omega.{arith}
 use lib.Dec.{eqb}
@@ -42,7 +42,7 @@ module _ (x : own.Circuit) where
       )
 
   pub ands_at_is : (level n : ℕ) → page2.ands_at (circuit x) level n ≡ levels.ands_of level (take n x.gates) (drop x.inputs (levels.levels x))
-  unfolding page.count_of levels.ands_of page.if◌then◌else◌
+  unfolding page.count_of levels.ands_of page.when◌then◌else◌
   ands_at_is level zero = refl
   ands_at_is level (suc n) =
       ap₂ (λ (a : ℕ) (t : Bool). a + choose t 1 0) (ands_at_is level n)

@@ -1,8 +1,8 @@
 -- Rounds are like steps.
 use Prim.Native.Nat.{ℕ, suc, ◌+◌, ◌*◌, ◌<◌}
-use mathlib.Core.Path.{◌≡◌, refl, sym, ap, ◌∙◌, subst}
+use mathlib.Core.Path.{◌≡◌, sym, ap, ◌∙◌, subst}
 use mathlib.Core.Bool.{true}
-use mathlib.Core.List.{List, [], ◌∷◌, map}
+use mathlib.Core.List.{List, map}
 use mathlib.Core.Logic.{◌↔◌}
 use native.Mathlib.Omega.{arith}
 use lib.ListN.{length, take, get_or}
@@ -14,7 +14,7 @@ use Rattle.circuit_claims.specs.Same as same
 use Rattle.circuit_claims.proofs.Sames as sames
 use Rattle.circuit_run.specs.Step as step
 use Rattle.number.specs.Reading.{Whole}
-use Rattle.page_claims.specs.Statements.{wrote, Gives}
+use Rattle.page_claims.specs.Statements.{wrote}
 use Rattle.page_two.specs.Document02 as page2
 use Rattle.page_two.proofs.Circuits.Content.{circuit, ands_is, length-gates}
 use Rattle.page_two.proofs.Circuits.Round.{lent_round}

@@ -1,16 +1,15 @@
 -- The accepted calls of a run on the page are those of the library's run; what is read of a circuit, and combined lists.
-use Prim.Native.Nat.{ℕ, zero, suc, ◌+◌, ◌*◌, ◌<◌}
-use mathlib.Core.Path.{◌≡◌, refl, sym, ap, ap₂, ◌∙◌, subst}
+use Prim.Native.Nat.{ℕ, zero, suc}
+use mathlib.Core.Path.{◌≡◌, refl, sym, ap, ◌∙◌, subst}
 use mathlib.Core.Bool.{Bool, true, false}
 use mathlib.Core.List.{List, [], ◌∷◌, map}
 use mathlib.Core.Logic.{◌≢◌}
-use mathlib.Core.Option.{Option, some, none}
-use native.Mathlib.Nat.{add-zero}
+use mathlib.Core.Option.{some}
 use native.Mathlib.Omega.{arith}
 use borrow.Author.Tests.{eqb-true}
 use lib.Bits.{bit_xor}
 use lib.Dec.{eqb}
-use lib.ListN.{length, get_or, get_elem?}
+use lib.ListN.{length, get_elem?}
 use Rattle.algebra.specs.Choice.{choose}
 use Rattle.circuit.specs.Content as own
 use Rattle.circuit.specs.Reading as reading
@@ -31,14 +30,14 @@ use Rattle.tree.proofs.Listed.{listed-front}
 -- each is accepted
 pub is_accepted : (K : page2.RunKind) (s : K.State) (run : List page2.Lent) (k : ℕ) {m : page2.Lent × K.State}
     → get_elem? (page2.accepted_from K s run) k ≡ some m → (K.call m).0.number ≡ 0
-unfolding page2.accepted_from page.if◌then◌else◌
+unfolding page2.accepted_from page.when◌then◌else◌
 is_accepted K s [] k e = absurd (none-some e)
 is_accepted K s (x ∷ run) k {m} e =
     go (eqb (K.call (x, s)).0.number 0) refl k (λ j. is_accepted K (K.call (x, s)).1 run j) e
   where
     go : (t : Bool) → eqb (K.call (x, s)).0.number 0 ≡ t → (k : ℕ)
         → ((j : ℕ) → get_elem? (page2.accepted_from K (K.call (x, s)).1 run) j ≡ some m → (K.call m).0.number ≡ 0)
-        → get_elem? (page.if◌then◌else◌ t ((x, s) ∷ page2.accepted_from K (K.call (x, s)).1 run) (page2.accepted_from K (K.call (x, s)).1 run)) k ≡ some m
+        → get_elem? (page.when◌then◌else◌ t ((x, s) ∷ page2.accepted_from K (K.call (x, s)).1 run) (page2.accepted_from K (K.call (x, s)).1 run)) k ≡ some m
         → (K.call m).0.number ≡ 0
     go true n zero later e = ap (λ (z : page2.Lent × K.State). (K.call z).0.number) (sym (some_is e)) ∙ eqb-true (K.call (x, s)).0.number 0 n
     go true n (suc k) later e = later k e
@@ -52,7 +51,7 @@ module _ (K : page2.RunKind) {L S O : Type 0} (lent : page2.Lent → L) (state :
 
   all_made : (s : K.State) (run : List page2.Lent)
       → map made (page2.accepted_from K s run) ≡ library.accepted_calls call number left (state s) (map lent run)
-  unfolding page2.accepted_from library.accepted_calls page.if◌then◌else◌
+  unfolding page2.accepted_from library.accepted_calls page.when◌then◌else◌
   all_made s [] = refl
   all_made s (x ∷ run) =
       let o = call (lent x) (state s) in
@@ -63,7 +62,7 @@ module _ (K : page2.RunKind) {L S O : Type 0} (lent : page2.Lent → L) (state :
       (library.accepted_calls call number left (left o) (map lent run))) (number_is x s)
     where
       go : (t : Bool) (l : List (page2.Lent × K.State)) {l' : List (library.CallMade L O)} → map made l ≡ l'
-          → map made (page.if◌then◌else◌ t ((x, s) ∷ l) l) ≡ choose t (record { got = lent x; gave = call (lent x) (state s) } ∷ l') l'
+          → map made (page.when◌then◌else◌ t ((x, s) ∷ l) l) ≡ choose t (record { got = lent x; gave = call (lent x) (state s) } ∷ l') l'
       go true l e = ap (λ (r : List (library.CallMade L O)). made (x, s) ∷ r) e
       go false l e = e
 
@@ -131,11 +130,11 @@ gives_of s x e = go _ _ (reads s) e
 -- a call that is refused leaves the state
 pub stays : {S : Type 0} (x : page2.Lent) (bits_out : List ℕ) (s : S) (r : page.Read page2.Circuit) (call : page2.Circuit → page.Return × S)
     → (page2.on_circuit x bits_out s r call).0.number ≢ 0 → (page2.on_circuit x bits_out s r call).1 ≡ s
-unfolding page2.on_circuit page.if◌then◌else◌
+unfolding page2.on_circuit page.when◌then◌else◌
 stays x bits_out s (page.fault k) call n = refl
 stays x bits_out s (page.got c next) call n = by_test (eqb (call c).0.number 0) (call c).1 s (λ e. n (eqb-true _ 0 e))
   where
-    by_test : {S : Type 0} (t : Bool) (left s : S) → (t ≡ true → ⊥) → page.if◌then◌else◌ t left s ≡ s
+    by_test : {S : Type 0} (t : Bool) (left s : S) → (t ≡ true → ⊥) → page.when◌then◌else◌ t left s ≡ s
     by_test true left s n = absurd (n refl)
     by_test false left s n = refl
 

@@ -1,13 +1,13 @@
 -- The statements about runs in rounds.
 use Prim.Native.Nat.{ℕ, zero, suc, ◌+◌, ◌-◌, ◌*◌, ◌≤◌, ◌<◌}
 use mathlib.Core.Path.{◌≡◌, refl, sym, ap, ap₂, ◌∙◌, subst}
-use mathlib.Core.Bool.{Bool, true, false, ◌&&◌}
+use mathlib.Core.Bool.{Bool, true}
 use mathlib.Core.List.{List, [], ◌∷◌, map}
 use mathlib.Core.Logic.{◌↔◌, ◌≢◌}
 use native.Mathlib.Omega.{arith}
 use borrow.Author.Tests.{eqb-true, eq-eqb, le-leb, lt-leb}
 use lib.Dec.{eqb, leb}
-use lib.ListN.{length, take, drop, get_or, length-map}
+use lib.ListN.{length, take, get_or, length-map}
 use Rattle.algebra.specs.Choice.{choose}
 use Rattle.circuit.specs.Content as own
 use Rattle.circuit.specs.Levels as levels
@@ -28,10 +28,10 @@ use Rattle.circuit_run.specs.declared.RoundState.{RoundState}
 use Rattle.number.specs.Reading.{Whole}
 use Rattle.number.proofs.Places.{either, split}
 use Rattle.page.specs.Document01 as page
-use Rattle.page_claims.specs.Statements.{wrote, Gives}
+use Rattle.page_claims.specs.Statements.{wrote}
 use Rattle.page_two.specs.Document02 as page2
-use Rattle.page_two.proofs.Circuits.Content.{gate, circuit, ands_is, value_is, rounds_is, length-gates}
-use Rattle.page_two.proofs.Circuits.Round.{lent_round, round_left, round_is}
+use Rattle.page_two.proofs.Circuits.Content.{circuit, ands_is, value_is, rounds_is, length-gates}
+use Rattle.page_two.proofs.Circuits.Round.{lent_round, round_is}
 use Rattle.page_two_claims.specs.Statements.{Matching}
 use Rattle.page_two_claims.specs.Statements as says
 use Rattle.page_two_claims.proofs.Circuits.Levels.{and_is, level_is, all_at_is}
@@ -310,10 +310,10 @@ StandsOn source c =
     ↔ ((page2.is_and (page2.gate_at c i) ≡ true) × (page2.level_at c i ≡ suc k)))
     × (page2.Finished page2.in_rounds m ↔ page2.round_count c ≤ suc k)
     × (((page2.in_rounds).call m).0.lengths
-    ≡ page.if◌then◌else◌ (leb (page2.round_count c) (suc k)) (length c.outputs) 0 ∷ 2 * page2.ands_at c (suc k) (length c.gates) ∷ [])
+    ≡ page.when◌then◌else◌ (leb (page2.round_count c) (suc k)) (length c.outputs) 0 ∷ 2 * page2.ands_at c (suc k) (length c.gates) ∷ [])
 
 stands_on : (source : List ℕ) (x : own.Circuit) → reading.read_circuit source ≡ Whole x → StandsOn source (circuit x)
-unfolding page.if◌then◌else◌
+unfolding page.when◌then◌else◌
 stands_on source x e l on k m i =
     let law = (progresses.progress).stands source x e (map lent_round l) (on-circuit source l on) k (made m) (to_library l k m i) in
     let move = moved m x (ap reading.read_circuit (on k m i) ∙ e) (is_accepted page2.in_rounds (page2.in_rounds).fresh l k i) in

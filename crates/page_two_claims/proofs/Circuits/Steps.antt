@@ -1,20 +1,17 @@
 -- The statements about runs in steps.
 use Prim.Native.Nat.{ℕ, zero, suc, ◌+◌, ◌*◌, ◌≤◌, ◌<◌}
 use mathlib.Core.Path.{◌≡◌, refl, sym, ap, ap₂, ◌∙◌, subst}
-use mathlib.Core.Bool.{Bool, true, false}
 use mathlib.Core.List.{List, [], ◌∷◌, map}
 use mathlib.Core.Logic.{◌≢◌}
 use native.Mathlib.Nat.{add-zero}
 use native.Mathlib.Omega.{arith}
-use borrow.Author.Tests.{eqb-true, eq-eqb}
+use borrow.Author.Tests.{eqb-true}
 use lib.Bits.{bit_and, bit_xor}
 use lib.Dec.{eqb}
-use lib.ListN.{length, take, drop, get_or, length-map}
-use Rattle.answer.specs.Tests.{AllMet}
+use lib.ListN.{length, get_or, length-map}
 use Rattle.circuit.specs.Content as own
 use Rattle.circuit.specs.Reading as reading
 use Rattle.circuit.specs.Value as value
-use Rattle.circuit_claims.specs.Calls as calls
 use Rattle.circuit_claims.specs.Evaluation as evaluation
 use Rattle.circuit_claims.specs.Runs as runs
 use Rattle.circuit_claims.specs.Progress as progress

@@ -8,12 +8,10 @@ use lib.ListN.{length, take, drop, get_or}
 use lib.Seq.{get_or-take, get_or-drop}
 use Rattle.circuit.specs.Admitted as admitted
 use Rattle.circuit.specs.Content as own
-use Rattle.circuit.specs.Reading as reading
 use Rattle.circuit.proofs.Exact.{one-writing}
 use Rattle.circuit.proofs.Folds.{below_at}
-use Rattle.number.specs.Reading.{Whole, Bytes}
-use Rattle.page.specs.Document01 as page
-use Rattle.page_claims.specs.Statements.{wrote, Below, Gives}
+use Rattle.number.specs.Reading.{Bytes}
+use Rattle.page_claims.specs.Statements.{wrote, Gives}
 use Rattle.page_two.specs.Document02 as page2
 use Rattle.page_two.proofs.Circuits.Content.{gate, circuit, length-gates, gate-at, written_is}
 use Rattle.page_two_claims.specs.Statements as says

@@ -9,6 +9,6 @@ line_spec =
     tie.close
     (tie.spec
     (λ c κs. search rules)  -- judge-requires
-    (λ c κs. search rules)  -- write-finding-requires
+    (λ c κs. search rules)  -- write_finding-requires
     (λ c. search line-returned)  -- returns
     )

@@ -9,12 +9,12 @@ pub accepted_spec : {M : Type 1} → statement M
 accepted_spec =
     tie.close
     (tie.spec
-    (λ c. search rules)  -- cast-t4
+    (λ c. search rules)  -- overflow_cast-result
     (λ c κs. search rules)  -- leaves-requires
-    (λ c κs. search rules)  -- element-width-requires
-    (λ c. search rules)  -- sub-sixteen-at
-    (λ c κs. search rules)  -- sixteen-at-requires
-    (λ c. search rules)  -- sub-sixteen-at-2
-    (λ c κs. search rules)  -- sixteen-at-requires-2
+    (λ c κs. search rules)  -- element_width-requires
+    (λ c. search rules)  -- overflow_sub-layout
+    (λ c κs. search rules)  -- sixteen_at-requires
+    (λ c. search rules)  -- overflow_sub-layout-2
+    (λ c κs. search rules)  -- sixteen_at-requires-2
     (λ c. search with_sizes)  -- returns
     )

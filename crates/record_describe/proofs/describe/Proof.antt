@@ -9,13 +9,13 @@ describe_spec =
     tie.close
     (tie.spec
     (λ c κs. search rules)  -- refusal-requires
-    (λ c. search empty_said)  -- returns
-    (λ c. search rules)  -- shared-slice-read-if2
-    (λ c κs. search rules)  -- noise-head-requires
-    (λ c. search noise-said)  -- returns-2
-    (λ c. search rules)  -- shared-slice-read-if3
-    (λ c κs. search rules)  -- scalar-head-requires
-    (λ c. search scalar-said)  -- returns-3
+    (λ c. search empty_said)  -- returns-then-source-le0
+    (λ c. search rules)  -- bounds-source-0
+    (λ c κs. search rules)  -- noise_head-requires
+    (λ c. search noise-said)  -- returns-then-source-eq1
+    (λ c. search rules)  -- bounds-source-0-2
+    (λ c κs. search rules)  -- scalar_head-requires
+    (λ c. search scalar-said)  -- returns-then-source-eq2
     (λ c κs. search rules)  -- refusal-requires-2
-    (λ c. search neither-said)  -- returns-4
+    (λ c. search neither-said)  -- returns
     )

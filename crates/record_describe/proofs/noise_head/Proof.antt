@@ -8,12 +8,12 @@ pub noise_head_spec : {M : Type 1} → statement M
 noise_head_spec =
     tie.close
     (tie.spec
-    (λ c κs. search rules)  -- read-noise-requires
-    (λ c. search rules)  -- enum-known-r
-    (λ c. search rules)  -- enum-told
-    (λ c κs. search rules)  -- record-fault-requires
+    (λ c κs. search rules)  -- read_noise-r-requires
+    (λ c. search rules)  -- enum_known-r
+    (λ c. search rules)  -- enum_told-1
+    (λ c κs. search rules)  -- record_fault-requires
     (λ c κs. search rules)  -- refusal-requires
-    (λ c. search noise-fault)  -- returns
+    (λ c. search noise-fault)  -- returns-in_default
     (λ c κs. (search noise-depth, search noise-field, search noise-key, search noise-room))  -- accepted-requires
-    (λ c. search noise-accepted)  -- returns-2
+    (λ c. search noise-accepted)  -- returns
     )

@@ -8,12 +8,12 @@ pub scalar_head_spec : {M : Type 1} → statement M
 scalar_head_spec =
     tie.close
     (tie.spec
-    (λ c κs. search rules)  -- read-scalar-requires
-    (λ c. search rules)  -- enum-known-r
-    (λ c. search rules)  -- enum-told
-    (λ c κs. search rules)  -- record-fault-requires
+    (λ c κs. search rules)  -- read_scalar-r-requires
+    (λ c. search rules)  -- enum_known-r
+    (λ c. search rules)  -- enum_told-1
+    (λ c κs. search rules)  -- record_fault-requires
     (λ c κs. search rules)  -- refusal-requires
-    (λ c. search scalar-fault)  -- returns
+    (λ c. search scalar-fault)  -- returns-in_default
     (λ c κs. (search scalar-depth, search scalar-field, search scalar-key, search scalar-room))  -- accepted-requires
-    (λ c. search scalar-accepted)  -- returns-2
+    (λ c. search scalar-accepted)  -- returns
     )

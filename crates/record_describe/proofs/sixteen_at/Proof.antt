@@ -8,24 +8,24 @@ use Rattle.record_describe.proofs.Blocks.{copied, copied_none, copied_more, copi
 use Rattle.record_describe.proofs.sixteen_at.Statement.{statement}
 use Rattle.record_describe.proofs.sixteen_at.Tie as tie
 
-abbrev invariant-loop : tie.invariant-loop
-invariant-loop source at block₀ i₀ block i = (i ≤ 16) × (block ≡ copied source at i)
+abbrev invariant-loop-i : tie.invariant-loop-i
+invariant-loop-i source at block₀ i₀ block i = (i ≤ 16) × (block ≡ copied source at i)
 
-abbrev decreases-loop : tie.decreases-loop
-decreases-loop source at block₀ i₀ block i = 16 - i
+abbrev decreases-loop-i : tie.decreases-loop-i
+decreases-loop-i source at block₀ i₀ block i = 16 - i
 
 pub sixteen_at_spec : {M : Type 1} → statement M
 sixteen_at_spec =
     tie.close
     (tie.spec
-    invariant-loop
-    decreases-loop
-    (λ c. (omega arith, search copied_none))  -- loop-holds
-    (λ c. search rules)  -- add-block
-    (λ c. search rules)  -- shared-slice-read-block
-    (λ c. search rules)  -- array-write-block
-    (λ c. search rules)  -- add-i
-    (λ c. search rules)  -- loop-less
-    (λ c. (omega arith, search copied_more))  -- loop-again
+    invariant-loop-i
+    decreases-loop-i
+    (λ c. (omega arith, search copied_none))  -- loop-i-init
+    (λ c. search rules)  -- overflow_add-block
+    (λ c. search rules)  -- bounds-source-at
+    (λ c. search rules)  -- bounds-block-i
+    (λ c. search rules)  -- overflow_add-i
+    (λ c. search rules)  -- loop-i-smaller
+    (λ c. (omega arith, search copied_more))  -- loop-i-preserved
     (λ c. search copied_all)  -- returns
     )

@@ -9,12 +9,12 @@ pub accepted_draw_spec : {M : Type 1} → statement M
 accepted_draw_spec =
     tie.close
     (tie.spec
-    (λ c. search taken_offset)  -- mul-first
-    (λ c. search taken-below)  -- element-copy-out-first
-    (λ c. search (taken-count, rules))  -- cast-after
-    (λ c. search (taken-fits, rules))  -- add-after
-    (λ c. search taken_offset)  -- mul-after
-    (λ c. search taken-below)  -- element-write-after
-    (λ c. search rules)  -- cast-t7
+    (λ c. search taken_offset)  -- offset_bounds-stock-caller
+    (λ c. search taken-below)  -- bounds-stock-caller
+    (λ c. search (taken-count, rules))  -- overflow_cast-after
+    (λ c. search (taken-fits, rules))  -- overflow_add-after
+    (λ c. search taken_offset)  -- offset_bounds-after-caller
+    (λ c. search taken-below)  -- bounds-after-caller
+    (λ c. search rules)  -- overflow_cast-result
     (λ c. search taken_is)  -- returns
     )

@@ -12,16 +12,16 @@ unfolding draw
 draw_spec =
     tie.close
     (tie.spec
-    (λ c κs. search rules)  -- is-same-requires
-    (λ c κs. search rules)  -- refused-draw-requires
-    (λ c. search (refused-with, chain) depth 9)  -- returns
-    (λ c κs. search rules)  -- is-caller-requires
-    (λ c κs. search rules)  -- refused-draw-requires-2
-    (λ c. search (refused-with, chain) depth 9)  -- returns-2
+    (λ c κs. search rules)  -- is_same-requires
+    (λ c κs. search rules)  -- refused_draw-requires
+    (λ c. search (refused-with, chain) depth 9)  -- returns-then-not-is_same
+    (λ c κs. search rules)  -- is_caller-requires
+    (λ c κs. search rules)  -- refused_draw-requires-then-not-is_caller
+    (λ c. search (refused-with, chain) depth 9)  -- returns-then-not-is_caller
     (λ c κs. search rules)  -- holding-requires
-    (λ c. search rules)  -- cast-if3
-    (λ c κs. search rules)  -- refused-draw-requires-3
-    (λ c. search (refused-with, chain, above-given) depth 9)  -- returns-3
-    (λ c κs. (is-caller _ _ _ c.before.before.before.is-caller.ensures c.before.before.if2.false, search rules))  -- accepted-draw-requires
-    (λ c. search (accepted_now, chain, at_most-given) depth 9)  -- returns-4
+    (λ c. search rules)  -- overflow_cast-holding
+    (λ c κs. search rules)  -- refused_draw-requires-then-count-holding
+    (λ c. search (refused-with, chain, above-given) depth 9)  -- returns-then-count-holding
+    (λ c κs. (is-caller _ _ _ c.before.before.before.is_caller.ensures c.before.before.if-not-is_caller.false-raw, search rules))  -- accepted_draw-requires
+    (λ c. search (accepted_now, chain, at_most-given) depth 9)  -- returns
     )

@@ -12,17 +12,17 @@ unfolding open_stock
 open_spec =
     tie.close
     (tie.spec
-    (λ c κs. search rules)  -- is-count-requires
-    (λ c κs. search rules)  -- refused-opening-requires
-    (λ c. search (same_opening, refused-with, chain) depth 9)  -- returns
-    (λ c κs. search rules)  -- is-count-requires-2
-    (λ c κs. search rules)  -- refused-opening-requires-2
-    (λ c. search (same_opening, refused-with, chain) depth 9)  -- returns-2
-    (λ c κs. search open_most)  -- padded-requires
+    (λ c κs. search rules)  -- is_count-requires
+    (λ c κs. search rules)  -- refused_opening-requires
+    (λ c. search (same_opening, refused-with, chain) depth 9)  -- returns-then-not-is_count
+    (λ c κs. search rules)  -- is_count-requires-2
+    (λ c κs. search rules)  -- refused_opening-requires-then-not-is_count-2
+    (λ c. search (same_opening, refused-with, chain) depth 9)  -- returns-then-not-is_count-2
+    (λ c κs. search open_most)  -- padded-each-requires
     (λ c κs. search rules)  -- total-requires
-    (λ c κs. search rules)  -- refused-opening-requires-3
-    (λ c. search (same_opening, refused-with, chain, open_above) depth 9)  -- returns-3
-    (λ c. search open_fits)  -- cast-blocks-of
-    (λ c κs. search open_below)  -- blocks-of-requires
-    (λ c. search (same_opening, accepted_now, chain, open_enough, open_blocks) depth 9)  -- returns-4
+    (λ c κs. search rules)  -- refused_opening-requires-then-outputs-total
+    (λ c. search (same_opening, refused-with, chain, open_above) depth 9)  -- returns-then-outputs-total
+    (λ c. search open_fits)  -- overflow_cast-shares
+    (λ c κs. search open_below)  -- blocks_of-stock-requires
+    (λ c. search (same_opening, accepted_now, chain, open_enough, open_blocks) depth 9)  -- returns
     )

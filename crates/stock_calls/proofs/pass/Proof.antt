@@ -13,16 +13,16 @@ unfolding pass
 pass_spec =
     tie.close
     (tie.spec
-    (λ c κs. search rules)  -- is-count-requires
-    (λ c κs. search rules)  -- refused-passage-requires
-    (λ c. search (refused-with, chain) depth 9)  -- returns
-    (λ c κs. search rules)  -- is-above-requires
-    (λ c κs. search rules)  -- refused-passage-requires-2
-    (λ c. search (refused-with, chain) depth 9)  -- returns-2
-    (λ c κs. search rules)  -- rest-requires
+    (λ c κs. search rules)  -- is_count-requires
+    (λ c κs. search rules)  -- refused_passage-requires
+    (λ c. search (refused-with, chain) depth 9)  -- returns-then-not-is_count
+    (λ c κs. search rules)  -- is_above-requires
+    (λ c κs. search rules)  -- refused_passage-requires-then-not-is_above
+    (λ c. search (refused-with, chain) depth 9)  -- returns-then-not-is_above
+    (λ c κs. search rules)  -- rest-each-requires
     (λ c κs. search rules)  -- total-requires
-    (λ c κs. search rules)  -- refused-passage-requires-3
-    (λ c. search (refused-with, chain, pass-above) depth 9)  -- returns-3
-    (λ c κs. below-most _ _ _ c.before.total.ensures c.if3.false (search most-outputs))  -- blocks-of-requires
-    (λ c. search (accepted_now, chain, pass-enough, pass-blocks) depth 9)  -- returns-4
+    (λ c κs. search rules)  -- refused_passage-requires-then-outputs-total
+    (λ c. search (refused-with, chain, pass-above) depth 9)  -- returns-then-outputs-total
+    (λ c κs. below-most _ _ _ c.before.total.ensures c.if-outputs-total.false (search most-outputs))  -- blocks_of-fresh-requires
+    (λ c. search (accepted_now, chain, pass-enough, pass-blocks) depth 9)  -- returns
     )

@@ -8,6 +8,6 @@ pub preview_spec : {M : Type 1} → statement M
 preview_spec =
     tie.close
     (tie.spec
-    (λ c κs. search rules)  -- draw-requires
+    (λ c κs. search rules)  -- draw-drawn-requires
     (λ c. search preview_is)  -- returns
     )

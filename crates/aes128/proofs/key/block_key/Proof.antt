@@ -8,17 +8,17 @@ pub block_key_spec : {M : Type 1} → statement M
 block_key_spec =
     tie.close
     (tie.spec
-    (λ c. search rules)  -- array-copy-out-half-word
-    (λ c κs. search rules)  -- half-word-requires
-    (λ c. search rules)  -- array-copy-out-half-word-2
-    (λ c κs. search rules)  -- half-word-requires-2
-    (λ c. search rules)  -- array-copy-out-half-word-3
-    (λ c κs. search rules)  -- half-word-requires-3
-    (λ c. search rules)  -- array-copy-out-half-word-4
-    (λ c κs. search rules)  -- half-word-requires-4
-    (λ c. search rules)  -- mul-t16
-    (λ c. search rules)  -- add-t17
-    (λ c. search rules)  -- mul-t18
-    (λ c. search rules)  -- add-t19
+    (λ c. search rules)  -- bounds-k-0
+    (λ c κs. search rules)  -- half_word-h0-requires
+    (λ c. search rules)  -- bounds-k-1
+    (λ c κs. search rules)  -- half_word-h1-requires
+    (λ c. search rules)  -- bounds-k-2
+    (λ c κs. search rules)  -- half_word-h2-requires
+    (λ c. search rules)  -- bounds-k-3
+    (λ c κs. search rules)  -- half_word-h3-requires
+    (λ c. search rules)  -- overflow_mul-result
+    (λ c. search rules)  -- overflow_add-result
+    (λ c. search rules)  -- overflow_mul-result-2
+    (λ c. search rules)  -- overflow_add-result-2
     (λ c. search block_made)  -- returns
     )

@@ -8,20 +8,20 @@ pub expand_key_spec : {M : Type 1} → statement M
 expand_key_spec =
     tie.close
     (tie.spec
-    (λ c κs. search rules)  -- next-key-requires
-    (λ c κs. search rules)  -- next-key-requires-2
-    (λ c κs. search rules)  -- next-key-requires-3
-    (λ c κs. search rules)  -- next-key-requires-4
-    (λ c κs. search rules)  -- next-key-requires-5
-    (λ c κs. search rules)  -- next-key-requires-6
-    (λ c κs. search rules)  -- next-key-requires-7
-    (λ c κs. search rules)  -- next-key-requires-8
-    (λ c κs. search rules)  -- next-key-requires-9
-    (λ c κs. search rules)  -- next-key-requires-10
+    (λ c κs. search rules)  -- next_key-k1-requires
+    (λ c κs. search rules)  -- next_key-k2-requires
+    (λ c κs. search rules)  -- next_key-k3-requires
+    (λ c κs. search rules)  -- next_key-k4-requires
+    (λ c κs. search rules)  -- next_key-k5-requires
+    (λ c κs. search rules)  -- next_key-k6-requires
+    (λ c κs. search rules)  -- next_key-k7-requires
+    (λ c κs. search rules)  -- next_key-k8-requires
+    (λ c κs. search rules)  -- next_key-k9-requires
+    (λ c κs. search rules)  -- next_key-k10-requires
     (λ c.
     let k7 = c.before.before.before in
     let k4 = k7.before.before.before in
     let k1 = k4.before.before.before in
-    let size = k1.before.well-formed in
+    let size = k1.before.well_formed in
     search expanded)  -- returns
     )

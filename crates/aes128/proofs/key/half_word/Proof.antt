@@ -8,19 +8,19 @@ pub half_word_spec : {M : Type 1} → statement M
 half_word_spec =
     tie.close
     (tie.spec
-    (λ c. search rules)  -- array-read-number
+    (λ c. search rules)  -- bounds-a-0
     (λ c κs. search rules)  -- number-requires
-    (λ c. search rules)  -- array-read-number-2
+    (λ c. search rules)  -- bounds-a-1
     (λ c κs. search rules)  -- number-requires-2
-    (λ c. search rules)  -- mul-result
-    (λ c. search rules)  -- add-result
-    (λ c. search rules)  -- array-read-number-3
+    (λ c. search rules)  -- overflow_mul-result
+    (λ c. search rules)  -- overflow_add-result
+    (λ c. search rules)  -- bounds-a-2
     (λ c κs. search rules)  -- number-requires-3
-    (λ c. search rules)  -- mul-result-2
-    (λ c. search rules)  -- add-result-2
-    (λ c. search rules)  -- array-read-number-4
+    (λ c. search rules)  -- overflow_mul-result-2
+    (λ c. search rules)  -- overflow_add-result-2
+    (λ c. search rules)  -- bounds-a-3
     (λ c κs. search rules)  -- number-requires-4
-    (λ c. search rules)  -- mul-result-3
-    (λ c. search rules)  -- add-result-3
+    (λ c. search rules)  -- overflow_mul-result-3
+    (λ c. search rules)  -- overflow_add-result-3
     (λ c. search half_made)  -- returns
     )

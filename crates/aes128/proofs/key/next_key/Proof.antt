@@ -9,23 +9,23 @@ unfolding next_key
 next_key_spec =
     tie.close
     (tie.spec
-    (λ c. search rules)  -- array-copy-out-t
-    (λ c. search rules)  -- array-read-sub
-    (λ c κs. search rules)  -- sub-requires
-    (λ c. search rules)  -- array-read-sub-2
-    (λ c κs. search rules)  -- sub-requires-2
-    (λ c. search rules)  -- array-read-sub-3
-    (λ c κs. search rules)  -- sub-requires-3
-    (λ c. search rules)  -- array-read-sub-4
-    (λ c κs. search rules)  -- sub-requires-4
-    (λ c κs. search rules)  -- xor-word-requires
-    (λ c. search rules)  -- array-copy-out-xor-word
-    (λ c κs. search rules)  -- xor-word-requires-2
-    (λ c. search rules)  -- array-copy-out-xor-word-2
-    (λ c κs. search rules)  -- xor-word-requires-3
-    (λ c. search rules)  -- array-copy-out-xor-word-3
-    (λ c κs. search rules)  -- xor-word-requires-4
-    (λ c. search rules)  -- array-copy-out-xor-word-4
-    (λ c κs. search rules)  -- xor-word-requires-5
+    (λ c. search rules)  -- bounds-k-3
+    (λ c. search rules)  -- bounds-t-1
+    (λ c κs. search rules)  -- sub-s0-requires
+    (λ c. search rules)  -- bounds-t-2
+    (λ c κs. search rules)  -- sub-s1-requires
+    (λ c. search rules)  -- bounds-t-3
+    (λ c κs. search rules)  -- sub-s2-requires
+    (λ c. search rules)  -- bounds-t-0
+    (λ c κs. search rules)  -- sub-s3-requires
+    (λ c κs. search rules)  -- xor_word-temp-requires
+    (λ c. search rules)  -- bounds-k-0
+    (λ c κs. search rules)  -- xor_word-w0-requires
+    (λ c. search rules)  -- bounds-k-1
+    (λ c κs. search rules)  -- xor_word-w1-requires
+    (λ c. search rules)  -- bounds-k-2
+    (λ c κs. search rules)  -- xor_word-w2-requires
+    (λ c. search rules)  -- bounds-k-3-2
+    (λ c κs. search rules)  -- xor_word-w3-requires
     (λ c. cc)  -- returns
     )

@@ -8,7 +8,7 @@ pub schedule_spec : {M : Type 1} → statement M
 schedule_spec =
     tie.close
     (tie.spec
-    (λ c κs. search rules)  -- expand-key-requires
-    (λ c κs. search rules)  -- words-of-requires
-    (λ c. c.words_of.ensures ∙ c.before.expand-key.ensures)  -- returns
+    (λ c κs. search rules)  -- expand_key-keys-requires
+    (λ c κs. search rules)  -- words_of-requires
+    (λ c. c.words_of.ensures ∙ c.before.expand_key-keys.ensures)  -- returns
     )

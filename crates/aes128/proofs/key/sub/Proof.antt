@@ -7,6 +7,6 @@ pub sub_spec : {M : Type 1} → statement M
 sub_spec =
     tie.close
     (tie.spec
-    (λ c. search rules)  -- element-copy-out-result
+    (λ c. search rules)  -- bounds-sbox-x
     (λ c. c.before.requires.entry _ (search rules))  -- returns
     )

@@ -9,10 +9,10 @@ pub wide_column_spec : {M : Type 1} → statement M
 wide_column_spec =
     tie.close
     (tie.spec
-    (λ c. search rules)  -- array-read-wide-of
-    (λ c. search rules)  -- array-read-wide-of-2
-    (λ c. search rules)  -- array-read-wide-of-3
-    (λ c. search rules)  -- array-read-wide-of-4
-    (λ c κs. search rules)  -- wide-of-requires
+    (λ c. search rules)  -- bounds-a-0
+    (λ c. search rules)  -- bounds-a-1
+    (λ c. search rules)  -- bounds-a-2
+    (λ c. search rules)  -- bounds-a-3
+    (λ c κs. search rules)  -- wide_of-requires
     (λ c. c.wide_of.ensures ∙ sym (is_four 0 _ (search rules)))  -- returns
     )

@@ -8,13 +8,13 @@ pub wide_key_spec : {M : Type 1} → statement M
 wide_key_spec =
     tie.close
     (tie.spec
-    (λ c. search rules)  -- array-copy-out-wide-column
-    (λ c κs. search rules)  -- wide-column-requires
-    (λ c. search rules)  -- array-copy-out-wide-column-2
-    (λ c κs. search rules)  -- wide-column-requires-2
-    (λ c. search rules)  -- array-copy-out-wide-column-3
-    (λ c κs. search rules)  -- wide-column-requires-3
-    (λ c. search rules)  -- array-copy-out-wide-column-4
-    (λ c κs. search rules)  -- wide-column-requires-4
+    (λ c. search rules)  -- bounds-k-0
+    (λ c κs. search rules)  -- wide_column-w0-requires
+    (λ c. search rules)  -- bounds-k-1
+    (λ c κs. search rules)  -- wide_column-w1-requires
+    (λ c. search rules)  -- bounds-k-2
+    (λ c κs. search rules)  -- wide_column-w2-requires
+    (λ c. search rules)  -- bounds-k-3
+    (λ c κs. search rules)  -- wide_column-w3-requires
     (λ c. search wide_key_lem)  -- returns
     )

@@ -8,11 +8,11 @@ pub wide_of_spec : {M : Type 1} → statement M
 wide_of_spec =
     tie.close
     (tie.spec
-    (λ c. search rules)  -- mul-result
-    (λ c. search rules)  -- add-result
-    (λ c. search rules)  -- mul-result-2
-    (λ c. search rules)  -- add-result-2
-    (λ c. search rules)  -- mul-result-3
-    (λ c. search rules)  -- add-result-3
+    (λ c. search rules)  -- overflow_mul-result
+    (λ c. search rules)  -- overflow_add-result
+    (λ c. search rules)  -- overflow_mul-result-2
+    (λ c. search rules)  -- overflow_add-result-2
+    (λ c. search rules)  -- overflow_mul-result-3
+    (λ c. search rules)  -- overflow_add-result-3
     (λ c. wide-made (search rules) (search rules) (search rules) (search rules))  -- returns
     )

@@ -10,13 +10,13 @@ unfolding xor_word
 xor_word_spec =
     tie.close
     (tie.spec
-    (λ c. search rules)  -- array-read-t7
-    (λ c. search rules)  -- array-read-t10
-    (λ c. search rules)  -- array-read-t14
-    (λ c. search rules)  -- array-read-t17
-    (λ c. search rules)  -- array-read-t21
-    (λ c. search rules)  -- array-read-t24
-    (λ c. search rules)  -- array-read-t28
-    (λ c. search rules)  -- array-read-t31
+    (λ c. search rules)  -- bounds-a-0
+    (λ c. search rules)  -- bounds-b-0
+    (λ c. search rules)  -- bounds-a-1
+    (λ c. search rules)  -- bounds-b-1
+    (λ c. search rules)  -- bounds-a-2
+    (λ c. search rules)  -- bounds-b-2
+    (λ c. search rules)  -- bounds-a-3
+    (λ c. search rules)  -- bounds-b-3
     (λ c. refl)  -- returns
     )

@@ -9,8 +9,8 @@ pub first_key_spec : {M : Type 1} → statement M
 first_key_spec =
     tie.close
     (tie.spec
-    (λ c. search rules)  -- element-copy-out-t6
-    (λ c. search rules)  -- element-copy-out-t10
+    (λ c. search rules)  -- bounds-keys-0
+    (λ c. search rules)  -- bounds-keys-1
     (λ c κs. search rules)  -- columns-requires
     (λ c. c.columns.ensures ∙ columns-xor _ _ _ _)  -- returns
     )

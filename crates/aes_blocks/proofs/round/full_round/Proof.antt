@@ -10,20 +10,20 @@ unfolding mix_columns shift_rows sub_bytes
 full_round_spec =
     tie.close
     (tie.spec
-    (λ c. search rules)  -- mul-mix-column
-    (λ c. search rules)  -- element-copy-out-mix-column
-    (λ c κs. search rules)  -- mix-column-requires
-    (λ c. search rules)  -- add-mix-column
-    (λ c. search rules)  -- mul-mix-column-2
-    (λ c. search rules)  -- element-copy-out-mix-column-2
-    (λ c κs. search rules)  -- mix-column-requires-2
-    (λ c. search rules)  -- add-mix-column-2
-    (λ c. search rules)  -- mul-mix-column-3
-    (λ c. search rules)  -- element-copy-out-mix-column-3
-    (λ c κs. search rules)  -- mix-column-requires-3
-    (λ c. search rules)  -- add-mix-column-3
-    (λ c. search rules)  -- mul-mix-column-4
-    (λ c. search rules)  -- element-copy-out-mix-column-4
-    (λ c κs. search rules)  -- mix-column-requires-4
+    (λ c. search rules)  -- offset_bounds-keys-at
+    (λ c. search rules)  -- bounds-keys-at
+    (λ c κs. search rules)  -- mix_column-c0-requires
+    (λ c. search rules)  -- overflow_add-at
+    (λ c. search rules)  -- offset_bounds-keys-at-2
+    (λ c. search rules)  -- bounds-keys-at-2
+    (λ c κs. search rules)  -- mix_column-c1-requires
+    (λ c. search rules)  -- overflow_add-at-2
+    (λ c. search rules)  -- offset_bounds-keys-at-3
+    (λ c. search rules)  -- bounds-keys-at-3
+    (λ c κs. search rules)  -- mix_column-c2-requires
+    (λ c. search rules)  -- overflow_add-at-3
+    (λ c. search rules)  -- offset_bounds-keys-at-4
+    (λ c. search rules)  -- bounds-keys-at-4
+    (λ c κs. search rules)  -- mix_column-c3-requires
     (λ c. record { tables = search rules; state = search with_key })  -- returns
     )

@@ -8,24 +8,24 @@ pub last_column_spec : {M : Type 1} → statement M
 last_column_spec =
     tie.close
     (tie.spec
-    (λ c. search rules)  -- mul-entry
-    (λ c. search rules)  -- index-1-entry
-    (λ c. search rules)  -- index-2-entry
+    (λ c. search rules)  -- offset_bounds-s-c
+    (λ c. search rules)  -- bounds-s-c
+    (λ c. search rules)  -- bounds-s-0
     (λ c κs. search rules)  -- entry-requires
-    (λ c. search rules)  -- add-entry
-    (λ c. search rules)  -- mul-entry-2
-    (λ c. search rules)  -- index-1-entry-2
-    (λ c. search rules)  -- index-2-entry-2
+    (λ c. search rules)  -- overflow_add-c
+    (λ c. search rules)  -- offset_bounds-s-c-2
+    (λ c. search rules)  -- bounds-s-c-2
+    (λ c. search rules)  -- bounds-s-3
     (λ c κs. search rules)  -- entry-requires-2
-    (λ c. search rules)  -- add-entry-2
-    (λ c. search rules)  -- mul-entry-3
-    (λ c. search rules)  -- index-1-entry-3
-    (λ c. search rules)  -- index-2-entry-3
+    (λ c. search rules)  -- overflow_add-c-2
+    (λ c. search rules)  -- offset_bounds-s-c-3
+    (λ c. search rules)  -- bounds-s-c-3
+    (λ c. search rules)  -- bounds-s-1
     (λ c κs. search rules)  -- entry-requires-3
-    (λ c. search rules)  -- add-entry-3
-    (λ c. search rules)  -- mul-entry-4
-    (λ c. search rules)  -- index-1-entry-4
-    (λ c. search rules)  -- index-2-entry-4
+    (λ c. search rules)  -- overflow_add-c-3
+    (λ c. search rules)  -- offset_bounds-s-c-4
+    (λ c. search rules)  -- bounds-s-c-4
+    (λ c. search rules)  -- bounds-s-2
     (λ c κs. search rules)  -- entry-requires-4
     (λ c. search last-column)  -- returns
     )

@@ -10,14 +10,14 @@ unfolding shift_rows sub_bytes
 last_round_spec =
     tie.close
     (tie.spec
-    (λ c κs. search rules)  -- last-column-requires
-    (λ c κs. search rules)  -- last-column-requires-2
-    (λ c κs. search rules)  -- last-column-requires-3
-    (λ c κs. search rules)  -- last-column-requires-4
-    (λ c. search rules)  -- element-copy-out-last-word
-    (λ c κs. search rules)  -- last-word-requires
-    (λ c. search rules)  -- element-copy-out-last-word-2
-    (λ c κs. search rules)  -- last-word-requires-2
+    (λ c κs. search rules)  -- last_column-c0-requires
+    (λ c κs. search rules)  -- last_column-c1-requires
+    (λ c κs. search rules)  -- last_column-c2-requires
+    (λ c κs. search rules)  -- last_column-c3-requires
+    (λ c. search rules)  -- bounds-keys-38
+    (λ c κs. search rules)  -- last_word-requires
+    (λ c. search rules)  -- bounds-keys-39
+    (λ c κs. search rules)  -- last_word-requires-2
     (λ c κs. search rules)  -- columns-requires
     (λ c. search last-state)  -- returns
     )

@@ -7,6 +7,6 @@ pub is_past_spec : {M : Type 1} → statement M
 is_past_spec =
     tie.close
     (tie.spec
-    (λ c. search past_by_count)  -- returns
-    (λ c. search past_by_first)  -- returns-2
+    (λ c. search past_by_count)  -- returns-then-first-end
+    (λ c. search past_by_first)  -- returns-else-first-end
     )

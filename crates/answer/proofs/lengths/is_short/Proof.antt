@@ -8,6 +8,6 @@ pub is_short_spec : {M : Type 1} → statement M
 is_short_spec =
     tie.close
     (tie.spec
-    (λ c. search rules)  -- div-result
+    (λ c. search rules)  -- nonzero_div-result
     (λ c. search short_is)  -- returns
     )

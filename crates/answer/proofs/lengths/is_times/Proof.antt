@@ -8,8 +8,8 @@ pub is_times_spec : {M : Type 1} → statement M
 is_times_spec =
     tie.close
     (tie.spec
-    (λ c. search rules)  -- rem-if1
-    (λ c. search rules)  -- div-result
-    (λ c. search times-whole)  -- returns
-    (λ c. search times-rest)  -- returns-2
+    (λ c. search rules)  -- nonzero_rem-len
+    (λ c. search rules)  -- nonzero_div-result
+    (λ c. search times-whole)  -- returns-then-len-width-eq0
+    (λ c. search times-rest)  -- returns-else-len-width-eq0
     )

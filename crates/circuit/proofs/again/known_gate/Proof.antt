@@ -8,9 +8,9 @@ pub known_gate_spec : {M : Type 1} → statement M
 known_gate_spec =
     tie.close
     (tie.spec
-    (λ c κs. search known-kind)  -- known-number-requires
-    (λ c κs. search known-first)  -- known-number-requires-2
-    (λ c. (search known-not, refl, search known-first-below, search known-none-below))  -- returns
-    (λ c κs. search known-second)  -- known-number-requires-3
-    (λ c. (search known_two, search known-kind-two, search known-first-below, search known-second-below))  -- returns-2
+    (λ c κs. search known-kind)  -- known_number-kind-requires
+    (λ c κs. search known-first)  -- known_number-first_wire-requires
+    (λ c. (search known-not, refl, search known-first-below, search known-none-below))  -- returns-then-kind-eq3
+    (λ c κs. search known-second)  -- known_number-second_wire-requires
+    (λ c. (search known_two, search known-kind-two, search known-first-below, search known-second-below))  -- returns
     )

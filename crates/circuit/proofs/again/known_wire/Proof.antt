@@ -7,6 +7,6 @@ pub known_wire_spec : {M : Type 1} → statement M
 known_wire_spec =
     tie.close
     (tie.spec
-    (λ c κs. search known-wire)  -- known-number-requires
+    (λ c κs. search known-wire)  -- known_number-requires
     (λ c. (search wire_known, search wire_known-below))  -- returns
     )

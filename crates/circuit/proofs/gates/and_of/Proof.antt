@@ -7,6 +7,6 @@ pub and_of_spec : {M : Type 1} → statement M
 and_of_spec =
     tie.close
     (tie.spec
-    (λ c. search and_yes)  -- returns
-    (λ c. search and_no)  -- returns-2
+    (λ c. search and_yes)  -- returns-then-kind-eq-GATE_AND
+    (λ c. search and_no)  -- returns-else-kind-eq-GATE_AND
     )

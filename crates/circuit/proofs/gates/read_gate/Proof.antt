@@ -8,18 +8,18 @@ pub read_gate_spec : {M : Type 1} → statement M
 read_gate_spec =
     tie.close
     (tie.spec
-    (λ c κs. search rules)  -- read-within-requires
-    (λ c. search rules)  -- enum-known-r0
-    (λ c. search rules)  -- enum-told
-    (λ c. search gate-fault_0)  -- returns
-    (λ c κs. search rules)  -- read-wire-requires
-    (λ c. search rules)  -- enum-known-r1
-    (λ c. search rules)  -- enum-told-2
-    (λ c. search gate-fault_1)  -- returns-2
-    (λ c. search gate-not)  -- returns-3
-    (λ c κs. search rules)  -- read-wire-requires-2
-    (λ c. search rules)  -- enum-known-r2
-    (λ c. search rules)  -- enum-told-3
-    (λ c. search gate-fault_2)  -- returns-4
-    (λ c. search gate-two)  -- returns-5
+    (λ c κs. search rules)  -- read_within-r0-requires
+    (λ c. search rules)  -- enum_known-r0
+    (λ c. search rules)  -- enum_told-1
+    (λ c. search gate-fault_0)  -- returns-in_default
+    (λ c κs. search rules)  -- read_wire-r1-requires
+    (λ c. search rules)  -- enum_known-r1
+    (λ c. search rules)  -- enum_told-in_default-r1
+    (λ c. search gate-fault_1)  -- returns-in_default-r1
+    (λ c. search gate-not)  -- returns-then-kind-eq-GATE_NOT
+    (λ c κs. search rules)  -- read_wire-r2-requires
+    (λ c. search rules)  -- enum_known-r2
+    (λ c. search rules)  -- enum_told-in_default-r2
+    (λ c. search gate-fault_2)  -- returns-in_default-r2
+    (λ c. search gate-two)  -- returns
     )

@@ -7,28 +7,28 @@ use borrow.Author.Rules.{rules}
 use Rattle.circuit.proofs.gates.read_gates.Statement.{statement}
 use Rattle.circuit.proofs.gates.read_gates.Tie as tie
 
-abbrev invariant-loop : tie.invariant-loop
-invariant-loop source body gates inputs at₀ ands₀ i₀ at ands i = GatesTurn source body gates inputs at ands i
+abbrev invariant-loop-i : tie.invariant-loop-i
+invariant-loop-i source body gates inputs at₀ ands₀ i₀ at ands i = GatesTurn source body gates inputs at ands i
 
-abbrev decreases-loop : tie.decreases-loop
-decreases-loop source body gates inputs at₀ ands₀ i₀ at ands i = gates - i
+abbrev decreases-loop-i : tie.decreases-loop-i
+decreases-loop-i source body gates inputs at₀ ands₀ i₀ at ands i = gates - i
 
 pub read_gates_spec : {M : Type 1} → statement M
 read_gates_spec =
     tie.close
     (tie.spec
-    invariant-loop
-    decreases-loop
-    (λ c. search gates-start)  -- loop-holds
-    (λ c. omega arith)  -- add-read-gate
-    (λ c κs. search rules)  -- read-gate-requires
-    (λ c. search rules)  -- enum-known-r
-    (λ c. search rules)  -- enum-told
-    (λ c. search gates-fault)  -- returns
-    (λ c κs. search rules)  -- and-of-requires
-    (λ c. search gates-fits)  -- add-ands
-    (λ c. omega arith)  -- add-i
-    (λ c. omega arith)  -- loop-less
-    (λ c. search gates-next)  -- loop-again
-    (λ c. search gates_done)  -- returns-2
+    invariant-loop-i
+    decreases-loop-i
+    (λ c. search gates-start)  -- loop-i-init
+    (λ c. omega arith)  -- overflow_add-inputs
+    (λ c κs. search rules)  -- read_gate-r-requires
+    (λ c. search rules)  -- enum_known-r
+    (λ c. search rules)  -- enum_told-1
+    (λ c. search gates-fault)  -- returns-in_default
+    (λ c κs. search rules)  -- and_of-ands-requires
+    (λ c. search gates-fits)  -- overflow_add-ands
+    (λ c. omega arith)  -- overflow_add-i
+    (λ c. omega arith)  -- loop-i-smaller
+    (λ c. search gates-next)  -- loop-i-preserved
+    (λ c. search gates_done)  -- returns
     )

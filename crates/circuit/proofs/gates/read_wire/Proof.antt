@@ -8,10 +8,10 @@ pub read_wire_spec : {M : Type 1} → statement M
 read_wire_spec =
     tie.close
     (tie.spec
-    (λ c κs. search rules)  -- read-number-requires
-    (λ c. search rules)  -- enum-known-r
-    (λ c. search rules)  -- enum-told
-    (λ c. search wire_fault)  -- returns
-    (λ c. search wire_above)  -- returns-2
-    (λ c. search wire_whole)  -- returns-3
+    (λ c κs. search rules)  -- read_number-r-requires
+    (λ c. search rules)  -- enum_known-r
+    (λ c. search rules)  -- enum_told-1
+    (λ c. search wire_fault)  -- returns-in_default
+    (λ c. search wire_above)  -- returns-then-limit-w
+    (λ c. search wire_whole)  -- returns
     )

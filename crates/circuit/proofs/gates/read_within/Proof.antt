@@ -8,11 +8,11 @@ pub read_within_spec : {M : Type 1} → statement M
 read_within_spec =
     tie.close
     (tie.spec
-    (λ c κs. search rules)  -- read-number-requires
-    (λ c. search rules)  -- enum-known-r
-    (λ c. search rules)  -- enum-told
-    (λ c. search within-fault)  -- returns
-    (λ c. search within_low)  -- returns-2
-    (λ c. search within-high)  -- returns-3
-    (λ c. search within-whole)  -- returns-4
+    (λ c κs. search rules)  -- read_number-r-requires
+    (λ c. search rules)  -- enum_known-r
+    (λ c. search rules)  -- enum_told-1
+    (λ c. search within-fault)  -- returns-in_default
+    (λ c. search within_low)  -- returns-then-n-least
+    (λ c. search within-high)  -- returns-then-most-n
+    (λ c. search within-whole)  -- returns
     )

@@ -8,33 +8,33 @@ pub read_circuit_spec : {M : Type 1} → statement M
 read_circuit_spec =
     tie.close
     (tie.spec
-    (λ c κs. search rules)  -- read-within-requires
-    (λ c. search rules)  -- enum-known-r0
-    (λ c. search rules)  -- enum-told
-    (λ c κs. search rules)  -- number-fault-requires
-    (λ c. search fault_0)  -- returns
-    (λ c. search inputs-most)  -- sub-read-within
-    (λ c κs. search rules)  -- read-within-requires-2
-    (λ c. search rules)  -- enum-known-r1
-    (λ c. search rules)  -- enum-told-2
-    (λ c κs. search rules)  -- number-fault-requires-2
-    (λ c. search fault_1)  -- returns-2
-    (λ c κs. search rules)  -- read-within-requires-3
-    (λ c. search rules)  -- enum-known-r2
-    (λ c. search rules)  -- enum-told-3
-    (λ c κs. search rules)  -- number-fault-requires-3
-    (λ c. search fault_2)  -- returns-3
-    (λ c κs. search wires-most)  -- read-gates-requires
-    (λ c. search rules)  -- enum-known-r3
-    (λ c. search rules)  -- enum-told-4
-    (λ c κs. search rules)  -- number-fault-requires-4
-    (λ c. search fault_3)  -- returns-4
-    (λ c. search wires_fit)  -- add-read-wires
-    (λ c κs. search rules)  -- read-wires-requires
-    (λ c. search rules)  -- enum-known-r4
-    (λ c. search rules)  -- enum-told-5
-    (λ c κs. search rules)  -- number-fault-requires-5
-    (λ c. search fault_4)  -- returns-5
-    (λ c. search after_12)  -- returns-6
-    (λ c. search opened)  -- returns-7
+    (λ c κs. search rules)  -- read_within-r0-requires
+    (λ c. search rules)  -- enum_known-r0
+    (λ c. search rules)  -- enum_told-1
+    (λ c κs. search rules)  -- number_fault-requires
+    (λ c. search fault_0)  -- returns-in_default
+    (λ c. search inputs-most)  -- overflow_sub-inputs
+    (λ c κs. search rules)  -- read_within-r1-requires
+    (λ c. search rules)  -- enum_known-r1
+    (λ c. search rules)  -- enum_told-in_default-r1
+    (λ c κs. search rules)  -- number_fault-requires-in_default-r1
+    (λ c. search fault_1)  -- returns-in_default-r1
+    (λ c κs. search rules)  -- read_within-r2-requires
+    (λ c. search rules)  -- enum_known-r2
+    (λ c. search rules)  -- enum_told-in_default-r2
+    (λ c κs. search rules)  -- number_fault-requires-in_default-r2
+    (λ c. search fault_2)  -- returns-in_default-r2
+    (λ c κs. search wires-most)  -- read_gates-r3-requires
+    (λ c. search rules)  -- enum_known-r3
+    (λ c. search rules)  -- enum_told-in_default-r3
+    (λ c κs. search rules)  -- number_fault-requires-in_default-r3
+    (λ c. search fault_3)  -- returns-in_default-r3
+    (λ c. search wires_fit)  -- overflow_add-inputs
+    (λ c κs. search rules)  -- read_wires-r4-requires
+    (λ c. search rules)  -- enum_known-r4
+    (λ c. search rules)  -- enum_told-in_default-r4
+    (λ c κs. search rules)  -- number_fault-requires-in_default-r4
+    (λ c. search fault_4)  -- returns-in_default-r4
+    (λ c. search after_12)  -- returns-then-end-source
+    (λ c. search opened)  -- returns
     )

@@ -10,9 +10,9 @@ unfolding and_byte_by
 and_byte_spec =
     tie.close
     (tie.spec
-    (λ c κs. search and-has)  -- opened-byte-requires
+    (λ c κs. search and-has)  -- opened_byte-requires
+    (λ c. search tests)  -- returns-then-bytes-eq1
+    (λ c. search tests)  -- returns-then-bytes-lt2
+    (λ c. search tests)  -- returns-then-bytes-lt2-2
     (λ c. search tests)  -- returns
-    (λ c. search tests)  -- returns-2
-    (λ c. search tests)  -- returns-3
-    (λ c. search tests)  -- returns-4
     )

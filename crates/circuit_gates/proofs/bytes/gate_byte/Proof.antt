@@ -11,9 +11,9 @@ unfolding byte_by
 gate_byte_spec =
     tie.close
     (tie.spec
+    (λ c. search tests)  -- returns-then-bytes-ge2
+    (λ c κs. search kind-has)  -- and_byte-requires
+    (λ c. search tests)  -- returns-then-kind-eq-GATE_AND
+    (λ c κs. search rules)  -- local_byte-requires
     (λ c. search tests)  -- returns
-    (λ c κs. search kind-has)  -- and-byte-requires
-    (λ c. search tests)  -- returns-2
-    (λ c κs. search rules)  -- local-byte-requires
-    (λ c. search tests)  -- returns-3
     )

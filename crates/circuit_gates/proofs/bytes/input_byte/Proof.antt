@@ -8,7 +8,7 @@ pub input_byte_spec : {M : Type 1} → statement M
 input_byte_spec =
     tie.close
     (tie.spec
-    (λ c. search rules)  -- add-result
-    (λ c. search tests)  -- returns
-    (λ c. search tests)  -- returns-2
+    (λ c. search rules)  -- overflow_add-result
+    (λ c. search tests)  -- returns-then-byte-lt2
+    (λ c. search tests)  -- returns-else-byte-lt2
     )

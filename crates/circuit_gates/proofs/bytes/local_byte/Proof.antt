@@ -11,11 +11,11 @@ unfolding local_byte_by
 local_byte_spec =
     tie.close
     (tie.spec
-    (λ c. search tests)  -- returns
+    (λ c. search tests)  -- returns-then-x-lt2
     (λ c κs. search rules)  -- flip-requires
-    (λ c. search not-fits)  -- add-result
-    (λ c. search local_not)  -- returns-2
-    (λ c. search tests)  -- returns-3
-    (λ c. search xor-fits)  -- add-result-2
-    (λ c. search tests)  -- returns-4
+    (λ c. search not-fits)  -- overflow_add-result
+    (λ c. search local_not)  -- returns-then-kind-eq-GATE_NOT
+    (λ c. search tests)  -- returns-then-y-lt2
+    (λ c. search xor-fits)  -- overflow_add-result-2
+    (λ c. search tests)  -- returns
     )

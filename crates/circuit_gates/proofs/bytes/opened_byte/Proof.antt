@@ -8,11 +8,11 @@ pub opened_byte_spec : {M : Type 1} → statement M
 opened_byte_spec =
     tie.close
     (tie.spec
-    (λ c. search rules)  -- mul-place
-    (λ c. search rules)  -- shared-slice-read-first
-    (λ c. search rules)  -- add-second
-    (λ c. search rules)  -- shared-slice-read-second
-    (λ c κs. search rules)  -- opened-share-requires
-    (λ c. search opened-fits)  -- add-result
+    (λ c. search rules)  -- overflow_mul-place
+    (λ c. search rules)  -- bounds-far_bits-place
+    (λ c. search rules)  -- overflow_add-second
+    (λ c. search rules)  -- bounds-far_bits-place-2
+    (λ c κs. search rules)  -- opened_share-requires
+    (λ c. search opened-fits)  -- overflow_add-result
     (λ c. search opened_is)  -- returns
     )

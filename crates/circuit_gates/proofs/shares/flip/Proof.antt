@@ -9,6 +9,6 @@ unfolding flipped
 flip_spec =
     tie.close
     (tie.spec
-    (λ c. search tests)  -- returns
-    (λ c. search tests)  -- returns-2
+    (λ c. search tests)  -- returns-then-role-eq-ROLE_NOISE
+    (λ c. search tests)  -- returns-else-role-eq-ROLE_NOISE
     )

@@ -8,9 +8,9 @@ pub give_and_spec : {M : Type 1} → statement M
 give_and_spec =
     tie.close
     (tie.spec
-    (λ c. search rules)  -- element-copy-out-opened-share
-    (λ c. search rules)  -- element-copy-out-opened-share-2
-    (λ c κs. search rules)  -- opened-share-requires
-    (λ c. search rules)  -- element-write-wires
+    (λ c. search rules)  -- bounds-wires-x
+    (λ c. search rules)  -- bounds-wires-y
+    (λ c κs. search rules)  -- opened_share-requires
+    (λ c. search rules)  -- bounds-wires-wire
     (λ c. search given)  -- returns
     )

@@ -7,6 +7,6 @@ pub is_role_spec : {M : Type 1} → statement M
 is_role_spec =
     tie.close
     (tie.spec
+    (λ c. search tests)  -- returns-then-role-eq-ROLE_NOISE
     (λ c. search tests)  -- returns
-    (λ c. search tests)  -- returns-2
     )

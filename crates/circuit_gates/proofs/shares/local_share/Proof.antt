@@ -8,7 +8,7 @@ pub local_share_spec : {M : Type 1} → statement M
 local_share_spec =
     tie.close
     (tie.spec
-    (λ c. search tests)  -- returns
+    (λ c. search tests)  -- returns-then-kind-eq-GATE_XOR
     (λ c κs. search rules)  -- flip-requires
-    (λ c. search tests)  -- returns-2
+    (λ c. search tests)  -- returns
     )

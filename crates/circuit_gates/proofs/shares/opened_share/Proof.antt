@@ -11,12 +11,12 @@ unfolding opened_with and_share
 opened_share_spec =
     tie.close
     (tie.spec
-    (λ c. search rules)  -- mul-at
-    (λ c. search rules)  -- shared-slice-read-first
-    (λ c. search rules)  -- add-second
-    (λ c. search rules)  -- shared-slice-read-second
-    (λ c. search rules)  -- add-third
-    (λ c. search rules)  -- shared-slice-read-third
-    (λ c. search tests)  -- returns
-    (λ c. search tests)  -- returns-2
+    (λ c. search rules)  -- overflow_mul-at
+    (λ c. search rules)  -- bounds-triples-at
+    (λ c. search rules)  -- overflow_add-b
+    (λ c. search rules)  -- bounds-triples-at-2
+    (λ c. search rules)  -- overflow_add-c
+    (λ c. search rules)  -- bounds-triples-at-3
+    (λ c. search tests)  -- returns-then-role-eq-ROLE_NOISE
+    (λ c. search tests)  -- returns-else-role-eq-ROLE_NOISE
     )

@@ -8,12 +8,12 @@ pub accepted_round_spec : {M : Type 1} → statement M
 accepted_round_spec =
     tie.close
     (tie.spec
-    (λ c κs. search rules)  -- take-inputs-requires
-    (λ c κs. (search rules, search can_pass))  -- pass-gates-requires
-    (λ c κs. search rules)  -- write-shares-requires
-    (λ c. search rules)  -- same-length
-    (λ c. search rules)  -- same-length-2
-    (λ c. search round-finishes)  -- returns
-    (λ c. search rules)  -- same-length-3
-    (λ c. search round-opens)  -- returns-2
+    (λ c κs. search rules)  -- take_inputs-requires
+    (λ c κs. (search rules, search can_pass))  -- pass_gates-bits-requires
+    (λ c κs. search rules)  -- write_shares-requires
+    (λ c. search rules)  -- shape_of-output-then-bits-eq0
+    (λ c. search rules)  -- shape_of-bits_out-then-bits-eq0
+    (λ c. search round-finishes)  -- returns-then-bits-eq0
+    (λ c. search rules)  -- shape_of-bits_out
+    (λ c. search round-opens)  -- returns
     )

@@ -7,25 +7,25 @@ use Rattle.circuit_run.proofs.Inputs.{InputTurn, bit_at, input-start, input-next
 use Rattle.circuit_round.proofs.passing.take_inputs.Statement.{statement}
 use Rattle.circuit_round.proofs.passing.take_inputs.Tie as tie
 
-abbrev invariant-loop : tie.invariant-loop
-invariant-loop shares wires₀ i₀ wires i = InputTurn shares wires₀ wires i
+abbrev invariant-loop-i : tie.invariant-loop-i
+invariant-loop-i shares wires₀ i₀ wires i = InputTurn shares wires₀ wires i
 
-abbrev decreases-loop : tie.decreases-loop
-decreases-loop shares wires₀ i₀ wires i = length shares - i
+abbrev decreases-loop-i : tie.decreases-loop-i
+decreases-loop-i shares wires₀ i₀ wires i = length shares - i
 
 pub take_inputs_spec : {M : Type 1} → statement M
 take_inputs_spec =
     tie.close
     (tie.spec
-    invariant-loop
-    decreases-loop
-    (λ c. search input-start)  -- loop-holds
-    (λ c. omega arith)  -- element-copy-out-input-byte
-    (λ c. omega arith)  -- shared-slice-read-input-byte
-    (λ c κs. search bit_at)  -- input-byte-requires
-    (λ c. omega arith)  -- element-write-wires
-    (λ c. omega arith)  -- add-i
-    (λ c. omega arith)  -- loop-less
-    (λ c. search input-next)  -- loop-again
+    invariant-loop-i
+    decreases-loop-i
+    (λ c. search input-start)  -- loop-i-init
+    (λ c. omega arith)  -- bounds-wires-i
+    (λ c. omega arith)  -- bounds-shares-i
+    (λ c κs. search bit_at)  -- input_byte-requires
+    (λ c. omega arith)  -- bounds-wires-i-in-loop-i
+    (λ c. omega arith)  -- overflow_add-i
+    (λ c. omega arith)  -- loop-i-smaller
+    (λ c. search input-next)  -- loop-i-preserved
     (λ c. search input_done)  -- returns
     )

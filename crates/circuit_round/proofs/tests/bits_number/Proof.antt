@@ -8,15 +8,15 @@ pub bits_number_spec : {M : Type 1} → statement M
 bits_number_spec =
     tie.close
     (tie.spec
-    (λ c κs. search rules)  -- any-above-requires
+    (λ c κs. search rules)  -- any_above-requires
+    (λ c. search chain depth 12 fits 4000)  -- returns-then-any_above
+    (λ c κs. search rules)  -- any_above-requires-2
+    (λ c. search chain depth 12 fits 4000)  -- returns-then-any_above-2
+    (λ c κs. search rules)  -- any_above-requires-3
+    (λ c. search chain depth 12 fits 4000)  -- returns-then-any_above-3
+    (λ c κs. search rules)  -- is_short-requires
+    (λ c. search chain depth 12 fits 4000)  -- returns-then-is_short
+    (λ c κs. search rules)  -- is_role-requires
+    (λ c. search chain depth 12 fits 4000)  -- returns-then-not-is_role
     (λ c. search chain depth 12 fits 4000)  -- returns
-    (λ c κs. search rules)  -- any-above-requires-2
-    (λ c. search chain depth 12 fits 4000)  -- returns-2
-    (λ c κs. search rules)  -- any-above-requires-3
-    (λ c. search chain depth 12 fits 4000)  -- returns-3
-    (λ c κs. search rules)  -- is-short-requires
-    (λ c. search chain depth 12 fits 4000)  -- returns-4
-    (λ c κs. search rules)  -- is-role-requires
-    (λ c. search chain depth 12 fits 4000)  -- returns-5
-    (λ c. search chain depth 12 fits 4000)  -- returns-6
     )

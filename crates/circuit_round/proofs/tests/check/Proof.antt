@@ -8,7 +8,7 @@ pub check_spec : {M : Type 1} → statement M
 check_spec =
     tie.close
     (tie.spec
-    (λ c κs. search rules)  -- waiting-gates-requires
-    (λ c κs. search rules)  -- round-number-requires
+    (λ c κs. search rules)  -- waiting_gates-waits-requires
+    (λ c κs. search rules)  -- round_number-requires
     (λ c. search checks)  -- returns
     )

@@ -8,13 +8,13 @@ pub round_number_spec : {M : Type 1} → statement M
 round_number_spec =
     tie.close
     (tie.spec
+    (λ c. search chain depth 12 fits 4000)  -- returns-then-shares-layout
+    (λ c. search chain depth 12 fits 4000)  -- returns-then-triples-ne0
+    (λ c κs. search rules)  -- is_times-requires
+    (λ c. search chain depth 12 fits 4000)  -- returns-then-not-is_times
+    (λ c. search chain depth 12 fits 4000)  -- returns-then-room-layout
+    (λ c κs. search rules)  -- is_short-requires
+    (λ c. search chain depth 12 fits 4000)  -- returns-then-is_short
+    (λ c κs. search rules)  -- bits_number-requires
     (λ c. search chain depth 12 fits 4000)  -- returns
-    (λ c. search chain depth 12 fits 4000)  -- returns-2
-    (λ c κs. search rules)  -- is-times-requires
-    (λ c. search chain depth 12 fits 4000)  -- returns-3
-    (λ c. search chain depth 12 fits 4000)  -- returns-4
-    (λ c κs. search rules)  -- is-short-requires
-    (λ c. search chain depth 12 fits 4000)  -- returns-5
-    (λ c κs. search rules)  -- bits-number-requires
-    (λ c. search chain depth 12 fits 4000)  -- returns-6
     )

@@ -7,6 +7,6 @@ pub wait_of_spec : {M : Type 1} → statement M
 wait_of_spec =
     tie.close
     (tie.spec
-    (λ c. search tests)  -- returns
-    (λ c. search tests)  -- returns-2
+    (λ c. search tests)  -- returns-then-byte-eq1
+    (λ c. search tests)  -- returns-else-byte-eq1
     )

@@ -11,15 +11,15 @@ unfolding put_bits
 put_bits_spec =
     tie.close
     (tie.spec
+    (λ c. (search tests, search tests))  -- returns-then-byte-ne1
+    (λ c. search rules)  -- overflow_mul-at
+    (λ c. search first_bit)  -- bounds-triples-at
+    (λ c. search first-room)  -- bounds-bits_out-place
+    (λ c. search rules)  -- overflow_add-bits_out
+    (λ c. search second-bit)  -- bounds-triples-at-2
+    (λ c. search rules)  -- overflow_add-bits_out-2
+    (λ c. search second-room)  -- bounds-bits_out-place-2
+    (λ c. search rules)  -- overflow_add-result
+    (λ c. search rules)  -- shape_of-bits_out
     (λ c. (search tests, search tests))  -- returns
-    (λ c. search rules)  -- mul-at
-    (λ c. search first_bit)  -- shared-slice-read-bits-out
-    (λ c. search first-room)  -- slice-write-bits-out
-    (λ c. search rules)  -- add-bits-out
-    (λ c. search second-bit)  -- shared-slice-read-bits-out-2
-    (λ c. search rules)  -- add-bits-out-2
-    (λ c. search second-room)  -- slice-write-bits-out-2
-    (λ c. search rules)  -- add-result
-    (λ c. search rules)  -- same-length
-    (λ c. (search tests, search tests))  -- returns-2
     )

@@ -8,26 +8,26 @@ use Rattle.circuit_run.specs.Round.{shares_in}
 use Rattle.circuit_round.proofs.writing.write_shares.Statement.{statement}
 use Rattle.circuit_round.proofs.writing.write_shares.Tie as tie
 
-abbrev invariant-loop : tie.invariant-loop
-invariant-loop source wires output₀ outputs limit at₀ i₀ output at i = OutputTurn source (shares_in wires) output₀ outputs limit output at i
+abbrev invariant-loop-i : tie.invariant-loop-i
+invariant-loop-i source wires output₀ outputs limit at₀ i₀ output at i = OutputTurn source (shares_in wires) output₀ outputs limit output at i
 
-abbrev decreases-loop : tie.decreases-loop
-decreases-loop source wires output₀ outputs limit at₀ i₀ output at i = outputs - i
+abbrev decreases-loop-i : tie.decreases-loop-i
+decreases-loop-i source wires output₀ outputs limit at₀ i₀ output at i = outputs - i
 
 pub write_shares_spec : {M : Type 1} → statement M
 write_shares_spec =
     tie.close
     (tie.spec
-    invariant-loop
-    decreases-loop
-    (λ c. search limit_fits)  -- add-limit
-    (λ c. search output-start)  -- loop-holds
-    (λ c κs. search output-known)  -- known-wire-requires
-    (λ c. search output_wire)  -- element-copy-out-output
-    (λ c. search output-room)  -- slice-write-output
-    (λ c. omega arith)  -- add-i
-    (λ c. omega arith)  -- loop-less
-    (λ c. search shares-next)  -- loop-again
-    (λ c. search output-length)  -- same-length
+    invariant-loop-i
+    decreases-loop-i
+    (λ c. search limit_fits)  -- overflow_add-limit
+    (λ c. search output-start)  -- loop-i-init
+    (λ c κs. search output-known)  -- known_wire-w-requires
+    (λ c. search output_wire)  -- bounds-wires-wire
+    (λ c. search output-room)  -- bounds-output-i
+    (λ c. omega arith)  -- overflow_add-i
+    (λ c. omega arith)  -- loop-i-smaller
+    (λ c. search shares-next)  -- loop-i-preserved
+    (λ c. search output-length)  -- shape_of-output
     (λ c. search output_done)  -- returns
     )

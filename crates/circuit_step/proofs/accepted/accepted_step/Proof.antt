@@ -9,18 +9,18 @@ accepted_step_spec =
     tie.close
     (tie.spec
     (λ c κs. search rules)  -- finish-requires
-    (λ c. search rules)  -- same-length
-    (λ c. search step-again)  -- returns
-    (λ c κs. search rules)  -- proceed-requires
-    (λ c. search rules)  -- cast-gate
-    (λ c. search triple-fits)  -- mul-at
-    (λ c. search rules)  -- array-read-t22
-    (λ c. search first_below)  -- shared-slice-read-t24
-    (λ c. search rules)  -- array-read-t28
-    (λ c. search second_fits)  -- add-t29
-    (λ c. search second_below)  -- shared-slice-read-t31
-    (λ c. search step_waits)  -- returns-2
+    (λ c. search rules)  -- shape_of-output-then-state-eq-RUN_FINISHED
+    (λ c. search step-again)  -- returns-then-state-eq-RUN_FINISHED
+    (λ c κs. search rules)  -- proceed-reached-requires
+    (λ c. search rules)  -- overflow_cast-gate
+    (λ c. search triple-fits)  -- overflow_mul-at
+    (λ c. search rules)  -- bounds-wires-first_wire
+    (λ c. search first_below)  -- bounds-triples-at
+    (λ c. search rules)  -- bounds-wires-second_wire
+    (λ c. search second_fits)  -- overflow_add-result
+    (λ c. search second_below)  -- bounds-triples-at-then-reached
+    (λ c. search step_waits)  -- returns-then-reached
     (λ c κs. search rules)  -- finish-requires-2
-    (λ c. search rules)  -- same-length-2
-    (λ c. search step-finishes)  -- returns-3
+    (λ c. search rules)  -- shape_of-output
+    (λ c. search step-finishes)  -- returns
     )

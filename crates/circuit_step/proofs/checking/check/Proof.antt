@@ -8,7 +8,7 @@ pub check_spec : {M : Type 1} → statement M
 check_spec =
     tie.close
     (tie.spec
-    (λ c κs. search rules)  -- spot-of-requires
-    (λ c κs. search rules)  -- step-number-requires
+    (λ c κs. search rules)  -- spot_of-spot-requires
+    (λ c κs. search rules)  -- step_number-number-requires
     (λ c. search checks)  -- returns
     )

@@ -9,23 +9,23 @@ use borrow.Author.Rules.{rules}
 use Rattle.circuit_step.proofs.running.fresh_wires.Statement.{statement}
 use Rattle.circuit_step.proofs.running.fresh_wires.Tie as tie
 
-abbrev invariant-loop : tie.invariant-loop
-invariant-loop shares wires₀ i₀ wires i = (i ≤ length shares) × (wires ≡ filled shares i)
+abbrev invariant-loop-i : tie.invariant-loop-i
+invariant-loop-i shares wires₀ i₀ wires i = (i ≤ length shares) × (wires ≡ filled shares i)
 
-abbrev decreases-loop : tie.decreases-loop
-decreases-loop shares wires₀ i₀ wires i = length shares - i
+abbrev decreases-loop-i : tie.decreases-loop-i
+decreases-loop-i shares wires₀ i₀ wires i = length shares - i
 
 pub fresh_wires_spec : {M : Type 1} → statement M
 fresh_wires_spec =
     tie.close
     (tie.spec
-    invariant-loop
-    decreases-loop
-    (λ c. (omega arith, search filled_none))  -- loop-holds
-    (λ c. search rules)  -- shared-slice-read-wires
-    (λ c. search rules)  -- array-write-wires
-    (λ c. search rules)  -- add-i
-    (λ c. search rules)  -- loop-less
-    (λ c. (omega arith, search filled_more))  -- loop-again
+    invariant-loop-i
+    decreases-loop-i
+    (λ c. (omega arith, search filled_none))  -- loop-i-init
+    (λ c. search rules)  -- bounds-shares-i
+    (λ c. search rules)  -- bounds-wires-i
+    (λ c. search rules)  -- overflow_add-i
+    (λ c. search rules)  -- loop-i-smaller
+    (λ c. (omega arith, search filled_more))  -- loop-i-preserved
     (λ c. search filled-all)  -- returns
     )

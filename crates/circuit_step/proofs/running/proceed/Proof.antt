@@ -9,13 +9,13 @@ pub proceed_spec : {M : Type 1} → statement M
 proceed_spec =
     tie.close
     (tie.spec
-    (λ c. search and_wire)  -- add-give-and
-    (λ c κs. (search and_first, search and_second, search and-triple, search and-room))  -- give-and-requires
-    (λ c. search gate-after)  -- add-t13
-    (λ c. search ands-after)  -- add-t15
-    (λ c κs. (search rules, search and-after))  -- run-on-requires
-    (λ c. search and_returns)  -- returns
-    (λ c κs. search rules)  -- fresh-wires-requires
-    (λ c κs. (search rules, search fresh_start))  -- run-on-requires-2
-    (λ c. search fresh_returns)  -- returns-2
+    (λ c. search and_wire)  -- overflow_add-layout
+    (λ c κs. (search and_first, search and_second, search and-triple, search and-room))  -- give_and-requires
+    (λ c. search gate-after)  -- overflow_add-after
+    (λ c. search ands-after)  -- overflow_add-after-then-asked
+    (λ c κs. (search rules, search and-after))  -- run_on-requires
+    (λ c. search and_returns)  -- returns-then-asked
+    (λ c κs. search rules)  -- fresh_wires-fresh-requires
+    (λ c κs. (search rules, search fresh_start))  -- run_on-requires-2
+    (λ c. search fresh_returns)  -- returns
     )

@@ -7,28 +7,28 @@ use borrow.Author.Rules.{rules}
 use Rattle.circuit_step.proofs.running.run_on.Statement.{statement}
 use Rattle.circuit_step.proofs.running.run_on.Tie as tie
 
-abbrev invariant-loop : tie.invariant-loop
-invariant-loop source role wires₀ inputs gates ands at₀ i₀ wires at i = RunTurn source inputs role ands i₀ wires₀ at i wires
+abbrev invariant-loop-i : tie.invariant-loop-i
+invariant-loop-i source role wires₀ inputs gates ands at₀ i₀ wires at i = RunTurn source inputs role ands i₀ wires₀ at i wires
 
-abbrev decreases-loop : tie.decreases-loop
-decreases-loop source role wires₀ inputs gates ands at₀ i₀ wires at i = gates - i
+abbrev decreases-loop-i : tie.decreases-loop-i
+decreases-loop-i source role wires₀ inputs gates ands at₀ i₀ wires at i = gates - i
 
 pub run_on_spec : {M : Type 1} → statement M
 run_on_spec =
     tie.close
     (tie.spec
-    invariant-loop
-    decreases-loop
-    (λ c. search run-start)  -- loop-holds
-    (λ c. search wire_fits)  -- add-wire
-    (λ c κs. search run-known)  -- known-gate-requires
-    (λ c. search run-waits)  -- returns
-    (λ c. search room-below)  -- element-copy-out-local-share
-    (λ c. search room-below)  -- element-copy-out-local-share-2
-    (λ c κs. search rules)  -- local-share-requires
-    (λ c. search wire_room)  -- element-write-wires
-    (λ c. omega arith)  -- add-i
-    (λ c. omega arith)  -- loop-less
-    (λ c. search run-next)  -- loop-again
-    (λ c. search run_ends)  -- returns-2
+    invariant-loop-i
+    decreases-loop-i
+    (λ c. search run-start)  -- loop-i-init
+    (λ c. search wire_fits)  -- overflow_add-wire
+    (λ c κs. search run-known)  -- known_gate-g-requires
+    (λ c. search run-waits)  -- returns-then-g-eq-GATE_AND
+    (λ c. search room-below)  -- bounds-wires-first_wire
+    (λ c. search room-below)  -- bounds-wires-second_wire
+    (λ c κs. search rules)  -- local_share-requires
+    (λ c. search wire_room)  -- bounds-wires-wire
+    (λ c. omega arith)  -- overflow_add-i
+    (λ c. omega arith)  -- loop-i-smaller
+    (λ c. search run-next)  -- loop-i-preserved
+    (λ c. search run_ends)  -- returns
     )

@@ -7,7 +7,7 @@ pub are_far_bits_spec : {M : Type 1} → statement M
 are_far_bits_spec =
     tie.close
     (tie.spec
-    (λ c. search far_unread)  -- returns
-    (λ c. search far-first)  -- returns-2
-    (λ c. search far-second)  -- returns-3
+    (λ c. search far_unread)  -- returns-then-not-waits
+    (λ c. search far-first)  -- returns-then-far_first-gt1
+    (λ c. search far-second)  -- returns
     )

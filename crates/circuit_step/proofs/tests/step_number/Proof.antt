@@ -8,19 +8,19 @@ pub step_number_spec : {M : Type 1} → statement M
 step_number_spec =
     tie.close
     (tie.spec
+    (λ c. search chain depth 12 fits 4000)  -- returns-then-shares-layout
+    (λ c. search chain depth 12 fits 4000)  -- returns-then-triples-ne0
+    (λ c. search chain depth 12 fits 4000)  -- returns-then-room-layout
+    (λ c κs. search rules)  -- any_above-requires
+    (λ c. search chain depth 12 fits 4000)  -- returns-then-any_above
+    (λ c κs. search rules)  -- any_above-requires-2
+    (λ c. search chain depth 12 fits 4000)  -- returns-then-any_above-2
+    (λ c κs. search rules)  -- are_far_bits-requires
+    (λ c. search chain depth 12 fits 4000)  -- returns-then-not-are_far_bits
+    (λ c κs. search rules)  -- is_short-requires
+    (λ c. search chain depth 12 fits 4000)  -- returns-then-is_short
+    (λ c. search chain depth 12 fits 4000)  -- returns-then-not-admitted
+    (λ c κs. search rules)  -- is_role-requires
+    (λ c. search chain depth 12 fits 4000)  -- returns-then-not-is_role
     (λ c. search chain depth 12 fits 4000)  -- returns
-    (λ c. search chain depth 12 fits 4000)  -- returns-2
-    (λ c. search chain depth 12 fits 4000)  -- returns-3
-    (λ c κs. search rules)  -- any-above-requires
-    (λ c. search chain depth 12 fits 4000)  -- returns-4
-    (λ c κs. search rules)  -- any-above-requires-2
-    (λ c. search chain depth 12 fits 4000)  -- returns-5
-    (λ c κs. search rules)  -- are-far-bits-requires
-    (λ c. search chain depth 12 fits 4000)  -- returns-6
-    (λ c κs. search rules)  -- is-short-requires
-    (λ c. search chain depth 12 fits 4000)  -- returns-7
-    (λ c. search chain depth 12 fits 4000)  -- returns-8
-    (λ c κs. search rules)  -- is-role-requires
-    (λ c. search chain depth 12 fits 4000)  -- returns-9
-    (λ c. search chain depth 12 fits 4000)  -- returns-10
     )

@@ -8,12 +8,12 @@ pub spot_of_spec : {M : Type 1} → statement M
 spot_of_spec =
     tie.close
     (tie.spec
-    (λ c κs. search rules)  -- no-spot-requires
-    (λ c. search spot_other)  -- returns
-    (λ c κs. search rules)  -- no-spot-requires-2
-    (λ c. search spot_none)  -- returns-2
-    (λ c κs. search rules)  -- place-of-requires
-    (λ c. search rules)  -- add-known-gate
-    (λ c κs. search spot_known)  -- known-gate-requires
-    (λ c. search spot_and)  -- returns-3
+    (λ c κs. search rules)  -- no_spot-requires
+    (λ c. search spot_other)  -- returns-then-phase-ne-RUN_WAITS
+    (λ c κs. search rules)  -- no_spot-requires-then-layout-gate
+    (λ c. search spot_none)  -- returns-then-layout-gate
+    (λ c κs. search rules)  -- place_of-place-requires
+    (λ c. search rules)  -- overflow_add-layout
+    (λ c κs. search spot_known)  -- known_gate-g-requires
+    (λ c. search spot_and)  -- returns
     )

@@ -7,8 +7,8 @@ pub place_of_spec : {M : Type 1} → statement M
 place_of_spec =
     tie.close
     (tie.spec
-    (λ c. search strip-fits)  -- mul-t6
-    (λ c. search some-place)  -- rem-t4
-    (λ c. search place-fits)  -- add-result
+    (λ c. search strip-fits)  -- overflow_mul-result
+    (λ c. search some-place)  -- nonzero_rem-result
+    (λ c. search place-fits)  -- overflow_add-result
     (λ c. (search place-named, search place-below))  -- returns
     )

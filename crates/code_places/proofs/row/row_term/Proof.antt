@@ -8,7 +8,7 @@ pub row_term_spec : {M : Type 1} → statement M
 row_term_spec =
     tie.close
     (tie.spec
-    (λ c κs. search rules)  -- encrypt-requires
-    (λ c κs. search rules)  -- place-of-requires
+    (λ c κs. search rules)  -- encrypt-block-requires
+    (λ c κs. search rules)  -- place_of-requires
     (λ c. (search place_is, search rules, search word_is))  -- returns
     )

@@ -13,39 +13,39 @@ use Rattle.code.specs.Inner.Used.{word_below}
 use Rattle.code_places.proofs.used.all_below.Statement.{statement}
 use Rattle.code_places.proofs.used.all_below.Tie as tie
 
-abbrev invariant-loop : tie.invariant-loop
-invariant-loop words bound i₀ i = (i ≤ length words) × (every i (word_below bound words) ≡ true)
+abbrev invariant-loop-i : tie.invariant-loop-i
+invariant-loop-i words bound i₀ i = (i ≤ length words) × (every i (word_below bound words) ≡ true)
 
-abbrev decreases-loop : tie.decreases-loop
-decreases-loop words bound i₀ i = length words - i
+abbrev decreases-loop-i : tie.decreases-loop-i
+decreases-loop-i words bound i₀ i = length words - i
 
-abbrev invariant-loop2 : tie.invariant-loop2
-invariant-loop2 words bound i₀ i = (i ≤ length words) × (every i (word_below bound words) ≡ true)
+abbrev invariant-loop-i-2 : tie.invariant-loop-i-2
+invariant-loop-i-2 words bound i₀ i = (i ≤ length words) × (every i (word_below bound words) ≡ true)
 
-abbrev decreases-loop2 : tie.decreases-loop2
-decreases-loop2 words bound i₀ i = length words - i
+abbrev decreases-loop-i-2 : tie.decreases-loop-i-2
+decreases-loop-i-2 words bound i₀ i = length words - i
 
 pub all_below_spec : {M : Type 1} → statement M
 all_below_spec =
     tie.close
     (tie.spec
-    invariant-loop
-    decreases-loop
-    invariant-loop2
-    decreases-loop2
-    (λ c. search (rules, every-none))  -- loop-holds
-    (λ c. search rules)  -- add-loop
-    (λ c κs. search rules)  -- four-below-requires
-    (λ c. four_stop _ _ _ c.before.four_below.ensures (search not-true) (search rules))  -- returns
-    (λ c. search rules)  -- add-i
-    (λ c. search rules)  -- loop-less
-    (λ c. (search rules, four_more _ _ _ c.before.four_below.ensures (search not-false) (search rules)))  -- loop-again
-    (λ c. search rules)  -- loop2-holds
-    (λ c. search rules)  -- mul-if2
-    (λ c. search rules)  -- shared-slice-read-if2
-    (λ c. search all_stop)  -- returns-2
-    (λ c. search rules)  -- add-i-2
-    (λ c. search rules)  -- loop2-less
-    (λ c. search (rules, all_more))  -- loop2-again
-    (λ c. search all_done)  -- returns-3
+    invariant-loop-i
+    decreases-loop-i
+    invariant-loop-i-2
+    decreases-loop-i-2
+    (λ c. search (rules, every-none))  -- loop-i-init
+    (λ c. search rules)  -- overflow_add-i
+    (λ c κs. search rules)  -- four_below-four-requires
+    (λ c. four_stop _ _ _ c.before.four_below-four.ensures (search not-true) (search rules))  -- returns-then-not-four
+    (λ c. search rules)  -- overflow_add-i-in-loop-i
+    (λ c. search rules)  -- loop-i-smaller
+    (λ c. (search rules, four_more _ _ _ c.before.four_below-four.ensures (search not-false) (search rules)))  -- loop-i-preserved
+    (λ c. search rules)  -- loop-i-2-init
+    (λ c. search rules)  -- offset_bounds-words-i
+    (λ c. search rules)  -- bounds-words-i
+    (λ c. search all_stop)  -- returns-then-bound-words
+    (λ c. search rules)  -- overflow_add-i-in-loop-i-2
+    (λ c. search rules)  -- loop-i-2-smaller
+    (λ c. search (rules, all_more))  -- loop-i-2-preserved
+    (λ c. search all_done)  -- returns
     )

@@ -8,20 +8,20 @@ pub four_below_spec : {M : Type 1} → statement M
 four_below_spec =
     tie.close
     (tie.spec
-    (λ c. search rules)  -- mul-still-below
-    (λ c. search rules)  -- shared-slice-read-still-below
-    (λ c κs. search rules)  -- still-below-requires
-    (λ c. search rules)  -- add-still-below
-    (λ c. search rules)  -- mul-still-below-2
-    (λ c. search rules)  -- shared-slice-read-still-below-2
-    (λ c κs. search rules)  -- still-below-requires-2
-    (λ c. search rules)  -- add-still-below-2
-    (λ c. search rules)  -- mul-still-below-3
-    (λ c. search rules)  -- shared-slice-read-still-below-3
-    (λ c κs. search rules)  -- still-below-requires-3
-    (λ c. search rules)  -- add-still-below-3
-    (λ c. search rules)  -- mul-still-below-4
-    (λ c. search rules)  -- shared-slice-read-still-below-4
-    (λ c κs. search rules)  -- still-below-requires-4
+    (λ c. search rules)  -- offset_bounds-words-i
+    (λ c. search rules)  -- bounds-words-i
+    (λ c κs. search rules)  -- still_below-one-requires
+    (λ c. search rules)  -- overflow_add-i
+    (λ c. search rules)  -- offset_bounds-words-i-2
+    (λ c. search rules)  -- bounds-words-i-2
+    (λ c κs. search rules)  -- still_below-two-requires
+    (λ c. search rules)  -- overflow_add-i-2
+    (λ c. search rules)  -- offset_bounds-words-i-3
+    (λ c. search rules)  -- bounds-words-i-3
+    (λ c κs. search rules)  -- still_below-three-requires
+    (λ c. search rules)  -- overflow_add-i-3
+    (λ c. search rules)  -- offset_bounds-words-i-4
+    (λ c. search rules)  -- bounds-words-i-4
+    (λ c κs. search rules)  -- still_below-requires
     (λ c. search four_is)  -- returns
     )

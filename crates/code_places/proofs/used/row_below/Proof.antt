@@ -10,25 +10,25 @@ use Rattle.code.proofs.Tested.{terms-none, term_more, term_stop, terms_done}
 use Rattle.code_places.proofs.used.row_below.Statement.{statement}
 use Rattle.code_places.proofs.used.row_below.Tie as tie
 
-abbrev invariant-loop : tie.invariant-loop
-invariant-loop tables keys shape x words bound i₀ i = (i ≤ shape.terms) × (terms_below bound words (round_keys keys) shape x i ≡ true)
+abbrev invariant-loop-i : tie.invariant-loop-i
+invariant-loop-i tables keys shape x words bound i₀ i = (i ≤ shape.terms) × (terms_below bound words (round_keys keys) shape x i ≡ true)
 
-abbrev decreases-loop : tie.decreases-loop
-decreases-loop tables keys shape x words bound i₀ i = shape.terms - i
+abbrev decreases-loop-i : tie.decreases-loop-i
+decreases-loop-i tables keys shape x words bound i₀ i = shape.terms - i
 
 pub row_below_spec : {M : Type 1} → statement M
 row_below_spec =
     tie.close
     (tie.spec
-    invariant-loop
-    decreases-loop
-    (λ c. search (rules, terms-none))  -- loop-holds
-    (λ c κs. search rules)  -- row-place-requires
-    (λ c. search rules)  -- mul-if1
-    (λ c. search rules)  -- shared-slice-read-if1
-    (λ c. search term_stop)  -- returns
-    (λ c. search rules)  -- add-i
-    (λ c. search rules)  -- loop-less
-    (λ c. search (rules, term_more))  -- loop-again
-    (λ c. search terms_done)  -- returns-2
+    invariant-loop-i
+    decreases-loop-i
+    (λ c. search (rules, terms-none))  -- loop-i-init
+    (λ c κs. search rules)  -- row_place-j-requires
+    (λ c. search rules)  -- offset_bounds-words-j
+    (λ c. search rules)  -- bounds-words-j
+    (λ c. search term_stop)  -- returns-then-bound-words
+    (λ c. search rules)  -- overflow_add-i
+    (λ c. search rules)  -- loop-i-smaller
+    (λ c. search (rules, term_more))  -- loop-i-preserved
+    (λ c. search terms_done)  -- returns
     )

@@ -7,6 +7,6 @@ pub still_below_spec : {M : Type 1} → statement M
 still_below_spec =
     tie.close
     (tie.spec
-    (λ c. search still)  -- returns
-    (λ c. search no_more)  -- returns-2
+    (λ c. search still)  -- returns-then-word-bound
+    (λ c. search no_more)  -- returns-else-word-bound
     )

@@ -9,9 +9,9 @@ pub used_below_spec : {M : Type 1} → statement M
 used_below_spec =
     tie.close
     (tie.spec
-    (λ c. search terms_fit)  -- mul-if1
-    (λ c κs. search rules)  -- all-below-requires
-    (λ c. search all-passes)  -- returns
-    (λ c κs. search rules)  -- rows-below-requires
-    (λ c. search rules)  -- returns-2
+    (λ c. search terms_fit)  -- overflow_mul-window
+    (λ c κs. search rules)  -- all_below-all-requires
+    (λ c. search all-passes)  -- returns-then-all
+    (λ c κs. search rules)  -- rows_below-requires
+    (λ c. search rules)  -- returns
     )

@@ -9,27 +9,27 @@ use Rattle.code_sums.proofs.InPlace.{Accumulated, bits-start, bits_turn, bits-en
 use Rattle.code_sums.proofs.accumulation.accumulate_bits.Statement.{statement}
 use Rattle.code_sums.proofs.accumulation.accumulate_bits.Tie as tie
 
-abbrev invariant-loop : tie.invariant-loop
-invariant-loop v₀ total₀ i₀ v total i = (i ≤ length v) × Accumulated bit_ring.group binary.noise_values v₀ v total i
+abbrev invariant-loop-i : tie.invariant-loop-i
+invariant-loop-i v₀ total₀ i₀ v total i = (i ≤ length v) × Accumulated bit_ring.group binary.noise_values v₀ v total i
 
-abbrev decreases-loop : tie.decreases-loop
-decreases-loop v₀ total₀ i₀ v total i = length v - i
+abbrev decreases-loop-i : tie.decreases-loop-i
+decreases-loop-i v₀ total₀ i₀ v total i = length v - i
 
 pub accumulate_bits_spec : {M : Type 1} → statement M
 accumulate_bits_spec =
     tie.close
     (tie.spec
-    invariant-loop
-    decreases-loop
-    (λ c. search (rules, bits-start))  -- loop-holds
-    (λ c. search rules)  -- mul-add-bits
-    (λ c. search rules)  -- slice-read-add-bits
-    (λ c κs. search rules)  -- add-bits-requires
-    (λ c. search rules)  -- mul-v
-    (λ c. search rules)  -- slice-write-v
-    (λ c. search rules)  -- add-i
-    (λ c. simp length-set (omega arith))  -- loop-less
-    (λ c. (simp length-set (omega arith), search bits_turn))  -- loop-again
-    (λ c. search rules)  -- same-length
+    invariant-loop-i
+    decreases-loop-i
+    (λ c. search (rules, bits-start))  -- loop-i-init
+    (λ c. search rules)  -- offset_bounds-v-i
+    (λ c. search rules)  -- bounds-v-i
+    (λ c κs. search rules)  -- add_bits-total-requires
+    (λ c. search rules)  -- offset_bounds-v-i-in-loop-i
+    (λ c. search rules)  -- bounds-v-i-in-loop-i
+    (λ c. search rules)  -- overflow_add-i
+    (λ c. simp length-set (omega arith))  -- loop-i-smaller
+    (λ c. (simp length-set (omega arith), search bits_turn))  -- loop-i-preserved
+    (λ c. search rules)  -- shape_of-v
     (λ c. search bits-end)  -- returns
     )

@@ -8,10 +8,10 @@ pub accumulate_noise_spec : {M : Type 1} → statement M
 accumulate_noise_spec =
     tie.close
     (tie.spec
-    (λ c κs. search rules)  -- accumulate-bits-requires
-    (λ c κs. search rules)  -- accumulate-primes-requires
-    (λ c. search rules)  -- same-length
-    (λ c. search noise-binary)  -- returns
-    (λ c. search rules)  -- same-length-2
-    (λ c. search noise-prime)  -- returns-2
+    (λ c κs. search rules)  -- accumulate_bits-requires
+    (λ c κs. search rules)  -- accumulate_primes-requires
+    (λ c. search rules)  -- shape_of-words-then-field-eq-BINARY
+    (λ c. search noise-binary)  -- returns-then-field-eq-BINARY
+    (λ c. search rules)  -- shape_of-words-else-field-eq-BINARY
+    (λ c. search noise-prime)  -- returns-else-field-eq-BINARY
     )

@@ -9,28 +9,28 @@ use Rattle.code_sums.proofs.InPlace.{Accumulated, primes-start, primes_turn, pri
 use Rattle.code_sums.proofs.accumulation.accumulate_primes.Statement.{statement}
 use Rattle.code_sums.proofs.accumulation.accumulate_primes.Tie as tie
 
-abbrev invariant-loop : tie.invariant-loop
-invariant-loop v₀ total₀ i₀ v total i = (i ≤ length v) × Accumulated prime_ring.group primes.elements v₀ v total i
+abbrev invariant-loop-i : tie.invariant-loop-i
+invariant-loop-i v₀ total₀ i₀ v total i = (i ≤ length v) × Accumulated prime_ring.group primes.elements v₀ v total i
 
-abbrev decreases-loop : tie.decreases-loop
-decreases-loop v₀ total₀ i₀ v total i = length v - i
+abbrev decreases-loop-i : tie.decreases-loop-i
+decreases-loop-i v₀ total₀ i₀ v total i = length v - i
 
 pub accumulate_primes_spec : {M : Type 1} → statement M
 accumulate_primes_spec =
     tie.close
     (tie.spec
-    invariant-loop
-    decreases-loop
-    (λ c κs. search rules)  -- zero-requires
-    (λ c. search (rules, primes-start))  -- loop-holds
-    (λ c. search rules)  -- mul-t5
-    (λ c. search rules)  -- slice-read-t8
-    (λ c κs. search rules)  -- add-requires
-    (λ c. search rules)  -- mul-v
-    (λ c. search rules)  -- slice-write-v
-    (λ c. search rules)  -- add-i
-    (λ c. simp length-set (omega arith))  -- loop-less
-    (λ c. (simp length-set (omega arith), search primes_turn))  -- loop-again
-    (λ c. search rules)  -- same-length
+    invariant-loop-i
+    decreases-loop-i
+    (λ c κs. search rules)  -- zero-total-requires
+    (λ c. search (rules, primes-start))  -- loop-i-init
+    (λ c. search rules)  -- offset_bounds-v-i
+    (λ c. search rules)  -- bounds-v-i
+    (λ c κs. search rules)  -- add-next-requires
+    (λ c. search rules)  -- offset_bounds-v-i-in-loop-i
+    (λ c. search rules)  -- bounds-v-i-in-loop-i
+    (λ c. search rules)  -- overflow_add-i
+    (λ c. simp length-set (omega arith))  -- loop-i-smaller
+    (λ c. (simp length-set (omega arith), search primes_turn))  -- loop-i-preserved
+    (λ c. search rules)  -- shape_of-v
     (λ c. search primes-end)  -- returns
     )

@@ -9,9 +9,9 @@ pub correction_spec : {M : Type 1} → statement M
 correction_spec =
     tie.close
     (tie.spec
-    (λ c κs. search delta-room)  -- element-at-requires
-    (λ c κs. search rules)  -- leaf-element-requires
-    (λ c κs. search rules)  -- element-scaled-requires
-    (λ c κs. search rules)  -- element-difference-requires
+    (λ c κs. search delta-room)  -- element_at-scalar-requires
+    (λ c κs. search rules)  -- leaf_element-element-requires
+    (λ c κs. search rules)  -- element_scaled-multiple-requires
+    (λ c κs. search rules)  -- element_difference-requires
     (λ c. search corrected)  -- returns
     )

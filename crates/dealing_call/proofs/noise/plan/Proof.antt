@@ -8,10 +8,10 @@ pub plan_spec : {M : Type 1} → statement M
 plan_spec =
     tie.close
     (tie.spec
-    (λ c. search rules)  -- mul-wide
-    (λ c. search rules)  -- shared-slice-read-wide
+    (λ c. search rules)  -- offset_bounds-positions-i
+    (λ c. search rules)  -- bounds-positions-i
     (λ c κs. search rules)  -- wide-requires
-    (λ c. search rules)  -- mul-t11
-    (λ c. search rules)  -- shared-slice-read-t13
+    (λ c. search rules)  -- offset_bounds-values-i
+    (λ c. search rules)  -- bounds-values-i
     (λ c. search plan_is)  -- returns
     )

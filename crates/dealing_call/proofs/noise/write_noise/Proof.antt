@@ -8,8 +8,8 @@ pub write_noise_spec : {M : Type 1} → statement M
 write_noise_spec =
     tie.close
     (tie.spec
-    (λ c κs. (search rules, search noise-key, search noise-label, search noise-head))  -- write-head-requires
-    (λ c κs. search noise-trees)  -- write-trees-requires
-    (λ c. search rules)  -- same-length
+    (λ c κs. (search rules, search noise-key, search noise-label, search noise-head))  -- write_head-requires
+    (λ c κs. search noise-trees)  -- write_trees-requires
+    (λ c. search rules)  -- shape_of-out
     (λ c. search noise-wrote)  -- returns
     )

@@ -8,9 +8,9 @@ pub write_planned_spec : {M : Type 1} → statement M
 write_planned_spec =
     tie.close
     (tie.spec
-    (λ c κs. search rules)  -- correction-requires
-    (λ c. search rules)  -- sub-back
-    (λ c κs. (search rules, search planned-room))  -- write-tree-start-requires
-    (λ c. search rules)  -- same-length
+    (λ c κs. search rules)  -- correction-words-requires
+    (λ c. search rules)  -- overflow_sub-back
+    (λ c κs. (search rules, search planned-room))  -- write_tree_start-requires
+    (λ c. search rules)  -- shape_of-out
     (λ c. search planned-wrote)  -- returns
     )

@@ -8,14 +8,14 @@ pub write_tree_spec : {M : Type 1} → statement M
 write_tree_spec =
     tie.close
     (tie.spec
-    (λ c κs. search rules)  -- tree-start-length-requires
-    (λ c. search siblings_fit)  -- add-siblings
-    (λ c κs. search rules)  -- sibling-count-requires
-    (λ c. search rules)  -- mul-next
-    (λ c. search next_fits)  -- add-next
-    (λ c. search rules)  -- div-t12
-    (λ c κs. (search rules, search walk-room))  -- walk-requires
-    (λ c κs. (search rules, search rules, search rules, search tree-start-room))  -- write-planned-requires
-    (λ c. search rules)  -- same-length
+    (λ c κs. search rules)  -- tree_start_length-requires
+    (λ c. search siblings_fit)  -- overflow_add-siblings
+    (λ c κs. search rules)  -- sibling_count-requires
+    (λ c. search rules)  -- overflow_mul-next
+    (λ c. search next_fits)  -- overflow_add-next
+    (λ c. search rules)  -- nonzero_div-place
+    (λ c κs. (search rules, search walk-room))  -- walk-leaf-requires
+    (λ c κs. (search rules, search rules, search rules, search tree-start-room))  -- write_planned-requires
+    (λ c. search rules)  -- shape_of-out
     (λ c. search tree-wrote)  -- returns
     )

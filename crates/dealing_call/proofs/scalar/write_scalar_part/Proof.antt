@@ -8,8 +8,8 @@ pub write_scalar_part_spec : {M : Type 1} → statement M
 write_scalar_part_spec =
     tie.close
     (tie.spec
-    (λ c κs. search scalar-room)  -- element-at-requires
-    (λ c κs. (search rules, search rules, search rules, search rules, search scalar_fits))  -- write-scalar-requires
-    (λ c. search rules)  -- same-length
+    (λ c κs. search scalar-room)  -- element_at-scalar-requires
+    (λ c κs. (search rules, search rules, search rules, search rules, search scalar_fits))  -- write_scalar-requires
+    (λ c. search rules)  -- shape_of-out
     (λ c. search scalar-wrote)  -- returns
     )

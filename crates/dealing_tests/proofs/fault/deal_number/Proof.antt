@@ -8,12 +8,12 @@ pub deal_number_spec : {M : Type 1} → statement M
 deal_number_spec =
     tie.close
     (tie.spec
-    (λ c κs. search rules)  -- sizes-number-requires
-    (λ c. search number-sizes)  -- returns
-    (λ c κs. search rules)  -- lengths-number-requires
-    (λ c. search number-lengths)  -- returns-2
-    (λ c κs. search content-lengths)  -- content-number-requires
-    (λ c. search number-content)  -- returns-3
-    (λ c κs. search number_measured)  -- rooms-number-requires
-    (λ c. search number_rooms)  -- returns-4
+    (λ c κs. search rules)  -- sizes_number-sizes-requires
+    (λ c. search number-sizes)  -- returns-then-sizes-ne-ACCEPTED
+    (λ c κs. search rules)  -- lengths_number-lengths-requires
+    (λ c. search number-lengths)  -- returns-then-lengths-ne-ACCEPTED
+    (λ c κs. search content-lengths)  -- content_number-content-requires
+    (λ c. search number-content)  -- returns-then-content-ne-ACCEPTED
+    (λ c κs. search number_measured)  -- rooms_number-requires
+    (λ c. search number_rooms)  -- returns
     )

@@ -8,9 +8,9 @@ pub rooms_number_spec : {M : Type 1} → statement M
 rooms_number_spec =
     tie.close
     (tie.spec
-    (λ c κs. search rules)  -- noise-length-requires
-    (λ c. search (chain, given_above) depth 9)  -- returns
-    (λ c κs. search rules)  -- scalar-length-requires
-    (λ c. search (chain, given_at_most, given_above) depth 9)  -- returns-2
-    (λ c. search (chain, given_at_most) depth 9)  -- returns-3
+    (λ c κs. search rules)  -- noise_length-noise_bytes-requires
+    (λ c. search (chain, given_above) depth 9)  -- returns-then-rooms-noise_bytes
+    (λ c κs. search rules)  -- scalar_length-scalar_bytes-requires
+    (λ c. search (chain, given_at_most, given_above) depth 9)  -- returns-then-rooms-scalar_bytes
+    (λ c. search (chain, given_at_most) depth 9)  -- returns
     )

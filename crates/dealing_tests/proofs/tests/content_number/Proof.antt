@@ -9,10 +9,10 @@ content_number_spec =
     tie.close
     (tie.spec
     (λ c κs. search rules)  -- rising-requires
+    (λ c. search chain depth 9)  -- returns-then-not-rising
+    (λ c κs. search rules)  -- every_noise-requires
+    (λ c. search chain depth 9)  -- returns-then-not-every_noise
+    (λ c κs. search rules)  -- delta_admitted-requires
+    (λ c. search chain depth 9)  -- returns-then-not-delta_admitted
     (λ c. search chain depth 9)  -- returns
-    (λ c κs. search rules)  -- every-noise-requires
-    (λ c. search chain depth 9)  -- returns-2
-    (λ c κs. search rules)  -- delta-admitted-requires
-    (λ c. search chain depth 9)  -- returns-3
-    (λ c. search chain depth 9)  -- returns-4
     )

@@ -9,10 +9,10 @@ pub delta_admitted_spec : {M : Type 1} → statement M
 delta_admitted_spec =
     tie.close
     (tie.spec
-    (λ c κs. search delta-room)  -- element-at-requires
-    (λ c κs. search rules)  -- is-scalar-requires
-    (λ c. search (delta_no, not-true))  -- returns
-    (λ c κs. search rules)  -- word-at-requires
-    (λ c κs. search rules)  -- rest-zero-requires
-    (λ c. search (delta-last, not-false))  -- returns-2
+    (λ c κs. search delta-room)  -- element_at-scalar-requires
+    (λ c κs. search rules)  -- is_scalar-requires
+    (λ c. search (delta_no, not-true))  -- returns-then-not-is_scalar
+    (λ c κs. search rules)  -- word_at-requires
+    (λ c κs. search rules)  -- rest_zero-requires
+    (λ c. search (delta-last, not-false))  -- returns
     )

@@ -12,25 +12,25 @@ use Rattle.dealing.proofs.Tests.{noise-refused, noise-next, noise_done}
 use Rattle.dealing_tests.proofs.tests.every_noise.Statement.{statement}
 use Rattle.dealing_tests.proofs.tests.every_noise.Tie as tie
 
-abbrev invariant-loop : tie.invariant-loop
-invariant-loop field trees values i₀ i = (every_noise field i values ≡ true) × (i ≤ trees)
+abbrev invariant-loop-i : tie.invariant-loop-i
+invariant-loop-i field trees values i₀ i = (every_noise field i values ≡ true) × (i ≤ trees)
 
-abbrev decreases-loop : tie.decreases-loop
-decreases-loop field trees values i₀ i = trees - i
+abbrev decreases-loop-i : tie.decreases-loop-i
+decreases-loop-i field trees values i₀ i = trees - i
 
 pub every_noise_spec : {M : Type 1} → statement M
 every_noise_spec =
     tie.close
     (tie.spec
-    invariant-loop
-    decreases-loop
-    (λ c. (every-none _, omega arith))  -- loop-holds
-    (λ c. search rules)  -- mul-is-noise
-    (λ c. search rules)  -- shared-slice-read-is-noise
-    (λ c κs. search rules)  -- is-noise-requires
-    (λ c. search (noise-refused, not-true))  -- returns
-    (λ c. search rules)  -- add-i
-    (λ c. search rules)  -- loop-less
-    (λ c. (search (noise-next, not-false), omega arith))  -- loop-again
-    (λ c. search noise_done)  -- returns-2
+    invariant-loop-i
+    decreases-loop-i
+    (λ c. (every-none _, omega arith))  -- loop-i-init
+    (λ c. search rules)  -- offset_bounds-values-i
+    (λ c. search rules)  -- bounds-values-i
+    (λ c κs. search rules)  -- is_noise-requires
+    (λ c. search (noise-refused, not-true))  -- returns-then-not-is_noise
+    (λ c. search rules)  -- overflow_add-i
+    (λ c. search rules)  -- loop-i-smaller
+    (λ c. (search (noise-next, not-false), omega arith))  -- loop-i-preserved
+    (λ c. search noise_done)  -- returns
     )

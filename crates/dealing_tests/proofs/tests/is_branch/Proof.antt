@@ -9,8 +9,8 @@ pub is_branch_spec : {M : Type 1} → statement M
 is_branch_spec =
     tie.close
     (tie.spec
-    (λ c κs. search rules)  -- is-size-requires
-    (λ c. search (branch-out, not-true))  -- returns
-    (λ c. search (branch-some, not-false))  -- rem-result
-    (λ c. search (branch-last, not-false))  -- returns-2
+    (λ c κs. search rules)  -- is_size-requires
+    (λ c. search (branch-out, not-true))  -- returns-then-not-is_size
+    (λ c. search (branch-some, not-false))  -- nonzero_rem-result
+    (λ c. search (branch-last, not-false))  -- returns
     )

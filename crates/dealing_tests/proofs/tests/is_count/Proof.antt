@@ -10,6 +10,6 @@ is_count_spec =
     (tie.spec
     (λ c κs. search rules)  -- leaves-requires
     (λ c κs. search rules)  -- smaller-requires
-    (λ c κs. search rules)  -- is-size-requires
+    (λ c κs. search rules)  -- is_size-requires
     (λ c. search count_is)  -- returns
     )

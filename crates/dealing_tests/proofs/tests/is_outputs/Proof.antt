@@ -9,6 +9,6 @@ is_outputs_spec =
     tie.close
     (tie.spec
     (λ c κs. search rules)  -- leaves-requires
-    (λ c κs. search rules)  -- is-size-requires
+    (λ c κs. search rules)  -- is_size-requires
     (λ c. search outputs_is)  -- returns
     )

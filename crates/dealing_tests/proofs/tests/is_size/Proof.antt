@@ -7,6 +7,6 @@ pub is_size_spec : {M : Type 1} → statement M
 is_size_spec =
     tie.close
     (tie.spec
-    (λ c. search size_upper)  -- returns
-    (λ c. search size_lower)  -- returns-2
+    (λ c. search size_upper)  -- returns-then-size-ge1
+    (λ c. search size_lower)  -- returns-else-size-ge1
     )

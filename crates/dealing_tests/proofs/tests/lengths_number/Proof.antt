@@ -8,12 +8,12 @@ pub lengths_number_spec : {M : Type 1} → statement M
 lengths_number_spec =
     tie.close
     (tie.spec
-    (λ c κs. search rules)  -- is-times-requires
+    (λ c κs. search rules)  -- is_times-requires
+    (λ c. search chain depth 12 fits 4000)  -- returns-then-not-is_times
+    (λ c. search chain depth 12 fits 4000)  -- returns-then-positions-layout
+    (λ c. search chain depth 12 fits 4000)  -- returns-then-values-layout
+    (λ c. search chain depth 12 fits 4000)  -- returns-then-delta-ne16
+    (λ c. search chain depth 12 fits 4000)  -- returns-then-code_key-ne16
+    (λ c. search chain depth 12 fits 4000)  -- returns-then-label-ne16
     (λ c. search chain depth 12 fits 4000)  -- returns
-    (λ c. search chain depth 12 fits 4000)  -- returns-2
-    (λ c. search chain depth 12 fits 4000)  -- returns-3
-    (λ c. search chain depth 12 fits 4000)  -- returns-4
-    (λ c. search chain depth 12 fits 4000)  -- returns-5
-    (λ c. search chain depth 12 fits 4000)  -- returns-6
-    (λ c. search chain depth 12 fits 4000)  -- returns-7
     )

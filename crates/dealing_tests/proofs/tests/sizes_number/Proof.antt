@@ -9,17 +9,17 @@ pub sizes_number_spec : {M : Type 1} → statement M
 sizes_number_spec =
     tie.close
     (tie.spec
-    (λ c κs. search rules)  -- is-field-requires
+    (λ c κs. search rules)  -- is_field-requires
+    (λ c. search chain depth 12 fits 4000)  -- returns-then-not-is_field
+    (λ c κs. search rules)  -- is_size-requires
+    (λ c. search chain depth 12 fits 4000)  -- returns-then-not-is_size
+    (λ c κs. search rules)  -- is_branch-requires
+    (λ c. search chain depth 12 fits 4000)  -- returns-then-not-is_branch
+    (λ c κs. search depth-most)  -- is_count-requires
+    (λ c. search chain depth 12 fits 4000)  -- returns-then-not-is_count
+    (λ c κs. search depth-most)  -- is_count-requires-2
+    (λ c. search chain depth 12 fits 4000)  -- returns-then-not-is_count-2
+    (λ c κs. search depth-most)  -- is_outputs-requires
+    (λ c. search chain depth 12 fits 4000)  -- returns-then-not-is_outputs
     (λ c. search chain depth 12 fits 4000)  -- returns
-    (λ c κs. search rules)  -- is-size-requires
-    (λ c. search chain depth 12 fits 4000)  -- returns-2
-    (λ c κs. search rules)  -- is-branch-requires
-    (λ c. search chain depth 12 fits 4000)  -- returns-3
-    (λ c κs. search depth-most)  -- is-count-requires
-    (λ c. search chain depth 12 fits 4000)  -- returns-4
-    (λ c κs. search depth-most)  -- is-count-requires-2
-    (λ c. search chain depth 12 fits 4000)  -- returns-5
-    (λ c κs. search depth-most)  -- is-outputs-requires
-    (λ c. search chain depth 12 fits 4000)  -- returns-6
-    (λ c. search chain depth 12 fits 4000)  -- returns-7
     )

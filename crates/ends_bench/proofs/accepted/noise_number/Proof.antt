@@ -9,10 +9,10 @@ pub noise_number_spec : {M : Type 1} → statement M
 noise_number_spec =
     tie.close
     (tie.spec
-    (λ c κs. search rules)  -- is-past-requires
-    (λ c. search chain depth 9)  -- returns
-    (λ c. search chain depth 9)  -- returns-2
-    (λ c κs. search within_end)  -- words-for-requires
-    (λ c. search (chain, given_above) depth 9)  -- returns-3
-    (λ c. search (chain, given_at_most) depth 9)  -- returns-4
+    (λ c κs. search rules)  -- is_past-requires
+    (λ c. search chain depth 9)  -- returns-then-is_past
+    (λ c. search chain depth 9)  -- returns-then-u_room-window
+    (λ c κs. search within_end)  -- words_for-requires
+    (λ c. search (chain, given_above) depth 9)  -- returns-then-v_room-words_for
+    (λ c. search (chain, given_at_most) depth 9)  -- returns
     )

@@ -9,9 +9,9 @@ pub scalar_number_spec : {M : Type 1} → statement M
 scalar_number_spec =
     tie.close
     (tie.spec
-    (λ c κs. search rules)  -- is-past-requires
-    (λ c. search chain depth 9)  -- returns
-    (λ c κs. search within_end)  -- words-for-requires
-    (λ c. search (chain, given_above) depth 9)  -- returns-2
-    (λ c. search (chain, given_at_most) depth 9)  -- returns-3
+    (λ c κs. search rules)  -- is_past-requires
+    (λ c. search chain depth 9)  -- returns-then-is_past
+    (λ c κs. search within_end)  -- words_for-requires
+    (λ c. search (chain, given_above) depth 9)  -- returns-then-room-words_for
+    (λ c. search (chain, given_at_most) depth 9)  -- returns
     )

@@ -8,7 +8,7 @@ pub words_for_spec : {M : Type 1} → statement M
 words_for_spec =
     tie.close
     (tie.spec
-    (λ c κs. search rules)  -- element-width-requires
-    (λ c. search words_fit)  -- mul-result
+    (λ c κs. search rules)  -- element_width-requires
+    (λ c. search words_fit)  -- overflow_mul-result
     (λ c. search words_are)  -- returns
     )

@@ -8,13 +8,13 @@ pub write_both_spec : {M : Type 1} → statement M
 write_both_spec =
     tie.close
     (tie.spec
-    (λ c κs. search rules)  -- table-requires
-    (λ c κs. search rules)  -- fill-tables-requires
-    (λ c κs. search rules)  -- child-keys-requires
-    (λ c κs. search rules)  -- code-keys-requires
-    (λ c κs. (search rules, search few-trees))  -- tree-table-requires
-    (λ c κs. (search rules, search both-fit))  -- write-tabled-requires
-    (λ c. search rules)  -- same-length
-    (λ c. search rules)  -- same-length-2
+    (λ c κs. search rules)  -- table-sb-requires
+    (λ c κs. search rules)  -- fill_tables-requires
+    (λ c κs. search rules)  -- child_keys-keys-requires
+    (λ c κs. search rules)  -- code_keys-code-requires
+    (λ c κs. (search rules, search few-trees))  -- tree_table-table-requires
+    (λ c κs. (search rules, search both-fit))  -- write_tabled-requires
+    (λ c. search rules)  -- shape_of-u_out
+    (λ c. search rules)  -- shape_of-v_out
     (λ c. search both-filled)  -- returns
     )

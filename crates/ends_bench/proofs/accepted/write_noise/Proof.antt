@@ -6,7 +6,7 @@ use Rattle.ends_bench.proofs.Calls.{noise-within, noise-fits, noise-written}
 use Rattle.ends_bench.proofs.accepted.write_noise.Statement.{statement}
 use Rattle.ends_bench.proofs.accepted.write_noise.Tie as tie
 
-refusal : tie.Need-returns
+refusal : tie.Need-returns-then-number-ne-ACCEPTED
 unfolding noise.bench_window
 refusal c = search (answers-two, refused)
 
@@ -14,12 +14,12 @@ pub write_noise_spec : {M : Type 1} → statement M
 write_noise_spec =
     tie.close
     (tie.spec
-    (λ c κs. search rules)  -- noise-number-requires
-    (λ c κs. search rules)  -- refused-two-requires
+    (λ c κs. search rules)  -- noise_number-number-requires
+    (λ c κs. search rules)  -- refused_two-requires
     refusal
-    (λ c κs. (search rules, search noise-fits))  -- write-both-requires
-    (λ c κs. search noise-within)  -- words-for-requires
-    (λ c. search rules)  -- same-length
-    (λ c. search rules)  -- same-length-2
-    (λ c. search noise-written)  -- returns-2
+    (λ c κs. (search rules, search noise-fits))  -- write_both-requires
+    (λ c κs. search noise-within)  -- words_for-requires
+    (λ c. search rules)  -- shape_of-u_out
+    (λ c. search rules)  -- shape_of-v_out
+    (λ c. search noise-written)  -- returns
     )

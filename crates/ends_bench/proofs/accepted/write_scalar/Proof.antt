@@ -6,7 +6,7 @@ use Rattle.ends_bench.proofs.Calls.{scalar-within, scalar_fits, scalar-written}
 use Rattle.ends_bench.proofs.accepted.write_scalar.Statement.{statement}
 use Rattle.ends_bench.proofs.accepted.write_scalar.Tie as tie
 
-refusal : tie.Need-returns
+refusal : tie.Need-returns-then-number-ne-ACCEPTED
 unfolding scalar.bench_window
 refusal c = search refused
 
@@ -14,10 +14,10 @@ pub write_scalar_spec : {M : Type 1} → statement M
 write_scalar_spec =
     tie.close
     (tie.spec
-    (λ c κs. search rules)  -- scalar-number-requires
+    (λ c κs. search rules)  -- scalar_number-number-requires
     refusal
-    (λ c κs. (search rules, search scalar_fits))  -- write-w-requires
-    (λ c κs. search scalar-within)  -- words-for-requires
-    (λ c. search rules)  -- same-length
-    (λ c. search scalar-written)  -- returns-2
+    (λ c κs. (search rules, search scalar_fits))  -- write_w-requires
+    (λ c κs. search scalar-within)  -- words_for-requires
+    (λ c. search rules)  -- shape_of-w_out
+    (λ c. search scalar-written)  -- returns
     )

@@ -8,11 +8,11 @@ pub write_w_spec : {M : Type 1} → statement M
 write_w_spec =
     tie.close
     (tie.spec
-    (λ c κs. search rules)  -- table-requires
-    (λ c κs. search rules)  -- fill-tables-requires
-    (λ c κs. search rules)  -- child-keys-requires
-    (λ c κs. search rules)  -- code-keys-requires
-    (λ c κs. (search rules, (search w0_walking, search rules, search rules)))  -- write-outputs-requires
-    (λ c. search rules)  -- same-length
+    (λ c κs. search rules)  -- table-sb-requires
+    (λ c κs. search rules)  -- fill_tables-requires
+    (λ c κs. search rules)  -- child_keys-keys-requires
+    (λ c κs. search rules)  -- code_keys-code-requires
+    (λ c κs. (search rules, (search w0_walking, search rules, search rules)))  -- write_outputs-requires
+    (λ c. search rules)  -- shape_of-w_out
     (λ c. search w_filled)  -- returns
     )

@@ -10,30 +10,30 @@ use borrow.Author.Rules.{rules}
 use Rattle.ends_bench.proofs.batch.add_strip.Statement.{statement}
 use Rattle.ends_bench.proofs.batch.add_strip.Tie as tie
 
-abbrev invariant-loop : tie.invariant-loop
-invariant-loop tables keys source table rows out₀ batch size start left₀ out left =
+abbrev invariant-loop-left : tie.invariant-loop-left
+invariant-loop-left tables keys source table rows out₀ batch size start left₀ out left =
     Stripped batch.vector.number batch.vector.layout.field batch.count rows (values_of batch.vector.number source
     batch.vector.layout) out₀ start size left out
     × (start + size ≤ 2 ^ batch.vector.layout.depth) × (start + size ≤ 65536) × (length out ≡ length out₀)
 
-abbrev decreases-loop : tie.decreases-loop
-decreases-loop tables keys source table rows out₀ batch size start left₀ out left = left
+abbrev decreases-loop-left : tie.decreases-loop-left
+decreases-loop-left tables keys source table rows out₀ batch size start left₀ out left = left
 
 pub add_strip_spec : {M : Type 1} → statement M
 add_strip_spec =
     tie.close
     (tie.spec
-    invariant-loop
-    decreases-loop
-    (λ c κs. search rules)  -- strip-size-requires
-    (λ c. search strip-fits)  -- mul-start
-    (λ c. (search stripped_none, search strip-top, search strip-most, search rules))  -- loop-holds
-    (λ c. search rules)  -- sub-left
-    (λ c. search rules)  -- add-j
-    (λ c κs. (search rules, (search rules, omega arith)))  -- value-at-requires
-    (λ c κs. (search rules, search rules))  -- add-place-requires
-    (λ c. search rules)  -- loop-less
-    (λ c. (search stripped_more, search rules, search rules, search rules))  -- loop-again
-    (λ c. search rules)  -- same-length
+    invariant-loop-left
+    decreases-loop-left
+    (λ c κs. search rules)  -- strip_size-size-requires
+    (λ c. search strip-fits)  -- overflow_mul-start
+    (λ c. (search stripped_none, search strip-top, search strip-most, search rules))  -- loop-left-init
+    (λ c. search rules)  -- overflow_sub-left
+    (λ c. search rules)  -- overflow_add-j
+    (λ c κs. (search rules, (search rules, omega arith)))  -- value_at-value-requires
+    (λ c κs. (search rules, search rules))  -- add_place-requires
+    (λ c. search rules)  -- loop-left-smaller
+    (λ c. (search stripped_more, search rules, search rules, search rules))  -- loop-left-preserved
+    (λ c. search rules)  -- shape_of-out
     (λ c. search stripped_all)  -- returns
     )

@@ -9,6 +9,6 @@ strip_size_spec =
     tie.close
     (tie.spec
     (λ c κs. search rules)  -- leaves-requires
-    (λ c. search rules)  -- div-result
+    (λ c. search rules)  -- nonzero_div-result
     (λ c. search strip_is)  -- returns
     )

@@ -8,7 +8,7 @@ pub value_width_spec : {M : Type 1} → statement M
 value_width_spec =
     tie.close
     (tie.spec
-    (λ c κs. search rules)  -- element-width-requires
-    (λ c. search noise-width)  -- returns
-    (λ c. search element-width)  -- returns-2
+    (λ c κs. search rules)  -- element_width-requires
+    (λ c. search noise-width)  -- returns-then-vector-eq1
+    (λ c. search element-width)  -- returns-else-vector-eq1
     )

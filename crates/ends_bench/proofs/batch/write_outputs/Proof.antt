@@ -7,34 +7,34 @@ use borrow.Author.Rules.{rules}
 use Rattle.ends_bench.proofs.batch.write_outputs.Statement.{statement}
 use Rattle.ends_bench.proofs.batch.write_outputs.Tie as tie
 
-abbrev invariant-loop : tie.invariant-loop
-invariant-loop tables keys code source table window out₀ vector width done₀ out done = Windowed source (round_keys code) window out₀ done out
+abbrev invariant-loop-done : tie.invariant-loop-done
+invariant-loop-done tables keys code source table window out₀ vector width done₀ out done = Windowed source (round_keys code) window out₀ done out
 
-abbrev decreases-loop : tie.decreases-loop
-decreases-loop tables keys code source table window out₀ vector width done₀ out done = window.count - done
+abbrev decreases-loop-done : tie.decreases-loop-done
+decreases-loop-done tables keys code source table window out₀ vector width done₀ out done = window.count - done
 
 pub write_outputs_spec : {M : Type 1} → statement M
 write_outputs_spec =
     tie.close
     (tie.spec
-    invariant-loop
-    decreases-loop
-    (λ c κs. search rules)  -- value-width-requires
-    (λ c. search windowed_none)  -- loop-holds
-    (λ c. search rules)  -- sub-left
-    (λ c κs. search rules)  -- batch-count-requires
-    (λ c. search rules)  -- add-to
-    (λ c. search from-fits)  -- mul-from
-    (λ c. search part-fits)  -- mul-to
-    (λ c. search to_fits)  -- add-to-2
-    (λ c. search bytes_fit)  -- mul-write-batch
-    (λ c. search rules)  -- sub-write-batch
-    (λ c. search rules)  -- part-write-batch-start
-    (λ c. search part_room)  -- part-write-batch-end
-    (λ c κs. (search rules, (search rules, search part-batch, search part-whole)))  -- write-batch-requires
-    (λ c. search rules)  -- add-done
-    (λ c. search rules)  -- loop-less
-    (λ c. search windowed_more)  -- loop-again
-    (λ c. search rules)  -- same-length
-    (λ c. windowed_all _ _ _ _ c.before.before.loop.invariant (search rules))  -- returns
+    invariant-loop-done
+    decreases-loop-done
+    (λ c κs. search rules)  -- value_width-width-requires
+    (λ c. search windowed_none)  -- loop-done-init
+    (λ c. search rules)  -- overflow_sub-left
+    (λ c κs. search rules)  -- batch_count-count-requires
+    (λ c. search rules)  -- overflow_add-batch
+    (λ c. search from-fits)  -- overflow_mul-from
+    (λ c. search part-fits)  -- overflow_mul-to
+    (λ c. search to_fits)  -- overflow_add-to
+    (λ c. search bytes_fit)  -- offset_bounds-out-from
+    (λ c. search rules)  -- slice_bounds-write_batch-count
+    (λ c. search rules)  -- slice_bounds-write_batch-start
+    (λ c. search part_room)  -- slice_bounds-write_batch-end
+    (λ c κs. (search rules, (search rules, search part-batch, search part-whole)))  -- write_batch-requires
+    (λ c. search rules)  -- overflow_add-done
+    (λ c. search rules)  -- loop-done-smaller
+    (λ c. search windowed_more)  -- loop-done-preserved
+    (λ c. search rules)  -- shape_of-out
+    (λ c. windowed_all _ _ _ _ c.before.before.loop-done.invariant (search rules))  -- returns
     )

@@ -8,18 +8,18 @@ pub entry_at_spec : {M : Type 1} → statement M
 entry_at_spec =
     tie.close
     (tie.spec
-    (λ c. search rules)  -- add-if1
-    (λ c. search rules)  -- mul-if1
-    (λ c. search rules)  -- element-copy-out-if1
-    (λ c. search rules)  -- mul-noise-sum
-    (λ c. search rules)  -- element-copy-out-noise-sum
-    (λ c κs. search rules)  -- noise-sum-requires
-    (λ c. search (rules, entry_without))  -- returns
-    (λ c. search rules)  -- mul-noise-sum-2
-    (λ c. search rules)  -- element-copy-out-noise-sum-2
-    (λ c. search rules)  -- add-noise-sum
-    (λ c. search rules)  -- mul-noise-sum-3
-    (λ c. search rules)  -- element-copy-out-noise-sum-3
-    (λ c κs. search rules)  -- noise-sum-requires-2
-    (λ c. search entry_with)  -- returns-2
+    (λ c. search rules)  -- overflow_add-k
+    (λ c. search rules)  -- offset_bounds-rows-k
+    (λ c. search rules)  -- bounds-rows-k
+    (λ c. search rules)  -- offset_bounds-rows-k-then-rows-k
+    (λ c. search rules)  -- bounds-rows-k-then-rows-k
+    (λ c κs. search rules)  -- noise_sum-requires
+    (λ c. search (rules, entry_without))  -- returns-then-rows-k
+    (λ c. search rules)  -- offset_bounds-rows-k-2
+    (λ c. search rules)  -- bounds-rows-k-2
+    (λ c. search rules)  -- overflow_add-k-2
+    (λ c. search rules)  -- offset_bounds-rows-k-3
+    (λ c. search rules)  -- bounds-rows-k-3
+    (λ c κs. search rules)  -- noise_sum-requires-2
+    (λ c. search entry_with)  -- returns
     )

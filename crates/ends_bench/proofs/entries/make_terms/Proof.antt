@@ -8,29 +8,29 @@ use borrow.Author.Rules.{rules}
 use Rattle.ends_bench.proofs.entries.make_terms.Statement.{statement}
 use Rattle.ends_bench.proofs.entries.make_terms.Tie as tie
 
-abbrev invariant-loop : tie.invariant-loop
-invariant-loop tables code batch i rows₀ layout k₀ rows k = (k ≤ batch.count) × HasTerms (round_keys code) batch i k rows₀ rows
+abbrev invariant-loop-k : tie.invariant-loop-k
+invariant-loop-k tables code batch i rows₀ layout k₀ rows k = (k ≤ batch.count) × HasTerms (round_keys code) batch i k rows₀ rows
 
-abbrev decreases-loop : tie.decreases-loop
-decreases-loop tables code batch i rows₀ layout k₀ rows k = batch.count - k
+abbrev decreases-loop-k : tie.decreases-loop-k
+decreases-loop-k tables code batch i rows₀ layout k₀ rows k = batch.count - k
 
 pub make_terms_spec : {M : Type 1} → statement M
 make_terms_spec =
     tie.close
     (tie.spec
-    invariant-loop
-    decreases-loop
-    (λ c. (search rules, search terms-none))  -- loop-holds
-    (λ c. search rules)  -- add-pending-term
-    (λ c κs. search rules)  -- pending-term-requires
-    (λ c. search rules)  -- add-rows
-    (λ c. search rules)  -- mul-rows
-    (λ c. search rules)  -- element-write-rows
-    (λ c. search rules)  -- add-rows-2
-    (λ c. search rules)  -- mul-rows-2
-    (λ c. search rules)  -- element-write-rows-2
-    (λ c. search rules)  -- add-k
-    (λ c. search rules)  -- loop-less
-    (λ c. (search rules, search terms_more))  -- loop-again
+    invariant-loop-k
+    decreases-loop-k
+    (λ c. (search rules, search terms-none))  -- loop-k-init
+    (λ c. search rules)  -- overflow_add-batch
+    (λ c κs. search rules)  -- pending_term-term-requires
+    (λ c. search rules)  -- overflow_add-rows
+    (λ c. search rules)  -- offset_bounds-rows-k
+    (λ c. search rules)  -- bounds-rows-k
+    (λ c. search rules)  -- overflow_add-rows-in-loop-k
+    (λ c. search rules)  -- offset_bounds-rows-k-in-loop-k
+    (λ c. search rules)  -- bounds-rows-k-in-loop-k
+    (λ c. search rules)  -- overflow_add-k
+    (λ c. search rules)  -- loop-k-smaller
+    (λ c. (search rules, search terms_more))  -- loop-k-preserved
     (λ c. search terms-all)  -- returns
     )

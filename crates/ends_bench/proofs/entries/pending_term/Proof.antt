@@ -8,8 +8,8 @@ pub pending_term_spec : {M : Type 1} → statement M
 pending_term_spec =
     tie.close
     (tie.spec
-    (λ c κs. search rules)  -- shape-of-requires
-    (λ c κs. (search rules, (search shaped, search term-below)))  -- row-term-requires
+    (λ c κs. search rules)  -- shape_of-requires
+    (λ c κs. (search rules, (search shaped, search term-below)))  -- row_term-term-requires
     (λ c κs. search rules)  -- coefficient-requires
     (λ c. (search term-place, search term-coefficient))  -- returns
     )

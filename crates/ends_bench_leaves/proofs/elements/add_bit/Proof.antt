@@ -8,12 +8,12 @@ pub add_bit_spec : {M : Type 1} → statement M
 add_bit_spec =
     tie.close
     (tie.spec
-    (λ c. search bit_product)  -- mul-product
-    (λ c. search rules)  -- mul-add-bits
-    (λ c. search rules)  -- slice-read-add-bits
-    (λ c κs. search rules)  -- add-bits-requires
-    (λ c. search rules)  -- mul-out
-    (λ c. search rules)  -- slice-write-out
-    (λ c. search rules)  -- same-length
+    (λ c. search bit_product)  -- overflow_mul-product
+    (λ c. search rules)  -- offset_bounds-out-k
+    (λ c. search rules)  -- bounds-out-k
+    (λ c κs. search rules)  -- add_bits-requires
+    (λ c. search rules)  -- offset_bounds-out-k-2
+    (λ c. search rules)  -- bounds-out-k-2
+    (λ c. search rules)  -- shape_of-out
     (λ c. search bit_added)  -- returns
     )

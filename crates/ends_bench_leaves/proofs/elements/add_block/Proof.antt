@@ -8,15 +8,15 @@ pub add_block_spec : {M : Type 1} → statement M
 add_block_spec =
     tie.close
     (tie.spec
-    (λ c. search rules)  -- mul-low
-    (λ c. search rules)  -- mul-t8
-    (λ c. search rules)  -- slice-read-t10
-    (λ c. search rules)  -- add-t11
-    (λ c. search rules)  -- mul-t12
-    (λ c. search rules)  -- slice-read-t14
+    (λ c. search rules)  -- overflow_mul-low
+    (λ c. search rules)  -- offset_bounds-out-low
+    (λ c. search rules)  -- bounds-out-low
+    (λ c. search rules)  -- overflow_add-old
+    (λ c. search rules)  -- offset_bounds-out-low-2
+    (λ c. search rules)  -- bounds-out-low-2
     (λ c κs. search rules)  -- scale-requires
     (λ c κs. search rules)  -- add-requires
-    (λ c κs. search rules)  -- put-block-requires
-    (λ c. search rules)  -- same-length
+    (λ c κs. search rules)  -- put_block-requires
+    (λ c. search rules)  -- shape_of-out
     (λ c. search block-added)  -- returns
     )

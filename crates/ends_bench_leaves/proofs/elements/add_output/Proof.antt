@@ -8,13 +8,13 @@ pub add_output_spec : {M : Type 1} → statement M
 add_output_spec =
     tie.close
     (tie.spec
-    (λ c κs. search prime-room)  -- add-prime-requires
-    (λ c. search rules)  -- same-length
-    (λ c. search output-prime)  -- returns
-    (λ c κs. search bit-room)  -- add-bit-requires
-    (λ c. search rules)  -- same-length-2
-    (λ c. search output-bit)  -- returns-2
-    (λ c κs. search block_room)  -- add-block-requires
-    (λ c. search rules)  -- same-length-3
-    (λ c. search output-block)  -- returns-3
+    (λ c κs. search prime-room)  -- add_prime-requires
+    (λ c. search rules)  -- shape_of-out-then-field-ne-BINARY
+    (λ c. search output-prime)  -- returns-then-field-ne-BINARY
+    (λ c κs. search bit-room)  -- add_bit-requires
+    (λ c. search rules)  -- shape_of-out-then-vector-eq1
+    (λ c. search output-bit)  -- returns-then-vector-eq1
+    (λ c κs. search block_room)  -- add_block-requires
+    (λ c. search rules)  -- shape_of-out
+    (λ c. search output-block)  -- returns
     )

@@ -8,12 +8,12 @@ pub add_prime_spec : {M : Type 1} → statement M
 add_prime_spec =
     tie.close
     (tie.spec
-    (λ c. search rules)  -- mul-add-product
-    (λ c. search rules)  -- slice-read-add-product
-    (λ c κs. search rules)  -- add-product-requires
-    (λ c κs. search rules)  -- reduce-requires
-    (λ c. search rules)  -- mul-out
-    (λ c. search rules)  -- slice-write-out
-    (λ c. search rules)  -- same-length
+    (λ c. search rules)  -- offset_bounds-out-k
+    (λ c. search rules)  -- bounds-out-k
+    (λ c κs. search rules)  -- add_product-total-requires
+    (λ c κs. search rules)  -- reduce-sum-requires
+    (λ c. search rules)  -- offset_bounds-out-k-2
+    (λ c. search rules)  -- bounds-out-k-2
+    (λ c. search rules)  -- shape_of-out
     (λ c. search prime-added)  -- returns
     )

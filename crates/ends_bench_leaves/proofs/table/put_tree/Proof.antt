@@ -10,20 +10,20 @@ unfolding tree_put
 put_tree_spec =
     tie.close
     (tie.spec
-    (λ c. search rules)  -- mul-at
-    (λ c. search rules)  -- mul-table
-    (λ c. search rules)  -- element-write-table
-    (λ c. search rules)  -- add-table
-    (λ c. search rules)  -- mul-table-2
-    (λ c. search rules)  -- element-write-table-2
-    (λ c. search rules)  -- add-table-2
-    (λ c. search rules)  -- mul-table-3
-    (λ c. search rules)  -- element-write-table-3
-    (λ c. search rules)  -- add-table-3
-    (λ c. search rules)  -- mul-table-4
-    (λ c. search rules)  -- element-write-table-4
-    (λ c. search rules)  -- add-table-4
-    (λ c. search rules)  -- mul-table-5
-    (λ c. search rules)  -- element-write-table-5
+    (λ c. search rules)  -- overflow_mul-at
+    (λ c. search rules)  -- offset_bounds-table-at
+    (λ c. search rules)  -- bounds-table-at
+    (λ c. search rules)  -- overflow_add-table
+    (λ c. search rules)  -- offset_bounds-table-at-2
+    (λ c. search rules)  -- bounds-table-at-2
+    (λ c. search rules)  -- overflow_add-table-2
+    (λ c. search rules)  -- offset_bounds-table-at-3
+    (λ c. search rules)  -- bounds-table-at-3
+    (λ c. search rules)  -- overflow_add-table-3
+    (λ c. search rules)  -- offset_bounds-table-at-4
+    (λ c. search rules)  -- bounds-table-at-4
+    (λ c. search rules)  -- overflow_add-table-4
+    (λ c. search rules)  -- offset_bounds-table-at-5
+    (λ c. search rules)  -- bounds-table-at-5
     (λ c. refl)  -- returns
     )

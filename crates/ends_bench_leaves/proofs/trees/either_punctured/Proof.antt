@@ -8,9 +8,9 @@ pub either_punctured_spec : {M : Type 1} → statement M
 either_punctured_spec =
     tie.close
     (tie.spec
-    (λ c κs. search rules)  -- punctured-at-requires
-    (λ c. search either_first)  -- returns
-    (λ c. search rules)  -- add-punctured-at
-    (λ c κs. search rules)  -- punctured-at-requires-2
-    (λ c. search either_second)  -- returns-2
+    (λ c κs. search rules)  -- punctured_at-requires
+    (λ c. search either_first)  -- returns-then-punctured_at
+    (λ c. search rules)  -- overflow_add-i
+    (λ c κs. search rules)  -- punctured_at-requires-2
+    (λ c. search either_second)  -- returns
     )

@@ -8,7 +8,7 @@ pub punctured_at_spec : {M : Type 1} → statement M
 punctured_at_spec =
     tie.close
     (tie.spec
-    (λ c. search never_punctured)  -- returns
-    (λ c κs. search rules)  -- tree-at-requires
-    (λ c. search is_punctured)  -- returns-2
+    (λ c. search never_punctured)  -- returns-then-vector-eq3
+    (λ c κs. search rules)  -- tree_at-tree-requires
+    (λ c. search is_punctured)  -- returns
     )

@@ -8,10 +8,10 @@ pub start_at_spec : {M : Type 1} → statement M
 start_at_spec =
     tie.close
     (tie.spec
-    (λ c. search rules)  -- div-levels
-    (λ c κs. (search root-asks, search rules))  -- root-place-requires
-    (λ c. search root-starts)  -- returns
-    (λ c κs. search rules)  -- tree-at-requires
-    (λ c κs. search (rules, noise-beside))  -- from-sibling-requires
-    (λ c. search sibling_starts)  -- returns-2
+    (λ c. search rules)  -- nonzero_div-levels
+    (λ c κs. (search root-asks, search rules))  -- root_place-requires
+    (λ c. search root-starts)  -- returns-then-vector-eq3
+    (λ c κs. search rules)  -- tree_at-tree-requires
+    (λ c κs. search (rules, noise-beside))  -- from_sibling-requires
+    (λ c. search sibling_starts)  -- returns
     )

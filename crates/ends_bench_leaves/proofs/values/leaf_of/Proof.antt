@@ -9,13 +9,13 @@ pub leaf_of_spec : {M : Type 1} → statement M
 leaf_of_spec =
     tie.close
     (tie.spec
-    (λ c κs. search rules)  -- punctured-at-requires
-    (λ c κs. search rules)  -- tree-at-requires
-    (λ c. search punctured-leaf)  -- returns
-    (λ c κs. (search rules, search rules, search rules, search apart_of))  -- start-at-requires
-    (λ c κs. search rules)  -- node-at-requires
-    (λ c κs. (search rules, (search start-way, search rules)))  -- walk-to-requires
+    (λ c κs. search rules)  -- punctured_at-requires
+    (λ c κs. search rules)  -- tree_at-tree-requires
+    (λ c. search punctured-leaf)  -- returns-then-punctured_at
+    (λ c κs. (search rules, search rules, search rules, search apart_of))  -- start_at-start-requires
+    (λ c κs. search rules)  -- node_at-node-requires
+    (λ c κs. (search rules, (search start-way, search rules)))  -- walk_to-leaf-requires
     (λ c κs. search rules)  -- columns-requires
-    (λ c κs. search rules)  -- leaf-element-requires
-    (λ c. search leaf_walked)  -- returns-2
+    (λ c κs. search rules)  -- leaf_element-requires
+    (λ c. search leaf_walked)  -- returns
     )

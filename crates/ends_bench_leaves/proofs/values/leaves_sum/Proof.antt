@@ -6,28 +6,28 @@ use borrow.Author.Rules.{rules}
 use Rattle.ends_bench_leaves.proofs.values.leaves_sum.Statement.{statement}
 use Rattle.ends_bench_leaves.proofs.values.leaves_sum.Tie as tie
 
-abbrev invariant-loop : tie.invariant-loop
-invariant-loop tables keys source table vector j field trees total₀ i₀ total i = Partly vector.number source vector.layout j i total
+abbrev invariant-loop-i : tie.invariant-loop-i
+invariant-loop-i tables keys source table vector j field trees total₀ i₀ total i = Partly vector.number source vector.layout j i total
 
-abbrev decreases-loop : tie.decreases-loop
-decreases-loop tables keys source table vector j field trees total₀ i₀ total i = vector.layout.trees - i
+abbrev decreases-loop-i : tie.decreases-loop-i
+decreases-loop-i tables keys source table vector j field trees total₀ i₀ total i = vector.layout.trees - i
 
 pub leaves_sum_spec : {M : Type 1} → statement M
 leaves_sum_spec =
     tie.close
     (tie.spec
-    invariant-loop
-    decreases-loop
-    (λ c. search partly_none)  -- loop-holds
-    (λ c. search rules)  -- add-loop
-    (λ c κs. search rules)  -- two-leaves-requires
-    (λ c κs. search rules)  -- element-sum-requires
-    (λ c. search rules)  -- add-i
-    (λ c. search rules)  -- loop-less
-    (λ c. partly_two _ _ _ _ c.before.before.before.loop.invariant c.before.before.loop-test.true
-    _ c.before.two-leaves.ensures c.element-sum.ensures)  -- loop-again
-    (λ c κs. search rules)  -- leaf-of-requires
-    (λ c κs. search rules)  -- element-sum-requires-2
-    (λ c. search partly_last)  -- returns
-    (λ c. search partly_all)  -- returns-2
+    invariant-loop-i
+    decreases-loop-i
+    (λ c. search partly_none)  -- loop-i-init
+    (λ c. search rules)  -- overflow_add-i
+    (λ c κs. search rules)  -- two_leaves-both-requires
+    (λ c κs. search rules)  -- element_sum-next-requires
+    (λ c. search rules)  -- overflow_add-i-in-loop-i
+    (λ c. search rules)  -- loop-i-smaller
+    (λ c. partly_two _ _ _ _ c.before.before.before.loop-i.invariant c.before.before.loop-i-test.true
+    _ c.before.two_leaves-both.ensures c.element_sum-next.ensures)  -- loop-i-preserved
+    (λ c κs. search rules)  -- leaf_of-last-requires
+    (λ c κs. search rules)  -- element_sum-requires
+    (λ c. search partly_last)  -- returns-then-i-trees
+    (λ c. search partly_all)  -- returns
     )

@@ -8,22 +8,22 @@ use borrow.Author.Rules.{rules}
 use Rattle.ends_bench_leaves.proofs.values.noise_at.Statement.{statement}
 use Rattle.ends_bench_leaves.proofs.values.noise_at.Tie as tie
 
-abbrev invariant-loop : tie.invariant-loop
-invariant-loop table trees j noise₀ i₀ noise i = (i ≤ trees) × (noise ≡ noise_word table i j)
+abbrev invariant-loop-i : tie.invariant-loop-i
+invariant-loop-i table trees j noise₀ i₀ noise i = (i ≤ trees) × (noise ≡ noise_word table i j)
 
-abbrev decreases-loop : tie.decreases-loop
-decreases-loop table trees j noise₀ i₀ noise i = trees - i
+abbrev decreases-loop-i : tie.decreases-loop-i
+decreases-loop-i table trees j noise₀ i₀ noise i = trees - i
 
 pub noise_at_spec : {M : Type 1} → statement M
 noise_at_spec =
     tie.close
     (tie.spec
-    invariant-loop
-    decreases-loop
-    (λ c. (search rules, search word_none))  -- loop-holds
-    (λ c κs. search rules)  -- noise-of-requires
-    (λ c. search rules)  -- add-i
-    (λ c. search rules)  -- loop-less
-    (λ c. (search rules, search word_more))  -- loop-again
+    invariant-loop-i
+    decreases-loop-i
+    (λ c. (search rules, search word_none))  -- loop-i-init
+    (λ c κs. search rules)  -- noise_of-noise-requires
+    (λ c. search rules)  -- overflow_add-i
+    (λ c. search rules)  -- loop-i-smaller
+    (λ c. (search rules, search word_more))  -- loop-i-preserved
     (λ c. search word-all)  -- returns
     )

@@ -8,7 +8,7 @@ pub noise_of_spec : {M : Type 1} → statement M
 noise_of_spec =
     tie.close
     (tie.spec
-    (λ c κs. search rules)  -- tree-at-requires
-    (λ c. search noise_hit)  -- returns
-    (λ c. search noise_miss)  -- returns-2
+    (λ c κs. search rules)  -- tree_at-tree-requires
+    (λ c. search noise_hit)  -- returns-then-tree-j
+    (λ c. search noise_miss)  -- returns
     )

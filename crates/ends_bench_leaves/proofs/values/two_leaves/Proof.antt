@@ -9,15 +9,15 @@ pub two_leaves_spec : {M : Type 1} → statement M
 two_leaves_spec =
     tie.close
     (tie.spec
-    (λ c κs. search rules)  -- either-punctured-requires
-    (λ c κs. (search rules, (search rules, omega arith, search rules)))  -- leaf-of-requires
-    (λ c. search rules)  -- add-leaf-of
-    (λ c κs. (search rules, (search rules, search rules, search rules)))  -- leaf-of-requires-2
-    (λ c κs. search rules)  -- element-sum-requires
-    (λ c. search sums_are)  -- returns
-    (λ c κs. (search rules, omega arith, search rules, search first-apart))  -- start-at-requires
-    (λ c. search rules)  -- add-start-at
-    (λ c κs. (search rules, search rules, search rules, search second-apart))  -- start-at-requires-2
-    (λ c κs. (search rules, search two-starts))  -- two-walked-requires
-    (λ c. search two-leaves_are)  -- returns-2
+    (λ c κs. search rules)  -- either_punctured-requires
+    (λ c κs. (search rules, (search rules, omega arith, search rules)))  -- leaf_of-a-requires
+    (λ c. search rules)  -- overflow_add-i
+    (λ c κs. (search rules, (search rules, search rules, search rules)))  -- leaf_of-b-requires
+    (λ c κs. search rules)  -- element_sum-requires
+    (λ c. search sums_are)  -- returns-then-either_punctured
+    (λ c κs. (search rules, omega arith, search rules, search first-apart))  -- start_at-a-requires
+    (λ c. search rules)  -- overflow_add-i-2
+    (λ c κs. (search rules, search rules, search rules, search second-apart))  -- start_at-b-requires
+    (λ c κs. (search rules, search two-starts))  -- two_walked-requires
+    (λ c. search two-leaves_are)  -- returns
     )

@@ -8,13 +8,13 @@ pub two_walked_spec : {M : Type 1} → statement M
 two_walked_spec =
     tie.close
     (tie.spec
-    (λ c κs. search rules)  -- node-at-requires
-    (λ c κs. search rules)  -- node-at-requires-2
-    (λ c κs. search rules)  -- walk-two-requires
+    (λ c κs. search rules)  -- node_at-one-requires
+    (λ c κs. search rules)  -- node_at-other-requires
+    (λ c κs. search rules)  -- walk_two-leaves-requires
     (λ c κs. search rules)  -- columns-requires
-    (λ c κs. search rules)  -- leaf-element-requires
+    (λ c κs. search rules)  -- leaf_element-requires
     (λ c κs. search rules)  -- columns-requires-2
-    (λ c κs. search rules)  -- leaf-element-requires-2
-    (λ c κs. search rules)  -- element-sum-requires
+    (λ c κs. search rules)  -- leaf_element-requires-2
+    (λ c κs. search rules)  -- element_sum-requires
     (λ c. search two-walked_are)  -- returns
     )

@@ -8,8 +8,8 @@ pub value_at_spec : {M : Type 1} → statement M
 value_at_spec =
     tie.close
     (tie.spec
-    (λ c κs. search rules)  -- noise-at-requires
-    (λ c. search mu_value)  -- returns
-    (λ c κs. search rules)  -- leaves-sum-requires
-    (λ c. search leaves-value)  -- returns-2
+    (λ c κs. search rules)  -- noise_at-requires
+    (λ c. search mu_value)  -- returns-then-vector-eq1
+    (λ c κs. search rules)  -- leaves_sum-requires
+    (λ c. search leaves-value)  -- returns
     )

@@ -9,9 +9,9 @@ pub walk_two_spec : {M : Type 1} → statement M
 walk_two_spec =
     tie.close
     (tie.spec
-    (λ c κs. search rules)  -- smaller-requires
-    (λ c κs. (search rules, (search rules, search rules)))  -- walk-to-requires
-    (λ c κs. (search rules, (search rules, search rules)))  -- walk-to-requires-2
-    (λ c κs. (search rules, search way-less))  -- walk-both-requires
+    (λ c κs. search rules)  -- smaller-both-requires
+    (λ c κs. (search rules, (search rules, search rules)))  -- walk_to-x-requires
+    (λ c κs. (search rules, (search rules, search rules)))  -- walk_to-y-requires
+    (λ c κs. (search rules, search way-less))  -- walk_both-requires
     (λ c. (search on_down, search on_down))  -- returns
     )

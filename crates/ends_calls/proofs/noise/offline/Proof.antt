@@ -11,24 +11,24 @@ pub offline_spec : {M : Type 1} → statement M
 offline_spec =
     tie.close
     (tie.spec
-    (λ c κs. search rules)  -- read-noise-requires
-    (λ c. search rules)  -- enum-known-r
-    (λ c. search rules)  -- enum-told
-    (λ c κs. search rules)  -- record-fault-requires
-    (λ c κs. search rules)  -- refused-two-requires
-    (λ c. search (answers-two, noise-fault))  -- returns
-    (λ c κs. search noise-depth)  -- leaves-requires
-    (λ c κs. search rules)  -- refused-two-requires-2
-    (λ c. search (answers-two, noise-short))  -- returns-2
-    (λ c κs. search noise-depth)  -- vector-words-requires
-    (λ c κs. search rules)  -- refused-two-requires-3
-    (λ c. search (answers-two, v_short))  -- returns-3
-    (λ c. search rules)  -- slice-relend-prefix-write-accumulated
-    (λ c. search taken-length)  -- slice-aggregate-write-accumulated
-    (λ c. search rules)  -- slice-relend-prefix-write-accumulated-2
-    (λ c. search taken-length)  -- slice-aggregate-write-accumulated-2
-    (λ c κs. (search ready, search front-size, search front-size))  -- write-accumulated-requires
-    (λ c. search rules)  -- same-length
-    (λ c. search rules)  -- same-length-2
-    (λ c. search noise-expanded)  -- returns-4
+    (λ c κs. search rules)  -- read_noise-r-requires
+    (λ c. search rules)  -- enum_known-r
+    (λ c. search rules)  -- enum_told-1
+    (λ c κs. search rules)  -- record_fault-requires
+    (λ c κs. search rules)  -- refused_two-requires
+    (λ c. search (answers-two, noise-fault))  -- returns-in_default
+    (λ c κs. search noise-depth)  -- leaves-size-requires
+    (λ c κs. search rules)  -- refused_two-requires-then-noise-size
+    (λ c. search (answers-two, noise-short))  -- returns-then-noise-size
+    (λ c κs. search noise-depth)  -- vector_words-words-requires
+    (λ c κs. search rules)  -- refused_two-requires-then-v-words
+    (λ c. search (answers-two, v_short))  -- returns-then-v-words
+    (λ c. search rules)  -- slice_bounds-write_accumulated-end
+    (λ c. search taken-length)  -- slice_bounds-write_accumulated-end-2
+    (λ c. search rules)  -- slice_bounds-write_accumulated-end-3
+    (λ c. search taken-length)  -- slice_bounds-write_accumulated-end-4
+    (λ c κs. (search ready, search front-size, search front-size))  -- write_accumulated-requires
+    (λ c. search rules)  -- shape_of-noise
+    (λ c. search rules)  -- shape_of-v
+    (λ c. search noise-expanded)  -- returns
     )

@@ -9,23 +9,23 @@ pub online_spec : {M : Type 1} → statement M
 online_spec =
     tie.close
     (tie.spec
-    (λ c κs. search rules)  -- read-noise-requires
-    (λ c. search rules)  -- enum-known-r
-    (λ c. search rules)  -- enum-told
-    (λ c κs. search rules)  -- record-fault-requires
-    (λ c κs. search rules)  -- refused-two-requires
-    (λ c. search (answers-two, noise-online-fault))  -- returns
-    (λ c κs. search noise-depth)  -- window-number-requires
-    (λ c κs. search rules)  -- refused-two-requires-2
-    (λ c. search (answers-two, noise-refused))  -- returns-2
-    (λ c κs. (search noise-sizes, (search u_fitting, search v_fitting)))  -- write-rows-requires
-    (λ c κs. search rules)  -- refused-two-requires-3
-    (λ c. search rules)  -- same-length
-    (λ c. search rules)  -- same-length-2
-    (λ c. search (answers-two, noise_unfit))  -- returns-3
-    (λ c κs. search rules)  -- element-width-requires
-    (λ c. search noise-words)  -- mul-result
-    (λ c. search rules)  -- same-length-3
-    (λ c. search rules)  -- same-length-4
-    (λ c. search noise-written)  -- returns-4
+    (λ c κs. search rules)  -- read_noise-r-requires
+    (λ c. search rules)  -- enum_known-r
+    (λ c. search rules)  -- enum_told-1
+    (λ c κs. search rules)  -- record_fault-requires
+    (λ c κs. search rules)  -- refused_two-requires
+    (λ c. search (answers-two, noise-online-fault))  -- returns-in_default
+    (λ c κs. search noise-depth)  -- window_number-number-requires
+    (λ c κs. search rules)  -- refused_two-requires-then-number-ne-ACCEPTED
+    (λ c. search (answers-two, noise-refused))  -- returns-then-number-ne-ACCEPTED
+    (λ c κs. (search noise-sizes, (search u_fitting, search v_fitting)))  -- write_rows-requires
+    (λ c κs. search rules)  -- refused_two-requires-then-not-write_rows
+    (λ c. search rules)  -- shape_of-u_out-then-not-write_rows
+    (λ c. search rules)  -- shape_of-v_out-then-not-write_rows
+    (λ c. search (answers-two, noise_unfit))  -- returns-then-not-write_rows
+    (λ c κs. search rules)  -- element_width-requires
+    (λ c. search noise-words)  -- overflow_mul-result
+    (λ c. search rules)  -- shape_of-u_out
+    (λ c. search rules)  -- shape_of-v_out
+    (λ c. search noise-written)  -- returns
     )

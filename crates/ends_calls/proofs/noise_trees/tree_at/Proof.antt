@@ -9,6 +9,6 @@ pub tree_at_spec : {M : Type 1} → statement M
 tree_at_spec =
     tie.close
     (tie.spec
-    (λ c κs. search rules)  -- known-tree-requires
+    (λ c κs. search rules)  -- known_tree-requires
     (λ c. tree-read _ _ _ _ _ _ (search rules) (search rules) (omega arith) (search rules))  -- returns
     )

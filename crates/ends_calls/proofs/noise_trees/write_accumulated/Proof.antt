@@ -8,11 +8,11 @@ pub write_accumulated_spec : {M : Type 1} → statement M
 write_accumulated_spec =
     tie.close
     (tie.spec
-    (λ c κs. search rules)  -- write-trees-requires
+    (λ c κs. search rules)  -- write_trees-requires
     (λ c κs. search rules)  -- leaves-requires
-    (λ c κs. search all_words)  -- accumulate-elements-requires
-    (λ c κs. search rules)  -- accumulate-noise-requires
-    (λ c. search rules)  -- same-length
-    (λ c. search rules)  -- same-length-2
+    (λ c κs. search all_words)  -- accumulate_elements-requires
+    (λ c κs. search rules)  -- accumulate_noise-requires
+    (λ c. search rules)  -- shape_of-noise
+    (λ c. search rules)  -- shape_of-v
     (λ c. (search noise-accumulated, search accumulated))  -- returns
     )

@@ -11,22 +11,22 @@ pub offline_spec : {M : Type 1} → statement M
 offline_spec =
     tie.close
     (tie.spec
-    (λ c κs. search rules)  -- read-scalar-requires
-    (λ c. search rules)  -- enum-known-r
-    (λ c. search rules)  -- enum-told
-    (λ c κs. search rules)  -- record-fault-requires
-    (λ c κs. search rules)  -- refused-two-requires
-    (λ c. search (answers-two, scalar-fault))  -- returns
-    (λ c κs. search scalar-depth)  -- vector-words-requires
-    (λ c κs. search rules)  -- refused-two-requires-2
-    (λ c. search (answers-two, w_short))  -- returns-2
-    (λ c κs. search rules)  -- refused-two-requires-3
-    (λ c. search (answers-two, delta-short))  -- returns-3
-    (λ c. search rules)  -- slice-relend-prefix-write-accumulated
-    (λ c. search taken-length)  -- slice-aggregate-write-accumulated
-    (λ c κs. (search ready, search front-size))  -- write-accumulated-requires
-    (λ c κs. (search ready, search rules))  -- write-delta-requires
-    (λ c. search rules)  -- same-length
-    (λ c. search rules)  -- same-length-2
-    (λ c. search scalar-expanded)  -- returns-4
+    (λ c κs. search rules)  -- read_scalar-r-requires
+    (λ c. search rules)  -- enum_known-r
+    (λ c. search rules)  -- enum_told-1
+    (λ c κs. search rules)  -- record_fault-requires
+    (λ c κs. search rules)  -- refused_two-requires
+    (λ c. search (answers-two, scalar-fault))  -- returns-in_default
+    (λ c κs. search scalar-depth)  -- vector_words-words-requires
+    (λ c κs. search rules)  -- refused_two-requires-then-w-words
+    (λ c. search (answers-two, w_short))  -- returns-then-w-words
+    (λ c κs. search rules)  -- refused_two-requires-then-delta-lt2
+    (λ c. search (answers-two, delta-short))  -- returns-then-delta-lt2
+    (λ c. search rules)  -- slice_bounds-write_accumulated-end
+    (λ c. search taken-length)  -- slice_bounds-write_accumulated-end-2
+    (λ c κs. (search ready, search front-size))  -- write_accumulated-requires
+    (λ c κs. (search ready, search rules))  -- write_delta-requires
+    (λ c. search rules)  -- shape_of-w
+    (λ c. search rules)  -- shape_of-delta
+    (λ c. search scalar-expanded)  -- returns
     )

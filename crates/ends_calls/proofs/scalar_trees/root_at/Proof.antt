@@ -8,11 +8,11 @@ pub root_at_spec : {M : Type 1} → statement M
 root_at_spec =
     tie.close
     (tie.spec
-    (λ c κs. search rules)  -- element-width-requires
-    (λ c. search rules)  -- mul-t5
-    (λ c. search rules)  -- add-t6
-    (λ c. search rules)  -- mul-t7
-    (λ c. search rules)  -- add-columns-at
-    (λ c κs. search rules)  -- columns-at-requires
+    (λ c κs. search rules)  -- element_width-requires
+    (λ c. search rules)  -- overflow_mul-element_width
+    (λ c. search rules)  -- overflow_add-layout
+    (λ c. search rules)  -- overflow_mul-i
+    (λ c. search rules)  -- overflow_add-layout-2
+    (λ c κs. search rules)  -- columns_at-requires
     (λ c. search root_is)  -- returns
     )

@@ -8,9 +8,9 @@ pub write_accumulated_spec : {M : Type 1} → statement M
 write_accumulated_spec =
     tie.close
     (tie.spec
-    (λ c κs. search rules)  -- write-trees-requires
+    (λ c κs. search rules)  -- write_trees-requires
     (λ c κs. search rules)  -- leaves-requires
-    (λ c κs. search all_words)  -- accumulate-elements-requires
-    (λ c. search rules)  -- same-length
+    (λ c κs. search all_words)  -- accumulate_elements-requires
+    (λ c. search rules)  -- shape_of-w
     (λ c. search accumulated)  -- returns
     )

@@ -8,14 +8,14 @@ pub write_delta_spec : {M : Type 1} → statement M
 write_delta_spec =
     tie.close
     (tie.spec
-    (λ c κs. search first-room)  -- word-at-requires
-    (λ c. search rules)  -- slice-write-delta
-    (λ c. search rules)  -- add-word-at
-    (λ c κs. search second-room)  -- word-at-requires-2
-    (λ c. search rules)  -- slice-write-delta-2
-    (λ c. search rules)  -- slice-write-delta-3
-    (λ c. search rules)  -- same-length
-    (λ c. search delta-binary)  -- returns
-    (λ c. search rules)  -- same-length-2
-    (λ c. search delta-prime)  -- returns-2
+    (λ c κs. search first-room)  -- word_at-requires
+    (λ c. search rules)  -- bounds-delta-0
+    (λ c. search rules)  -- overflow_add-layout
+    (λ c κs. search second-room)  -- word_at-requires-then-layout-eq-BINARY
+    (λ c. search rules)  -- bounds-delta-1
+    (λ c. search rules)  -- bounds-delta-1-else-layout-eq-BINARY
+    (λ c. search rules)  -- shape_of-delta-then-layout-eq-BINARY
+    (λ c. search delta-binary)  -- returns-then-layout-eq-BINARY
+    (λ c. search rules)  -- shape_of-delta-else-layout-eq-BINARY
+    (λ c. search delta-prime)  -- returns-else-layout-eq-BINARY
     )

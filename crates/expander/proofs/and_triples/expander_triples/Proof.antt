@@ -9,6 +9,6 @@ expander_triples_spec =
     tie.close
     (tie.spec
     (λ c κs. search rules)  -- triples-requires
-    (λ c. search rules)  -- same-length
+    (λ c. search rules)  -- shape_of-triples_out
     (λ c. search triples-returned)  -- returns
     )

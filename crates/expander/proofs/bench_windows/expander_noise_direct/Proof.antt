@@ -8,8 +8,8 @@ pub expander_noise_direct_spec : {M : Type 1} → statement M
 expander_noise_direct_spec =
     tie.close
     (tie.spec
-    (λ c κs. search rules)  -- noise-bench-requires
-    (λ c. search rules)  -- same-length
-    (λ c. search rules)  -- same-length-2
+    (λ c κs. search rules)  -- noise_bench-requires
+    (λ c. search rules)  -- shape_of-u_out
+    (λ c. search rules)  -- shape_of-v_out
     (λ c. search noise_direct_returned)  -- returns
     )

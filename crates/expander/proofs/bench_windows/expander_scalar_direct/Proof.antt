@@ -8,7 +8,7 @@ pub expander_scalar_direct_spec : {M : Type 1} → statement M
 expander_scalar_direct_spec =
     tie.close
     (tie.spec
-    (λ c κs. search rules)  -- scalar-bench-requires
-    (λ c. search rules)  -- same-length
+    (λ c κs. search rules)  -- scalar_bench-requires
+    (λ c. search rules)  -- shape_of-w_out
     (λ c. search scalar_direct_returned)  -- returns
     )

@@ -8,7 +8,7 @@ pub expander_correction_bits_spec : {M : Type 1} → statement M
 expander_correction_bits_spec =
     tie.close
     (tie.spec
-    (λ c κs. search rules)  -- correction-bits-requires
-    (λ c. search rules)  -- same-length
+    (λ c κs. search rules)  -- correction_bits-requires
+    (λ c. search rules)  -- shape_of-bits_out
     (λ c. search correction-returned)  -- returns
     )

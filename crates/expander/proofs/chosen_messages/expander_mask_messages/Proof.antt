@@ -8,7 +8,7 @@ pub expander_mask_messages_spec : {M : Type 1} → statement M
 expander_mask_messages_spec =
     tie.close
     (tie.spec
-    (λ c κs. search rules)  -- mask-messages-requires
-    (λ c. search rules)  -- same-length
+    (λ c κs. search rules)  -- mask_messages-requires
+    (λ c. search rules)  -- shape_of-answers_out
     (λ c. search mask-returned)  -- returns
     )

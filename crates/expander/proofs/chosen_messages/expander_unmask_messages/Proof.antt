@@ -8,7 +8,7 @@ pub expander_unmask_messages_spec : {M : Type 1} → statement M
 expander_unmask_messages_spec =
     tie.close
     (tie.spec
-    (λ c κs. search rules)  -- unmask-messages-requires
-    (λ c. search rules)  -- same-length
+    (λ c κs. search rules)  -- unmask_messages-requires
+    (λ c. search rules)  -- shape_of-messages_out
     (λ c. search unmask-returned)  -- returns
     )

@@ -8,8 +8,8 @@ pub expander_circuit_round_spec : {M : Type 1} → statement M
 expander_circuit_round_spec =
     tie.close
     (tie.spec
-    (λ c κs. search rules)  -- round-run-requires
-    (λ c. search rules)  -- same-length
-    (λ c. search rules)  -- same-length-2
+    (λ c κs. search rules)  -- round_run-requires
+    (λ c. search rules)  -- shape_of-output
+    (λ c. search rules)  -- shape_of-bits_out
     (λ c. search circuit-rounded)  -- returns
     )

@@ -8,7 +8,7 @@ pub expander_circuit_step_spec : {M : Type 1} → statement M
 expander_circuit_step_spec =
     tie.close
     (tie.spec
-    (λ c κs. search rules)  -- step-run-requires
-    (λ c. search rules)  -- same-length
+    (λ c κs. search rules)  -- step_run-requires
+    (λ c. search rules)  -- shape_of-output
     (λ c. search circuit-stepped)  -- returns
     )

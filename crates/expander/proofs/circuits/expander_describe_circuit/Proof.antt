@@ -8,6 +8,6 @@ pub expander_describe_circuit_spec : {M : Type 1} → statement M
 expander_describe_circuit_spec =
     tie.close
     (tie.spec
-    (λ c κs. search rules)  -- describe-circuit-requires
+    (λ c κs. search rules)  -- describe_circuit-requires
     (λ c. search circuit-described)  -- returns
     )

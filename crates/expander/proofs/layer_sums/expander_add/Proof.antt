@@ -9,6 +9,6 @@ expander_add_spec =
     tie.close
     (tie.spec
     (λ c κs. search rules)  -- add-requires
-    (λ c. search rules)  -- same-length
+    (λ c. search rules)  -- shape_of-into
     (λ c. search add-returned)  -- returns
     )

@@ -8,6 +8,6 @@ pub expander_read_amount_spec : {M : Type 1} → statement M
 expander_read_amount_spec =
     tie.close
     (tie.spec
-    (λ c κs. search rules)  -- read-amount-requires
+    (λ c κs. search rules)  -- read_amount-requires
     (λ c. search read-returned)  -- returns
     )

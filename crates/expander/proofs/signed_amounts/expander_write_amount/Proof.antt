@@ -11,6 +11,6 @@ pub expander_write_amount_spec : {M : Type 1} → statement M
 expander_write_amount_spec =
     tie.close
     (tie.spec
-    (λ c κs. search rules)  -- write-amount-requires
-    (λ c. write-returned _ _ (c.write-amount.ensures ∙ ap write_amount (to_z-of_z c.before.ranges.amount)))  -- returns
+    (λ c κs. search rules)  -- write_amount-requires
+    (λ c. write-returned _ _ (c.write_amount.ensures ∙ ap write_amount (to_z-of_z c.before.ranges.amount)))  -- returns
     )

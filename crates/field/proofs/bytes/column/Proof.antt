@@ -10,9 +10,9 @@ unfolding le_bytes
 column_spec =
     tie.close
     (tie.spec
-    (λ c. search rules)  -- cast-t6
-    (λ c. search rules)  -- cast-t8
-    (λ c. search rules)  -- cast-t10
-    (λ c. search rules)  -- cast-t12
+    (λ c. search rules)  -- overflow_cast-result
+    (λ c. search rules)  -- overflow_cast-result-2
+    (λ c. search rules)  -- overflow_cast-result-3
+    (λ c. search rules)  -- overflow_cast-result-4
     (λ c. refl)  -- returns
     )

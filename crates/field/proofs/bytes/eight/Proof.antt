@@ -10,19 +10,19 @@ unfolding le_number
 eight_spec =
     tie.close
     (tie.spec
-    (λ c. search rules)  -- mul-result
-    (λ c. search rules)  -- add-result
-    (λ c. search rules)  -- mul-result-2
-    (λ c. search rules)  -- add-result-2
-    (λ c. search rules)  -- mul-result-3
-    (λ c. search rules)  -- add-result-3
-    (λ c. search rules)  -- mul-result-4
-    (λ c. search rules)  -- add-result-4
-    (λ c. search rules)  -- mul-result-5
-    (λ c. search rules)  -- add-result-5
-    (λ c. search rules)  -- mul-result-6
-    (λ c. search rules)  -- add-result-6
-    (λ c. search rules)  -- mul-result-7
-    (λ c. search rules)  -- add-result-7
+    (λ c. search rules)  -- overflow_mul-result
+    (λ c. search rules)  -- overflow_add-result
+    (λ c. search rules)  -- overflow_mul-result-2
+    (λ c. search rules)  -- overflow_add-result-2
+    (λ c. search rules)  -- overflow_mul-result-3
+    (λ c. search rules)  -- overflow_add-result-3
+    (λ c. search rules)  -- overflow_mul-result-4
+    (λ c. search rules)  -- overflow_add-result-4
+    (λ c. search rules)  -- overflow_mul-result-5
+    (λ c. search rules)  -- overflow_add-result-5
+    (λ c. search rules)  -- overflow_mul-result-6
+    (λ c. search rules)  -- overflow_add-result-6
+    (λ c. search rules)  -- overflow_mul-result-7
+    (λ c. search rules)  -- overflow_add-result-7
     (λ c. omega arith)  -- returns
     )

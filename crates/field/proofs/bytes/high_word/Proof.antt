@@ -9,22 +9,22 @@ unfolding high_of
 high_word_spec =
     tie.close
     (tie.spec
-    (λ c. search rules)  -- index-1-eight
-    (λ c. search rules)  -- index-2-eight
-    (λ c. search rules)  -- index-1-eight-2
-    (λ c. search rules)  -- index-2-eight-2
-    (λ c. search rules)  -- index-1-eight-3
-    (λ c. search rules)  -- index-2-eight-3
-    (λ c. search rules)  -- index-1-eight-4
-    (λ c. search rules)  -- index-2-eight-4
-    (λ c. search rules)  -- index-1-eight-5
-    (λ c. search rules)  -- index-2-eight-5
-    (λ c. search rules)  -- index-1-eight-6
-    (λ c. search rules)  -- index-2-eight-6
-    (λ c. search rules)  -- index-1-eight-7
-    (λ c. search rules)  -- index-2-eight-7
-    (λ c. search rules)  -- index-1-eight-8
-    (λ c. search rules)  -- index-2-eight-8
+    (λ c. search rules)  -- bounds-columns-2
+    (λ c. search rules)  -- bounds-columns-0
+    (λ c. search rules)  -- bounds-columns-2-2
+    (λ c. search rules)  -- bounds-columns-1
+    (λ c. search rules)  -- bounds-columns-2-3
+    (λ c. search rules)  -- bounds-columns-2-4
+    (λ c. search rules)  -- bounds-columns-2-5
+    (λ c. search rules)  -- bounds-columns-3
+    (λ c. search rules)  -- bounds-columns-3-2
+    (λ c. search rules)  -- bounds-columns-0-2
+    (λ c. search rules)  -- bounds-columns-3-3
+    (λ c. search rules)  -- bounds-columns-1-2
+    (λ c. search rules)  -- bounds-columns-3-4
+    (λ c. search rules)  -- bounds-columns-2-6
+    (λ c. search rules)  -- bounds-columns-3-5
+    (λ c. search rules)  -- bounds-columns-3-6
     (λ c κs. search rules)  -- eight-requires
     (λ c. c.eight.ensures)  -- returns
     )

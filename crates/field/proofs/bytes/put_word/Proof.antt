@@ -13,29 +13,29 @@ unfolding le_bytes with_word
 put_word_spec =
     tie.close
     (tie.spec
-    (λ c. search rules)  -- cast-bytes
-    (λ c. search rules)  -- slice-write-bytes
-    (λ c. search rules)  -- cast-bytes-2
-    (λ c. search rules)  -- add-bytes
-    (λ c. simp length-set (omega arith))  -- slice-write-bytes-2
-    (λ c. search rules)  -- cast-bytes-3
-    (λ c. search rules)  -- add-bytes-2
-    (λ c. simp length-set (omega arith))  -- slice-write-bytes-3
-    (λ c. search rules)  -- cast-bytes-4
-    (λ c. search rules)  -- add-bytes-3
-    (λ c. simp length-set (omega arith))  -- slice-write-bytes-4
-    (λ c. search rules)  -- cast-bytes-5
-    (λ c. search rules)  -- add-bytes-4
-    (λ c. simp length-set (omega arith))  -- slice-write-bytes-5
-    (λ c. search rules)  -- cast-bytes-6
-    (λ c. search rules)  -- add-bytes-5
-    (λ c. simp length-set (omega arith))  -- slice-write-bytes-6
-    (λ c. search rules)  -- cast-bytes-7
-    (λ c. search rules)  -- add-bytes-6
-    (λ c. simp length-set (omega arith))  -- slice-write-bytes-7
-    (λ c. search rules)  -- cast-bytes-8
-    (λ c. search rules)  -- add-bytes-7
-    (λ c. simp length-set (omega arith))  -- slice-write-bytes-8
-    (λ c. simp length-set)  -- same-length
+    (λ c. search rules)  -- overflow_cast-bytes
+    (λ c. search rules)  -- bounds-bytes-at
+    (λ c. search rules)  -- overflow_cast-bytes-2
+    (λ c. search rules)  -- overflow_add-bytes
+    (λ c. simp length-set (omega arith))  -- bounds-bytes-at-2
+    (λ c. search rules)  -- overflow_cast-bytes-3
+    (λ c. search rules)  -- overflow_add-bytes-2
+    (λ c. simp length-set (omega arith))  -- bounds-bytes-at-3
+    (λ c. search rules)  -- overflow_cast-bytes-4
+    (λ c. search rules)  -- overflow_add-bytes-3
+    (λ c. simp length-set (omega arith))  -- bounds-bytes-at-4
+    (λ c. search rules)  -- overflow_cast-bytes-5
+    (λ c. search rules)  -- overflow_add-bytes-4
+    (λ c. simp length-set (omega arith))  -- bounds-bytes-at-5
+    (λ c. search rules)  -- overflow_cast-bytes-6
+    (λ c. search rules)  -- overflow_add-bytes-5
+    (λ c. simp length-set (omega arith))  -- bounds-bytes-at-6
+    (λ c. search rules)  -- overflow_cast-bytes-7
+    (λ c. search rules)  -- overflow_add-bytes-6
+    (λ c. simp length-set (omega arith))  -- bounds-bytes-at-7
+    (λ c. search rules)  -- overflow_cast-bytes-8
+    (λ c. search rules)  -- overflow_add-bytes-7
+    (λ c. simp length-set (omega arith))  -- bounds-bytes-at-8
+    (λ c. simp length-set)  -- shape_of-bytes
     (λ c. simp towards_suc)  -- returns
     )

@@ -9,21 +9,21 @@ unfolding word_at
 word_at_spec =
     tie.close
     (tie.spec
-    (λ c. search rules)  -- shared-slice-read-eight
-    (λ c. search rules)  -- add-eight
-    (λ c. search rules)  -- shared-slice-read-eight-2
-    (λ c. search rules)  -- add-eight-2
-    (λ c. search rules)  -- shared-slice-read-eight-3
-    (λ c. search rules)  -- add-eight-3
-    (λ c. search rules)  -- shared-slice-read-eight-4
-    (λ c. search rules)  -- add-eight-4
-    (λ c. search rules)  -- shared-slice-read-eight-5
-    (λ c. search rules)  -- add-eight-5
-    (λ c. search rules)  -- shared-slice-read-eight-6
-    (λ c. search rules)  -- add-eight-6
-    (λ c. search rules)  -- shared-slice-read-eight-7
-    (λ c. search rules)  -- add-eight-7
-    (λ c. search rules)  -- shared-slice-read-eight-8
+    (λ c. search rules)  -- bounds-bytes-at
+    (λ c. search rules)  -- overflow_add-at
+    (λ c. search rules)  -- bounds-bytes-at-2
+    (λ c. search rules)  -- overflow_add-at-2
+    (λ c. search rules)  -- bounds-bytes-at-3
+    (λ c. search rules)  -- overflow_add-at-3
+    (λ c. search rules)  -- bounds-bytes-at-4
+    (λ c. search rules)  -- overflow_add-at-4
+    (λ c. search rules)  -- bounds-bytes-at-5
+    (λ c. search rules)  -- overflow_add-at-5
+    (λ c. search rules)  -- bounds-bytes-at-6
+    (λ c. search rules)  -- overflow_add-at-6
+    (λ c. search rules)  -- bounds-bytes-at-7
+    (λ c. search rules)  -- overflow_add-at-7
+    (λ c. search rules)  -- bounds-bytes-at-8
     (λ c κs. search rules)  -- eight-requires
     (λ c. c.eight.ensures)  -- returns
     )

@@ -8,9 +8,9 @@ pub element_at_spec : {M : Type 1} → statement M
 element_at_spec =
     tie.close
     (tie.spec
-    (λ c κs. search first-room)  -- word-at-requires
-    (λ c. search rules)  -- add-word-at
-    (λ c κs. search second-room)  -- word-at-requires-2
-    (λ c. search at_1)  -- returns
-    (λ c. search at_2)  -- returns-2
+    (λ c κs. search first-room)  -- word_at-low-requires
+    (λ c. search rules)  -- overflow_add-at
+    (λ c κs. search second-room)  -- word_at-requires
+    (λ c. search at_1)  -- returns-then-field-eq-BINARY
+    (λ c. search at_2)  -- returns
     )

@@ -8,7 +8,7 @@ pub element_difference_spec : {M : Type 1} → statement M
 element_difference_spec =
     tie.close
     (tie.spec
-    (λ c. search difference_1)  -- returns
-    (λ c κs. search rules)  -- sub-requires
-    (λ c. search difference_2)  -- returns-2
+    (λ c. search difference_1)  -- returns-then-field-eq-BINARY
+    (λ c κs. search rules)  -- sub-difference-requires
+    (λ c. search difference_2)  -- returns
     )

@@ -7,6 +7,6 @@ pub element_length_spec : {M : Type 1} → statement M
 element_length_spec =
     tie.close
     (tie.spec
-    (λ c. search length_1)  -- returns
-    (λ c. search length_2)  -- returns-2
+    (λ c. search length_1)  -- returns-then-field-eq-BINARY
+    (λ c. search length_2)  -- returns-else-field-eq-BINARY
     )

@@ -8,14 +8,14 @@ pub element_of_spec : {M : Type 1} → statement M
 element_of_spec =
     tie.close
     (tie.spec
-    (λ c. search rules)  -- mul-low
-    (λ c. search rules)  -- mul-t6
-    (λ c. search rules)  -- shared-slice-read-t8
-    (λ c. search rules)  -- add-t9
-    (λ c. search rules)  -- mul-t10
-    (λ c. search rules)  -- shared-slice-read-t12
-    (λ c. search of_1)  -- returns
-    (λ c. search rules)  -- mul-t13
-    (λ c. search rules)  -- shared-slice-read-t15
-    (λ c. search of_2)  -- returns-2
+    (λ c. search rules)  -- overflow_mul-low
+    (λ c. search rules)  -- offset_bounds-words-low
+    (λ c. search rules)  -- bounds-words-low
+    (λ c. search rules)  -- overflow_add-result
+    (λ c. search rules)  -- offset_bounds-words-low-then-field-eq-BINARY
+    (λ c. search rules)  -- bounds-words-low-then-field-eq-BINARY
+    (λ c. search of_1)  -- returns-then-field-eq-BINARY
+    (λ c. search rules)  -- offset_bounds-words-i
+    (λ c. search rules)  -- bounds-words-i
+    (λ c. search of_2)  -- returns
     )

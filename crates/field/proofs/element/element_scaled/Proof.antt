@@ -8,8 +8,8 @@ pub element_scaled_spec : {M : Type 1} → statement M
 element_scaled_spec =
     tie.close
     (tie.spec
-    (λ c κs. search rules)  -- scale-requires
-    (λ c. search scaled_1)  -- returns
-    (λ c κs. search rules)  -- mul-requires
-    (λ c. search scaled_2)  -- returns-2
+    (λ c κs. search rules)  -- scale-multiple-requires
+    (λ c. search scaled_1)  -- returns-then-field-eq-BINARY
+    (λ c κs. search rules)  -- mul-multiple-requires
+    (λ c. search scaled_2)  -- returns
     )

@@ -8,7 +8,7 @@ pub element_sum_spec : {M : Type 1} → statement M
 element_sum_spec =
     tie.close
     (tie.spec
-    (λ c. search sum_1)  -- returns
-    (λ c κs. search rules)  -- add-requires
-    (λ c. search sum_2)  -- returns-2
+    (λ c. search sum_1)  -- returns-then-field-eq-BINARY
+    (λ c κs. search rules)  -- add-sum-requires
+    (λ c. search sum_2)  -- returns
     )

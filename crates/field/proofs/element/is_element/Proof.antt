@@ -7,6 +7,6 @@ pub is_element_spec : {M : Type 1} → statement M
 is_element_spec =
     tie.close
     (tie.spec
-    (λ c. search element_1)  -- returns
-    (λ c. search element_2)  -- returns-2
+    (λ c. search element_1)  -- returns-then-field-eq-BINARY
+    (λ c. search element_2)  -- returns
     )

@@ -9,8 +9,8 @@ pub is_scalar_spec : {M : Type 1} → statement M
 is_scalar_spec =
     tie.close
     (tie.spec
-    (λ c κs. search rules)  -- is-element-requires
-    (λ c. search (scalar_no, not-true))  -- returns
-    (λ c κs. search rules)  -- is-zero-requires
-    (λ c. search (scalar-last, not-false))  -- returns-2
+    (λ c κs. search rules)  -- is_element-requires
+    (λ c. search (scalar_no, not-true))  -- returns-then-not-is_element
+    (λ c κs. search rules)  -- is_zero-requires
+    (λ c. search (scalar-last, not-false))  -- returns
     )

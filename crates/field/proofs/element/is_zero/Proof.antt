@@ -7,7 +7,7 @@ pub is_zero_spec : {M : Type 1} → statement M
 is_zero_spec =
     tie.close
     (tie.spec
-    (λ c. search not-zero)  -- returns
-    (λ c. search zero_1)  -- returns-2
-    (λ c. search zero_2)  -- returns-3
+    (λ c. search not-zero)  -- returns-then-a-ne0
+    (λ c. search zero_1)  -- returns-then-field-eq-BINARY
+    (λ c. search zero_2)  -- returns
     )

@@ -8,9 +8,9 @@ pub leaf_element_spec : {M : Type 1} → statement M
 leaf_element_spec =
     tie.close
     (tie.spec
-    (λ c κs. search rules)  -- of-columns-requires
-    (λ c. search leaf_1)  -- returns
-    (λ c κs. search rules)  -- low-word-requires
-    (λ c κs. search rules)  -- reduce-requires
-    (λ c. search leaf_2)  -- returns-2
+    (λ c κs. search rules)  -- of_columns-block-requires
+    (λ c. search leaf_1)  -- returns-then-field-eq-BINARY
+    (λ c κs. search rules)  -- low_word-requires
+    (λ c κs. search rules)  -- reduce-prime-requires
+    (λ c. search leaf_2)  -- returns
     )

@@ -8,11 +8,11 @@ pub put_element_spec : {M : Type 1} → statement M
 put_element_spec =
     tie.close
     (tie.spec
-    (λ c κs. search first-room)  -- put-word-requires
-    (λ c. search rules)  -- add-put-word
-    (λ c κs. search stored-room)  -- put-word-requires-2
-    (λ c. search rules)  -- same-length
-    (λ c. search stored_1)  -- returns
-    (λ c. search rules)  -- same-length-2
-    (λ c. search stored_2)  -- returns-2
+    (λ c κs. search first-room)  -- put_word-requires
+    (λ c. search rules)  -- overflow_add-at
+    (λ c κs. search stored-room)  -- put_word-requires-then-field-eq-BINARY
+    (λ c. search rules)  -- shape_of-bytes-then-field-eq-BINARY
+    (λ c. search stored_1)  -- returns-then-field-eq-BINARY
+    (λ c. search rules)  -- shape_of-bytes-else-field-eq-BINARY
+    (λ c. search stored_2)  -- returns-else-field-eq-BINARY
     )

@@ -7,6 +7,6 @@ pub rest_zero_spec : {M : Type 1} → statement M
 rest_zero_spec =
     tie.close
     (tie.spec
-    (λ c. search rest-one)  -- returns
-    (λ c. search rest-other)  -- returns-2
+    (λ c. search rest-one)  -- returns-then-field-eq-BINARY
+    (λ c. search rest-other)  -- returns-else-field-eq-BINARY
     )

@@ -7,7 +7,7 @@ pub same_element_spec : {M : Type 1} → statement M
 same_element_spec =
     tie.close
     (tie.spec
-    (λ c. search low_differs)  -- returns
-    (λ c. search compared_1)  -- returns-2
-    (λ c. search compared_2)  -- returns-3
+    (λ c. search low_differs)  -- returns-then-a-b
+    (λ c. search compared_1)  -- returns-then-field-eq-BINARY
+    (λ c. search compared_2)  -- returns
     )

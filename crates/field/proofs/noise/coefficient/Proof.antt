@@ -8,7 +8,7 @@ pub coefficient_spec : {M : Type 1} → statement M
 coefficient_spec =
     tie.close
     (tie.spec
-    (λ c. search coefficient_1)  -- returns
-    (λ c κs. search rules)  -- reduce-requires
-    (λ c. search coefficient_2)  -- returns-2
+    (λ c. search coefficient_1)  -- returns-then-field-eq-BINARY
+    (λ c κs. search rules)  -- reduce-reduced-requires
+    (λ c. search coefficient_2)  -- returns
     )

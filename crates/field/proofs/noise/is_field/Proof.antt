@@ -7,6 +7,6 @@ pub is_field_spec : {M : Type 1} → statement M
 is_field_spec =
     tie.close
     (tie.spec
-    (λ c. search field-one)  -- returns
-    (λ c. search field-other)  -- returns-2
+    (λ c. search field-one)  -- returns-then-field-eq-BINARY
+    (λ c. search field-other)  -- returns-else-field-eq-BINARY
     )

@@ -8,8 +8,8 @@ pub is_noise_spec : {M : Type 1} → statement M
 is_noise_spec =
     tie.close
     (tie.spec
-    (λ c. search noise-one)  -- returns
-    (λ c. search rules)  -- sub-result
-    (λ c. search noise_upper)  -- returns-2
-    (λ c. search noise_lower)  -- returns-3
+    (λ c. search noise-one)  -- returns-then-field-eq-BINARY
+    (λ c. search rules)  -- overflow_sub-result
+    (λ c. search noise_upper)  -- returns-then-value-ge1
+    (λ c. search noise_lower)  -- returns-else-value-ge1
     )

@@ -8,8 +8,8 @@ pub noise_sum_spec : {M : Type 1} → statement M
 noise_sum_spec =
     tie.close
     (tie.spec
-    (λ c κs. search rules)  -- add-bits-requires
-    (λ c. search noise-sum_1)  -- returns
-    (λ c κs. search rules)  -- add-requires
-    (λ c. search noise-sum_2)  -- returns-2
+    (λ c κs. search rules)  -- add_bits-requires
+    (λ c. search noise-sum_1)  -- returns-then-field-eq-BINARY
+    (λ c κs. search rules)  -- add-sum-requires
+    (λ c. search noise-sum_2)  -- returns
     )

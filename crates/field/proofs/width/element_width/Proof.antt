@@ -8,6 +8,6 @@ pub element_width_spec : {M : Type 1} → statement M
 element_width_spec =
     tie.close
     (tie.spec
-    (λ c. sym (words_1 _ c.if1.true))  -- returns
-    (λ c. sym (words_2 _ c.if1.false))  -- returns-2
+    (λ c. sym (words_1 _ c.if-field-eq-BINARY.true))  -- returns-then-field-eq-BINARY
+    (λ c. sym (words_2 _ c.if-field-eq-BINARY.false))  -- returns-else-field-eq-BINARY
     )

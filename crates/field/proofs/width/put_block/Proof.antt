@@ -10,12 +10,12 @@ pub put_block_spec : {M : Type 1} → statement M
 put_block_spec =
     tie.close
     (tie.spec
-    (λ c. search rules)  -- mul-low
-    (λ c. search rules)  -- mul-words
-    (λ c. search rules)  -- slice-write-words
-    (λ c. search rules)  -- add-words
-    (λ c. search rules)  -- mul-words-2
-    (λ c. simp length-set (omega arith))  -- slice-write-words-2
-    (λ c. search rules)  -- same-length
+    (λ c. search rules)  -- overflow_mul-low
+    (λ c. search rules)  -- offset_bounds-words-low
+    (λ c. search rules)  -- bounds-words-low
+    (λ c. search rules)  -- overflow_add-words
+    (λ c. search rules)  -- offset_bounds-words-low-2
+    (λ c. simp length-set (omega arith))  -- bounds-words-low-2
+    (λ c. search rules)  -- shape_of-words
     (λ c. search put-block_is)  -- returns
     )

@@ -4,26 +4,26 @@ use borrow.Author.Rules.{rules}
 use Rattle.fips197.proofs.plain.add_key.Statement.{statement}
 use Rattle.fips197.proofs.plain.add_key.Tie as tie
 
-abbrev invariant-loop : tie.invariant-loop
-invariant-loop w r s sum₀ i₀ sum i = i ≤ 16
+abbrev invariant-loop-i : tie.invariant-loop-i
+invariant-loop-i w r s sum₀ i₀ sum i = i ≤ 16
 
-abbrev decreases-loop : tie.decreases-loop
-decreases-loop w r s sum₀ i₀ sum i = 16 - i
+abbrev decreases-loop-i : tie.decreases-loop-i
+decreases-loop-i w r s sum₀ i₀ sum i = 16 - i
 
 pub add_key_spec : {M : Type 1} → statement M
 add_key_spec =
     tie.close
     (tie.spec
-    invariant-loop
-    decreases-loop
-    (λ c. search rules)  -- loop-holds
-    (λ c. search rules)  -- array-read-sum
-    (λ c. search rules)  -- mul-sum
-    (λ c. search rules)  -- add-sum
-    (λ c. search rules)  -- element-copy-out-sum
-    (λ c. search rules)  -- array-write-sum
-    (λ c. search rules)  -- add-i
-    (λ c. search rules)  -- loop-less
-    (λ c. search rules)  -- loop-again
+    invariant-loop-i
+    decreases-loop-i
+    (λ c. search rules)  -- loop-i-init
+    (λ c. search rules)  -- bounds-s-i
+    (λ c. search rules)  -- overflow_mul-sum
+    (λ c. search rules)  -- overflow_add-sum
+    (λ c. search rules)  -- bounds-w-r
+    (λ c. search rules)  -- bounds-sum-i
+    (λ c. search rules)  -- overflow_add-i
+    (λ c. search rules)  -- loop-i-smaller
+    (λ c. search rules)  -- loop-i-preserved
     (λ c. search rules)  -- returns
     )

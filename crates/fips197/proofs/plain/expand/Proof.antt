@@ -4,43 +4,43 @@ use borrow.Author.Rules.{rules}
 use Rattle.fips197.proofs.plain.expand.Statement.{statement}
 use Rattle.fips197.proofs.plain.expand.Tie as tie
 
-abbrev invariant-loop : tie.invariant-loop
-invariant-loop t key w₀ i₀ w i = i ≤ 16
+abbrev invariant-loop-i : tie.invariant-loop-i
+invariant-loop-i t key w₀ i₀ w i = i ≤ 16
 
-abbrev decreases-loop : tie.decreases-loop
-decreases-loop t key w₀ i₀ w i = 16 - i
+abbrev decreases-loop-i : tie.decreases-loop-i
+decreases-loop-i t key w₀ i₀ w i = 16 - i
 
-abbrev invariant-loop2 : tie.invariant-loop2
-invariant-loop2 t w₀ i c₀ at₀ w c at = (16 ≤ at) × (at ≤ 176)
+abbrev invariant-loop-at : tie.invariant-loop-at
+invariant-loop-at t w₀ i c₀ at₀ w c at = (16 ≤ at) × (at ≤ 176)
 
-abbrev decreases-loop2 : tie.decreases-loop2
-decreases-loop2 t w₀ i c₀ at₀ w c at = 176 - at
+abbrev decreases-loop-at : tie.decreases-loop-at
+decreases-loop-at t w₀ i c₀ at₀ w c at = 176 - at
 
 pub expand_spec : {M : Type 1} → statement M
 expand_spec =
     tie.close
     (tie.spec
-    invariant-loop
-    decreases-loop
-    invariant-loop2
-    decreases-loop2
-    (λ c. search rules)  -- loop-holds
-    (λ c. search rules)  -- array-read-w
-    (λ c. search rules)  -- array-write-w
-    (λ c. search rules)  -- add-i
-    (λ c. search rules)  -- loop-less
-    (λ c. search rules)  -- loop-again
-    (λ c. search rules)  -- loop2-holds
-    (λ c. search rules)  -- sub-x
-    (λ c. search rules)  -- array-read-x
+    invariant-loop-i
+    decreases-loop-i
+    invariant-loop-at
+    decreases-loop-at
+    (λ c. search rules)  -- loop-i-init
+    (λ c. search rules)  -- bounds-key-i
+    (λ c. search rules)  -- bounds-w-i
+    (λ c. search rules)  -- overflow_add-i
+    (λ c. search rules)  -- loop-i-smaller
+    (λ c. search rules)  -- loop-i-preserved
+    (λ c. search rules)  -- loop-at-init
+    (λ c. search rules)  -- overflow_sub-x
+    (λ c. search rules)  -- bounds-w-at
     (λ c κs. search rules)  -- turned-requires
-    (λ c κs. search rules)  -- get-requires
-    (λ c κs. search rules)  -- double-requires
-    (λ c. search rules)  -- sub-w
-    (λ c. search rules)  -- array-read-w-2
-    (λ c. search rules)  -- array-write-w-2
-    (λ c. search rules)  -- add-at
-    (λ c. search rules)  -- loop2-less
-    (λ c. search rules)  -- loop2-again
+    (λ c κs. search rules)  -- get-x-requires
+    (λ c κs. search rules)  -- double-c-requires
+    (λ c. search rules)  -- overflow_sub-w
+    (λ c. search rules)  -- bounds-w-at-in-loop-at
+    (λ c. search rules)  -- bounds-w-at-in-loop-at-2
+    (λ c. search rules)  -- overflow_add-at
+    (λ c. search rules)  -- loop-at-smaller
+    (λ c. search rules)  -- loop-at-preserved
     (λ c. search rules)  -- returns
     )

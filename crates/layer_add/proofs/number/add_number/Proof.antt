@@ -8,12 +8,12 @@ pub add_number_spec : {M : Type 1} → statement M
 add_number_spec =
     tie.close
     (tie.spec
-    (λ c κs. search rules)  -- is-field-requires
+    (λ c κs. search rules)  -- is_field-requires
+    (λ c. search chain depth 9)  -- returns-then-not-is_field
+    (λ c. search chain depth 9)  -- returns-then-from-into
+    (λ c κs. search rules)  -- are_words-requires
+    (λ c. search chain depth 9)  -- returns-then-not-are_words
+    (λ c κs. search rules)  -- are_words-requires-2
+    (λ c. search chain depth 9)  -- returns-then-not-are_words-2
     (λ c. search chain depth 9)  -- returns
-    (λ c. search chain depth 9)  -- returns-2
-    (λ c κs. search rules)  -- are-words-requires
-    (λ c. search chain depth 9)  -- returns-3
-    (λ c κs. search rules)  -- are-words-requires-2
-    (λ c. search chain depth 9)  -- returns-4
-    (λ c. search chain depth 9)  -- returns-5
     )

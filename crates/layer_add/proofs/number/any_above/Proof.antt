@@ -9,32 +9,32 @@ use Rattle.layer_add.proofs.Search.{search_first, search_second, search_two, sea
 use Rattle.layer_add.proofs.number.any_above.Statement.{statement}
 use Rattle.layer_add.proofs.number.any_above.Tie as tie
 
-abbrev invariant-loop : tie.invariant-loop
-invariant-loop limit words i₀ left₀ i left = (i + left ≡ length words) × (any_above limit words ≡ any_above limit (drop i words))
+abbrev invariant-loop-left : tie.invariant-loop-left
+invariant-loop-left limit words i₀ left₀ i left = (i + left ≡ length words) × (any_above limit words ≡ any_above limit (drop i words))
 
-abbrev decreases-loop : tie.decreases-loop
-decreases-loop limit words i₀ left₀ i left = left
+abbrev decreases-loop-left : tie.decreases-loop-left
+decreases-loop-left limit words i₀ left₀ i left = left
 
 pub any_above_spec : {M : Type 1} → statement M
 any_above_spec =
     tie.close
     (tie.spec
-    invariant-loop
-    decreases-loop
-    (λ c. (omega arith, refl))  -- loop-holds
-    (λ c. search rules)  -- mul-if1
-    (λ c. omega arith)  -- shared-slice-read-if1
-    (λ c. search search_first)  -- returns
-    (λ c. omega arith)  -- add-if2
-    (λ c. search rules)  -- mul-if2
-    (λ c. omega arith)  -- shared-slice-read-if2
-    (λ c. search search_second)  -- returns-2
-    (λ c. omega arith)  -- add-i
-    (λ c. omega arith)  -- sub-left
-    (λ c. omega arith)  -- loop-less
-    (λ c. (omega arith, search search_two))  -- loop-again
-    (λ c. search search_none)  -- returns-3
-    (λ c. search rules)  -- mul-result
-    (λ c. omega arith)  -- shared-slice-read-result
-    (λ c. search search_last)  -- returns-4
+    invariant-loop-left
+    decreases-loop-left
+    (λ c. (omega arith, refl))  -- loop-left-init
+    (λ c. search rules)  -- offset_bounds-words-i
+    (λ c. omega arith)  -- bounds-words-i
+    (λ c. search search_first)  -- returns-then-words-i
+    (λ c. omega arith)  -- overflow_add-i
+    (λ c. search rules)  -- offset_bounds-words-i-in-loop-left
+    (λ c. omega arith)  -- bounds-words-i-in-loop-left
+    (λ c. search search_second)  -- returns-then-words-i-2
+    (λ c. omega arith)  -- overflow_add-i-in-loop-left
+    (λ c. omega arith)  -- overflow_sub-left
+    (λ c. omega arith)  -- loop-left-smaller
+    (λ c. (omega arith, search search_two))  -- loop-left-preserved
+    (λ c. search search_none)  -- returns-then-left-eq0
+    (λ c. search rules)  -- offset_bounds-words-i-2
+    (λ c. omega arith)  -- bounds-words-i-2
+    (λ c. search search_last)  -- returns
     )

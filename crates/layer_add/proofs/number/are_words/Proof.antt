@@ -9,9 +9,9 @@ pub are_words_spec : {M : Type 1} → statement M
 are_words_spec =
     tie.close
     (tie.spec
-    (λ c. search words_1)  -- returns
+    (λ c. search words_1)  -- returns-then-field-eq1
     (λ c κs. search rules)  -- modulus-requires
-    (λ c. omega arith)  -- sub-any-above
-    (λ c κs. search rules)  -- any-above-requires
-    (λ c. search words_2)  -- returns-2
+    (λ c. omega arith)  -- overflow_sub-modulus
+    (λ c κs. search rules)  -- any_above-requires
+    (λ c. search words_2)  -- returns
     )

@@ -13,29 +13,29 @@ use Rattle.layer_add.proofs.Turns.{word_more, words-all}
 use Rattle.layer_add.proofs.words.add_binary.Statement.{statement}
 use Rattle.layer_add.proofs.words.add_binary.Tie as tie
 
-abbrev invariant-loop : tie.invariant-loop
-invariant-loop from into₀ k₀ into k =
+abbrev invariant-loop-k : tie.invariant-loop-k
+invariant-loop-k from into₀ k₀ into k =
     (k ≤ length into₀) × (length into ≡ length into₀) × (into ≡ over word k (sum_at bit_xor from into₀) into₀)
 
-abbrev decreases-loop : tie.decreases-loop
-decreases-loop from into₀ k₀ into k = length into₀ - k
+abbrev decreases-loop-k : tie.decreases-loop-k
+decreases-loop-k from into₀ k₀ into k = length into₀ - k
 
 pub add_binary_spec : {M : Type 1} → statement M
 add_binary_spec =
     tie.close
     (tie.spec
-    invariant-loop
-    decreases-loop
-    (λ c. (omega arith, refl, search front-none))  -- loop-holds
-    (λ c. search rules)  -- mul-into
-    (λ c. omega arith)  -- shared-slice-read-into
-    (λ c. search rules)  -- mul-into-2
-    (λ c. omega arith)  -- slice-read-into
-    (λ c. search rules)  -- mul-into-3
-    (λ c. omega arith)  -- slice-write-into
-    (λ c. omega arith)  -- add-k
-    (λ c. omega arith)  -- loop-less
-    (λ c. (omega arith, search rules, search (word_more bit_xor)))  -- loop-again
-    (λ c. search rules)  -- same-length
+    invariant-loop-k
+    decreases-loop-k
+    (λ c. (omega arith, refl, search front-none))  -- loop-k-init
+    (λ c. search rules)  -- offset_bounds-from-k
+    (λ c. omega arith)  -- bounds-from-k
+    (λ c. search rules)  -- offset_bounds-into-k
+    (λ c. omega arith)  -- bounds-into-k
+    (λ c. search rules)  -- offset_bounds-into-k-in-loop-k
+    (λ c. omega arith)  -- bounds-into-k-in-loop-k
+    (λ c. omega arith)  -- overflow_add-k
+    (λ c. omega arith)  -- loop-k-smaller
+    (λ c. (omega arith, search rules, search (word_more bit_xor)))  -- loop-k-preserved
+    (λ c. search rules)  -- shape_of-into
     (λ c. search words-all)  -- returns
     )

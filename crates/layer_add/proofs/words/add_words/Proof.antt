@@ -8,10 +8,10 @@ pub add_words_spec : {M : Type 1} → statement M
 add_words_spec =
     tie.close
     (tie.spec
-    (λ c κs. search rules)  -- add-binary-requires
-    (λ c κs. (search rules, search are_below, search are_below))  -- add-prime-requires
-    (λ c. search rules)  -- same-length
-    (λ c. search summed_1)  -- returns
-    (λ c. search rules)  -- same-length-2
-    (λ c. search summed_2)  -- returns-2
+    (λ c κs. search rules)  -- add_binary-requires
+    (λ c κs. (search rules, search are_below, search are_below))  -- add_prime-requires
+    (λ c. search rules)  -- shape_of-into-then-field-eq1
+    (λ c. search summed_1)  -- returns-then-field-eq1
+    (λ c. search rules)  -- shape_of-into-else-field-eq1
+    (λ c. search summed_2)  -- returns-else-field-eq1
     )

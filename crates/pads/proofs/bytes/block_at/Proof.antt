@@ -8,8 +8,8 @@ pub block_at_spec : {M : Type 1} → statement M
 block_at_spec =
     tie.close
     (tie.spec
-    (λ c κs. search rules)  -- word-at-requires
-    (λ c. search rules)  -- add-word-at
-    (λ c κs. search rules)  -- word-at-requires-2
+    (λ c κs. search rules)  -- word_at-requires
+    (λ c. search rules)  -- overflow_add-at
+    (λ c κs. search rules)  -- word_at-requires-2
     (λ c. search block_eq)  -- returns
     )

@@ -8,9 +8,9 @@ pub put_block_spec : {M : Type 1} → statement M
 put_block_spec =
     tie.close
     (tie.spec
-    (λ c κs. search rules)  -- put-word-requires
-    (λ c. search rules)  -- add-put-word
-    (λ c κs. search rules)  -- put-word-requires-2
-    (λ c. search rules)  -- same-length
+    (λ c κs. search rules)  -- put_word-requires
+    (λ c. search rules)  -- overflow_add-at
+    (λ c κs. search rules)  -- put_word-requires-2
+    (λ c. search rules)  -- shape_of-bytes
     (λ c. search put-words)  -- returns
     )

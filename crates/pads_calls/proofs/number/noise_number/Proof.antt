@@ -8,14 +8,14 @@ pub noise_number_spec : {M : Type 1} → statement M
 noise_number_spec =
     tie.close
     (tie.spec
-    (λ c κs. search rules)  -- is-times-requires
+    (λ c κs. search rules)  -- is_times-requires
+    (λ c. search chain depth 9)  -- returns-then-not-is_times
+    (λ c. search chain depth 9)  -- returns-then-choices-count
+    (λ c κs. search rules)  -- is_past-requires
+    (λ c. search chain depth 9)  -- returns-then-is_past
+    (λ c κs. search rules)  -- is_short-requires
+    (λ c. search chain depth 9)  -- returns-then-is_short
+    (λ c κs. search rules)  -- any_above-requires
+    (λ c. search chain depth 9)  -- returns-then-any_above
     (λ c. search chain depth 9)  -- returns
-    (λ c. search chain depth 9)  -- returns-2
-    (λ c κs. search rules)  -- is-past-requires
-    (λ c. search chain depth 9)  -- returns-3
-    (λ c κs. search rules)  -- is-short-requires
-    (λ c. search chain depth 9)  -- returns-4
-    (λ c κs. search rules)  -- any-above-requires
-    (λ c. search chain depth 9)  -- returns-5
-    (λ c. search chain depth 9)  -- returns-6
     )

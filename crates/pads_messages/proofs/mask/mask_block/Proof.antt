@@ -8,10 +8,10 @@ pub mask_block_spec : {M : Type 1} → statement M
 mask_block_spec =
     tie.close
     (tie.spec
-    (λ c κs. search rules)  -- block-at-requires
-    (λ c κs. search rules)  -- block-at-requires-2
+    (λ c κs. search rules)  -- block_at-a-requires
+    (λ c κs. search rules)  -- block_at-b-requires
     (λ c κs. search rules)  -- add-requires
-    (λ c κs. search rules)  -- put-block-requires
-    (λ c. search rules)  -- same-length
+    (λ c κs. search rules)  -- put_block-requires
+    (λ c. search rules)  -- shape_of-out
     (λ c. search put-masked)  -- returns
     )

@@ -8,17 +8,17 @@ pub put_answer_spec : {M : Type 1} → statement M
 put_answer_spec =
     tie.close
     (tie.spec
-    (λ c. search rules)  -- mul-first
-    (λ c. search rules)  -- add-second
-    (λ c. search rules)  -- shared-slice-read-bit
-    (λ c. search rules)  -- cast-bit
-    (λ c. search rules)  -- mul-named
-    (λ c. search rules)  -- add-named
-    (λ c. search rules)  -- sub-other
-    (λ c. search rules)  -- mul-other
-    (λ c. search rules)  -- add-other
-    (λ c κs. search rules)  -- mask-block-requires
-    (λ c κs. search rules)  -- mask-block-requires-2
-    (λ c. search rules)  -- same-length
+    (λ c. search rules)  -- overflow_mul-block0
+    (λ c. search rules)  -- overflow_add-block1
+    (λ c. search rules)  -- bounds-bits-k
+    (λ c. search rules)  -- overflow_cast-bit
+    (λ c. search rules)  -- overflow_mul-named
+    (λ c. search rules)  -- overflow_add-named
+    (λ c. search rules)  -- overflow_sub-other
+    (λ c. search rules)  -- overflow_mul-other
+    (λ c. search rules)  -- overflow_add-other
+    (λ c κs. search rules)  -- mask_block-requires
+    (λ c κs. search rules)  -- mask_block-requires-2
+    (λ c. search rules)  -- shape_of-answers
     (λ c. search answer-both)  -- returns
     )

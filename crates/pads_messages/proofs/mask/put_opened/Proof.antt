@@ -9,13 +9,13 @@ unfolding opened_of
 put_opened_spec =
     tie.close
     (tie.spec
-    (λ c. search rules)  -- shared-slice-read-bit
-    (λ c. search rules)  -- cast-bit
-    (λ c. search rules)  -- mul-place
-    (λ c. search rules)  -- mul-mask-block
-    (λ c. search rules)  -- mul-mask-block-2
-    (λ c. search rules)  -- add-mask-block
-    (λ c κs. search rules)  -- mask-block-requires
-    (λ c. search rules)  -- same-length
+    (λ c. search rules)  -- bounds-wanted-k
+    (λ c. search rules)  -- overflow_cast-bit
+    (λ c. search rules)  -- overflow_mul-place
+    (λ c. search rules)  -- overflow_mul-k
+    (λ c. search rules)  -- overflow_mul-bit
+    (λ c. search rules)  -- overflow_add-k
+    (λ c κs. search rules)  -- mask_block-requires
+    (λ c. search rules)  -- shape_of-messages
     (λ c. search rules)  -- returns
     )

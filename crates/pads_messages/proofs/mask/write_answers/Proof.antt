@@ -13,28 +13,28 @@ use Rattle.pads.proofs.Messages.Turns.{wide-two, mask-bit}
 use Rattle.pads_messages.proofs.mask.write_answers.Statement.{statement}
 use Rattle.pads_messages.proofs.mask.write_answers.Tie as tie
 
-abbrev invariant-loop : tie.invariant-loop
-invariant-loop count bits pads messages answers₀ k₀ answers k =
+abbrev invariant-loop-k : tie.invariant-loop-k
+invariant-loop-k count bits pads messages answers₀ k₀ answers k =
     (k ≤ count) × (32 * count ≤ length answers₀) × (length answers ≡ length answers₀)
     × (answers ≡ over thirty_two k (answer_of bits pads messages) answers₀)
 
-abbrev decreases-loop : tie.decreases-loop
-decreases-loop count bits pads messages answers₀ k₀ answers k = count - k
+abbrev decreases-loop-k : tie.decreases-loop-k
+decreases-loop-k count bits pads messages answers₀ k₀ answers k = count - k
 
 pub write_answers_spec : {M : Type 1} → statement M
 write_answers_spec =
     tie.close
     (tie.spec
-    invariant-loop
-    decreases-loop
-    (λ c. (omega arith, omega arith, refl, search front-none))  -- loop-holds
-    (λ c κs. (omega arith, search mask-bit, omega arith, omega arith, omega arith))  -- put-answer-requires
-    (λ c. omega arith)  -- add-k
-    (λ c. omega arith)  -- loop-less
+    invariant-loop-k
+    decreases-loop-k
+    (λ c. (omega arith, omega arith, refl, search front-none))  -- loop-k-init
+    (λ c κs. (omega arith, search mask-bit, omega arith, omega arith, omega arith))  -- put_answer-requires
+    (λ c. omega arith)  -- overflow_add-k
+    (λ c. omega arith)  -- loop-k-smaller
     (λ c.
     let stored = c.before.before in
-    let inv = stored.before.before.before.loop.invariant in
-    (omega arith, inv.1, omega arith, front_more thirty_two wide-two _ _ _ _ _ _ (omega arith) (omega arith) inv.3 stored.put-answer.ensures))  -- loop-again
-    (λ c. search rules)  -- same-length
+    let inv = stored.before.before.before.loop-k.invariant in
+    (omega arith, inv.1, omega arith, front_more thirty_two wide-two _ _ _ _ _ _ (omega arith) (omega arith) inv.3 stored.put_answer.ensures))  -- loop-k-preserved
+    (λ c. search rules)  -- shape_of-answers_out
     (λ c. search front-all)  -- returns
     )

@@ -13,26 +13,26 @@ use Rattle.pads.proofs.Messages.Turns.{bits_more}
 use Rattle.pads_messages.proofs.mask.write_bits.Statement.{statement}
 use Rattle.pads_messages.proofs.mask.write_bits.Tie as tie
 
-abbrev invariant-loop : tie.invariant-loop
-invariant-loop count choices wanted bits₀ k₀ bits k =
+abbrev invariant-loop-k : tie.invariant-loop-k
+invariant-loop-k count choices wanted bits₀ k₀ bits k =
     (k ≤ count) × (length bits ≡ length bits₀) × (bits ≡ over byte k (correction_bit choices wanted) bits₀)
 
-abbrev decreases-loop : tie.decreases-loop
-decreases-loop count choices wanted bits₀ k₀ bits k = count - k
+abbrev decreases-loop-k : tie.decreases-loop-k
+decreases-loop-k count choices wanted bits₀ k₀ bits k = count - k
 
 pub write_bits_spec : {M : Type 1} → statement M
 write_bits_spec =
     tie.close
     (tie.spec
-    invariant-loop
-    decreases-loop
-    (λ c. (omega arith, refl, search front-none))  -- loop-holds
-    (λ c. omega arith)  -- shared-slice-read-bits-out
-    (λ c. omega arith)  -- shared-slice-read-bits-out-2
-    (λ c. omega arith)  -- slice-write-bits-out
-    (λ c. omega arith)  -- add-k
-    (λ c. omega arith)  -- loop-less
-    (λ c. (omega arith, search rules, search bits_more))  -- loop-again
-    (λ c. search rules)  -- same-length
+    invariant-loop-k
+    decreases-loop-k
+    (λ c. (omega arith, refl, search front-none))  -- loop-k-init
+    (λ c. omega arith)  -- bounds-choices-k
+    (λ c. omega arith)  -- bounds-wanted-k
+    (λ c. omega arith)  -- bounds-bits_out-k
+    (λ c. omega arith)  -- overflow_add-k
+    (λ c. omega arith)  -- loop-k-smaller
+    (λ c. (omega arith, search rules, search bits_more))  -- loop-k-preserved
+    (λ c. search rules)  -- shape_of-bits_out
     (λ c. search front-all)  -- returns
     )

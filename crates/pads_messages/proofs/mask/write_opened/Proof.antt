@@ -13,28 +13,28 @@ use Rattle.pads.proofs.Messages.Turns.{wide-sixteen, unmask-bit}
 use Rattle.pads_messages.proofs.mask.write_opened.Statement.{statement}
 use Rattle.pads_messages.proofs.mask.write_opened.Tie as tie
 
-abbrev invariant-loop : tie.invariant-loop
-invariant-loop count wanted pads answers messages₀ k₀ messages k =
+abbrev invariant-loop-k : tie.invariant-loop-k
+invariant-loop-k count wanted pads answers messages₀ k₀ messages k =
     (k ≤ count) × (16 * count ≤ length messages₀) × (length messages ≡ length messages₀)
     × (messages ≡ over sixteen k (opened_of wanted pads answers) messages₀)
 
-abbrev decreases-loop : tie.decreases-loop
-decreases-loop count wanted pads answers messages₀ k₀ messages k = count - k
+abbrev decreases-loop-k : tie.decreases-loop-k
+decreases-loop-k count wanted pads answers messages₀ k₀ messages k = count - k
 
 pub write_opened_spec : {M : Type 1} → statement M
 write_opened_spec =
     tie.close
     (tie.spec
-    invariant-loop
-    decreases-loop
-    (λ c. (omega arith, omega arith, refl, search front-none))  -- loop-holds
-    (λ c κs. (omega arith, search unmask-bit, omega arith, omega arith, omega arith))  -- put-opened-requires
-    (λ c. omega arith)  -- add-k
-    (λ c. omega arith)  -- loop-less
+    invariant-loop-k
+    decreases-loop-k
+    (λ c. (omega arith, omega arith, refl, search front-none))  -- loop-k-init
+    (λ c κs. (omega arith, search unmask-bit, omega arith, omega arith, omega arith))  -- put_opened-requires
+    (λ c. omega arith)  -- overflow_add-k
+    (λ c. omega arith)  -- loop-k-smaller
     (λ c.
     let stored = c.before.before in
-    let inv = stored.before.before.before.loop.invariant in
-    (omega arith, inv.1, omega arith, front_more sixteen wide-sixteen _ _ _ _ _ _ (omega arith) (omega arith) inv.3 stored.put-opened.ensures))  -- loop-again
-    (λ c. search rules)  -- same-length
+    let inv = stored.before.before.before.loop-k.invariant in
+    (omega arith, inv.1, omega arith, front_more sixteen wide-sixteen _ _ _ _ _ _ (omega arith) (omega arith) inv.3 stored.put_opened.ensures))  -- loop-k-preserved
+    (λ c. search rules)  -- shape_of-messages_out
     (λ c. search front-all)  -- returns
     )

@@ -8,13 +8,13 @@ pub correction_number_spec : {M : Type 1} → statement M
 correction_number_spec =
     tie.close
     (tie.spec
+    (λ c. search chain depth 9)  -- returns-then-count-gt-LARGEST_BATCH
+    (λ c. search chain depth 9)  -- returns-then-choices-count
+    (λ c. search chain depth 9)  -- returns-then-wanted-count
+    (λ c κs. search rules)  -- any_above-requires
+    (λ c. search chain depth 9)  -- returns-then-any_above
+    (λ c κs. search rules)  -- any_above-requires-2
+    (λ c. search chain depth 9)  -- returns-then-any_above-2
+    (λ c. search chain depth 9)  -- returns-then-room-count
     (λ c. search chain depth 9)  -- returns
-    (λ c. search chain depth 9)  -- returns-2
-    (λ c. search chain depth 9)  -- returns-3
-    (λ c κs. search rules)  -- any-above-requires
-    (λ c. search chain depth 9)  -- returns-4
-    (λ c κs. search rules)  -- any-above-requires-2
-    (λ c. search chain depth 9)  -- returns-5
-    (λ c. search chain depth 9)  -- returns-6
-    (λ c. search chain depth 9)  -- returns-7
     )

@@ -8,15 +8,15 @@ pub mask_number_spec : {M : Type 1} → statement M
 mask_number_spec =
     tie.close
     (tie.spec
+    (λ c. search chain depth 9)  -- returns-then-count-gt-LARGEST_BATCH
+    (λ c. search chain depth 9)  -- returns-then-bits-count
+    (λ c κs. search rules)  -- is_times-requires
+    (λ c. search chain depth 9)  -- returns-then-not-is_times
+    (λ c κs. search rules)  -- is_times-requires-2
+    (λ c. search chain depth 9)  -- returns-then-not-is_times-2
+    (λ c κs. search rules)  -- any_above-requires
+    (λ c. search chain depth 9)  -- returns-then-any_above
+    (λ c κs. search rules)  -- is_short-requires
+    (λ c. search chain depth 9)  -- returns-then-is_short
     (λ c. search chain depth 9)  -- returns
-    (λ c. search chain depth 9)  -- returns-2
-    (λ c κs. search rules)  -- is-times-requires
-    (λ c. search chain depth 9)  -- returns-3
-    (λ c κs. search rules)  -- is-times-requires-2
-    (λ c. search chain depth 9)  -- returns-4
-    (λ c κs. search rules)  -- any-above-requires
-    (λ c. search chain depth 9)  -- returns-5
-    (λ c κs. search rules)  -- is-short-requires
-    (λ c. search chain depth 9)  -- returns-6
-    (λ c. search chain depth 9)  -- returns-7
     )

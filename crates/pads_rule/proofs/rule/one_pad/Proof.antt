@@ -9,7 +9,7 @@ pub one_pad_spec : {M : Type 1} → statement M
 one_pad_spec =
     tie.close
     (tie.spec
-    (λ c κs. search rules)  -- encrypt-requires
-    (λ c κs. search rules)  -- second-steps-requires
+    (λ c κs. search rules)  -- encrypt-s-requires
+    (λ c κs. search rules)  -- second_steps-p-requires
     (λ c. search (pad_is, first_is))  -- returns
     )

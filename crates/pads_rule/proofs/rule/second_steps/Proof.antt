@@ -8,10 +8,10 @@ pub second_steps_spec : {M : Type 1} → statement M
 second_steps_spec =
     tie.close
     (tie.spec
+    (λ c κs. search rules)  -- add-p-requires
+    (λ c κs. search rules)  -- add-q-requires
+    (λ c κs. search rules)  -- encrypt_two-e-requires
     (λ c κs. search rules)  -- add-requires
     (λ c κs. search rules)  -- add-requires-2
-    (λ c κs. search rules)  -- encrypt-two-requires
-    (λ c κs. search rules)  -- add-requires-3
-    (λ c κs. search rules)  -- add-requires-4
     (λ c. (search second_is, search second_is))  -- returns
     )

@@ -8,13 +8,13 @@ pub finish_two_spec : {M : Type 1} → statement M
 finish_two_spec =
     tie.close
     (tie.spec
-    (λ c κs. search rules)  -- block-at-requires
-    (λ c. search rules)  -- add-block-at
-    (λ c κs. search rules)  -- block-at-requires-2
-    (λ c κs. search rules)  -- second-steps-requires
-    (λ c κs. search rules)  -- put-block-requires
-    (λ c. search rules)  -- add-put-block
-    (λ c κs. search rules)  -- put-block-requires-2
-    (λ c. search rules)  -- same-length
+    (λ c κs. search rules)  -- block_at-s-requires
+    (λ c. search rules)  -- overflow_add-at
+    (λ c κs. search rules)  -- block_at-t-requires
+    (λ c κs. search rules)  -- second_steps-p-requires
+    (λ c κs. search rules)  -- put_block-requires
+    (λ c. search rules)  -- overflow_add-at-2
+    (λ c κs. search rules)  -- put_block-requires-2
+    (λ c. search rules)  -- shape_of-pads
     (λ c. search put-finished)  -- returns
     )

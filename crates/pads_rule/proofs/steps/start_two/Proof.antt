@@ -8,10 +8,10 @@ pub start_two_spec : {M : Type 1} → statement M
 start_two_spec =
     tie.close
     (tie.spec
-    (λ c κs. search rules)  -- encrypt-two-requires
-    (λ c κs. search rules)  -- put-block-requires
-    (λ c. search rules)  -- add-put-block
-    (λ c κs. search rules)  -- put-block-requires-2
-    (λ c. search rules)  -- same-length
+    (λ c κs. search rules)  -- encrypt_two-s-requires
+    (λ c κs. search rules)  -- put_block-requires
+    (λ c. search rules)  -- overflow_add-at
+    (λ c κs. search rules)  -- put_block-requires-2
+    (λ c. search rules)  -- shape_of-pads
     (λ c. search (put_both, first_is))  -- returns
     )

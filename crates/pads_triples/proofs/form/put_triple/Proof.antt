@@ -10,20 +10,20 @@ pub put_triple_spec : {M : Type 1} → statement M
 put_triple_spec =
     tie.close
     (tie.spec
-    (λ c. search rules)  -- shared-slice-read-a
-    (λ c. search rules)  -- mul-h
-    (λ c. search rules)  -- shared-slice-read-h
-    (λ c. search rules)  -- mul-r
-    (λ c. search rules)  -- shared-slice-read-r
-    (λ c. search rules)  -- mul-q
-    (λ c. search rules)  -- add-q
-    (λ c. search rules)  -- shared-slice-read-q
-    (λ c. search rules)  -- mul-place
-    (λ c. search rules)  -- slice-write-triples
-    (λ c. search rules)  -- add-triples
-    (λ c. simp length-set (omega arith))  -- slice-write-triples-2
-    (λ c. search rules)  -- add-triples-2
-    (λ c. simp length-set (omega arith))  -- slice-write-triples-3
-    (λ c. search rules)  -- same-length
+    (λ c. search rules)  -- bounds-choices-k
+    (λ c. search rules)  -- overflow_mul-h
+    (λ c. search rules)  -- bounds-pads-k
+    (λ c. search rules)  -- overflow_mul-r
+    (λ c. search rules)  -- bounds-pad_pairs-k
+    (λ c. search rules)  -- overflow_mul-q
+    (λ c. search rules)  -- overflow_add-q
+    (λ c. search rules)  -- bounds-pad_pairs-k-2
+    (λ c. search rules)  -- overflow_mul-place
+    (λ c. search rules)  -- bounds-triples-place
+    (λ c. search rules)  -- overflow_add-triples
+    (λ c. simp length-set (omega arith))  -- bounds-triples-place-2
+    (λ c. search rules)  -- overflow_add-triples-2
+    (λ c. simp length-set (omega arith))  -- bounds-triples-place-3
+    (λ c. search rules)  -- shape_of-triples
     (λ c. search triple-stored)  -- returns
     )

@@ -13,45 +13,45 @@ use Rattle.pads_write.proofs.Turns.{both-pads_started}
 use Rattle.pads_write.proofs.write.start_both_pads.Statement.{statement}
 use Rattle.pads_write.proofs.write.start_both_pads.Tie as tie
 
-abbrev invariant-loop : tie.invariant-loop
-invariant-loop tables keys count w delta pads₀ k₀ pads k =
+abbrev invariant-loop-k : tie.invariant-loop-k
+invariant-loop-k tables keys count w delta pads₀ k₀ pads k =
     (k ≤ count) × (count * 32 ≤ length pads₀) × (length pads ≡ length pads₀)
     × (pads ≡ over pad_pair_bytes k (λ i. first_steps (at block_bytes w i) delta) pads₀)
 
-abbrev decreases-loop : tie.decreases-loop
-decreases-loop tables keys count w delta pads₀ k₀ pads k = count - k
+abbrev decreases-loop-k : tie.decreases-loop-k
+decreases-loop-k tables keys count w delta pads₀ k₀ pads k = count - k
 
 pub start_both_pads_spec : {M : Type 1} → statement M
 start_both_pads_spec =
     tie.close
     (tie.spec
-    invariant-loop
-    decreases-loop
-    (λ c. (omega arith, omega arith, refl, front-none pad_pair_bytes _ _))  -- loop-holds
-    (λ c. omega arith)  -- mul-block-at
-    (λ c κs. omega arith)  -- block-at-requires
+    invariant-loop-k
+    decreases-loop-k
+    (λ c. (omega arith, omega arith, refl, front-none pad_pair_bytes _ _))  -- loop-k-init
+    (λ c. omega arith)  -- overflow_mul-k
+    (λ c κs. omega arith)  -- block_at-b-requires
     (λ c κs. search rules)  -- add-requires
-    (λ c. omega arith)  -- mul-start-two
-    (λ c κs. (search rules, omega arith))  -- start-two-requires
-    (λ c. omega arith)  -- add-k
-    (λ c. omega arith)  -- loop-less
+    (λ c. omega arith)  -- overflow_mul-k-in-loop-k
+    (λ c κs. (search rules, omega arith))  -- start_two-requires
+    (λ c. omega arith)  -- overflow_add-k
+    (λ c. omega arith)  -- loop-k-smaller
     (λ c.
     let started = c.before.before in
     let summed = started.before.before in
     let block = summed.before in
     let begun = block.before in
-    let inv = begun.before.loop.invariant in (
+    let inv = begun.before.loop-k.invariant in (
       omega arith,
       inv.1,
       omega arith,
       both-pads_started _ _ _ _ _ _ _ _ _
-          begun.loop-test.true
+          begun.loop-k-test.true
           inv.1
           inv.3
-          block.block-at.ensures
+          block.block_at-b.ensures
           summed.add.ensures
-          started.start-two.ensures,
-    ))  -- loop-again
-    (λ c. search rules)  -- same-length
+          started.start_two.ensures,
+    ))  -- loop-k-preserved
+    (λ c. search rules)  -- shape_of-pads
     (λ c. search front-all)  -- returns
     )

@@ -8,12 +8,12 @@ pub write_both_pads_spec : {M : Type 1} → statement M
 write_both_pads_spec =
     tie.close
     (tie.spec
-    (λ c κs. search rules)  -- start-both-pads-requires
-    (λ c κs. search rules)  -- finish-both-pads-requires
-    (λ c. search rules)  -- same-length
+    (λ c κs. search rules)  -- start_both_pads-requires
+    (λ c κs. search rules)  -- finish_both_pads-requires
+    (λ c. search rules)  -- shape_of-pads
     (λ c.
     let finished = c.before.before in
     let between = finished.before.before in
     let started = between.before.before in
-    both-pads-passes _ _ _ _ _ _ _ started.start-both-pads.ensures finished.finish-both-pads.ensures)  -- returns
+    both-pads-passes _ _ _ _ _ _ _ started.start_both_pads.ensures finished.finish_both_pads.ensures)  -- returns
     )

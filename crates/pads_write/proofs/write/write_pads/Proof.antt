@@ -11,14 +11,14 @@ pub write_pads_spec : {M : Type 1} → statement M
 write_pads_spec =
     tie.close
     (tie.spec
-    (λ c κs. search rules)  -- write-pairs-requires
-    (λ c. search rules)  -- mul-k
-    (λ c. search rules)  -- mul-at
-    (λ c κs. search rules)  -- block-at-requires
-    (λ c. search rules)  -- add-one-pad
-    (λ c κs. search rules)  -- one-pad-requires
-    (λ c κs. search rules)  -- put-block-requires
-    (λ c. search rules)  -- same-length
+    (λ c κs. search rules)  -- write_pairs-requires
+    (λ c. search rules)  -- overflow_mul-k
+    (λ c. search rules)  -- overflow_mul-at
+    (λ c κs. search rules)  -- block_at-a-requires
+    (λ c. search rules)  -- overflow_add-first
+    (λ c κs. search rules)  -- one_pad-p-requires
+    (λ c κs. search rules)  -- put_block-requires
+    (λ c. search rules)  -- shape_of-pads-then-k-count
     (λ c.
     let stored = c.before.before in
     let made = stored.before.before in
@@ -31,12 +31,12 @@ write_pads_spec =
     (omega arith)
     (omega arith)
     entry.requires.1.outputs
-    pairs.write-pairs.ensures
-    one.block-at.ensures
-    made.one-pad.ensures
-    stored.put-block.ensures)  -- returns
-    (λ c. search rules)  -- same-length-2
+    pairs.write_pairs.ensures
+    one.block_at-a.ensures
+    made.one_pad-p.ensures
+    stored.put_block.ensures)  -- returns-then-k-count
+    (λ c. search rules)  -- shape_of-pads-else-k-count
     (λ c.
     let pairs = c.before.before.before in
-    front-all block_bytes _ _ _ _ _ (omega arith) (omega arith) pairs.write-pairs.ensures)  -- returns-2
+    front-all block_bytes _ _ _ _ _ (omega arith) (omega arith) pairs.write_pairs.ensures)  -- returns-else-k-count
     )

@@ -8,12 +8,12 @@ pub write_pairs_spec : {M : Type 1} → statement M
 write_pairs_spec =
     tie.close
     (tie.spec
-    (λ c κs. search rules)  -- start-pairs-requires
-    (λ c κs. search rules)  -- finish-pairs-requires
-    (λ c. search rules)  -- same-length
+    (λ c κs. search rules)  -- start_pairs-requires
+    (λ c κs. search rules)  -- finish_pairs-requires
+    (λ c. search rules)  -- shape_of-pads
     (λ c.
     let finished = c.before.before in
     let between = finished.before.before in
     let started = between.before.before in
-    pairs_passes _ _ _ _ _ _ started.start-pairs.ensures finished.finish-pairs.ensures)  -- returns
+    pairs_passes _ _ _ _ _ _ started.start_pairs.ensures finished.finish_pairs.ensures)  -- returns
     )

@@ -10,14 +10,14 @@ compare_spec =
     tie.close
     (tie.spec
     (λ c κs. search rules)  -- leaves-requires
-    (λ c. search first_large)  -- returns
+    (λ c. search first_large)  -- returns-then-leaves-gt-MOST_LEAVES
     (λ c κs. search rules)  -- leaves-requires-2
-    (λ c. search second_large)  -- returns-2
-    (λ c κs. (search noise-key, search scalar-key))  -- same-dealing-requires
-    (λ c. search other-dealing)  -- returns-3
+    (λ c. search second_large)  -- returns-then-leaves-gt-MOST_LEAVES-2
+    (λ c κs. (search noise-key, search scalar-key))  -- same_dealing-requires
+    (λ c. search other-dealing)  -- returns-then-not-same_dealing
     (λ c κs. (
       (search rules, search rules),
-      record { head = one-dealing c.before.same-dealing.ensures c.if3.false; small = omega arith; small_too = omega arith },
-    ))  -- held-outputs-requires
-    (λ c. search rules)  -- returns-4
+      record { head = one-dealing c.before.same_dealing.ensures c.if-not-same_dealing.false-raw; small = omega arith; small_too = omega arith },
+    ))  -- held_outputs-requires
+    (λ c. search rules)  -- returns
     )

@@ -8,16 +8,16 @@ pub held_outputs_spec : {M : Type 1} → statement M
 held_outputs_spec =
     tie.close
     (tie.spec
-    (λ c. search rules)  -- slice-aggregate-noise-outputs
-    (λ c. search rules)  -- slice-aggregate-noise-outputs-2
-    (λ c κs. search rules)  -- noise-outputs-requires
-    (λ c. search rules)  -- slice-aggregate-scalar-outputs
-    (λ c. search rules)  -- slice-aggregate-scalar-outputs-2
-    (λ c κs. search rules)  -- scalar-outputs-requires
-    (λ c. search rules)  -- slice-aggregate-count-held
-    (λ c. search rules)  -- slice-aggregate-count-held-2
-    (λ c. search rules)  -- slice-aggregate-count-held-3
-    (λ c. search rules)  -- slice-aggregate-count-held-4
-    (λ c κs. (search rules, search u-room, search pairs_room, search pairs_room))  -- count-held-requires
+    (λ c. search rules)  -- slice_bounds-noise_outputs-end
+    (λ c. search rules)  -- slice_bounds-noise_outputs-end-2
+    (λ c κs. search rules)  -- noise_outputs-requires
+    (λ c. search rules)  -- slice_bounds-scalar_outputs-end
+    (λ c. search rules)  -- slice_bounds-scalar_outputs-end-2
+    (λ c κs. search rules)  -- scalar_outputs-requires
+    (λ c. search rules)  -- slice_bounds-count_held-end
+    (λ c. search rules)  -- slice_bounds-count_held-end-2
+    (λ c. search rules)  -- slice_bounds-count_held-end-3
+    (λ c. search rules)  -- slice_bounds-count_held-end-4
+    (λ c κs. (search rules, search u-room, search pairs_room, search pairs_room))  -- count_held-requires
     (λ c. search outputs-found)  -- returns
     )

@@ -10,16 +10,16 @@ pub judge_spec : {M : Type 1} → statement M
 judge_spec =
     tie.close
     (tie.spec
-    (λ c κs. search rules)  -- read-noise-requires
-    (λ c. search rules)  -- enum-known-a
-    (λ c. search rules)  -- enum-told
-    (λ c κs. search rules)  -- record-fault-requires
-    (λ c. search noise-number)  -- returns
-    (λ c κs. search rules)  -- read-scalar-requires
-    (λ c. search rules)  -- enum-known-b
-    (λ c. search rules)  -- enum-told-2
-    (λ c κs. search rules)  -- record-fault-requires-2
-    (λ c. search scalar-number)  -- returns-2
+    (λ c κs. search rules)  -- read_noise-a-requires
+    (λ c. search rules)  -- enum_known-a
+    (λ c. search rules)  -- enum_told-1
+    (λ c κs. search rules)  -- record_fault-requires
+    (λ c. search noise-number)  -- returns-in_default
+    (λ c κs. search rules)  -- read_scalar-b-requires
+    (λ c. search rules)  -- enum_known-b
+    (λ c. search rules)  -- enum_told-in_default-b
+    (λ c κs. search rules)  -- record_fault-requires-in_default-b
+    (λ c. search scalar-number)  -- returns-in_default-b
     (λ c κs. (search noise.ready, search scalar.ready))  -- compare-requires
-    (λ c. search rules)  -- returns-3
+    (λ c. search rules)  -- returns
     )

@@ -8,15 +8,15 @@ pub noise_outputs_spec : {M : Type 1} → statement M
 noise_outputs_spec =
     tie.close
     (tie.spec
-    (λ c. search rules)  -- slice-aggregate-offline
-    (λ c. search rules)  -- slice-aggregate-offline-2
-    (λ c κs. search rules)  -- offline-requires
-    (λ c. search noise-in)  -- array-share-prefix-noise
-    (λ c. search noise-front)  -- slice-aggregate-online
-    (λ c. search v_in)  -- array-share-prefix-v
-    (λ c. search v_front)  -- slice-aggregate-online-2
+    (λ c. search rules)  -- slice_bounds-offline-end
+    (λ c. search rules)  -- slice_bounds-offline-end-2
+    (λ c κs. search rules)  -- offline-lengths-requires
+    (λ c. search noise-in)  -- slice_bounds-noise-end
+    (λ c. search noise-front)  -- slice_bounds-online-end
+    (λ c. search v_in)  -- slice_bounds-v-end
+    (λ c. search v_front)  -- slice_bounds-online-end-2
     (λ c κs. search rules)  -- online-requires
-    (λ c. search rules)  -- same-length
-    (λ c. search rules)  -- same-length-2
+    (λ c. search rules)  -- shape_of-u_out
+    (λ c. search rules)  -- shape_of-v_out
     (λ c. search noise-values)  -- returns
     )

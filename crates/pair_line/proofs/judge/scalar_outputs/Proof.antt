@@ -8,12 +8,12 @@ pub scalar_outputs_spec : {M : Type 1} → statement M
 scalar_outputs_spec =
     tie.close
     (tie.spec
-    (λ c. search rules)  -- slice-aggregate-offline
-    (λ c κs. search rules)  -- offline-requires
-    (λ c. search w_in)  -- array-share-prefix-w
-    (λ c. search w_front)  -- slice-aggregate-online
+    (λ c. search rules)  -- slice_bounds-offline-end
+    (λ c κs. search rules)  -- offline-lengths-requires
+    (λ c. search w_in)  -- slice_bounds-w-end
+    (λ c. search w_front)  -- slice_bounds-online-end
     (λ c κs. search rules)  -- online-requires
-    (λ c. search rules)  -- same-length
-    (λ c. search rules)  -- same-length-2
+    (λ c. search rules)  -- shape_of-w_out
+    (λ c. search rules)  -- shape_of-delta
     (λ c. search scalar-values)  -- returns
     )

@@ -33,23 +33,23 @@ pub +write_digits_spec : {M : Type 1} → statement M
 )
     (write-digits_at t)
     write-digits.Post
-    (λ c. omega arith)  -- write-digits-add-out
-    (λ c. omega arith)  -- write-digits-cast-out
-    (λ c. omega arith)  -- write-digits-slice-write-out
-    (λ c. omega arith)  -- write-digits-add-result
-    (λ c. simp length-set)  -- write-digits-same-length
-    (λ c. (search none_end, search none-bytes))  -- write-digits-returns
-    (λ c. omega arith)  -- write-digits-add-out-2
-    (λ c. omega arith)  -- write-digits-cast-out-2
-    (λ c. omega arith)  -- write-digits-slice-write-out-2
-    (λ c. omega arith)  -- write-digits-add-result-2
-    (λ c. simp length-set)  -- write-digits-same-length-2
-    (λ c. (search one_end, search one-bytes))  -- write-digits-returns-2
-    (λ c. omega arith)  -- write-digits-sub-write-digits
-    (λ c κs. (omega arith, omega arith))  -- write-digits-write-digits-requires
-    (λ c. omega arith)  -- write-digits-add-out-3
-    (λ c. omega arith)  -- write-digits-cast-out-3
-    (λ c. search more_room)  -- write-digits-slice-write-out-3
-    (λ c. search more_fits)  -- write-digits-add-result-3
-    (λ c. search more_length)  -- write-digits-same-length-3
-    (λ c. (search more_end, search more_bytes))  -- write-digits-returns-3
+    (λ c. omega arith)  -- overflow_add-out
+    (λ c. omega arith)  -- overflow_cast-out
+    (λ c. omega arith)  -- bounds-out-at
+    (λ c. omega arith)  -- overflow_add-result
+    (λ c. simp length-set)  -- shape_of-out-then-left-eq0
+    (λ c. (search none_end, search none-bytes))  -- returns-then-left-eq0
+    (λ c. omega arith)  -- overflow_add-out-then-x-lt10
+    (λ c. omega arith)  -- overflow_cast-out-then-x-lt10
+    (λ c. omega arith)  -- bounds-out-at-then-x-lt10
+    (λ c. omega arith)  -- overflow_add-result-then-x-lt10
+    (λ c. simp length-set)  -- shape_of-out-then-x-lt10
+    (λ c. (search one_end, search one-bytes))  -- returns-then-x-lt10
+    (λ c. omega arith)  -- overflow_sub-left
+    (λ c κs. (omega arith, omega arith))  -- write_digits-end-requires
+    (λ c. omega arith)  -- overflow_add-out-2
+    (λ c. omega arith)  -- overflow_cast-out-2
+    (λ c. search more_room)  -- bounds-out-end
+    (λ c. search more_fits)  -- overflow_add-result-2
+    (λ c. search more_length)  -- shape_of-out
+    (λ c. (search more_end, search more_bytes))  -- returns

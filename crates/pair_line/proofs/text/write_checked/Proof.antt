@@ -8,13 +8,11 @@ pub write_checked_spec : {M : Type 1} → statement M
 write_checked_spec =
     tie.close
     (tie.spec
-    (λ c. search rules)  -- slice-aggregate-write-bytes
-    (λ c κs. search rules)  -- write-bytes-requires
-    (λ c κs. search rules)  -- write-digits-requires
-    (λ c. search rules)  -- slice-aggregate-write-bytes-2
-    (λ c κs. (search middle_room, search rules))  -- write-bytes-requires-2
-    (λ c. search middle_fits)  -- add-write-digits
-    (λ c κs. search last-room)  -- write-digits-requires-2
-    (λ c. search rules)  -- same-length
+    (λ c κs. search rules)  -- write_bytes-requires
+    (λ c κs. search rules)  -- write_digits-middle-requires
+    (λ c κs. (search middle_room, search rules))  -- write_bytes-requires-2
+    (λ c. search middle_fits)  -- overflow_add-middle
+    (λ c κs. search last-room)  -- write_digits-requires
+    (λ c. search rules)  -- shape_of-out
     (λ c. search checked_line)  -- returns
     )

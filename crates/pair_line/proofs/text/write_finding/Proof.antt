@@ -8,25 +8,22 @@ pub write_finding_spec : {M : Type 1} → statement M
 write_finding_spec =
     tie.close
     (tie.spec
-    (λ c. search rules)  -- enum-known-finding
-    (λ c. search rules)  -- slice-aggregate-write-bytes
-    (λ c κs. search rules)  -- write-bytes-requires
-    (λ c. search rules)  -- cast-write-digits
-    (λ c κs. search rules)  -- write-digits-requires
-    (λ c. search rules)  -- enum-told
-    (λ c. search rules)  -- slice-aggregate-write-bytes-2
-    (λ c κs. search rules)  -- write-bytes-requires-2
-    (λ c. search rules)  -- enum-told-2
-    (λ c. search rules)  -- slice-aggregate-write-bytes-3
-    (λ c κs. search rules)  -- write-bytes-requires-3
-    (λ c. search rules)  -- enum-known-finding-2
-    (λ c κs. search rules)  -- write-checked-requires
-    (λ c. search rules)  -- same-length
-    (λ c. search refused-line)  -- returns
-    (λ c. search rules)  -- same-length-2
-    (λ c. search large_line)  -- returns-2
-    (λ c. search rules)  -- same-length-3
-    (λ c. search different-line)  -- returns-3
-    (λ c. search rules)  -- same-length-4
-    (λ c. search as_checked)  -- returns-4
+    (λ c. search rules)  -- enum_known-finding
+    (λ c κs. search rules)  -- write_bytes-requires
+    (λ c. search rules)  -- overflow_cast-number
+    (λ c κs. search rules)  -- write_digits-requires
+    (λ c. search rules)  -- enum_told-1
+    (λ c κs. search rules)  -- write_bytes-requires-in-TooLarge
+    (λ c. search rules)  -- enum_told-in-Different
+    (λ c κs. search rules)  -- write_bytes-requires-in-Different
+    (λ c. search rules)  -- enum_known-finding-in-Checked-1
+    (λ c κs. search rules)  -- write_checked-requires
+    (λ c. search rules)  -- shape_of-out-in-Refused
+    (λ c. search refused-line)  -- returns-in-Refused
+    (λ c. search rules)  -- shape_of-out-in-TooLarge
+    (λ c. search large_line)  -- returns-in-TooLarge
+    (λ c. search rules)  -- shape_of-out-in-Different
+    (λ c. search different-line)  -- returns-in-Different
+    (λ c. search rules)  -- shape_of-out-in-Checked
+    (λ c. search as_checked)  -- returns-in-Checked
     )

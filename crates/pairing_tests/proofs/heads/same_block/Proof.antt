@@ -5,26 +5,26 @@ use Rattle.pairing_tests.proofs.Same.{Passed, passed_none, passed_more, passed_a
 use Rattle.pairing_tests.proofs.heads.same_block.Statement.{statement}
 use Rattle.pairing_tests.proofs.heads.same_block.Tie as tie
 
-abbrev invariant-loop : tie.invariant-loop
-invariant-loop a x b y i₀ i = Passed a x b y i
+abbrev invariant-loop-i : tie.invariant-loop-i
+invariant-loop-i a x b y i₀ i = Passed a x b y i
 
-abbrev decreases-loop : tie.decreases-loop
-decreases-loop a x b y i₀ i = 16 - i
+abbrev decreases-loop-i : tie.decreases-loop-i
+decreases-loop-i a x b y i₀ i = 16 - i
 
 pub same_block_spec : {M : Type 1} → statement M
 same_block_spec =
     tie.close
     (tie.spec
-    invariant-loop
-    decreases-loop
-    (λ c. search passed_none)  -- loop-holds
-    (λ c. search rules)  -- add-if1
-    (λ c. search rules)  -- shared-slice-read-if1
-    (λ c. search rules)  -- add-if1-2
-    (λ c. search rules)  -- shared-slice-read-if1-2
-    (λ c. search byte_differs)  -- returns
-    (λ c. search rules)  -- add-i
-    (λ c. search rules)  -- loop-less
-    (λ c. search passed_more)  -- loop-again
-    (λ c. search passed_all)  -- returns-2
+    invariant-loop-i
+    decreases-loop-i
+    (λ c. search passed_none)  -- loop-i-init
+    (λ c. search rules)  -- overflow_add-x
+    (λ c. search rules)  -- bounds-a-x
+    (λ c. search rules)  -- overflow_add-y
+    (λ c. search rules)  -- bounds-b-y
+    (λ c. search byte_differs)  -- returns-then-a-x
+    (λ c. search rules)  -- overflow_add-i
+    (λ c. search rules)  -- loop-i-smaller
+    (λ c. search passed_more)  -- loop-i-preserved
+    (λ c. search passed_all)  -- returns
     )

@@ -7,11 +7,11 @@ pub same_sizes_spec : {M : Type 1} → statement M
 same_sizes_spec =
     tie.close
     (tie.spec
-    (λ c. search field_differs)  -- returns
-    (λ c. search depth_differs)  -- returns-2
-    (λ c. search branches_differ)  -- returns-3
-    (λ c. search trees-differ)  -- returns-4
-    (λ c. search terms-differ)  -- returns-5
-    (λ c. search outputs-differ)  -- returns-6
-    (λ c. search sizes-same)  -- returns-7
+    (λ c. search field_differs)  -- returns-then-p-q
+    (λ c. search depth_differs)  -- returns-then-p-q-2
+    (λ c. search branches_differ)  -- returns-then-p-q-3
+    (λ c. search trees-differ)  -- returns-then-p-q-4
+    (λ c. search terms-differ)  -- returns-then-p-q-5
+    (λ c. search outputs-differ)  -- returns-then-p-q-6
+    (λ c. search sizes-same)  -- returns
     )

@@ -8,14 +8,14 @@ pub held_at_spec : {M : Type 1} → statement M
 held_at_spec =
     tie.close
     (tie.spec
-    (λ c κs. search rules)  -- element-of-requires
-    (λ c. search rules)  -- mul-element-scaled
-    (λ c. search rules)  -- shared-slice-read-element-scaled
-    (λ c κs. search rules)  -- element-scaled-requires
-    (λ c κs. search rules)  -- element-of-requires-2
-    (λ c κs. search rules)  -- element-sum-requires
-    (λ c κs. search rules)  -- element-of-requires-3
-    (λ c κs. search rules)  -- same-element-requires
-    (λ c. search at_held)  -- returns
-    (λ c. search at_lost)  -- returns-2
+    (λ c κs. search rules)  -- element_of-scalar-requires
+    (λ c. search rules)  -- offset_bounds-u-x
+    (λ c. search rules)  -- bounds-u-x
+    (λ c κs. search rules)  -- element_scaled-multiple-requires
+    (λ c κs. search rules)  -- element_of-requires
+    (λ c κs. search rules)  -- element_sum-right-requires
+    (λ c κs. search rules)  -- element_of-requires-2
+    (λ c κs. search rules)  -- same_element-requires
+    (λ c. search at_held)  -- returns-then-same_element
+    (λ c. search at_lost)  -- returns
     )

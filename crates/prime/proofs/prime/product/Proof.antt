@@ -10,15 +10,15 @@ pub product_spec : {M : Type 1} → statement M
 product_spec =
     tie.close
     (tie.spec
-    (λ c. omega (arith, within _ _ c.requires.0 c.requires.1))  -- mul-m
-    (λ c. omega (arith, within _ _ c.requires.0 c.requires.1))  -- mul-m-2
-    (λ c. omega (arith, within _ _ c.requires.0 c.requires.1))  -- add-m
-    (λ c. omega (arith, within _ _ c.requires.0 c.requires.1))  -- mul-result
-    (λ c. omega (arith, within _ _ c.requires.0 c.requires.1))  -- mul-result-2
-    (λ c. omega (arith, within _ _ c.requires.0 c.requires.1))  -- add-result
-    (λ c. search rules)  -- mul-result-3
-    (λ c. omega (arith, within _ _ c.requires.0 c.requires.1))  -- add-result-2
-    (λ c. omega (arith, within _ _ c.requires.0 c.requires.1))  -- mul-result-4
-    (λ c. omega (arith, within _ _ c.requires.0 c.requires.1))  -- add-result-3
+    (λ c. omega (arith, within _ _ c.requires.0 c.requires.1))  -- overflow_mul-m
+    (λ c. omega (arith, within _ _ c.requires.0 c.requires.1))  -- overflow_mul-m-2
+    (λ c. omega (arith, within _ _ c.requires.0 c.requires.1))  -- overflow_add-m
+    (λ c. omega (arith, within _ _ c.requires.0 c.requires.1))  -- overflow_mul-result
+    (λ c. omega (arith, within _ _ c.requires.0 c.requires.1))  -- overflow_mul-result-2
+    (λ c. omega (arith, within _ _ c.requires.0 c.requires.1))  -- overflow_add-result
+    (λ c. search rules)  -- overflow_mul-result-3
+    (λ c. omega (arith, within _ _ c.requires.0 c.requires.1))  -- overflow_add-result-2
+    (λ c. omega (arith, within _ _ c.requires.0 c.requires.1))  -- overflow_mul-result-4
+    (λ c. omega (arith, within _ _ c.requires.0 c.requires.1))  -- overflow_add-result-3
     (λ c. (product_mod c.args.a c.args.b, omega (arith, within _ _ c.requires.0 c.requires.1)))  -- returns
     )

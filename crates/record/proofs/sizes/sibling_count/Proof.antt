@@ -8,9 +8,9 @@ pub sibling_count_spec : {M : Type 1} → statement M
 sibling_count_spec =
     tie.close
     (tie.spec
-    (λ c. search rules)  -- div-result
+    (λ c. search rules)  -- nonzero_div-result
     (λ c κs. search rules)  -- leaves-requires
-    (λ c. search children-some)  -- sub-result
-    (λ c. search siblings_fit)  -- mul-result
+    (λ c. search children-some)  -- overflow_sub-result
+    (λ c. search siblings_fit)  -- overflow_mul-result
     (λ c. (search siblings_are, search siblings-few))  -- returns
     )

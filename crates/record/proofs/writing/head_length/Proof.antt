@@ -8,16 +8,16 @@ pub head_length_spec : {M : Type 1} → statement M
 head_length_spec =
     tie.close
     (tie.spec
-    (λ c κs. search rules)  -- number-length-requires
-    (λ c κs. search rules)  -- number-length-requires-2
-    (λ c. search two_fit)  -- add-first
-    (λ c κs. search rules)  -- number-length-requires-3
-    (λ c. search three_fit)  -- add-first-2
-    (λ c κs. search rules)  -- number-length-requires-4
-    (λ c κs. search rules)  -- number-length-requires-5
-    (λ c. search two_fit)  -- add-second
-    (λ c. search sizes_fit)  -- add-result
-    (λ c. search two-sizes_fit)  -- add-result-2
-    (λ c. search body-fits)  -- add-result-3
+    (λ c κs. search rules)  -- number_length-requires
+    (λ c κs. search rules)  -- number_length-requires-2
+    (λ c. search two_fit)  -- overflow_add-up_to_trees
+    (λ c κs. search rules)  -- number_length-requires-3
+    (λ c. search three_fit)  -- overflow_add-up_to_trees-2
+    (λ c κs. search rules)  -- number_length-requires-4
+    (λ c κs. search rules)  -- number_length-requires-5
+    (λ c. search two_fit)  -- overflow_add-from_terms
+    (λ c. search sizes_fit)  -- overflow_add-result
+    (λ c. search two-sizes_fit)  -- overflow_add-result-2
+    (λ c. search body-fits)  -- overflow_add-result-3
     (λ c. search head-sum)  -- returns
     )

@@ -8,27 +8,27 @@ use Rattle.record.proofs.Lengths.{Sum, sum-start, sum-asks, sum-position, sum-fi
 use Rattle.record.proofs.writing.noise_length.Statement.{statement}
 use Rattle.record.proofs.writing.noise_length.Tie as tie
 
-abbrev invariant-loop : tie.invariant-loop
-invariant-loop layout positions total₀ base₀ i₀ total base i = Sum layout positions total base i
+abbrev invariant-loop-i : tie.invariant-loop-i
+invariant-loop-i layout positions total₀ base₀ i₀ total base i = Sum layout positions total base i
 
-abbrev decreases-loop : tie.decreases-loop
-decreases-loop layout positions total₀ base₀ i₀ total base i = length positions - i
+abbrev decreases-loop-i : tie.decreases-loop-i
+decreases-loop-i layout positions total₀ base₀ i₀ total base i = length positions - i
 
 pub noise_length_spec : {M : Type 1} → statement M
 noise_length_spec =
     tie.close
     (tie.spec
-    invariant-loop
-    decreases-loop
-    (λ c. search sum-start)  -- loop-holds
-    (λ c. search rules)  -- mul-position
-    (λ c. omega arith)  -- shared-slice-read-position
-    (λ c. omega (arith, c.shared-slice-known2.given c.before.before.loop.i))  -- cast-position
-    (λ c κs. (search rules, search sum-asks))  -- tree-length-requires
-    (λ c. search sum-fits-total)  -- add-total
-    (λ c. search sum-position)  -- add-base
-    (λ c. omega arith)  -- add-i
-    (λ c. omega arith)  -- loop-less
-    (λ c. search sum-next)  -- loop-again
+    invariant-loop-i
+    decreases-loop-i
+    (λ c. search sum-start)  -- loop-i-init
+    (λ c. search rules)  -- offset_bounds-positions-i
+    (λ c. omega arith)  -- bounds-positions-i
+    (λ c. omega (arith, c.shared_slice_known-in-loop-i-1.given c.before.before.loop-i.i))  -- overflow_cast-position
+    (λ c κs. (search rules, search sum-asks))  -- tree_length-total-requires
+    (λ c. search sum-fits-total)  -- overflow_add-total
+    (λ c. search sum-position)  -- overflow_add-base
+    (λ c. omega arith)  -- overflow_add-i
+    (λ c. omega arith)  -- loop-i-smaller
+    (λ c. search sum-next)  -- loop-i-preserved
     (λ c. search sum_done)  -- returns
     )

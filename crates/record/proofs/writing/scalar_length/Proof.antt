@@ -8,9 +8,9 @@ pub scalar_length_spec : {M : Type 1} → statement M
 scalar_length_spec =
     tie.close
     (tie.spec
-    (λ c κs. search rules)  -- element-length-requires
-    (λ c. search rules)  -- mul-result
-    (λ c. search scalar-sum-fits_1)  -- add-result
-    (λ c. search scalar-sum-fits_2)  -- add-result-2
+    (λ c κs. search rules)  -- element_length-requires
+    (λ c. search rules)  -- overflow_mul-result
+    (λ c. search scalar-sum-fits_1)  -- overflow_add-result
+    (λ c. search scalar-sum-fits_2)  -- overflow_add-result-2
     (λ c. search scalar-sum)  -- returns
     )

@@ -8,12 +8,12 @@ pub tree_length_spec : {M : Type 1} → statement M
 tree_length_spec =
     tie.close
     (tie.spec
-    (λ c κs. search rules)  -- tree-start-length-requires
-    (λ c κs. search rules)  -- sibling-count-requires
-    (λ c. search rules)  -- mul-result
-    (λ c. tree-fits _ _ c.before.tree-start-length.ensures c.sibling-count.ensures)  -- add-result
+    (λ c κs. search rules)  -- tree_start_length-requires
+    (λ c κs. search rules)  -- sibling_count-requires
+    (λ c. search rules)  -- overflow_mul-result
+    (λ c. tree-fits _ _ c.before.tree_start_length.ensures c.sibling_count.ensures)  -- overflow_add-result
     (λ c. (
-      tree-sum _ _ c.before.tree-start-length.ensures _ c.sibling-count.ensures,
-      tree-most _ _ c.before.tree-start-length.ensures c.sibling-count.ensures,
+      tree-sum _ _ c.before.tree_start_length.ensures _ c.sibling_count.ensures,
+      tree-most _ _ c.before.tree_start_length.ensures c.sibling_count.ensures,
     ))  -- returns
     )

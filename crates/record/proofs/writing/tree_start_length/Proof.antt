@@ -8,8 +8,8 @@ pub tree_start_length_spec : {M : Type 1} → statement M
 tree_start_length_spec =
     tie.close
     (tie.spec
-    (λ c. search rules)  -- sub-number-length
-    (λ c κs. search rules)  -- number-length-requires
-    (λ c. search number_fits)  -- add-result
+    (λ c. search rules)  -- overflow_sub-position
+    (λ c κs. search rules)  -- number_length-requires
+    (λ c. search number_fits)  -- overflow_add-result
     (λ c. search tree-start-sum)  -- returns
     )

@@ -9,10 +9,10 @@ pub write_after_depth_spec : {M : Type 1} → statement M
 write_after_depth_spec =
     tie.close
     (tie.spec
-    (λ c κs. search (rules, room-front))  -- write-number-requires
-    (λ c κs. search (rules, second-room))  -- write-number-requires-2
-    (λ c κs. search (rules, third_room))  -- write-number-requires-3
-    (λ c κs. search (rules, fourth_room))  -- write-number-requires-4
-    (λ c. search rules)  -- same-length
+    (λ c κs. search (rules, room-front))  -- write_number-at4-requires
+    (λ c κs. search (rules, second-room))  -- write_number-at5-requires
+    (λ c κs. search (rules, third_room))  -- write_number-at6-requires
+    (λ c κs. search (rules, fourth_room))  -- write_number-requires
+    (λ c. search rules)  -- shape_of-buffer
     (λ c. search four-wrote)  -- returns
     )

@@ -9,27 +9,27 @@ use Rattle.number.specs.Reading.{part}
 use Rattle.record.proofs.writing.write_bytes.Statement.{statement}
 use Rattle.record.proofs.writing.write_bytes.Tie as tie
 
-abbrev invariant-loop : tie.invariant-loop
-invariant-loop buffer₀ at from start count i₀ buffer i = (buffer ≡ sets buffer₀ at (part from start i)) × (i ≤ count)
+abbrev invariant-loop-i : tie.invariant-loop-i
+invariant-loop-i buffer₀ at from start count i₀ buffer i = (buffer ≡ sets buffer₀ at (part from start i)) × (i ≤ count)
 
-abbrev decreases-loop : tie.decreases-loop
-decreases-loop buffer₀ at from start count i₀ buffer i = count - i
+abbrev decreases-loop-i : tie.decreases-loop-i
+decreases-loop-i buffer₀ at from start count i₀ buffer i = count - i
 
 pub write_bytes_spec : {M : Type 1} → statement M
 write_bytes_spec =
     tie.close
     (tie.spec
-    invariant-loop
-    decreases-loop
-    (λ c. (refl, omega arith))  -- loop-holds
-    (λ c. omega arith)  -- add-buffer
-    (λ c. omega arith)  -- shared-slice-read-buffer
-    (λ c. search run-place)  -- add-buffer-2
-    (λ c. search run_room)  -- slice-write-buffer
-    (λ c. omega arith)  -- add-i
-    (λ c. omega arith)  -- loop-less
-    (λ c. (search run-next, omega arith))  -- loop-again
-    (λ c. search run_fits)  -- add-result
-    (λ c. search as_long)  -- same-length
+    invariant-loop-i
+    decreases-loop-i
+    (λ c. (refl, omega arith))  -- loop-i-init
+    (λ c. omega arith)  -- overflow_add-buffer
+    (λ c. omega arith)  -- bounds-from-start
+    (λ c. search run-place)  -- overflow_add-buffer-in-loop-i
+    (λ c. search run_room)  -- bounds-buffer-at
+    (λ c. omega arith)  -- overflow_add-i
+    (λ c. omega arith)  -- loop-i-smaller
+    (λ c. (search run-next, omega arith))  -- loop-i-preserved
+    (λ c. search run_fits)  -- overflow_add-result
+    (λ c. search as_long)  -- shape_of-buffer
     (λ c. search run_done)  -- returns
     )

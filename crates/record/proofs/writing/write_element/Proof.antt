@@ -8,9 +8,9 @@ pub write_element_spec : {M : Type 1} → statement M
 write_element_spec =
     tie.close
     (tie.spec
-    (λ c κs. search element-room)  -- put-element-requires
-    (λ c κs. search rules)  -- element-length-requires
-    (λ c. search element-fits)  -- add-result
-    (λ c. search rules)  -- same-length
+    (λ c κs. search element-room)  -- put_element-requires
+    (λ c κs. search rules)  -- element_length-requires
+    (λ c. search element-fits)  -- overflow_add-result
+    (λ c. search rules)  -- shape_of-buffer
     (λ c. search element-wrote)  -- returns
     )

@@ -8,12 +8,12 @@ pub write_head_spec : {M : Type 1} → statement M
 write_head_spec =
     tie.close
     (tie.spec
-    (λ c. search head-room_0)  -- slice-write-buffer
-    (λ c. search rules)  -- cast-buffer
-    (λ c. search head-room_1)  -- slice-write-buffer-2
-    (λ c κs. search head-sizes)  -- write-sizes-requires
-    (λ c κs. (search head-key, search rules))  -- write-bytes-requires
-    (λ c κs. (search head-label, search rules))  -- write-bytes-requires-2
-    (λ c. search head-same)  -- same-length
+    (λ c. search head-room_0)  -- bounds-buffer-0
+    (λ c. search rules)  -- overflow_cast-buffer
+    (λ c. search head-room_1)  -- bounds-buffer-1
+    (λ c κs. search head-sizes)  -- write_sizes-at-requires
+    (λ c κs. (search head-key, search rules))  -- write_bytes-next-requires
+    (λ c κs. (search head-label, search rules))  -- write_bytes-requires
+    (λ c. search head-same)  -- shape_of-buffer
     (λ c. search head-wrote)  -- returns
     )

@@ -8,10 +8,10 @@ pub write_scalar_spec : {M : Type 1} → statement M
 write_scalar_spec =
     tie.close
     (tie.spec
-    (λ c κs. search scalar-head)  -- write-head-requires
-    (λ c κs. search scalar-delta)  -- write-element-requires
-    (λ c. search rules)  -- mul-write-bytes
-    (λ c κs. (search scalar-roots, search rules))  -- write-bytes-requires
-    (λ c. search rules)  -- same-length
+    (λ c κs. search scalar-head)  -- write_head-at-requires
+    (λ c κs. search scalar-delta)  -- write_element-next-requires
+    (λ c. search rules)  -- overflow_mul-layout
+    (λ c κs. (search scalar-roots, search rules))  -- write_bytes-requires
+    (λ c. search rules)  -- shape_of-buffer
     (λ c. search scalar-wrote)  -- returns
     )

@@ -8,8 +8,8 @@ pub write_sizes_spec : {M : Type 1} → statement M
 write_sizes_spec =
     tie.close
     (tie.spec
-    (λ c κs. search (rules, room-front))  -- write-number-requires
-    (λ c κs. search (rules, room_back))  -- write-after-depth-requires
-    (λ c. search rules)  -- same-length
+    (λ c κs. search (rules, room-front))  -- write_number-at-requires
+    (λ c κs. search (rules, room_back))  -- write_after_depth-requires
+    (λ c. search rules)  -- shape_of-buffer
     (λ c. search wrote_then)  -- returns
     )

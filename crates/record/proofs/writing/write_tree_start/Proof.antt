@@ -9,9 +9,9 @@ pub write_tree_start_spec : {M : Type 1} → statement M
 write_tree_start_spec =
     tie.close
     (tie.spec
-    (λ c κs. search room-front)  -- write-number-requires
-    (λ c κs. search front-value)  -- write-value-requires
-    (λ c κs. search front-element)  -- write-element-requires
-    (λ c. search rules)  -- same-length
+    (λ c κs. search room-front)  -- write_number-next-requires
+    (λ c κs. search front-value)  -- write_value-middle-requires
+    (λ c κs. search front-element)  -- write_element-requires
+    (λ c. search rules)  -- shape_of-buffer
     (λ c. search front-wrote)  -- returns
     )

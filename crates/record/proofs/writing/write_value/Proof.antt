@@ -8,10 +8,10 @@ pub write_value_spec : {M : Type 1} → statement M
 write_value_spec =
     tie.close
     (tie.spec
-    (λ c κs. search rules)  -- one-noise-requires
-    (λ c. search value_none)  -- returns
-    (λ c κs. search value_room)  -- put-word-requires
-    (λ c. search rules)  -- add-result
-    (λ c. search rules)  -- same-length
-    (λ c. search value-wrote)  -- returns-2
+    (λ c κs. search rules)  -- one_noise-requires
+    (λ c. search value_none)  -- returns-then-one_noise
+    (λ c κs. search value_room)  -- put_word-requires
+    (λ c. search rules)  -- overflow_add-result
+    (λ c. search rules)  -- shape_of-buffer
+    (λ c. search value-wrote)  -- returns
     )

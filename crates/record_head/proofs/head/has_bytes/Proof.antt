@@ -8,7 +8,7 @@ pub has_bytes_spec : {M : Type 1} → statement M
 has_bytes_spec =
     tie.close
     (tie.spec
-    (λ c. search no_room)  -- returns
-    (λ c. search rules)  -- sub-result
-    (λ c. search some-room)  -- returns-2
+    (λ c. search no_room)  -- returns-then-source-count
+    (λ c. search rules)  -- overflow_sub-result
+    (λ c. search some-room)  -- returns
     )

@@ -8,33 +8,33 @@ pub read_after_depth_spec : {M : Type 1} → statement M
 read_after_depth_spec =
     tie.close
     (tie.spec
-    (λ c κs. search rules)  -- read-branch-requires
-    (λ c. search rules)  -- enum-known-r2
-    (λ c. search rules)  -- enum-told
-    (λ c κs. search rules)  -- number-fault-requires
-    (λ c. search sizes-fault_2)  -- returns
-    (λ c κs. search rules)  -- leaves-requires
+    (λ c κs. search rules)  -- read_branch-r2-requires
+    (λ c. search rules)  -- enum_known-r2
+    (λ c. search rules)  -- enum_told-1
+    (λ c κs. search rules)  -- number_fault-requires
+    (λ c. search sizes-fault_2)  -- returns-in_default
+    (λ c κs. search rules)  -- leaves-all-requires
     (λ c κs. search rules)  -- smaller-requires
-    (λ c κs. search rules)  -- read-size-requires
-    (λ c. search rules)  -- enum-known-r3
-    (λ c. search rules)  -- enum-told-2
-    (λ c κs. search rules)  -- number-fault-requires-2
-    (λ c. search sizes-fault_3)  -- returns-2
+    (λ c κs. search rules)  -- read_size-r3-requires
+    (λ c. search rules)  -- enum_known-r3
+    (λ c. search rules)  -- enum_told-in_default-r3
+    (λ c κs. search rules)  -- number_fault-requires-in_default-r3
+    (λ c. search sizes-fault_3)  -- returns-in_default-r3
     (λ c κs. search rules)  -- smaller-requires-2
-    (λ c κs. search rules)  -- read-size-requires-2
-    (λ c. search rules)  -- enum-known-r4
-    (λ c. search rules)  -- enum-told-3
-    (λ c κs. search rules)  -- number-fault-requires-3
-    (λ c. search sizes-fault_4)  -- returns-3
-    (λ c κs. search rules)  -- read-size-requires-3
-    (λ c. search rules)  -- enum-known-r5
-    (λ c. search rules)  -- enum-told-4
-    (λ c κs. search rules)  -- number-fault-requires-4
-    (λ c. search sizes-fault_5)  -- returns-4
-    (λ c κs. search rules)  -- skip-requires
-    (λ c. search rules)  -- enum-known-r6
-    (λ c. search rules)  -- enum-told-5
-    (λ c κs. search rules)  -- number-fault-requires-5
-    (λ c. search sizes-fault_6)  -- returns-5
-    (λ c. search sizes-whole)  -- returns-6
+    (λ c κs. search rules)  -- read_size-r4-requires
+    (λ c. search rules)  -- enum_known-r4
+    (λ c. search rules)  -- enum_told-in_default-r4
+    (λ c κs. search rules)  -- number_fault-requires-in_default-r4
+    (λ c. search sizes-fault_4)  -- returns-in_default-r4
+    (λ c κs. search rules)  -- read_size-r5-requires
+    (λ c. search rules)  -- enum_known-r5
+    (λ c. search rules)  -- enum_told-in_default-r5
+    (λ c κs. search rules)  -- number_fault-requires-in_default-r5
+    (λ c. search sizes-fault_5)  -- returns-in_default-r5
+    (λ c κs. search rules)  -- skip-r6-requires
+    (λ c. search rules)  -- enum_known-r6
+    (λ c. search rules)  -- enum_told-in_default-r6
+    (λ c κs. search rules)  -- number_fault-requires-in_default-r6
+    (λ c. search sizes-fault_6)  -- returns-in_default-r6
+    (λ c. search sizes-whole)  -- returns
     )

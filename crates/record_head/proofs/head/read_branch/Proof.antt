@@ -8,11 +8,11 @@ pub read_branch_spec : {M : Type 1} → statement M
 read_branch_spec =
     tie.close
     (tie.spec
-    (λ c κs. search rules)  -- read-size-requires
-    (λ c. search rules)  -- enum-known-r
-    (λ c. search rules)  -- enum-told
-    (λ c. search branch-fault)  -- returns
-    (λ c. search branch-divides)  -- rem-if1
-    (λ c. search branch-left)  -- returns-2
-    (λ c. search branch-whole)  -- returns-3
+    (λ c κs. search rules)  -- read_size-r-requires
+    (λ c. search rules)  -- enum_known-r
+    (λ c. search rules)  -- enum_told-1
+    (λ c. search branch-fault)  -- returns-in_default
+    (λ c. search branch-divides)  -- nonzero_rem-depth
+    (λ c. search branch-left)  -- returns-then-depth-g-ne0
+    (λ c. search branch-whole)  -- returns
     )

@@ -9,13 +9,13 @@ pub read_field_spec : {M : Type 1} → statement M
 read_field_spec =
     tie.close
     (tie.spec
-    (λ c. search field-ends_0)  -- returns
-    (λ c. search rules)  -- shared-slice-read-if2
-    (λ c. search other-end)  -- returns-2
-    (λ c. search field-ends_1)  -- returns-3
-    (λ c. search rules)  -- shared-slice-read-field
-    (λ c. record { fits = omega (arith, c.shared-slice-known3.given 1) })  -- cast-field
-    (λ c κs. search rules)  -- is-field-requires
-    (λ c. search field-known)  -- returns-4
-    (λ c. search field_unknown)  -- returns-5
+    (λ c. search field-ends_0)  -- returns-then-source-le0
+    (λ c. search rules)  -- bounds-source-0
+    (λ c. search other-end)  -- returns-then-source-end
+    (λ c. search field-ends_1)  -- returns-then-source-le1
+    (λ c. search rules)  -- bounds-source-1
+    (λ c. record { fits = omega (arith, c.shared_slice_known-3-1.given 1) })  -- overflow_cast-field
+    (λ c κs. search rules)  -- is_field-requires
+    (λ c. search field-known)  -- returns-then-is_field
+    (λ c. search field_unknown)  -- returns
     )

@@ -8,11 +8,11 @@ pub read_head_spec : {M : Type 1} → statement M
 read_head_spec =
     tie.close
     (tie.spec
-    (λ c κs. search rules)  -- read-field-requires
-    (λ c. search rules)  -- enum-known-r
-    (λ c. search rules)  -- enum-told
-    (λ c κs. search rules)  -- number-fault-requires
-    (λ c. search head-fault)  -- returns
-    (λ c κs. search rules)  -- read-sizes-requires
-    (λ c. search head-whole)  -- returns-2
+    (λ c κs. search rules)  -- read_field-r-requires
+    (λ c. search rules)  -- enum_known-r
+    (λ c. search rules)  -- enum_told-1
+    (λ c κs. search rules)  -- number_fault-requires
+    (λ c. search head-fault)  -- returns-in_default
+    (λ c κs. search rules)  -- read_sizes-requires
+    (λ c. search head-whole)  -- returns
     )

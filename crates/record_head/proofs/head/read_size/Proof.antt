@@ -8,11 +8,11 @@ pub read_size_spec : {M : Type 1} → statement M
 read_size_spec =
     tie.close
     (tie.spec
-    (λ c κs. search rules)  -- read-number-requires
-    (λ c. search rules)  -- enum-known-r
-    (λ c. search rules)  -- enum-told
-    (λ c. search size-fault)  -- returns
-    (λ c. search size_low)  -- returns-2
-    (λ c. search size-high)  -- returns-3
-    (λ c. search size-whole)  -- returns-4
+    (λ c κs. search rules)  -- read_number-r-requires
+    (λ c. search rules)  -- enum_known-r
+    (λ c. search rules)  -- enum_told-1
+    (λ c. search size-fault)  -- returns-in_default
+    (λ c. search size_low)  -- returns-then-n-lt1
+    (λ c. search size-high)  -- returns-then-top-n
+    (λ c. search size-whole)  -- returns
     )

@@ -8,11 +8,11 @@ pub read_sizes_spec : {M : Type 1} → statement M
 read_sizes_spec =
     tie.close
     (tie.spec
-    (λ c κs. search rules)  -- read-size-requires
-    (λ c. search rules)  -- enum-known-r
-    (λ c. search rules)  -- enum-told
-    (λ c κs. search rules)  -- number-fault-requires
-    (λ c. search depth-fault)  -- returns
-    (λ c κs. search size-most)  -- read-after-depth-requires
-    (λ c. search depth-whole)  -- returns-2
+    (λ c κs. search rules)  -- read_size-r-requires
+    (λ c. search rules)  -- enum_known-r
+    (λ c. search rules)  -- enum_told-1
+    (λ c κs. search rules)  -- number_fault-requires
+    (λ c. search depth-fault)  -- returns-in_default
+    (λ c κs. search size-most)  -- read_after_depth-requires
+    (λ c. search depth-whole)  -- returns
     )

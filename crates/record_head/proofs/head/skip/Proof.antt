@@ -8,8 +8,8 @@ pub skip_spec : {M : Type 1} → statement M
 skip_spec =
     tie.close
     (tie.spec
-    (λ c κs. search rules)  -- has-bytes-requires
-    (λ c. search place-fits)  -- add-t5
-    (λ c. search skip-whole)  -- returns
-    (λ c. search skip-ends)  -- returns-2
+    (λ c κs. search rules)  -- has_bytes-requires
+    (λ c. search place-fits)  -- overflow_add-result
+    (λ c. search skip-whole)  -- returns-then-has_bytes
+    (λ c. search skip-ends)  -- returns
     )

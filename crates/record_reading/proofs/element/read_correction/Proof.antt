@@ -8,12 +8,12 @@ pub read_correction_spec : {M : Type 1} → statement M
 read_correction_spec =
     tie.close
     (tie.spec
-    (λ c κs. search rules)  -- element-length-requires
-    (λ c κs. search rules)  -- has-bytes-requires
-    (λ c κs. search element-room)  -- element-at-requires
-    (λ c κs. search rules)  -- is-element-requires
-    (λ c. search place-fits)  -- add-t9
-    (λ c. search correction-whole)  -- returns
-    (λ c. search correction_bad)  -- returns-2
-    (λ c. search correction-ends)  -- returns-3
+    (λ c κs. search rules)  -- element_length-length-requires
+    (λ c κs. search rules)  -- has_bytes-requires
+    (λ c κs. search element-room)  -- element_at-correction-requires
+    (λ c κs. search rules)  -- is_element-requires
+    (λ c. search place-fits)  -- overflow_add-result
+    (λ c. search correction-whole)  -- returns-then-is_element
+    (λ c. search correction_bad)  -- returns-then-has_bytes
+    (λ c. search correction-ends)  -- returns
     )

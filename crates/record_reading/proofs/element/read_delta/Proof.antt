@@ -8,12 +8,12 @@ pub read_delta_spec : {M : Type 1} → statement M
 read_delta_spec =
     tie.close
     (tie.spec
-    (λ c κs. search rules)  -- element-length-requires
-    (λ c κs. search rules)  -- has-bytes-requires
-    (λ c κs. search element-room)  -- element-at-requires
-    (λ c κs. search rules)  -- is-scalar-requires
-    (λ c. search place-fits)  -- add-t9
-    (λ c. search delta-whole)  -- returns
-    (λ c. search delta_bad)  -- returns-2
-    (λ c. search delta-ends)  -- returns-3
+    (λ c κs. search rules)  -- element_length-length-requires
+    (λ c κs. search rules)  -- has_bytes-requires
+    (λ c κs. search element-room)  -- element_at-delta-requires
+    (λ c κs. search rules)  -- is_scalar-requires
+    (λ c. search place-fits)  -- overflow_add-result
+    (λ c. search delta-whole)  -- returns-then-is_scalar
+    (λ c. search delta_bad)  -- returns-then-has_bytes
+    (λ c. search delta-ends)  -- returns
     )

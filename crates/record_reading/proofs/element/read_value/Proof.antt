@@ -8,13 +8,13 @@ pub read_value_spec : {M : Type 1} → statement M
 read_value_spec =
     tie.close
     (tie.spec
-    (λ c κs. search rules)  -- one-noise-requires
-    (λ c. search value-one)  -- returns
-    (λ c κs. search rules)  -- has-bytes-requires
-    (λ c κs. search has_room)  -- word-at-requires
-    (λ c κs. search rules)  -- is-noise-requires
-    (λ c. search place-fits)  -- add-t9
-    (λ c. search value-whole)  -- returns-2
-    (λ c. search value_bad)  -- returns-3
-    (λ c. search value-ends)  -- returns-4
+    (λ c κs. search rules)  -- one_noise-requires
+    (λ c. search value-one)  -- returns-then-one_noise
+    (λ c κs. search rules)  -- has_bytes-requires
+    (λ c κs. search has_room)  -- word_at-value-requires
+    (λ c κs. search rules)  -- is_noise-requires
+    (λ c. search place-fits)  -- overflow_add-result
+    (λ c. search value-whole)  -- returns-then-is_noise
+    (λ c. search value_bad)  -- returns-then-has_bytes
+    (λ c. search value-ends)  -- returns
     )

@@ -8,17 +8,17 @@ pub known_tree_spec : {M : Type 1} → statement M
 known_tree_spec =
     tie.close
     (tie.spec
-    (λ c κs. search known-position)  -- known-number-requires
-    (λ c. search position-fits)  -- add-position
-    (λ c κs. search rules)  -- one-noise-requires
-    (λ c κs. search known-first)  -- element-at-requires
-    (λ c. search known-fits_2)  -- add-t14
-    (λ c. known_1 _ _ _ _ _ _ (search) (search) c.before.before.one-noise.ensures (search) c.element-at.ensures)  -- returns
-    (λ c κs. search known-room)  -- word-at-requires
-    (λ c. search known-fits_1)  -- add-element-at
-    (λ c κs. search known-second)  -- element-at-requires-2
-    (λ c. search known-fits_2)  -- add-t15
+    (λ c κs. search known-position)  -- known_number-number-requires
+    (λ c. search position-fits)  -- overflow_add-position
+    (λ c κs. search rules)  -- one_noise-requires
+    (λ c κs. search known-first)  -- element_at-correction-requires
+    (λ c. search known-fits_2)  -- overflow_add-result
+    (λ c. known_1 _ _ _ _ _ _ (search) (search) c.before.before.one_noise.ensures (search) c.element_at-correction.ensures)  -- returns-then-one_noise
+    (λ c κs. search known-room)  -- word_at-value-requires
+    (λ c. search known-fits_1)  -- overflow_add-next
+    (λ c κs. search known-second)  -- element_at-correction-requires-2
+    (λ c. search known-fits_2)  -- overflow_add-result-2
     (λ c.
     let b = c.before.before.before in
-    known_2 _ _ _ _ _ _ (search) (search) b.one-noise.ensures (search) c.before.word-at.ensures c.element-at2.ensures)  -- returns-2
+    known_2 _ _ _ _ _ _ (search) (search) b.one_noise.ensures (search) c.before.word_at-value.ensures c.element_at-correction-2.ensures)  -- returns
     )

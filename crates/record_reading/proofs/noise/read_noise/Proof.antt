@@ -7,33 +7,33 @@ use Rattle.record_reading.proofs.Records.{Turn, noise-refused, deep, branch-some
 use Rattle.record_reading.proofs.noise.read_noise.Statement.{statement}
 use Rattle.record_reading.proofs.noise.read_noise.Tie as tie
 
-abbrev invariant-loop : tie.invariant-loop
-invariant-loop source layout field depth beside trees at₀ base₀ i₀ at base i = Turn source layout beside at base i
+abbrev invariant-loop-i : tie.invariant-loop-i
+invariant-loop-i source layout field depth beside trees at₀ base₀ i₀ at base i = Turn source layout beside at base i
 
-abbrev decreases-loop : tie.decreases-loop
-decreases-loop source layout field depth beside trees at₀ base₀ i₀ at base i = trees - i
+abbrev decreases-loop-i : tie.decreases-loop-i
+decreases-loop-i source layout field depth beside trees at₀ base₀ i₀ at base i = trees - i
 
 pub read_noise_spec : {M : Type 1} → statement M
 read_noise_spec =
     tie.close
     (tie.spec
-    invariant-loop
-    decreases-loop
-    (λ c κs. search rules)  -- read-head-requires
-    (λ c. search rules)  -- enum-known-r
-    (λ c. search rules)  -- enum-told
-    (λ c. search noise-refused)  -- returns
-    (λ c κs. (search deep, search branch-some, search branch-few))  -- sibling-count-requires
-    (λ c. search turn_start)  -- loop-holds
-    (λ c κs. search rules)  -- read-tree-requires
-    (λ c. search rules)  -- enum-known-t
-    (λ c. search rules)  -- enum-told-2
-    (λ c κs. search rules)  -- number-fault-requires
-    (λ c. search turn_fault)  -- returns-2
-    (λ c. search (rules, turn_fits))  -- add-base
-    (λ c. omega arith)  -- add-i
-    (λ c. omega arith)  -- loop-less
-    (λ c. search turn_next)  -- loop-again
-    (λ c. search turn_after)  -- returns-3
-    (λ c. search turn_whole)  -- returns-4
+    invariant-loop-i
+    decreases-loop-i
+    (λ c κs. search rules)  -- read_head-r-requires
+    (λ c. search rules)  -- enum_known-r
+    (λ c. search rules)  -- enum_told-1
+    (λ c. search noise-refused)  -- returns-in_default
+    (λ c κs. (search deep, search branch-some, search branch-few))  -- sibling_count-siblings-requires
+    (λ c. search turn_start)  -- loop-i-init
+    (λ c κs. search rules)  -- read_tree-t-requires
+    (λ c. search rules)  -- enum_known-t
+    (λ c. search rules)  -- enum_told-in_default-t
+    (λ c κs. search rules)  -- number_fault-requires
+    (λ c. search turn_fault)  -- returns-in_default-t
+    (λ c. search (rules, turn_fits))  -- overflow_add-base
+    (λ c. omega arith)  -- overflow_add-i
+    (λ c. omega arith)  -- loop-i-smaller
+    (λ c. search turn_next)  -- loop-i-preserved
+    (λ c. search turn_after)  -- returns-then-at-source
+    (λ c. search turn_whole)  -- returns
     )

@@ -8,12 +8,12 @@ pub read_position_spec : {M : Type 1} → statement M
 read_position_spec =
     tie.close
     (tie.spec
-    (λ c κs. search rules)  -- read-number-requires
-    (λ c. search rules)  -- enum-known-r
-    (λ c. search rules)  -- enum-told
-    (λ c. search position-fault)  -- returns
-    (λ c. search rules)  -- sub-if1
-    (λ c. search position_outside)  -- returns-2
-    (λ c. search rules)  -- add-t8
-    (λ c. search position-whole)  -- returns-3
+    (λ c κs. search rules)  -- read_number-r-requires
+    (λ c. search rules)  -- enum_known-r
+    (λ c. search rules)  -- enum_told-1
+    (λ c. search position-fault)  -- returns-in_default
+    (λ c. search rules)  -- overflow_sub-all
+    (λ c. search position_outside)  -- returns-then-all-base
+    (λ c. search rules)  -- overflow_add-result
+    (λ c. search position-whole)  -- returns
     )

@@ -9,22 +9,22 @@ read_tree_spec =
     tie.close
     (tie.spec
     (λ c κs. search rules)  -- leaves-requires
-    (λ c κs. search rules)  -- read-position-requires
-    (λ c. search rules)  -- enum-known-r0
-    (λ c. search rules)  -- enum-told
-    (λ c. search tree-fault_0)  -- returns
-    (λ c κs. search rules)  -- read-value-requires
-    (λ c. search rules)  -- enum-known-r1
-    (λ c. search rules)  -- enum-told-2
-    (λ c. search tree-fault_1)  -- returns-2
-    (λ c κs. search rules)  -- read-correction-requires
-    (λ c. search rules)  -- enum-known-r2
-    (λ c. search rules)  -- enum-told-3
-    (λ c. search tree-fault_2)  -- returns-3
-    (λ c. search rules)  -- mul-skip
-    (λ c κs. search rules)  -- skip-requires
-    (λ c. search rules)  -- enum-known-r3
-    (λ c. search rules)  -- enum-told-4
-    (λ c. search tree-fault_3)  -- returns-4
-    (λ c. search tree-whole)  -- returns-5
+    (λ c κs. search rules)  -- read_position-r0-requires
+    (λ c. search rules)  -- enum_known-r0
+    (λ c. search rules)  -- enum_told-1
+    (λ c. search tree-fault_0)  -- returns-in_default
+    (λ c κs. search rules)  -- read_value-r1-requires
+    (λ c. search rules)  -- enum_known-r1
+    (λ c. search rules)  -- enum_told-in_default-r1
+    (λ c. search tree-fault_1)  -- returns-in_default-r1
+    (λ c κs. search rules)  -- read_correction-r2-requires
+    (λ c. search rules)  -- enum_known-r2
+    (λ c. search rules)  -- enum_told-in_default-r2
+    (λ c. search tree-fault_2)  -- returns-in_default-r2
+    (λ c. search rules)  -- overflow_mul-siblings
+    (λ c κs. search rules)  -- skip-r3-requires
+    (λ c. search rules)  -- enum_known-r3
+    (λ c. search rules)  -- enum_told-in_default-r3
+    (λ c. search tree-fault_3)  -- returns-in_default-r3
+    (λ c. search tree-whole)  -- returns
     )

@@ -8,21 +8,21 @@ pub read_scalar_spec : {M : Type 1} → statement M
 read_scalar_spec =
     tie.close
     (tie.spec
-    (λ c κs. search rules)  -- read-head-requires
-    (λ c. search rules)  -- enum-known-r
-    (λ c. search rules)  -- enum-told
-    (λ c. search scalar-refused)  -- returns
-    (λ c κs. search rules)  -- read-delta-requires
-    (λ c. search rules)  -- enum-known-d
-    (λ c. search rules)  -- enum-told-2
-    (λ c κs. search rules)  -- number-fault-requires
-    (λ c. search delta-refused)  -- returns-2
-    (λ c. search roots_fit)  -- mul-skip
-    (λ c κs. search rules)  -- skip-requires
-    (λ c. search rules)  -- enum-known-roots
-    (λ c. search rules)  -- enum-told-3
-    (λ c κs. search rules)  -- number-fault-requires-2
-    (λ c. search roots-refused)  -- returns-3
-    (λ c. search scalar-after)  -- returns-4
-    (λ c. search scalar-whole)  -- returns-5
+    (λ c κs. search rules)  -- read_head-r-requires
+    (λ c. search rules)  -- enum_known-r
+    (λ c. search rules)  -- enum_told-1
+    (λ c. search scalar-refused)  -- returns-in_default
+    (λ c κs. search rules)  -- read_delta-d-requires
+    (λ c. search rules)  -- enum_known-d
+    (λ c. search rules)  -- enum_told-in_default-d
+    (λ c κs. search rules)  -- number_fault-requires
+    (λ c. search delta-refused)  -- returns-in_default-d
+    (λ c. search roots_fit)  -- overflow_mul-trees
+    (λ c κs. search rules)  -- skip-roots-requires
+    (λ c. search rules)  -- enum_known-roots
+    (λ c. search rules)  -- enum_told-in_default-roots
+    (λ c κs. search rules)  -- number_fault-requires-in_default-roots
+    (λ c. search roots-refused)  -- returns-in_default-roots
+    (λ c. search scalar-after)  -- returns-then-end-source
+    (λ c. search scalar-whole)  -- returns
     )

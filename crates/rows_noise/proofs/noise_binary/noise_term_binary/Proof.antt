@@ -8,12 +8,12 @@ pub noise_term_binary_spec : {M : Type 1} → statement M
 noise_term_binary_spec =
     tie.close
     (tie.spec
-    (λ c κs. search rules)  -- place-of-requires
-    (λ c. search rules)  -- mul-bit
-    (λ c. search rules)  -- shared-slice-read-bit
-    (λ c κs. search rules)  -- add-bits-requires
-    (λ c κs. search rules)  -- binary-at-requires
+    (λ c κs. search rules)  -- place_of-j-requires
+    (λ c. search rules)  -- offset_bounds-noise-j
+    (λ c. search rules)  -- bounds-noise-j
+    (λ c κs. search rules)  -- add_bits-requires
+    (λ c κs. search rules)  -- binary_at-requires
     (λ c κs. search rules)  -- add-requires
-    (λ c κs. search rules)  -- still-below-requires
+    (λ c κs. search rules)  -- still_below-requires
     (λ c. record { u = search bit_at; v = search block-at; admitted = search admitted_at })  -- returns
     )

@@ -8,11 +8,11 @@ pub noise_turn_binary_spec : {M : Type 1} → statement M
 noise_turn_binary_spec =
     tie.close
     (tie.spec
-    (λ c κs. search rules)  -- two-words-requires
-    (λ c κs. search rules)  -- noise-term-binary-requires
-    (λ c. search rules)  -- add-if1
-    (λ c. search rules)  -- add-binary-term
-    (λ c κs. search rules)  -- noise-term-binary-requires-2
-    (λ c. search binary-two)  -- returns
-    (λ c. search binary-last)  -- returns-2
+    (λ c κs. search rules)  -- two_words-words-requires
+    (λ c κs. search rules)  -- noise_term_binary-next-requires
+    (λ c. search rules)  -- overflow_add-i
+    (λ c. search rules)  -- overflow_add-i-then-i-shape
+    (λ c κs. search rules)  -- noise_term_binary-requires
+    (λ c. search binary-two)  -- returns-then-i-shape
+    (λ c. search binary-last)  -- returns-else-i-shape
     )

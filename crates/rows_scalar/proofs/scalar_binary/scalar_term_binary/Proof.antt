@@ -8,8 +8,8 @@ pub scalar_term_binary_spec : {M : Type 1} → statement M
 scalar_term_binary_spec =
     tie.close
     (tie.spec
-    (λ c κs. search rules)  -- place-of-requires
-    (λ c κs. search rules)  -- binary-at-requires
+    (λ c κs. search rules)  -- place_of-requires
+    (λ c κs. search rules)  -- binary_at-requires
     (λ c κs. search rules)  -- add-requires
     (λ c. search block-at)  -- returns
     )

@@ -8,11 +8,11 @@ pub scalar_turn_binary_spec : {M : Type 1} → statement M
 scalar_turn_binary_spec =
     tie.close
     (tie.spec
-    (λ c κs. search rules)  -- two-words-requires
-    (λ c κs. search rules)  -- scalar-term-binary-requires
-    (λ c. search rules)  -- add-if1
-    (λ c. search rules)  -- add-block-term
-    (λ c κs. search rules)  -- scalar-term-binary-requires-2
-    (λ c. search block-two)  -- returns
-    (λ c. search block_last)  -- returns-2
+    (λ c κs. search rules)  -- two_words-words-requires
+    (λ c κs. search rules)  -- scalar_term_binary-next-requires
+    (λ c. search rules)  -- overflow_add-i
+    (λ c. search rules)  -- overflow_add-i-then-i-shape
+    (λ c κs. search rules)  -- scalar_term_binary-requires
+    (λ c. search block-two)  -- returns-then-i-shape
+    (λ c. search block_last)  -- returns-else-i-shape
     )

@@ -8,11 +8,11 @@ pub scalar_term_prime_spec : {M : Type 1} → statement M
 scalar_term_prime_spec =
     tie.close
     (tie.spec
-    (λ c κs. search rules)  -- place-of-requires
-    (λ c. search rules)  -- mul-word
-    (λ c. search rules)  -- shared-slice-read-word
-    (λ c κs. search rules)  -- add-product-requires
+    (λ c κs. search rules)  -- place_of-requires
+    (λ c. search rules)  -- offset_bounds-w-place_of
+    (λ c. search rules)  -- bounds-w-place_of
+    (λ c κs. search rules)  -- add_product-requires
     (λ c κs. search rules)  -- modulus-requires
-    (λ c κs. search rules)  -- still-below-requires
+    (λ c κs. search rules)  -- still_below-requires
     (λ c. record { total = search product_at; admitted = search admitted_at })  -- returns
     )

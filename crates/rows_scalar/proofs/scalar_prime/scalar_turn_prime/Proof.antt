@@ -8,11 +8,11 @@ pub scalar_turn_prime_spec : {M : Type 1} → statement M
 scalar_turn_prime_spec =
     tie.close
     (tie.spec
-    (λ c κs. search rules)  -- two-blocks-requires
-    (λ c κs. search rules)  -- scalar-term-prime-requires
-    (λ c. search rules)  -- add-if1
-    (λ c. search rules)  -- add-scalar-term
-    (λ c κs. search rules)  -- scalar-term-prime-requires-2
-    (λ c. search prime-two)  -- returns
-    (λ c. search prime-last)  -- returns-2
+    (λ c κs. search rules)  -- two_blocks-pair-requires
+    (λ c κs. search rules)  -- scalar_term_prime-next-requires
+    (λ c. search rules)  -- overflow_add-i
+    (λ c. search rules)  -- overflow_add-i-then-i-shape
+    (λ c κs. search rules)  -- scalar_term_prime-requires
+    (λ c. search prime-two)  -- returns-then-i-shape
+    (λ c. search prime-last)  -- returns-else-i-shape
     )

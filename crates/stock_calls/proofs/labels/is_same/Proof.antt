@@ -8,8 +8,8 @@ pub is_same_spec : {M : Type 1} → statement M
 is_same_spec =
     tie.close
     (tie.spec
-    (λ c κs. search rules)  -- is-above-requires
-    (λ c. search label-above)  -- returns
-    (λ c κs. search rules)  -- is-above-requires-2
-    (λ c. search label_same)  -- returns-2
+    (λ c κs. search rules)  -- is_above-requires
+    (λ c. search label-above)  -- returns-then-is_above
+    (λ c κs. search rules)  -- is_above-requires-2
+    (λ c. search label_same)  -- returns
     )

@@ -12,33 +12,33 @@ use Rattle.stock_calls.specs.Inner.Steps.{starts, ends}
 use Rattle.stock_calls.proofs.shares.blocks_of.Statement.{statement}
 use Rattle.stock_calls.proofs.shares.blocks_of.Tie as tie
 
-abbrev invariant-loop : tie.invariant-loop
-invariant-loop label callers shares n next₀ end₀ at₀ k₀ next end at k =
+abbrev invariant-loop-k : tie.invariant-loop-k
+invariant-loop-k label callers shares n next₀ end₀ at₀ k₀ next end at k =
     (k ≤ n)
     × (next ≡ starts k shares)
     × (end ≡ ends k shares)
     × (at ≡ sum_of k (opening_share shares))
 
-abbrev decreases-loop : tie.decreases-loop
-decreases-loop label callers shares n next₀ end₀ at₀ k₀ next end at k = n - k
+abbrev decreases-loop-k : tie.decreases-loop-k
+decreases-loop-k label callers shares n next₀ end₀ at₀ k₀ next end at k = n - k
 
 pub blocks_of_spec : {M : Type 1} → statement M
 blocks_of_spec =
     tie.close
     (tie.spec
-    invariant-loop
-    decreases-loop
-    (λ c κs. search rules)  -- at-most-eight-requires
-    (λ c. (search rules, search starts_none, search ends-none, sym (sum-none _)))  -- loop-holds
-    (λ c. search rules)  -- mul-next
-    (λ c. search rules)  -- array-write-next
-    (λ c. search rules)  -- mul-at
-    (λ c. search rules)  -- array-read-at
-    (λ c. search blocks_fit)  -- add-at
-    (λ c. search rules)  -- mul-end
-    (λ c. search rules)  -- array-write-end
-    (λ c. search rules)  -- add-k
-    (λ c. search rules)  -- loop-less
-    (λ c. (omega arith, search next_more, search end_more, search total_more))  -- loop-again
+    invariant-loop-k
+    decreases-loop-k
+    (λ c κs. search rules)  -- at_most_eight-n-requires
+    (λ c. (search rules, search starts_none, search ends-none, sym (sum-none _)))  -- loop-k-init
+    (λ c. search rules)  -- offset_bounds-next-k
+    (λ c. search rules)  -- bounds-next-k
+    (λ c. search rules)  -- offset_bounds-shares-k
+    (λ c. search rules)  -- bounds-shares-k
+    (λ c. search blocks_fit)  -- overflow_add-at
+    (λ c. search rules)  -- offset_bounds-end-k
+    (λ c. search rules)  -- bounds-end-k
+    (λ c. search rules)  -- overflow_add-k
+    (λ c. search rules)  -- loop-k-smaller
+    (λ c. (omega arith, search next_more, search end_more, search total_more))  -- loop-k-preserved
     (λ c. search blocks_done)  -- returns
     )

@@ -8,12 +8,12 @@ pub holding_spec : {M : Type 1} → statement M
 holding_spec =
     tie.close
     (tie.spec
-    (λ c κs. search rules)  -- is-caller-requires
-    (λ c. search holds-none)  -- returns
-    (λ c. search caller_fits)  -- mul-next
-    (λ c. search caller_below)  -- element-copy-out-next
-    (λ c. search caller_fits)  -- mul-end
-    (λ c. search caller_below)  -- element-copy-out-end
-    (λ c. search holds_spent)  -- returns-2
-    (λ c. search holds-rest)  -- returns-3
+    (λ c κs. search rules)  -- is_caller-requires
+    (λ c. search holds-none)  -- returns-then-not-is_caller
+    (λ c. search caller_fits)  -- offset_bounds-stock-caller
+    (λ c. search caller_below)  -- bounds-stock-caller
+    (λ c. search caller_fits)  -- offset_bounds-stock-caller-2
+    (λ c. search caller_below)  -- bounds-stock-caller-2
+    (λ c. search holds_spent)  -- returns-then-end-next
+    (λ c. search holds-rest)  -- returns
     )

@@ -8,7 +8,7 @@ pub is_caller_spec : {M : Type 1} → statement M
 is_caller_spec =
     tie.close
     (tie.spec
-    (λ c. search caller_past)  -- returns
-    (λ c. search rules)  -- cast-result
-    (λ c. search caller_in)  -- returns-2
+    (λ c. search caller_past)  -- returns-then-caller-ge8
+    (λ c. search rules)  -- overflow_cast-result
+    (λ c. search caller_in)  -- returns
     )

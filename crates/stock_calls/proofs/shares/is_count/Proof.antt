@@ -7,6 +7,6 @@ pub is_count_spec : {M : Type 1} → statement M
 is_count_spec =
     tie.close
     (tie.spec
-    (λ c. search up_to_none)  -- returns
-    (λ c. search up_to_some)  -- returns-2
+    (λ c. search up_to_none)  -- returns-then-n-lt1
+    (λ c. search up_to_some)  -- returns
     )

@@ -11,25 +11,25 @@ use Rattle.stock.specs.Calls.{opening_share}
 use Rattle.stock_calls.proofs.shares.padded.Statement.{statement}
 use Rattle.stock_calls.proofs.shares.padded.Tie as tie
 
-abbrev invariant-loop : tie.invariant-loop
-invariant-loop shares each₀ k₀ each k = (k ≤ length shares) × (each ≡ entries k (opening_share shares))
+abbrev invariant-loop-k : tie.invariant-loop-k
+invariant-loop-k shares each₀ k₀ each k = (k ≤ length shares) × (each ≡ entries k (opening_share shares))
 
-abbrev decreases-loop : tie.decreases-loop
-decreases-loop shares each₀ k₀ each k = length shares - k
+abbrev decreases-loop-k : tie.decreases-loop-k
+decreases-loop-k shares each₀ k₀ each k = length shares - k
 
 pub padded_spec : {M : Type 1} → statement M
 padded_spec =
     tie.close
     (tie.spec
-    invariant-loop
-    decreases-loop
-    (λ c. (omega arith, entries_none _))  -- loop-holds
-    (λ c. search rules)  -- mul-each
-    (λ c. search rules)  -- shared-slice-read-each
-    (λ c. search rules)  -- mul-each-2
-    (λ c. search rules)  -- array-write-each
-    (λ c. search rules)  -- add-k
-    (λ c. search rules)  -- loop-less
-    (λ c. (omega arith, search padded_more))  -- loop-again
+    invariant-loop-k
+    decreases-loop-k
+    (λ c. (omega arith, entries_none _))  -- loop-k-init
+    (λ c. search rules)  -- offset_bounds-shares-k
+    (λ c. search rules)  -- bounds-shares-k
+    (λ c. search rules)  -- offset_bounds-each-k
+    (λ c. search rules)  -- bounds-each-k
+    (λ c. search rules)  -- overflow_add-k
+    (λ c. search rules)  -- loop-k-smaller
+    (λ c. (omega arith, search padded_more))  -- loop-k-preserved
     (λ c. search padded_done)  -- returns
     )

@@ -10,24 +10,24 @@ use Rattle.stock_calls.proofs.Needs.{rest_more, rest_done}
 use Rattle.stock_calls.proofs.shares.rest.Statement.{statement}
 use Rattle.stock_calls.proofs.shares.rest.Tie as tie
 
-abbrev invariant-loop : tie.invariant-loop
-invariant-loop stock each₀ caller₀ each caller = (caller ≤ 8) × (each ≡ entries caller (remaining stock))
+abbrev invariant-loop-caller : tie.invariant-loop-caller
+invariant-loop-caller stock each₀ caller₀ each caller = (caller ≤ 8) × (each ≡ entries caller (remaining stock))
 
-abbrev decreases-loop : tie.decreases-loop
-decreases-loop stock each₀ caller₀ each caller = 8 - caller
+abbrev decreases-loop-caller : tie.decreases-loop-caller
+decreases-loop-caller stock each₀ caller₀ each caller = 8 - caller
 
 pub rest_spec : {M : Type 1} → statement M
 rest_spec =
     tie.close
     (tie.spec
-    invariant-loop
-    decreases-loop
-    (λ c. (omega arith, entries_none _))  -- loop-holds
+    invariant-loop-caller
+    decreases-loop-caller
+    (λ c. (omega arith, entries_none _))  -- loop-caller-init
     (λ c κs. search rules)  -- holding-requires
-    (λ c. search rules)  -- mul-each
-    (λ c. search rules)  -- array-write-each
-    (λ c. search rules)  -- add-caller
-    (λ c. search rules)  -- loop-less
-    (λ c. (omega arith, search rest_more))  -- loop-again
+    (λ c. search rules)  -- offset_bounds-each-caller
+    (λ c. search rules)  -- bounds-each-caller
+    (λ c. search rules)  -- overflow_add-caller
+    (λ c. search rules)  -- loop-caller-smaller
+    (λ c. (omega arith, search rest_more))  -- loop-caller-preserved
     (λ c. search rest_done)  -- returns
     )

@@ -10,25 +10,25 @@ use Rattle.stock.specs.Calls.{opening_share}
 use Rattle.stock_calls.proofs.shares.total.Statement.{statement}
 use Rattle.stock_calls.proofs.shares.total.Tie as tie
 
-abbrev invariant-loop : tie.invariant-loop
-invariant-loop shares sum₀ k₀ sum k = (k ≤ 8) × (sum ≡ sum_of k (opening_share shares)) × (sum ≤ 4294967295 * k)
+abbrev invariant-loop-k : tie.invariant-loop-k
+invariant-loop-k shares sum₀ k₀ sum k = (k ≤ 8) × (sum ≡ sum_of k (opening_share shares)) × (sum ≤ 4294967295 * k)
 
-abbrev decreases-loop : tie.decreases-loop
-decreases-loop shares sum₀ k₀ sum k = 8 - k
+abbrev decreases-loop-k : tie.decreases-loop-k
+decreases-loop-k shares sum₀ k₀ sum k = 8 - k
 
 pub total_spec : {M : Type 1} → statement M
 total_spec =
     tie.close
     (tie.spec
-    invariant-loop
-    decreases-loop
-    (λ c. (omega arith, sym (sum-none _), omega arith))  -- loop-holds
-    (λ c. search rules)  -- mul-sum
-    (λ c. search rules)  -- array-read-sum
-    (λ c. search rules)  -- cast-sum
-    (λ c. search (total-fits, rules))  -- add-sum
-    (λ c. search rules)  -- add-k
-    (λ c. search rules)  -- loop-less
-    (λ c. (omega arith, search total_more, search (total_bound, rules)))  -- loop-again
+    invariant-loop-k
+    decreases-loop-k
+    (λ c. (omega arith, sym (sum-none _), omega arith))  -- loop-k-init
+    (λ c. search rules)  -- offset_bounds-shares-k
+    (λ c. search rules)  -- bounds-shares-k
+    (λ c. search rules)  -- overflow_cast-sum
+    (λ c. search (total-fits, rules))  -- overflow_add-sum
+    (λ c. search rules)  -- overflow_add-k
+    (λ c. search rules)  -- loop-k-smaller
+    (λ c. (omega arith, search total_more, search (total_bound, rules)))  -- loop-k-preserved
     (λ c. search total_done)  -- returns
     )

@@ -40,31 +40,31 @@ pub +add_path_spec : {M : Type 1} → statement M
 )
     (at t)
     reads.Post
-    (λ c κs. search leaf-length)  -- add-words-requires
-    (λ c. search rules)  -- same-length
-    (λ c. search filled-correction)  -- returns
-    (λ c κs. (search wide-path, search rules))  -- parted-requires
-    (λ c. search rules)  -- slice-relend-prefix-add-path
-    (λ c. search front-count)  -- slice-aggregate-add-path
-    (λ c κs. (search first-falls, (search rules, search first-path, search first-front)))  -- add-path-requires
+    (λ c κs. search leaf-length)  -- add_words-requires
+    (λ c. search rules)  -- shape_of-acc-then-path-eq0
+    (λ c. search filled-correction)  -- returns-then-path-eq0
+    (λ c κs. (search wide-path, search rules))  -- parted-parts-requires
+    (λ c. search rules)  -- slice_bounds-add_path-end
+    (λ c. search front-count)  -- slice_bounds-add_path-end-then-parts
+    (λ c κs. (search first-falls, (search rules, search first-path, search first-front)))  -- add_path-requires
     (λ c.
-    let good = (let b = c.before.before.before in let f = b.before.before.before in let s = f.before.before.before in s.before.well-formed) in
-    search middle_fits)  -- mul-add-run
-    (λ c. search rules)  -- sub-add-run
-    (λ c. search rules)  -- part-add-run-start
-    (λ c. search rules)  -- part-add-run-end
-    (λ c κs. (search rules, search first_run, search first_back))  -- add-run-requires
-    (λ c. search rules)  -- slice-relend-prefix-add-run
-    (λ c. search front-count)  -- slice-aggregate-add-run
-    (λ c κs. (search rules, search second_run, search second-front))  -- add-run-requires-2
+    let good = (let b = c.before.before.before in let f = b.before.before.before in let s = f.before.before.before in s.before.well_formed) in
+    search middle_fits)  -- offset_bounds-acc-mid
+    (λ c. search rules)  -- slice_bounds-add_run-count
+    (λ c. search rules)  -- slice_bounds-add_run-start
+    (λ c. search rules)  -- slice_bounds-add_run-end
+    (λ c κs. (search rules, search first_run, search first_back))  -- add_run-requires
+    (λ c. search rules)  -- slice_bounds-add_run-end-else-parts
+    (λ c. search front-count)  -- slice_bounds-add_run-end-else-parts-2
+    (λ c κs. (search rules, search second_run, search second-front))  -- add_run-requires-else-parts
     (λ c.
-    let good = (let b = c.before.before.before in let f = b.before.before.before in let s = f.before.before.before in s.before.well-formed) in
-    search middle_fits)  -- mul-add-path
-    (λ c. search rules)  -- sub-add-path
-    (λ c. search rules)  -- part-add-path-start
-    (λ c. search rules)  -- part-add-path-end
-    (λ c κs. (search second-falls, (search rules, search second-path, search second_back)))  -- add-path-requires-2
-    (λ c. search rules)  -- same-length-2
-    (λ c. search filled-first-holds)  -- returns-2
-    (λ c. search rules)  -- same-length-3
-    (λ c. search filled-second-holds)  -- returns-3
+    let good = (let b = c.before.before.before in let f = b.before.before.before in let s = f.before.before.before in s.before.well_formed) in
+    search middle_fits)  -- offset_bounds-acc-mid-else-parts
+    (λ c. search rules)  -- slice_bounds-add_path-count
+    (λ c. search rules)  -- slice_bounds-add_path-start
+    (λ c. search rules)  -- slice_bounds-add_path-end-else-parts
+    (λ c κs. (search second-falls, (search rules, search second-path, search second_back)))  -- add_path-requires-else-parts
+    (λ c. search rules)  -- shape_of-acc-then-parts
+    (λ c. search filled-first-holds)  -- returns-then-parts
+    (λ c. search rules)  -- shape_of-acc-else-parts
+    (λ c. search filled-second-holds)  -- returns-else-parts

@@ -47,38 +47,38 @@ pub +add_range_spec : {M : Type 1} → statement M
 )
     (at t)
     reads.Post
-    (λ c κs. search leaf-length)  -- add-leaf-requires
-    (λ c κs. (search rules, search bottom_branch, search bottom_keys, search bottom_length))  -- add-bottom-requires
-    (λ c κs. (search rules, search pair_keys))  -- children-requires
-    (λ c κs. (search rules, search three-length))  -- add-both-requires
-    (λ c. search rules)  -- same-length
-    (λ c. search three-below)  -- returns
-    (λ c. search rules)  -- sub-mid
-    (λ c. search rules)  -- slice-relend-prefix-add-range
-    (λ c. search front-count)  -- slice-aggregate-add-range
-    (λ c κs. (search one-falls, (search rules, search one-range, search one-front)))  -- add-range-requires
-    (λ c. search rules)  -- mul-add-range
-    (λ c. search rules)  -- sub-add-range
-    (λ c. search rules)  -- part-add-range-start
-    (λ c. search rules)  -- part-add-range-end
-    (λ c κs. (search one-falls, (search rules, search one-range, search one-back)))  -- add-range-requires-2
-    (λ c. search rules)  -- sub-mid-2
-    (λ c. search rules)  -- sub-power
+    (λ c κs. search leaf-length)  -- add_leaf-requires
+    (λ c κs. (search rules, search bottom_branch, search bottom_keys, search bottom_length))  -- add_bottom-requires
+    (λ c κs. (search rules, search pair_keys))  -- children-both-requires
+    (λ c κs. (search rules, search three-length))  -- add_both-requires
+    (λ c. search rules)  -- shape_of-acc-then-branch_bits-eq1
+    (λ c. search three-below)  -- returns-then-branch_bits-eq1
+    (λ c. search rules)  -- overflow_sub-all
+    (λ c. search rules)  -- slice_bounds-add_range-end
+    (λ c. search front-count)  -- slice_bounds-add_range-end-then-bits-eq1
+    (λ c κs. (search one-falls, (search rules, search one-range, search one-front)))  -- add_range-requires
+    (λ c. search rules)  -- offset_bounds-acc-mid
+    (λ c. search rules)  -- slice_bounds-add_range-count
+    (λ c. search rules)  -- slice_bounds-add_range-start
+    (λ c. search rules)  -- slice_bounds-add_range-end-then-bits-eq1-2
+    (λ c κs. (search one-falls, (search rules, search one-range, search one-back)))  -- add_range-requires-then-bits-eq1
+    (λ c. search rules)  -- overflow_sub-low
+    (λ c. search rules)  -- overflow_sub-bits
     (λ c κs. search bits-few)  -- power-requires
-    (λ c. search back_fits)  -- add-add-range
-    (λ c. search rules)  -- slice-relend-prefix-add-range-2
-    (λ c. search front-count)  -- slice-aggregate-add-range-2
-    (λ c κs. (search (half_falls, two-some), (search rules, search first_half_range, search (half_front, two-some))))  -- add-range-requires-3
-    (λ c. search rules)  -- mul-add-range-2
-    (λ c. search rules)  -- sub-add-range-2
-    (λ c. search rules)  -- part-add-range-start-2
-    (λ c. search rules)  -- part-add-range-end-2
-    (λ c κs. (search (half_falls, two-some), (search rules, search back-range, search (half_back, two-some))))  -- add-range-requires-4
-    (λ c. search rules)  -- same-length-2
-    (λ c. search filled-leaf)  -- returns-2
-    (λ c. search rules)  -- same-length-3
-    (λ c. search filled_bottom)  -- returns-3
-    (λ c. search rules)  -- same-length-4
-    (λ c. search filled-children)  -- returns-4
-    (λ c. search rules)  -- same-length-5
-    (λ c. search filled_halves)  -- returns-5
+    (λ c. search back_fits)  -- overflow_add-high
+    (λ c. search rules)  -- slice_bounds-add_range-end-else-bits-eq1
+    (λ c. search front-count)  -- slice_bounds-add_range-end-else-bits-eq1-2
+    (λ c κs. (search (half_falls, two-some), (search rules, search first_half_range, search (half_front, two-some))))  -- add_range-requires-else-bits-eq1
+    (λ c. search rules)  -- offset_bounds-acc-mid-else-bits-eq1
+    (λ c. search rules)  -- slice_bounds-add_range-count-else-bits-eq1
+    (λ c. search rules)  -- slice_bounds-add_range-start-else-bits-eq1
+    (λ c. search rules)  -- slice_bounds-add_range-end-else-bits-eq1-3
+    (λ c κs. (search (half_falls, two-some), (search rules, search back-range, search (half_back, two-some))))  -- add_range-requires-else-bits-eq1-2
+    (λ c. search rules)  -- shape_of-acc-then-levels-eq0
+    (λ c. search filled-leaf)  -- returns-then-levels-eq0
+    (λ c. search rules)  -- shape_of-acc-then-levels-eq1
+    (λ c. search filled_bottom)  -- returns-then-levels-eq1
+    (λ c. search rules)  -- shape_of-acc-after-levels-eq3
+    (λ c. search filled-children)  -- returns-after-levels-eq3
+    (λ c. search rules)  -- shape_of-acc-else-bits-eq1
+    (λ c. search filled_halves)  -- returns-else-bits-eq1

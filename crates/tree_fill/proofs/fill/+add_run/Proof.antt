@@ -39,24 +39,24 @@ pub +add_run_spec : {M : Type 1} → statement M
 )
     (at t)
     reads.Post
-    (λ c. search rules)  -- mul-node-at
-    (λ c. search rules)  -- add-node-at
-    (λ c κs. search sibling_room)  -- node-at-requires
-    (λ c. search rules)  -- sub-t19
-    (λ c κs. (search rules, search sibling_range, search sibling_length))  -- add-range-requires
-    (λ c. search rules)  -- sub-mid
-    (λ c. search rules)  -- sub-power
+    (λ c. search rules)  -- overflow_mul-from
+    (λ c. search rules)  -- overflow_add-at
+    (λ c κs. search sibling_room)  -- node_at-sibling-requires
+    (λ c. search rules)  -- overflow_sub-all
+    (λ c κs. (search rules, search sibling_range, search sibling_length))  -- add_range-requires
+    (λ c. search rules)  -- overflow_sub-low
+    (λ c. search rules)  -- overflow_sub-bits
     (λ c κs. search run-few)  -- power-requires
-    (λ c. search run_fits)  -- add-add-run
-    (λ c. search rules)  -- slice-relend-prefix-add-run
-    (λ c. search front-count)  -- slice-aggregate-add-run
-    (λ c κs. (search run-falls, (search rules, search first_half_run, search run_half_front)))  -- add-run-requires
-    (λ c. search rules)  -- mul-add-run
-    (λ c. search rules)  -- sub-add-run
-    (λ c. search rules)  -- part-add-run-start
-    (λ c. search rules)  -- part-add-run-end
-    (λ c κs. (search run-falls, (search rules, search back-run, search run_half_back)))  -- add-run-requires-2
-    (λ c. search rules)  -- same-length
-    (λ c. search filled_sibling)  -- returns
-    (λ c. search rules)  -- same-length-2
-    (λ c. search filled_runs)  -- returns-2
+    (λ c. search run_fits)  -- overflow_add-high
+    (λ c. search rules)  -- slice_bounds-add_run-end
+    (λ c. search front-count)  -- slice_bounds-add_run-end-else-bits-eq0
+    (λ c κs. (search run-falls, (search rules, search first_half_run, search run_half_front)))  -- add_run-requires
+    (λ c. search rules)  -- offset_bounds-acc-mid
+    (λ c. search rules)  -- slice_bounds-add_run-count
+    (λ c. search rules)  -- slice_bounds-add_run-start
+    (λ c. search rules)  -- slice_bounds-add_run-end-else-bits-eq0-2
+    (λ c κs. (search run-falls, (search rules, search back-run, search run_half_back)))  -- add_run-requires-else-bits-eq0
+    (λ c. search rules)  -- shape_of-acc-then-bits-eq0
+    (λ c. search filled_sibling)  -- returns-then-bits-eq0
+    (λ c. search rules)  -- shape_of-acc-else-bits-eq0
+    (λ c. search filled_runs)  -- returns-else-bits-eq0

@@ -10,8 +10,8 @@ pub add_leaves_spec : {M : Type 1} → statement M
 add_leaves_spec =
     tie.close
     (tie.spec
-    (λ c κs. search rules)  -- of-columns-requires
-    (λ c κs. (search rules, search (rules, all-range), search (rules, all-length)))  -- add-range-requires
-    (λ c. search rules)  -- same-length
+    (λ c κs. search rules)  -- of_columns-requires
+    (λ c κs. (search rules, search (rules, all-range), search (rules, all-length)))  -- add_range-requires
+    (λ c. search rules)  -- shape_of-acc
     (λ c. search (rules, filled-all, given-state, node_of_columns))  -- returns
     )

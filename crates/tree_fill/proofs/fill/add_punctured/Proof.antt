@@ -10,7 +10,7 @@ pub add_punctured_spec : {M : Type 1} → statement M
 add_punctured_spec =
     tie.close
     (tie.spec
-    (λ c κs. (search rules, whole-path _ _ (search rules) (search rules) (omega arith), search (rules, all-length)))  -- add-path-requires
-    (λ c. search rules)  -- same-length
+    (λ c κs. (search rules, whole-path _ _ (search rules) (search rules) (omega arith), search (rules, all-length)))  -- add_path-requires
+    (λ c. search rules)  -- shape_of-acc
     (λ c. search (rules, filled-tree))  -- returns
     )

@@ -8,10 +8,10 @@ pub half_size_spec : {M : Type 1} → statement M
 half_size_spec =
     tie.close
     (tie.spec
-    (λ c. search rules)  -- sub-power
-    (λ c. search levels_fit)  -- mul-power
-    (λ c. search rules)  -- sub-power-2
-    (λ c. search exponent_fits)  -- add-power
+    (λ c. search rules)  -- overflow_sub-range
+    (λ c. search levels_fit)  -- overflow_mul-range
+    (λ c. search rules)  -- overflow_sub-range-2
+    (λ c. search exponent_fits)  -- overflow_add-range
     (λ c κs. search exponent_few)  -- power-requires
     (λ c. search half_power)  -- returns
     )

@@ -8,9 +8,9 @@ pub next_level_spec : {M : Type 1} → statement M
 next_level_spec =
     tie.close
     (tie.spec
-    (λ c κs. search rules)  -- power-requires
-    (λ c. search power_positive)  -- sub-result
-    (λ c. search rules)  -- mul-result
-    (λ c. search rules)  -- add-result
+    (λ c κs. search rules)  -- power-count-requires
+    (λ c. search power_positive)  -- overflow_sub-result
+    (λ c. search rules)  -- overflow_mul-result
+    (λ c. search rules)  -- overflow_add-result
     (λ c. search rules)  -- returns
     )

@@ -8,16 +8,16 @@ pub parted_spec : {M : Type 1} → statement M
 parted_spec =
     tie.close
     (tie.spec
-    (λ c κs. search rules)  -- half-size-requires
-    (λ c. search rules)  -- sub-power
-    (λ c κs. search rules)  -- power-requires
-    (λ c κs. (search rules, search rules, search next_fits))  -- path-in-requires
-    (λ c. search count-some)  -- sub-half-from
-    (λ c. search above-fits)  -- add-half-from
-    (λ c κs. search rules)  -- half-from-requires
-    (λ c. search back_fits)  -- add-path-in
-    (λ c κs. (search rules, search rules, search next_fits))  -- path-in-requires-2
-    (λ c κs. search rules)  -- half-from-requires-2
-    (λ c. search (rules, first_holds))  -- returns
-    (λ c. search (rules, second_holds))  -- returns-2
+    (λ c κs. search rules)  -- half_size-half-requires
+    (λ c. search rules)  -- overflow_sub-range
+    (λ c κs. search rules)  -- power-count-requires
+    (λ c κs. (search rules, search rules, search next_fits))  -- path_in-below-requires
+    (λ c. search count-some)  -- overflow_sub-count
+    (λ c. search above-fits)  -- overflow_add-from
+    (λ c κs. search rules)  -- half_from-beside-requires
+    (λ c. search back_fits)  -- overflow_add-from-else-position-half
+    (λ c κs. (search rules, search rules, search next_fits))  -- path_in-below-requires-else-position-half
+    (λ c κs. search rules)  -- half_from-beside-requires-else-position-half
+    (λ c. search (rules, first_holds))  -- returns-then-position-half
+    (λ c. search (rules, second_holds))  -- returns-else-position-half
     )

@@ -8,9 +8,9 @@ pub path_in_spec : {M : Type 1} → statement M
 path_in_spec =
     tie.close
     (tie.spec
-    (λ c. search rules)  -- sub-t7
-    (λ c κs. search rules)  -- next-level-requires
-    (λ c. search rules)  -- sub-t10
-    (λ c. search (rules, is_child))  -- returns
-    (λ c. search (rules, is_half))  -- returns-2
+    (λ c. search rules)  -- overflow_sub-result
+    (λ c κs. search rules)  -- next_level-requires
+    (λ c. search rules)  -- overflow_sub-result-else-range-eq1
+    (λ c. search (rules, is_child))  -- returns-then-range-eq1
+    (λ c. search (rules, is_half))  -- returns-else-range-eq1
     )

@@ -10,14 +10,14 @@ pub add_blocks_spec : {M : Type 1} → statement M
 add_blocks_spec =
     tie.close
     (tie.spec
-    (λ c. search rules)  -- slice-read-acc
-    (λ c. search rules)  -- slice-write-acc
-    (λ c. simp length-set (omega arith))  -- slice-read-acc-2
-    (λ c. simp length-set (omega arith))  -- slice-write-acc-2
-    (λ c. simp length-set (omega arith))  -- slice-read-acc-3
-    (λ c. simp length-set (omega arith))  -- slice-write-acc-3
-    (λ c. simp length-set (omega arith))  -- slice-read-acc-4
-    (λ c. simp length-set (omega arith))  -- slice-write-acc-4
-    (λ c. search rules)  -- same-length
+    (λ c. search rules)  -- bounds-acc-0
+    (λ c. search rules)  -- bounds-acc-0-2
+    (λ c. simp length-set (omega arith))  -- bounds-acc-1
+    (λ c. simp length-set (omega arith))  -- bounds-acc-1-2
+    (λ c. simp length-set (omega arith))  -- bounds-acc-2
+    (λ c. simp length-set (omega arith))  -- bounds-acc-2-2
+    (λ c. simp length-set (omega arith))  -- bounds-acc-3
+    (λ c. simp length-set (omega arith))  -- bounds-acc-3-2
+    (λ c. search rules)  -- shape_of-acc
     (λ c. search (rules, added-blocks))  -- returns
     )

@@ -9,16 +9,16 @@ pub add_both_spec : {M : Type 1} → statement M
 add_both_spec =
     tie.close
     (tie.spec
-    (λ c κs. search rules)  -- children-requires
-    (λ c κs. search rules)  -- children-requires-2
-    (λ c. search rules)  -- slice-relend-prefix-add-couple
-    (λ c. search front-count)  -- slice-aggregate-add-couple
-    (λ c κs. (search rules, search both-front))  -- add-couple-requires
-    (λ c. search rules)  -- mul-add-couple
-    (λ c. search rules)  -- sub-add-couple
-    (λ c. search rules)  -- part-add-couple-start
-    (λ c. search rules)  -- part-add-couple-end
-    (λ c κs. (search rules, search both-back))  -- add-couple-requires-2
-    (λ c. search rules)  -- same-length
+    (λ c κs. search rules)  -- children-low-requires
+    (λ c κs. search rules)  -- children-high-requires
+    (λ c. search rules)  -- slice_bounds-add_couple-end
+    (λ c. search front-count)  -- slice_bounds-add_couple-end-2
+    (λ c κs. (search rules, search both-front))  -- add_couple-requires
+    (λ c. search rules)  -- offset_bounds-acc-mid
+    (λ c. search rules)  -- slice_bounds-add_couple-count
+    (λ c. search rules)  -- slice_bounds-add_couple-start
+    (λ c. search rules)  -- slice_bounds-add_couple-end-3
+    (λ c κs. (search rules, search both-back))  -- add_couple-requires-2
+    (λ c. search rules)  -- shape_of-acc
     (λ c. search both-added)  -- returns
     )

@@ -10,21 +10,21 @@ pub add_bottom_spec : {M : Type 1} → statement M
 add_bottom_spec =
     tie.close
     (tie.spec
-    (λ c κs. (search rules, search two_keys, search two-length))  -- add-pair-requires
-    (λ c κs. (search rules, search four_keys, search four-length))  -- add-four-requires
-    (λ c. search rules)  -- slice-relend-prefix-add-four
-    (λ c. search front-count)  -- slice-aggregate-add-four
-    (λ c κs. (search rules, search eight-front_keys, search eight-front))  -- add-four-requires-2
-    (λ c. search rules)  -- add-add-four
-    (λ c. search rules)  -- mul-add-four
-    (λ c. search rules)  -- sub-add-four
-    (λ c. search rules)  -- part-add-four-start
-    (λ c. search rules)  -- part-add-four-end
-    (λ c κs. (search rules, search eight-back_keys, search eight-back))  -- add-four-requires-3
-    (λ c. search rules)  -- same-length
-    (λ c. search bottom_two)  -- returns
-    (λ c. search rules)  -- same-length-2
-    (λ c. search bottom_four)  -- returns-2
-    (λ c. search rules)  -- same-length-3
-    (λ c. search bottom_eight)  -- returns-3
+    (λ c κs. (search rules, search two_keys, search two-length))  -- add_pair-requires
+    (λ c κs. (search rules, search four_keys, search four-length))  -- add_four-requires
+    (λ c. search rules)  -- slice_bounds-add_four-end
+    (λ c. search front-count)  -- slice_bounds-add_four-end-else-bits-eq2
+    (λ c κs. (search rules, search eight-front_keys, search eight-front))  -- add_four-requires-else-bits-eq2
+    (λ c. search rules)  -- overflow_add-c
+    (λ c. search rules)  -- offset_bounds-acc-mid
+    (λ c. search rules)  -- slice_bounds-add_four-count
+    (λ c. search rules)  -- slice_bounds-add_four-start
+    (λ c. search rules)  -- slice_bounds-add_four-end-else-bits-eq2-2
+    (λ c κs. (search rules, search eight-back_keys, search eight-back))  -- add_four-requires-else-bits-eq2-2
+    (λ c. search rules)  -- shape_of-acc-then-bits-eq1
+    (λ c. search bottom_two)  -- returns-then-bits-eq1
+    (λ c. search rules)  -- shape_of-acc-then-bits-eq2
+    (λ c. search bottom_four)  -- returns-then-bits-eq2
+    (λ c. search rules)  -- shape_of-acc-else-bits-eq2
+    (λ c. search bottom_eight)  -- returns-else-bits-eq2
     )

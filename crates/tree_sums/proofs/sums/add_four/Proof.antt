@@ -9,15 +9,15 @@ pub add_four_spec : {M : Type 1} → statement M
 add_four_spec =
     tie.close
     (tie.spec
-    (λ c. search rules)  -- slice-relend-prefix-add-pair
-    (λ c. search front-count)  -- slice-aggregate-add-pair
-    (λ c κs. (search rules, search rules, search four-front))  -- add-pair-requires
-    (λ c. search rules)  -- add-add-pair
-    (λ c. search rules)  -- mul-add-pair
-    (λ c. search rules)  -- sub-add-pair
-    (λ c. search rules)  -- part-add-pair-start
-    (λ c. search rules)  -- part-add-pair-end
-    (λ c κs. (search rules, search rules, search four-back))  -- add-pair-requires-2
-    (λ c. search rules)  -- same-length
+    (λ c. search rules)  -- slice_bounds-add_pair-end
+    (λ c. search front-count)  -- slice_bounds-add_pair-end-2
+    (λ c κs. (search rules, search rules, search four-front))  -- add_pair-requires
+    (λ c. search rules)  -- overflow_add-c
+    (λ c. search rules)  -- offset_bounds-acc-mid
+    (λ c. search rules)  -- slice_bounds-add_pair-count
+    (λ c. search rules)  -- slice_bounds-add_pair-start
+    (λ c. search rules)  -- slice_bounds-add_pair-end-3
+    (λ c κs. (search rules, search rules, search four-back))  -- add_pair-requires-2
+    (λ c. search rules)  -- shape_of-acc
     (λ c. search four-added)  -- returns
     )

@@ -9,11 +9,11 @@ pub add_leaf_spec : {M : Type 1} → statement M
 add_leaf_spec =
     tie.close
     (tie.spec
-    (λ c κs. search width_1)  -- add-block-requires
+    (λ c κs. search width_1)  -- add_block-requires
     (λ c κs. search rules)  -- reduce-requires
-    (λ c κs. search width_2)  -- add-prime-requires
-    (λ c. search rules)  -- same-length
-    (λ c. search (leaf_1, given-block))  -- returns
-    (λ c. search rules)  -- same-length-2
-    (λ c. search (leaf_2, given-block))  -- returns-2
+    (λ c κs. search width_2)  -- add_prime-requires
+    (λ c. search rules)  -- shape_of-acc-then-field-eq-BINARY
+    (λ c. search (leaf_1, given-block))  -- returns-then-field-eq-BINARY
+    (λ c. search rules)  -- shape_of-acc-else-field-eq-BINARY
+    (λ c. search (leaf_2, given-block))  -- returns-else-field-eq-BINARY
     )

@@ -9,18 +9,18 @@ pub add_pair_spec : {M : Type 1} → statement M
 add_pair_spec =
     tie.close
     (tie.spec
-    (λ c. search rules)  -- mul-encrypt-two
-    (λ c. search rules)  -- index-1-encrypt-two
-    (λ c. search rules)  -- add-encrypt-two
-    (λ c. search rules)  -- mul-encrypt-two-2
-    (λ c. search rules)  -- index-1-encrypt-two-2
-    (λ c κs. search rules)  -- encrypt-two-requires
+    (λ c. search rules)  -- offset_bounds-keys-c
+    (λ c. search rules)  -- bounds-keys-c
+    (λ c. search rules)  -- overflow_add-c
+    (λ c. search rules)  -- offset_bounds-keys-c-2
+    (λ c. search rules)  -- bounds-keys-c-2
+    (λ c κs. search rules)  -- encrypt_two-ciphers-requires
     (λ c κs. search rules)  -- add-requires
     (λ c κs. search rules)  -- add-requires-2
-    (λ c κs. search widths_1)  -- add-blocks-requires
-    (λ c κs. search widths_2)  -- add-primes-requires
-    (λ c. search rules)  -- same-length
-    (λ c. search (rules, pair_1, given-block, child-block))  -- returns
-    (λ c. search rules)  -- same-length-2
-    (λ c. search (rules, pair_2, given-block, child-block))  -- returns-2
+    (λ c κs. search widths_1)  -- add_blocks-requires
+    (λ c κs. search widths_2)  -- add_primes-requires
+    (λ c. search rules)  -- shape_of-acc-then-field-eq-BINARY
+    (λ c. search (rules, pair_1, given-block, child-block))  -- returns-then-field-eq-BINARY
+    (λ c. search rules)  -- shape_of-acc-else-field-eq-BINARY
+    (λ c. search (rules, pair_2, given-block, child-block))  -- returns-else-field-eq-BINARY
     )

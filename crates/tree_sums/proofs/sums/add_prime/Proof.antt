@@ -8,9 +8,9 @@ pub add_prime_spec : {M : Type 1} → statement M
 add_prime_spec =
     tie.close
     (tie.spec
-    (λ c. search rules)  -- slice-read-t6
-    (λ c κs. search rules)  -- add-requires
-    (λ c. search rules)  -- slice-write-acc
-    (λ c. search rules)  -- same-length
-    (λ c. added-prime _ _ _ (search rules) c.add.ensures)  -- returns
+    (λ c. search rules)  -- bounds-acc-0
+    (λ c κs. search rules)  -- add-sum-requires
+    (λ c. search rules)  -- bounds-acc-0-2
+    (λ c. search rules)  -- shape_of-acc
+    (λ c. added-prime _ _ _ (search rules) c.add-sum.ensures)  -- returns
     )

@@ -8,14 +8,14 @@ pub add_primes_spec : {M : Type 1} → statement M
 add_primes_spec =
     tie.close
     (tie.spec
-    (λ c. search rules)  -- slice-read-t8
-    (λ c. search rules)  -- slice-read-t8-2
+    (λ c. search rules)  -- bounds-acc-0
+    (λ c. search rules)  -- bounds-acc-1
     (λ c κs. search rules)  -- reduce-requires
-    (λ c κs. search rules)  -- add-requires
+    (λ c κs. search rules)  -- add-a-requires
     (λ c κs. search rules)  -- reduce-requires-2
-    (λ c κs. search rules)  -- add-requires-2
-    (λ c. search rules)  -- slice-write-acc
-    (λ c. search rules)  -- slice-write-acc-2
-    (λ c. search rules)  -- same-length
+    (λ c κs. search rules)  -- add-b-requires
+    (λ c. search rules)  -- bounds-acc-0-2
+    (λ c. search rules)  -- bounds-acc-1-2
+    (λ c. search rules)  -- shape_of-acc
     (λ c. search (rules, added-primes))  -- returns
     )

@@ -8,13 +8,13 @@ pub add_words_spec : {M : Type 1} → statement M
 add_words_spec =
     tie.close
     (tie.spec
-    (λ c. search rules)  -- array-read-t10
-    (λ c. search rules)  -- array-read-t13
-    (λ c κs. search width_1)  -- add-block-requires
-    (λ c. search rules)  -- array-read-t19
-    (λ c κs. search width_2)  -- add-prime-requires
-    (λ c. search rules)  -- same-length
-    (λ c. search element_1)  -- returns
-    (λ c. search rules)  -- same-length-2
-    (λ c. search element_2)  -- returns-2
+    (λ c. search rules)  -- bounds-words-0
+    (λ c. search rules)  -- bounds-words-1
+    (λ c κs. search width_1)  -- add_block-requires
+    (λ c. search rules)  -- bounds-words-0-else-field-eq-BINARY
+    (λ c κs. search width_2)  -- add_prime-requires
+    (λ c. search rules)  -- shape_of-acc-then-field-eq-BINARY
+    (λ c. search element_1)  -- returns-then-field-eq-BINARY
+    (λ c. search rules)  -- shape_of-acc-else-field-eq-BINARY
+    (λ c. search element_2)  -- returns-else-field-eq-BINARY
     )

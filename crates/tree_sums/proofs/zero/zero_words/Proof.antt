@@ -8,24 +8,24 @@ use Rattle.tree_sums.proofs.Zeroes.{Zeroed, zero-start, zero_turn, zero-end}
 use Rattle.tree_sums.proofs.zero.zero_words.Statement.{statement}
 use Rattle.tree_sums.proofs.zero.zero_words.Tie as tie
 
-abbrev invariant-loop : tie.invariant-loop
-invariant-loop words₀ i₀ words i = (i ≤ length words) × Zeroed words₀ words i
+abbrev invariant-loop-i : tie.invariant-loop-i
+invariant-loop-i words₀ i₀ words i = (i ≤ length words) × Zeroed words₀ words i
 
-abbrev decreases-loop : tie.decreases-loop
-decreases-loop words₀ i₀ words i = length words - i
+abbrev decreases-loop-i : tie.decreases-loop-i
+decreases-loop-i words₀ i₀ words i = length words - i
 
 pub zero_words_spec : {M : Type 1} → statement M
 zero_words_spec =
     tie.close
     (tie.spec
-    invariant-loop
-    decreases-loop
-    (λ c. search (rules, zero-start))  -- loop-holds
-    (λ c. search rules)  -- mul-words
-    (λ c. search rules)  -- slice-write-words
-    (λ c. search rules)  -- add-i
-    (λ c. simp length-set (omega arith))  -- loop-less
-    (λ c. (simp length-set (omega arith), search zero_turn))  -- loop-again
-    (λ c. search rules)  -- same-length
+    invariant-loop-i
+    decreases-loop-i
+    (λ c. search (rules, zero-start))  -- loop-i-init
+    (λ c. search rules)  -- offset_bounds-words-i
+    (λ c. search rules)  -- bounds-words-i
+    (λ c. search rules)  -- overflow_add-i
+    (λ c. simp length-set (omega arith))  -- loop-i-smaller
+    (λ c. (simp length-set (omega arith), search zero_turn))  -- loop-i-preserved
+    (λ c. search rules)  -- shape_of-words
     (λ c. search zero-end)  -- returns
     )

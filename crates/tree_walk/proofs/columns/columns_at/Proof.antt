@@ -8,7 +8,7 @@ pub columns_at_spec : {M : Type 1} → statement M
 columns_at_spec =
     tie.close
     (tie.spec
-    (λ c κs. search rules)  -- node-at-requires
+    (λ c κs. search rules)  -- node_at-node-requires
     (λ c κs. search rules)  -- columns-requires
-    (λ c. c.columns.ensures ∙ c.before.node_at.ensures)  -- returns
+    (λ c. c.columns.ensures ∙ c.before.node_at-node.ensures)  -- returns
     )

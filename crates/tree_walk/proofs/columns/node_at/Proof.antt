@@ -9,8 +9,8 @@ pub node_at_spec : {M : Type 1} → statement M
 node_at_spec =
     tie.close
     (tie.spec
-    (λ c κs. search rules)  -- word-at-requires
-    (λ c. search rules)  -- add-word-at
-    (λ c κs. search rules)  -- word-at-requires-2
-    (λ c. node_at _ _ (λ i. omega (arith, c.before.before.shared-slice-known.given i)) (search rules) (search rules))  -- returns
+    (λ c κs. search rules)  -- word_at-requires
+    (λ c. search rules)  -- overflow_add-at
+    (λ c κs. search rules)  -- word_at-requires-2
+    (λ c. node_at _ _ (λ i. omega (arith, c.before.before.shared_slice_known-1.given i)) (search rules) (search rules))  -- returns
     )

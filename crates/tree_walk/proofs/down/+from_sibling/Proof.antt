@@ -35,19 +35,19 @@ pub +from_sibling_spec : {M : Type 1} → statement M
 )
     (at t)
     reads.Post
-    (λ c. search rules)  -- from-sibling-sub-left
-    (λ c κs. search beside-way)  -- from-sibling-digit-requires
-    (λ c κs. search beside-way)  -- from-sibling-digit-requires-2
-    (λ c. search rules)  -- from-sibling-mul-t11
-    (λ c. search low_fits)  -- from-sibling-add-t12
-    (λ c. search low-start)  -- from-sibling-returns
-    (λ c. search rules)  -- from-sibling-sub-t13
-    (λ c. search rules)  -- from-sibling-mul-t14
-    (λ c. search high_fits)  -- from-sibling-add-t15
-    (λ c. search high-start)  -- from-sibling-returns-2
-    (λ c κs. search rules)  -- from-sibling-power-requires
-    (λ c. search power_positive)  -- from-sibling-sub-from-sibling
-    (λ c. search others_fit)  -- from-sibling-mul-from-sibling
-    (λ c. search next_fits)  -- from-sibling-add-from-sibling
-    (λ c κs. (omega arith, search next_start))  -- from-sibling-from-sibling-requires
-    (λ c. search next-from)  -- from-sibling-returns-3
+    (λ c. search rules)  -- overflow_sub-left
+    (λ c κs. search beside-way)  -- digit-own-requires
+    (λ c κs. search beside-way)  -- digit-child-requires
+    (λ c. search rules)  -- overflow_mul-result
+    (λ c. search low_fits)  -- overflow_add-result
+    (λ c. search low-start)  -- returns-then-child-own
+    (λ c. search rules)  -- overflow_sub-result
+    (λ c. search rules)  -- overflow_mul-result-then-own-child
+    (λ c. search high_fits)  -- overflow_add-result-then-own-child
+    (λ c. search high-start)  -- returns-then-own-child
+    (λ c κs. search rules)  -- power-count-requires
+    (λ c. search power_positive)  -- overflow_sub-count
+    (λ c. search others_fit)  -- overflow_mul-count
+    (λ c. search next_fits)  -- overflow_add-at
+    (λ c κs. (omega arith, search next_start))  -- from_sibling-requires
+    (λ c. search next-from)  -- returns

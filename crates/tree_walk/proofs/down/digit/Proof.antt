@@ -9,9 +9,9 @@ pub digit_spec : {M : Type 1} → statement M
 digit_spec =
     tie.close
     (tie.spec
-    (λ c κs. search rules)  -- power-requires
-    (λ c. search rules)  -- mul-result
-    (λ c. search rules)  -- shr-result
-    (λ c. search power_positive)  -- rem-result
+    (λ c κs. search rules)  -- power-count-requires
+    (λ c. search rules)  -- overflow_mul-result
+    (λ c. search rules)  -- overflow_shr-result
+    (λ c. search power_positive)  -- nonzero_rem-result
     (λ c. (search digit_is, search digit-named, search digit-eight))  -- returns
     )

@@ -34,14 +34,14 @@ pub +put_children_spec : {M : Type 1} → statement M
 )
     (at t)
     reads.Post
-    (λ c. search (rules, put-none))  -- returns
-    (λ c κs. (search rules, omega arith))  -- children-requires
-    (λ c κs. search rules)  -- put-node-requires
-    (λ c. search rules)  -- add-put-node
-    (λ c κs. search rules)  -- put-node-requires-2
-    (λ c. search rules)  -- add-put-children
-    (λ c. search rules)  -- sub-put-children
-    (λ c. search rules)  -- add-put-children-2
-    (λ c κs. (omega arith, (search rules, omega arith, omega arith)))  -- put-children-requires
-    (λ c. search rules)  -- same-length
-    (λ c. search (rules, put_more))  -- returns-2
+    (λ c. search (rules, put-none))  -- returns-then-pairs-eq0
+    (λ c κs. (search rules, omega arith))  -- children-both-requires
+    (λ c κs. search rules)  -- put_node-requires
+    (λ c. search rules)  -- overflow_add-at
+    (λ c κs. search rules)  -- put_node-requires-2
+    (λ c. search rules)  -- overflow_add-from
+    (λ c. search rules)  -- overflow_sub-pairs
+    (λ c. search rules)  -- overflow_add-at-2
+    (λ c κs. (omega arith, (search rules, omega arith, omega arith)))  -- put_children-requires
+    (λ c. search rules)  -- shape_of-out
+    (λ c. search (rules, put_more))  -- returns

@@ -8,9 +8,9 @@ pub pairs_after_spec : {M : Type 1} → statement M
 pairs_after_spec =
     tie.close
     (tie.spec
-    (λ c. search rules)  -- sub-power
-    (λ c κs. search rules)  -- power-requires
-    (λ c. search pair_within)  -- sub-result
-    (λ c. search pair_one)  -- sub-result-2
+    (λ c. search rules)  -- overflow_sub-branch_bits
+    (λ c κs. search rules)  -- power-pairs-requires
+    (λ c. search pair_within)  -- overflow_sub-result
+    (λ c. search pair_one)  -- overflow_sub-result-2
     (λ c. search pairs_left)  -- returns
     )

@@ -9,14 +9,14 @@ pub pass_level_spec : {M : Type 1} → statement M
 pass_level_spec =
     tie.close
     (tie.spec
-    (λ c κs. (search rules, omega arith, search (rules, other-room)))  -- put-before-requires
-    (λ c κs. search rules)  -- pairs-after-requires
-    (λ c. search rules)  -- mul-put-children
-    (λ c. search rules)  -- add-put-children
-    (λ c. search rules)  -- mul-put-children-2
-    (λ c. search rules)  -- add-put-children-2
-    (λ c. search rules)  -- add-put-children-3
-    (λ c κs. search rules)  -- put-children-requires
-    (λ c. search rules)  -- same-length
+    (λ c κs. (search rules, omega arith, search (rules, other-room)))  -- put_before-next-requires
+    (λ c κs. search rules)  -- pairs_after-after-requires
+    (λ c. search rules)  -- overflow_mul-pair
+    (λ c. search rules)  -- overflow_add-pair
+    (λ c. search rules)  -- overflow_mul-pair-2
+    (λ c. search rules)  -- overflow_add-at
+    (λ c. search rules)  -- overflow_add-at-2
+    (λ c κs. search rules)  -- put_children-requires
+    (λ c. search rules)  -- shape_of-out
     (λ c. search level-passed)  -- returns
     )

@@ -8,10 +8,10 @@ pub put_before_spec : {M : Type 1} → statement M
 put_before_spec =
     tie.close
     (tie.spec
-    (λ c κs. search rules)  -- put-children-requires
-    (λ c. search rules)  -- mul-put-twin
-    (λ c. search rules)  -- add-put-twin
-    (λ c κs. search rules)  -- put-twin-requires
-    (λ c. search rules)  -- same-length
+    (λ c κs. search rules)  -- put_children-requires
+    (λ c. search rules)  -- overflow_mul-digit
+    (λ c. search rules)  -- overflow_add-at
+    (λ c κs. search rules)  -- put_twin-requires
+    (λ c. search rules)  -- shape_of-out
     (λ c. search front-put)  -- returns
     )

@@ -8,12 +8,12 @@ pub put_twin_spec : {M : Type 1} → statement M
 put_twin_spec =
     tie.close
     (tie.spec
-    (λ c. search rules)  -- mul-children
-    (λ c κs. search rules)  -- children-requires
-    (λ c κs. search rules)  -- put-node-requires
-    (λ c κs. search rules)  -- put-node-requires-2
-    (λ c. search rules)  -- same-length
-    (λ c. search (rules, twin-second))  -- returns
-    (λ c. search rules)  -- same-length-2
-    (λ c. search (rules, twin-first))  -- returns-2
+    (λ c. search rules)  -- overflow_mul-digit
+    (λ c κs. search rules)  -- children-both-requires
+    (λ c κs. search rules)  -- put_node-requires
+    (λ c κs. search rules)  -- put_node-requires-else-digit-eq0
+    (λ c. search rules)  -- shape_of-out-then-digit-eq0
+    (λ c. search (rules, twin-second))  -- returns-then-digit-eq0
+    (λ c. search rules)  -- shape_of-out-else-digit-eq0
+    (λ c. search (rules, twin-first))  -- returns-else-digit-eq0
     )

@@ -9,9 +9,9 @@ pub walk_spec : {M : Type 1} → statement M
 walk_spec =
     tie.close
     (tie.spec
-    (λ c κs. search rules)  -- of-columns-requires
-    (λ c κs. search rules)  -- walk-from-requires
+    (λ c κs. search rules)  -- of_columns-requires
+    (λ c κs. search rules)  -- walk_from-leaf-requires
     (λ c κs. search rules)  -- columns-requires
-    (λ c. search rules)  -- same-length
+    (λ c. search rules)  -- shape_of-out
     (λ c. search (rules, walked-root, given-state, node_of_columns))  -- returns
     )

@@ -8,9 +8,9 @@ pub child_spec : {M : Type 1} → statement M
 child_spec =
     tie.close
     (tie.spec
-    (λ c. search rules)  -- mul-encrypt
-    (λ c. search rules)  -- index-1-encrypt
-    (λ c κs. search rules)  -- encrypt-requires
+    (λ c. search rules)  -- offset_bounds-keys-c
+    (λ c. search rules)  -- bounds-keys-c
+    (λ c κs. search rules)  -- encrypt-e-requires
     (λ c κs. search rules)  -- add-requires
     (λ c. search (rules, child-block))  -- returns
     )

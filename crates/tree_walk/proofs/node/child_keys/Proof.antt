@@ -7,26 +7,26 @@ use Rattle.tree_walk.proofs.Made.{Made, made_none, made-next, made_all, key_belo
 use Rattle.tree_walk.proofs.node.child_keys.Statement.{statement}
 use Rattle.tree_walk.proofs.node.child_keys.Tie as tie
 
-abbrev invariant-loop : tie.invariant-loop
-invariant-loop sbox branch-bits count keys₀ c₀ keys c = (c ≤ count) × Made keys c
+abbrev invariant-loop-c : tie.invariant-loop-c
+invariant-loop-c sbox branch-bits count keys₀ c₀ keys c = (c ≤ count) × Made keys c
 
-abbrev decreases-loop : tie.decreases-loop
-decreases-loop sbox branch-bits count keys₀ c₀ keys c = count - c
+abbrev decreases-loop-c : tie.decreases-loop-c
+decreases-loop-c sbox branch-bits count keys₀ c₀ keys c = count - c
 
 pub child_keys_spec : {M : Type 1} → statement M
 child_keys_spec =
     tie.close
     (tie.spec
-    invariant-loop
-    decreases-loop
-    (λ c κs. search rules)  -- power-requires
-    (λ c. (omega arith, made_none _ refl))  -- loop-holds
-    (λ c. search key-byte)  -- cast-byte
-    (λ c κs. search rules)  -- schedule-requires
-    (λ c. search key-place)  -- mul-keys
-    (λ c. search key_below)  -- array-set-from-keys
-    (λ c. search key-next)  -- add-c
-    (λ c. search rules)  -- loop-less
-    (λ c. (search rules, search (made-next, key_below)))  -- loop-again
+    invariant-loop-c
+    decreases-loop-c
+    (λ c κs. search rules)  -- power-count-requires
+    (λ c. (omega arith, made_none _ refl))  -- loop-c-init
+    (λ c. search key-byte)  -- overflow_cast-byte
+    (λ c κs. search rules)  -- schedule-schedule-requires
+    (λ c. search key-place)  -- offset_bounds-keys-c
+    (λ c. search key_below)  -- bounds-keys-c
+    (λ c. search key-next)  -- overflow_add-c
+    (λ c. search rules)  -- loop-c-smaller
+    (λ c. (search rules, search (made-next, key_below)))  -- loop-c-preserved
     (λ c. search made_all)  -- returns
     )

@@ -8,12 +8,12 @@ pub children_spec : {M : Type 1} → statement M
 children_spec =
     tie.close
     (tie.spec
-    (λ c. search rules)  -- mul-encrypt-two
-    (λ c. search rules)  -- index-1-encrypt-two
-    (λ c. search rules)  -- add-encrypt-two
-    (λ c. search rules)  -- mul-encrypt-two-2
-    (λ c. search rules)  -- index-1-encrypt-two-2
-    (λ c κs. search rules)  -- encrypt-two-requires
+    (λ c. search rules)  -- offset_bounds-keys-c
+    (λ c. search rules)  -- bounds-keys-c
+    (λ c. search rules)  -- overflow_add-c
+    (λ c. search rules)  -- offset_bounds-keys-c-2
+    (λ c. search rules)  -- bounds-keys-c-2
+    (λ c κs. search rules)  -- encrypt_two-both-requires
     (λ c κs. search rules)  -- add-requires
     (λ c κs. search rules)  -- add-requires-2
     (λ c. (search (rules, child-block), search (rules, child-block)))  -- returns

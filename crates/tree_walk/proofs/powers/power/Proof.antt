@@ -8,6 +8,6 @@ pub power_spec : {M : Type 1} → statement M
 power_spec =
     tie.close
     (tie.spec
-    (λ c. search rules)  -- shl-result
+    (λ c. search rules)  -- overflow_shl-result
     (λ c. search shifted)  -- returns
     )

@@ -10,26 +10,26 @@ use Rattle.window.proofs.Filled.{fits_now, noise_now, rows_to, filled_none, fill
 use Rattle.window_rows.proofs.walk.walk_rows.Statement.{statement}
 use Rattle.window_rows.proofs.walk.walk_rows.Tie as tie
 
-abbrev invariant-loop : tie.invariant-loop
-invariant-loop tables keys rows noise v u-out₀ v-out₀ passed₀ k₀ u-out v-out passed k =
+abbrev invariant-loop-k : tie.invariant-loop-k
+invariant-loop-k tables keys rows noise v u-out₀ v-out₀ passed₀ k₀ u-out v-out passed k =
     (k ≤ rows.window.count) × (length u-out ≡ length u-out₀) × (length v-out ≡ length v-out₀)
     × Filled (round_keys keys) (rows_to rows k) noise v u-out₀ v-out₀ passed u-out v-out
 
-abbrev decreases-loop : tie.decreases-loop
-decreases-loop tables keys rows noise v u-out₀ v-out₀ passed₀ k₀ u-out v-out passed k = rows.window.count - k
+abbrev decreases-loop-k : tie.decreases-loop-k
+decreases-loop-k tables keys rows noise v u-out₀ v-out₀ passed₀ k₀ u-out v-out passed k = rows.window.count - k
 
 pub walk_rows_spec : {M : Type 1} → statement M
 walk_rows_spec =
     tie.close
     (tie.spec
-    invariant-loop
-    decreases-loop
-    (λ c. (search rules, refl, refl, search filled_none))  -- loop-holds
-    (λ c κs. ((search rules, search rules), (search noise_now, search fits_now)))  -- write-row-requires
-    (λ c. search rules)  -- add-k
-    (λ c. search rules)  -- loop-less
-    (λ c. (search rules, search rules, search rules, search filled_more))  -- loop-again
-    (λ c. search rules)  -- same-length
-    (λ c. search rules)  -- same-length-2
+    invariant-loop-k
+    decreases-loop-k
+    (λ c. (search rules, refl, refl, search filled_none))  -- loop-k-init
+    (λ c κs. ((search rules, search rules), (search noise_now, search fits_now)))  -- write_row-admitted-requires
+    (λ c. search rules)  -- overflow_add-k
+    (λ c. search rules)  -- loop-k-smaller
+    (λ c. (search rules, search rules, search rules, search filled_more))  -- loop-k-preserved
+    (λ c. search rules)  -- shape_of-u_out
+    (λ c. search rules)  -- shape_of-v_out
     (λ c. search filled-all)  -- returns
     )

@@ -9,16 +9,16 @@ pub write_binary_spec : {M : Type 1} → statement M
 write_binary_spec =
     tie.close
     (tie.spec
-    (λ c. search rules)  -- add-x
-    (λ c κs. (search rules, (search rules, search rules)))  -- scalar-row-binary-requires
-    (λ c κs. omega arith)  -- put-block-requires
-    (λ c. search rules)  -- same-length
-    (λ c. search alone-binary)  -- returns
-    (λ c κs. (search rules, (search rules, search whole-noise, search rules)))  -- noise-row-binary-requires
-    (λ c. search turn_fits)  -- mul-u-out
-    (λ c. search room-noise)  -- slice-write-u-out
-    (λ c κs. omega arith)  -- put-block-requires-2
-    (λ c. search rules)  -- same-length-2
-    (λ c. search rules)  -- same-length-3
-    (λ c. search (pair_binary, room-noise))  -- returns-2
+    (λ c. search rules)  -- overflow_add-x
+    (λ c κs. (search rules, (search rules, search rules)))  -- scalar_row_binary-element-requires
+    (λ c κs. omega arith)  -- put_block-requires
+    (λ c. search rules)  -- shape_of-v_out-then-rows-eq0
+    (λ c. search alone-binary)  -- returns-then-rows-eq0
+    (λ c κs. (search rules, (search rules, search whole-noise, search rules)))  -- noise_row_binary-pair-requires
+    (λ c. search turn_fits)  -- offset_bounds-u_out-k
+    (λ c. search room-noise)  -- bounds-u_out-k
+    (λ c κs. omega arith)  -- put_block-requires-2
+    (λ c. search rules)  -- shape_of-u_out
+    (λ c. search rules)  -- shape_of-v_out
+    (λ c. search (pair_binary, room-noise))  -- returns
     )

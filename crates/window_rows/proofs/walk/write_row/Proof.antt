@@ -8,12 +8,12 @@ pub write_row_spec : {M : Type 1} → statement M
 write_row_spec =
     tie.close
     (tie.spec
-    (λ c κs. (search rules, (search rules, search fits-binary)))  -- write-binary-requires
-    (λ c. search rules)  -- same-length
-    (λ c. search rules)  -- same-length-2
-    (λ c. search row-binary)  -- returns
-    (λ c κs. (search rules, (search rules, search fits-prime)))  -- write-prime-requires
-    (λ c. search rules)  -- same-length-3
-    (λ c. search rules)  -- same-length-4
-    (λ c. search row-prime)  -- returns-2
+    (λ c κs. (search rules, (search rules, search fits-binary)))  -- write_binary-requires
+    (λ c. search rules)  -- shape_of-u_out-then-rows-eq-BINARY
+    (λ c. search rules)  -- shape_of-v_out-then-rows-eq-BINARY
+    (λ c. search row-binary)  -- returns-then-rows-eq-BINARY
+    (λ c κs. (search rules, (search rules, search fits-prime)))  -- write_prime-requires
+    (λ c. search rules)  -- shape_of-u_out
+    (λ c. search rules)  -- shape_of-v_out
+    (λ c. search row-prime)  -- returns
     )

@@ -8,8 +8,8 @@ pub code_keys_spec : {M : Type 1} → statement M
 code_keys_spec =
     tie.close
     (tie.spec
-    (λ c κs. search rules)  -- code-key-at-requires
-    (λ c κs. search rules)  -- columns-at-requires
+    (λ c κs. search rules)  -- code_key_at-requires
+    (λ c κs. search rules)  -- columns_at-requires
     (λ c κs. search rules)  -- schedule-requires
     (λ c. search keys_at)  -- returns
     )

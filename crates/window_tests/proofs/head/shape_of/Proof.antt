@@ -7,7 +7,7 @@ pub shape_of_spec : {M : Type 1} → statement M
 shape_of_spec =
     tie.close
     (tie.spec
-    (λ c κs. search rules)  -- leaves-requires
-    (λ c. search rules)  -- div-t5
+    (λ c κs. search rules)  -- leaves-places-requires
+    (λ c. search rules)  -- nonzero_div-result
     (λ c. cc)  -- returns
     )

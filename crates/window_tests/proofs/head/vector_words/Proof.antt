@@ -9,7 +9,7 @@ vector_words_spec =
     tie.close
     (tie.spec
     (λ c κs. search rules)  -- leaves-requires
-    (λ c κs. search rules)  -- element-width-requires
-    (λ c. search vector_fits)  -- mul-result
+    (λ c κs. search rules)  -- element_width-requires
+    (λ c. search vector_fits)  -- overflow_mul-result
     (λ c. cc)  -- returns
     )

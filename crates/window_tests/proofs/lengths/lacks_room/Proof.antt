@@ -9,7 +9,7 @@ pub lacks_room_spec : {M : Type 1} → statement M
 lacks_room_spec =
     tie.close
     (tie.spec
-    (λ c κs. search rules)  -- element-width-requires
-    (λ c κs. search width_least)  -- is-short-requires
+    (λ c κs. search rules)  -- element_width-requires
+    (λ c κs. search width_least)  -- is_short-requires
     (λ c. search room_lacks)  -- returns
     )

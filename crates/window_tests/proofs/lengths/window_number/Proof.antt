@@ -9,13 +9,13 @@ window_number_spec =
     tie.close
     (tie.spec
     (λ c κs. search rules)  -- leaves-requires
-    (λ c. search (chain, is_not-given) depth 9)  -- returns
-    (λ c κs. search rules)  -- vector-words-requires
-    (λ c. search (chain, is_given, is_not-given) depth 9)  -- returns-2
-    (λ c κs. search rules)  -- is-past-requires
-    (λ c. search (chain, is_given) depth 9)  -- returns-3
-    (λ c. search (chain, is_given) depth 9)  -- returns-4
-    (λ c κs. search rules)  -- lacks-room-requires
-    (λ c. search (chain, is_given) depth 9)  -- returns-5
-    (λ c. search (chain, is_given) depth 9)  -- returns-6
+    (λ c. search (chain, is_not-given) depth 9)  -- returns-then-noise-leaves
+    (λ c κs. search rules)  -- vector_words-requires
+    (λ c. search (chain, is_given, is_not-given) depth 9)  -- returns-then-vector-vector_words
+    (λ c κs. search rules)  -- is_past-requires
+    (λ c. search (chain, is_given) depth 9)  -- returns-then-is_past
+    (λ c. search (chain, is_given) depth 9)  -- returns-then-u_room-window
+    (λ c κs. search rules)  -- lacks_room-requires
+    (λ c. search (chain, is_given) depth 9)  -- returns-then-lacks_room
+    (λ c. search (chain, is_given) depth 9)  -- returns
     )

@@ -9,8 +9,8 @@ pub all_noise_used_spec : {M : Type 1} → statement M
 all_noise_used_spec =
     tie.close
     (tie.spec
-    (λ c κs. (search rules, (search rules, omega arith, search rules)))  -- used-below-requires
-    (λ c. search noise-binary)  -- returns
-    (λ c κs. (search rules, search testing-prime))  -- elements-used-requires
-    (λ c. search noise-prime)  -- returns-2
+    (λ c κs. (search rules, (search rules, omega arith, search rules)))  -- used_below-requires
+    (λ c. search noise-binary)  -- returns-then-rows-eq-BINARY
+    (λ c κs. (search rules, search testing-prime))  -- elements_used-requires
+    (λ c. search noise-prime)  -- returns
     )

@@ -9,8 +9,8 @@ pub elements_used_spec : {M : Type 1} → statement M
 elements_used_spec =
     tie.close
     (tie.spec
-    (λ c. search binary-used)  -- returns
+    (λ c. search binary-used)  -- returns-then-rows-eq-BINARY
     (λ c κs. search rules)  -- modulus-requires
-    (λ c κs. (search rules, (search rules, search whole-prime, search rules)))  -- used-below-requires
-    (λ c. search below-prime)  -- returns-2
+    (λ c κs. (search rules, (search rules, search whole-prime, search rules)))  -- used_below-requires
+    (λ c. search below-prime)  -- returns
     )

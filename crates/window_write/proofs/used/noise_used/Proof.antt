@@ -8,7 +8,7 @@ pub noise_used_spec : {M : Type 1} → statement M
 noise_used_spec =
     tie.close
     (tie.spec
-    (λ c. search noise-none)  -- returns
-    (λ c κs. (search rules, search u_testing))  -- all-noise-used-requires
-    (λ c. search noise-all)  -- returns-2
+    (λ c. search noise-none)  -- returns-then-rows-eq0
+    (λ c κs. (search rules, search u_testing))  -- all_noise_used-requires
+    (λ c. search noise-all)  -- returns
     )

@@ -8,12 +8,12 @@ pub write_rows_spec : {M : Type 1} → statement M
 write_rows_spec =
     tie.close
     (tie.spec
-    (λ c κs. search rules)  -- table-requires
-    (λ c κs. search rules)  -- fill-tables-requires
-    (λ c κs. search rules)  -- code-keys-requires
-    (λ c κs. search rules)  -- shape-of-requires
-    (λ c κs. (search rules, (search fits-noise, search fits-rows)))  -- write-tested-requires
-    (λ c. search rules)  -- same-length
-    (λ c. search rules)  -- same-length-2
+    (λ c κs. search rules)  -- table-sb-requires
+    (λ c κs. search rules)  -- fill_tables-requires
+    (λ c κs. search rules)  -- code_keys-keys-requires
+    (λ c κs. search rules)  -- shape_of-requires
+    (λ c κs. (search rules, (search fits-noise, search fits-rows)))  -- write_tested-requires
+    (λ c. search rules)  -- shape_of-u_out
+    (λ c. search rules)  -- shape_of-v_out
     (λ c. search written_for)  -- returns
     )

@@ -10,17 +10,17 @@ pub write_small_spec : {M : Type 1} → statement M
 write_small_spec =
     tie.close
     (tie.spec
-    (λ c. search rules)  -- slice-aggregate-fill
-    (λ c. search rules)  -- slice-aggregate-fill-2
-    (λ c κs. (search rules, (search own-words, search own-elements)))  -- walk-rows-requires
-    (λ c. search small-refused)  -- returns
-    (λ c. search rules)  -- slice-aggregate-copy-front
-    (λ c κs. (search u-own, search rules))  -- copy-front-requires
-    (λ c. search rules)  -- slice-aggregate-copy-front-2
-    (λ c κs. search rules)  -- element-width-requires
-    (λ c. search count_fits)  -- mul-copy-front
-    (λ c κs. (search words-own, search words-room))  -- copy-front-requires-2
-    (λ c. search rules)  -- same-length
-    (λ c. search rules)  -- same-length-2
-    (λ c. search small-written)  -- returns-2
+    (λ c. search rules)  -- slice_bounds-walk_rows-end
+    (λ c. search rules)  -- slice_bounds-walk_rows-end-2
+    (λ c κs. (search rules, (search own-words, search own-elements)))  -- walk_rows-requires
+    (λ c. search small-refused)  -- returns-then-not-walk_rows
+    (λ c. search rules)  -- slice_bounds-copy_front-end
+    (λ c κs. (search u-own, search rules))  -- copy_front-requires
+    (λ c. search rules)  -- slice_bounds-copy_front-end-2
+    (λ c κs. search rules)  -- element_width-requires
+    (λ c. search count_fits)  -- overflow_mul-rows
+    (λ c κs. (search words-own, search words-room))  -- copy_front-requires-2
+    (λ c. search rules)  -- shape_of-u_out
+    (λ c. search rules)  -- shape_of-v_out
+    (λ c. search small-written)  -- returns
     )

@@ -8,16 +8,16 @@ pub write_tested_spec : {M : Type 1} → statement M
 write_tested_spec =
     tie.close
     (tie.spec
-    (λ c κs. search rules)  -- write-small-requires
-    (λ c. search rules)  -- same-length
-    (λ c. search rules)  -- same-length-2
-    (λ c. search rules)  -- returns
-    (λ c κs. search rules)  -- noise-used-requires
-    (λ c. search noise-not-usable)  -- returns-2
-    (λ c κs. search rules)  -- elements-used-requires
-    (λ c. search not-usable)  -- returns-3
-    (λ c κs. search rules)  -- walk-rows-requires
-    (λ c. search rules)  -- same-length-3
-    (λ c. search rules)  -- same-length-4
-    (λ c. search large_written)  -- returns-4
+    (λ c κs. search rules)  -- write_small-requires
+    (λ c. search rules)  -- shape_of-u_out-then-rows-le32
+    (λ c. search rules)  -- shape_of-v_out-then-rows-le32
+    (λ c. search rules)  -- returns-then-rows-le32
+    (λ c κs. search rules)  -- noise_used-requires
+    (λ c. search noise-not-usable)  -- returns-then-not-noise_used
+    (λ c κs. search rules)  -- elements_used-requires
+    (λ c. search not-usable)  -- returns-then-not-elements_used
+    (λ c κs. search rules)  -- walk_rows-requires
+    (λ c. search rules)  -- shape_of-u_out
+    (λ c. search rules)  -- shape_of-v_out
+    (λ c. search large_written)  -- returns
     )

@@ -7,7 +7,7 @@ pub of_columns_spec : {M : Type 1} → statement M
 of_columns_spec =
     tie.close
     (tie.spec
-    (λ c κs. search rules)  -- low-word-requires
-    (λ c κs. search rules)  -- high-word-requires
+    (λ c κs. search rules)  -- low_word-requires
+    (λ c κs. search rules)  -- high_word-requires
     (λ c. cc)  -- returns
     )

@@ -7,6 +7,6 @@ pub scale_spec : {M : Type 1} → statement M
 scale_spec =
     tie.close
     (tie.spec
-    (λ c. search scale_one)  -- returns
-    (λ c. search scale-other)  -- returns-2
+    (λ c. search scale_one)  -- returns-then-bit-eq1
+    (λ c. search scale-other)  -- returns-else-bit-eq1
     )

@@ -10,7 +10,7 @@ add_spec =
     (tie.spec
     (λ c κs. search rules)  -- fold-requires
     (λ c κs. search rules)  -- fold-requires-2
-    (λ c. search rules)  -- add-reduce
+    (λ c. search rules)  -- overflow_add-fold
     (λ c κs. search rules)  -- reduce-requires
     (λ c. search added)  -- returns
     )

@@ -12,6 +12,6 @@ add_product_spec =
     (λ c κs. search rules)  -- fold-requires-2
     (λ c κs. search rules)  -- fold-requires-3
     (λ c κs. (search folded_most, search folded_most))  -- product-requires
-    (λ c. search rules)  -- add-result
+    (λ c. search rules)  -- overflow_add-result
     (λ c. search product_added)  -- returns
     )

@@ -9,12 +9,12 @@ pub from_signed_spec : {M : Type 1} → statement M
 from_signed_spec =
     tie.close
     (tie.spec
-    (λ c. search too_low)  -- returns
-    (λ c. search too_high)  -- returns-2
-    (λ c. search opposite_fits)  -- sub-t5
-    (λ c. search (opposite_cast c.before.before.before.ranges.amount))  -- cast-t6
+    (λ c. search too_low)  -- returns-then-amount-lt-LEAST
+    (λ c. search too_high)  -- returns-then-amount-gt-GREATEST
+    (λ c. search opposite_fits)  -- overflow_sub-opposite
+    (λ c. search (opposite_cast c.before.before.before.ranges.amount))  -- overflow_cast-opposite
     (λ c κs. search rules)  -- negate-requires
-    (λ c. search (itself_cast c.before.before.before.ranges.amount))  -- cast-t8
-    (λ c. search opposite_written)  -- returns-3
-    (λ c. search itself-written)  -- returns-4
+    (λ c. search (itself_cast c.before.before.before.ranges.amount))  -- overflow_cast-result
+    (λ c. search opposite_written)  -- returns-then-amount-lt0
+    (λ c. search itself-written)  -- returns-else-amount-lt0
     )

@@ -9,7 +9,7 @@ pub reduce_spec : {M : Type 1} → statement M
 reduce_spec =
     tie.close
     (tie.spec
-    (λ c κs. search rules)  -- fold-requires
-    (λ c. search reduced_below)  -- returns
-    (λ c. reduced_above _ _ c.before.fold.ensures c.if1.false (omega arith))  -- returns-2
+    (λ c κs. search rules)  -- fold-folded-requires
+    (λ c. search reduced_below)  -- returns-then-folded-lt-MODULUS
+    (λ c. reduced_above _ _ c.before.fold-folded.ensures c.if-folded-lt-MODULUS.false (omega arith))  -- returns-else-folded-lt-MODULUS
     )

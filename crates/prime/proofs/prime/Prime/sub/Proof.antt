@@ -9,10 +9,10 @@ pub sub_spec : {M : Type 1} → statement M
 sub_spec =
     tie.close
     (tie.spec
-    (λ c κs. search rules)  -- reduce-requires
+    (λ c κs. search rules)  -- reduce-taken-requires
     (λ c κs. search rules)  -- fold-requires
-    (λ c. search (reduced_word, le_of_lt))  -- sub-reduce
-    (λ c. search rules)  -- add-reduce
-    (λ c κs. search rules)  -- reduce-requires-2
+    (λ c. search (reduced_word, le_of_lt))  -- overflow_sub-taken
+    (λ c. search rules)  -- overflow_add-fold
+    (λ c κs. search rules)  -- reduce-requires
     (λ c. search subtracted)  -- returns
     )

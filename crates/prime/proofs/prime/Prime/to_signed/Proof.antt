@@ -8,10 +8,10 @@ pub to_signed_spec : {M : Type 1} → statement M
 to_signed_spec =
     tie.close
     (tie.spec
-    (λ c κs. search rules)  -- reduce-requires
-    (λ c. search word_fits)  -- cast-number
-    (λ c. search rules)  -- cast-result
-    (λ c. search less-fits)  -- sub-result
-    (λ c. search read_low)  -- returns
-    (λ c. search read-high)  -- returns-2
+    (λ c κs. search rules)  -- reduce-element-requires
+    (λ c. search word_fits)  -- overflow_cast-number
+    (λ c. search rules)  -- overflow_cast-result
+    (λ c. search less-fits)  -- overflow_sub-result
+    (λ c. search read_low)  -- returns-then-number-le-GREATEST
+    (λ c. search read-high)  -- returns-else-number-le-GREATEST
     )
