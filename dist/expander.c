@@ -4,7 +4,7 @@
  *     cc -O2 program.c expander.c
  *
  * A second back end from the same proved text. tools/c-file printed this from the lowered code of the crates, the form that their
- * proofs speak of, as the kit rattle-kit-5b keeps it. Neither that script nor your C compiler is proved; tests hold what comes out to a
+ * proofs speak of, as the kit rattle-kit-13f keeps it. Neither that script nor your C compiler is proved; tests hold what comes out to a
  * plain implementation, and to the archive, which the kit makes of the same lowered code. Not to be edited.
  *
  * Any little-endian machine. gcc and clang make it fast with -O2; by -O3 clang 14 gains 3 % in dealings, gcc 12 nothing. Another compiler
@@ -615,7 +615,7 @@ static void tree_fill_fill_add_run(char *tables, char *keys, uint64_t field, tre
 static void tree_fill_fill_add_path(char *tables, char *keys, uint64_t field, tree_fill_range_Path path, slice bytes, uint64_2 correction,
     slice acc);
 
-/* answer, src/lengths.rt:7: Whether a length is `width` bytes an output. */
+/* answer, src/lengths.rt:5: Whether a length is `width` bytes an output. */
 INLINE bool answer_lengths_is_times(uint64_t len, uint64_t width, uint64_t count)
 {
     bool result, t5, t6;
@@ -640,7 +640,7 @@ INLINE answer_TwoLengths answer_refused_two(uint32_t number)
     return result;
 }
 
-/* answer, src/lengths.rt:27: Whether a window passes its end. */
+/* answer, src/lengths.rt:25: Whether a window passes its end. */
 INLINE bool answer_lengths_is_past(uint64_t first, uint64_t count, uint64_t end)
 {
     bool result, t4, t5;
@@ -656,7 +656,7 @@ INLINE bool answer_lengths_is_past(uint64_t first, uint64_t count, uint64_t end)
     return result;
 }
 
-/* answer, src/lengths.rt:19: Whether a buffer is shorter than `width` bytes an output. */
+/* answer, src/lengths.rt:17: Whether a buffer is shorter than `width` bytes an output. */
 INLINE bool answer_lengths_is_short(uint64_t room, uint64_t width, uint64_t count)
 {
     bool result;
@@ -814,7 +814,7 @@ INLINE uint64_t prime_prime_Prime_add_product(uint64_t total, uint64_t a, uint64
     return result;
 }
 
-/* prime, src/signed.rt:19: The element as a signed number: above the middle of the field, the element less p. */
+/* prime, src/signed.rt:21: The element as a signed number: above the middle of the field, the element less p. */
 INLINE uint64_t prime_prime_Prime_to_signed(prime_prime_Prime self)
 {
     uint64_t result, number, t5, t6;
@@ -833,7 +833,7 @@ INLINE uint64_t prime_prime_Prime_to_signed(prime_prime_Prime self)
     return result;
 }
 
-/* prime, src/signed.rt:32: The negation modulo p. */
+/* prime, src/signed.rt:34: The negation modulo p. */
 INLINE prime_prime_Prime prime_prime_Prime_negate(prime_prime_Prime self)
 {
     prime_prime_Prime result, t2;
@@ -842,7 +842,7 @@ INLINE prime_prime_Prime prime_prime_Prime_negate(prime_prime_Prime self)
     return result;
 }
 
-/* prime, src/signed.rt:39: The element that is read as a signed number. */
+/* prime, src/signed.rt:41: The element that is read as a signed number. */
 INLINE prime_signed_FromSigned prime_prime_Prime_from_signed(uint64_t amount)
 {
     prime_signed_FromSigned result, t4;
@@ -875,7 +875,7 @@ INLINE prime_signed_FromSigned prime_prime_Prime_from_signed(uint64_t amount)
     return result;
 }
 
-/* amounts, src/lib.rt:25: The amount that an element is read as. */
+/* amounts, src/lib.rt:27: The amount that an element is read as. */
 INLINE amounts_Amount amounts_read_amount(uint64_t element)
 {
     amounts_Amount result, t4;
@@ -894,7 +894,7 @@ INLINE amounts_Amount amounts_read_amount(uint64_t element)
     return result;
 }
 
-/* amounts, src/lib.rt:43: The element that is read as an amount. */
+/* amounts, src/lib.rt:45: The element that is read as an amount. */
 INLINE amounts_WrittenAmount amounts_write_amount(uint64_t amount)
 {
     amounts_WrittenAmount result;
@@ -913,7 +913,7 @@ INLINE amounts_WrittenAmount amounts_write_amount(uint64_t amount)
     return result;
 }
 
-/* number, src/lib.rt:97: How many bytes the number takes. */
+/* number, src/lib.rt:99: How many bytes the number takes. */
 INLINE uint64_t number_number_length(uint64_t n)
 {
     uint64_t result;
@@ -932,7 +932,7 @@ INLINE uint64_t number_number_length(uint64_t n)
     return result;
 }
 
-/* number, src/lib.rt:110: Writes the number from a place on; the place after it. */
+/* number, src/lib.rt:112: Writes the number from a place on; the place after it. */
 INLINE uint64_t number_write_number(slice buffer, uint64_t at, uint64_t n)
 {
     uint64_t result, at1, at2, t9, t10, t13, t16;
@@ -977,7 +977,7 @@ INLINE uint64_t number_write_number(slice buffer, uint64_t at, uint64_t n)
     return result;
 }
 
-/* number, src/lib.rt:22: The number that a reading is refused with; 0 for a value. */
+/* number, src/lib.rt:23: The number that a reading is refused with; 0 for a value. */
 INLINE uint32_t number_number_fault(number_Number r)
 {
     uint32_t result, k, t3;
@@ -994,7 +994,7 @@ INLINE uint32_t number_number_fault(number_Number r)
     return result;
 }
 
-/* number, src/lib.rt:32: The number in a wider type. */
+/* number, src/lib.rt:33: The number in a wider type. */
 INLINE uint64_t number_byte_number(uint8_t x)
 {
     uint64_t result;
@@ -1002,7 +1002,7 @@ INLINE uint64_t number_byte_number(uint8_t x)
     return result;
 }
 
-/* number, src/lib.rt:39: The number at a place, and the place after it. */
+/* number, src/lib.rt:40: The number at a place, and the place after it. */
 INLINE number_Number number_read_number(slice source, uint64_t at)
 {
     number_Number result;
@@ -1076,7 +1076,7 @@ INLINE number_Number number_read_number(slice source, uint64_t at)
     return result;
 }
 
-/* number, src/lib.rt:83: The number at a place where a number is known to stand. */
+/* number, src/lib.rt:85: The number at a place where a number is known to stand. */
 INLINE number_Known number_known_number(slice source, uint64_t at)
 {
     number_Known result, t6;
@@ -1128,7 +1128,7 @@ INLINE bool field_noise_is_noise(uint64_t field, uint64_t value)
     return result;
 }
 
-/* field, src/bytes.rt:9: The word of eight bytes. */
+/* field, src/bytes.rt:6: The word of eight bytes. */
 INLINE uint64_t field_bytes_eight(uint8_t a, uint8_t b, uint8_t c, uint8_t d, uint8_t e, uint8_t f, uint8_t g, uint8_t h)
 {
     uint64_t result, t9, t10, t11, t12, t13, t14, t15, t16, t17, t18, t19, t20, t21, t22, t23, t24, t25, t26, t27, t28, t29;
@@ -1157,7 +1157,7 @@ INLINE uint64_t field_bytes_eight(uint8_t a, uint8_t b, uint8_t c, uint8_t d, ui
     return result;
 }
 
-/* field, src/bytes.rt:23: The word whose eight bytes begin at a place. */
+/* field, src/bytes.rt:20: The word whose eight bytes begin at a place. */
 INLINE uint64_t field_bytes_word_at(slice bytes, uint64_t at)
 {
     uint64_t result, t5, t8, t11, t14, t17, t20, t23;
@@ -1190,7 +1190,7 @@ INLINE uint64_t field_bytes_word_at(slice bytes, uint64_t at)
     return result;
 }
 
-/* field, src/element.rt:49: The element whose bytes begin at a place; its second word is 0 where it has one. */
+/* field, src/element.rt:47: The element whose bytes begin at a place; its second word is 0 where it has one. */
 INLINE field_element_Element field_element_element_at(uint64_t field, slice bytes, uint64_t at)
 {
     field_element_Element result;
@@ -1208,7 +1208,7 @@ INLINE field_element_Element field_element_element_at(uint64_t field, slice byte
     return result;
 }
 
-/* field, src/element.rt:157: Whether the words are an element. */
+/* field, src/element.rt:155: Whether the words are an element. */
 INLINE bool field_element_is_element(uint64_t field, field_element_Element a)
 {
     bool result, t3;
@@ -1221,7 +1221,7 @@ INLINE bool field_element_is_element(uint64_t field, field_element_Element a)
     return result;
 }
 
-/* field, src/element.rt:167: Whether the words are those of zero. */
+/* field, src/element.rt:165: Whether the words are those of zero. */
 INLINE bool field_element_is_zero(uint64_t field, field_element_Element a)
 {
     bool result, t3;
@@ -1239,7 +1239,7 @@ INLINE bool field_element_is_zero(uint64_t field, field_element_Element a)
     return result;
 }
 
-/* field, src/element.rt:180: Whether the words are an element other than zero. */
+/* field, src/element.rt:178: Whether the words are an element other than zero. */
 INLINE bool field_element_is_scalar(uint64_t field, field_element_Element a)
 {
     bool result, t3, t4;
@@ -1254,7 +1254,7 @@ INLINE bool field_element_is_scalar(uint64_t field, field_element_Element a)
     return result;
 }
 
-/* field, src/element.rt:190: Whether a second word that no element of the field has is 0. */
+/* field, src/element.rt:188: Whether a second word that no element of the field has is 0. */
 INLINE bool field_element_rest_zero(uint64_t field, uint64_t high)
 {
     bool result, t3;
@@ -1266,7 +1266,7 @@ INLINE bool field_element_rest_zero(uint64_t field, uint64_t high)
     return result;
 }
 
-/* field, src/element.rt:24: How many bytes an element takes. */
+/* field, src/element.rt:22: How many bytes an element takes. */
 INLINE uint64_t field_element_element_length(uint64_t field)
 {
     uint64_t result, t3;
@@ -1281,7 +1281,7 @@ INLINE uint64_t field_element_element_length(uint64_t field)
     return result;
 }
 
-/* field, src/bytes.rt:94: The lowest four bytes of a word. */
+/* field, src/bytes.rt:91: The lowest four bytes of a word. */
 INLINE uint8_4 field_bytes_column(uint64_t word)
 {
     uint8_4 result;
@@ -1302,7 +1302,7 @@ INLINE uint8_4 field_bytes_column(uint64_t word)
     return result;
 }
 
-/* field, src/bytes.rt:109: The 16 bytes of two words as four columns. */
+/* field, src/bytes.rt:106: The 16 bytes of two words as four columns. */
 INLINE uint8_4_4 field_bytes_word_columns(uint64_t low, uint64_t high)
 {
     uint8_4_4 result;
@@ -1326,7 +1326,7 @@ INLINE uint8_4_4 field_block_Block_columns(field_block_Block self)
     return result;
 }
 
-/* field, src/bytes.rt:62: The first eight bytes of four columns as a word. */
+/* field, src/bytes.rt:59: The first eight bytes of four columns as a word. */
 INLINE uint64_t field_bytes_low_word(uint8_4_4 columns)
 {
     uint64_t result;
@@ -1379,7 +1379,7 @@ INLINE uint64_t field_bytes_low_word(uint8_4_4 columns)
     return result;
 }
 
-/* field, src/bytes.rt:78: The last eight bytes of four columns as a word. */
+/* field, src/bytes.rt:75: The last eight bytes of four columns as a word. */
 INLINE uint64_t field_bytes_high_word(uint8_4_4 columns)
 {
     uint64_t result;
@@ -1454,7 +1454,7 @@ INLINE field_block_Block field_block_Block_add(field_block_Block self, field_blo
     return result;
 }
 
-/* field, src/bytes.rt:40: Writes the eight bytes of a word from a place on. */
+/* field, src/bytes.rt:37: Writes the eight bytes of a word from a place on. */
 INLINE void field_bytes_put_word(slice bytes, uint64_t at, uint64_t word)
 {
     uint64_t w1, w2, w3, w4, w5, w6, w7, t11, t14;
@@ -1508,7 +1508,7 @@ INLINE void field_bytes_put_word(slice bytes, uint64_t at, uint64_t word)
     *(uint8_t *)t21 = t12;
 }
 
-/* field, src/element.rt:31: The element of a leaf. */
+/* field, src/element.rt:29: The element of a leaf. */
 INLINE field_element_Element field_element_leaf_element(uint64_t field, uint8_4_4 leaf)
 {
     field_element_Element result;
@@ -1543,7 +1543,7 @@ INLINE field_block_Block field_block_Block_scale(field_block_Block self, uint64_
     return result;
 }
 
-/* field, src/element.rt:120: A noise value times an element. */
+/* field, src/element.rt:118: A noise value times an element. */
 INLINE field_element_Element field_element_element_scaled(uint64_t field, uint64_t value, field_element_Element a)
 {
     field_element_Element result;
@@ -1564,7 +1564,7 @@ INLINE field_element_Element field_element_element_scaled(uint64_t field, uint64
     return result;
 }
 
-/* field, src/element.rt:101: The difference of two elements. */
+/* field, src/element.rt:99: The difference of two elements. */
 INLINE field_element_Element field_element_element_difference(uint64_t field, field_element_Element a, field_element_Element b)
 {
     field_element_Element result;
@@ -1593,7 +1593,7 @@ INLINE bool field_noise_one_noise(uint64_t field)
     return result;
 }
 
-/* field, src/element.rt:197: Writes the bytes of an element from a place on. */
+/* field, src/element.rt:195: Writes the bytes of an element from a place on. */
 INLINE void field_element_put_element(uint64_t field, slice bytes, uint64_t at, field_element_Element element)
 {
     char *t6, *t10;
@@ -1612,7 +1612,7 @@ INLINE void field_element_put_element(uint64_t field, slice bytes, uint64_t at, 
     }
 }
 
-/* field, src/width.rt:12: How many words an element of a field takes. */
+/* field, src/width.rt:11: How many words an element of a field takes. */
 INLINE uint64_t field_width_element_width(uint64_t field)
 {
     uint64_t result, t3;
@@ -1646,18 +1646,20 @@ INLINE uint64_t field_block_add_bits(uint64_t a, uint64_t b)
     return result;
 }
 
-/* field, src/width.rt:19: Writes element i of field 1, two words. */
+/* field, src/width.rt:18: Writes element i of field 1, two words. */
 INLINE void field_width_put_block(slice words, uint64_t i, field_block_Block element)
 {
-    uint64_t low, t5;
-    char *t6, *t8;
+    uint64_t low, t5, t6, t8;
+    char *t7, *t10;
     low = i * 2ull;
-    t5 = low * 8ull;
-    t6 = (char *)((uint64_t *)words.at + low);
-    *(uint64_t *)t6 = element.low;
-    t5 = low + 1ull;
-    t8 = (char *)((uint64_t *)words.at + t5);
-    *(uint64_t *)t8 = element.high;
+    t5 = element.low;
+    t6 = low * 8ull;
+    t7 = (char *)((uint64_t *)words.at + low);
+    *(uint64_t *)t7 = t5;
+    t8 = element.high;
+    t6 = low + 1ull;
+    t10 = (char *)((uint64_t *)words.at + t6);
+    *(uint64_t *)t10 = t8;
 }
 
 /* field, src/noise.rt:36: The coefficient of a term's word. */
@@ -1676,7 +1678,7 @@ INLINE uint64_t field_noise_coefficient(uint64_t field, uint64_t word)
     return result;
 }
 
-/* field, src/element.rt:82: The sum of two elements. */
+/* field, src/element.rt:80: The sum of two elements. */
 INLINE field_element_Element field_element_element_sum(uint64_t field, field_element_Element a, field_element_Element b)
 {
     field_element_Element result;
@@ -1715,7 +1717,7 @@ INLINE uint64_t field_noise_noise_sum(uint64_t field, uint64_t a, uint64_t b)
     return result;
 }
 
-/* record, src/writing.rt:137: How many bytes a head takes. */
+/* record, src/writing.rt:130: How many bytes a head takes. */
 INLINE uint64_t record_writing_head_length(uint64_t depth, uint64_t branch_bits, uint64_t trees, uint64_t terms, uint64_t outputs)
 {
     uint64_t result, up_to_trees, from_terms, t8, t9, t10, t11;
@@ -1733,7 +1735,7 @@ INLINE uint64_t record_writing_head_length(uint64_t depth, uint64_t branch_bits,
     return result;
 }
 
-/* record, src/sizes.rt:7: The number of leaves of a tree. */
+/* record, src/sizes.rt:6: The number of leaves of a tree. */
 INLINE uint64_t record_sizes_leaves(uint64_t depth)
 {
     uint64_t result;
@@ -1741,7 +1743,7 @@ INLINE uint64_t record_sizes_leaves(uint64_t depth)
     return result;
 }
 
-/* record, src/sizes.rt:23: The smaller of two numbers. */
+/* record, src/sizes.rt:22: The smaller of two numbers. */
 INLINE uint64_t record_sizes_smaller(uint64_t a, uint64_t b)
 {
     uint64_t result, t4;
@@ -1756,7 +1758,7 @@ INLINE uint64_t record_sizes_smaller(uint64_t a, uint64_t b)
     return result;
 }
 
-/* record, src/writing.rt:152: How many bytes a tree takes up to its siblings. */
+/* record, src/writing.rt:145: How many bytes a tree takes up to its siblings. */
 INLINE uint64_t record_writing_tree_start_length(uint64_t base, uint64_t position)
 {
     uint64_t result, t3, t4;
@@ -1766,7 +1768,7 @@ INLINE uint64_t record_writing_tree_start_length(uint64_t base, uint64_t positio
     return result;
 }
 
-/* record, src/sizes.rt:15: The siblings of a tree of a depth with 2^g children a node. */
+/* record, src/sizes.rt:14: The siblings of a tree of a depth with 2^g children a node. */
 INLINE uint64_t record_sizes_sibling_count(uint64_t depth, uint64_t branch_bits)
 {
     uint64_t result, t3, t4, t5;
@@ -1777,7 +1779,7 @@ INLINE uint64_t record_sizes_sibling_count(uint64_t depth, uint64_t branch_bits)
     return result;
 }
 
-/* record, src/writing.rt:160: How many bytes a tree takes, after positions below `base`. */
+/* record, src/writing.rt:153: How many bytes a tree takes, after positions below `base`. */
 INLINE uint64_t record_writing_tree_length(record_Layout layout, uint64_t base, uint64_t position)
 {
     uint64_t result, t4, t5, t6;
@@ -1788,7 +1790,7 @@ INLINE uint64_t record_writing_tree_length(record_Layout layout, uint64_t base, 
     return result;
 }
 
-/* record, src/writing.rt:176: How many bytes the noise record takes. */
+/* record, src/writing.rt:169: How many bytes the noise record takes. */
 static uint64_t record_writing_noise_length(record_Layout layout, slice positions)
 {
     uint64_t result, total, base, i, position, t7;
@@ -1817,7 +1819,7 @@ static uint64_t record_writing_noise_length(record_Layout layout, slice position
     return result;
 }
 
-/* record, src/writing.rt:168: How many bytes the scalar record takes. */
+/* record, src/writing.rt:161: How many bytes the scalar record takes. */
 INLINE uint64_t record_writing_scalar_length(record_Layout layout)
 {
     uint64_t result, t2, t3, t4;
@@ -1828,7 +1830,7 @@ INLINE uint64_t record_writing_scalar_length(record_Layout layout)
     return result;
 }
 
-/* record, src/writing.rt:59: Writes g, t, ℓ and n from a place on; the place after them. */
+/* record, src/writing.rt:52: Writes g, t, ℓ and n from a place on; the place after them. */
 INLINE uint64_t record_writing_write_after_depth(slice buffer, uint64_t at, record_Layout layout)
 {
     uint64_t result, at4, at5, at6;
@@ -1849,7 +1851,7 @@ INLINE uint64_t record_writing_write_after_depth(slice buffer, uint64_t at, reco
     return result;
 }
 
-/* record, src/writing.rt:70: Writes d, g, t, ℓ and n after the field byte; the place after them. */
+/* record, src/writing.rt:63: Writes d, g, t, ℓ and n after the field byte; the place after them. */
 INLINE uint64_t record_writing_write_sizes(slice buffer, record_Layout layout)
 {
     uint64_t result, at;
@@ -1864,7 +1866,7 @@ INLINE uint64_t record_writing_write_sizes(slice buffer, record_Layout layout)
     return result;
 }
 
-/* record, src/writing.rt:25: Writes a count of bytes of `from`, which begin at `start`, from a place on; the place after them. */
+/* record, src/writing.rt:18: Writes a count of bytes of `from`, which begin at `start`, from a place on; the place after them. */
 static uint64_t record_writing_write_bytes(slice buffer, uint64_t at, slice from, uint64_t start, uint64_t count)
 {
     uint64_t result, i, t8, t11;
@@ -1889,7 +1891,7 @@ static uint64_t record_writing_write_bytes(slice buffer, uint64_t at, slice from
     return result;
 }
 
-/* record, src/writing.rt:79: Writes the head of a record at the buffer's front; the place after it. */
+/* record, src/writing.rt:72: Writes the head of a record at the buffer's front; the place after it. */
 INLINE uint64_t record_writing_write_head(slice buffer, uint8_t end, record_Layout layout, slice code_key, slice label)
 {
     uint64_t result, at, next;
@@ -1913,7 +1915,7 @@ INLINE uint64_t record_writing_write_head(slice buffer, uint8_t end, record_Layo
     return result;
 }
 
-/* record, src/writing.rt:38: Writes a noise value from a place on, none where it is always 1; the place after it. */
+/* record, src/writing.rt:31: Writes a noise value from a place on, none where it is always 1; the place after it. */
 INLINE uint64_t record_writing_write_value(slice buffer, uint64_t at, uint64_t field, uint64_t value)
 {
     uint64_t result;
@@ -1932,7 +1934,7 @@ INLINE uint64_t record_writing_write_value(slice buffer, uint64_t at, uint64_t f
     return result;
 }
 
-/* record, src/writing.rt:50: Writes an element from a place on; the place after it. */
+/* record, src/writing.rt:43: Writes an element from a place on; the place after it. */
 INLINE uint64_t record_writing_write_element(slice buffer, uint64_t at, uint64_t field, field_element_Element element)
 {
     uint64_t result, t8;
@@ -1946,7 +1948,7 @@ INLINE uint64_t record_writing_write_element(slice buffer, uint64_t at, uint64_t
     return result;
 }
 
-/* record, src/writing.rt:98: Writes a tree up to its siblings from a place on, its position as the number `back`; the place of the
+/* record, src/writing.rt:91: Writes a tree up to its siblings from a place on, its position as the number `back`; the place of the
  * siblings. */
 INLINE uint64_t record_writing_write_tree_start(slice buffer, uint64_t at, uint64_t field, uint64_t back, uint64_t value,
     field_element_Element correction)
@@ -1966,7 +1968,7 @@ INLINE uint64_t record_writing_write_tree_start(slice buffer, uint64_t at, uint6
     return result;
 }
 
-/* record, src/writing.rt:116: Writes the scalar record at the buffer's front; its length. */
+/* record, src/writing.rt:109: Writes the scalar record at the buffer's front; its length. */
 INLINE uint64_t record_writing_write_scalar(slice buffer, record_Layout layout, slice code_key, slice label, field_element_Element delta,
     slice roots)
 {
@@ -1986,7 +1988,7 @@ INLINE uint64_t record_writing_write_scalar(slice buffer, record_Layout layout, 
     return result;
 }
 
-/* record, src/lib.rt:54: The number that a record is refused with. */
+/* record, src/lib.rt:53: The number that a record is refused with. */
 INLINE uint32_t record_record_fault(record_RecordAnswer r)
 {
     uint32_t result, k, t3;
@@ -2003,7 +2005,7 @@ INLINE uint32_t record_record_fault(record_RecordAnswer r)
     return result;
 }
 
-/* circuit, src/gates.rt:15: A number from the least to the most. */
+/* circuit, src/gates.rt:13: A number from the least to the most. */
 INLINE number_Number circuit_gates_read_within(slice source, uint64_t at, uint64_t least, uint64_t most)
 {
     number_Number result, r;
@@ -2033,7 +2035,7 @@ INLINE number_Number circuit_gates_read_within(slice source, uint64_t at, uint64
     return result;
 }
 
-/* circuit, src/gates.rt:32: A wire below a limit. */
+/* circuit, src/gates.rt:30: A wire below a limit. */
 INLINE number_Number circuit_gates_read_wire(slice source, uint64_t at, uint64_t limit)
 {
     number_Number result, r;
@@ -2058,7 +2060,7 @@ INLINE number_Number circuit_gates_read_wire(slice source, uint64_t at, uint64_t
     return result;
 }
 
-/* circuit, src/gates.rt:46: The gate at a wire; the value is its kind. */
+/* circuit, src/gates.rt:44: The gate at a wire; the value is its kind. */
 INLINE number_Number circuit_gates_read_gate(slice source, uint64_t at, uint64_t wire)
 {
     number_Number result, r0, r1, r2;
@@ -2101,7 +2103,7 @@ INLINE number_Number circuit_gates_read_gate(slice source, uint64_t at, uint64_t
     return result;
 }
 
-/* circuit, src/gates.rt:68: One for an AND, else none. */
+/* circuit, src/gates.rt:66: One for an AND, else none. */
 INLINE uint64_t circuit_gates_and_of(uint64_t kind)
 {
     uint64_t result, t3;
@@ -2116,7 +2118,7 @@ INLINE uint64_t circuit_gates_and_of(uint64_t kind)
     return result;
 }
 
-/* circuit, src/gates.rt:75: Gates, the first at wire `inputs`; the value is the number of ANDs. */
+/* circuit, src/gates.rt:73: Gates, the first at wire `inputs`; the value is the number of ANDs. */
 static number_Number circuit_gates_read_gates(slice source, uint64_t body, uint64_t gates, uint64_t inputs)
 {
     number_Number result, r;
@@ -2150,7 +2152,7 @@ static number_Number circuit_gates_read_gates(slice source, uint64_t body, uint6
     return result;
 }
 
-/* circuit, src/gates.rt:95: Wires below a limit; the value is 0. */
+/* circuit, src/gates.rt:93: Wires below a limit; the value is 0. */
 static number_Number circuit_gates_read_wires(slice source, uint64_t tail, uint64_t count, uint64_t limit)
 {
     number_Number result, r;
@@ -2179,7 +2181,7 @@ static number_Number circuit_gates_read_wires(slice source, uint64_t tail, uint6
     return result;
 }
 
-/* circuit, src/reading.rt:27: The circuit, whole and tested. */
+/* circuit, src/reading.rt:24: The circuit, whole and tested. */
 INLINE circuit_Answer circuit_reading_read_circuit(slice source)
 {
     circuit_Answer result;
@@ -2255,7 +2257,7 @@ INLINE circuit_Answer circuit_reading_read_circuit(slice source)
     return result;
 }
 
-/* circuit, src/reading.rt:17: The number that a circuit is refused with; 0 for one that is accepted. */
+/* circuit, src/reading.rt:14: The number that a circuit is refused with; 0 for one that is accepted. */
 INLINE uint32_t circuit_reading_circuit_fault(circuit_Answer r)
 {
     uint32_t result, k, t3;
@@ -2272,7 +2274,7 @@ INLINE uint32_t circuit_reading_circuit_fault(circuit_Answer r)
     return result;
 }
 
-/* circuit, src/again.rt:15: The gate at a place of an accepted circuit, at a wire. */
+/* circuit, src/again.rt:13: The gate at a place of an accepted circuit, at a wire. */
 INLINE circuit_GateRead circuit_again_known_gate(slice source, uint64_t at, uint64_t wire)
 {
     circuit_GateRead result;
@@ -2291,7 +2293,7 @@ INLINE circuit_GateRead circuit_again_known_gate(slice source, uint64_t at, uint
     return result;
 }
 
-/* circuit, src/again.rt:40: The wire at a place of an accepted circuit, below a limit. */
+/* circuit, src/again.rt:38: The wire at a place of an accepted circuit, below a limit. */
 INLINE number_Known circuit_again_known_wire(slice source, uint64_t at, uint64_t limit)
 {
     number_Known result;
@@ -2300,7 +2302,7 @@ INLINE number_Known circuit_again_known_wire(slice source, uint64_t at, uint64_t
     return result;
 }
 
-/* aes_sbox, src/lib.rt:269: The S-box by value, for a caller to lend on. */
+/* aes_sbox, src/lib.rt:29: The S-box by value, for a caller to lend on. */
 INLINE uint8_256 aes_sbox_table(void)
 {
     uint8_256 result;
@@ -2320,7 +2322,7 @@ INLINE uint8_256 aes_sbox_table(void)
     return result;
 }
 
-/* aes_sbox, src/lib.rt:276: The number in a wider type. */
+/* aes_sbox, src/lib.rt:36: The number in a wider type. */
 INLINE uint64_t aes_sbox_byte_word(uint8_t x)
 {
     uint64_t result;
@@ -2328,7 +2330,7 @@ INLINE uint64_t aes_sbox_byte_word(uint8_t x)
     return result;
 }
 
-/* aes_sbox, src/lib.rt:283: Twice a byte in the field of FIPS 197. */
+/* aes_sbox, src/lib.rt:43: Twice a byte in the field of FIPS 197. */
 INLINE uint64_t aes_sbox_twice(uint64_t s)
 {
     uint64_t result, t2, t3, t4, t5;
@@ -2340,7 +2342,7 @@ INLINE uint64_t aes_sbox_twice(uint64_t s)
     return result;
 }
 
-/* aes_sbox, src/lib.rt:291: Three times a byte in the field of FIPS 197. */
+/* aes_sbox, src/lib.rt:51: Three times a byte in the field of FIPS 197. */
 INLINE uint64_t aes_sbox_thrice(uint64_t s)
 {
     uint64_t result, t2;
@@ -2349,7 +2351,7 @@ INLINE uint64_t aes_sbox_thrice(uint64_t s)
     return result;
 }
 
-/* aes_sbox, src/lib.rt:299: The wide column of four bytes. */
+/* aes_sbox, src/lib.rt:59: The wide column of four bytes. */
 INLINE uint64_t aes_sbox_wide_column(uint64_t a, uint64_t b, uint64_t c, uint64_t d)
 {
     uint64_t result, t5, t6, t7, t8, t9;
@@ -2362,7 +2364,7 @@ INLINE uint64_t aes_sbox_wide_column(uint64_t a, uint64_t b, uint64_t c, uint64_
     return result;
 }
 
-/* aes_sbox, src/lib.rt:307: A wide column whose rows moved down by two. */
+/* aes_sbox, src/lib.rt:67: A wide column whose rows moved down by two. */
 INLINE uint64_t aes_sbox_half_turned(uint64_t w)
 {
     uint64_t result, t2, t3, t4;
@@ -2373,7 +2375,7 @@ INLINE uint64_t aes_sbox_half_turned(uint64_t w)
     return result;
 }
 
-/* aes_sbox, src/lib.rt:314: A byte at the places of rows 0 and 1, each in a half of the word. */
+/* aes_sbox, src/lib.rt:74: A byte at the places of rows 0 and 1, each in a half of the word. */
 INLINE uint64_t aes_sbox_low_rows(uint64_t s)
 {
     uint64_t result, t2;
@@ -2382,7 +2384,7 @@ INLINE uint64_t aes_sbox_low_rows(uint64_t s)
     return result;
 }
 
-/* aes_sbox, src/lib.rt:322: A byte at the places of rows 2 and 3, each in a half of the word. */
+/* aes_sbox, src/lib.rt:82: A byte at the places of rows 2 and 3, each in a half of the word. */
 INLINE uint64_t aes_sbox_high_rows(uint64_t s)
 {
     uint64_t result, t2, t3;
@@ -2392,7 +2394,7 @@ INLINE uint64_t aes_sbox_high_rows(uint64_t s)
     return result;
 }
 
-/* aes_sbox, src/lib.rt:330: Fills the tables, lent as a slice, of which the proof knows the length. */
+/* aes_sbox, src/lib.rt:90: Fills the tables, lent as a slice, of which the proof knows the length. */
 static void aes_sbox_fill(slice tables)
 {
     uint8_256 sb, t13;
@@ -2442,7 +2444,7 @@ static void aes_sbox_fill(slice tables)
     }
 }
 
-/* aes_sbox, src/lib.rt:357: Fills the tables that the rounds read. */
+/* aes_sbox, src/lib.rt:117: Fills the tables that the rounds read. */
 INLINE void aes_sbox_fill_tables(char *tables)
 {
     char *t3;
@@ -2452,7 +2454,7 @@ INLINE void aes_sbox_fill_tables(char *tables)
     aes_sbox_fill(t4);
 }
 
-/* aes128, src/key.rt:17: The S-box at a byte. */
+/* aes128, src/key.rt:16: The S-box at a byte. */
 INLINE uint8_t aes128_key_sub(char *sbox, uint8_t x)
 {
     uint8_t result, t6;
@@ -2466,7 +2468,7 @@ INLINE uint8_t aes128_key_sub(char *sbox, uint8_t x)
     return result;
 }
 
-/* aes128, src/key.rt:25: The exclusive or of two words. */
+/* aes128, src/key.rt:24: The exclusive or of two words. */
 INLINE uint8_4 aes128_key_xor_word(uint8_4 a, uint8_4 b)
 {
     uint8_4 result, a_slot, b_slot;
@@ -2506,7 +2508,7 @@ INLINE uint8_4 aes128_key_xor_word(uint8_4 a, uint8_4 b)
     return result;
 }
 
-/* aes128, src/key.rt:32: The round key after k, whose round constant has the first byte x. */
+/* aes128, src/key.rt:31: The round key after k, whose round constant has the first byte x. */
 INLINE uint8_4_4 aes128_key_next_key(char *sbox, uint8_4_4 k, uint8_t x)
 {
     uint8_4_4 result, k_slot;
@@ -2557,7 +2559,7 @@ INLINE uint8_4_4 aes128_key_next_key(char *sbox, uint8_4_4 k, uint8_t x)
     return result;
 }
 
-/* aes128, src/key.rt:50: KeyExpansion: the eleven round keys. */
+/* aes128, src/key.rt:49: KeyExpansion: the eleven round keys. */
 static uint8_4_4_11 aes128_key_expand_key(char *sbox, uint8_4_4 key)
 {
     uint8_4_4_11 result;
@@ -2576,7 +2578,7 @@ static uint8_4_4_11 aes128_key_expand_key(char *sbox, uint8_4_4 key)
     return result;
 }
 
-/* aes128, src/key.rt:68: The number in a wider type. */
+/* aes128, src/key.rt:67: The number in a wider type. */
 INLINE uint64_t aes128_key_number(uint8_t x)
 {
     uint64_t result;
@@ -2584,7 +2586,7 @@ INLINE uint64_t aes128_key_number(uint8_t x)
     return result;
 }
 
-/* aes128, src/key.rt:100: The number of four bytes, least first. */
+/* aes128, src/key.rt:99: The number of four bytes, least first. */
 INLINE uint64_t aes128_key_half_word(uint8_4 a)
 {
     uint64_t result, t3, t7, t11, t12, t13, t17, t18, t19, t23;
@@ -2617,7 +2619,7 @@ INLINE uint64_t aes128_key_half_word(uint8_4 a)
     return result;
 }
 
-/* aes128, src/key.rt:107: The block of a round key. */
+/* aes128, src/key.rt:106: The block of a round key. */
 INLINE field_block_Block aes128_key_block_key(uint8_4_4 k)
 {
     field_block_Block result;
@@ -2650,7 +2652,7 @@ INLINE field_block_Block aes128_key_block_key(uint8_4_4 k)
     return result;
 }
 
-/* aes128, src/key.rt:75: The wide column of four bytes. */
+/* aes128, src/key.rt:74: The wide column of four bytes. */
 INLINE uint64_t aes128_key_wide_of(uint8_t a, uint8_t b, uint8_t c, uint8_t d)
 {
     uint64_t result, t5, t6, t7, t8, t9, t10, t11, t12, t13;
@@ -2667,7 +2669,7 @@ INLINE uint64_t aes128_key_wide_of(uint8_t a, uint8_t b, uint8_t c, uint8_t d)
     return result;
 }
 
-/* aes128, src/key.rt:82: The wide column of a word. */
+/* aes128, src/key.rt:81: The wide column of a word. */
 INLINE uint64_t aes128_key_wide_column(uint8_4 a)
 {
     uint64_t result;
@@ -2691,7 +2693,7 @@ INLINE uint64_t aes128_key_wide_column(uint8_4 a)
     return result;
 }
 
-/* aes128, src/key.rt:89: The wide columns of a round key. */
+/* aes128, src/key.rt:88: The wide columns of a round key. */
 INLINE uint64_4 aes128_key_wide_key(uint8_4_4 k)
 {
     uint64_4 result;
@@ -2720,18 +2722,18 @@ INLINE uint64_4 aes128_key_wide_key(uint8_4_4 k)
     return result;
 }
 
-/* aes128, src/key.rt:121: The words of eleven round keys. */
+/* aes128, src/key.rt:120: The words of eleven round keys. */
 static uint64_40 aes128_key_words_of(uint8_4_4_11 k)
 {
     uint64_40 result, words;
     uint8_4_4_11 k_slot;
     field_block_Block key0, last;
-    uint64_t i, at, t20, t21, t27;
-    uint64_4 w, t19;
-    char *t9, *t10, *t12, *t13, *t14, *t15, *t16, *t17, *t22, *t23, *t25, *t26, *t28, *t29, *t30, *t31, *t32, *t33, *t34, *t35, *t36, *t37,
-        *t38, *t39, *t40, *t41, *t42, *t43, *t44, *t45;
-    uint8_4_4 t11, t24;
-    bool t18;
+    uint64_t i, at, t14, t17, t22, t23, t29, t44, t47;
+    uint64_4 w, t21;
+    char *t9, *t10, *t12, *t13, *t15, *t16, *t18, *t19, *t24, *t25, *t27, *t28, *t30, *t31, *t32, *t33, *t34, *t35, *t36, *t37, *t38, *t39,
+        *t40, *t41, *t42, *t43, *t45, *t46, *t48, *t49;
+    uint8_4_4 t11, t26;
+    bool t20;
     k_slot = k;
     t9 = (char *)&k_slot;
     t10 = t9 + 0ull;
@@ -2743,71 +2745,75 @@ static uint64_40 aes128_key_words_of(uint8_4_4_11 k)
     last = aes128_key_block_key(t11);
     for (int each = 0; each < 40; each++)
         words.a[each] = 0ull;
-    t14 = (char *)&words;
-    t15 = t14 + 0ull;
-    *(uint64_t *)t15 = key0.low;
-    t16 = (char *)&words;
-    t17 = t16 + 8ull;
-    *(uint64_t *)t17 = key0.high;
+    t14 = key0.low;
+    t15 = (char *)&words;
+    t16 = t15 + 0ull;
+    *(uint64_t *)t16 = t14;
+    t17 = key0.high;
+    t18 = (char *)&words;
+    t19 = t18 + 8ull;
+    *(uint64_t *)t19 = t17;
     i = 0ull;
     for (;;) {
-        t18 = i < 9ull;
-        if (!t18) {
+        t20 = i < 9ull;
+        if (!t20) {
             break;
         }
-        t20 = i + 1ull;
-        t21 = t20 * 16ull;
-        t22 = (char *)&k_slot;
-        t23 = t22 + t21;
-        t24 = *(uint8_4_4 *)t23;
-        t19 = aes128_key_wide_key(t24);
-        w = t19;
-        t20 = 4ull * i;
-        at = t20 + 2ull;
-        t25 = (char *)&w;
-        t26 = t25 + 0ull;
-        t27 = *(uint64_t *)t26;
-        t21 = at * 8ull;
-        t28 = (char *)&words;
-        t29 = (char *)((uint64_t *)t28 + at);
-        *(uint64_t *)t29 = t27;
-        t30 = (char *)&w;
-        t31 = t30 + 8ull;
-        t27 = *(uint64_t *)t31;
-        t20 = at + 1ull;
-        t21 = t20 * 8ull;
-        t32 = (char *)&words;
-        t33 = (char *)((uint64_t *)t32 + t20);
-        *(uint64_t *)t33 = t27;
-        t34 = (char *)&w;
-        t35 = t34 + 16ull;
-        t27 = *(uint64_t *)t35;
-        t21 = at + 2ull;
-        t20 = t21 * 8ull;
-        t36 = (char *)&words;
-        t37 = (char *)((uint64_t *)t36 + t21);
-        *(uint64_t *)t37 = t27;
-        t38 = (char *)&w;
-        t39 = t38 + 24ull;
-        t27 = *(uint64_t *)t39;
-        t20 = at + 3ull;
-        t21 = t20 * 8ull;
-        t40 = (char *)&words;
-        t41 = (char *)((uint64_t *)t40 + t20);
-        *(uint64_t *)t41 = t27;
+        t22 = i + 1ull;
+        t23 = t22 * 16ull;
+        t24 = (char *)&k_slot;
+        t25 = t24 + t23;
+        t26 = *(uint8_4_4 *)t25;
+        t21 = aes128_key_wide_key(t26);
+        w = t21;
+        t22 = 4ull * i;
+        at = t22 + 2ull;
+        t27 = (char *)&w;
+        t28 = t27 + 0ull;
+        t29 = *(uint64_t *)t28;
+        t23 = at * 8ull;
+        t30 = (char *)&words;
+        t31 = (char *)((uint64_t *)t30 + at);
+        *(uint64_t *)t31 = t29;
+        t32 = (char *)&w;
+        t33 = t32 + 8ull;
+        t29 = *(uint64_t *)t33;
+        t22 = at + 1ull;
+        t23 = t22 * 8ull;
+        t34 = (char *)&words;
+        t35 = (char *)((uint64_t *)t34 + t22);
+        *(uint64_t *)t35 = t29;
+        t36 = (char *)&w;
+        t37 = t36 + 16ull;
+        t29 = *(uint64_t *)t37;
+        t23 = at + 2ull;
+        t22 = t23 * 8ull;
+        t38 = (char *)&words;
+        t39 = (char *)((uint64_t *)t38 + t23);
+        *(uint64_t *)t39 = t29;
+        t40 = (char *)&w;
+        t41 = t40 + 24ull;
+        t29 = *(uint64_t *)t41;
+        t22 = at + 3ull;
+        t23 = t22 * 8ull;
+        t42 = (char *)&words;
+        t43 = (char *)((uint64_t *)t42 + t22);
+        *(uint64_t *)t43 = t29;
         i = i + 1ull;
     }
-    t42 = (char *)&words;
-    t43 = t42 + 304ull;
-    *(uint64_t *)t43 = last.low;
-    t44 = (char *)&words;
-    t45 = t44 + 312ull;
-    *(uint64_t *)t45 = last.high;
+    t44 = last.low;
+    t45 = (char *)&words;
+    t46 = t45 + 304ull;
+    *(uint64_t *)t46 = t44;
+    t47 = last.high;
+    t48 = (char *)&words;
+    t49 = t48 + 312ull;
+    *(uint64_t *)t49 = t47;
     result = words;
     return result;
 }
 
-/* aes128, src/key.rt:145: The round keys of a key, as words. */
+/* aes128, src/key.rt:144: The round keys of a key, as words. */
 INLINE uint64_40 aes128_key_schedule(char *sbox, uint8_4_4 key)
 {
     uint64_40 result;
@@ -2817,7 +2823,7 @@ INLINE uint64_40 aes128_key_schedule(char *sbox, uint8_4_4 key)
     return result;
 }
 
-/* pads, src/bytes.rt:10: The block whose 16 bytes begin at a place. */
+/* pads, src/bytes.rt:9: The block whose 16 bytes begin at a place. */
 INLINE field_block_Block pads_bytes_block_at(slice bytes, uint64_t at)
 {
     field_block_Block result;
@@ -2829,7 +2835,7 @@ INLINE field_block_Block pads_bytes_block_at(slice bytes, uint64_t at)
     return result;
 }
 
-/* pads, src/bytes.rt:21: Writes the 16 bytes of a block from a place on. */
+/* pads, src/bytes.rt:20: Writes the 16 bytes of a block from a place on. */
 INLINE void pads_bytes_put_block(slice bytes, uint64_t at, field_block_Block b)
 {
     char *t5, *t7;
@@ -2844,7 +2850,7 @@ INLINE void pads_bytes_put_block(slice bytes, uint64_t at, field_block_Block b)
     field_bytes_put_word(t8, t9, b.high);
 }
 
-/* circuit_describe, src/lib.rt:30: The answer for a refused circuit. */
+/* circuit_describe, src/lib.rt:27: The answer for a refused circuit. */
 INLINE circuit_describe_DescribedCircuit circuit_describe_refusal(uint32_t number)
 {
     circuit_describe_DescribedCircuit result;
@@ -2852,7 +2858,7 @@ INLINE circuit_describe_DescribedCircuit circuit_describe_refusal(uint32_t numbe
     return result;
 }
 
-/* circuit_describe, src/lib.rt:44: The greater of two levels. */
+/* circuit_describe, src/lib.rt:41: The greater of two levels. */
 INLINE uint16_t circuit_describe_greater_of(uint16_t a, uint16_t b)
 {
     uint16_t result, t4;
@@ -2867,7 +2873,7 @@ INLINE uint16_t circuit_describe_greater_of(uint16_t a, uint16_t b)
     return result;
 }
 
-/* circuit_describe, src/lib.rt:51: The level of a gate of a kind, from those of its wires. */
+/* circuit_describe, src/lib.rt:48: The level of a gate of a kind, from those of its wires. */
 INLINE uint16_t circuit_describe_level_of(uint64_t kind, uint16_t a, uint16_t b)
 {
     uint16_t result, most;
@@ -2887,7 +2893,7 @@ INLINE uint16_t circuit_describe_level_of(uint64_t kind, uint16_t a, uint16_t b)
     return result;
 }
 
-/* circuit_describe, src/lib.rt:66: The greatest level of any wire. */
+/* circuit_describe, src/lib.rt:63: The greatest level of any wire. */
 static uint64_t circuit_describe_depth_of(slice source, circuit_Layout layout)
 {
     uint64_t result, inputs, gates, at, i, wire, first_wire, second_wire;
@@ -2930,7 +2936,7 @@ static uint64_t circuit_describe_depth_of(slice source, circuit_Layout layout)
     return result;
 }
 
-/* circuit_describe, src/lib.rt:91: What a circuit is, or the number that it is refused with. */
+/* circuit_describe, src/lib.rt:88: What a circuit is, or the number that it is refused with. */
 INLINE circuit_describe_DescribedCircuit circuit_describe_describe_circuit(slice source)
 {
     circuit_describe_DescribedCircuit result;
@@ -2954,7 +2960,7 @@ INLINE circuit_describe_DescribedCircuit circuit_describe_describe_circuit(slice
     return result;
 }
 
-/* circuit_gates, src/shares.rt:14: Whether the role is 1 or 2. */
+/* circuit_gates, src/shares.rt:10: Whether the role is 1 or 2. */
 INLINE bool circuit_gates_shares_is_role(uint8_t role)
 {
     bool result, t2;
@@ -2967,7 +2973,7 @@ INLINE bool circuit_gates_shares_is_role(uint8_t role)
     return result;
 }
 
-/* circuit_gates, src/shares.rt:41: The share of an AND that waits, its wires' shares given: it takes the triple of its number and its
+/* circuit_gates, src/shares.rt:37: The share of an AND that waits, its wires' shares given: it takes the triple of its number and its
  * two far bits. */
 INLINE uint8_t circuit_gates_shares_opened_share(uint8_t role, uint8_t x, uint8_t y, slice triples, uint64_t ands, uint8_t far_first,
     uint8_t far_second)
@@ -3007,7 +3013,7 @@ INLINE uint8_t circuit_gates_shares_opened_share(uint8_t role, uint8_t x, uint8_
     return result;
 }
 
-/* circuit_gates, src/shares.rt:65: Gives the AND that a run waits at its share. */
+/* circuit_gates, src/shares.rt:61: Gives the AND that a run waits at its share. */
 INLINE void circuit_gates_shares_give_and(circuit_run_places_Asked asked, circuit_run_places_Spot spot, uint64_t wire, slice triples, char
     *wires)
 {
@@ -3028,7 +3034,7 @@ INLINE void circuit_gates_shares_give_and(circuit_run_places_Asked asked, circui
     *(uint8_t *)t16 = t8;
 }
 
-/* circuit_gates, src/shares.rt:24: NOT at one end. */
+/* circuit_gates, src/shares.rt:20: NOT at one end. */
 INLINE uint8_t circuit_gates_shares_flip(uint8_t role, uint8_t x)
 {
     uint8_t result, t4;
@@ -3043,7 +3049,7 @@ INLINE uint8_t circuit_gates_shares_flip(uint8_t role, uint8_t x)
     return result;
 }
 
-/* circuit_gates, src/shares.rt:31: The share of a gate that is no AND. */
+/* circuit_gates, src/shares.rt:27: The share of a gate that is no AND. */
 INLINE uint8_t circuit_gates_shares_local_share(uint8_t role, uint64_t kind, uint8_t x, uint8_t y)
 {
     uint8_t result;
@@ -3057,7 +3063,7 @@ INLINE uint8_t circuit_gates_shares_local_share(uint8_t role, uint64_t kind, uin
     return result;
 }
 
-/* circuit_gates, src/bytes.rt:12: The byte of an input: a known one stays, another takes its share. */
+/* circuit_gates, src/bytes.rt:10: The byte of an input: a known one stays, another takes its share. */
 INLINE uint8_t circuit_gates_bytes_input_byte(uint8_t byte, uint8_t share)
 {
     uint8_t result, t4;
@@ -3072,7 +3078,7 @@ INLINE uint8_t circuit_gates_bytes_input_byte(uint8_t byte, uint8_t share)
     return result;
 }
 
-/* circuit_gates, src/bytes.rt:20: The byte of an AND that waited, its wires' bytes given: it takes the triple of its number and the far
+/* circuit_gates, src/bytes.rt:18: The byte of an AND that waited, its wires' bytes given: it takes the triple of its number and the far
  * bits of its place. */
 INLINE uint8_t circuit_gates_bytes_opened_byte(uint8_t role, uint8_t x, uint8_t y, slice triples, uint64_t ands, slice far_bits, uint64_t
     passed)
@@ -3095,7 +3101,7 @@ INLINE uint8_t circuit_gates_bytes_opened_byte(uint8_t role, uint8_t x, uint8_t 
     return result;
 }
 
-/* circuit_gates, src/bytes.rt:46: The byte of an AND that is not known. */
+/* circuit_gates, src/bytes.rt:45: The byte of an AND that is not known. */
 INLINE uint8_t circuit_gates_bytes_and_byte(uint8_t role, circuit_gates_bytes_GateBytes bytes, slice triples, uint64_t ands, slice far_bits,
     uint64_t passed)
 {
@@ -3120,7 +3126,7 @@ INLINE uint8_t circuit_gates_bytes_and_byte(uint8_t role, circuit_gates_bytes_Ga
     return result;
 }
 
-/* circuit_gates, src/bytes.rt:70: The byte of an exclusive or or NOT that is not known. */
+/* circuit_gates, src/bytes.rt:69: The byte of an exclusive or or NOT that is not known. */
 INLINE uint8_t circuit_gates_bytes_local_byte(uint8_t role, uint64_t kind, uint8_t x, uint8_t y)
 {
     uint8_t result, t6, t7, t8, t9, t10;
@@ -3149,7 +3155,7 @@ INLINE uint8_t circuit_gates_bytes_local_byte(uint8_t role, uint64_t kind, uint8
     return result;
 }
 
-/* circuit_gates, src/bytes.rt:86: The byte of a gate of a kind, from those before: a known one stays. */
+/* circuit_gates, src/bytes.rt:85: The byte of a gate of a kind, from those before: a known one stays. */
 INLINE uint8_t circuit_gates_bytes_gate_byte(uint8_t role, uint64_t kind, circuit_gates_bytes_GateBytes bytes, slice triples, uint64_t ands,
     slice far_bits, uint64_t passed)
 {
@@ -3169,7 +3175,7 @@ INLINE uint8_t circuit_gates_bytes_gate_byte(uint8_t role, uint64_t kind, circui
     return result;
 }
 
-/* circuit_round, src/lib.rt:22: A refused round: zeros, and the state as it was. */
+/* circuit_round, src/lib.rt:20: A refused round: zeros, and the state as it was. */
 INLINE circuit_run_Rounded circuit_round_refused(uint32_t number, circuit_run_RoundState state)
 {
     circuit_run_Rounded result;
@@ -3177,7 +3183,7 @@ INLINE circuit_run_Rounded circuit_round_refused(uint32_t number, circuit_run_Ro
     return result;
 }
 
-/* circuit_round, src/tests.rt:29: One for a byte that waits, else none. */
+/* circuit_round, src/tests.rt:24: One for a byte that waits, else none. */
 INLINE uint64_t circuit_round_tests_wait_of(uint8_t byte)
 {
     uint64_t result, t3;
@@ -3192,7 +3198,7 @@ INLINE uint64_t circuit_round_tests_wait_of(uint8_t byte)
     return result;
 }
 
-/* circuit_round, src/tests.rt:36: How many gates wait. */
+/* circuit_round, src/tests.rt:31: How many gates wait. */
 static uint64_t circuit_round_tests_waiting_gates(char *wires, uint64_t inputs, uint64_t gates)
 {
     uint64_t result, count, i, t7, t8;
@@ -3218,7 +3224,7 @@ static uint64_t circuit_round_tests_waiting_gates(char *wires, uint64_t inputs, 
     return result;
 }
 
-/* circuit_round, src/tests.rt:50: The number by the bytes and the role of a round on a circuit of so many ANDs. */
+/* circuit_round, src/tests.rt:45: The number by the bytes and the role of a round on a circuit of so many ANDs. */
 INLINE uint32_t circuit_round_tests_bits_number(uint64_t ands, uint8_t role, slice shares, slice triples, slice far_bits)
 {
     uint32_t result;
@@ -3255,7 +3261,7 @@ INLINE uint32_t circuit_round_tests_bits_number(uint64_t ands, uint8_t role, sli
     return result;
 }
 
-/* circuit_round, src/tests.rt:72: The number of a round whose state has so many gates that wait, with room for an output and for bits of
+/* circuit_round, src/tests.rt:67: The number of a round whose state has so many gates that wait, with room for an output and for bits of
  * so many bytes. */
 INLINE uint32_t circuit_round_tests_round_number(circuit_Layout layout, uint64_t waits, uint8_t role, slice shares, slice triples, slice
     far_bits, uint64_t room, uint64_t bits_room)
@@ -3297,7 +3303,7 @@ INLINE uint32_t circuit_round_tests_round_number(circuit_Layout layout, uint64_t
     return result;
 }
 
-/* circuit_round, src/tests.rt:103: The number of a round on a state of these wires, with room for an output and for bits of so many
+/* circuit_round, src/tests.rt:98: The number of a round on a state of these wires, with room for an output and for bits of so many
  * bytes. */
 INLINE uint32_t circuit_round_tests_check(circuit_round_tests_Frame frame, char *wires, slice shares, slice triples, slice far_bits,
     uint64_t room, uint64_t bits_room)
@@ -3311,7 +3317,7 @@ INLINE uint32_t circuit_round_tests_check(circuit_round_tests_Frame frame, char 
     return result;
 }
 
-/* circuit_round, src/passing.rt:19: Gives each input that is not known its share. */
+/* circuit_round, src/passing.rt:13: Gives each input that is not known its share. */
 static void circuit_round_passing_take_inputs(slice shares, char *wires)
 {
     uint64_t i, t4;
@@ -3338,7 +3344,7 @@ static void circuit_round_passing_take_inputs(slice shares, char *wires)
     }
 }
 
-/* circuit_round, src/writing.rt:14: Puts the two bits of a gate that waits, its wires' bytes given; the place after them. */
+/* circuit_round, src/writing.rt:11: Puts the two bits of a gate that waits, its wires' bytes given; the place after them. */
 INLINE uint64_t circuit_round_writing_put_bits(uint8_t byte, uint8_t x, uint8_t y, slice triples, uint64_t ands, slice bits_out, uint64_t
     place)
 {
@@ -3370,7 +3376,7 @@ INLINE uint64_t circuit_round_writing_put_bits(uint8_t byte, uint8_t x, uint8_t 
     return result;
 }
 
-/* circuit_round, src/passing.rt:31: Passes over the gates and puts the bits of those that wait afterwards; how many bits they are. */
+/* circuit_round, src/passing.rt:25: Passes over the gates and puts the bits of those that wait afterwards; how many bits they are. */
 static uint64_t circuit_round_passing_pass_gates(slice source, circuit_round_tests_Frame frame, slice triples, slice far_bits, slice
     bits_out, char *wires)
 {
@@ -3429,7 +3435,7 @@ static uint64_t circuit_round_passing_pass_gates(slice source, circuit_round_tes
     return result;
 }
 
-/* circuit_round, src/writing.rt:36: Writes the shares of the output wires. */
+/* circuit_round, src/writing.rt:33: Writes the shares of the output wires. */
 static void circuit_round_writing_write_shares(slice source, circuit_Layout layout, char *wires, slice output)
 {
     uint64_t outputs, limit, at, i, wire;
@@ -3466,9 +3472,10 @@ INLINE circuit_round_accepted_Lengths circuit_round_accepted_accepted_round(slic
 {
     circuit_round_accepted_Lengths result;
     uint64_t bits;
-    char *t11, *t12, *t14, *t17, *t18;
-    slice t13, t19;
+    char *t11, *t12, *t14, *t18, *t19;
+    slice t13, t20;
     bool t15;
+    circuit_Layout t17;
     t11 = wires;
     circuit_round_passing_take_inputs(shares, t11);
     t12 = bits_out.at;
@@ -3477,10 +3484,11 @@ INLINE circuit_round_accepted_Lengths circuit_round_accepted_accepted_round(slic
     bits = circuit_round_passing_pass_gates(circuit, frame, triples, far_bits, t13, t14);
     t15 = bits == 0ull;
     if (t15) {
-        t17 = wires;
-        t18 = output.at;
-        t19 = (slice){t18, output.count};
-        circuit_round_writing_write_shares(circuit, frame.layout, t17, t19);
+        t17 = frame.layout;
+        t18 = wires;
+        t19 = output.at;
+        t20 = (slice){t19, output.count};
+        circuit_round_writing_write_shares(circuit, t17, t18, t20);
         result = (circuit_round_accepted_Lengths){frame.layout.outputs, 0ull};
         return result;
     }
@@ -3488,7 +3496,7 @@ INLINE circuit_round_accepted_Lengths circuit_round_accepted_accepted_round(slic
     return result;
 }
 
-/* circuit_round, src/lib.rt:35: One round of an end's run: opens every AND whose wires are known and gives its two bits to send, or
+/* circuit_round, src/lib.rt:33: One round of an end's run: opens every AND whose wires are known and gives its two bits to send, or
  * writes the outputs of a run where none waits. */
 static circuit_run_Rounded circuit_round_round_run(uint8_t role, slice circuit, slice shares, slice triples, slice output, slice far_bits,
     slice bits_out, circuit_run_RoundState state)
@@ -3538,7 +3546,7 @@ static circuit_run_Rounded circuit_round_round_run(uint8_t role, slice circuit, 
     return result;
 }
 
-/* circuit_step, src/lib.rt:24: A refused step: zeros, and the state as it was. */
+/* circuit_step, src/lib.rt:21: A refused step: zeros, and the state as it was. */
 INLINE circuit_run_Stepped circuit_step_refused(uint32_t number, circuit_run_StepState state)
 {
     circuit_run_Stepped result;
@@ -3546,7 +3554,7 @@ INLINE circuit_run_Stepped circuit_step_refused(uint32_t number, circuit_run_Ste
     return result;
 }
 
-/* circuit_step, src/waiting.rt:35: A spot without an AND. */
+/* circuit_step, src/waiting.rt:29: A spot without an AND. */
 INLINE circuit_run_places_Spot circuit_step_waiting_no_spot(bool admitted, uint64_t gate)
 {
     circuit_run_places_Spot result;
@@ -3554,7 +3562,7 @@ INLINE circuit_run_places_Spot circuit_step_waiting_no_spot(bool admitted, uint6
     return result;
 }
 
-/* circuit_step, src/waiting.rt:17: The place of a gate, or after the last. */
+/* circuit_step, src/waiting.rt:11: The place of a gate, or after the last. */
 static circuit_run_places_Place circuit_step_waiting_place_of(slice source, circuit_Layout layout, uint64_t gate)
 {
     circuit_run_places_Place result;
@@ -3581,7 +3589,7 @@ static circuit_run_places_Place circuit_step_waiting_place_of(slice source, circ
     return result;
 }
 
-/* circuit_step, src/waiting.rt:49: Where a state of a phase and a gate stands. */
+/* circuit_step, src/waiting.rt:43: Where a state of a phase and a gate stands. */
 INLINE circuit_run_places_Spot circuit_step_waiting_spot_of(slice source, circuit_Layout layout, uint32_t phase, uint64_t gate)
 {
     circuit_run_places_Spot result;
@@ -3608,7 +3616,7 @@ INLINE circuit_run_places_Spot circuit_step_waiting_spot_of(slice source, circui
     return result;
 }
 
-/* circuit_step, src/tests.rt:20: Whether the far bits of a run that waits are bits. */
+/* circuit_step, src/tests.rt:16: Whether the far bits of a run that waits are bits. */
 INLINE bool circuit_step_tests_are_far_bits(bool waits, uint8_t far_first, uint8_t far_second)
 {
     bool result, t4;
@@ -3626,7 +3634,7 @@ INLINE bool circuit_step_tests_are_far_bits(bool waits, uint8_t far_first, uint8
     return result;
 }
 
-/* circuit_step, src/tests.rt:33: The number of a step, with room for an output of `room` bytes. */
+/* circuit_step, src/tests.rt:29: The number of a step, with room for an output of `room` bytes. */
 INLINE uint32_t circuit_step_tests_step_number(circuit_Layout layout, bool admitted, circuit_run_places_Asked asked, slice shares, slice
     triples, uint64_t room)
 {
@@ -3688,7 +3696,7 @@ INLINE uint32_t circuit_step_tests_step_number(circuit_Layout layout, bool admit
     return result;
 }
 
-/* circuit_step, src/checking.rt:13: The number of a step on a state of this phase and gate, with room for an output of `room` bytes. */
+/* circuit_step, src/checking.rt:12: The number of a step on a state of this phase and gate, with room for an output of `room` bytes. */
 INLINE circuit_run_places_Checked circuit_step_checking_check(slice source, circuit_Layout layout, circuit_run_places_Asked asked, uint32_t
     phase, uint64_t gate, slice shares, slice triples, uint64_t room)
 {
@@ -3701,7 +3709,7 @@ INLINE circuit_run_places_Checked circuit_step_checking_check(slice source, circ
     return result;
 }
 
-/* circuit_step, src/running.rt:109: Writes the shares of the output wires. */
+/* circuit_step, src/running.rt:100: Writes the shares of the output wires. */
 static void circuit_step_running_write_outputs(slice source, circuit_Layout layout, char *wires, slice output)
 {
     uint64_t outputs, limit, at, i, wire;
@@ -3730,7 +3738,7 @@ static void circuit_step_running_write_outputs(slice source, circuit_Layout layo
     }
 }
 
-/* circuit_step, src/accepted.rt:22: A finished run: writes the outputs. */
+/* circuit_step, src/accepted.rt:14: A finished run: writes the outputs. */
 INLINE circuit_run_Stepped circuit_step_accepted_finish(slice circuit, circuit_Layout layout, slice output, circuit_run_StepState state)
 {
     circuit_run_Stepped result;
@@ -3746,7 +3754,7 @@ INLINE circuit_run_Stepped circuit_step_accepted_finish(slice circuit, circuit_L
     return result;
 }
 
-/* circuit_step, src/running.rt:22: Runs from a place to the next AND or to the end. */
+/* circuit_step, src/running.rt:13: Runs from a place to the next AND or to the end. */
 static circuit_run_places_Reached circuit_step_running_run_on(slice source, circuit_Layout layout, uint8_t role, circuit_run_places_Place
     from, char *wires)
 {
@@ -3792,7 +3800,7 @@ static circuit_run_places_Reached circuit_step_running_run_on(slice source, circ
     return result;
 }
 
-/* circuit_step, src/running.rt:61: The wires of a fresh run: the shares, and zero past them. */
+/* circuit_step, src/running.rt:52: The wires of a fresh run: the shares, and zero past them. */
 static uint8_4096 circuit_step_running_fresh_wires(slice shares)
 {
     uint8_4096 result, wires;
@@ -3820,7 +3828,7 @@ static uint8_4096 circuit_step_running_fresh_wires(slice shares)
     return result;
 }
 
-/* circuit_step, src/running.rt:75: Takes a fresh run, or one that waits, to the next AND or to the end. */
+/* circuit_step, src/running.rt:66: Takes a fresh run, or one that waits, to the next AND or to the end. */
 INLINE circuit_run_places_Reached circuit_step_running_proceed(slice source, circuit_Layout layout, circuit_run_places_Asked asked,
     circuit_run_places_Spot spot, slice shares, slice triples, char *wires)
 {
@@ -3850,7 +3858,7 @@ INLINE circuit_run_places_Reached circuit_step_running_proceed(slice source, cir
     return result;
 }
 
-/* circuit_step, src/accepted.rt:39: Runs to the next AND and gives its two bits, or to the end and writes the outputs. */
+/* circuit_step, src/accepted.rt:31: Runs to the next AND and gives its two bits, or to the end and writes the outputs. */
 INLINE circuit_run_Stepped circuit_step_accepted_accepted_step(slice circuit, circuit_Layout layout, circuit_run_places_Asked asked,
     circuit_run_places_Spot spot, slice shares, slice triples, slice output, circuit_run_StepState state)
 {
@@ -3906,7 +3914,7 @@ INLINE circuit_run_Stepped circuit_step_accepted_accepted_step(slice circuit, ci
     return result;
 }
 
-/* circuit_step, src/lib.rt:37: One step of an end's run: up to the next AND, whose two bits to send it gives, or to the end, where it
+/* circuit_step, src/lib.rt:34: One step of an end's run: up to the next AND, whose two bits to send it gives, or to the end, where it
  * writes the outputs. */
 static circuit_run_Stepped circuit_step_step_run(uint8_t role, slice circuit, slice shares, slice triples, slice output, uint8_t far_first,
     uint8_t far_second, circuit_run_StepState state)
@@ -3950,7 +3958,7 @@ static circuit_run_Stepped circuit_step_step_run(uint8_t role, slice circuit, sl
     return result;
 }
 
-/* dealing_tests, src/tests.rt:29: Whether a size is 1 to `top`. */
+/* dealing_tests, src/tests.rt:15: Whether a size is 1 to `top`. */
 INLINE bool dealing_tests_tests_is_size(uint64_t top, uint64_t size)
 {
     bool result, t3;
@@ -3962,7 +3970,7 @@ INLINE bool dealing_tests_tests_is_size(uint64_t top, uint64_t size)
     return result;
 }
 
-/* dealing_tests, src/tests.rt:36: Whether g is 1, 2 or 3 and d a multiple of it (document 02, 10). */
+/* dealing_tests, src/tests.rt:22: Whether g is 1, 2 or 3 and d a multiple of it (document 02, 10). */
 INLINE bool dealing_tests_tests_is_branch(uint64_t depth, uint64_t branch_bits)
 {
     bool result, t3, t4;
@@ -3978,7 +3986,7 @@ INLINE bool dealing_tests_tests_is_branch(uint64_t depth, uint64_t branch_bits)
     return result;
 }
 
-/* dealing_tests, src/tests.rt:46: Whether a count is 1 to the smaller of a limit and N. */
+/* dealing_tests, src/tests.rt:32: Whether a count is 1 to the smaller of a limit and N. */
 INLINE bool dealing_tests_tests_is_count(uint64_t limit, uint64_t depth, uint64_t count)
 {
     bool result;
@@ -3989,7 +3997,7 @@ INLINE bool dealing_tests_tests_is_count(uint64_t limit, uint64_t depth, uint64_
     return result;
 }
 
-/* dealing_tests, src/tests.rt:54: Whether n is 1 to N / 2. */
+/* dealing_tests, src/tests.rt:40: Whether n is 1 to N / 2. */
 INLINE bool dealing_tests_tests_is_outputs(uint64_t depth, uint64_t outputs)
 {
     bool result;
@@ -4000,7 +4008,7 @@ INLINE bool dealing_tests_tests_is_outputs(uint64_t depth, uint64_t outputs)
     return result;
 }
 
-/* dealing_tests, src/tests.rt:62: The number of the first fault of field, d, g, t, ℓ and n, or 0 where there is none. */
+/* dealing_tests, src/tests.rt:48: The number of the first fault of field, d, g, t, ℓ and n, or 0 where there is none. */
 INLINE uint32_t dealing_tests_tests_sizes_number(record_Layout layout)
 {
     uint32_t result;
@@ -4045,7 +4053,7 @@ INLINE uint32_t dealing_tests_tests_sizes_number(record_Layout layout)
     return result;
 }
 
-/* dealing_tests, src/tests.rt:87: The number of the first slice that has not the length that the sizes call for, or 0 where there is
+/* dealing_tests, src/tests.rt:73: The number of the first slice that has not the length that the sizes call for, or 0 where there is
  * none. */
 INLINE uint32_t dealing_tests_tests_lengths_number(record_Layout layout, slice roots, slice positions, slice values, slice delta, slice
     code_key, slice label)
@@ -4094,7 +4102,7 @@ INLINE uint32_t dealing_tests_tests_lengths_number(record_Layout layout, slice r
     return result;
 }
 
-/* dealing_tests, src/tests.rt:121: The number in a wider type. */
+/* dealing_tests, src/tests.rt:107: The number in a wider type. */
 INLINE uint64_t dealing_tests_tests_wide(uint32_t x)
 {
     uint64_t result;
@@ -4102,7 +4110,7 @@ INLINE uint64_t dealing_tests_tests_wide(uint32_t x)
     return result;
 }
 
-/* dealing_tests, src/tests.rt:128: Whether the positions are strictly rising and below N. */
+/* dealing_tests, src/tests.rt:114: Whether the positions are strictly rising and below N. */
 static bool dealing_tests_tests_rising(uint64_t depth, uint64_t trees, slice positions)
 {
     bool result, t8;
@@ -4137,7 +4145,7 @@ static bool dealing_tests_tests_rising(uint64_t depth, uint64_t trees, slice pos
     return result;
 }
 
-/* dealing_tests, src/tests.rt:150: Whether every noise value is admitted. */
+/* dealing_tests, src/tests.rt:136: Whether every noise value is admitted. */
 static bool dealing_tests_tests_every_noise(uint64_t field, uint64_t trees, slice values)
 {
     bool result, t5, t9;
@@ -4163,7 +4171,7 @@ static bool dealing_tests_tests_every_noise(uint64_t field, uint64_t trees, slic
     return result;
 }
 
-/* dealing_tests, src/tests.rt:165: Whether Δ is admitted. */
+/* dealing_tests, src/tests.rt:151: Whether Δ is admitted. */
 INLINE bool dealing_tests_tests_delta_admitted(uint64_t field, slice delta)
 {
     bool result, t4, t5;
@@ -4181,7 +4189,7 @@ INLINE bool dealing_tests_tests_delta_admitted(uint64_t field, slice delta)
     return result;
 }
 
-/* dealing_tests, src/tests.rt:177: The number of the first fault of positions, noise values and Δ, or 0 where there is none. */
+/* dealing_tests, src/tests.rt:163: The number of the first fault of positions, noise values and Δ, or 0 where there is none. */
 INLINE uint32_t dealing_tests_tests_content_number(record_Layout layout, slice positions, slice values, slice delta)
 {
     uint32_t result;
@@ -4208,7 +4216,7 @@ INLINE uint32_t dealing_tests_tests_content_number(record_Layout layout, slice p
     return result;
 }
 
-/* dealing_tests, src/fault.rt:22: 13 where a record has no room in its buffer, else 0. */
+/* dealing_tests, src/fault.rt:19: 13 where a record has no room in its buffer, else 0. */
 INLINE uint32_t dealing_tests_fault_rooms_number(record_Layout layout, dealing_tests_fault_Rooms rooms, slice positions)
 {
     uint32_t result;
@@ -4230,7 +4238,7 @@ INLINE uint32_t dealing_tests_fault_rooms_number(record_Layout layout, dealing_t
     return result;
 }
 
-/* dealing_tests, src/fault.rt:38: The number for an input and buffers of these lengths. */
+/* dealing_tests, src/fault.rt:35: The number for an input and buffers of these lengths. */
 INLINE uint32_t dealing_tests_fault_deal_number(record_Layout layout, dealing_tests_fault_Rooms rooms, slice roots, slice positions, slice
     values, slice delta, slice code_key, slice label)
 {
@@ -4258,7 +4266,7 @@ INLINE uint32_t dealing_tests_fault_deal_number(record_Layout layout, dealing_te
     return result;
 }
 
-/* aes_blocks, src/round.rt:101: The first AddRoundKey, of a block. */
+/* aes_blocks, src/round.rt:100: The first AddRoundKey, of a block. */
 INLINE uint8_4_4 aes_blocks_round_first_key(field_block_Block s, char *keys)
 {
     uint8_4_4 result;
@@ -4362,7 +4370,7 @@ INLINE uint8_4 aes_blocks_round_mix_column(char *tables, char *s, uint64_t c, ui
     return result;
 }
 
-/* aes_blocks, src/round.rt:49: A round with all four steps, whose round key's columns begin at a place. */
+/* aes_blocks, src/round.rt:48: A round with all four steps, whose round key's columns begin at a place. */
 INLINE uint8_4_4 aes_blocks_round_full_round(char *tables, uint8_4_4 s, char *keys, uint64_t at)
 {
     uint8_4_4 result, s_slot;
@@ -4398,7 +4406,7 @@ INLINE uint8_4_4 aes_blocks_round_full_round(char *tables, uint8_4_4 s, char *ke
     return result;
 }
 
-/* aes_blocks, src/round.rt:66: Column c of the last round without its round key, as the four low bytes of a word. */
+/* aes_blocks, src/round.rt:65: Column c of the last round without its round key, as the four low bytes of a word. */
 INLINE uint64_t aes_blocks_round_last_column(char *tables, char *s, uint64_t c)
 {
     uint64_t result, t4, t5, t11, t12, t13, t14, t15, t21, t22, t23, t24, t25, t26, t32, t33, t34, t35, t36, t37, t43;
@@ -4448,7 +4456,7 @@ INLINE uint64_t aes_blocks_round_last_column(char *tables, char *s, uint64_t c)
     return result;
 }
 
-/* aes_blocks, src/round.rt:77: The exclusive or of a word and of the word whose halves are two columns. */
+/* aes_blocks, src/round.rt:76: The exclusive or of a word and of the word whose halves are two columns. */
 INLINE uint64_t aes_blocks_round_last_word(uint64_t k, uint64_t c0, uint64_t c1)
 {
     uint64_t result, t4, t5;
@@ -4458,7 +4466,7 @@ INLINE uint64_t aes_blocks_round_last_word(uint64_t k, uint64_t c0, uint64_t c1)
     return result;
 }
 
-/* aes_blocks, src/round.rt:85: The last round, which has no MixColumns. */
+/* aes_blocks, src/round.rt:84: The last round, which has no MixColumns. */
 INLINE uint8_4_4 aes_blocks_round_last_round(char *tables, uint8_4_4 s, char *keys)
 {
     uint8_4_4 result, s_slot;
@@ -4545,7 +4553,7 @@ static field_block_Block aes_blocks_encrypt(char *tables, char *keys, uint64_t s
     return result;
 }
 
-/* tree_walk, src/powers.rt:6: A power of two. */
+/* tree_walk, src/powers.rt:5: A power of two. */
 INLINE uint64_t tree_walk_powers_power(uint64_t bits)
 {
     uint64_t result;
@@ -4591,7 +4599,7 @@ static uint64_40_8 tree_walk_node_child_keys(char *sbox, uint64_t branch_bits)
     return result;
 }
 
-/* tree_walk, src/columns.rt:13: The node whose 16 bytes begin at a place. */
+/* tree_walk, src/columns.rt:10: The node whose 16 bytes begin at a place. */
 INLINE field_block_Block tree_walk_columns_node_at(slice bytes, uint64_t at)
 {
     field_block_Block result;
@@ -4603,7 +4611,7 @@ INLINE field_block_Block tree_walk_columns_node_at(slice bytes, uint64_t at)
     return result;
 }
 
-/* tree_walk, src/columns.rt:24: The block whose 16 bytes begin at a place, in columns. */
+/* tree_walk, src/columns.rt:21: The block whose 16 bytes begin at a place, in columns. */
 INLINE uint8_4_4 tree_walk_columns_columns_at(slice bytes, uint64_t at)
 {
     uint8_4_4 result;
@@ -4619,7 +4627,7 @@ INLINE aes_blocks_TwoBlocks tree_walk_node_children(char *tables, char *keys, ui
     aes_blocks_TwoBlocks result, both;
     uint64_t t6, t10, t11;
     char *t7, *t8, *t9, *t12, *t13, *t14;
-    field_block_Block t15, t16;
+    field_block_Block t15, t16, t17, t18;
     t6 = c * 320ull;
     t7 = keys;
     t8 = t7 + t6;
@@ -4630,13 +4638,15 @@ INLINE aes_blocks_TwoBlocks tree_walk_node_children(char *tables, char *keys, ui
     t13 = t12 + t11;
     t14 = t13;
     both = aes_blocks_encrypt_two(tables, t9, t14, s.low, s.high, s.low, s.high);
-    t15 = field_block_Block_add(both.one, s);
-    t16 = field_block_Block_add(both.other, s);
-    result = (aes_blocks_TwoBlocks){t15, t16};
+    t16 = both.one;
+    t15 = field_block_Block_add(t16, s);
+    t18 = both.other;
+    t17 = field_block_Block_add(t18, s);
+    result = (aes_blocks_TwoBlocks){t15, t17};
     return result;
 }
 
-/* tree_walk, src/columns.rt:33: Writes the 16 bytes of a node from a place on. */
+/* tree_walk, src/columns.rt:30: Writes the 16 bytes of a node from a place on. */
 INLINE void tree_walk_columns_put_node(slice bytes, uint64_t at, field_block_Block s)
 {
     char *t5, *t7;
@@ -4651,15 +4661,16 @@ INLINE void tree_walk_columns_put_node(slice bytes, uint64_t at, field_block_Blo
     field_bytes_put_word(t8, t9, s.high);
 }
 
-/* tree_walk, src/leaf.rt:19: Writes so many pairs of children of s, from child `from` on, from a place on. */
+/* tree_walk, src/leaf.rt:18: Writes so many pairs of children of s, from child `from` on, from a place on. */
 static void tree_walk_leaf_put_children(char *tables, char *keys, field_block_Block s, uint64_t from, uint64_t pairs, uint64_t at, slice
     out)
 {
     aes_blocks_TwoBlocks both;
     bool t9;
-    char *t11, *t13, *t18;
-    slice t12, t14, t19;
-    uint64_t t15, t16, t17;
+    char *t11, *t14, *t20;
+    slice t12, t15, t21;
+    field_block_Block t13, t17;
+    uint64_t t16, t18, t19;
     t9 = pairs == 0ull;
     if (t9) {
         return;
@@ -4667,28 +4678,30 @@ static void tree_walk_leaf_put_children(char *tables, char *keys, field_block_Bl
     both = tree_walk_node_children(tables, keys, from, s);
     t11 = out.at;
     t12 = (slice){t11, out.count};
-    tree_walk_columns_put_node(t12, at, both.one);
-    t13 = out.at;
-    t14 = (slice){t13, out.count};
-    t15 = at + 16ull;
-    tree_walk_columns_put_node(t14, t15, both.other);
-    t15 = from + 2ull;
-    t16 = pairs - 1ull;
-    t17 = at + 32ull;
-    t18 = out.at;
-    t19 = (slice){t18, out.count};
-    tree_walk_leaf_put_children(tables, keys, s, t15, t16, t17, t19);
+    t13 = both.one;
+    tree_walk_columns_put_node(t12, at, t13);
+    t14 = out.at;
+    t15 = (slice){t14, out.count};
+    t16 = at + 16ull;
+    t17 = both.other;
+    tree_walk_columns_put_node(t15, t16, t17);
+    t16 = from + 2ull;
+    t18 = pairs - 1ull;
+    t19 = at + 32ull;
+    t20 = out.at;
+    t21 = (slice){t20, out.count};
+    tree_walk_leaf_put_children(tables, keys, s, t16, t18, t19, t21);
 }
 
-/* tree_walk, src/leaf.rt:41: The child of s that a digit names; writes the other of its pair from a place on. */
+/* tree_walk, src/leaf.rt:40: The child of s that a digit names; writes the other of its pair from a place on. */
 INLINE field_block_Block tree_walk_leaf_put_twin(char *tables, char *keys, field_block_Block s, uint64_t digit, uint64_t at, slice out)
 {
-    field_block_Block result, t11;
+    field_block_Block result, t11, t15, t19;
     aes_blocks_TwoBlocks both;
     uint64_t t8, t9;
     bool t10;
-    char *t13, *t16;
-    slice t14, t17;
+    char *t13, *t17;
+    slice t14, t18;
     t8 = digit / 2ull;
     t9 = 2ull * t8;
     both = tree_walk_node_children(tables, keys, t9, s);
@@ -4697,19 +4710,21 @@ INLINE field_block_Block tree_walk_leaf_put_twin(char *tables, char *keys, field
     if (t10) {
         t13 = out.at;
         t14 = (slice){t13, out.count};
-        tree_walk_columns_put_node(t14, at, both.other);
+        t15 = both.other;
+        tree_walk_columns_put_node(t14, at, t15);
         t11 = both.one;
     } else {
-        t16 = out.at;
-        t17 = (slice){t16, out.count};
-        tree_walk_columns_put_node(t17, at, both.one);
+        t17 = out.at;
+        t18 = (slice){t17, out.count};
+        t19 = both.one;
+        tree_walk_columns_put_node(t18, at, t19);
         t11 = both.other;
     }
     result = t11;
     return result;
 }
 
-/* tree_walk, src/leaf.rt:63: The child of s that a digit names; writes the children before its pair and the other of its pair from a
+/* tree_walk, src/leaf.rt:62: The child of s that a digit names; writes the children before its pair and the other of its pair from a
  * place on. */
 INLINE field_block_Block tree_walk_leaf_put_before(char *tables, char *keys, field_block_Block s, uint64_t digit, uint64_t at, slice out)
 {
@@ -4730,7 +4745,7 @@ INLINE field_block_Block tree_walk_leaf_put_before(char *tables, char *keys, fie
     return result;
 }
 
-/* tree_walk, src/leaf.rt:79: How many pairs of children stand after the pair of the one that a digit names. */
+/* tree_walk, src/leaf.rt:78: How many pairs of children stand after the pair of the one that a digit names. */
 INLINE uint64_t tree_walk_leaf_pairs_after(uint64_t branch_bits, uint64_t digit)
 {
     uint64_t result, pairs, t4, t5;
@@ -4742,7 +4757,7 @@ INLINE uint64_t tree_walk_leaf_pairs_after(uint64_t branch_bits, uint64_t digit)
     return result;
 }
 
-/* tree_walk, src/leaf.rt:88: The child of s that a digit names; writes the others, in rising order, from a place on. */
+/* tree_walk, src/leaf.rt:87: The child of s that a digit names; writes the others, in rising order, from a place on. */
 INLINE field_block_Block tree_walk_leaf_pass_level(char *tables, char *keys, uint64_t branch_bits, field_block_Block s, uint64_t digit,
     uint64_t at, slice out)
 {
@@ -4767,7 +4782,7 @@ INLINE field_block_Block tree_walk_leaf_pass_level(char *tables, char *keys, uin
     return result;
 }
 
-/* tree_walk, src/leaf.rt:117: The leaf below a node at the position; writes the siblings beside the path to it, top first, from their
+/* tree_walk, src/leaf.rt:116: The leaf below a node at the position; writes the siblings beside the path to it, top first, from their
  * place on. */
 static field_block_Block tree_walk_leaf_walk_from(char *tables, char *keys, field_block_Block root, tree_punctured_Punctured tree, slice
     out)
@@ -4804,7 +4819,7 @@ static field_block_Block tree_walk_leaf_walk_from(char *tables, char *keys, fiel
     return result;
 }
 
-/* tree_walk, src/leaf.rt:145: The leaf at the position; writes the siblings beside the path to it, top first, from their place on. */
+/* tree_walk, src/leaf.rt:144: The leaf at the position; writes the siblings beside the path to it, top first, from their place on. */
 INLINE uint8_4_4 tree_walk_leaf_walk(char *tables, char *keys, uint8_4_4 root, tree_punctured_Punctured tree, slice out)
 {
     uint8_4_4 result;
@@ -4906,7 +4921,7 @@ INLINE aes_blocks_TwoBlocks tree_walk_node_child_of_both(char *tables, char *key
     aes_blocks_TwoBlocks result, both;
     uint64_t t7, t11;
     char *t8, *t9, *t10, *t12, *t13, *t14;
-    field_block_Block t15, t16;
+    field_block_Block t15, t16, t17, t18;
     t7 = c * 320ull;
     t8 = keys;
     t9 = t8 + t7;
@@ -4916,9 +4931,11 @@ INLINE aes_blocks_TwoBlocks tree_walk_node_child_of_both(char *tables, char *key
     t13 = t12 + t11;
     t14 = t13;
     both = aes_blocks_encrypt_two(tables, t10, t14, a.low, a.high, b.low, b.high);
-    t15 = field_block_Block_add(both.one, a);
-    t16 = field_block_Block_add(both.other, b);
-    result = (aes_blocks_TwoBlocks){t15, t16};
+    t16 = both.one;
+    t15 = field_block_Block_add(t16, a);
+    t18 = both.other;
+    t17 = field_block_Block_add(t18, b);
+    result = (aes_blocks_TwoBlocks){t15, t17};
     return result;
 }
 
@@ -4948,7 +4965,7 @@ static aes_blocks_TwoBlocks tree_walk_down_walk_both(char *tables, char *keys, u
     return result;
 }
 
-/* dealing_call, src/noise.rt:54: Tree i, after positions below `base`, at a place. */
+/* dealing_call, src/noise.rt:42: Tree i, after positions below `base`, at a place. */
 INLINE dealing_call_noise_Planned dealing_call_noise_plan(record_Layout layout, slice positions, slice values, uint64_t i, uint64_t base,
     uint64_t at)
 {
@@ -4965,7 +4982,7 @@ INLINE dealing_call_noise_Planned dealing_call_noise_plan(record_Layout layout, 
     return result;
 }
 
-/* dealing_call, src/noise.rt:32: The correction of a tree: the element of the leaf at its position minus Δ × its noise value. */
+/* dealing_call, src/noise.rt:19: The correction of a tree: the element of the leaf at its position minus Δ × its noise value. */
 INLINE field_element_Element dealing_call_noise_correction(uint64_t field, uint8_4_4 leaf, uint64_t value, slice delta)
 {
     field_element_Element result, scalar, element, multiple;
@@ -4976,7 +4993,7 @@ INLINE field_element_Element dealing_call_noise_correction(uint64_t field, uint8
     return result;
 }
 
-/* dealing_call, src/noise.rt:77: Writes a tree up to its siblings at its place, the correction from the leaf at its position. */
+/* dealing_call, src/noise.rt:65: Writes a tree up to its siblings at its place, the correction from the leaf at its position. */
 static uint64_t dealing_call_noise_write_planned(uint8_4_4 leaf, dealing_call_noise_Planned tree, slice delta, slice out)
 {
     uint64_t result, back;
@@ -4991,7 +5008,7 @@ static uint64_t dealing_call_noise_write_planned(uint8_4_4 leaf, dealing_call_no
     return result;
 }
 
-/* dealing_call, src/noise.rt:88: Writes a tree at its place; the place after it. The walk to the leaf writes the siblings. */
+/* dealing_call, src/noise.rt:76: Writes a tree at its place; the place after it. The walk to the leaf writes the siblings. */
 INLINE uint64_t dealing_call_noise_write_tree(char *tables, char *keys, uint8_4_4 root, dealing_call_noise_Planned tree, slice delta, slice
     out)
 {
@@ -5017,7 +5034,7 @@ INLINE uint64_t dealing_call_noise_write_tree(char *tables, char *keys, uint8_4_
     return result;
 }
 
-/* dealing_call, src/noise.rt:115: Writes the trees after the head; the place after them. */
+/* dealing_call, src/noise.rt:103: Writes the trees after the head; the place after them. */
 static uint64_t dealing_call_noise_write_trees(slice out, record_Layout layout, slice roots, slice positions, slice values, slice delta)
 {
     uint64_t result, at, base, i, t21;
@@ -5061,7 +5078,7 @@ static uint64_t dealing_call_noise_write_trees(slice out, record_Layout layout, 
     return result;
 }
 
-/* dealing_call, src/noise.rt:145: Writes the noise record at the buffer's front; its length. */
+/* dealing_call, src/noise.rt:133: Writes the noise record at the buffer's front; its length. */
 INLINE uint64_t dealing_call_noise_write_noise(slice out, record_Layout layout, slice code_key, slice label, slice roots, slice positions,
     slice values, slice delta)
 {
@@ -5092,7 +5109,7 @@ INLINE uint64_t dealing_call_scalar_write_scalar_part(slice out, record_Layout l
     return result;
 }
 
-/* dealing_call, src/lib.rt:21: Writes the noise record and the scalar record of a dealing, each to its own buffer. */
+/* dealing_call, src/lib.rt:19: Writes the noise record and the scalar record of a dealing, each to its own buffer. */
 static answer_TwoLengths dealing_call_deal(uint8_t field, uint64_t depth, uint64_t branch_bits, uint64_t trees, uint64_t terms, uint64_t
     outputs, slice roots, slice positions, slice values, slice delta, slice code_key, slice label, slice noise_record, slice scalar_record)
 {
@@ -5139,7 +5156,7 @@ INLINE uint64_t code_places_row_place_of(code_Shape shape, uint64_t i, uint64_t 
     return result;
 }
 
-/* code_places, src/used.rt:16: Whether every word is below the bound, where that is known of all but one. */
+/* code_places, src/used.rt:12: Whether every word is below the bound, where that is known of all but one. */
 INLINE bool code_places_used_still_below(bool others, uint64_t word, uint64_t bound)
 {
     bool result, t4, t5;
@@ -5153,7 +5170,7 @@ INLINE bool code_places_used_still_below(bool others, uint64_t word, uint64_t bo
     return result;
 }
 
-/* code_places, src/used.rt:71: Whether the four words from a place on are below the bound. */
+/* code_places, src/used.rt:67: Whether the four words from a place on are below the bound. */
 INLINE bool code_places_used_four_below(slice words, uint64_t i, uint64_t bound)
 {
     bool result, one, two, three;
@@ -5178,7 +5195,7 @@ INLINE bool code_places_used_four_below(slice words, uint64_t i, uint64_t bound)
     return result;
 }
 
-/* code_places, src/used.rt:82: Whether every word is below the bound, four words a turn. */
+/* code_places, src/used.rt:78: Whether every word is below the bound, four words a turn. */
 static bool code_places_used_all_below(slice words, uint64_t bound)
 {
     bool result, four, t7, t9;
@@ -5220,7 +5237,7 @@ static bool code_places_used_all_below(slice words, uint64_t bound)
     return result;
 }
 
-/* code_places, src/row.rt:28: Term i of row x. */
+/* code_places, src/row.rt:29: Term i of row x. */
 INLINE code_places_row_Term code_places_row_row_term(char *tables, char *keys, code_Shape shape, uint64_t x, uint64_t i)
 {
     code_places_row_Term result;
@@ -5235,7 +5252,7 @@ INLINE code_places_row_Term code_places_row_row_term(char *tables, char *keys, c
     return result;
 }
 
-/* code_places, src/row.rt:49: The place of term i of row x. */
+/* code_places, src/row.rt:50: The place of term i of row x. */
 INLINE uint64_t code_places_row_row_place(char *tables, char *keys, code_Shape shape, uint64_t x, uint64_t i)
 {
     uint64_t result;
@@ -5245,7 +5262,7 @@ INLINE uint64_t code_places_row_row_place(char *tables, char *keys, code_Shape s
     return result;
 }
 
-/* code_places, src/used.rt:23: Whether every word at the places of row x is below the bound. */
+/* code_places, src/used.rt:19: Whether every word at the places of row x is below the bound. */
 static bool code_places_used_row_below(char *tables, char *keys, code_Shape shape, uint64_t x, slice words, uint64_t bound)
 {
     bool result, t9;
@@ -5271,7 +5288,7 @@ static bool code_places_used_row_below(char *tables, char *keys, code_Shape shap
     return result;
 }
 
-/* code_places, src/used.rt:47: The test, row by row. */
+/* code_places, src/used.rt:43: The test, row by row. */
 static bool code_places_used_rows_below(char *tables, char *keys, code_Shape shape, code_Window window, slice words, uint64_t bound)
 {
     bool result, below, t9;
@@ -5295,7 +5312,7 @@ static bool code_places_used_rows_below(char *tables, char *keys, code_Shape sha
     return result;
 }
 
-/* code_places, src/used.rt:104: The test, by a pass over all words where that is less work than the rows' ciphers; the rows are walked
+/* code_places, src/used.rt:100: The test, by a pass over all words where that is less work than the rows' ciphers; the rows are walked
  * only if that pass finds a word at the bound or above, or is not made. A term takes about as long as 100 words of the pass. */
 INLINE bool code_places_used_used_below(char *tables, char *keys, code_Shape shape, code_Window window, slice words, uint64_t bound)
 {
@@ -5316,13 +5333,13 @@ INLINE bool code_places_used_used_below(char *tables, char *keys, code_Shape sha
     return result;
 }
 
-/* code_sums, src/accumulation.rt:30: Accumulates `count` elements of field 1, two words each. */
+/* code_sums, src/accumulation.rt:27: Accumulates `count` elements of field 1, two words each. */
 static void code_sums_accumulation_accumulate_blocks(slice v, uint64_t count)
 {
     field_block_Block total, next, t15;
-    uint64_t i, low, high, t11, t14;
+    uint64_t i, low, high, t11, t14, t16, t18;
     bool t8;
-    char *t10, *t13, *t16, *t17;
+    char *t10, *t13, *t17, *t19;
     total = field_block_Block_zero();
     i = 0ull;
     for (;;) {
@@ -5338,22 +5355,24 @@ static void code_sums_accumulation_accumulate_blocks(slice v, uint64_t count)
         t14 = *(uint64_t *)t13;
         t15 = (field_block_Block){t11, t14};
         next = field_block_Block_add(total, t15);
-        t16 = (char *)((uint64_t *)v.at + low);
-        *(uint64_t *)t16 = next.low;
-        t17 = (char *)((uint64_t *)v.at + high);
-        *(uint64_t *)t17 = next.high;
+        t16 = next.low;
+        t17 = (char *)((uint64_t *)v.at + low);
+        *(uint64_t *)t17 = t16;
+        t18 = next.high;
+        t19 = (char *)((uint64_t *)v.at + high);
+        *(uint64_t *)t19 = t18;
         total = next;
         i = i + 1ull;
     }
 }
 
-/* code_sums, src/accumulation.rt:51: Accumulates elements of field 2, one word each; noise words are of the same kind. */
+/* code_sums, src/accumulation.rt:48: Accumulates elements of field 2, one word each; noise words are of the same kind. */
 static void code_sums_accumulation_accumulate_primes(slice v)
 {
     prime_prime_Prime total, next, t9;
-    uint64_t i, t5, t8;
+    uint64_t i, t5, t8, t10;
     bool t6;
-    char *t7, *t10;
+    char *t7, *t11;
     total = prime_prime_Prime_zero();
     i = 0ull;
     for (;;) {
@@ -5367,15 +5386,16 @@ static void code_sums_accumulation_accumulate_primes(slice v)
         t8 = *(uint64_t *)t7;
         t9 = (prime_prime_Prime){t8};
         next = prime_prime_Prime_add(total, t9);
+        t10 = next.word;
         t5 = i * 8ull;
-        t10 = (char *)((uint64_t *)v.at + i);
-        *(uint64_t *)t10 = next.word;
+        t11 = (char *)((uint64_t *)v.at + i);
+        *(uint64_t *)t11 = t10;
         total = next;
         i = i + 1ull;
     }
 }
 
-/* code_sums, src/accumulation.rt:78: Accumulates `count` elements of a field. */
+/* code_sums, src/accumulation.rt:75: Accumulates `count` elements of a field. */
 INLINE void code_sums_accumulation_accumulate_elements(uint64_t field, uint64_t count, slice words)
 {
     bool t4;
@@ -5393,7 +5413,7 @@ INLINE void code_sums_accumulation_accumulate_elements(uint64_t field, uint64_t 
     }
 }
 
-/* code_sums, src/accumulation.rt:16: Accumulates noise words of field 1. */
+/* code_sums, src/accumulation.rt:13: Accumulates noise words of field 1. */
 static void code_sums_accumulation_accumulate_bits(slice v)
 {
     uint64_t total, i, t4, t7;
@@ -5418,7 +5438,7 @@ static void code_sums_accumulation_accumulate_bits(slice v)
     }
 }
 
-/* code_sums, src/accumulation.rt:66: Accumulates noise words of a field. */
+/* code_sums, src/accumulation.rt:63: Accumulates noise words of a field. */
 INLINE void code_sums_accumulation_accumulate_noise(uint64_t field, slice words)
 {
     bool t3;
@@ -5436,7 +5456,7 @@ INLINE void code_sums_accumulation_accumulate_noise(uint64_t field, slice words)
     }
 }
 
-/* record_head, src/head.rt:75: The end byte and the field byte; the value is the field. */
+/* record_head, src/head.rt:65: The end byte and the field byte; the value is the field. */
 INLINE number_Number record_head_head_read_field(slice source, uint8_t end)
 {
     number_Number result;
@@ -5475,7 +5495,7 @@ INLINE number_Number record_head_head_read_field(slice source, uint8_t end)
     return result;
 }
 
-/* record_head, src/head.rt:44: A size of 1 to `top`. */
+/* record_head, src/head.rt:34: A size of 1 to `top`. */
 INLINE number_Number record_head_head_read_size(slice source, uint64_t at, uint64_t top)
 {
     number_Number result, r;
@@ -5505,7 +5525,7 @@ INLINE number_Number record_head_head_read_size(slice source, uint64_t at, uint6
     return result;
 }
 
-/* record_head, src/head.rt:61: g: 1, 2 or 3, and a divisor of d. */
+/* record_head, src/head.rt:51: g: 1, 2 or 3, and a divisor of d. */
 INLINE number_Number record_head_head_read_branch(slice source, uint64_t at, uint64_t depth)
 {
     number_Number result, r;
@@ -5531,7 +5551,7 @@ INLINE number_Number record_head_head_read_branch(slice source, uint64_t at, uin
     return result;
 }
 
-/* record_head, src/head.rt:24: Whether a record has a count of bytes from a place on. */
+/* record_head, src/head.rt:14: Whether a record has a count of bytes from a place on. */
 INLINE bool record_head_head_has_bytes(slice source, uint64_t at, uint64_t count)
 {
     bool result, t5;
@@ -5548,7 +5568,7 @@ INLINE bool record_head_head_has_bytes(slice source, uint64_t at, uint64_t count
     return result;
 }
 
-/* record_head, src/head.rt:34: A field of a count of bytes; the value is its place. */
+/* record_head, src/head.rt:24: A field of a count of bytes; the value is its place. */
 INLINE number_Number record_head_head_skip(slice source, uint64_t at, uint64_t count)
 {
     number_Number result;
@@ -5564,7 +5584,7 @@ INLINE number_Number record_head_head_skip(slice source, uint64_t at, uint64_t c
     return result;
 }
 
-/* record_head, src/head.rt:95: g, t, ℓ, n, the code key and the label, after d. */
+/* record_head, src/head.rt:85: g, t, ℓ, n, the code key and the label, after d. */
 static record_RecordAnswer record_head_head_read_after_depth(slice source, uint64_t at2, uint64_t field, uint64_t depth)
 {
     record_RecordAnswer result;
@@ -5635,7 +5655,7 @@ static record_RecordAnswer record_head_head_read_after_depth(slice source, uint6
     return result;
 }
 
-/* record_head, src/head.rt:132: d, then the rest of the head. */
+/* record_head, src/head.rt:122: d, then the rest of the head. */
 INLINE record_RecordAnswer record_head_head_read_sizes(slice source, uint64_t at1, uint64_t field)
 {
     record_RecordAnswer result;
@@ -5657,7 +5677,7 @@ INLINE record_RecordAnswer record_head_head_read_sizes(slice source, uint64_t at
     return result;
 }
 
-/* record_head, src/head.rt:143: The head of a record of this end. */
+/* record_head, src/head.rt:133: The head of a record of this end. */
 INLINE record_RecordAnswer record_head_head_read_head(slice source, uint8_t end)
 {
     record_RecordAnswer result;
@@ -5679,7 +5699,7 @@ INLINE record_RecordAnswer record_head_head_read_head(slice source, uint8_t end)
     return result;
 }
 
-/* record_reading, src/noise.rt:33: A position below `all`, after positions below `base`. */
+/* record_reading, src/noise.rt:19: A position below `all`, after positions below `base`. */
 INLINE number_Number record_reading_noise_read_position(slice source, uint64_t at, uint64_t base, uint64_t all)
 {
     number_Number result, r;
@@ -5706,7 +5726,7 @@ INLINE number_Number record_reading_noise_read_position(slice source, uint64_t a
     return result;
 }
 
-/* record_reading, src/element.rt:22: The noise value of a tree; where it is always 1 it takes no bytes. */
+/* record_reading, src/element.rt:13: The noise value of a tree; where it is always 1 it takes no bytes. */
 INLINE number_Number record_reading_element_read_value(slice source, uint64_t at, uint64_t field)
 {
     number_Number result;
@@ -5734,7 +5754,7 @@ INLINE number_Number record_reading_element_read_value(slice source, uint64_t at
     return result;
 }
 
-/* record_reading, src/element.rt:39: The correction of a tree; the value is its first word. */
+/* record_reading, src/element.rt:30: The correction of a tree; the value is its first word. */
 INLINE number_Number record_reading_element_read_correction(slice source, uint64_t at, uint64_t field)
 {
     number_Number result;
@@ -5759,7 +5779,7 @@ INLINE number_Number record_reading_element_read_correction(slice source, uint64
     return result;
 }
 
-/* record_reading, src/noise.rt:48: A tree with so many siblings, after positions below `base`; the value is its position. */
+/* record_reading, src/noise.rt:34: A tree with so many siblings, after positions below `base`; the value is its position. */
 INLINE number_Number record_reading_noise_read_tree(slice source, uint64_t at, uint64_t base, uint64_t field, uint64_t depth, uint64_t
     siblings)
 {
@@ -5808,7 +5828,7 @@ INLINE number_Number record_reading_noise_read_tree(slice source, uint64_t at, u
     return result;
 }
 
-/* record_reading, src/noise.rt:79: The noise record, whole and tested. */
+/* record_reading, src/noise.rt:65: The noise record, whole and tested. */
 static record_RecordAnswer record_reading_noise_read_noise(slice source)
 {
     record_RecordAnswer result, r;
@@ -5863,7 +5883,7 @@ static record_RecordAnswer record_reading_noise_read_noise(slice source)
     return result;
 }
 
-/* record_reading, src/element.rt:54: Δ; the value is its first word. */
+/* record_reading, src/element.rt:45: Δ; the value is its first word. */
 INLINE number_Number record_reading_element_read_delta(slice source, uint64_t at, uint64_t field)
 {
     number_Number result;
@@ -5888,7 +5908,7 @@ INLINE number_Number record_reading_element_read_delta(slice source, uint64_t at
     return result;
 }
 
-/* record_reading, src/scalar.rt:15: The scalar record, whole and tested. Δ begins the body, and the roots follow it. */
+/* record_reading, src/scalar.rt:13: The scalar record, whole and tested. Δ begins the body, and the roots follow it. */
 INLINE record_RecordAnswer record_reading_scalar_read_scalar(slice source)
 {
     record_RecordAnswer result, r;
@@ -5938,7 +5958,7 @@ INLINE record_RecordAnswer record_reading_scalar_read_scalar(slice source)
     return result;
 }
 
-/* record_reading, src/noise.rt:109: The tree at a place of an accepted noise record, after positions below `base`. The next tree follows
+/* record_reading, src/noise.rt:95: The tree at a place of an accepted noise record, after positions below `base`. The next tree follows
  * its siblings. */
 INLINE record_Tree record_reading_noise_known_tree(slice source, uint64_t at, uint64_t base, uint64_t field, uint64_t depth, uint64_t
     siblings)
@@ -5968,7 +5988,7 @@ INLINE record_Tree record_reading_noise_known_tree(slice source, uint64_t at, ui
     return result;
 }
 
-/* tree_sums, src/zero.rt:6: Zeroes words. */
+/* tree_sums, src/zero.rt:5: Zeroes words. */
 static void tree_sums_zero_zero_words(slice words)
 {
     uint64_t i, t3;
@@ -5988,39 +6008,42 @@ static void tree_sums_zero_zero_words(slice words)
     }
 }
 
-/* tree_sums, src/sums.rt:20: Adds an element of field 1 to the one that two words hold. */
+/* tree_sums, src/sums.rt:18: Adds an element of field 1 to the one that two words hold. */
 INLINE void tree_sums_sums_add_block(field_block_Block element, slice acc)
 {
     field_block_Block old, sum;
-    char *t5, *t7, *t9, *t10;
-    uint64_t t6, t8;
+    char *t5, *t7, *t10, *t12;
+    uint64_t t6, t8, t9, t11;
     t5 = acc.at + 0ull;
     t6 = *(uint64_t *)t5;
     t7 = acc.at + 8ull;
     t8 = *(uint64_t *)t7;
     old = (field_block_Block){t6, t8};
     sum = field_block_Block_add(old, element);
-    t9 = acc.at + 0ull;
-    *(uint64_t *)t9 = sum.low;
-    t10 = acc.at + 8ull;
-    *(uint64_t *)t10 = sum.high;
+    t9 = sum.low;
+    t10 = acc.at + 0ull;
+    *(uint64_t *)t10 = t9;
+    t11 = sum.high;
+    t12 = acc.at + 8ull;
+    *(uint64_t *)t12 = t11;
 }
 
-/* tree_sums, src/sums.rt:34: Adds an element of field 2 to the one that a word holds. */
+/* tree_sums, src/sums.rt:32: Adds an element of field 2 to the one that a word holds. */
 INLINE void tree_sums_sums_add_prime(prime_prime_Prime element, slice acc)
 {
     prime_prime_Prime old, sum;
-    char *t5, *t7;
-    uint64_t t6;
+    char *t5, *t8;
+    uint64_t t6, t7;
     t5 = acc.at + 0ull;
     t6 = *(uint64_t *)t5;
     old = (prime_prime_Prime){t6};
     sum = prime_prime_Prime_add(old, element);
-    t7 = acc.at + 0ull;
-    *(uint64_t *)t7 = sum.word;
+    t7 = sum.word;
+    t8 = acc.at + 0ull;
+    *(uint64_t *)t8 = t7;
 }
 
-/* tree_sums, src/sums.rt:56: Adds the element that words begin with to the one that the words of acc hold. */
+/* tree_sums, src/sums.rt:54: Adds the element that words begin with to the one that the words of acc hold. */
 INLINE void tree_sums_sums_add_words(uint64_t field, uint64_2 words, slice acc)
 {
     uint64_2 words_slot;
@@ -6054,7 +6077,7 @@ INLINE void tree_sums_sums_add_words(uint64_t field, uint64_2 words, slice acc)
     }
 }
 
-/* tree_sums, src/sums.rt:44: Adds the element of a leaf to the one that the words hold. */
+/* tree_sums, src/sums.rt:42: Adds the element of a leaf to the one that the words hold. */
 INLINE void tree_sums_sums_add_leaf(uint64_t field, field_block_Block s, slice acc)
 {
     bool t4;
@@ -6074,7 +6097,7 @@ INLINE void tree_sums_sums_add_leaf(uint64_t field, field_block_Block s, slice a
     }
 }
 
-/* tree_sums, src/sums.rt:73: Adds two elements of field 1 to those that four words hold. */
+/* tree_sums, src/sums.rt:71: Adds two elements of field 1 to those that four words hold. */
 INLINE void tree_sums_sums_add_blocks(aes_blocks_TwoBlocks both, slice acc)
 {
     char *t3, *t6, *t7, *t8, *t9, *t10, *t11, *t12;
@@ -6101,12 +6124,12 @@ INLINE void tree_sums_sums_add_blocks(aes_blocks_TwoBlocks both, slice acc)
     *(uint64_t *)t12 = t5;
 }
 
-/* tree_sums, src/sums.rt:84: Adds the elements of field 2 of two leaves to those that two words hold. */
+/* tree_sums, src/sums.rt:82: Adds the elements of field 2 of two leaves to those that two words hold. */
 INLINE void tree_sums_sums_add_primes(aes_blocks_TwoBlocks both, slice acc)
 {
     prime_prime_Prime word0, word1, a, b, t10;
-    char *t7, *t9, *t11, *t12;
-    uint64_t t8;
+    char *t7, *t9, *t12, *t14;
+    uint64_t t8, t11, t13;
     t7 = acc.at + 0ull;
     t8 = *(uint64_t *)t7;
     word0 = (prime_prime_Prime){t8};
@@ -6117,21 +6140,23 @@ INLINE void tree_sums_sums_add_primes(aes_blocks_TwoBlocks both, slice acc)
     a = prime_prime_Prime_add(word0, t10);
     t10 = prime_prime_Prime_reduce(both.other.low);
     b = prime_prime_Prime_add(word1, t10);
-    t11 = acc.at + 0ull;
-    *(uint64_t *)t11 = a.word;
-    t12 = acc.at + 8ull;
-    *(uint64_t *)t12 = b.word;
+    t11 = a.word;
+    t12 = acc.at + 0ull;
+    *(uint64_t *)t12 = t11;
+    t13 = b.word;
+    t14 = acc.at + 8ull;
+    *(uint64_t *)t14 = t13;
 }
 
-/* tree_sums, src/sums.rt:97: Adds children c and c + 1 of s, which are leaves, to the elements of acc. */
+/* tree_sums, src/sums.rt:95: Adds children c and c + 1 of s, which are leaves, to the elements of acc. */
 INLINE void tree_sums_sums_add_pair(char *tables, char *keys, uint64_t field, uint64_t c, field_block_Block s, slice acc)
 {
     aes_blocks_TwoBlocks ciphers, both;
     uint64_t t9, t13, t14;
-    char *t10, *t11, *t12, *t15, *t16, *t17, *t22, *t25;
-    field_block_Block t18, t19;
-    bool t20;
-    slice t23, t26;
+    char *t10, *t11, *t12, *t15, *t16, *t17, *t24, *t27;
+    field_block_Block t18, t19, t20, t21;
+    bool t22;
+    slice t25, t28;
     t9 = c * 320ull;
     t10 = keys;
     t11 = t10 + t9;
@@ -6142,22 +6167,24 @@ INLINE void tree_sums_sums_add_pair(char *tables, char *keys, uint64_t field, ui
     t16 = t15 + t14;
     t17 = t16;
     ciphers = aes_blocks_encrypt_two(tables, t12, t17, s.low, s.high, s.low, s.high);
-    t18 = field_block_Block_add(ciphers.one, s);
-    t19 = field_block_Block_add(ciphers.other, s);
-    both = (aes_blocks_TwoBlocks){t18, t19};
-    t20 = field == 1ull;
-    if (t20) {
-        t22 = acc.at;
-        t23 = (slice){t22, acc.count};
-        tree_sums_sums_add_blocks(both, t23);
+    t19 = ciphers.one;
+    t18 = field_block_Block_add(t19, s);
+    t21 = ciphers.other;
+    t20 = field_block_Block_add(t21, s);
+    both = (aes_blocks_TwoBlocks){t18, t20};
+    t22 = field == 1ull;
+    if (t22) {
+        t24 = acc.at;
+        t25 = (slice){t24, acc.count};
+        tree_sums_sums_add_blocks(both, t25);
     } else {
-        t25 = acc.at;
-        t26 = (slice){t25, acc.count};
-        tree_sums_sums_add_primes(both, t26);
+        t27 = acc.at;
+        t28 = (slice){t27, acc.count};
+        tree_sums_sums_add_primes(both, t28);
     }
 }
 
-/* tree_sums, src/sums.rt:121: Adds four children of s from c on, which are leaves, to the elements of acc. */
+/* tree_sums, src/sums.rt:119: Adds four children of s from c on, which are leaves, to the elements of acc. */
 INLINE void tree_sums_sums_add_four(char *tables, char *keys, uint64_t field, uint64_t c, field_block_Block s, slice acc)
 {
     uint64_t mid, t8, t14;
@@ -6176,7 +6203,7 @@ INLINE void tree_sums_sums_add_four(char *tables, char *keys, uint64_t field, ui
     tree_sums_sums_add_pair(tables, keys, field, t8, s, t16);
 }
 
-/* tree_sums, src/sums.rt:138: Adds all two, four or eight children of s, which are leaves, to the elements of acc. */
+/* tree_sums, src/sums.rt:136: Adds all two, four or eight children of s, which are leaves, to the elements of acc. */
 static void tree_sums_sums_add_bottom(char *tables, char *keys, uint64_t field, uint64_t bits, uint64_t c, uint64_t s_low, uint64_t s_high,
     slice acc)
 {
@@ -6213,49 +6240,55 @@ static void tree_sums_sums_add_bottom(char *tables, char *keys, uint64_t field, 
     }
 }
 
-/* tree_sums, src/sums.rt:162: Adds the two children of each of two nodes, which are leaves, to the elements of acc. */
+/* tree_sums, src/sums.rt:160: Adds the two children of each of two nodes, which are leaves, to the elements of acc. */
 INLINE void tree_sums_sums_add_couple(char *tables, char *keys, uint64_t field, aes_blocks_TwoBlocks both, slice acc)
 {
-    uint64_t mid, t7, t12;
-    char *t9, *t11, *t13;
-    slice t10, t14;
+    uint64_t mid, t7, t14;
+    field_block_Block t9, t12;
+    char *t10, *t13, *t15;
+    slice t11, t16;
     t7 = acc.count;
     mid = t7 / 2ull;
-    t9 = acc.at;
-    t10 = (slice){t9, mid};
-    tree_sums_sums_add_pair(tables, keys, field, 0ull, both.one, t10);
+    t9 = both.one;
+    t10 = acc.at;
+    t11 = (slice){t10, mid};
+    tree_sums_sums_add_pair(tables, keys, field, 0ull, t9, t11);
+    t12 = both.other;
     t7 = mid * 8ull;
-    t11 = (char *)((uint64_t *)acc.at + mid);
-    t12 = acc.count - mid;
-    t13 = t11;
-    t14 = (slice){t13, t12};
-    tree_sums_sums_add_pair(tables, keys, field, 0ull, both.other, t14);
-}
-
-/* tree_sums, src/sums.rt:180: Adds the leaves two levels below each of two nodes with two children a node: the children of both nodes
- * are made before any leaf, so that no leaf waits for the cipher right before it. */
-static void tree_sums_sums_add_both(char *tables, char *keys, uint64_t field, aes_blocks_TwoBlocks both, slice acc)
-{
-    aes_blocks_TwoBlocks low, high;
-    uint64_t mid, t9, t14;
-    char *t11, *t13, *t15;
-    slice t12, t16;
-    low = tree_walk_node_children(tables, keys, 0ull, both.one);
-    high = tree_walk_node_children(tables, keys, 0ull, both.other);
-    t9 = acc.count;
-    mid = t9 / 2ull;
-    t11 = acc.at;
-    t12 = (slice){t11, mid};
-    tree_sums_sums_add_couple(tables, keys, field, low, t12);
-    t9 = mid * 8ull;
     t13 = (char *)((uint64_t *)acc.at + mid);
     t14 = acc.count - mid;
     t15 = t13;
     t16 = (slice){t15, t14};
-    tree_sums_sums_add_couple(tables, keys, field, high, t16);
+    tree_sums_sums_add_pair(tables, keys, field, 0ull, t12, t16);
 }
 
-/* tree_fill, src/range.rt:26: How many leaves are below half of a range. */
+/* tree_sums, src/sums.rt:178: Adds the leaves two levels below each of two nodes with two children a node: the children of both nodes
+ * are made before any leaf, so that no leaf waits for the cipher right before it. */
+static void tree_sums_sums_add_both(char *tables, char *keys, uint64_t field, aes_blocks_TwoBlocks both, slice acc)
+{
+    aes_blocks_TwoBlocks low, high;
+    uint64_t mid, t11, t16;
+    field_block_Block t9, t10;
+    char *t13, *t15, *t17;
+    slice t14, t18;
+    t9 = both.one;
+    low = tree_walk_node_children(tables, keys, 0ull, t9);
+    t10 = both.other;
+    high = tree_walk_node_children(tables, keys, 0ull, t10);
+    t11 = acc.count;
+    mid = t11 / 2ull;
+    t13 = acc.at;
+    t14 = (slice){t13, mid};
+    tree_sums_sums_add_couple(tables, keys, field, low, t14);
+    t11 = mid * 8ull;
+    t15 = (char *)((uint64_t *)acc.at + mid);
+    t16 = acc.count - mid;
+    t17 = t15;
+    t18 = (slice){t17, t16};
+    tree_sums_sums_add_couple(tables, keys, field, high, t18);
+}
+
+/* tree_fill, src/range.rt:27: How many leaves are below half of a range. */
 INLINE uint64_t tree_fill_range_half_size(tree_sums_range_Range range)
 {
     uint64_t result, t2, t3, t4, t5;
@@ -6267,7 +6300,7 @@ INLINE uint64_t tree_fill_range_half_size(tree_sums_range_Range range)
     return result;
 }
 
-/* tree_fill, src/range.rt:34: Where the siblings of the next level begin. */
+/* tree_fill, src/range.rt:35: Where the siblings of the next level begin. */
 INLINE uint64_t tree_fill_range_next_level(uint64_t branch_bits, uint64_t at)
 {
     uint64_t result, count, t4, t5;
@@ -6278,7 +6311,7 @@ INLINE uint64_t tree_fill_range_next_level(uint64_t branch_bits, uint64_t at)
     return result;
 }
 
-/* tree_fill, src/range.rt:55: The half from child c on of a range that holds a path, at a position in it: of two children one, as all
+/* tree_fill, src/range.rt:56: The half from child c on of a range that holds a path, at a position in it: of two children one, as all
  * its own children. */
 INLINE tree_fill_range_Path tree_fill_range_path_in(tree_fill_range_Path path, uint64_t c, uint64_t position)
 {
@@ -6304,7 +6337,7 @@ INLINE tree_fill_range_Path tree_fill_range_path_in(tree_fill_range_Path path, u
     return result;
 }
 
-/* tree_fill, src/range.rt:43: Half as many children, from child c on. */
+/* tree_fill, src/range.rt:44: Half as many children, from child c on. */
 INLINE tree_sums_range_Range tree_fill_range_half_from(tree_sums_range_Range range, uint64_t c)
 {
     tree_sums_range_Range result;
@@ -6316,7 +6349,7 @@ INLINE tree_sums_range_Range tree_fill_range_half_from(tree_sums_range_Range ran
     return result;
 }
 
-/* tree_fill, src/range.rt:85: The halves of a range that holds a path. */
+/* tree_fill, src/range.rt:86: The halves of a range that holds a path. */
 INLINE tree_fill_range_Halves tree_fill_range_parted(tree_fill_range_Path path)
 {
     tree_fill_range_Halves result, t13;
@@ -6348,15 +6381,16 @@ INLINE tree_fill_range_Halves tree_fill_range_parted(tree_fill_range_Path path)
     return result;
 }
 
-/* tree_fill, src/fill.rt:28: Adds the leaves below a range of the children of s to the elements of acc. */
+/* tree_fill, src/fill.rt:20: Adds the leaves below a range of the children of s to the elements of acc. */
 static void tree_fill_fill_add_range(char *tables, char *keys, uint64_t field, tree_sums_range_Range range, field_block_Block s, slice acc)
 {
-    uint64_t branch_bits, levels, bits, from, mid, mid_2, t31, t36, t39, t40, t41, t42, t43, t44, t45, t46, t47;
+    uint64_t branch_bits, levels, bits, from, mid, mid_2, t31, t38, t41, t42, t43, t44, t45, t46, t47, t48, t49;
     aes_blocks_TwoBlocks both;
     tree_sums_range_Range all, low, high;
     bool t17, t21, t25, t26, t27;
-    char *t19, *t23, *t29, *t33, *t35, *t37, *t49, *t51, *t52;
-    slice t20, t24, t30, t34, t38, t50, t53;
+    char *t19, *t23, *t29, *t34, *t37, *t39, *t51, *t53, *t54;
+    slice t20, t24, t30, t35, t40, t52, t55;
+    field_block_Block t33, t36;
     branch_bits = range.branch_bits;
     levels = range.levels;
     bits = range.bits;
@@ -6390,45 +6424,47 @@ static void tree_fill_fill_add_range(char *tables, char *keys, uint64_t field, t
                 all = (tree_sums_range_Range){branch_bits, t31, branch_bits, 0ull};
                 t31 = acc.count;
                 mid = t31 / 2ull;
-                t33 = acc.at;
-                t34 = (slice){t33, mid};
-                tree_fill_fill_add_range(tables, keys, field, all, both.one, t34);
+                t33 = both.one;
+                t34 = acc.at;
+                t35 = (slice){t34, mid};
+                tree_fill_fill_add_range(tables, keys, field, all, t33, t35);
+                t36 = both.other;
                 t31 = mid * 8ull;
-                t35 = (char *)((uint64_t *)acc.at + mid);
-                t36 = acc.count - mid;
-                t37 = t35;
-                t38 = (slice){t37, t36};
-                tree_fill_fill_add_range(tables, keys, field, all, both.other, t38);
+                t37 = (char *)((uint64_t *)acc.at + mid);
+                t38 = acc.count - mid;
+                t39 = t37;
+                t40 = (slice){t39, t38};
+                tree_fill_fill_add_range(tables, keys, field, all, t36, t40);
             } else {
-                t39 = bits - 1ull;
-                t40 = range.branch_bits;
-                t41 = range.levels;
-                t42 = range.from;
-                low = (tree_sums_range_Range){t40, t41, t39, t42};
-                t43 = bits - 1ull;
-                t39 = tree_walk_powers_power(t43);
-                t44 = from + t39;
-                t45 = low.branch_bits;
-                t46 = low.levels;
-                t47 = low.bits;
-                high = (tree_sums_range_Range){t45, t46, t47, t44};
-                t39 = acc.count;
-                mid_2 = t39 / 2ull;
-                t49 = acc.at;
-                t50 = (slice){t49, mid_2};
-                tree_fill_fill_add_range(tables, keys, field, low, s, t50);
-                t44 = mid_2 * 8ull;
-                t51 = (char *)((uint64_t *)acc.at + mid_2);
-                t39 = acc.count - mid_2;
-                t52 = t51;
-                t53 = (slice){t52, t39};
-                tree_fill_fill_add_range(tables, keys, field, high, s, t53);
+                t41 = bits - 1ull;
+                t42 = range.branch_bits;
+                t43 = range.levels;
+                t44 = range.from;
+                low = (tree_sums_range_Range){t42, t43, t41, t44};
+                t45 = bits - 1ull;
+                t41 = tree_walk_powers_power(t45);
+                t46 = from + t41;
+                t47 = low.branch_bits;
+                t48 = low.levels;
+                t49 = low.bits;
+                high = (tree_sums_range_Range){t47, t48, t49, t46};
+                t41 = acc.count;
+                mid_2 = t41 / 2ull;
+                t51 = acc.at;
+                t52 = (slice){t51, mid_2};
+                tree_fill_fill_add_range(tables, keys, field, low, s, t52);
+                t46 = mid_2 * 8ull;
+                t53 = (char *)((uint64_t *)acc.at + mid_2);
+                t41 = acc.count - mid_2;
+                t54 = t53;
+                t55 = (slice){t54, t41};
+                tree_fill_fill_add_range(tables, keys, field, high, s, t55);
             }
         }
     }
 }
 
-/* tree_fill, src/fill.rt:80: Adds the leaves below a run of siblings, of those whose bytes begin at a place, to the elements of acc. */
+/* tree_fill, src/fill.rt:72: Adds the leaves below a run of siblings, of those whose bytes begin at a place, to the elements of acc. */
 static void tree_fill_fill_add_run(char *tables, char *keys, uint64_t field, tree_sums_range_Range run, uint64_t at, slice bytes, slice acc)
 {
     uint64_t branch_bits, levels, bits, from, mid, t18, t19, t23, t24, t25, t26, t27, t28, t29, t30, t31;
@@ -6478,16 +6514,18 @@ static void tree_fill_fill_add_run(char *tables, char *keys, uint64_t field, tre
     }
 }
 
-/* tree_fill, src/fill.rt:122: Adds the leaves below a range that holds the position of a punctured tree to the elements of acc: the
+/* tree_fill, src/fill.rt:114: Adds the leaves below a range that holds the position of a punctured tree to the elements of acc: the
  * correction at the position, the others from the siblings among the bytes. */
 static void tree_fill_fill_add_path(char *tables, char *keys, uint64_t field, tree_fill_range_Path path, slice bytes, uint64_2 correction,
     slice acc)
 {
-    uint64_t at, mid, t15, t21, t29;
+    uint64_t at, mid, t15, t23, t33;
     tree_fill_range_Halves parts;
     bool t11;
-    char *t13, *t17, *t20, *t22, *t25, *t28, *t30;
-    slice t14, t18, t23, t26, t31;
+    char *t13, *t18, *t22, *t24, *t28, *t32, *t34;
+    slice t14, t19, t25, t29, t35;
+    tree_fill_range_Path t17, t30;
+    tree_sums_range_Range t20, t27;
     at = path.at;
     t11 = path.range.levels == 0ull;
     if (t11) {
@@ -6501,27 +6539,31 @@ static void tree_fill_fill_add_path(char *tables, char *keys, uint64_t field, tr
     parts = tree_fill_range_parted(path);
     t11 = parts.lower;
     if (t11) {
-        t17 = acc.at;
-        t18 = (slice){t17, mid};
-        tree_fill_fill_add_path(tables, keys, field, parts.below, bytes, correction, t18);
-        t20 = (char *)((uint64_t *)acc.at + mid);
-        t21 = acc.count - mid;
-        t22 = t20;
-        t23 = (slice){t22, t21};
-        tree_fill_fill_add_run(tables, keys, field, parts.beside, at, bytes, t23);
+        t17 = parts.below;
+        t18 = acc.at;
+        t19 = (slice){t18, mid};
+        tree_fill_fill_add_path(tables, keys, field, t17, bytes, correction, t19);
+        t20 = parts.beside;
+        t22 = (char *)((uint64_t *)acc.at + mid);
+        t23 = acc.count - mid;
+        t24 = t22;
+        t25 = (slice){t24, t23};
+        tree_fill_fill_add_run(tables, keys, field, t20, at, bytes, t25);
     } else {
-        t25 = acc.at;
-        t26 = (slice){t25, mid};
-        tree_fill_fill_add_run(tables, keys, field, parts.beside, at, bytes, t26);
-        t28 = (char *)((uint64_t *)acc.at + mid);
-        t29 = acc.count - mid;
-        t30 = t28;
-        t31 = (slice){t30, t29};
-        tree_fill_fill_add_path(tables, keys, field, parts.below, bytes, correction, t31);
+        t27 = parts.beside;
+        t28 = acc.at;
+        t29 = (slice){t28, mid};
+        tree_fill_fill_add_run(tables, keys, field, t27, at, bytes, t29);
+        t30 = parts.below;
+        t32 = (char *)((uint64_t *)acc.at + mid);
+        t33 = acc.count - mid;
+        t34 = t32;
+        t35 = (slice){t34, t33};
+        tree_fill_fill_add_path(tables, keys, field, t30, bytes, correction, t35);
     }
 }
 
-/* tree_fill, src/fill.rt:206: Adds the leaves of a punctured tree to the elements of acc: at its position the correction, whose words
+/* tree_fill, src/fill.rt:198: Adds the leaves of a punctured tree to the elements of acc: at its position the correction, whose words
  * are lent by value, the others from the siblings among the bytes. */
 INLINE void tree_fill_fill_add_punctured(char *tables, char *keys, uint64_t field, tree_punctured_Punctured tree, slice bytes, uint64_2
     correction, slice acc)
@@ -6537,7 +6579,7 @@ INLINE void tree_fill_fill_add_punctured(char *tables, char *keys, uint64_t fiel
     tree_fill_fill_add_path(tables, keys, field, path, bytes, correction, t12);
 }
 
-/* tree_fill, src/fill.rt:183: Adds the leaves of the tree below s to the elements of acc. */
+/* tree_fill, src/fill.rt:175: Adds the leaves of the tree below s to the elements of acc. */
 INLINE void tree_fill_fill_add_leaves(char *tables, char *keys, uint64_t field, uint64_t branch_bits, uint64_t levels, uint8_4_4 s, slice
     acc)
 {
@@ -6552,7 +6594,7 @@ INLINE void tree_fill_fill_add_leaves(char *tables, char *keys, uint64_t field, 
     tree_fill_fill_add_range(tables, keys, field, all, t10, t12);
 }
 
-/* window_tests, src/head.rt:31: How many words N elements take. */
+/* window_tests, src/head.rt:29: How many words N elements take. */
 INLINE uint64_t window_tests_head_vector_words(record_Layout layout)
 {
     uint64_t result, t2, t3;
@@ -6562,7 +6604,7 @@ INLINE uint64_t window_tests_head_vector_words(record_Layout layout)
     return result;
 }
 
-/* window_tests, src/lengths.rt:21: Whether a buffer is too short for so many elements of a field. */
+/* window_tests, src/lengths.rt:14: Whether a buffer is too short for so many elements of a field. */
 INLINE bool window_tests_lengths_lacks_room(uint64_t field, uint64_t count, uint64_t room)
 {
     bool result;
@@ -6572,7 +6614,7 @@ INLINE bool window_tests_lengths_lacks_room(uint64_t field, uint64_t count, uint
     return result;
 }
 
-/* window_tests, src/lengths.rt:29: The number of the tests 3, 7 and 13, from the lengths of the noise and of a vector of elements, and
+/* window_tests, src/lengths.rt:22: The number of the tests 3, 7 and 13, from the lengths of the noise and of a vector of elements, and
  * of the buffers for a window of them. The scalar end, which has no noise, gives N for its length and the window's count for the room of
  * u. */
 INLINE uint32_t window_tests_lengths_window_number(record_Layout layout, uint64_t noise, uint64_t vector, code_Window window, uint64_t
@@ -6612,7 +6654,7 @@ INLINE uint32_t window_tests_lengths_window_number(record_Layout layout, uint64_
     return result;
 }
 
-/* window_tests, src/head.rt:39: The place of the code key's 16 bytes, which the label's 16 follow (document 02, 8). */
+/* window_tests, src/head.rt:37: The place of the code key's 16 bytes, which the label's 16 follow (document 02, 8). */
 INLINE uint64_t window_tests_head_code_key_at(record_Layout layout)
 {
     uint64_t result;
@@ -6620,7 +6662,7 @@ INLINE uint64_t window_tests_head_code_key_at(record_Layout layout)
     return result;
 }
 
-/* window_tests, src/head.rt:47: The round keys of the code key. */
+/* window_tests, src/head.rt:45: The round keys of the code key. */
 INLINE uint64_40 window_tests_head_code_keys(char *sbox, slice source, record_Layout layout)
 {
     uint64_40 result;
@@ -6632,7 +6674,7 @@ INLINE uint64_40 window_tests_head_code_keys(char *sbox, slice source, record_La
     return result;
 }
 
-/* window_tests, src/head.rt:18: The code's shape. */
+/* window_tests, src/head.rt:16: The code's shape. */
 INLINE code_Shape window_tests_head_shape_of(record_Layout layout)
 {
     code_Shape result;
@@ -6643,7 +6685,7 @@ INLINE code_Shape window_tests_head_shape_of(record_Layout layout)
     return result;
 }
 
-/* rows, src/row.rt:52: The element of field 1 at place j. */
+/* rows, src/row.rt:57: The element of field 1 at place j. */
 INLINE field_block_Block rows_row_binary_at(slice v, uint64_t j)
 {
     field_block_Block result;
@@ -6659,7 +6701,7 @@ INLINE field_block_Block rows_row_binary_at(slice v, uint64_t j)
     return result;
 }
 
-/* aes_rows, src/lib.rt:27: Column 2 of a round of s, with its round key's column, without what the byte in row 0 adds, which comes of
+/* aes_rows, src/lib.rt:24: Column 2 of a round of s, with its round key's column, without what the byte in row 0 adds, which comes of
  * column 2 of s. */
 INLINE uint8_4 aes_rows_without_row0(char *tables, char *s, uint64_t k)
 {
@@ -6692,7 +6734,7 @@ INLINE uint8_4 aes_rows_without_row0(char *tables, char *s, uint64_t k)
     return result;
 }
 
-/* aes_rows, src/lib.rt:45: Column 0 of it without what the byte in row 2 adds, which comes of column 2 too. */
+/* aes_rows, src/lib.rt:42: Column 0 of it without what the byte in row 2 adds, which comes of column 2 too. */
 INLINE uint8_4 aes_rows_without_row2(char *tables, char *s, uint64_t k)
 {
     uint8_4 result;
@@ -6724,7 +6766,7 @@ INLINE uint8_4 aes_rows_without_row2(char *tables, char *s, uint64_t k)
     return result;
 }
 
-/* aes_rows, src/lib.rt:37: Column 1 of it without what the byte in row 1 adds, which comes of column 2 too. */
+/* aes_rows, src/lib.rt:34: Column 1 of it without what the byte in row 1 adds, which comes of column 2 too. */
 INLINE uint8_4 aes_rows_without_row1(char *tables, char *s, uint64_t k)
 {
     uint8_4 result;
@@ -6756,7 +6798,7 @@ INLINE uint8_4 aes_rows_without_row1(char *tables, char *s, uint64_t k)
     return result;
 }
 
-/* aes_rows, src/lib.rt:53: Column 3 of it without what the byte in row 3 adds, which comes of column 2 too. */
+/* aes_rows, src/lib.rt:50: Column 3 of it without what the byte in row 3 adds, which comes of column 2 too. */
 INLINE uint8_4 aes_rows_without_row3(char *tables, char *s, uint64_t k)
 {
     uint8_4 result;
@@ -6788,7 +6830,7 @@ INLINE uint8_4 aes_rows_without_row3(char *tables, char *s, uint64_t k)
     return result;
 }
 
-/* aes_rows, src/lib.rt:61: The states after rounds 1 and 2 that the blocks of x and i share, for one x: each without what the bytes that
+/* aes_rows, src/lib.rt:58: The states after rounds 1 and 2 that the blocks of x and i share, for one x: each without what the bytes that
  * differ add. */
 static uint8_4_4_2 aes_rows_share(char *tables, char *keys, uint64_t x)
 {
@@ -6844,7 +6886,7 @@ static uint8_4_4_2 aes_rows_share(char *tables, char *keys, uint64_t x)
     return result;
 }
 
-/* aes_rows, src/lib.rt:76: Column c of a state with the entry for a byte of the table that begins at a place. */
+/* aes_rows, src/lib.rt:73: Column c of a state with the entry for a byte of the table that begins at a place. */
 INLINE uint8_4 aes_rows_with_entry(char *tables, char *s, uint64_t c, uint64_t at, uint8_t x)
 {
     uint8_4 result;
@@ -6882,7 +6924,7 @@ INLINE uint8_4 aes_rows_with_entry(char *tables, char *s, uint64_t c, uint64_t a
     return result;
 }
 
-/* aes_rows, src/lib.rt:84: The state of the block of x and i after round 1, from the state that the blocks share: one lookup, for column
+/* aes_rows, src/lib.rt:81: The state of the block of x and i after round 1, from the state that the blocks share: one lookup, for column
  * 2. */
 INLINE uint8_4_4 aes_rows_first_round(char *tables, char *keys, uint8_4_4 s, uint64_t i)
 {
@@ -6913,7 +6955,7 @@ INLINE uint8_4_4 aes_rows_first_round(char *tables, char *keys, uint8_4_4 s, uin
     return result;
 }
 
-/* aes_rows, src/lib.rt:94: Its state after round 2, from the state that they share and from its state t after round 1: one lookup for
+/* aes_rows, src/lib.rt:91: Its state after round 2, from the state that they share and from its state t after round 1: one lookup for
  * each column. */
 INLINE uint8_4_4 aes_rows_second_round(char *tables, uint8_4_4 s, uint8_4_4 t)
 {
@@ -6955,7 +6997,7 @@ INLINE uint8_4_4 aes_rows_second_round(char *tables, uint8_4_4 s, uint8_4_4 t)
     return result;
 }
 
-/* aes_rows, src/lib.rt:106: The first words of the ciphers of the blocks of x and i, and of x and i + 1, in alternation. */
+/* aes_rows, src/lib.rt:103: The first words of the ciphers of the blocks of x and i, and of x and i + 1, in alternation. */
 static aes_rows_TwoWords aes_rows_two_words(char *tables, char *keys, uint64_t x, uint8_4_4_2 shared, uint64_t i)
 {
     aes_rows_TwoWords result;
@@ -7005,7 +7047,7 @@ static aes_rows_TwoWords aes_rows_two_words(char *tables, char *keys, uint64_t x
     return result;
 }
 
-/* aes_rows, src/lib.rt:144: The ciphers of the blocks of x and i, and of x and i + 1, in alternation. */
+/* aes_rows, src/lib.rt:141: The ciphers of the blocks of x and i, and of x and i + 1, in alternation. */
 static aes_blocks_TwoBlocks aes_rows_two_blocks(char *tables, char *keys, uint64_t x, uint8_4_4_2 shared, uint64_t i)
 {
     aes_blocks_TwoBlocks result;
@@ -7055,28 +7097,29 @@ static aes_blocks_TwoBlocks aes_rows_two_blocks(char *tables, char *keys, uint64
     return result;
 }
 
-/* rows_noise, src/noise_binary.rt:27: Sums of field 1 at the noise end with term i added, by the first word of its block. */
+/* rows_noise, src/noise_binary.rt:21: Sums of field 1 at the noise end with term i added, by the first word of its block. */
 INLINE rows_row_BinaryPair rows_noise_noise_binary_noise_term_binary(code_Shape shape, uint64_t i, uint64_t word, slice noise, slice v,
     rows_row_BinaryPair sums)
 {
     rows_row_BinaryPair result;
     uint64_t j, bit, t11;
     char *t10;
-    field_block_Block t12, t13;
-    bool t14;
+    field_block_Block t12, t13, t14;
+    bool t15;
     j = code_places_row_place_of(shape, i, word);
     t10 = (char *)((uint64_t *)noise.at + j);
     t11 = *(uint64_t *)t10;
     bit = t11;
     t11 = field_block_add_bits(sums.u, bit);
-    t13 = rows_row_binary_at(v, j);
-    t12 = field_block_Block_add(sums.v, t13);
-    t14 = code_places_used_still_below(sums.admitted, bit, 2ull);
-    result = (rows_row_BinaryPair){t11, t12, t14};
+    t13 = sums.v;
+    t14 = rows_row_binary_at(v, j);
+    t12 = field_block_Block_add(t13, t14);
+    t15 = code_places_used_still_below(sums.admitted, bit, 2ull);
+    result = (rows_row_BinaryPair){t11, t12, t15};
     return result;
 }
 
-/* rows_noise, src/noise_binary.rt:49: Two terms of a row at the noise end in field 1, from term i on, or the one that is left. */
+/* rows_noise, src/noise_binary.rt:43: Two terms of a row at the noise end in field 1, from term i on, or the one that is left. */
 INLINE rows_row_BinaryPair rows_noise_noise_binary_noise_turn_binary(char *tables, char *keys, rows_row_CodeRow row, uint8_4_4_2 shared,
     uint64_t i, slice noise, slice v, rows_row_BinaryPair sums)
 {
@@ -7101,7 +7144,7 @@ INLINE rows_row_BinaryPair rows_noise_noise_binary_noise_turn_binary(char *table
     return result;
 }
 
-/* rows_noise, src/noise_binary.rt:75: Row x of u and v in field 1. */
+/* rows_noise, src/noise_binary.rt:69: Row x of u and v in field 1. */
 static rows_row_BinaryPair rows_noise_noise_binary_noise_row_binary(char *tables, char *keys, code_Shape shape, uint64_t x, slice noise,
     slice v)
 {
@@ -7130,7 +7173,7 @@ static rows_row_BinaryPair rows_noise_noise_binary_noise_row_binary(char *tables
     return result;
 }
 
-/* rows_noise, src/noise_prime.rt:29: Sums of field 2 at the noise end with term i added, by its block. */
+/* rows_noise, src/noise_prime.rt:23: Sums of field 2 at the noise end with term i added, by its block. */
 INLINE rows_row_PrimeSums rows_noise_noise_prime_noise_term_prime(code_Shape shape, uint64_t i, field_block_Block block, slice noise, slice
     v, rows_row_PrimeSums sums)
 {
@@ -7155,32 +7198,35 @@ INLINE rows_row_PrimeSums rows_noise_noise_prime_noise_term_prime(code_Shape sha
     return result;
 }
 
-/* rows_noise, src/noise_prime.rt:53: Two terms of a row at the noise end in field 2. */
+/* rows_noise, src/noise_prime.rt:47: Two terms of a row at the noise end in field 2. */
 INLINE rows_row_PrimeSums rows_noise_noise_prime_noise_turn_prime(char *tables, char *keys, rows_row_CodeRow row, uint8_4_4_2 shared,
     uint64_t i, slice noise, slice v, rows_row_PrimeSums sums)
 {
-    rows_row_PrimeSums result, next, t15;
+    rows_row_PrimeSums result, next, t16;
     code_Shape shape;
     aes_blocks_TwoBlocks pair;
-    uint64_t t12, t13, t16;
-    bool t14;
+    uint64_t t12, t14, t17;
+    field_block_Block t13, t18;
+    bool t15;
     shape = row.shape;
     t12 = i;
     pair = aes_rows_two_blocks(tables, keys, row.x, shared, t12);
-    next = rows_noise_noise_prime_noise_term_prime(shape, i, pair.one, noise, v, sums);
-    t13 = i + 1ull;
-    t14 = t13 < shape.terms;
-    if (t14) {
-        t16 = i + 1ull;
-        t15 = rows_noise_noise_prime_noise_term_prime(shape, t16, pair.other, noise, v, next);
+    t13 = pair.one;
+    next = rows_noise_noise_prime_noise_term_prime(shape, i, t13, noise, v, sums);
+    t14 = i + 1ull;
+    t15 = t14 < shape.terms;
+    if (t15) {
+        t17 = i + 1ull;
+        t18 = pair.other;
+        t16 = rows_noise_noise_prime_noise_term_prime(shape, t17, t18, noise, v, next);
     } else {
-        t15 = next;
+        t16 = next;
     }
-    result = t15;
+    result = t16;
     return result;
 }
 
-/* rows_noise, src/noise_prime.rt:80: Row x of u and v in field 2. */
+/* rows_noise, src/noise_prime.rt:74: Row x of u and v in field 2. */
 static rows_row_PrimePair rows_noise_noise_prime_noise_row_prime(char *tables, char *keys, code_Shape shape, uint64_t x, slice noise, slice
     v)
 {
@@ -7211,7 +7257,7 @@ static rows_row_PrimePair rows_noise_noise_prime_noise_row_prime(char *tables, c
     return result;
 }
 
-/* rows_scalar, src/scalar_binary.rt:22: A sum of field 1 at the scalar end with term i added. */
+/* rows_scalar, src/scalar_binary.rt:19: A sum of field 1 at the scalar end with term i added. */
 INLINE field_block_Block rows_scalar_scalar_binary_scalar_term_binary(code_Shape shape, uint64_t i, uint64_t word, slice w,
     field_block_Block total)
 {
@@ -7223,7 +7269,7 @@ INLINE field_block_Block rows_scalar_scalar_binary_scalar_term_binary(code_Shape
     return result;
 }
 
-/* rows_scalar, src/scalar_binary.rt:30: Two terms of a row at the scalar end in field 1. */
+/* rows_scalar, src/scalar_binary.rt:27: Two terms of a row at the scalar end in field 1. */
 INLINE field_block_Block rows_scalar_scalar_binary_scalar_turn_binary(char *tables, char *keys, rows_row_CodeRow row, uint8_4_4_2 shared,
     uint64_t i, slice w, field_block_Block total)
 {
@@ -7248,7 +7294,7 @@ INLINE field_block_Block rows_scalar_scalar_binary_scalar_turn_binary(char *tabl
     return result;
 }
 
-/* rows_scalar, src/scalar_binary.rt:55: Row x of w in field 1. */
+/* rows_scalar, src/scalar_binary.rt:52: Row x of w in field 1. */
 static field_block_Block rows_scalar_scalar_binary_scalar_row_binary(char *tables, char *keys, code_Shape shape, uint64_t x, slice w)
 {
     field_block_Block result, total, next;
@@ -7274,7 +7320,7 @@ static field_block_Block rows_scalar_scalar_binary_scalar_row_binary(char *table
     return result;
 }
 
-/* rows_scalar, src/scalar_prime.rt:28: A sum of field 2 at the scalar end with term i added. */
+/* rows_scalar, src/scalar_prime.rt:23: A sum of field 2 at the scalar end with term i added. */
 INLINE rows_row_PrimeSum rows_scalar_scalar_prime_scalar_term_prime(code_Shape shape, uint64_t i, field_block_Block block, slice w,
     rows_row_PrimeSum sum)
 {
@@ -7293,32 +7339,35 @@ INLINE rows_row_PrimeSum rows_scalar_scalar_prime_scalar_term_prime(code_Shape s
     return result;
 }
 
-/* rows_scalar, src/scalar_prime.rt:40: Two terms of a row at the scalar end in field 2. */
+/* rows_scalar, src/scalar_prime.rt:35: Two terms of a row at the scalar end in field 2. */
 INLINE rows_row_PrimeSum rows_scalar_scalar_prime_scalar_turn_prime(char *tables, char *keys, rows_row_CodeRow row, uint8_4_4_2 shared,
     uint64_t i, slice w, rows_row_PrimeSum sum)
 {
-    rows_row_PrimeSum result, next, t14;
+    rows_row_PrimeSum result, next, t15;
     code_Shape shape;
     aes_blocks_TwoBlocks pair;
-    uint64_t t11, t12, t15;
-    bool t13;
+    uint64_t t11, t13, t16;
+    field_block_Block t12, t17;
+    bool t14;
     shape = row.shape;
     t11 = i;
     pair = aes_rows_two_blocks(tables, keys, row.x, shared, t11);
-    next = rows_scalar_scalar_prime_scalar_term_prime(shape, i, pair.one, w, sum);
-    t12 = i + 1ull;
-    t13 = t12 < shape.terms;
-    if (t13) {
-        t15 = i + 1ull;
-        t14 = rows_scalar_scalar_prime_scalar_term_prime(shape, t15, pair.other, w, next);
+    t12 = pair.one;
+    next = rows_scalar_scalar_prime_scalar_term_prime(shape, i, t12, w, sum);
+    t13 = i + 1ull;
+    t14 = t13 < shape.terms;
+    if (t14) {
+        t16 = i + 1ull;
+        t17 = pair.other;
+        t15 = rows_scalar_scalar_prime_scalar_term_prime(shape, t16, t17, w, next);
     } else {
-        t14 = next;
+        t15 = next;
     }
-    result = t14;
+    result = t15;
     return result;
 }
 
-/* rows_scalar, src/scalar_prime.rt:65: Row x of w in field 2. */
+/* rows_scalar, src/scalar_prime.rt:60: Row x of w in field 2. */
 static rows_row_PrimeRow rows_scalar_scalar_prime_scalar_row_prime(char *tables, char *keys, code_Shape shape, uint64_t x, slice w)
 {
     rows_row_PrimeRow result;
@@ -7347,65 +7396,76 @@ static rows_row_PrimeRow rows_scalar_scalar_prime_scalar_row_prime(char *tables,
     return result;
 }
 
-/* window_rows, src/walk.rt:20: Writes output k of the window in field 1, with its word of u if rows give one; whether every word of the
+/* window_rows, src/walk.rt:16: Writes output k of the window in field 1, with its word of u if rows give one; whether every word of the
  * noise that the row uses is a bit. */
 INLINE bool window_rows_walk_write_binary(char *tables, char *keys, window_WindowRows rows, uint64_t k, slice noise, slice v, slice u_out,
     slice v_out)
 {
     bool result, t12;
-    uint64_t x;
-    field_block_Block element;
+    uint64_t x, t18;
+    field_block_Block element, t24;
     rows_row_BinaryPair pair;
-    char *t14, *t17, *t19;
-    slice t15, t20;
+    code_Shape t13, t17;
+    char *t15, *t20, *t22;
+    slice t16, t23;
     x = rows.window.first + k;
     t12 = rows.u_words == 0ull;
     if (t12) {
-        element = rows_scalar_scalar_binary_scalar_row_binary(tables, keys, rows.shape, x, v);
-        t14 = v_out.at;
-        t15 = (slice){t14, v_out.count};
-        field_width_put_block(t15, k, element);
+        t13 = rows.shape;
+        element = rows_scalar_scalar_binary_scalar_row_binary(tables, keys, t13, x, v);
+        t15 = v_out.at;
+        t16 = (slice){t15, v_out.count};
+        field_width_put_block(t16, k, element);
         result = true;
         return result;
     }
-    pair = rows_noise_noise_binary_noise_row_binary(tables, keys, rows.shape, x, noise, v);
-    t17 = (char *)((uint64_t *)u_out.at + k);
-    *(uint64_t *)t17 = pair.u;
-    t19 = v_out.at;
-    t20 = (slice){t19, v_out.count};
-    field_width_put_block(t20, k, pair.v);
+    t17 = rows.shape;
+    pair = rows_noise_noise_binary_noise_row_binary(tables, keys, t17, x, noise, v);
+    t18 = pair.u;
+    t20 = (char *)((uint64_t *)u_out.at + k);
+    *(uint64_t *)t20 = t18;
+    t22 = v_out.at;
+    t23 = (slice){t22, v_out.count};
+    t24 = pair.v;
+    field_width_put_block(t23, k, t24);
     result = pair.admitted;
     return result;
 }
 
-/* window_rows, src/walk.rt:48: Writes row k of a window in field 2, and says whether every word that the row uses is an element. */
+/* window_rows, src/walk.rt:44: Writes row k of a window in field 2, and says whether every word that the row uses is an element. */
 INLINE bool window_rows_walk_write_prime(char *tables, char *keys, window_WindowRows rows, uint64_t k, slice noise, slice v, slice u_out,
     slice v_out)
 {
     bool result, t12;
-    uint64_t x;
+    uint64_t x, t14, t18, t21;
     rows_row_PrimeRow row;
     rows_row_PrimePair pair;
-    char *t14, *t16, *t17;
+    code_Shape t13, t17;
+    char *t16, *t20, *t22;
     x = rows.window.first + k;
     t12 = rows.u_words == 0ull;
     if (t12) {
-        row = rows_scalar_scalar_prime_scalar_row_prime(tables, keys, rows.shape, x, v);
-        t14 = (char *)((uint64_t *)v_out.at + k);
-        *(uint64_t *)t14 = row.w.word;
+        t13 = rows.shape;
+        row = rows_scalar_scalar_prime_scalar_row_prime(tables, keys, t13, x, v);
+        t14 = row.w.word;
+        t16 = (char *)((uint64_t *)v_out.at + k);
+        *(uint64_t *)t16 = t14;
         result = row.admitted;
         return result;
     }
-    pair = rows_noise_noise_prime_noise_row_prime(tables, keys, rows.shape, x, noise, v);
-    t16 = (char *)((uint64_t *)u_out.at + k);
-    *(uint64_t *)t16 = pair.u.word;
-    t17 = (char *)((uint64_t *)v_out.at + k);
-    *(uint64_t *)t17 = pair.v.word;
+    t17 = rows.shape;
+    pair = rows_noise_noise_prime_noise_row_prime(tables, keys, t17, x, noise, v);
+    t18 = pair.u.word;
+    t20 = (char *)((uint64_t *)u_out.at + k);
+    *(uint64_t *)t20 = t18;
+    t21 = pair.v.word;
+    t22 = (char *)((uint64_t *)v_out.at + k);
+    *(uint64_t *)t22 = t21;
     result = pair.admitted;
     return result;
 }
 
-/* window_rows, src/walk.rt:76: Writes row k of a window in the field of the rows, and says whether every word that the row uses is
+/* window_rows, src/walk.rt:72: Writes row k of a window in the field of the rows, and says whether every word that the row uses is
  * admitted. */
 INLINE bool window_rows_walk_write_row(char *tables, char *keys, window_WindowRows rows, uint64_t k, slice noise, slice v, slice u_out,
     slice v_out)
@@ -7430,7 +7490,7 @@ INLINE bool window_rows_walk_write_row(char *tables, char *keys, window_WindowRo
     return result;
 }
 
-/* window_rows, src/walk.rt:100: Writes the window's words of u, if any are asked for, and its elements; whether every word that its rows
+/* window_rows, src/walk.rt:96: Writes the window's words of u, if any are asked for, and its elements; whether every word that its rows
  * use is a noise value or an element. */
 static bool window_rows_walk_walk_rows(char *tables, char *keys, window_WindowRows rows, slice noise, slice v, slice u_out, slice v_out)
 {
@@ -7457,7 +7517,7 @@ static bool window_rows_walk_walk_rows(char *tables, char *keys, window_WindowRo
     return result;
 }
 
-/* window_write, src/writing.rt:25: Copies the first `count` words to the front of others. */
+/* window_write, src/writing.rt:21: Copies the first `count` words to the front of others. */
 static void window_write_writing_copy_front(slice words, uint64_t count, slice out)
 {
     uint64_t i, t8;
@@ -7477,7 +7537,7 @@ static void window_write_writing_copy_front(slice words, uint64_t count, slice o
     }
 }
 
-/* window_write, src/writing.rt:38: Writes a window of at most 32 outputs, if the words that its rows use are noise values and elements,
+/* window_write, src/writing.rt:34: Writes a window of at most 32 outputs, if the words that its rows use are noise values and elements,
  * and says whether they are: one walk of the rows tests and sums them in memory of its own, from where the window is copied. */
 INLINE bool window_write_writing_write_small(char *tables, char *keys, window_WindowRows rows, slice noise, slice v, slice u_out, slice
     v_out)
@@ -7522,14 +7582,18 @@ INLINE bool window_write_writing_write_small(char *tables, char *keys, window_Wi
 INLINE bool window_write_used_elements_used(char *tables, char *keys, window_WindowRows rows, slice words)
 {
     bool result, t5;
-    uint64_t t6;
+    code_Shape t6;
+    code_Window t7;
+    uint64_t t8;
     t5 = rows.field == 1ull;
     if (t5) {
         result = true;
         return result;
     }
-    t6 = prime_prime_Prime_modulus();
-    result = code_places_used_used_below(tables, keys, rows.shape, rows.window, words, t6);
+    t6 = rows.shape;
+    t7 = rows.window;
+    t8 = prime_prime_Prime_modulus();
+    result = code_places_used_used_below(tables, keys, t6, t7, words, t8);
     return result;
 }
 
@@ -7538,9 +7602,13 @@ INLINE bool window_write_used_elements_used(char *tables, char *keys, window_Win
 INLINE bool window_write_used_all_noise_used(char *tables, char *keys, window_WindowRows rows, slice noise)
 {
     bool result, t5;
+    code_Shape t6;
+    code_Window t7;
     t5 = rows.field == 1ull;
     if (t5) {
-        result = code_places_used_used_below(tables, keys, rows.shape, rows.window, noise, 2ull);
+        t6 = rows.shape;
+        t7 = rows.window;
+        result = code_places_used_used_below(tables, keys, t6, t7, noise, 2ull);
         return result;
     }
     result = window_write_used_elements_used(tables, keys, rows, noise);
@@ -7560,7 +7628,7 @@ INLINE bool window_write_used_noise_used(char *tables, char *keys, window_Window
     return result;
 }
 
-/* window_write, src/writing.rt:65: Writes any window, if the words that its rows use are noise values and elements, and says whether
+/* window_write, src/writing.rt:61: Writes any window, if the words that its rows use are noise values and elements, and says whether
  * they are: one of more than 32 outputs is tested before its rows are walked to write it. */
 INLINE bool window_write_writing_write_tested(char *tables, char *keys, window_WindowRows rows, slice noise, slice v, slice u_out, slice
     v_out)
@@ -7598,7 +7666,7 @@ INLINE bool window_write_writing_write_tested(char *tables, char *keys, window_W
     return result;
 }
 
-/* window_write, src/writing.rt:94: Writes a window of any size under a record's code key. `u_words` is the window's count at the noise
+/* window_write, src/writing.rt:90: Writes a window of any size under a record's code key. `u_words` is the window's count at the noise
  * end, 0 at the scalar end. */
 INLINE bool window_write_writing_write_rows(slice source, record_Layout layout, code_Window window, uint64_t u_words, slice noise, slice v,
     slice u_out, slice v_out)
@@ -7632,7 +7700,7 @@ INLINE bool window_write_writing_write_rows(slice source, record_Layout layout, 
     return result;
 }
 
-/* ends_calls, src/noise_trees.rt:28: The tree at a place of an accepted record, whose trees have `treeSiblings` siblings, after
+/* ends_calls, src/noise_trees.rt:22: The tree at a place of an accepted record, whose trees have `tree_siblings` siblings, after
  * positions below `base`: its position is a leaf's, and its siblings lie in the record. */
 INLINE record_Tree ends_calls_noise_trees_tree_at(slice source, record_Layout layout, uint64_t siblings, uint64_t at, uint64_t base)
 {
@@ -7641,19 +7709,19 @@ INLINE record_Tree ends_calls_noise_trees_tree_at(slice source, record_Layout la
     return result;
 }
 
-/* ends_calls, src/noise_trees.rt:38: Writes μ and v0: at each tree's position its noise value, and the leaves of all trees, of 2^g
+/* ends_calls, src/noise_trees.rt:32: Writes μ and v0: at each tree's position its noise value, and the leaves of all trees, of 2^g
  * children a node (document 02, 10), a tree's correction at its position. */
 static void ends_calls_noise_trees_write_trees(slice source, record_Layout layout, slice noise, slice v)
 {
     uint8_256 sb, t16;
     uint64_1536 tables;
     uint64_40_8 keys, t19;
-    uint64_t siblings, at, base, i, position, t26;
+    uint64_t siblings, at, base, i, position, t26, t27;
     record_Tree tree;
     tree_punctured_Punctured punctured;
     uint64_2 correction;
-    char *t18, *t20, *t21, *t23, *t27, *t29, *t30, *t31;
-    slice t22, t24, t32;
+    char *t18, *t20, *t21, *t23, *t28, *t30, *t31, *t32;
+    slice t22, t24, t33;
     bool t25;
     t16 = aes_sbox_table();
     sb = t16;
@@ -7681,25 +7749,26 @@ static void ends_calls_noise_trees_write_trees(slice source, record_Layout layou
         }
         tree = ends_calls_noise_trees_tree_at(source, layout, siblings, at, base);
         position = tree.position;
-        t26 = position * 8ull;
-        t27 = (char *)((uint64_t *)noise.at + position);
-        *(uint64_t *)t27 = tree.value;
-        t26 = layout.depth / layout.branch_bits;
-        punctured = (tree_punctured_Punctured){layout.branch_bits, t26, position, tree.siblings};
+        t26 = tree.value;
+        t27 = position * 8ull;
+        t28 = (char *)((uint64_t *)noise.at + position);
+        *(uint64_t *)t28 = t26;
+        t27 = layout.depth / layout.branch_bits;
+        punctured = (tree_punctured_Punctured){layout.branch_bits, t27, position, tree.siblings};
         correction = (uint64_2){{tree.low, tree.high}};
-        t29 = (char *)&tables;
-        t30 = (char *)&keys;
-        t31 = v.at;
-        t32 = (slice){t31, v.count};
-        tree_fill_fill_add_punctured(t29, t30, layout.field, punctured, source, correction, t32);
-        t26 = 16ull * siblings;
-        at = tree.siblings + t26;
+        t30 = (char *)&tables;
+        t31 = (char *)&keys;
+        t32 = v.at;
+        t33 = (slice){t32, v.count};
+        tree_fill_fill_add_punctured(t30, t31, layout.field, punctured, source, correction, t33);
+        t27 = 16ull * siblings;
+        at = tree.siblings + t27;
         base = position + 1ull;
         i = i + 1ull;
     }
 }
 
-/* ends_calls, src/noise_trees.rt:80: Writes the accumulated μ and v0. */
+/* ends_calls, src/noise_trees.rt:74: Writes the accumulated μ and v0. */
 INLINE void ends_calls_noise_trees_write_accumulated(slice source, record_Layout layout, slice noise, slice v)
 {
     char *t6, *t8, *t11, *t13;
@@ -7719,7 +7788,7 @@ INLINE void ends_calls_noise_trees_write_accumulated(slice source, record_Layout
     code_sums_accumulation_accumulate_noise(layout.field, t14);
 }
 
-/* ends_calls, src/noise.rt:24: Writes the accumulated μ to the front of noise, and the accumulated v0 to the front of v. */
+/* ends_calls, src/noise.rt:18: Writes the accumulated μ to the front of noise, and the accumulated v0 to the front of v. */
 INLINE answer_TwoLengths ends_calls_noise_offline(slice source, slice noise, slice v)
 {
     answer_TwoLengths result;
@@ -7763,7 +7832,7 @@ INLINE answer_TwoLengths ends_calls_noise_offline(slice source, slice noise, sli
     return result;
 }
 
-/* ends_calls, src/scalar_trees.rt:24: Root i of an accepted record. */
+/* ends_calls, src/scalar_trees.rt:18: Root i of an accepted record. */
 INLINE uint8_4_4 ends_calls_scalar_trees_root_at(slice source, record_Layout layout, uint64_t i)
 {
     uint8_4_4 result;
@@ -7777,7 +7846,7 @@ INLINE uint8_4_4 ends_calls_scalar_trees_root_at(slice source, record_Layout lay
     return result;
 }
 
-/* ends_calls, src/scalar_trees.rt:35: Writes w0: the leaves of all trees, of 2^g children a node (document 02, 10). */
+/* ends_calls, src/scalar_trees.rt:29: Writes w0: the leaves of all trees, of 2^g children a node (document 02, 10). */
 static void ends_calls_scalar_trees_write_trees(slice source, record_Layout layout, slice w)
 {
     uint8_256 sb, t10;
@@ -7817,7 +7886,7 @@ static void ends_calls_scalar_trees_write_trees(slice source, record_Layout layo
     }
 }
 
-/* ends_calls, src/scalar_trees.rt:62: Writes the accumulated w0. */
+/* ends_calls, src/scalar_trees.rt:56: Writes the accumulated w0. */
 INLINE void ends_calls_scalar_trees_write_accumulated(slice source, record_Layout layout, slice w)
 {
     char *t5, *t8;
@@ -7832,7 +7901,7 @@ INLINE void ends_calls_scalar_trees_write_accumulated(slice source, record_Layou
     code_sums_accumulation_accumulate_elements(layout.field, t7, t9);
 }
 
-/* ends_calls, src/scalar_trees.rt:72: Writes the two words of Δ of an accepted record. */
+/* ends_calls, src/scalar_trees.rt:66: Writes the two words of Δ of an accepted record. */
 INLINE void ends_calls_scalar_trees_write_delta(slice source, record_Layout layout, slice delta)
 {
     uint64_t t4, t7, t8;
@@ -7853,7 +7922,7 @@ INLINE void ends_calls_scalar_trees_write_delta(slice source, record_Layout layo
     }
 }
 
-/* ends_calls, src/scalar.rt:25: Writes the accumulated w0 to the front of w, and the two words of Δ. */
+/* ends_calls, src/scalar.rt:17: Writes the accumulated w0 to the front of w, and the two words of Δ. */
 static answer_TwoLengths ends_calls_scalar_offline(slice source, slice w, slice delta)
 {
     answer_TwoLengths result;
@@ -7897,7 +7966,7 @@ static answer_TwoLengths ends_calls_scalar_offline(slice source, slice w, slice 
     return result;
 }
 
-/* ends_calls, src/noise.rt:49: Writes the window's outputs of the accumulated vectors: u to the front of u_out, v to the front of v_out. */
+/* ends_calls, src/noise.rt:43: Writes the window's outputs of the accumulated vectors: u to the front of u_out, v to the front of v_out. */
 INLINE answer_TwoLengths ends_calls_noise_online(slice source, slice noise, slice v, uint64_t first, uint64_t count, slice u_out, slice
     v_out)
 {
@@ -7947,7 +8016,7 @@ INLINE answer_TwoLengths ends_calls_noise_online(slice source, slice noise, slic
     return result;
 }
 
-/* ends_calls, src/scalar.rt:50: Writes the window's outputs of the accumulated vector w to the front of w_out. */
+/* ends_calls, src/scalar.rt:42: Writes the window's outputs of the accumulated vector w to the front of w_out. */
 static answer_OneLength ends_calls_scalar_online(slice source, slice w, uint64_t first, uint64_t count, slice w_out)
 {
     answer_OneLength result;
@@ -7997,41 +8066,44 @@ static answer_OneLength ends_calls_scalar_online(slice source, slice w, uint64_t
     return result;
 }
 
-/* ends_bench_leaves, src/table.rt:28: Puts a tree into the table. */
+/* ends_bench_leaves, src/table.rt:26: Puts a tree into the table. */
 INLINE void ends_bench_leaves_table_put_tree(char *table, uint64_t i, record_Tree tree)
 {
-    uint64_t at, t5, t6, t9;
-    char *t7, *t8, *t10, *t11, *t12, *t13, *t14, *t15, *t16, *t17;
+    uint64_t at, t5, t6, t9, t10, t13, t16;
+    char *t7, *t8, *t11, *t12, *t14, *t15, *t17, *t18, *t19, *t20;
     at = 5ull * i;
     t5 = tree.position;
     t6 = at * 8ull;
     t7 = table;
     t8 = (char *)((uint64_t *)t7 + at);
     *(uint64_t *)t8 = t5;
+    t9 = tree.value;
     t6 = at + 1ull;
-    t9 = t6 * 8ull;
-    t10 = table;
-    t11 = (char *)((uint64_t *)t10 + t6);
-    *(uint64_t *)t11 = tree.value;
+    t10 = t6 * 8ull;
+    t11 = table;
+    t12 = (char *)((uint64_t *)t11 + t6);
+    *(uint64_t *)t12 = t9;
+    t13 = tree.low;
     t6 = at + 2ull;
-    t9 = t6 * 8ull;
-    t12 = table;
-    t13 = (char *)((uint64_t *)t12 + t6);
-    *(uint64_t *)t13 = tree.low;
-    t6 = at + 3ull;
-    t9 = t6 * 8ull;
+    t10 = t6 * 8ull;
     t14 = table;
     t15 = (char *)((uint64_t *)t14 + t6);
-    *(uint64_t *)t15 = tree.high;
+    *(uint64_t *)t15 = t13;
+    t16 = tree.high;
+    t6 = at + 3ull;
+    t10 = t6 * 8ull;
+    t17 = table;
+    t18 = (char *)((uint64_t *)t17 + t6);
+    *(uint64_t *)t18 = t16;
     t5 = tree.siblings;
-    t9 = at + 4ull;
-    t6 = t9 * 8ull;
-    t16 = table;
-    t17 = (char *)((uint64_t *)t16 + t9);
-    *(uint64_t *)t17 = t5;
+    t10 = at + 4ull;
+    t6 = t10 * 8ull;
+    t19 = table;
+    t20 = (char *)((uint64_t *)t19 + t10);
+    *(uint64_t *)t20 = t5;
 }
 
-/* ends_bench_leaves, src/table.rt:41: The table of an accepted record's trees. */
+/* ends_bench_leaves, src/table.rt:39: The table of an accepted record's trees. */
 static uint64_320 ends_bench_leaves_table_tree_table(slice source, record_Layout layout)
 {
     uint64_320 result, table;
@@ -8062,7 +8134,7 @@ static uint64_320 ends_bench_leaves_table_tree_table(slice source, record_Layout
     return result;
 }
 
-/* ends_bench_leaves, src/table.rt:13: Tree i of the table. */
+/* ends_bench_leaves, src/table.rt:11: Tree i of the table. */
 INLINE record_Tree ends_bench_leaves_table_tree_at(char *table, uint64_t i)
 {
     record_Tree result;
@@ -8094,7 +8166,7 @@ INLINE record_Tree ends_bench_leaves_table_tree_at(char *table, uint64_t i)
     return result;
 }
 
-/* ends_bench_leaves, src/values.rt:149: The noise value of tree i if it is punctured at j, else the one given. */
+/* ends_bench_leaves, src/values.rt:142: The noise value of tree i if it is punctured at j, else the one given. */
 INLINE uint64_t ends_bench_leaves_values_noise_of(char *table, uint64_t i, uint64_t j, uint64_t noise)
 {
     uint64_t result;
@@ -8110,7 +8182,7 @@ INLINE uint64_t ends_bench_leaves_values_noise_of(char *table, uint64_t i, uint6
     return result;
 }
 
-/* ends_bench_leaves, src/values.rt:161: μ at place j. */
+/* ends_bench_leaves, src/values.rt:154: μ at place j. */
 static uint64_t ends_bench_leaves_values_noise_at(char *table, uint64_t trees, uint64_t j)
 {
     uint64_t result, noise, i;
@@ -8129,7 +8201,7 @@ static uint64_t ends_bench_leaves_values_noise_at(char *table, uint64_t trees, u
     return result;
 }
 
-/* ends_bench_leaves, src/trees.rt:23: Whether tree i is punctured at j, which at the scalar end none is. */
+/* ends_bench_leaves, src/trees.rt:20: Whether tree i is punctured at j, which at the scalar end none is. */
 INLINE bool ends_bench_leaves_trees_punctured_at(uint64_t vector, char *table, uint64_t i, uint64_t j)
 {
     bool result, t6;
@@ -8144,7 +8216,7 @@ INLINE bool ends_bench_leaves_trees_punctured_at(uint64_t vector, char *table, u
     return result;
 }
 
-/* ends_bench_leaves, src/trees.rt:35: Whether tree i or the next is punctured at j. */
+/* ends_bench_leaves, src/trees.rt:32: Whether tree i or the next is punctured at j. */
 INLINE bool ends_bench_leaves_trees_either_punctured(uint64_t vector, char *table, uint64_t i, uint64_t j)
 {
     bool result, t5;
@@ -8159,7 +8231,7 @@ INLINE bool ends_bench_leaves_trees_either_punctured(uint64_t vector, char *tabl
     return result;
 }
 
-/* ends_bench_leaves, src/trees.rt:15: The place of root i. */
+/* ends_bench_leaves, src/trees.rt:12: The place of root i. */
 INLINE uint64_t ends_bench_leaves_trees_root_place(slice source, record_Layout layout, uint64_t i)
 {
     uint64_t result, t4, t5, t6, t7;
@@ -8172,7 +8244,7 @@ INLINE uint64_t ends_bench_leaves_trees_root_place(slice source, record_Layout l
     return result;
 }
 
-/* ends_bench_leaves, src/trees.rt:46: Where the walk to leaf j of tree i starts, which is not punctured there. */
+/* ends_bench_leaves, src/trees.rt:43: Where the walk to leaf j of tree i starts, which is not punctured there. */
 INLINE tree_walk_down_Start ends_bench_leaves_trees_start_at(slice source, char *table, uint64_t vector, record_Layout layout, uint64_t i,
     uint64_t j)
 {
@@ -8192,7 +8264,7 @@ INLINE tree_walk_down_Start ends_bench_leaves_trees_start_at(slice source, char 
     return result;
 }
 
-/* ends_bench_leaves, src/values.rt:32: The element of leaf j of tree i, walked alone; the correction stands in for a punctured leaf. */
+/* ends_bench_leaves, src/values.rt:25: The element of leaf j of tree i, walked alone; the correction stands in for a punctured leaf. */
 static field_element_Element ends_bench_leaves_values_leaf_of(char *tables, char *keys, slice source, char *table,
     ends_bench_leaves_values_Vector vector, uint64_t i, uint64_t j)
 {
@@ -8234,31 +8306,33 @@ INLINE aes_blocks_TwoBlocks ends_bench_leaves_walk_walk_two(char *tables, char *
     return result;
 }
 
-/* ends_bench_leaves, src/values.rt:61: The sum of the elements of leaf j below two blocks. */
+/* ends_bench_leaves, src/values.rt:54: The sum of the elements of leaf j below two blocks. */
 static field_element_Element ends_bench_leaves_values_two_walked(char *tables, char *keys, slice source, record_Layout layout, uint64_t
     a_at, uint64_t a_left, uint64_t b_at, uint64_t b_left, uint64_t j)
 {
-    field_element_Element result, t12, t14;
+    field_element_Element result, t12, t15;
     tree_walk_down_Start a, b;
     ends_bench_leaves_walk_Levels levels;
-    field_block_Block one, other;
+    field_block_Block one, other, t14, t17;
     aes_blocks_TwoBlocks leaves;
-    uint8_4_4 t13, t15;
+    uint8_4_4 t13, t16;
     a = (tree_walk_down_Start){a_at, a_left};
     b = (tree_walk_down_Start){b_at, b_left};
     levels = (ends_bench_leaves_walk_Levels){layout.branch_bits, a.left, b.left};
     one = tree_walk_columns_node_at(source, a.at);
     other = tree_walk_columns_node_at(source, b.at);
     leaves = ends_bench_leaves_walk_walk_two(tables, keys, levels, one, other, j);
-    t13 = field_block_Block_columns(leaves.one);
+    t14 = leaves.one;
+    t13 = field_block_Block_columns(t14);
     t12 = field_element_leaf_element(layout.field, t13);
-    t15 = field_block_Block_columns(leaves.other);
-    t14 = field_element_leaf_element(layout.field, t15);
-    result = field_element_element_sum(layout.field, t12, t14);
+    t17 = leaves.other;
+    t16 = field_block_Block_columns(t17);
+    t15 = field_element_leaf_element(layout.field, t16);
+    result = field_element_element_sum(layout.field, t12, t15);
     return result;
 }
 
-/* ends_bench_leaves, src/values.rt:90: The sum of the elements of leaf j of trees i and i + 1. */
+/* ends_bench_leaves, src/values.rt:83: The sum of the elements of leaf j of trees i and i + 1. */
 INLINE field_element_Element ends_bench_leaves_values_two_leaves(char *tables, char *keys, slice source, char *table,
     ends_bench_leaves_values_Vector vector, uint64_t i, uint64_t j)
 {
@@ -8283,7 +8357,7 @@ INLINE field_element_Element ends_bench_leaves_values_two_leaves(char *tables, c
     return result;
 }
 
-/* ends_bench_leaves, src/values.rt:118: The sum of the elements of leaf j of all trees. */
+/* ends_bench_leaves, src/values.rt:111: The sum of the elements of leaf j of all trees. */
 static field_element_Element ends_bench_leaves_values_leaves_sum(char *tables, char *keys, slice source, char *table,
     ends_bench_leaves_values_Vector vector, uint64_t j)
 {
@@ -8315,7 +8389,7 @@ static field_element_Element ends_bench_leaves_values_leaves_sum(char *tables, c
     return result;
 }
 
-/* ends_bench_leaves, src/values.rt:175: The vector's value at place j. */
+/* ends_bench_leaves, src/values.rt:168: The vector's value at place j. */
 INLINE field_element_Element ends_bench_leaves_values_value_at(char *tables, char *keys, slice source, char *table,
     ends_bench_leaves_values_Vector vector, uint64_t j)
 {
@@ -8332,21 +8406,22 @@ INLINE field_element_Element ends_bench_leaves_values_value_at(char *tables, cha
     return result;
 }
 
-/* ends_bench_leaves, src/elements.rt:47: Adds entry × element to element k of the outputs in field 2. */
+/* ends_bench_leaves, src/elements.rt:42: Adds entry × element to element k of the outputs in field 2. */
 INLINE void ends_bench_leaves_elements_add_prime(uint64_t k, uint64_t entry, uint64_t word, slice out)
 {
-    uint64_t total, t9;
+    uint64_t total, t9, t10;
     prime_prime_Prime sum;
-    char *t8, *t10;
+    char *t8, *t11;
     t8 = (char *)((uint64_t *)out.at + k);
     t9 = *(uint64_t *)t8;
     total = prime_prime_Prime_add_product(t9, entry, word);
     sum = prime_prime_Prime_reduce(total);
-    t10 = (char *)((uint64_t *)out.at + k);
-    *(uint64_t *)t10 = sum.word;
+    t10 = sum.word;
+    t11 = (char *)((uint64_t *)out.at + k);
+    *(uint64_t *)t11 = t10;
 }
 
-/* ends_bench_leaves, src/elements.rt:19: Adds entry × bit to bit k of the outputs. */
+/* ends_bench_leaves, src/elements.rt:14: Adds entry × bit to bit k of the outputs. */
 INLINE void ends_bench_leaves_elements_add_bit(uint64_t k, uint64_t entry, uint64_t bit, slice out)
 {
     uint64_t product, t6, t7;
@@ -8361,7 +8436,7 @@ INLINE void ends_bench_leaves_elements_add_bit(uint64_t k, uint64_t entry, uint6
     *(uint64_t *)t11 = t6;
 }
 
-/* ends_bench_leaves, src/elements.rt:29: Adds entry × block to block k of the outputs. */
+/* ends_bench_leaves, src/elements.rt:24: Adds entry × block to block k of the outputs. */
 INLINE void ends_bench_leaves_elements_add_block(uint64_t k, uint64_t entry, field_element_Element element, slice out)
 {
     uint64_t low, t10, t11, t14;
@@ -8383,7 +8458,7 @@ INLINE void ends_bench_leaves_elements_add_block(uint64_t k, uint64_t entry, fie
     field_width_put_block(t17, k, t18);
 }
 
-/* ends_bench_leaves, src/elements.rt:58: Adds entry × value to output k of a vector. */
+/* ends_bench_leaves, src/elements.rt:53: Adds entry × value to output k of a vector. */
 INLINE void ends_bench_leaves_elements_add_output(uint64_t vector, uint64_t field, uint64_t k, uint64_t entry, field_element_Element value,
     slice out)
 {
@@ -8409,7 +8484,7 @@ INLINE void ends_bench_leaves_elements_add_output(uint64_t vector, uint64_t fiel
     ends_bench_leaves_elements_add_block(k, entry, value, t16);
 }
 
-/* ends_bench, src/accepted.rt:39: The words of a window's elements. */
+/* ends_bench, src/accepted.rt:32: The words of a window's elements. */
 INLINE uint64_t ends_bench_accepted_words_for(record_Layout layout, code_Window window)
 {
     uint64_t result, t3;
@@ -8418,7 +8493,7 @@ INLINE uint64_t ends_bench_accepted_words_for(record_Layout layout, code_Window 
     return result;
 }
 
-/* ends_bench, src/accepted.rt:47: The number of the tests after a noise record, for buffers of these lengths. */
+/* ends_bench, src/accepted.rt:40: The number of the tests after a noise record, for buffers of these lengths. */
 INLINE uint32_t ends_bench_accepted_noise_number(record_Layout layout, code_Window window, uint64_t u_room, uint64_t v_room)
 {
     uint32_t result;
@@ -8444,7 +8519,7 @@ INLINE uint32_t ends_bench_accepted_noise_number(record_Layout layout, code_Wind
     return result;
 }
 
-/* ends_bench, src/batch.rt:92: The words of a vector's value. */
+/* ends_bench, src/batch.rt:88: The words of a vector's value. */
 INLINE uint64_t ends_bench_batch_value_width(uint64_t vector, uint64_t field)
 {
     uint64_t result, t4;
@@ -8459,7 +8534,7 @@ INLINE uint64_t ends_bench_batch_value_width(uint64_t vector, uint64_t field)
     return result;
 }
 
-/* ends_bench, src/batch.rt:103: How many of the rows left the next batch has. */
+/* ends_bench, src/batch.rt:99: How many of the rows left the next batch has. */
 INLINE uint64_t ends_bench_batch_batch_count(uint64_t left)
 {
     uint64_t result, t3;
@@ -8474,7 +8549,7 @@ INLINE uint64_t ends_bench_batch_batch_count(uint64_t left)
     return result;
 }
 
-/* ends_bench, src/entries.rt:34: Term i of row x. */
+/* ends_bench, src/entries.rt:32: Term i of row x. */
 INLINE ends_bench_entries_Pending ends_bench_entries_pending_term(char *tables, char *code, record_Layout layout, uint64_t x, uint64_t i)
 {
     ends_bench_entries_Pending result;
@@ -8488,14 +8563,14 @@ INLINE ends_bench_entries_Pending ends_bench_entries_pending_term(char *tables, 
     return result;
 }
 
-/* ends_bench, src/entries.rt:54: Makes term i of each row. */
+/* ends_bench, src/entries.rt:52: Makes term i of each row. */
 static void ends_bench_entries_make_terms(char *tables, char *code, ends_bench_entries_Batch batch, uint64_t i, char *rows)
 {
     record_Layout layout;
-    uint64_t k, t10, t11;
+    uint64_t k, t10, t11, t15;
     ends_bench_entries_Pending term;
     bool t9;
-    char *t13, *t14, *t15, *t16;
+    char *t13, *t14, *t16, *t17;
     layout = batch.vector.layout;
     k = 0ull;
     for (;;) {
@@ -8510,15 +8585,16 @@ static void ends_bench_entries_make_terms(char *tables, char *code, ends_bench_e
         t13 = rows;
         t14 = (char *)((uint64_t *)t13 + t10);
         *(uint64_t *)t14 = t11;
+        t15 = term.coefficient;
         t10 = 64ull + k;
-        t15 = rows;
-        t16 = (char *)((uint64_t *)t15 + t10);
-        *(uint64_t *)t16 = term.coefficient;
+        t16 = rows;
+        t17 = (char *)((uint64_t *)t16 + t10);
+        *(uint64_t *)t17 = t15;
         k = k + 1ull;
     }
 }
 
-/* ends_bench, src/batch.rt:28: How many places a strip has. */
+/* ends_bench, src/batch.rt:24: How many places a strip has. */
 INLINE uint64_t ends_bench_batch_strip_size(record_Layout layout)
 {
     uint64_t result, t2;
@@ -8527,7 +8603,7 @@ INLINE uint64_t ends_bench_batch_strip_size(record_Layout layout)
     return result;
 }
 
-/* ends_bench, src/entries.rt:88: Row k's entry at place j. */
+/* ends_bench, src/entries.rt:86: Row k's entry at place j. */
 INLINE uint64_t ends_bench_entries_entry_at(uint64_t field, char *rows, uint64_t j, uint64_t k)
 {
     uint64_t result, t5, t6, t9, t10, t15, t20;
@@ -8560,7 +8636,7 @@ INLINE uint64_t ends_bench_entries_entry_at(uint64_t field, char *rows, uint64_t
     return result;
 }
 
-/* ends_bench, src/entries.rt:99: Adds to each output its row's entry at place j × the value there. */
+/* ends_bench, src/entries.rt:97: Adds to each output its row's entry at place j × the value there. */
 static void ends_bench_entries_add_place(ends_bench_entries_Batch batch, char *rows, uint64_t j, field_element_Element value, slice out)
 {
     uint64_t vector, field, k, entry;
@@ -8583,35 +8659,39 @@ static void ends_bench_entries_add_place(ends_bench_entries_Batch batch, char *r
     }
 }
 
-/* ends_bench, src/batch.rt:36: Adds the places of strip i to the outputs, from the highest down. */
+/* ends_bench, src/batch.rt:32: Adds the places of strip i to the outputs, from the highest down. */
 static void ends_bench_batch_add_strip(char *tables, char *keys, slice source, char *table, ends_bench_batch_Strip strip, char *rows, slice
     out)
 {
     ends_bench_entries_Batch batch;
     uint64_t size, start, left, j;
     field_element_Element value;
-    bool t14;
-    char *t16;
-    slice t17;
+    record_Layout t14;
+    bool t15;
+    ends_bench_leaves_values_Vector t16;
+    char *t18;
+    slice t19;
     batch = strip.batch;
-    size = ends_bench_batch_strip_size(batch.vector.layout);
+    t14 = batch.vector.layout;
+    size = ends_bench_batch_strip_size(t14);
     start = strip.number * size;
     left = size;
     for (;;) {
-        t14 = 0ull < left;
-        if (!t14) {
+        t15 = 0ull < left;
+        if (!t15) {
             break;
         }
         left = left - 1ull;
         j = start + left;
-        value = ends_bench_leaves_values_value_at(tables, keys, source, table, batch.vector, j);
-        t16 = out.at;
-        t17 = (slice){t16, out.count};
-        ends_bench_entries_add_place(batch, rows, j, value, t17);
+        t16 = batch.vector;
+        value = ends_bench_leaves_values_value_at(tables, keys, source, table, t16, j);
+        t18 = out.at;
+        t19 = (slice){t18, out.count};
+        ends_bench_entries_add_place(batch, rows, j, value, t19);
     }
 }
 
-/* ends_bench, src/entries.rt:76: Adds each row's coefficient to its sum, at the end of a strip. */
+/* ends_bench, src/entries.rt:74: Adds each row's coefficient to its sum, at the end of a strip. */
 static void ends_bench_entries_pass_terms(uint64_t field, uint64_t count, char *rows)
 {
     uint64_t k, t6, t10, t11, t15;
@@ -8638,7 +8718,7 @@ static void ends_bench_entries_pass_terms(uint64_t field, uint64_t count, char *
     }
 }
 
-/* ends_bench, src/batch.rt:64: Writes the outputs of a batch. */
+/* ends_bench, src/batch.rt:60: Writes the outputs of a batch. */
 static void ends_bench_batch_write_batch(char *tables, char *keys, char *code, slice source, char *table, ends_bench_entries_Batch batch,
     slice out)
 {
@@ -8672,7 +8752,7 @@ static void ends_bench_batch_write_batch(char *tables, char *keys, char *code, s
     }
 }
 
-/* ends_bench, src/batch.rt:111: Writes the outputs of a window over the front of a buffer. */
+/* ends_bench, src/batch.rt:107: Writes the outputs of a window over the front of a buffer. */
 static void ends_bench_batch_write_outputs(char *tables, char *keys, char *code, slice source, char *table, ends_bench_entries_Batch window,
     slice out)
 {
@@ -8707,7 +8787,7 @@ static void ends_bench_batch_write_outputs(char *tables, char *keys, char *code,
     }
 }
 
-/* ends_bench, src/accepted.rt:85: Writes u and v of a noise record's rows, under the round keys lent. */
+/* ends_bench, src/accepted.rt:79: Writes u and v of a noise record's rows, under the round keys lent. */
 INLINE void ends_bench_accepted_write_tabled(char *tables, char *keys, char *code, slice source, char *table, ends_bench_accepted_Rows rows,
     slice u_out, slice v_out)
 {
@@ -8729,7 +8809,7 @@ INLINE void ends_bench_accepted_write_tabled(char *tables, char *keys, char *cod
     ends_bench_batch_write_outputs(tables, keys, code, source, table, v0, t17);
 }
 
-/* ends_bench, src/accepted.rt:118: Writes a noise record's window. */
+/* ends_bench, src/accepted.rt:112: Writes a noise record's window. */
 INLINE void ends_bench_accepted_write_both(slice source, record_Layout layout, code_Window window, slice u_out, slice v_out)
 {
     uint8_256 sb, t12;
@@ -8766,7 +8846,7 @@ INLINE void ends_bench_accepted_write_both(slice source, record_Layout layout, c
     ends_bench_accepted_write_tabled(t20, t21, t22, source, t23, rows, t25, t27);
 }
 
-/* ends_bench, src/accepted.rt:140: The noise end's call on a record that was accepted. */
+/* ends_bench, src/accepted.rt:134: The noise end's call on a record that was accepted. */
 INLINE answer_TwoLengths ends_bench_accepted_write_noise(slice source, record_Layout layout, code_Window window, slice u_out, slice v_out)
 {
     answer_TwoLengths result;
@@ -8793,7 +8873,7 @@ INLINE answer_TwoLengths ends_bench_accepted_write_noise(slice source, record_La
     return result;
 }
 
-/* ends_bench, src/lib.rt:24: Writes the window's outputs: u to the front of u_out, v to the front of v_out. */
+/* ends_bench, src/lib.rt:21: Writes the window's outputs: u to the front of u_out, v to the front of v_out. */
 INLINE answer_TwoLengths ends_bench_noise_bench(slice source, uint64_t first, uint64_t count, slice u_out, slice v_out)
 {
     answer_TwoLengths result;
@@ -8822,7 +8902,7 @@ INLINE answer_TwoLengths ends_bench_noise_bench(slice source, uint64_t first, ui
     return result;
 }
 
-/* ends_bench, src/accepted.rt:64: The number of the tests after a scalar record, for a buffer of this length. */
+/* ends_bench, src/accepted.rt:57: The number of the tests after a scalar record, for a buffer of this length. */
 INLINE uint32_t ends_bench_accepted_scalar_number(record_Layout layout, code_Window window, uint64_t room)
 {
     uint32_t result;
@@ -8843,7 +8923,7 @@ INLINE uint32_t ends_bench_accepted_scalar_number(record_Layout layout, code_Win
     return result;
 }
 
-/* ends_bench, src/accepted.rt:165: Writes a scalar record's window. */
+/* ends_bench, src/accepted.rt:159: Writes a scalar record's window. */
 INLINE void ends_bench_accepted_write_w(slice source, record_Layout layout, code_Window window, slice w_out)
 {
     uint8_256 sb, t11;
@@ -8880,7 +8960,7 @@ INLINE void ends_bench_accepted_write_w(slice source, record_Layout layout, code
     ends_bench_batch_write_outputs(t19, t20, t21, source, t22, w0, t24);
 }
 
-/* ends_bench, src/accepted.rt:187: The scalar end's call on a record that was accepted. */
+/* ends_bench, src/accepted.rt:181: The scalar end's call on a record that was accepted. */
 INLINE answer_OneLength ends_bench_accepted_write_scalar(slice source, record_Layout layout, code_Window window, slice w_out)
 {
     answer_OneLength result;
@@ -8904,7 +8984,7 @@ INLINE answer_OneLength ends_bench_accepted_write_scalar(slice source, record_La
     return result;
 }
 
-/* ends_bench, src/lib.rt:42: Writes the window's outputs: w to the front of w_out. */
+/* ends_bench, src/lib.rt:39: Writes the window's outputs: w to the front of w_out. */
 static answer_OneLength ends_bench_scalar_bench(slice source, uint64_t first, uint64_t count, slice w_out)
 {
     answer_OneLength result;
@@ -8931,7 +9011,7 @@ static answer_OneLength ends_bench_scalar_bench(slice source, uint64_t first, ui
     return result;
 }
 
-/* layer_add, src/number.rt:14: Whether some word is above a limit, two words a turn. The first that is ends the search: machines without
+/* layer_add, src/number.rt:13: Whether some word is above a limit, two words a turn. The first that is ends the search: machines without
  * a comparison of 64 bits in vectors take longer for the largest of several words than for one after the other. */
 static bool layer_add_number_any_above(uint64_t limit, slice words)
 {
@@ -8975,7 +9055,7 @@ static bool layer_add_number_any_above(uint64_t limit, slice words)
     return result;
 }
 
-/* layer_add, src/number.rt:36: Whether every word may be added: each in field 1, those below p in field 2. */
+/* layer_add, src/number.rt:35: Whether every word may be added: each in field 1, those below p in field 2. */
 INLINE bool layer_add_number_are_words(uint64_t field, slice words)
 {
     bool result, t3;
@@ -8992,7 +9072,7 @@ INLINE bool layer_add_number_are_words(uint64_t field, slice words)
     return result;
 }
 
-/* layer_add, src/number.rt:46: The number of the first test that is not met, or 0. */
+/* layer_add, src/number.rt:45: The number of the first test that is not met, or 0. */
 INLINE uint32_t layer_add_number_add_number(uint64_t field, slice from, slice into)
 {
     uint32_t result;
@@ -9027,7 +9107,7 @@ INLINE uint32_t layer_add_number_add_number(uint64_t field, slice from, slice in
     return result;
 }
 
-/* layer_add, src/words.rt:11: In field 1, by exclusive or. */
+/* layer_add, src/words.rt:9: In field 1, by exclusive or. */
 static void layer_add_words_add_binary(slice from, slice into)
 {
     uint64_t k, t4, t7, t10, t11;
@@ -9052,7 +9132,7 @@ static void layer_add_words_add_binary(slice from, slice into)
     }
 }
 
-/* layer_add, src/words.rt:24: The sum of two words below p, modulo p, without a branch: a sum of p or more has bit 61 once 1 is added,
+/* layer_add, src/words.rt:22: The sum of two words below p, modulo p, without a branch: a sum of p or more has bit 61 once 1 is added,
  * and is p less with that 1 and without that bit. */
 INLINE uint64_t layer_add_words_prime_sum(uint64_t a, uint64_t b)
 {
@@ -9065,7 +9145,7 @@ INLINE uint64_t layer_add_words_prime_sum(uint64_t a, uint64_t b)
     return result;
 }
 
-/* layer_add, src/words.rt:33: In field 2, modulo p. */
+/* layer_add, src/words.rt:31: In field 2, modulo p. */
 static void layer_add_words_add_prime(slice from, slice into)
 {
     uint64_t k, t4, t6, t8, t11;
@@ -9090,7 +9170,7 @@ static void layer_add_words_add_prime(slice from, slice into)
     }
 }
 
-/* layer_add, src/words.rt:45: In the field of a number. */
+/* layer_add, src/words.rt:43: In the field of a number. */
 INLINE void layer_add_words_add_words(uint64_t field, slice from, slice into)
 {
     bool t4;
@@ -9108,7 +9188,7 @@ INLINE void layer_add_words_add_words(uint64_t field, slice from, slice into)
     }
 }
 
-/* layer_add, src/lib.rt:14: Adds words to others, word for word. */
+/* layer_add, src/lib.rt:16: Adds words to others, word for word. */
 INLINE answer_OneLength layer_add_add(uint64_t field, slice from, slice into)
 {
     answer_OneLength result;
@@ -9133,7 +9213,7 @@ INLINE answer_OneLength layer_add_add(uint64_t field, slice from, slice into)
     return result;
 }
 
-/* pads_rule, src/rule.rt:13: The round keys of the pads' key, 16 bytes FF. */
+/* pads_rule, src/rule.rt:14: The round keys of the pads' key, 16 bytes FF. */
 INLINE uint64_40 pads_rule_rule_pad_keys(char *sbox)
 {
     uint64_40 result;
@@ -9145,29 +9225,32 @@ INLINE uint64_40 pads_rule_rule_pad_keys(char *sbox)
     return result;
 }
 
-/* pads_rule, src/steps.rt:16: Writes the first steps of blocks a and b from a place on. */
+/* pads_rule, src/steps.rt:14: Writes the first steps of blocks a and b from a place on. */
 INLINE void pads_rule_steps_start_two(char *tables, char *keys, field_block_Block a, field_block_Block b, slice pads, uint64_t at)
 {
     aes_blocks_TwoBlocks s;
-    char *t9, *t11;
-    slice t10, t12;
-    uint64_t t13;
+    char *t9, *t12;
+    slice t10, t13;
+    field_block_Block t11, t15;
+    uint64_t t14;
     s = aes_blocks_encrypt_two(tables, keys, keys, a.low, a.high, b.low, b.high);
     t9 = pads.at;
     t10 = (slice){t9, pads.count};
-    pads_bytes_put_block(t10, at, s.one);
-    t11 = pads.at;
-    t12 = (slice){t11, pads.count};
-    t13 = at + 16ull;
-    pads_bytes_put_block(t12, t13, s.other);
+    t11 = s.one;
+    pads_bytes_put_block(t10, at, t11);
+    t12 = pads.at;
+    t13 = (slice){t12, pads.count};
+    t14 = at + 16ull;
+    t15 = s.other;
+    pads_bytes_put_block(t13, t14, t15);
 }
 
-/* pads_rule, src/rule.rt:22: The pad of index x whose first step is s, and that of index y whose first step is t, in alternation. */
+/* pads_rule, src/rule.rt:23: The pad of index x whose first step is s, and that of index y whose first step is t, in alternation. */
 INLINE aes_blocks_TwoBlocks pads_rule_rule_second_steps(char *tables, char *keys, uint64_t x, uint64_t y, field_block_Block s,
     field_block_Block t)
 {
     aes_blocks_TwoBlocks result, e;
-    field_block_Block p, q, t11, t12;
+    field_block_Block p, q, t11, t12, t13, t14;
     uint64_t t10;
     t10 = x;
     t11 = (field_block_Block){t10, 0ull};
@@ -9176,19 +9259,21 @@ INLINE aes_blocks_TwoBlocks pads_rule_rule_second_steps(char *tables, char *keys
     t11 = (field_block_Block){t10, 0ull};
     q = field_block_Block_add(t, t11);
     e = aes_blocks_encrypt_two(tables, keys, keys, p.low, p.high, q.low, q.high);
-    t11 = field_block_Block_add(e.one, s);
-    t12 = field_block_Block_add(e.other, t);
-    result = (aes_blocks_TwoBlocks){t11, t12};
+    t12 = e.one;
+    t11 = field_block_Block_add(t12, s);
+    t14 = e.other;
+    t13 = field_block_Block_add(t14, t);
+    result = (aes_blocks_TwoBlocks){t11, t13};
     return result;
 }
 
-/* pads_rule, src/steps.rt:34: Finishes the pads of indices x and y, whose first steps stand from a place on. */
+/* pads_rule, src/steps.rt:32: Finishes the pads of indices x and y, whose first steps stand from a place on. */
 INLINE void pads_rule_steps_finish_two(char *tables, char *keys, uint64_t x, uint64_t y, slice pads, uint64_t at)
 {
-    field_block_Block s, t;
+    field_block_Block s, t, t18, t21;
     aes_blocks_TwoBlocks p;
-    char *t10, *t12, *t16, *t18;
-    slice t11, t13, t17, t19;
+    char *t10, *t12, *t16, *t19;
+    slice t11, t13, t17, t20;
     uint64_t t14;
     t10 = pads.at;
     t11 = (slice){t10, pads.count};
@@ -9200,14 +9285,16 @@ INLINE void pads_rule_steps_finish_two(char *tables, char *keys, uint64_t x, uin
     p = pads_rule_rule_second_steps(tables, keys, x, y, s, t);
     t16 = pads.at;
     t17 = (slice){t16, pads.count};
-    pads_bytes_put_block(t17, at, p.one);
-    t18 = pads.at;
-    t19 = (slice){t18, pads.count};
+    t18 = p.one;
+    pads_bytes_put_block(t17, at, t18);
+    t19 = pads.at;
+    t20 = (slice){t19, pads.count};
     t14 = at + 16ull;
-    pads_bytes_put_block(t19, t14, p.other);
+    t21 = p.other;
+    pads_bytes_put_block(t20, t14, t21);
 }
 
-/* pads_rule, src/rule.rt:49: The pad of index x and block a. */
+/* pads_rule, src/rule.rt:50: The pad of index x and block a. */
 INLINE field_block_Block pads_rule_rule_one_pad(char *tables, char *keys, uint64_t x, field_block_Block a)
 {
     field_block_Block result, s;
@@ -9218,7 +9305,7 @@ INLINE field_block_Block pads_rule_rule_one_pad(char *tables, char *keys, uint64
     return result;
 }
 
-/* pads_write, src/write.rt:19: Writes the first steps of pairs of blocks of v. */
+/* pads_write, src/write.rt:15: Writes the first steps of pairs of blocks of v. */
 static void pads_write_write_start_pairs(char *tables, char *keys, uint64_t pairs, slice v, slice pads)
 {
     uint64_t k, at, t11;
@@ -9243,7 +9330,7 @@ static void pads_write_write_start_pairs(char *tables, char *keys, uint64_t pair
     }
 }
 
-/* pads_write, src/write.rt:34: Finishes the pads of pairs of blocks, whose first steps stand in the buffer. */
+/* pads_write, src/write.rt:30: Finishes the pads of pairs of blocks, whose first steps stand in the buffer. */
 static void pads_write_write_finish_pairs(char *tables, char *keys, uint64_t first, uint64_t pairs, slice pads)
 {
     uint64_t k, x, t9, t13;
@@ -9267,7 +9354,7 @@ static void pads_write_write_finish_pairs(char *tables, char *keys, uint64_t fir
     }
 }
 
-/* pads_write, src/write.rt:47: Writes the pads of pairs of blocks of v. */
+/* pads_write, src/write.rt:43: Writes the pads of pairs of blocks of v. */
 INLINE void pads_write_write_write_pairs(char *tables, char *keys, uint64_t first, uint64_t pairs, slice v, slice pads)
 {
     char *t8, *t10;
@@ -9280,7 +9367,7 @@ INLINE void pads_write_write_write_pairs(char *tables, char *keys, uint64_t firs
     pads_write_write_finish_pairs(tables, keys, first, pairs, t11);
 }
 
-/* pads_write, src/write.rt:63: Writes the pad of each block of v, two at a time; the last of an odd count alone. */
+/* pads_write, src/write.rt:59: Writes the pad of each block of v, two at a time; the last of an odd count alone. */
 INLINE void pads_write_write_write_pads(char *tables, char *keys, uint64_t first, uint64_t count, slice v, slice pads)
 {
     uint64_t pairs, k, at, t16;
@@ -9305,7 +9392,7 @@ INLINE void pads_write_write_write_pads(char *tables, char *keys, uint64_t first
     }
 }
 
-/* pads_write, src/write.rt:86: Writes the first steps of pads 0 and 1 of each block of w. */
+/* pads_write, src/write.rt:82: Writes the first steps of pads 0 and 1 of each block of w. */
 static void pads_write_write_start_both_pads(char *tables, char *keys, uint64_t count, slice w, field_block_Block delta, slice pads)
 {
     uint64_t k, t10;
@@ -9330,7 +9417,7 @@ static void pads_write_write_start_both_pads(char *tables, char *keys, uint64_t 
     }
 }
 
-/* pads_write, src/write.rt:106: Finishes pads 0 and 1 of each output, whose first steps stand in the buffer. */
+/* pads_write, src/write.rt:102: Finishes pads 0 and 1 of each output, whose first steps stand in the buffer. */
 static void pads_write_write_finish_both_pads(char *tables, char *keys, uint64_t first, uint64_t count, slice pads)
 {
     uint64_t k, x, t12;
@@ -9352,7 +9439,7 @@ static void pads_write_write_finish_both_pads(char *tables, char *keys, uint64_t
     }
 }
 
-/* pads_write, src/write.rt:126: Writes pads 0 and 1 of each block of w. */
+/* pads_write, src/write.rt:122: Writes pads 0 and 1 of each block of w. */
 INLINE void pads_write_write_write_both_pads(char *tables, char *keys, uint64_t first, uint64_t count, slice w, field_block_Block delta,
     slice pads)
 {
@@ -9366,7 +9453,7 @@ INLINE void pads_write_write_write_both_pads(char *tables, char *keys, uint64_t 
     pads_write_write_finish_both_pads(tables, keys, first, count, t12);
 }
 
-/* pads_calls, src/number.rt:20: The noise end's number for a buffer of `room` bytes. */
+/* pads_calls, src/number.rt:15: The noise end's number for a buffer of `room` bytes. */
 INLINE uint32_t pads_calls_number_noise_number(uint64_t first, uint64_t count, slice v, slice choices, uint64_t room)
 {
     uint32_t result;
@@ -9440,7 +9527,7 @@ INLINE uint32_t pads_calls_noise_pads(uint64_t first, uint64_t count, slice v, s
     return result;
 }
 
-/* pads_calls, src/number.rt:42: The scalar end's number for a buffer of `room` bytes. */
+/* pads_calls, src/number.rt:37: The scalar end's number for a buffer of `room` bytes. */
 INLINE uint32_t pads_calls_number_scalar_number(uint64_t first, uint64_t count, slice w, slice delta, uint64_t room)
 {
     uint32_t result;
@@ -9518,7 +9605,7 @@ INLINE uint32_t pads_calls_scalar_pads(uint64_t first, uint64_t count, slice w, 
     return result;
 }
 
-/* pads_messages, src/number.rt:17: The number of the correction bits for a buffer of `room` bytes. */
+/* pads_messages, src/number.rt:12: The number of the correction bits for a buffer of `room` bytes. */
 INLINE uint32_t pads_messages_number_correction_number(uint64_t count, slice choices, slice wanted, uint64_t room)
 {
     uint32_t result;
@@ -9560,7 +9647,7 @@ INLINE uint32_t pads_messages_number_correction_number(uint64_t count, slice cho
     return result;
 }
 
-/* pads_messages, src/mask.rt:14: Writes choice exclusive-or wanted bit of each output. */
+/* pads_messages, src/mask.rt:12: Writes choice exclusive-or wanted bit of each output. */
 static void pads_messages_mask_write_bits(uint64_t count, slice choices, slice wanted, slice bits_out)
 {
     uint64_t k;
@@ -9584,7 +9671,7 @@ static void pads_messages_mask_write_bits(uint64_t count, slice choices, slice w
     }
 }
 
-/* pads_messages, src/lib.rt:20: The noise end's bits to send: choice exclusive-or wanted bit, a byte an output. */
+/* pads_messages, src/lib.rt:17: The noise end's bits to send: choice exclusive-or wanted bit, a byte an output. */
 INLINE answer_OneLength pads_messages_correction_bits(uint64_t count, slice choices, slice wanted, slice bits_out)
 {
     answer_OneLength result;
@@ -9607,7 +9694,7 @@ INLINE answer_OneLength pads_messages_correction_bits(uint64_t count, slice choi
     return result;
 }
 
-/* pads_messages, src/number.rt:42: The number of the answers for a buffer of `room` bytes. */
+/* pads_messages, src/number.rt:37: The number of the answers for a buffer of `room` bytes. */
 INLINE uint32_t pads_messages_number_mask_number(uint64_t count, slice bits, slice pads, slice messages, uint64_t room)
 {
     uint32_t result;
@@ -9652,7 +9739,7 @@ INLINE uint32_t pads_messages_number_mask_number(uint64_t count, slice bits, sli
     return result;
 }
 
-/* pads_messages, src/mask.rt:27: Writes from a place on the exclusive or of 16 bytes from a place of each of two slices, as blocks of
+/* pads_messages, src/mask.rt:25: Writes from a place on the exclusive or of 16 bytes from a place of each of two slices, as blocks of
  * two words. */
 INLINE void pads_messages_mask_mask_block(slice from, uint64_t at, slice by, uint64_t start, slice out, uint64_t to)
 {
@@ -9667,7 +9754,7 @@ INLINE void pads_messages_mask_mask_block(slice from, uint64_t at, slice by, uin
     pads_bytes_put_block(t11, to, t12);
 }
 
-/* pads_messages, src/mask.rt:38: Writes both masked messages of output k. */
+/* pads_messages, src/mask.rt:36: Writes both masked messages of output k. */
 static void pads_messages_mask_put_answer(uint64_t k, slice bits, slice pads, slice messages, slice answers)
 {
     uint64_t block0, block1, bit, named, other, t13, t14;
@@ -9692,7 +9779,7 @@ static void pads_messages_mask_put_answer(uint64_t k, slice bits, slice pads, sl
     pads_messages_mask_mask_block(messages, block1, pads, other, t19, block1);
 }
 
-/* pads_messages, src/mask.rt:54: Writes both masked messages of each output. */
+/* pads_messages, src/mask.rt:52: Writes both masked messages of each output. */
 static void pads_messages_mask_write_answers(uint64_t count, slice bits, slice pads, slice messages, slice answers_out)
 {
     uint64_t k;
@@ -9712,7 +9799,7 @@ static void pads_messages_mask_write_answers(uint64_t count, slice bits, slice p
     }
 }
 
-/* pads_messages, src/lib.rt:41: The scalar end's answers: message 0 masked by the pad that the bit names, message 1 by the other, 32
+/* pads_messages, src/lib.rt:38: The scalar end's answers: message 0 masked by the pad that the bit names, message 1 by the other, 32
  * bytes an output. */
 INLINE answer_OneLength pads_messages_mask_messages(uint64_t count, slice bits, slice pads, slice messages, slice answers_out)
 {
@@ -9737,7 +9824,7 @@ INLINE answer_OneLength pads_messages_mask_messages(uint64_t count, slice bits, 
     return result;
 }
 
-/* pads_messages, src/number.rt:67: The number of the opening for a buffer of `room` bytes. */
+/* pads_messages, src/number.rt:62: The number of the opening for a buffer of `room` bytes. */
 INLINE uint32_t pads_messages_number_unmask_number(uint64_t count, slice wanted, slice pads, slice answers, uint64_t room)
 {
     uint32_t result;
@@ -9782,7 +9869,7 @@ INLINE uint32_t pads_messages_number_unmask_number(uint64_t count, slice wanted,
     return result;
 }
 
-/* pads_messages, src/mask.rt:73: Writes the wanted message of output k. */
+/* pads_messages, src/mask.rt:71: Writes the wanted message of output k. */
 INLINE void pads_messages_mask_put_opened(uint64_t k, slice wanted, slice pads, slice answers, slice messages)
 {
     uint64_t bit, place, t11, t12, t13;
@@ -9801,7 +9888,7 @@ INLINE void pads_messages_mask_put_opened(uint64_t k, slice wanted, slice pads, 
     pads_messages_mask_mask_block(answers, t13, pads, place, t15, place);
 }
 
-/* pads_messages, src/mask.rt:85: Writes the wanted message of each output. */
+/* pads_messages, src/mask.rt:83: Writes the wanted message of each output. */
 static void pads_messages_mask_write_opened(uint64_t count, slice wanted, slice pads, slice answers, slice messages_out)
 {
     uint64_t k;
@@ -9821,7 +9908,7 @@ static void pads_messages_mask_write_opened(uint64_t count, slice wanted, slice 
     }
 }
 
-/* pads_messages, src/lib.rt:63: The noise end's messages: the wanted block of each answer, masked again by its pad, 16 bytes an output. */
+/* pads_messages, src/lib.rt:60: The noise end's messages: the wanted block of each answer, masked again by its pad, 16 bytes an output. */
 INLINE answer_OneLength pads_messages_unmask_messages(uint64_t count, slice wanted, slice pads, slice answers, slice messages_out)
 {
     answer_OneLength result;
@@ -9845,7 +9932,7 @@ INLINE answer_OneLength pads_messages_unmask_messages(uint64_t count, slice want
     return result;
 }
 
-/* pads_triples, src/number.rt:14: The number for a buffer of `room` bytes. */
+/* pads_triples, src/number.rt:9: The number for a buffer of `room` bytes. */
 INLINE uint32_t pads_triples_number_triples_number(slice choices, slice pads, slice pad_pairs, uint64_t room)
 {
     uint32_t result;
@@ -9882,7 +9969,7 @@ INLINE uint32_t pads_triples_number_triples_number(slice choices, slice pads, sl
     return result;
 }
 
-/* pads_triples, src/form.rt:12: Writes the triple of output k. */
+/* pads_triples, src/form.rt:10: Writes the triple of output k. */
 INLINE void pads_triples_form_put_triple(uint64_t k, slice choices, slice pads, slice pad_pairs, slice triples)
 {
     uint8_t a, h, r, q, t12, t20, t21, t22;
@@ -9920,7 +10007,7 @@ INLINE void pads_triples_form_put_triple(uint64_t k, slice choices, slice pads, 
     *(uint8_t *)t23 = t22;
 }
 
-/* pads_triples, src/form.rt:29: Writes the triple of each output. */
+/* pads_triples, src/form.rt:27: Writes the triple of each output. */
 static void pads_triples_form_write_triples(slice choices, slice pads, slice pad_pairs, slice triples_out)
 {
     uint64_t k, t6;
@@ -9941,7 +10028,7 @@ static void pads_triples_form_write_triples(slice choices, slice pads, slice pad
     }
 }
 
-/* pads_triples, src/lib.rt:16: Forms the triple of each output, three bytes. */
+/* pads_triples, src/lib.rt:17: Forms the triple of each output, three bytes. */
 INLINE answer_OneLength pads_triples_triples(slice choices, slice pads, slice pad_pairs, slice triples_out)
 {
     answer_OneLength result;
@@ -9966,7 +10053,7 @@ INLINE answer_OneLength pads_triples_triples(slice choices, slice pads, slice pa
     return result;
 }
 
-/* record_describe, src/lib.rt:40: The answer for a refused record. */
+/* record_describe, src/lib.rt:34: The answer for a refused record. */
 INLINE record_describe_Described record_describe_refusal(uint32_t number)
 {
     record_describe_Described result;
@@ -9979,7 +10066,7 @@ INLINE record_describe_Described record_describe_refusal(uint32_t number)
     return result;
 }
 
-/* record_describe, src/lib.rt:60: The 16 bytes at a place. */
+/* record_describe, src/lib.rt:54: The 16 bytes at a place. */
 static uint8_16 record_describe_sixteen_at(slice source, uint64_t at)
 {
     uint8_16 result, block;
@@ -10007,7 +10094,7 @@ static uint8_16 record_describe_sixteen_at(slice source, uint64_t at)
     return result;
 }
 
-/* record_describe, src/lib.rt:74: The answer for an accepted record of an end. */
+/* record_describe, src/lib.rt:68: The answer for an accepted record of an end. */
 INLINE record_describe_Described record_describe_accepted(uint8_t end, slice source, record_Layout layout)
 {
     record_describe_Described result;
@@ -10026,7 +10113,7 @@ INLINE record_describe_Described record_describe_accepted(uint8_t end, slice sou
     return result;
 }
 
-/* record_describe, src/lib.rt:95: The answer for a noise record. */
+/* record_describe, src/lib.rt:89: The answer for a noise record. */
 INLINE record_describe_Described record_describe_noise_head(slice source)
 {
     record_describe_Described result;
@@ -10047,7 +10134,7 @@ INLINE record_describe_Described record_describe_noise_head(slice source)
     return result;
 }
 
-/* record_describe, src/lib.rt:106: The answer for a scalar record. */
+/* record_describe, src/lib.rt:100: The answer for a scalar record. */
 INLINE record_describe_Described record_describe_scalar_head(slice source)
 {
     record_describe_Described result;
@@ -10068,7 +10155,7 @@ INLINE record_describe_Described record_describe_scalar_head(slice source)
     return result;
 }
 
-/* record_describe, src/lib.rt:117: The head of a record that its end would accept, or that record's number. The end byte says whose
+/* record_describe, src/lib.rt:111: The head of a record that its end would accept, or that record's number. The end byte says whose
  * tests apply. */
 static record_describe_Described record_describe_describe(slice source)
 {
@@ -10101,7 +10188,7 @@ static record_describe_Described record_describe_describe(slice source)
     return result;
 }
 
-/* stock_calls, src/shares.rt:11: Whether a number is 1 to a largest one. */
+/* stock_calls, src/shares.rt:9: Whether a number is 1 to a largest one. */
 INLINE bool stock_calls_shares_is_count(uint64_t most, uint64_t n)
 {
     bool result, t3;
@@ -10114,7 +10201,7 @@ INLINE bool stock_calls_shares_is_count(uint64_t most, uint64_t n)
     return result;
 }
 
-/* stock_calls, src/lib.rt:62: A refused opening: a stock without callers, under label 0. */
+/* stock_calls, src/lib.rt:47: A refused opening: a stock without callers, under label 0. */
 INLINE stock_OpenedStock stock_calls_refused_opening(uint32_t number)
 {
     stock_OpenedStock result;
@@ -10134,7 +10221,7 @@ INLINE stock_OpenedStock stock_calls_refused_opening(uint32_t number)
     return result;
 }
 
-/* stock_calls, src/shares.rt:21: The shares of a slice, with zeros past them. */
+/* stock_calls, src/shares.rt:19: The shares of a slice, with zeros past them. */
 static uint32_8 stock_calls_shares_padded(slice shares)
 {
     uint32_8 result, each_2;
@@ -10163,7 +10250,7 @@ static uint32_8 stock_calls_shares_padded(slice shares)
     return result;
 }
 
-/* stock_calls, src/shares.rt:35: The sum of eight shares. */
+/* stock_calls, src/shares.rt:33: The sum of eight shares. */
 static uint64_t stock_calls_shares_total(uint32_8 shares)
 {
     uint64_t result, sum, k, t10;
@@ -10190,7 +10277,7 @@ static uint64_t stock_calls_shares_total(uint32_8 shares)
     return result;
 }
 
-/* stock_calls, src/shares.rt:48: How many of the eight entries have a caller. */
+/* stock_calls, src/shares.rt:46: How many of the eight entries have a caller. */
 INLINE uint64_t stock_calls_shares_at_most_eight(uint32_t callers)
 {
     uint64_t result;
@@ -10204,7 +10291,7 @@ INLINE uint64_t stock_calls_shares_at_most_eight(uint32_t callers)
     return result;
 }
 
-/* stock_calls, src/shares.rt:58: Consecutive blocks of the outputs, from index 0 in caller order. */
+/* stock_calls, src/shares.rt:56: Consecutive blocks of the outputs, from index 0 in caller order. */
 static stock_Stock stock_calls_shares_blocks_of(stock_Label label, uint32_t callers, uint32_8 shares)
 {
     stock_Stock result;
@@ -10244,7 +10331,7 @@ static stock_Stock stock_calls_shares_blocks_of(stock_Label label, uint32_t call
     return result;
 }
 
-/* stock_calls, src/lib.rt:41: Opens a stock under a label with a share for each caller, as consecutive blocks of the outputs. */
+/* stock_calls, src/lib.rt:26: Opens a stock under a label with a share for each caller, as consecutive blocks of the outputs. */
 INLINE stock_OpenedStock stock_calls_open(stock_Label label, uint64_t outputs, slice shares)
 {
     stock_OpenedStock result;
@@ -10330,7 +10417,7 @@ INLINE bool stock_calls_labels_is_same(stock_Label label, stock_Label other)
     return result;
 }
 
-/* stock_calls, src/lib.rt:108: A refused draw: no index, and the stock as it was. */
+/* stock_calls, src/lib.rt:93: A refused draw: no index, and the stock as it was. */
 INLINE stock_Drawn stock_calls_refused_draw(stock_Stock stock, uint32_t number)
 {
     stock_Drawn result;
@@ -10338,7 +10425,7 @@ INLINE stock_Drawn stock_calls_refused_draw(stock_Stock stock, uint32_t number)
     return result;
 }
 
-/* stock_calls, src/shares.rt:82: Whether a stock has a caller. */
+/* stock_calls, src/shares.rt:80: Whether a stock has a caller. */
 INLINE bool stock_calls_shares_is_caller(stock_Stock stock, uint64_t caller)
 {
     bool result, t3;
@@ -10353,7 +10440,7 @@ INLINE bool stock_calls_shares_is_caller(stock_Stock stock, uint64_t caller)
     return result;
 }
 
-/* stock_calls, src/shares.rt:92: A caller's remaining share. */
+/* stock_calls, src/shares.rt:90: A caller's remaining share. */
 INLINE uint32_t stock_calls_shares_holding(stock_Stock stock, uint64_t caller)
 {
     uint32_t result, next, end, t12;
@@ -10385,7 +10472,7 @@ INLINE uint32_t stock_calls_shares_holding(stock_Stock stock, uint64_t caller)
     return result;
 }
 
-/* stock_calls, src/lib.rt:92: An accepted draw: a window from the caller's next index on, which is raised by the count. */
+/* stock_calls, src/lib.rt:77: An accepted draw: a window from the caller's next index on, which is raised by the count. */
 INLINE stock_Drawn stock_calls_accepted_draw(stock_Stock stock, uint64_t caller, uint64_t count)
 {
     stock_Drawn result;
@@ -10413,7 +10500,7 @@ INLINE stock_Drawn stock_calls_accepted_draw(stock_Stock stock, uint64_t caller,
     return result;
 }
 
-/* stock_calls, src/lib.rt:75: The caller's next `count` indices, as a window. */
+/* stock_calls, src/lib.rt:60: The caller's next `count` indices, as a window. */
 INLINE stock_Drawn stock_calls_draw(stock_Stock stock, stock_Label label, uint64_t caller, uint64_t count)
 {
     stock_Drawn result;
@@ -10445,7 +10532,7 @@ INLINE stock_Drawn stock_calls_draw(stock_Stock stock, stock_Label label, uint64
     return result;
 }
 
-/* stock_calls, src/lib.rt:120: What a draw would return, and the stock that it would leave. */
+/* stock_calls, src/lib.rt:105: What a draw would return, and the stock that it would leave. */
 INLINE stock_Previewed stock_calls_preview(stock_Stock stock, stock_Label label, uint64_t caller, uint64_t count)
 {
     stock_Previewed result;
@@ -10457,7 +10544,7 @@ INLINE stock_Previewed stock_calls_preview(stock_Stock stock, stock_Label label,
     return result;
 }
 
-/* stock_calls, src/lib.rt:156: A refused passage: the stock as it was. */
+/* stock_calls, src/lib.rt:141: A refused passage: the stock as it was. */
 INLINE stock_OpenedStock stock_calls_refused_passage(stock_Stock stock, uint32_t number)
 {
     stock_OpenedStock result;
@@ -10465,7 +10552,7 @@ INLINE stock_OpenedStock stock_calls_refused_passage(stock_Stock stock, uint32_t
     return result;
 }
 
-/* stock_calls, src/shares.rt:107: What each of the eight callers has not drawn. */
+/* stock_calls, src/shares.rt:105: What each of the eight callers has not drawn. */
 static uint32_8 stock_calls_shares_rest(stock_Stock stock)
 {
     uint32_8 result, each_2;
@@ -10491,7 +10578,7 @@ static uint32_8 stock_calls_shares_rest(stock_Stock stock)
     return result;
 }
 
-/* stock_calls, src/lib.rt:134: Passes a stock to a dealing with another label: each caller keeps its unspent share, as a block of the
+/* stock_calls, src/lib.rt:119: Passes a stock to a dealing with another label: each caller keeps its unspent share, as a block of the
  * fresh outputs. */
 INLINE stock_OpenedStock stock_calls_pass(stock_Stock stock, stock_Label label, uint64_t outputs)
 {
@@ -10543,7 +10630,7 @@ INLINE answer_TwoLengths expander_expander_deal(uint8_t field, uint64_t depth, u
     return result;
 }
 
-/* expander, src/record_heads.rt:8: The head of a record that its end would accept, or that record's number. */
+/* expander, src/record_heads.rt:9: The head of a record that its end would accept, or that record's number. */
 INLINE record_describe_Described expander_record_heads_expander_describe(slice source)
 {
     record_describe_Described result;
@@ -10620,7 +10707,7 @@ INLINE answer_OneLength expander_expander_scalar_online(slice source, slice w, u
     return result;
 }
 
-/* expander, src/bench_windows.rt:11: Writes a window of u and v from a noise record alone. */
+/* expander, src/bench_windows.rt:10: Writes a window of u and v from a noise record alone. */
 INLINE answer_TwoLengths expander_bench_windows_expander_noise_direct(slice source, uint64_t first, uint64_t count, slice u_out, slice
     v_out)
 {
@@ -10635,7 +10722,7 @@ INLINE answer_TwoLengths expander_bench_windows_expander_noise_direct(slice sour
     return result;
 }
 
-/* expander, src/bench_windows.rt:27: Writes a window of w from a scalar record alone. */
+/* expander, src/bench_windows.rt:26: Writes a window of w from a scalar record alone. */
 INLINE answer_OneLength expander_bench_windows_expander_scalar_direct(slice source, uint64_t first, uint64_t count, slice w_out)
 {
     answer_OneLength result;
@@ -10721,7 +10808,7 @@ INLINE answer_OneLength expander_and_triples_expander_triples(slice choices, sli
     return result;
 }
 
-/* expander, src/circuits.rt:14: One step of an end's run of a circuit, on the state that the step before left. */
+/* expander, src/circuits.rt:11: One step of an end's run of a circuit, on the state that the step before left. */
 INLINE circuit_run_Stepped expander_circuits_expander_circuit_step(uint8_t role, slice circuit, slice shares, slice triples, slice output,
     uint8_t far_first, uint8_t far_second, circuit_run_StepState state)
 {
@@ -10734,7 +10821,7 @@ INLINE circuit_run_Stepped expander_circuits_expander_circuit_step(uint8_t role,
     return result;
 }
 
-/* expander, src/circuits.rt:56: One round of an end's run of a circuit, on the state that the round before left. */
+/* expander, src/circuits.rt:46: One round of an end's run of a circuit, on the state that the round before left. */
 INLINE circuit_run_Rounded expander_circuits_expander_circuit_round(uint8_t role, slice circuit, slice shares, slice triples, slice output,
     slice far_bits, slice bits_out, circuit_run_RoundState state)
 {
@@ -10749,7 +10836,7 @@ INLINE circuit_run_Rounded expander_circuits_expander_circuit_round(uint8_t role
     return result;
 }
 
-/* expander, src/circuits.rt:98: What a circuit is: its inputs, gates, outputs, ANDs and rounds, or the number that it is refused with. */
+/* expander, src/circuits.rt:81: What a circuit is: its inputs, gates, outputs, ANDs and rounds, or the number that it is refused with. */
 INLINE circuit_describe_DescribedCircuit expander_circuits_expander_describe_circuit(slice circuit)
 {
     circuit_describe_DescribedCircuit result;
@@ -10757,7 +10844,7 @@ INLINE circuit_describe_DescribedCircuit expander_circuits_expander_describe_cir
     return result;
 }
 
-/* expander, src/stocks.rt:12: Opens a stock under a label with a share for each caller, as consecutive blocks of the outputs. */
+/* expander, src/stocks.rt:9: Opens a stock under a label with a share for each caller, as consecutive blocks of the outputs. */
 INLINE stock_OpenedStock expander_stocks_expander_open_stock(stock_Label label, uint64_t outputs, slice shares)
 {
     stock_OpenedStock result;
@@ -10765,7 +10852,7 @@ INLINE stock_OpenedStock expander_stocks_expander_open_stock(stock_Label label, 
     return result;
 }
 
-/* expander, src/stocks.rt:22: The caller's next `count` indices, as a window. */
+/* expander, src/stocks.rt:19: The caller's next `count` indices, as a window. */
 INLINE stock_Drawn expander_stocks_expander_draw(stock_Stock stock, stock_Label label, uint64_t caller, uint64_t count)
 {
     stock_Drawn result;
@@ -10773,7 +10860,7 @@ INLINE stock_Drawn expander_stocks_expander_draw(stock_Stock stock, stock_Label 
     return result;
 }
 
-/* expander, src/stocks.rt:33: What a draw would return, and the stock that it would leave. */
+/* expander, src/stocks.rt:30: What a draw would return, and the stock that it would leave. */
 INLINE stock_Previewed expander_stocks_expander_preview(stock_Stock stock, stock_Label label, uint64_t caller, uint64_t count)
 {
     stock_Previewed result;
@@ -10781,7 +10868,7 @@ INLINE stock_Previewed expander_stocks_expander_preview(stock_Stock stock, stock
     return result;
 }
 
-/* expander, src/stocks.rt:49: Passes a stock to a dealing with another label: each caller keeps its unspent share, as a block of the
+/* expander, src/stocks.rt:46: Passes a stock to a dealing with another label: each caller keeps its unspent share, as a block of the
  * fresh outputs. */
 INLINE stock_OpenedStock expander_stocks_expander_pass_stock(stock_Stock stock, stock_Label label, uint64_t outputs)
 {

@@ -5,7 +5,7 @@ begins at a line that is not indented and declares a name, its comment stands ri
 import os
 import re
 
-MODULE = re.compile(r"Rattle·(\w+?)(?:·specs)?\.specs\.([\w.-]+)")
+MODULE = re.compile(r"Rattle\.(?!(?:core|std)\.)(\w+)\.specs\.([\w.'-]+)")  # of this repository: the kit's are those of core and std
 HEAD = re.compile(r"(?:unfoldable |abbrev )*(?:pub )?(?:(record|data) )?([^\s:({]+)(?: .*)? :(?: |$)")
 WORD = r"[^\s(){};,.λ⌜⌝←⟦⟧]+"
 TOKEN = re.compile(rf"(?P<comment>--[^\n]*|//[^\n]*)|(?P<space>\s+)|(?P<field>(?<![^\s)])\.{WORD})|(?P<word>{WORD}(?:\.{WORD})*)|(?P<sign>.)")
@@ -54,18 +54,23 @@ class Contract:
         self.crate, self.name, self.path, self.line, self.comment = crate, name, path, line, comment
         self.text, self.exported = text, exported
 
+    def hidden(self):
+        """The names that hide others of the same spelling in its clauses: those of its parameters, and `result`."""
+        head = re.split(r"(?m)^\s*(?:requires|ensures|ghost)\b", self.text)[0]
+        return {"result", *re.findall(r"[(,]\s*(?:mut )?(\w+):(?!:)", head)}
+
     def clauses(self, word):
         return len(re.findall(rf"(?m)^\s*{word}\b", self.text))
 
 
 def imports(text):
     """What the `use` lines of a text bring: a name as ('own', (crate, module, name)), an `as` name as ('module', (crate, module)), and a
-    name of the kit as ('kit', module, name)."""
+    name of the kit as ('kit', module, name). In the name of an operator `◌` marks an argument's place."""
     found = {}
     for module, names in re.findall(r"(?m)^(?:pub |ghost )*use (\S+?)\.\{([^}]*)\};?$", text):
         place = MODULE.fullmatch(module)
         for name in (n.strip() for n in names.split(",")):
-            sign = name.strip("_") or name  # `_+_` is used as `+`
+            sign = name.strip("◌") or name  # `◌+◌` is used as `+`
             if place:
                 found[sign] = ("own", (place[1], place[2], name))
             elif name:
@@ -171,8 +176,7 @@ class House:
                     self.brought[crate, module] = {}
                 elif function:
                     end = number
-                    while end < len(lines) and lines[end].strip() != "{" and not lines[end].rstrip().endswith(") {") and not (
-                            end > number and lines[end].rstrip().endswith("⌝ }") and lines[end + 1:end + 2] == ["{"]):
+                    while end < len(lines) and lines[end].strip() != "{" and not re.search(r"\)(?: -> [^{}]+)? \{$", lines[end]):
                         end += 1
                     body = lines[number:end + 1]
                     if body and body[-1].strip() == "{":
@@ -190,8 +194,8 @@ class House:
             crate, module, name = key
             parts = module.split(".")
             if parts[0] == "declared":
-                # declared.Name, declared.file.Name, declared.Name.the-variants: the code's own type
-                owner = parts[-2] if parts[-1] == "the-variants" else parts[-1]
+                # declared.Name, declared.file.Name, declared.Name.TheVariants: the code's own type
+                owner = parts[-2] if parts[-1] == "TheVariants" else parts[-1]
                 key = (crate, "declared." + owner, owner)
             else:
                 owner = next((d for d in self.definitions.values() if (d.crate, d.module) == (crate, module) and name in d.constructors), None)
@@ -230,9 +234,18 @@ class House:
             elif kind == "word" and depth and re.match(r"\s*=\s", text[match.end():]):
                 yield "part", word, None
             elif kind == "word":
-                yield self._word(word, brought, place, local, name)
+                first, *fields = self.parted(word, brought)
+                yield self._word(first, brought, place, local, name)
+                for part in fields:
+                    yield "field", part, None
             else:
                 yield kind, word, None
+
+    def parted(self, word, brought):
+        """A word with dots as a name, with its module if that is brought, and the fields behind it: `now` of `x.now`."""
+        head, *rest = word.split(".")
+        own = 1 if rest and brought.get(head, ("",))[0] == "module" else 0
+        return [".".join([head, *rest[:own]]), *("." + part for part in rest[own:])]
 
     def _constructor(self, word, brought, place):
         """Whether a word of a pattern is a form of a data type, and no name that the pattern binds."""
@@ -248,11 +261,11 @@ class House:
             if found[0] == "kit":
                 return found
         if isinstance(place, tuple):
-            for name in (bare, f"_{bare}_"):
+            for name in (bare, f"◌{bare}◌"):
                 if place + (name,) in self.definitions:
                     return self.definitions[place + (name,)]
             for item in self.definitions.values():
-                if item.kind == "data" and (item.crate, item.module) == place and (bare in item.constructors or f"_{bare}_" in item.constructors):
+                if item.kind == "data" and (item.crate, item.module) == place and (bare in item.constructors or f"◌{bare}◌" in item.constructors):
                     return item
         return None
 
@@ -285,7 +298,9 @@ class House:
         if word == item.name or word in getattr(item, "constructors", ()):
             return None
         own = next((d for d in self.definitions.values() if d.kind in ("struct", "enum") and (d.crate, d.name) == (item.crate, word)), None)
-        taken = re.search(rf"(?m)^(?:pub )?use (\w+)::(?:\w+::)*{re.escape(word)};$", self._text(item.path)) if not own and word[:1].isupper() else None
+        named = re.escape(word)
+        taken = re.search(rf"(?m)^(?:pub )?use (\w+)::(?:\w+::)*(?:{named}|{{[^}}]*\b{named}\b[^}}]*}});$", self._text(item.path)) \
+            if not own and word[:1].isupper() else None
         return own or (self.definitions.get((taken[1], "declared." + word, word)) if taken else None)
 
     def shown(self, item):
@@ -293,13 +308,16 @@ class House:
         if item in self._pieces:
             return self._pieces[item]
         if isinstance(item, Contract):
-            pieces = list(self.pieces(item.text, item.path))
+            pieces = list(self.pieces(item.text, item.path, members=item.hidden()))
         elif item.kind in ("struct", "enum"):
             pieces = [(m.lastgroup, m.group(), None) for m in TOKEN.finditer(item.text)]
         else:
             pieces = list(self.pieces(item.text, (item.crate, item.module), item.name, item.fields))
         if isinstance(item, Contract) or item.kind in ("struct", "enum"):
             pieces = [(kind, word, target or (self._type(word, item) if kind in ("word", "bound") else None)) for kind, word, target in pieces]
+        if isinstance(item, Contract):  # the function's own name stands for itself behind `fn`, and in clauses for what it has there
+            own = next((k for k, (kind, word, _) in enumerate(pieces) if word == item.name and kind != "comment"), None)
+            pieces = [(kind, word, None if k == own else target) for k, (kind, word, target) in enumerate(pieces)]
         self._pieces[item] = pieces
         return pieces
 

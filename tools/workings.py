@@ -189,7 +189,7 @@ def anchor(item):
 
 
 def kit_anchor(word):
-    word = word.strip("_") or word
+    word = word.strip("◌") or word
     return "kit-" + "".join(c if c.isalnum() and c.isascii() else f"{ord(c):x}" for c in word)
 
 

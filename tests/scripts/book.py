@@ -118,6 +118,7 @@ class Shown(html.parser.HTMLParser):
 
 
 DECLARED = re.compile(r"(?:unfoldable |abbrev )?(?:pub )?(?:record |data )?([^\s({]+)(?: .*)? : ")
+OWN = re.compile(r"Rattle\.(?!(?:core|std)\.)")  # a module of this repository, and none of the kit's
 SIGNS = re.compile(r'"[^"]*"|[^\s(){};,.«»⌜⌝λ]+|[«»⌜⌝λ]')
 notation = text_of("docs/NOTATION.md")
 chapter = lambda title: re.search(rf"(?ms)^## {title}\n(.*?)(?=^## |\Z)", notation)[1].strip("\n")
@@ -200,12 +201,12 @@ def check(volume):
     explained = {word for span in spans for word in SIGNS.findall(span)}
     first = first_column(sheet)
     code = {path: re.sub(r"--[^\n]*", "", text_of(path)) for path in (volume.page, volume.statements)}
-    kit = {name.strip("_") or name for text in code.values() for module, found in re.findall(r"(?m)^use (\S+)\.\{([^}]*)\}$", text)
-           if not module.startswith("Rattle·") for name in found.split(", ")}
-    own = {part for path in code for name in names[path] for part in [name, *name.strip("_").split("_")]}
-    own |= set(re.findall(r"(?m)^  (?:pub )?([^\s:({]+) :", "".join(code.values()))) | {"otherwise", "_otherwise_"}
+    kit = {name.strip("◌") or name for text in code.values() for module, found in re.findall(r"(?m)^use (\S+)\.\{([^}]*)\}$", text)
+           if not OWN.match(module) for name in found.split(", ")}
+    own = {part for path in code for name in names[path] for part in [name, *name.strip("◌").split("◌")]}
+    own |= set(re.findall(r"(?m)^  (?:pub )?([^\s:({]+) :", "".join(code.values()))) | {"otherwise", "◌otherwise◌"}
     own |= {name for text in code.values() for module, found in re.findall(r"(?m)^use (\S+)\.\{([^}]*)\}$", text)
-            if module.startswith("Rattle·") for name in found.split(", ")}
+            if OWN.match(module) for name in found.split(", ")}
     bound = set()
     around = [re.sub(r"--[^\n]*", "", text_of(path)) for path in ([short.FIRST.page, short.FIRST.statements] if volume.before else [])]
     own |= set(re.findall(r"(?m)^  (?:pub )?([^\s:({]+) :", "".join(around)))
@@ -227,7 +228,7 @@ def check(volume):
     bound |= {"r", *(item.name for item in book.structs)}
     used = {word for text in code.values() for word in SIGNS.findall(re.sub(r"(?m)^use .*$", "", text))} | code_words | {"use", "--"}
     unexplained = {word for word in used | kit if not re.fullmatch(r"\d+\]?", word) and (word in kit or word not in own | bound)}
-    unexplained |= {word for word in own if not re.search(r"\w", word)} | {"if", "then", "else", "otherwise"}
+    unexplained |= {word for word in own if not re.search(r"[\w◌]", word)} | {"when", "then", "else", "otherwise"}
     unexplained = {"0x1b" if word.startswith("0x") else word for word in unexplained}  # one example of a number to the base 16 will do
     parts_of = lambda word: set(re.findall(r"\w+|[^\w\s]+", word))
     known = explained | {part for word in explained for part in parts_of(word)}
@@ -236,19 +237,19 @@ def check(volume):
             faults.append(f"docs/NOTATION.md: the sheet does not explain {word}, which {volume.name}'s page, contracts or statements use")
     everything = used | kit | {part for word in used | code_words for part in parts_of(word)}
     for span in first:
-        if " " not in span and not parts_of(span.replace(".", " ")) <= everything | {"f"}:
+        if " " not in span and not parts_of(span.replace(".", " ")) <= everything | {"f", "part"}:
             faults.append(f"docs/NOTATION.md: the sheet has {span}, which {volume.name}'s page, contracts and statements do not use")
 
     if not volume.before:
         # the order of operators: ranks of the kit's, and those that the page declares
         ranks = {"^": 75, "*": 70, "/": 70, "%": 70, "∷": 67, "+": 65, "-": 65, "++": 65, "<": 50, "≤": 50, "&&": 35, "||": 30, "≡": 4, "≢": 4}
         ranks.update({"×": 2, "↔": 1, "→": 0})
-        ranks.update((re.sub(r"^_|_.*", "", name.strip("_")) or name.strip("_"), int(rank))
+        ranks.update((re.sub(r"^◌|◌.*", "", name.strip("◌")) or name.strip("◌"), int(rank))
                      for rank, name in re.findall(r"(?m)^infix[lr]? (\d+) (\S+)$", code[volume.page]))
         order = re.search(r"(?s)\*\*What belongs together\*\*(.*?)Signs of one rank", sheet)[1]
         listed = [[s for s in re.findall(r"`([^`]+)`", part)] for part in order.split(";")[1:]]
         taken = {name for text in code.values() for found in re.findall(r"(?m)^use .*\{([^}]*)\}$", text) for name in found.split(", ")}
-        operators = {name.strip("_") for name in taken if name.startswith("_") and name.endswith("_")} | {"×", "→", "if"}
+        operators = {name.strip("◌") for name in taken if name.startswith("◌") and name.endswith("◌")} | {"×", "→", "when"}
         faults[len(faults):] = [f"docs/NOTATION.md: the sheet does not rank {sign}" for sign in sorted(operators - {s for part in listed for s in part})]
         rank = [{ranks.get(s) for s in part} for part in listed]
         if any(len(r) != 1 or None in r for r in rank) or [max(r) for r in rank] != sorted({x for r in rank for x in r}, reverse=True):
@@ -261,7 +262,7 @@ def check(volume):
                    squeezed(next(d.text for d in book.definitions[volume.statements] if d.name == "Claim"))]
         if len(aloud) != 2 or any(part not in source for part, source in zip(aloud, sources)):
             faults.append("docs/NOTATION.md reads another contract of expander_noise_offline or another part of Claim aloud than there is")
-        for name in re.findall(r"`([A-Z]\w+|noiseReturns|scalarReturns)`", chapter("A statement read aloud")):
+        for name in re.findall(r"`([A-Z]\w+|noise_returns|scalar_returns)`", chapter("A statement read aloud")):
             if name not in own:
                 faults.append(f"docs/NOTATION.md reads {name} aloud, and the statements do not have it")
 
@@ -299,10 +300,10 @@ def check(volume):
         faults.extend([f"the book of {volume.name} takes {count} printed pages, and may take {volume.most}"] * (count > volume.most))
 
 
-others = sum(text_of(path).count("#[no_mangle]") for path in short.SECOND.contracts)
+others = sum(text_of(path).count("#[unsafe(no_mangle)]") for path in short.SECOND.contracts)
 for volume in short.VOLUMES:
     check(volume)
-exported = {path for path in os.listdir("crates/expander/src") if "#[no_mangle]" in text_of("crates/expander/src/" + path)}
+exported = {path for path in os.listdir("crates/expander/src") if "#[unsafe(no_mangle)]" in text_of("crates/expander/src/" + path)}
 if {"crates/expander/src/" + path for path in exported} != {path for volume in short.VOLUMES for path in volume.contracts if "expander" in path}:
     faults.append("an exported call stands in neither book")
 first = first_column(chapter("The sheet for document 01")) + first_column(chapter("The sheet for document 02"))
@@ -337,9 +338,9 @@ faults += [f"include/expander.h: no call's list has the number {number}, {name}"
 faults += book.faults
 
 # notation
-used = {target[2].strip("_") or target[2] for item in book.shown for _, _, target in book.house.shown(item) if isinstance(target, tuple)}
+used = {target[2].strip("◌") or target[2] for item in book.shown for _, _, target in book.house.shown(item) if isinstance(target, tuple)}
 taken = [rest[1] for brought in book.house.brought.values() for kind, *rest in brought.values() if kind == "kit"]
-known = {name.strip("_") or name for name in taken}
+known = {name.strip("◌") or name for name in taken}
 further = [w.replace("\\|", "|") for w in re.findall(r"(?m)^\| `((?:\\\||[^`])+)` \|", chapter("Further names of the kit"))]
 faults += [f"docs/NOTATION.md does not have {name}, which a definition uses" for name in sorted(used - set(further) - set(first))]
 faults += [f"docs/NOTATION.md has {name}, which no definition takes from the kit" for name in sorted(set(further) - known)]

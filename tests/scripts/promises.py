@@ -40,7 +40,8 @@ the code and the edits
   `OutputsCorrelated` of `CommonFacts`;
 
 the landing notes
-- docs/landings/README.md names only what exists today, and has a row for each name in the notes that does not.
+- docs/landings/README.md names only what exists today, and has a row for each name in the notes that does not, nor in the spelling
+  that the port to today's kit gave it (tools/port-names).
 """
 import glob
 import os
@@ -70,11 +71,12 @@ PAGES = {DOCUMENT, SECOND}
 # what each may import of this repository
 ALLOWED = {DOCUMENT: set(), SECOND: {DOCUMENT}, STATEMENTS: {DOCUMENT}, SECOND_STATEMENTS: PAGES | {STATEMENTS},
            BEYOND: PAGES | {STATEMENTS, SECOND_STATEMENTS, ("market", "Bytes")}}
-DATA = ("market", "Bytes", "marketBytes")  # the demo's bytes: a list of numbers and no definition
+DATA = ("market", "Bytes", "market_bytes")  # the demo's bytes: a list of numbers and no definition
 # the definitions that give an enum's numbers, and what stands in them: document 01's forms have promises go through them
-ENUM = {"use Rattle·prime.specs.Prime.{prime}", "use Rattle·prime.specs.declared.signed.FromSigned.the-variants.{Element, OutOfRange}",
-        "use Rattle·amounts.specs.declared.WrittenAmount.{WrittenAmount}", "use Rattle·amounts.specs.Calls.{writtenAs}"}
-ENUM_NUMBERS = ("amounts", "Calls", "writtenAs")
+ENUM = {"use Rattle.prime.specs.Prime.{prime}", "use Rattle.prime.specs.declared.signed.FromSigned.TheVariants.{Element, OutOfRange}",
+        "use Rattle.amounts.specs.declared.WrittenAmount.{WrittenAmount}", "use Rattle.amounts.specs.Calls.{written_as}"}
+ENUM_NUMBERS = ("amounts", "Calls", "written_as")
+OWN = re.compile(r"Rattle\.(?!(?:core|std)\.)")  # a module of this repository, and none of the kit's
 WIDTH = 140
 # laws: statements over workings that the statements over the pages say again
 LAWS = {("claims", "Correlation", "Demand3"), ("claims", "Records", "Records"), ("claims", "Acceptance", "Acceptance"),
@@ -121,9 +123,9 @@ def imports(text):
 
 
 def signs(name):
-    """The words by which a text uses a name: `if` of `if_then_else_`, `!` of `_!_`, and `do` besides of `_>>=_`."""
-    first = [part for part in name.split("_") if part][:1]
-    return {"if_then_else_": {"if"}, "_>>=_": {">>=", "do"}}.get(name, set(first) if "_" in name else {name})
+    """The words by which a text uses a name: `when` of `when◌then◌else◌`, `!` of `◌!◌`, and `do` besides of `◌>>=◌`."""
+    first = [part for part in name.split("◌") if part][:1]
+    return {"when◌then◌else◌": {"when"}, "◌>>=◌": {">>=", "do"}}.get(name, set(first) if "◌" in name else {name})
 
 
 def own_names(names):
@@ -141,7 +143,7 @@ for key, item in house.definitions.items():
     else:
         definitions[key] = item.text + "\n"
         above = key
-mixed = {key[:2] + (sign,): key for key in definitions if "_" in key[2] for sign in signs(key[2])}
+mixed = {key[:2] + (sign,): key for key in definitions if "◌" in key[2] for sign in signs(key[2])}
 brought = {key: own_names(names) for key, names in house.brought.items() if isinstance(key, tuple) and key[1].split(".")[0] != "declared"}
 
 
@@ -229,7 +231,7 @@ def stated(path, name):
     text = text_of(path)
     if path.endswith(".rt"):
         contract = re.search(r"(?m)^\s*(?:pub )?(?:extern \"C\" )?fn " + re.escape(name) + r"\b(.*?)^\s*\{\n", text, re.S)
-        found = cited(" ".join(re.findall(r"ensures \{(.*?)\}\n", contract[1] + "\n", re.S)), imports(text)) if contract else set()
+        found = cited(" ".join(re.findall(r"ensures (?:\w+ )?\{(.*?)\}\n", contract[1] + "\n", re.S)), imports(text)) if contract else set()
         return found or f"the contract of {name} in {path} cites no statement"
     declared = re.search(r"(?m)^( *)(?:abbrev |unfoldable )*(?:pub )?" + re.escape(name) + r" :((?: |\n).*?)\n(?=\1" + re.escape(name)
                          + r"\s|\1unfolding |\s*\n|\1--)", text, re.S)
@@ -380,11 +382,13 @@ for path, name in sorted(house.contracts):
                    for key in sorted(calls[path, name]) if key[:2] not in pages]
         if not calls[path, name]:
             faults.append(f"{path}: the contract of {name} cites nothing of a page")
-        if "Rattle·" in text:
+        if "Rattle." in text:
             faults.append(f"{path}: the contract of {name} names a module of this repository")
 for path in EXPORTS + [LINE[0]]:
     pages = {DOCUMENT} if path in (EXPORTS_OF_DOCUMENT, LINE[0]) else PAGES
-    for module in re.findall(r"(?m)^ghost use (Rattle·\S+?)(?:\.\{|;| as )", text_of(path)):
+    for module in re.findall(r"(?m)^ghost use (\S+?)(?:\.\{|;| as )", text_of(path)):
+        if not OWN.match(module):
+            continue
         if reader.MODULE.fullmatch(module) is None or reader.MODULE.fullmatch(module).groups() not in pages:
             faults.append(f"{path}: `ghost use` of {module}, and contracts cite the pages alone")
 found = house.contracts.get(LINE)
@@ -405,9 +409,9 @@ for module, allowed in ALLOWED.items():
             faults.append(f"{path}:{number}: the line has {len(line)} characters, more than {WIDTH}")
         if re.match(r"\s*(?:pub )?use ", line):
             place = reader.MODULE.fullmatch(re.split(r"\.\{| as ", line.split("use ", 1)[1])[0])
-            if "Rattle·" in line and not (place and place.groups() in allowed) and not (module == SECOND and line in ENUM):
+            if OWN.search(line) and not (place and place.groups() in allowed) and not (module == SECOND and line in ENUM):
                 faults.append(f"{path}:{number}: it imports {line.split()[1].split('.{')[0]} of this repository")
-        elif "Rattle·" in line.split("--")[0]:
+        elif "Rattle." in line.split("--")[0]:
             faults.append(f"{path}:{number}: it names a module of this repository")
 if together > TOGETHER:
     faults.append(f"the pages and their statements have {together} lines together, more than {TOGETHER}")
@@ -438,7 +442,8 @@ for path, name in sorted(calls):
         crate, name = (called.split("::")[0] if "::" in called else path.split("/")[1]), called.split("::")[-1]
         for (place, function), contract in sorted(house.contracts.items()):
             if function == name and place.startswith(f"crates/{crate}/src/"):
-                passed_on |= cited(contract.text, imports(text_of(place)))
+                brings = {word: key for word, key in imports(text_of(place)).items() if word not in contract.hidden()}
+                passed_on |= cited(re.sub(r"\bfn \w+", "fn", contract.text, count=1), brings)
 proved = set()
 for path in glob.glob("crates/*/proofs/**/*.antt", recursive=True):
     text = text_of(path)
@@ -457,7 +462,7 @@ faults += [f"{show(key)} is reached by no promise and is no working: it belongs 
 
 # ---- nothing that a contract says lies in proofs/
 
-PROOFS = re.compile(r"Rattle·\w+(?:·proofs|\.proofs)\b")
+PROOFS = re.compile(r"Rattle\.(?!(?:core|std)\.)\w+\.proofs\b")
 for path in sorted(glob.glob("crates/*/src/**/*.rt", recursive=True) + glob.glob("crates/*/specs/**/*.antt", recursive=True)):
     code = re.sub(r"(?m)//.*$" if path.endswith(".rt") else r"(?m)--.*$", "", text_of(path))
     faults += [f"{path} names {name}, and nothing that a contract says may lie in proofs/" for name in sorted(set(PROOFS.findall(code)))]
@@ -471,7 +476,7 @@ for path in EXPORTS:
     for part in re.split(r"(?m)^pub extern \"C\" fn ", code)[1:]:
         exported += 1
         name = re.match(r"\w+", part)[0]
-        ensures, requires = len(re.findall(r"\bensures \{", part)), len(re.findall(r"\brequires \{", part))
+        ensures, requires = (len(re.findall(rf"\b{word}\*? (?:\w+ )?\{{", part)) for word in ("ensures", "requires"))
         if ensures != 1:
             faults.append(f"{path}: the exported {name} has {ensures} `ensures` and not exactly one")
         if requires:
@@ -500,11 +505,23 @@ for key in sorted(statements | LAWS):
 
 # ---- names in the landing notes
 
-everything = "\n".join(text_of(p) for ext in ("antt", "rt") for p in glob.glob(f"crates/**/*.{ext}", recursive=True))
+sources = [p for part in ("src", "specs", "proofs") for p in glob.glob(f"crates/*/{part}/**/*", recursive=True) if p.endswith((".rt", ".antt"))]
+everything = "\n".join(text_of(p) for p in sources)
 today = set(re.findall(r"[^\s(){};,.:`\"]+", everything))
 today |= {os.path.basename(p)[:-len(".edit")] for p in glob.glob("crates/*/must-fail/*.edit")}
 today |= set(os.listdir("crates"))
-today |= {w for p in glob.glob("crates/**/*.antt", recursive=True) for w in (os.path.basename(p), os.path.basename(p)[:-len(".antt")])}
+today |= {w for p in sources if p.endswith(".antt") for w in (os.path.basename(p), os.path.basename(p)[:-len(".antt")])}
+
+
+def spelled(word):
+    """A name in the spellings that it may have since tools/port-names: snake case for mixed case, `_` for some of its dashes."""
+    def snake(part):
+        part = re.sub(r"(?<=[a-z0-9])([A-Z]+)(?=[^a-zA-Z]|$)", lambda m: "_" + m[1].lower(), part) if part[:1].islower() else part
+        return re.sub(r"(?<=[a-z0-9])([A-Z])(?=[a-z0-9])", lambda m: "_" + m[1].lower(), part) if part[:1].islower() else part
+    made = [""]
+    for part in word.replace("′", "'").split("-"):
+        made = [start + dash + snake(part) for start in made for dash in (("-", "_") if start else ("",))]
+    return {word, *made}
 NEWER = f"{NOTES}/README.md"
 mapped = set()
 for line in text_of(NEWER).split("\n"):
@@ -519,7 +536,7 @@ for line in text_of(NEWER).split("\n"):
                 faults.append(f"{NEWER}: there is no {path}")
 for path in sorted(set(glob.glob(f"{NOTES}/*.md")) - {NEWER}):
     for name in sorted(set(re.findall(r"`([^`]+)`", text_of(path)))):
-        known = os.path.exists(name) if "/" in name else all(w in today for w in name.replace("::", " ").split())
+        known = os.path.exists(name) if "/" in name else all(spelled(w) & today for w in name.replace("::", " ").split())
         if not known and name not in mapped:
             faults.append(f"{path}: `{name}` is no name of today, and {NEWER} does not say what it became")
 
