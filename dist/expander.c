@@ -13,9 +13,14 @@
  * Reading it: a function stands under its crate, file and line, and below those that it calls. usize has 64 bits on every machine. A
  * reference is an address in bytes, a slice is one with a number of elements, an enum is a union whose variants begin with the tag. No
  * operation on unsigned numbers wraps. Signed numbers are kept as unsigned ones of the same bits.
+ *
+ * A function that is written for several types stands here once for each, under the crate, file and line of its text; one of the kit's own
+ * library stands under its name there. An enum of which no variant holds anything is its tag. A value of no content has no place in C, and
+ * neither has a branch that the proofs exclude.
  */
 #include "expander.h"
 #include <stdbool.h>
+#include <string.h>
 
 #if !(defined __BYTE_ORDER__ && __BYTE_ORDER__ == __ORDER_LITTLE_ENDIAN__) && !defined _WIN32
 #error "expander.c is for machines that keep words least byte first"
@@ -130,9 +135,25 @@ typedef struct {
 } record_Layout;
 
 typedef struct {
+    record_Layout layout;
+    slice roots;
+    slice positions;
+    slice values;
+    slice delta;
+    slice code_key;
+    slice label;
+} dealing_tests_input_Input;
+
+typedef struct {
     uint64_t noise;
     uint64_t scalar;
-} dealing_tests_fault_Rooms;
+} dealing_tests_input_Rooms;
+
+enum { answer_Refusal_bad_field, answer_Refusal_bad_size, answer_Refusal_bad_length, answer_Refusal_bad_position, answer_Refusal_bad_noise, answer_Refusal_bad_delta, answer_Refusal_window_past_end, answer_Refusal_not_element, answer_Refusal_wrong_end, answer_Refusal_record_ends, answer_Refusal_bad_number, answer_Refusal_bytes_after, answer_Refusal_buffer_short, answer_Refusal_no_caller, answer_Refusal_share_spent, answer_Refusal_shares_above, answer_Refusal_bad_circuit, answer_Refusal_too_few_triples, answer_Refusal_amount_out_of_range, answer_Refusal_label_not_above, answer_Refusal_label_not_in_use };
+
+typedef struct {
+    uint8_t tag;
+} answer_Refusal;
 
 typedef struct {
     uint32_t number;
@@ -141,15 +162,48 @@ typedef struct {
 } answer_TwoLengths;
 
 typedef struct {
+    answer_Refusal m0;
+} ErrResidual_answer_Refusal;
+
+typedef union {
+    struct { uint8_t tag; } ok;
+    struct { uint8_t tag; answer_Refusal m1; } err;
+} Result_unit_answer_Refusal;
+
+typedef union {
+    struct { uint8_t tag; } continue_;
+    struct { uint8_t tag; ErrResidual_answer_Refusal m1; } break_;
+} ControlFlow_ErrResidual_answer_Refusal_unit;
+
+typedef struct {
+    slice rest;
+} Iter_uint64;
+
+typedef struct {
+    char *m0;
+} dealing_tests_tests_fn_every_noise_all_Self_ref_uint64;
+
+typedef union {
+    struct { uint8_t tag; } none;
+    struct { uint8_t tag; char *m1; } some;
+} Option_ref_uint64;
+
+typedef struct {
     uint64_t low;
     uint64_t high;
 } field_element_Element;
 
 typedef struct {
-    uint8_t a[256];
-} uint8_256;
+    uint8_t a[8];
+} uint8_8;
 
-SAME(uint8_256, sizeof(uint8_256), 256);
+SAME(uint8_8, sizeof(uint8_8), 8);
+
+enum { record_End_noise, record_End_scalar };
+
+typedef struct {
+    uint8_t tag;
+} record_End;
 
 typedef struct {
     uint64_t a[40];
@@ -162,6 +216,22 @@ typedef struct {
 } uint64_40_8;
 
 SAME(uint64_40_8, sizeof(uint64_40_8), 2560);
+
+typedef struct {
+    char *words;
+} aes_sbox_Tables;
+
+typedef struct {
+    uint8_t a[256];
+} uint8_256;
+
+SAME(uint8_256, sizeof(uint8_256), 256);
+
+typedef struct {
+    uint8_t a[10];
+} uint8_10;
+
+SAME(uint8_10, sizeof(uint8_10), 10);
 
 typedef struct {
     uint8_t a[4];
@@ -212,7 +282,16 @@ typedef struct {
 typedef struct {
     field_block_Block one;
     field_block_Block other;
-} aes_blocks_TwoBlocks;
+} aes_blocks_Two_field_block_Block;
+
+typedef struct {
+    char *ptr;
+    uint64_t len;
+} Slots_uint8;
+
+typedef struct {
+    Slots_uint8 m0;
+} tuple_Slots_uint8_unit_unit;
 
 typedef struct {
     uint64_t word;
@@ -240,14 +319,81 @@ typedef struct {
 } record_describe_Described;
 
 typedef union {
-    struct { uint8_t tag; record_Layout m1; } accepted;
-    struct { uint8_t tag; uint32_t m1; } fault;
-} record_RecordAnswer;
+    struct { uint8_t tag; } none;
+    struct { uint8_t tag; char *m1; } some;
+} Option_ref_uint8;
+
+typedef struct {
+    uint64_t position;
+    uint64_t value;
+    field_element_Element correction;
+    uint64_t siblings;
+} record_Tree;
+
+typedef struct {
+    record_Tree m0;
+    uint64_t m1;
+} tuple_record_Tree_uint64;
 
 typedef union {
-    struct { uint8_t tag; uint64_t m1; uint64_t m2; } value;
-    struct { uint8_t tag; uint32_t m1; } fault;
-} number_Number;
+    struct { uint8_t tag; record_Layout m1; } ok;
+    struct { uint8_t tag; answer_Refusal m1; } err;
+} Result_record_Layout_answer_Refusal;
+
+typedef struct {
+    uint64_t m0;
+    uint64_t m1;
+} tuple_uint64_uint64;
+
+typedef union {
+    struct { uint8_t tag; tuple_uint64_uint64 m1; } ok;
+    struct { uint8_t tag; answer_Refusal m1; } err;
+} Result_tuple_uint64_uint64_answer_Refusal;
+
+typedef union {
+    struct { uint8_t tag; tuple_uint64_uint64 m1; } continue_;
+    struct { uint8_t tag; ErrResidual_answer_Refusal m1; } break_;
+} ControlFlow_ErrResidual_answer_Refusal_tuple_uint64_uint64;
+
+typedef union {
+    struct { uint8_t tag; uint64_t m1; } ok;
+    struct { uint8_t tag; answer_Refusal m1; } err;
+} Result_uint64_answer_Refusal;
+
+typedef union {
+    struct { uint8_t tag; uint64_t m1; } continue_;
+    struct { uint8_t tag; ErrResidual_answer_Refusal m1; } break_;
+} ControlFlow_ErrResidual_answer_Refusal_uint64;
+
+typedef union {
+    struct { uint8_t tag; record_Layout m1; } continue_;
+    struct { uint8_t tag; ErrResidual_answer_Refusal m1; } break_;
+} ControlFlow_ErrResidual_answer_Refusal_record_Layout;
+
+typedef struct {
+    field_element_Element m0;
+    uint64_t m1;
+} tuple_field_element_Element_uint64;
+
+typedef union {
+    struct { uint8_t tag; tuple_record_Tree_uint64 m1; } ok;
+    struct { uint8_t tag; answer_Refusal m1; } err;
+} Result_tuple_record_Tree_uint64_answer_Refusal;
+
+typedef union {
+    struct { uint8_t tag; tuple_field_element_Element_uint64 m1; } ok;
+    struct { uint8_t tag; answer_Refusal m1; } err;
+} Result_tuple_field_element_Element_uint64_answer_Refusal;
+
+typedef union {
+    struct { uint8_t tag; tuple_field_element_Element_uint64 m1; } continue_;
+    struct { uint8_t tag; ErrResidual_answer_Refusal m1; } break_;
+} ControlFlow_ErrResidual_answer_Refusal_tuple_field_element;
+
+typedef union {
+    struct { uint8_t tag; tuple_record_Tree_uint64 m1; } continue_;
+    struct { uint8_t tag; ErrResidual_answer_Refusal m1; } break_;
+} ControlFlow_ErrResidual_answer_Refusal_tuple_record_Tree;
 
 typedef struct {
     uint64_t a[2];
@@ -255,18 +401,10 @@ typedef struct {
 
 SAME(uint64_2, sizeof(uint64_2), 16);
 
-typedef struct {
-    uint64_t position;
-    uint64_t value;
-    uint64_t low;
-    uint64_t high;
-    uint64_t siblings;
-} record_Tree;
-
-typedef struct {
-    uint64_t number;
-    uint64_t next;
-} number_Known;
+typedef union {
+    struct { uint8_t tag; uint64_t m1; } ok;
+    struct { uint8_t tag; } err;
+} Result_uint64_AllocError;
 
 typedef struct {
     uint64_t branch_bits;
@@ -311,9 +449,8 @@ typedef struct {
 } window_WindowRows;
 
 typedef struct {
-    code_Shape shape;
-    uint64_t x;
-} rows_row_CodeRow;
+    slice w;
+} rows_scalar_scalar_binary_ScalarBinary;
 
 typedef struct {
     uint8_4_4 a[2];
@@ -322,20 +459,24 @@ typedef struct {
 SAME(uint8_4_4_2, sizeof(uint8_4_4_2), 32);
 
 typedef struct {
-    uint64_t one;
-    uint64_t other;
-} aes_rows_TwoWords;
-
-typedef struct {
     uint64_t u;
     field_block_Block v;
     bool admitted;
 } rows_row_BinaryPair;
 
 typedef struct {
+    slice noise;
+    slice v;
+} rows_noise_noise_binary_NoiseBinary;
+
+typedef struct {
     uint64_t total;
     bool admitted;
 } rows_row_PrimeSum;
+
+typedef struct {
+    slice w;
+} rows_scalar_scalar_prime_ScalarPrime;
 
 typedef struct {
     prime_prime_Prime w;
@@ -349,10 +490,24 @@ typedef struct {
 } rows_row_PrimeSums;
 
 typedef struct {
+    slice noise;
+    slice v;
+} rows_noise_noise_prime_NoisePrime;
+
+typedef struct {
     prime_prime_Prime u;
     prime_prime_Prime v;
     bool admitted;
 } rows_row_PrimePair;
+
+typedef struct {
+    char *ptr;
+    uint64_t len;
+} Slots_uint64;
+
+typedef struct {
+    Slots_uint64 m0;
+} tuple_Slots_uint64_unit_unit;
 
 typedef struct {
     uint64_t place;
@@ -366,16 +521,18 @@ typedef struct {
 SAME(uint64_1, sizeof(uint64_1), 8);
 
 typedef struct {
-    uint64_t a[320];
-} uint64_320;
+    record_Tree a[64];
+} record_Tree_64;
 
-SAME(uint64_320, sizeof(uint64_320), 2560);
+SAME(record_Tree_64, sizeof(record_Tree_64), 2560);
 
 typedef struct {
     record_Layout layout;
     uint64_t first;
     uint64_t count;
 } ends_bench_accepted_Rows;
+
+SAME(record_Tree, sizeof(record_Tree), 40);
 
 typedef struct {
     uint64_t number;
@@ -410,6 +567,23 @@ typedef struct {
 } ends_bench_leaves_walk_Levels;
 
 typedef struct {
+    aes_sbox_Tables tables;
+    char *keys;
+} pads_rule_rule_PadCipher;
+
+typedef struct {
+    uint8_t a[4096];
+} uint8_4096;
+
+SAME(uint8_4096, sizeof(uint8_4096), 4096);
+
+typedef struct {
+    uint32_t phase;
+    uint32_t gate;
+    uint8_4096 wires;
+} circuit_run_StepState;
+
+typedef struct {
     uint64_t inputs;
     uint64_t gates;
     uint64_t outputs;
@@ -426,7 +600,6 @@ typedef struct {
 } circuit_run_places_Asked;
 
 typedef struct {
-    bool admitted;
     uint64_t gate;
     uint64_t first_wire;
     uint64_t second_wire;
@@ -435,21 +608,14 @@ typedef struct {
 } circuit_run_places_Spot;
 
 typedef union {
-    struct { uint8_t tag; circuit_Layout m1; } accepted;
-    struct { uint8_t tag; uint32_t m1; } fault;
-} circuit_Answer;
+    struct { uint8_t tag; } none;
+    struct { uint8_t tag; circuit_run_places_Spot m1; } some;
+} Option_circuit_run_places_Spot;
 
-typedef struct {
-    uint8_t a[4096];
-} uint8_4096;
-
-SAME(uint8_4096, sizeof(uint8_4096), 4096);
-
-typedef struct {
-    uint32_t phase;
-    uint32_t gate;
-    uint8_4096 wires;
-} circuit_run_StepState;
+typedef union {
+    struct { uint8_t tag; Option_circuit_run_places_Spot m1; } going;
+    struct { uint8_t tag; } finished;
+} circuit_run_places_Run;
 
 typedef struct {
     uint32_t number;
@@ -459,10 +625,41 @@ typedef struct {
     circuit_run_StepState state;
 } circuit_run_Stepped;
 
+typedef union {
+    struct { uint8_t tag; circuit_Layout m1; } ok;
+    struct { uint8_t tag; answer_Refusal m1; } err;
+} Result_circuit_Layout_answer_Refusal;
+
+typedef union {
+    struct { uint8_t tag; uint64_t m1; uint64_t m2; } xor;
+    struct { uint8_t tag; uint64_t m1; uint64_t m2; } and;
+    struct { uint8_t tag; uint64_t m1; } not;
+} circuit_Gate;
+
 typedef struct {
-    uint32_t number;
-    circuit_run_places_Spot spot;
-} circuit_run_places_Checked;
+    circuit_Gate m0;
+    uint64_t m1;
+} tuple_circuit_Gate_uint64;
+
+typedef union {
+    struct { uint8_t tag; tuple_circuit_Gate_uint64 m1; } ok;
+    struct { uint8_t tag; answer_Refusal m1; } err;
+} Result_tuple_circuit_Gate_uint64_answer_Refusal;
+
+typedef union {
+    struct { uint8_t tag; tuple_circuit_Gate_uint64 m1; } continue_;
+    struct { uint8_t tag; ErrResidual_answer_Refusal m1; } break_;
+} ControlFlow_ErrResidual_answer_Refusal_tuple_circuit_Gate;
+
+typedef union {
+    struct { uint8_t tag; circuit_run_places_Run m1; } ok;
+    struct { uint8_t tag; answer_Refusal m1; } err;
+} Result_circuit_run_places_Run_answer_Refusal;
+
+typedef union {
+    struct { uint8_t tag; } none;
+    struct { uint8_t tag; circuit_run_places_Run m1; } some;
+} Option_circuit_run_places_Run;
 
 typedef struct {
     uint64_t gate;
@@ -470,29 +667,19 @@ typedef struct {
     uint64_t ands;
 } circuit_run_places_Place;
 
-typedef struct {
-    uint64_t kind;
-    uint64_t first_wire;
-    uint64_t second_wire;
-    uint64_t next;
-} circuit_GateRead;
+typedef union {
+    struct { uint8_t tag; circuit_run_places_Spot m1; } continue_;
+    struct { uint8_t tag; } break_;
+} ControlFlow_NoValue_circuit_run_places_Spot;
 
 typedef struct {
-    bool waits;
-    uint64_t gate;
-    uint64_t first_wire;
-    uint64_t second_wire;
-    uint64_t ands;
-} circuit_run_places_Reached;
+    uint8_4096 wires;
+} circuit_run_RoundState;
 
 typedef struct {
     circuit_Layout layout;
     uint8_t role;
 } circuit_round_tests_Frame;
-
-typedef struct {
-    uint8_4096 wires;
-} circuit_run_RoundState;
 
 typedef struct {
     uint32_t number;
@@ -507,10 +694,12 @@ typedef struct {
 } circuit_round_accepted_Lengths;
 
 typedef struct {
-    uint8_t own;
-    uint8_t x;
-    uint8_t y;
-} circuit_gates_bytes_GateBytes;
+    uint8_t role;
+    slice triples;
+    uint64_t ands;
+    slice far_bits;
+    uint64_t passed;
+} circuit_gates_bytes_Opening;
 
 typedef struct {
     uint32_t number;
@@ -522,14 +711,14 @@ typedef struct {
 } circuit_describe_DescribedCircuit;
 
 typedef struct {
-    uint8_16 bytes;
-} stock_Label;
-
-typedef struct {
     uint32_t a[8];
 } uint32_8;
 
 SAME(uint32_8, sizeof(uint32_8), 32);
+
+typedef struct {
+    uint8_16 bytes;
+} stock_Label;
 
 typedef struct {
     uint32_t callers;
@@ -542,6 +731,25 @@ typedef struct {
     uint32_t number;
     stock_Stock stock;
 } stock_OpenedStock;
+
+typedef union {
+    struct { uint8_t tag; uint32_8 m1; } ok;
+    struct { uint8_t tag; answer_Refusal m1; } err;
+} Result_uint32_8_answer_Refusal;
+
+typedef struct {
+    char *ptr;
+    uint64_t len;
+} Slots_uint32;
+
+typedef struct {
+    Slots_uint32 m0;
+} tuple_Slots_uint32_unit_unit;
+
+typedef struct {
+    slice a;
+    slice b;
+} ElementMismatch_uint8;
 
 typedef struct {
     uint32_t number;
@@ -568,9 +776,9 @@ typedef struct {
 } amounts_WrittenAmount;
 
 typedef union {
-    struct { uint8_t tag; prime_prime_Prime m1; } element;
-    struct { uint8_t tag; } out_of_range;
-} prime_signed_FromSigned;
+    struct { uint8_t tag; } none;
+    struct { uint8_t tag; prime_prime_Prime m1; } some;
+} Option_prime_prime_Prime;
 
 typedef struct {
     uint16_t a[4096];
@@ -602,61 +810,1217 @@ typedef struct {
 
 SAME(uint64_96, sizeof(uint64_96), 768);
 
-static void tree_walk_leaf_put_children(char *tables, char *keys, field_block_Block s, uint64_t from, uint64_t pairs, uint64_t at, slice
-    out);
+static void tree_walk_leaf_put_children(aes_sbox_Tables tables, char *keys, field_block_Block s, uint64_t from, uint64_t pairs, uint64_t at,
+    slice out);
 
 static tree_walk_down_Start tree_walk_down_from_sibling(uint64_t branch_bits, uint64_t levels, uint64_t position, uint64_t j, uint64_t at);
 
-static void tree_fill_fill_add_range(char *tables, char *keys, uint64_t field, tree_sums_range_Range range, field_block_Block s, slice acc);
-
-static void tree_fill_fill_add_run(char *tables, char *keys, uint64_t field, tree_sums_range_Range run, uint64_t at, slice bytes, slice
-    acc);
-
-static void tree_fill_fill_add_path(char *tables, char *keys, uint64_t field, tree_fill_range_Path path, slice bytes, uint64_2 correction,
+static void tree_fill_fill_add_range(aes_sbox_Tables tables, char *keys, uint64_t field, tree_sums_range_Range range, field_block_Block s,
     slice acc);
 
-/* answer, src/lengths.rt:5: Whether a length is `width` bytes an output. */
-INLINE bool answer_lengths_is_times(uint64_t len, uint64_t width, uint64_t count)
+static void tree_fill_fill_add_run(aes_sbox_Tables tables, char *keys, uint64_t field, tree_sums_range_Range run, uint64_t at, slice bytes,
+    slice acc);
+
+static void tree_fill_fill_add_path(aes_sbox_Tables tables, char *keys, uint64_t field, tree_fill_range_Path path, slice bytes, uint64_2
+    correction, slice acc);
+
+/* core::int::usize::min of the kit */
+INLINE uint64_t core_usize_min(uint64_t self, uint64_t other)
 {
-    bool result, t5, t6;
-    uint64_t t4, t7;
-    t4 = len % width;
-    t5 = t4 == 0ull;
-    if (t5) {
-        t7 = len / width;
-        t6 = t7 == count;
+    uint64_t result, t4;
+    bool t3;
+    t3 = other < self;
+    if (t3) {
+        t4 = other;
     } else {
-        t6 = false;
+        t4 = self;
     }
-    result = t6;
+    result = t4;
     return result;
 }
 
-/* answer, src/lib.rt:68: The answer of a refused call with two output buffers. */
-INLINE answer_TwoLengths answer_refused_two(uint32_t number)
+/* core::result::ResultTry::branch of the kit, at () and Refusal */
+INLINE ControlFlow_ErrResidual_answer_Refusal_unit core_ResultTry_branch_unit_answer_Refusal(Result_unit_answer_Refusal self)
 {
-    answer_TwoLengths result;
-    result = (answer_TwoLengths){number, 0ull, 0ull};
+    ControlFlow_ErrResidual_answer_Refusal_unit result, t4;
+    answer_Refusal e, t6;
+    ErrResidual_answer_Refusal t7;
+    switch (self.ok.tag) {
+    case 0:
+        t4 = (ControlFlow_ErrResidual_answer_Refusal_unit){.continue_ = {0u}};
+        break;
+    default:
+        e = self.err.m1;
+        t6 = e;
+        t7 = (ErrResidual_answer_Refusal){t6};
+        t4 = (ControlFlow_ErrResidual_answer_Refusal_unit){.break_ = {1u, t7}};
+        break;
+    }
+    result = t4;
     return result;
 }
 
-/* answer, src/lengths.rt:25: Whether a window passes its end. */
-INLINE bool answer_lengths_is_past(uint64_t first, uint64_t count, uint64_t end)
+/* core::convert::AnyFrom::from of the kit, at Refusal */
+INLINE answer_Refusal core_AnyFrom_from_answer_Refusal(answer_Refusal value)
 {
-    bool result, t4, t5;
-    uint64_t t6;
-    t4 = first <= end;
+    answer_Refusal result;
+    result = value;
+    return result;
+}
+
+/* core::result::ResultFromResidualErrResidual::from_residual of the kit, at () and Refusal and Refusal */
+INLINE Result_unit_answer_Refusal core_ResultFromResidualErrResidual_from_residual_unit(ErrResidual_answer_Refusal residual)
+{
+    Result_unit_answer_Refusal result;
+    answer_Refusal t2, t3;
+    t3 = residual.m0;
+    t2 = core_AnyFrom_from_answer_Refusal(t3);
+    result = (Result_unit_answer_Refusal){.err = {1u, t2}};
+    return result;
+}
+
+/* core::iter::slices::slice+T::iter of the kit, at u64 */
+INLINE Iter_uint64 core_slice_iter_uint64(slice self)
+{
+    Iter_uint64 result;
+    result = (Iter_uint64){self};
+    return result;
+}
+
+/* core::slice::slice+T::is_empty of the kit, at u64 */
+INLINE bool core_slice_is_empty_uint64(slice self)
+{
+    bool result;
+    uint64_t t2;
+    t2 = self.count;
+    result = t2 == 0ull;
+    return result;
+}
+
+/* core::iter::slices::IterIterator::next of the kit, at u64 */
+INLINE Option_ref_uint64 core_IterIterator_next_uint64(char *self)
+{
+    Option_ref_uint64 result;
+    slice rest, t8;
+    bool t3;
+    uint64_t t4, t6;
+    char *t5, *t7, *t9, *t10;
+    rest = ((Iter_uint64 *)self)->rest;
+    t3 = core_slice_is_empty_uint64(rest);
+    if (t3) {
+        result = (Option_ref_uint64){.none = {0u}};
+        return result;
+    }
+    t4 = 1ull * 8ull;
+    t5 = rest.at + t4;
+    t6 = rest.count - 1ull;
+    t7 = t5;
+    t8 = (slice){t7, t6};
+    ((Iter_uint64 *)self)->rest = t8;
+    t4 = 0ull * 8ull;
+    t9 = rest.at + t4;
+    t10 = t9;
+    result = (Option_ref_uint64){.some = {1u, t10}};
+    return result;
+}
+
+/* core::int::u64::from_le_bytes of the kit */
+INLINE uint64_t core_u64_from_le_bytes(uint8_8 bytes)
+{
+    uint64_t result, t6, t10, t11, t12, t16, t17, t18, t22, t23, t24, t28, t29, t30, t34, t35, t36, t40, t41, t42, t46, t47;
+    uint8_8 bytes_slot;
+    char *t3, *t4, *t7, *t8, *t13, *t14, *t19, *t20, *t25, *t26, *t31, *t32, *t37, *t38, *t43, *t44;
+    uint8_t t5, t9, t15, t21, t27, t33, t39, t45;
+    bytes_slot = bytes;
+    t3 = (char *)&bytes_slot;
+    t4 = t3 + 0ull;
+    t5 = *(uint8_t *)t4;
+    t6 = (uint64_t)t5;
+    t7 = (char *)&bytes_slot;
+    t8 = t7 + 1ull;
+    t9 = *(uint8_t *)t8;
+    t10 = (uint64_t)t9;
+    t11 = t10 * 256ull;
+    t12 = t6 + t11;
+    t13 = (char *)&bytes_slot;
+    t14 = t13 + 2ull;
+    t15 = *(uint8_t *)t14;
+    t16 = (uint64_t)t15;
+    t17 = t16 * 65536ull;
+    t18 = t12 + t17;
+    t19 = (char *)&bytes_slot;
+    t20 = t19 + 3ull;
+    t21 = *(uint8_t *)t20;
+    t22 = (uint64_t)t21;
+    t23 = t22 * 16777216ull;
+    t24 = t18 + t23;
+    t25 = (char *)&bytes_slot;
+    t26 = t25 + 4ull;
+    t27 = *(uint8_t *)t26;
+    t28 = (uint64_t)t27;
+    t29 = t28 * 4294967296ull;
+    t30 = t24 + t29;
+    t31 = (char *)&bytes_slot;
+    t32 = t31 + 5ull;
+    t33 = *(uint8_t *)t32;
+    t34 = (uint64_t)t33;
+    t35 = t34 * 1099511627776ull;
+    t36 = t30 + t35;
+    t37 = (char *)&bytes_slot;
+    t38 = t37 + 6ull;
+    t39 = *(uint8_t *)t38;
+    t40 = (uint64_t)t39;
+    t41 = t40 * 281474976710656ull;
+    t42 = t36 + t41;
+    t43 = (char *)&bytes_slot;
+    t44 = t43 + 7ull;
+    t45 = *(uint8_t *)t44;
+    t46 = (uint64_t)t45;
+    t47 = t46 * 72057594037927936ull;
+    result = t42 + t47;
+    return result;
+}
+
+/* core::convert::U64FromU8::from of the kit */
+INLINE uint64_t core_U64FromU8_from(uint8_t value)
+{
+    uint64_t result;
+    result = (uint64_t)value;
+    return result;
+}
+
+/* core::int::u32::from_le_bytes of the kit */
+INLINE uint32_t core_u32_from_le_bytes(uint8_4 bytes)
+{
+    uint32_t result, t6, t10, t11, t12, t16, t17, t18, t22, t23;
+    uint8_4 bytes_slot;
+    char *t3, *t4, *t7, *t8, *t13, *t14, *t19, *t20;
+    uint8_t t5, t9, t15, t21;
+    bytes_slot = bytes;
+    t3 = (char *)&bytes_slot;
+    t4 = t3 + 0ull;
+    t5 = *(uint8_t *)t4;
+    t6 = (uint32_t)t5;
+    t7 = (char *)&bytes_slot;
+    t8 = t7 + 1ull;
+    t9 = *(uint8_t *)t8;
+    t10 = (uint32_t)t9;
+    t11 = (uint32_t)(t10 * 256u);
+    t12 = (uint32_t)(t6 + t11);
+    t13 = (char *)&bytes_slot;
+    t14 = t13 + 2ull;
+    t15 = *(uint8_t *)t14;
+    t16 = (uint32_t)t15;
+    t17 = (uint32_t)(t16 * 65536u);
+    t18 = (uint32_t)(t12 + t17);
+    t19 = (char *)&bytes_slot;
+    t20 = t19 + 3ull;
+    t21 = *(uint8_t *)t20;
+    t22 = (uint32_t)t21;
+    t23 = (uint32_t)(t22 * 16777216u);
+    result = (uint32_t)(t18 + t23);
+    return result;
+}
+
+/* core::convert::U64FromU32::from of the kit */
+INLINE uint64_t core_U64FromU32_from(uint32_t value)
+{
+    uint64_t result;
+    result = (uint64_t)value;
+    return result;
+}
+
+/* core::int::u64::to_le_bytes of the kit */
+INLINE uint8_8 core_u64_to_le_bytes(uint64_t self)
+{
+    uint8_8 result;
+    uint64_t t2, t4, t5, t7, t8, t10, t11, t13, t14, t16, t17, t19, t20, t22, t23;
+    uint8_t t3, t6, t9, t12, t15, t18, t21, t24;
+    t2 = self % 256ull;
+    t3 = (uint8_t)t2;
+    t4 = self / 256ull;
+    t5 = t4 % 256ull;
+    t6 = (uint8_t)t5;
+    t7 = self / 65536ull;
+    t8 = t7 % 256ull;
+    t9 = (uint8_t)t8;
+    t10 = self / 16777216ull;
+    t11 = t10 % 256ull;
+    t12 = (uint8_t)t11;
+    t13 = self / 4294967296ull;
+    t14 = t13 % 256ull;
+    t15 = (uint8_t)t14;
+    t16 = self / 1099511627776ull;
+    t17 = t16 % 256ull;
+    t18 = (uint8_t)t17;
+    t19 = self / 281474976710656ull;
+    t20 = t19 % 256ull;
+    t21 = (uint8_t)t20;
+    t22 = self / 72057594037927936ull;
+    t23 = t22 % 256ull;
+    t24 = (uint8_t)t23;
+    result = (uint8_8){{t3, t6, t9, t12, t15, t18, t21, t24}};
+    return result;
+}
+
+/* core::ptr::copy_drop::copy_bits of the kit, at u8 */
+INLINE void core_copy_drop_copy_bits_uint8(char *t1, char *t2, uint64_t t3)
+{
+    if (t3 != 0ull)
+        memcpy(t2, t1, (size_t)t3 * sizeof(uint8_t));
+}
+
+/* core::slots::Slots::copy_in of the kit, at u8 */
+INLINE void core_Slots_copy_in_uint8(char *t1, uint64_t t2, slice t3)
+{
+    char *t5, *t6, *t8;
+    uint64_t t7, t9;
+    t5 = t3.at;
+    t6 = ((Slots_uint8 *)t1)->ptr;
+    t7 = t2 * 1ull;
+    t8 = t6 + t7;
+    t9 = t3.count;
+    core_copy_drop_copy_bits_uint8(t5, t8, t9);
+}
+
+/* core::slice::edits::copy_over of the kit, at u8 */
+INLINE tuple_Slots_uint8_unit_unit core_edits_copy_over_uint8(Slots_uint8 row, slice src)
+{
+    tuple_Slots_uint8_unit_unit result;
+    Slots_uint8 row_slot, t7;
+    char *t6;
+    row_slot = row;
+    t6 = (char *)&row_slot;
+    core_Slots_copy_in_uint8(t6, 0ull, src);
+    t7 = row_slot;
+    result = (tuple_Slots_uint8_unit_unit){t7};
+    return result;
+}
+
+/* core::core++slice++edits++copy_over+FnOnce::call_once of the kit, at u8 */
+INLINE tuple_Slots_uint8_unit_unit core_core_slice_edits_copy_over_FnOnce_call_once_uint8(Slots_uint8 arg2, slice arg4)
+{
+    tuple_Slots_uint8_unit_unit result;
+    result = core_edits_copy_over_uint8(arg2, arg4);
+    return result;
+}
+
+/* core::slots::lends::with_slots of the kit, at u8 and () and &[u8] and () and () */
+INLINE void core_lends_with_slots_uint8_unit_slice_uint8_unit_unit(slice t1, char *t2, slice t3)
+{
+    uint64_t t5;
+    char *t6;
+    Slots_uint8 t14;
+    slice t16;
+    (void)t2;
+    t5 = t1.count;
+    t6 = t1.at;
+    t14 = (Slots_uint8){t6, t5};
+    t16 = t3;
+    (void)core_core_slice_edits_copy_over_FnOnce_call_once_uint8(t14, t16);
+}
+
+/* core::slice::edits::slice+T::copy_from_slice of the kit, at u8 */
+INLINE void core_slice_copy_from_slice_uint8(slice self, slice src)
+{
+    char *t5, *t7;
+    slice t6;
+    t5 = self.at;
+    t6 = (slice){t5, self.count};
+    t7 = NULL;
+    core_lends_with_slots_uint8_unit_slice_uint8_unit_unit(t6, t7, src);
+}
+
+/* core::slice::index::UsizeSliceIndexRefSlice::pick of the kit, at u8 */
+INLINE Option_ref_uint8 core_UsizeSliceIndexRefSlice_pick_uint8(uint64_t self, slice s)
+{
+    Option_ref_uint8 result, t5;
+    uint64_t t3;
+    bool t4;
+    char *t7, *t8;
+    t3 = s.count;
+    t4 = self < t3;
     if (t4) {
-        t6 = end - first;
-        t5 = t6 < count;
+        t7 = s.at + self;
+        t8 = t7;
+        t5 = (Option_ref_uint8){.some = {1u, t8}};
     } else {
-        t5 = true;
+        t5 = (Option_ref_uint8){.none = {0u}};
     }
     result = t5;
     return result;
 }
 
-/* answer, src/lengths.rt:17: Whether a buffer is shorter than `width` bytes an output. */
+/* core::slice::slice+T::get of the kit, at u8 and u64 and &u8 */
+INLINE Option_ref_uint8 core_slice_get_uint8_uint64_ref_uint8(slice self, uint64_t index)
+{
+    Option_ref_uint8 result;
+    uint64_t t3;
+    t3 = index;
+    result = core_UsizeSliceIndexRefSlice_pick_uint8(t3, self);
+    return result;
+}
+
+/* core::slice::slice+T::first of the kit, at u8 */
+INLINE Option_ref_uint8 core_slice_first_uint8(slice self)
+{
+    Option_ref_uint8 result;
+    result = core_slice_get_uint8_uint64_ref_uint8(self, 0ull);
+    return result;
+}
+
+/* core::result::ResultTry::branch of the kit, at (u64, u64) and Refusal */
+INLINE ControlFlow_ErrResidual_answer_Refusal_tuple_uint64_uint64
+    core_ResultTry_branch_tuple_uint64_uint64_answer_Refusal(Result_tuple_uint64_uint64_answer_Refusal self)
+{
+    ControlFlow_ErrResidual_answer_Refusal_tuple_uint64_uint64 result, t4;
+    tuple_uint64_uint64 x, t5;
+    answer_Refusal e, t6;
+    ErrResidual_answer_Refusal t7;
+    switch (self.ok.tag) {
+    case 0:
+        x = self.ok.m1;
+        t5 = x;
+        t4 = (ControlFlow_ErrResidual_answer_Refusal_tuple_uint64_uint64){.continue_ = {0u, t5}};
+        break;
+    default:
+        e = self.err.m1;
+        t6 = e;
+        t7 = (ErrResidual_answer_Refusal){t6};
+        t4 = (ControlFlow_ErrResidual_answer_Refusal_tuple_uint64_uint64){.break_ = {1u, t7}};
+        break;
+    }
+    result = t4;
+    return result;
+}
+
+/* core::result::ResultFromResidualErrResidual::from_residual of the kit, at Layout and Refusal and Refusal */
+INLINE Result_record_Layout_answer_Refusal core_ResultFromResidualErrResidual_from_residual_record(ErrResidual_answer_Refusal residual)
+{
+    Result_record_Layout_answer_Refusal result;
+    answer_Refusal t2, t3;
+    t3 = residual.m0;
+    t2 = core_AnyFrom_from_answer_Refusal(t3);
+    result = (Result_record_Layout_answer_Refusal){.err = {1u, t2}};
+    return result;
+}
+
+/* core::result::ResultFromResidualErrResidual::from_residual of the kit, at (u64, u64) and Refusal and Refusal */
+INLINE Result_tuple_uint64_uint64_answer_Refusal core_ResultFromResidualErrResidual_from_residual_tuple(ErrResidual_answer_Refusal residual)
+{
+    Result_tuple_uint64_uint64_answer_Refusal result;
+    answer_Refusal t2, t3;
+    t3 = residual.m0;
+    t2 = core_AnyFrom_from_answer_Refusal(t3);
+    result = (Result_tuple_uint64_uint64_answer_Refusal){.err = {1u, t2}};
+    return result;
+}
+
+/* core::result::ResultTry::branch of the kit, at u64 and Refusal */
+INLINE ControlFlow_ErrResidual_answer_Refusal_uint64 core_ResultTry_branch_uint64_answer_Refusal(Result_uint64_answer_Refusal self)
+{
+    ControlFlow_ErrResidual_answer_Refusal_uint64 result, t4;
+    uint64_t x, t5;
+    answer_Refusal e, t6;
+    ErrResidual_answer_Refusal t7;
+    switch (self.ok.tag) {
+    case 0:
+        x = self.ok.m1;
+        t5 = x;
+        t4 = (ControlFlow_ErrResidual_answer_Refusal_uint64){.continue_ = {0u, t5}};
+        break;
+    default:
+        e = self.err.m1;
+        t6 = e;
+        t7 = (ErrResidual_answer_Refusal){t6};
+        t4 = (ControlFlow_ErrResidual_answer_Refusal_uint64){.break_ = {1u, t7}};
+        break;
+    }
+    result = t4;
+    return result;
+}
+
+/* core::result::ResultTry::branch of the kit, at Layout and Refusal */
+INLINE ControlFlow_ErrResidual_answer_Refusal_record_Layout
+    core_ResultTry_branch_record_Layout_answer_Refusal(Result_record_Layout_answer_Refusal self)
+{
+    ControlFlow_ErrResidual_answer_Refusal_record_Layout result, t4;
+    record_Layout x, t5;
+    answer_Refusal e, t6;
+    ErrResidual_answer_Refusal t7;
+    switch (self.ok.tag) {
+    case 0:
+        x = self.ok.m1;
+        t5 = x;
+        t4 = (ControlFlow_ErrResidual_answer_Refusal_record_Layout){.continue_ = {0u, t5}};
+        break;
+    default:
+        e = self.err.m1;
+        t6 = e;
+        t7 = (ErrResidual_answer_Refusal){t6};
+        t4 = (ControlFlow_ErrResidual_answer_Refusal_record_Layout){.break_ = {1u, t7}};
+        break;
+    }
+    result = t4;
+    return result;
+}
+
+/* core::result::ResultFromResidualErrResidual::from_residual of the kit, at (Tree, u64) and Refusal and Refusal */
+INLINE Result_tuple_record_Tree_uint64_answer_Refusal core_ResultFromResidualErrResidual_from_residual_tuple_2(ErrResidual_answer_Refusal
+    residual)
+{
+    Result_tuple_record_Tree_uint64_answer_Refusal result;
+    answer_Refusal t2, t3;
+    t3 = residual.m0;
+    t2 = core_AnyFrom_from_answer_Refusal(t3);
+    result = (Result_tuple_record_Tree_uint64_answer_Refusal){.err = {1u, t2}};
+    return result;
+}
+
+/* core::result::ResultTry::branch of the kit, at (Element, u64) and Refusal */
+INLINE ControlFlow_ErrResidual_answer_Refusal_tuple_field_element
+    core_ResultTry_branch_tuple_field_element_Element_uint64(Result_tuple_field_element_Element_uint64_answer_Refusal self)
+{
+    ControlFlow_ErrResidual_answer_Refusal_tuple_field_element result, t4;
+    tuple_field_element_Element_uint64 x, t5;
+    answer_Refusal e, t6;
+    ErrResidual_answer_Refusal t7;
+    switch (self.ok.tag) {
+    case 0:
+        x = self.ok.m1;
+        t5 = x;
+        t4 = (ControlFlow_ErrResidual_answer_Refusal_tuple_field_element){.continue_ = {0u, t5}};
+        break;
+    default:
+        e = self.err.m1;
+        t6 = e;
+        t7 = (ErrResidual_answer_Refusal){t6};
+        t4 = (ControlFlow_ErrResidual_answer_Refusal_tuple_field_element){.break_ = {1u, t7}};
+        break;
+    }
+    result = t4;
+    return result;
+}
+
+/* core::result::ResultTry::branch of the kit, at (Tree, u64) and Refusal */
+INLINE ControlFlow_ErrResidual_answer_Refusal_tuple_record_Tree
+    core_ResultTry_branch_tuple_record_Tree_uint64_answer(Result_tuple_record_Tree_uint64_answer_Refusal self)
+{
+    ControlFlow_ErrResidual_answer_Refusal_tuple_record_Tree result, t4;
+    tuple_record_Tree_uint64 x, t5;
+    answer_Refusal e, t6;
+    ErrResidual_answer_Refusal t7;
+    switch (self.ok.tag) {
+    case 0:
+        x = self.ok.m1;
+        t5 = x;
+        t4 = (ControlFlow_ErrResidual_answer_Refusal_tuple_record_Tree){.continue_ = {0u, t5}};
+        break;
+    default:
+        e = self.err.m1;
+        t6 = e;
+        t7 = (ErrResidual_answer_Refusal){t6};
+        t4 = (ControlFlow_ErrResidual_answer_Refusal_tuple_record_Tree){.break_ = {1u, t7}};
+        break;
+    }
+    result = t4;
+    return result;
+}
+
+/* core::clone::U64Clone::clone of the kit */
+INLINE Result_uint64_AllocError core_U64Clone_clone(char *self)
+{
+    Result_uint64_AllocError result;
+    uint64_t t2;
+    t2 = *(uint64_t *)self;
+    result = (Result_uint64_AllocError){.ok = {0u, t2}};
+    return result;
+}
+
+/* core::clone::surely of the kit, at u64 */
+INLINE uint64_t core_clone_surely_uint64(char *x)
+{
+    uint64_t result, it, t4;
+    Result_uint64_AllocError t3;
+    t3 = core_U64Clone_clone(x);
+    it = t3.ok.m1;
+    t4 = it;
+    result = t4;
+    return result;
+}
+
+/* core::slice::edits::slice+T::fill of the kit, at u64 */
+static void core_slice_fill_uint64(slice self, uint64_t value)
+{
+    uint64_t value_slot, n, i, t7, t9, t12, t13;
+    bool t6, t8;
+    char *t10, *t11, *t15;
+    value_slot = value;
+    n = self.count;
+    t6 = n == 0ull;
+    if (t6) {
+        return;
+    }
+    i = 0ull;
+    for (;;) {
+        t7 = n - 1ull;
+        t8 = i < t7;
+        if (!t8) {
+            break;
+        }
+        t10 = (char *)&value_slot;
+        t9 = core_clone_surely_uint64(t10);
+        t7 = i * 8ull;
+        t11 = (char *)((uint64_t *)self.at + i);
+        *(uint64_t *)t11 = t9;
+        i = i + 1ull;
+    }
+    t12 = value_slot;
+    t13 = n - 1ull;
+    t15 = (char *)((uint64_t *)self.at + t13);
+    *(uint64_t *)t15 = t12;
+}
+
+/* core::ptr::copy_drop::copy_bits of the kit, at u64 */
+INLINE void core_copy_drop_copy_bits_uint64(char *t1, char *t2, uint64_t t3)
+{
+    if (t3 != 0ull)
+        memcpy(t2, t1, (size_t)t3 * sizeof(uint64_t));
+}
+
+/* core::slots::Slots::copy_in of the kit, at u64 */
+INLINE void core_Slots_copy_in_uint64(char *t1, uint64_t t2, slice t3)
+{
+    char *t5, *t6, *t8;
+    uint64_t t7, t9;
+    t5 = t3.at;
+    t6 = ((Slots_uint64 *)t1)->ptr;
+    t7 = t2 * 8ull;
+    t8 = t6 + t7;
+    t9 = t3.count;
+    core_copy_drop_copy_bits_uint64(t5, t8, t9);
+}
+
+/* core::slice::edits::copy_over of the kit, at u64 */
+INLINE tuple_Slots_uint64_unit_unit core_edits_copy_over_uint64(Slots_uint64 row, slice src)
+{
+    tuple_Slots_uint64_unit_unit result;
+    Slots_uint64 row_slot, t7;
+    char *t6;
+    row_slot = row;
+    t6 = (char *)&row_slot;
+    core_Slots_copy_in_uint64(t6, 0ull, src);
+    t7 = row_slot;
+    result = (tuple_Slots_uint64_unit_unit){t7};
+    return result;
+}
+
+/* core::core++slice++edits++copy_over+FnOnce::call_once of the kit, at u64 */
+INLINE tuple_Slots_uint64_unit_unit core_core_slice_edits_copy_over_FnOnce_call_once_uint64(Slots_uint64 arg2, slice arg4)
+{
+    tuple_Slots_uint64_unit_unit result;
+    result = core_edits_copy_over_uint64(arg2, arg4);
+    return result;
+}
+
+/* core::slots::lends::with_slots of the kit, at u64 and () and &[u64] and () and () */
+INLINE void core_lends_with_slots_uint64_unit_slice_uint64_unit_unit(slice t1, char *t2, slice t3)
+{
+    uint64_t t5;
+    char *t6;
+    Slots_uint64 t14;
+    slice t16;
+    (void)t2;
+    t5 = t1.count;
+    t6 = t1.at;
+    t14 = (Slots_uint64){t6, t5};
+    t16 = t3;
+    (void)core_core_slice_edits_copy_over_FnOnce_call_once_uint64(t14, t16);
+}
+
+/* core::slice::edits::slice+T::copy_from_slice of the kit, at u64 */
+INLINE void core_slice_copy_from_slice_uint64(slice self, slice src)
+{
+    char *t5, *t7;
+    slice t6;
+    t5 = self.at;
+    t6 = (slice){t5, self.count};
+    t7 = NULL;
+    core_lends_with_slots_uint64_unit_slice_uint64_unit_unit(t6, t7, src);
+}
+
+/* core::result::ResultFromResidualErrResidual::from_residual of the kit, at Layout and Refusal and Refusal */
+INLINE Result_circuit_Layout_answer_Refusal core_ResultFromResidualErrResidual_from_residual_circuit(ErrResidual_answer_Refusal residual)
+{
+    Result_circuit_Layout_answer_Refusal result;
+    answer_Refusal t2, t3;
+    t3 = residual.m0;
+    t2 = core_AnyFrom_from_answer_Refusal(t3);
+    result = (Result_circuit_Layout_answer_Refusal){.err = {1u, t2}};
+    return result;
+}
+
+/* core::result::ResultFromResidualErrResidual::from_residual of the kit, at (Gate, u64) and Refusal and Refusal */
+INLINE Result_tuple_circuit_Gate_uint64_answer_Refusal core_ResultFromResidualErrResidual_from_residual_tuple_3(ErrResidual_answer_Refusal
+    residual)
+{
+    Result_tuple_circuit_Gate_uint64_answer_Refusal result;
+    answer_Refusal t2, t3;
+    t3 = residual.m0;
+    t2 = core_AnyFrom_from_answer_Refusal(t3);
+    result = (Result_tuple_circuit_Gate_uint64_answer_Refusal){.err = {1u, t2}};
+    return result;
+}
+
+/* core::result::ResultTry::branch of the kit, at (Gate, u64) and Refusal */
+INLINE ControlFlow_ErrResidual_answer_Refusal_tuple_circuit_Gate
+    core_ResultTry_branch_tuple_circuit_Gate_uint64_answer(Result_tuple_circuit_Gate_uint64_answer_Refusal self)
+{
+    ControlFlow_ErrResidual_answer_Refusal_tuple_circuit_Gate result, t4;
+    tuple_circuit_Gate_uint64 x, t5;
+    answer_Refusal e, t6;
+    ErrResidual_answer_Refusal t7;
+    switch (self.ok.tag) {
+    case 0:
+        x = self.ok.m1;
+        t5 = x;
+        t4 = (ControlFlow_ErrResidual_answer_Refusal_tuple_circuit_Gate){.continue_ = {0u, t5}};
+        break;
+    default:
+        e = self.err.m1;
+        t6 = e;
+        t7 = (ErrResidual_answer_Refusal){t6};
+        t4 = (ControlFlow_ErrResidual_answer_Refusal_tuple_circuit_Gate){.break_ = {1u, t7}};
+        break;
+    }
+    result = t4;
+    return result;
+}
+
+/* core::convert::others::UsizeFromBool::from of the kit */
+INLINE uint64_t core_UsizeFromBool_from(bool value)
+{
+    uint64_t result;
+    result = (uint64_t)value;
+    return result;
+}
+
+/* core::result::ResultFromResidualErrResidual::from_residual of the kit, at u64 and Refusal and Refusal */
+INLINE Result_uint64_answer_Refusal core_ResultFromResidualErrResidual_from_residual_uint64(ErrResidual_answer_Refusal residual)
+{
+    Result_uint64_answer_Refusal result;
+    answer_Refusal t2, t3;
+    t3 = residual.m0;
+    t2 = core_AnyFrom_from_answer_Refusal(t3);
+    result = (Result_uint64_answer_Refusal){.err = {1u, t2}};
+    return result;
+}
+
+/* core::option::OptionTry::branch of the kit, at Spot */
+INLINE ControlFlow_NoValue_circuit_run_places_Spot core_OptionTry_branch_circuit_run_places_Spot(Option_circuit_run_places_Spot self)
+{
+    ControlFlow_NoValue_circuit_run_places_Spot result, t3;
+    circuit_run_places_Spot x, t4;
+    switch (self.none.tag) {
+    case 1:
+        x = self.some.m1;
+        t4 = x;
+        t3 = (ControlFlow_NoValue_circuit_run_places_Spot){.continue_ = {0u, t4}};
+        break;
+    default:
+        t3 = (ControlFlow_NoValue_circuit_run_places_Spot){.break_ = {1u}};
+        break;
+    }
+    result = t3;
+    return result;
+}
+
+/* core::option::OptionFromResidualNoValue::from_residual of the kit, at Run */
+INLINE Option_circuit_run_places_Run core_OptionFromResidualNoValue_from_residual_circuit_run(void)
+{
+    Option_circuit_run_places_Run result;
+    result = (Option_circuit_run_places_Run){.none = {0u}};
+    return result;
+}
+
+/* core::convert::UsizeFromU16::from of the kit */
+INLINE uint64_t core_UsizeFromU16_from(uint16_t value)
+{
+    uint64_t result;
+    result = (uint64_t)value;
+    return result;
+}
+
+/* core::ptr::copy_drop::copy_bits of the kit, at u32 */
+INLINE void core_copy_drop_copy_bits_uint32(char *t1, char *t2, uint64_t t3)
+{
+    if (t3 != 0ull)
+        memcpy(t2, t1, (size_t)t3 * sizeof(uint32_t));
+}
+
+/* core::slots::Slots::copy_in of the kit, at u32 */
+INLINE void core_Slots_copy_in_uint32(char *t1, uint64_t t2, slice t3)
+{
+    char *t5, *t6, *t8;
+    uint64_t t7, t9;
+    t5 = t3.at;
+    t6 = ((Slots_uint32 *)t1)->ptr;
+    t7 = t2 * 4ull;
+    t8 = t6 + t7;
+    t9 = t3.count;
+    core_copy_drop_copy_bits_uint32(t5, t8, t9);
+}
+
+/* core::slice::edits::copy_over of the kit, at u32 */
+INLINE tuple_Slots_uint32_unit_unit core_edits_copy_over_uint32(Slots_uint32 row, slice src)
+{
+    tuple_Slots_uint32_unit_unit result;
+    Slots_uint32 row_slot, t7;
+    char *t6;
+    row_slot = row;
+    t6 = (char *)&row_slot;
+    core_Slots_copy_in_uint32(t6, 0ull, src);
+    t7 = row_slot;
+    result = (tuple_Slots_uint32_unit_unit){t7};
+    return result;
+}
+
+/* core::core++slice++edits++copy_over+FnOnce::call_once of the kit, at u32 */
+INLINE tuple_Slots_uint32_unit_unit core_core_slice_edits_copy_over_FnOnce_call_once_uint32(Slots_uint32 arg2, slice arg4)
+{
+    tuple_Slots_uint32_unit_unit result;
+    result = core_edits_copy_over_uint32(arg2, arg4);
+    return result;
+}
+
+/* core::slots::lends::with_slots of the kit, at u32 and () and &[u32] and () and () */
+INLINE void core_lends_with_slots_uint32_unit_slice_uint32_unit_unit(slice t1, char *t2, slice t3)
+{
+    uint64_t t5;
+    char *t6;
+    Slots_uint32 t14;
+    slice t16;
+    (void)t2;
+    t5 = t1.count;
+    t6 = t1.at;
+    t14 = (Slots_uint32){t6, t5};
+    t16 = t3;
+    (void)core_core_slice_edits_copy_over_FnOnce_call_once_uint32(t14, t16);
+}
+
+/* core::slice::edits::slice+T::copy_from_slice of the kit, at u32 */
+INLINE void core_slice_copy_from_slice_uint32(slice self, slice src)
+{
+    char *t5, *t7;
+    slice t6;
+    t5 = self.at;
+    t6 = (slice){t5, self.count};
+    t7 = NULL;
+    core_lends_with_slots_uint32_unit_slice_uint32_unit_unit(t6, t7, src);
+}
+
+/* core::int::u32::min of the kit */
+INLINE uint32_t core_u32_min(uint32_t self, uint32_t other)
+{
+    uint32_t result, t4;
+    bool t3;
+    t3 = other < self;
+    if (t3) {
+        t4 = other;
+    } else {
+        t4 = self;
+    }
+    result = t4;
+    return result;
+}
+
+/* core::mem::size_of_param of the kit, at u8 */
+INLINE uint64_t core_mem_size_of_param_uint8(void)
+{
+    uint64_t result;
+    result = 1ull;
+    return result;
+}
+
+/* core::slice::scan::group of the kit, at u8 */
+INLINE uint64_t core_scan_group_uint8(void)
+{
+    uint64_t result, size, t3, t4, t6, t7, t8, t10, t11;
+    bool t2, t5, t9;
+    size = core_mem_size_of_param_uint8();
+    t2 = size == 1ull;
+    t3 = (uint64_t)t2;
+    t4 = 32ull * t3;
+    t5 = size == 2ull;
+    t6 = (uint64_t)t5;
+    t7 = 16ull * t6;
+    t8 = t4 + t7;
+    t9 = size == 4ull;
+    t10 = (uint64_t)t9;
+    t11 = 8ull * t10;
+    result = t8 + t11;
+    return result;
+}
+
+/* core::cmp::numbers::U8PartialEq::eq of the kit */
+INLINE bool core_U8PartialEq_eq(char *self, char *other)
+{
+    bool result;
+    uint8_t t3, t4;
+    t3 = *(uint8_t *)self;
+    t4 = *(uint8_t *)other;
+    result = t3 == t4;
+    return result;
+}
+
+/* core::cmp::slices::ElementMismatchPlaceTest::at of the kit, at u8 */
+INLINE bool core_ElementMismatchPlaceTest_at_uint8(char *self, uint64_t i)
+{
+    bool result, t7;
+    slice a, b, t5, t6;
+    char *t9, *t10, *t12, *t13;
+    t5 = ((ElementMismatch_uint8 *)self)->a;
+    t6 = ((ElementMismatch_uint8 *)self)->b;
+    a = t5;
+    b = t6;
+    t9 = a.at + i;
+    t10 = t9;
+    t12 = b.at + i;
+    t13 = t12;
+    t7 = core_U8PartialEq_eq(t10, t13);
+    result = !t7;
+    return result;
+}
+
+/* core::slice::scan::first_by_one of the kit, at ElementMismatch<u8> */
+static uint64_t core_scan_first_by_one_ElementMismatch_uint8(char *s, uint64_t from, uint64_t to)
+{
+    uint64_t result, i;
+    bool t5, t6;
+    i = from;
+    for (;;) {
+        t5 = i < to;
+        if (!t5) {
+            break;
+        }
+        t6 = core_ElementMismatchPlaceTest_at_uint8(s, i);
+        if (t6) {
+            result = i;
+            return result;
+        }
+        i = i + 1ull;
+    }
+    result = to;
+    return result;
+}
+
+/* core::slice::scan::any_in_turn of the kit, at ElementMismatch<u8> */
+static bool core_scan_any_in_turn_ElementMismatch_uint8(char *s, uint64_t n)
+{
+    bool result, t5;
+    uint64_t i, t4, t6, t7, t8;
+    i = 0ull;
+    for (;;) {
+        t4 = n - i;
+        t5 = 4ull <= t4;
+        if (!t5) {
+            break;
+        }
+        t6 = i + 4ull;
+        t4 = core_scan_first_by_one_ElementMismatch_uint8(s, i, t6);
+        t7 = i + 4ull;
+        t5 = t4 < t7;
+        if (t5) {
+            result = true;
+            return result;
+        }
+        i = i + 4ull;
+    }
+    t8 = core_scan_first_by_one_ElementMismatch_uint8(s, i, n);
+    result = t8 < n;
+    return result;
+}
+
+/* core::slice::scan::any_in_run of the kit, at ElementMismatch<u8> */
+static bool core_scan_any_in_run_ElementMismatch_uint8(char *s, uint64_t from, uint64_t count)
+{
+    bool result, found, t6;
+    uint64_t k, t7;
+    found = false;
+    k = 0ull;
+    for (;;) {
+        t6 = k < count;
+        if (!t6) {
+            break;
+        }
+        t7 = from + k;
+        t6 = core_ElementMismatchPlaceTest_at_uint8(s, t7);
+        found = found | t6;
+        k = k + 1ull;
+    }
+    result = found;
+    return result;
+}
+
+/* core::slice::scan::any_in_three of the kit, at ElementMismatch<u8> */
+INLINE bool core_scan_any_in_three_ElementMismatch_uint8(char *s, uint64_t n)
+{
+    bool result, t3, t4, t6, t7;
+    uint64_t t5, t8;
+    t3 = core_scan_any_in_run_ElementMismatch_uint8(s, 0ull, 1ull);
+    t5 = n / 2ull;
+    t4 = core_scan_any_in_run_ElementMismatch_uint8(s, t5, 1ull);
+    t6 = t3 | t4;
+    t8 = n - 1ull;
+    t7 = core_scan_any_in_run_ElementMismatch_uint8(s, t8, 1ull);
+    result = t6 | t7;
+    return result;
+}
+
+/* core::slice::scan::any_in_ends of the kit, at ElementMismatch<u8> */
+INLINE bool core_scan_any_in_ends_ElementMismatch_uint8(char *s, uint64_t n, uint64_t count)
+{
+    bool result, t4, t5;
+    uint64_t t6;
+    t4 = core_scan_any_in_run_ElementMismatch_uint8(s, 0ull, count);
+    t6 = n - count;
+    t5 = core_scan_any_in_run_ElementMismatch_uint8(s, t6, count);
+    result = t4 | t5;
+    return result;
+}
+
+/* core::slice::scan::any_in_quarters of the kit, at ElementMismatch<u8> */
+INLINE bool core_scan_any_in_quarters_ElementMismatch_uint8(char *s, uint64_t n, uint64_t count)
+{
+    bool result, t5, t6, t8, t9, t12, t13;
+    uint64_t last, t7, t10, t11;
+    last = n - count;
+    t5 = core_scan_any_in_run_ElementMismatch_uint8(s, 0ull, count);
+    t7 = core_usize_min(count, last);
+    t6 = core_scan_any_in_run_ElementMismatch_uint8(s, t7, count);
+    t8 = t5 | t6;
+    t11 = 2ull * count;
+    t10 = core_usize_min(t11, last);
+    t9 = core_scan_any_in_run_ElementMismatch_uint8(s, t10, count);
+    t12 = t8 | t9;
+    t13 = core_scan_any_in_run_ElementMismatch_uint8(s, last, count);
+    result = t12 | t13;
+    return result;
+}
+
+/* core::slice::scan::skip_groups of the kit, at ElementMismatch<u8> */
+static uint64_t core_scan_skip_groups_ElementMismatch_uint8(char *s, uint64_t seen, uint64_t n, uint64_t group)
+{
+    uint64_t result, i, t8;
+    bool t6, t7, t9, t10;
+    i = seen;
+    for (;;) {
+        t7 = 0ull < group;
+        if (t7) {
+            t8 = n - i;
+            t7 = group <= t8;
+            t6 = t7;
+            if (t6) {
+                t9 = core_scan_any_in_run_ElementMismatch_uint8(s, i, group);
+                t6 = !t9;
+                t10 = t6;
+                if (!t10) {
+                    break;
+                }
+            } else {
+                break;
+            }
+        } else {
+            break;
+        }
+        i = i + group;
+    }
+    result = i;
+    return result;
+}
+
+/* core::slice::scan::any_by_groups of the kit, at ElementMismatch<u8> */
+INLINE bool core_scan_any_by_groups_ElementMismatch_uint8(char *s, uint64_t n, uint64_t group)
+{
+    bool result, t6, t8;
+    uint64_t far, near, t7, t9, t10;
+    t6 = group < 8ull;
+    if (t6) {
+        result = core_scan_any_in_turn_ElementMismatch_uint8(s, n);
+        return result;
+    }
+    t7 = group / 8ull;
+    t6 = n < t7;
+    if (t6) {
+        t8 = 0ull < n;
+        if (t8) {
+            t8 = core_scan_any_in_three_ElementMismatch_uint8(s, n);
+        }
+        result = t8;
+        return result;
+    }
+    t7 = group / 4ull;
+    t6 = n <= t7;
+    if (t6) {
+        t9 = group / 8ull;
+        result = core_scan_any_in_ends_ElementMismatch_uint8(s, n, t9);
+        return result;
+    }
+    t6 = n <= group;
+    if (t6) {
+        t10 = group / 4ull;
+        result = core_scan_any_in_quarters_ElementMismatch_uint8(s, n, t10);
+        return result;
+    }
+    t7 = 2ull * group;
+    t6 = n <= t7;
+    if (t6) {
+        result = core_scan_any_in_ends_ElementMismatch_uint8(s, n, group);
+        return result;
+    }
+    t7 = 2ull * group;
+    far = core_scan_skip_groups_ElementMismatch_uint8(s, 0ull, n, t7);
+    near = core_scan_skip_groups_ElementMismatch_uint8(s, far, n, group);
+    t7 = n - near;
+    t6 = group <= t7;
+    if (t6) {
+        result = true;
+        return result;
+    }
+    t7 = n - group;
+    result = core_scan_any_in_run_ElementMismatch_uint8(s, t7, group);
+    return result;
+}
+
+/* core::cmp::slices::all_equal of the kit, at u8 */
+INLINE bool core_slices_all_equal_uint8(slice a, slice b)
+{
+    bool result, t5;
+    uint64_t t3, t4;
+    ElementMismatch_uint8 t6, t7;
+    char *t8;
+    t3 = a.count;
+    t4 = b.count;
+    t5 = t3 != t4;
+    if (t5) {
+        result = false;
+        return result;
+    }
+    t6 = (ElementMismatch_uint8){a, b};
+    t7 = t6;
+    t8 = (char *)&t7;
+    t3 = a.count;
+    t4 = core_scan_group_uint8();
+    t5 = core_scan_any_by_groups_ElementMismatch_uint8(t8, t3, t4);
+    result = !t5;
+    return result;
+}
+
+/* core::cmp::arrays::ArrayPartialEq::eq of the kit, at u8 and 16 */
+INLINE bool core_ArrayPartialEq_eq_uint8_16(char *self, char *other)
+{
+    bool result;
+    char *t3, *t5;
+    slice t4, t6;
+    t3 = self;
+    t4 = (slice){t3, 16ull};
+    t5 = other;
+    t6 = (slice){t5, 16ull};
+    result = core_slices_all_equal_uint8(t4, t6);
+    return result;
+}
+
+/* core::int::u32::saturating_sub of the kit */
+INLINE uint32_t core_u32_saturating_sub(uint32_t self, uint32_t rhs)
+{
+    uint32_t result, t4;
+    bool t3;
+    t3 = rhs <= self;
+    if (t3) {
+        t4 = (uint32_t)(self - rhs);
+    } else {
+        t4 = 0u;
+    }
+    result = t4;
+    return result;
+}
+
+/* core::int::i64::unsigned_abs of the kit */
+INLINE uint64_t core_i64_unsigned_abs(uint64_t self)
+{
+    uint64_t result, t3, t4, t5;
+    bool t2;
+    t2 = as_signed(self) < as_signed(0ull);
+    if (t2) {
+        t4 = (uint64_t)~self;
+        t5 = t4;
+        t3 = t5 + 1ull;
+    } else {
+        t3 = self;
+    }
+    result = t3;
+    return result;
+}
+
+/* answer, src/lengths.rt:5: Whether a length is `width` bytes an output. */
+INLINE bool answer_lengths_is_times(uint64_t len, uint64_t width, uint64_t count)
+{
+    bool result, t4;
+    uint64_t t5, t6;
+    t5 = len % width;
+    t4 = t5 == 0ull;
+    if (t4) {
+        t6 = len / width;
+        t4 = t6 == count;
+    }
+    result = t4;
+    return result;
+}
+
+/* answer, src/lib.rt:45: The number that the call returns. */
+INLINE uint32_t answer_Refusal_number(answer_Refusal self)
+{
+    uint32_t result, t2;
+    t2 = (uint32_t)self.tag;
+    result = (uint32_t)(t2 + 1u);
+    return result;
+}
+
+/* answer, src/lib.rt:63: The answer of a refused call. */
+INLINE answer_TwoLengths answer_TwoLengths_refused(answer_Refusal refusal)
+{
+    answer_TwoLengths result;
+    uint32_t t2;
+    t2 = answer_Refusal_number(refusal);
+    result = (answer_TwoLengths){t2, 0ull, 0ull};
+    return result;
+}
+
+/* answer, src/lib.rt:84: The answer of a refused call. */
+INLINE answer_OneLength answer_OneLength_refused(answer_Refusal refusal)
+{
+    answer_OneLength result;
+    uint32_t t2;
+    t2 = answer_Refusal_number(refusal);
+    result = (answer_OneLength){t2, 0ull};
+    return result;
+}
+
+/* answer, src/lengths.rt:21: Whether a window passes its end. */
+INLINE bool answer_lengths_is_past(uint64_t first, uint64_t count, uint64_t end)
+{
+    bool result, t4;
+    uint64_t t5;
+    t4 = end < first;
+    if (!t4) {
+        t5 = end - first;
+        t4 = t5 < count;
+    }
+    result = t4;
+    return result;
+}
+
+/* answer, src/lengths.rt:13: Whether a buffer is shorter than `width` bytes an output. */
 INLINE bool answer_lengths_is_short(uint64_t room, uint64_t width, uint64_t count)
 {
     bool result;
@@ -670,27 +2034,26 @@ INLINE bool answer_lengths_is_short(uint64_t room, uint64_t width, uint64_t coun
  * at once. */
 static bool answer_bytes_any_above(uint8_t limit, slice bytes)
 {
-    bool result, t6;
-    uint8_t most, t8, t10;
-    uint64_t i, t5;
-    char *t7, *t9;
+    bool result, t7, t10;
+    uint8_t most, t9;
+    uint64_t byte_index, byte_index_end;
+    char *byte, *t8;
     most = 0u;
-    i = 0ull;
+    byte_index = 0ull;
+    byte_index_end = bytes.count;
     for (;;) {
-        t5 = bytes.count;
-        t6 = i < t5;
-        if (!t6) {
+        t7 = byte_index < byte_index_end;
+        if (!t7) {
             break;
         }
-        t7 = bytes.at + i;
-        t8 = *(uint8_t *)t7;
-        t6 = most < t8;
-        if (t6) {
-            t9 = bytes.at + i;
-            t10 = *(uint8_t *)t9;
-            most = t10;
+        t8 = bytes.at + byte_index;
+        byte = t8;
+        t9 = *(uint8_t *)byte;
+        t10 = most < t9;
+        if (t10) {
+            most = *(uint8_t *)byte;
         }
-        i = i + 1ull;
+        byte_index = byte_index + 1ull;
     }
     result = limit < most;
     return result;
@@ -785,22 +2148,6 @@ INLINE prime_prime_Prime prime_prime_Prime_add(prime_prime_Prime self, prime_pri
     return result;
 }
 
-/* prime, src/prime.rt:27: The zero of the element kind. */
-INLINE prime_prime_Prime prime_prime_Prime_zero(void)
-{
-    prime_prime_Prime result;
-    result = (prime_prime_Prime){0ull};
-    return result;
-}
-
-/* prime, src/prime.rt:19: The modulus p. */
-INLINE uint64_t prime_prime_Prime_modulus(void)
-{
-    uint64_t result;
-    result = 2305843009213693951ull;
-    return result;
-}
-
 /* prime, src/prime.rt:79: A word that reduces to total + a × b. Which one is left to the program, so that a sum of products is reduced
  * once, at its end. */
 INLINE uint64_t prime_prime_Prime_add_product(uint64_t total, uint64_t a, uint64_t b)
@@ -814,7 +2161,15 @@ INLINE uint64_t prime_prime_Prime_add_product(uint64_t total, uint64_t a, uint64
     return result;
 }
 
-/* prime, src/signed.rt:21: The element as a signed number: above the middle of the field, the element less p. */
+/* prime, src/prime.rt:19: The modulus p. */
+INLINE uint64_t prime_prime_Prime_modulus(void)
+{
+    uint64_t result;
+    result = 2305843009213693951ull;
+    return result;
+}
+
+/* prime, src/signed.rt:14: The element as a signed number: above the middle of the field, the element less p. */
 INLINE uint64_t prime_prime_Prime_to_signed(prime_prime_Prime self)
 {
     uint64_t result, number, t5, t6;
@@ -833,7 +2188,7 @@ INLINE uint64_t prime_prime_Prime_to_signed(prime_prime_Prime self)
     return result;
 }
 
-/* prime, src/signed.rt:34: The negation modulo p. */
+/* prime, src/signed.rt:27: The negation modulo p. */
 INLINE prime_prime_Prime prime_prime_Prime_negate(prime_prime_Prime self)
 {
     prime_prime_Prime result, t2;
@@ -842,36 +2197,41 @@ INLINE prime_prime_Prime prime_prime_Prime_negate(prime_prime_Prime self)
     return result;
 }
 
-/* prime, src/signed.rt:41: The element that is read as a signed number. */
-INLINE prime_signed_FromSigned prime_prime_Prime_from_signed(uint64_t amount)
+/* prime, src/signed.rt:34: The element that is read as a signed number, none for a number out of range. */
+INLINE Option_prime_prime_Prime prime_prime_Prime_from_signed(uint64_t amount)
 {
-    prime_signed_FromSigned result, t4;
-    prime_prime_Prime opposite, t7, t9;
-    bool t3;
-    uint64_t t5, t6, t8;
-    t3 = as_signed(amount) < as_signed(17293822569102704641ull);
-    if (t3) {
-        result = (prime_signed_FromSigned){.out_of_range = {1u}};
-        return result;
+    Option_prime_prime_Prime result;
+    prime_prime_Prime size, t9, t12, t13;
+    bool t3, t6, t11;
+    uint64_t t4, t5, t7, t8, t10;
+    t4 = amount;
+    t3 = as_signed(t4) < as_signed(17293822569102704641ull);
+    if (!t3) {
+        t5 = amount;
+        t3 = as_signed(1152921504606846975ull) < as_signed(t5);
+        t6 = t3;
+        if (!t6) {
+            goto after2;
+        }
     }
-    t3 = as_signed(1152921504606846975ull) < as_signed(amount);
-    if (t3) {
-        result = (prime_signed_FromSigned){.out_of_range = {1u}};
-        return result;
-    }
-    t3 = as_signed(amount) < as_signed(0ull);
-    if (t3) {
-        t5 = (uint64_t)(as_signed(0ull) - as_signed(amount));
-        t6 = t5;
-        opposite = (prime_prime_Prime){t6};
-        t7 = prime_prime_Prime_negate(opposite);
-        t4 = (prime_signed_FromSigned){.element = {0u, t7}};
+    result = (Option_prime_prime_Prime){.none = {0u}};
+    return result;
+    goto after1;
+after2:;
+after1:;
+    t8 = amount;
+    t7 = core_i64_unsigned_abs(t8);
+    size = (prime_prime_Prime){t7};
+    t10 = amount;
+    t11 = as_signed(t10) < as_signed(0ull);
+    if (t11) {
+        t13 = size;
+        t12 = prime_prime_Prime_negate(t13);
     } else {
-        t8 = amount;
-        t9 = (prime_prime_Prime){t8};
-        t4 = (prime_signed_FromSigned){.element = {0u, t9}};
+        t12 = size;
     }
-    result = t4;
+    t9 = t12;
+    result = (Option_prime_prime_Prime){.some = {1u, t9}};
     return result;
 }
 
@@ -882,13 +2242,17 @@ INLINE amounts_Amount amounts_read_amount(uint64_t element)
     uint64_t amount;
     bool t3;
     prime_prime_Prime t5;
+    uint32_t t6;
+    answer_Refusal t7;
     t3 = element < 2305843009213693951ull;
     if (t3) {
         t5 = (prime_prime_Prime){element};
         amount = prime_prime_Prime_to_signed(t5);
         t4 = (amounts_Amount){0u, amount};
     } else {
-        t4 = (amounts_Amount){8u, 0ull};
+        t7 = (answer_Refusal){answer_Refusal_not_element};
+        t6 = answer_Refusal_number(t7);
+        t4 = (amounts_Amount){t6, 0ull};
     }
     result = t4;
     return result;
@@ -897,23 +2261,28 @@ INLINE amounts_Amount amounts_read_amount(uint64_t element)
 /* amounts, src/lib.rt:45: The element that is read as an amount. */
 INLINE amounts_WrittenAmount amounts_write_amount(uint64_t amount)
 {
-    amounts_WrittenAmount result;
-    prime_signed_FromSigned answer;
+    amounts_WrittenAmount result, t4;
     prime_prime_Prime element;
-    answer = prime_prime_Prime_from_signed(amount);
-    switch (answer.element.tag) {
-    case 0:
-        element = answer.element.m1;
+    Option_prime_prime_Prime t3;
+    uint32_t t5;
+    answer_Refusal t6;
+    t3 = prime_prime_Prime_from_signed(amount);
+    switch (t3.none.tag) {
+    case 1:
+        element = t3.some.m1;
+        t4 = (amounts_WrittenAmount){0u, element.word};
         break;
     default:
-        result = (amounts_WrittenAmount){19u, 0ull};
-        return result;
+        t6 = (answer_Refusal){answer_Refusal_amount_out_of_range};
+        t5 = answer_Refusal_number(t6);
+        t4 = (amounts_WrittenAmount){t5, 0ull};
+        break;
     }
-    result = (amounts_WrittenAmount){0u, element.word};
+    result = t4;
     return result;
 }
 
-/* number, src/lib.rt:99: How many bytes the number takes. */
+/* number, src/lib.rt:58: How many bytes the number takes. */
 INLINE uint64_t number_number_length(uint64_t n)
 {
     uint64_t result;
@@ -932,7 +2301,7 @@ INLINE uint64_t number_number_length(uint64_t n)
     return result;
 }
 
-/* number, src/lib.rt:112: Writes the number from a place on; the place after it. */
+/* number, src/lib.rt:71: Writes the number from a place on; the place after it. */
 INLINE uint64_t number_write_number(slice buffer, uint64_t at, uint64_t n)
 {
     uint64_t result, at1, at2, t9, t10, t13, t16;
@@ -977,123 +2346,141 @@ INLINE uint64_t number_write_number(slice buffer, uint64_t at, uint64_t n)
     return result;
 }
 
-/* number, src/lib.rt:23: The number that a reading is refused with; 0 for a value. */
-INLINE uint32_t number_number_fault(number_Number r)
+/* number, src/lib.rt:14: The byte at a place, and the place after it. */
+INLINE Result_tuple_uint64_uint64_answer_Refusal number_read_byte(slice source, uint64_t at)
 {
-    uint32_t result, k, t3;
-    switch (r.value.tag) {
+    Result_tuple_uint64_uint64_answer_Refusal result;
+    uint64_t t3, t8;
+    bool t4;
+    answer_Refusal t5;
+    char *t6;
+    uint8_t t7;
+    tuple_uint64_uint64 t9;
+    t3 = source.count;
+    t4 = t3 <= at;
+    if (t4) {
+        t5 = (answer_Refusal){answer_Refusal_record_ends};
+        result = (Result_tuple_uint64_uint64_answer_Refusal){.err = {1u, t5}};
+        return result;
+    }
+    t6 = source.at + at;
+    t7 = *(uint8_t *)t6;
+    t3 = (uint64_t)t7;
+    t8 = at + 1ull;
+    t9 = (tuple_uint64_uint64){t3, t8};
+    result = (Result_tuple_uint64_uint64_answer_Refusal){.ok = {0u, t9}};
+    return result;
+}
+
+/* number, src/lib.rt:25: The number at a place, and the place after it. */
+INLINE Result_tuple_uint64_uint64_answer_Refusal number_read_number(slice source, uint64_t at)
+{
+    Result_tuple_uint64_uint64_answer_Refusal result, t17;
+    uint64_t a, at_2, b, at_3, c, at_4, t25, t26, t27, t35, t36, t37, t38, t39, t40;
+    tuple_uint64_uint64 t5, t9, t13, t15, t18, t20, t21, t23, t28, t29, t31, t41;
+    ErrResidual_answer_Refusal t6, t10, t14;
+    ControlFlow_ErrResidual_answer_Refusal_tuple_uint64_uint64 t16, t22, t30;
+    bool t19, t32, t33;
+    answer_Refusal t24, t34;
+    t17 = number_read_byte(source, at);
+    t16 = core_ResultTry_branch_tuple_uint64_uint64_answer_Refusal(t17);
+    switch (t16.continue_.tag) {
     case 0:
-        t3 = 0u;
+        t5 = t16.continue_.m1;
+        t18 = t5;
         break;
     default:
-        k = r.fault.m1;
-        t3 = k;
-        break;
-    }
-    result = t3;
-    return result;
-}
-
-/* number, src/lib.rt:33: The number in a wider type. */
-INLINE uint64_t number_byte_number(uint8_t x)
-{
-    uint64_t result;
-    result = (uint64_t)x;
-    return result;
-}
-
-/* number, src/lib.rt:40: The number at a place, and the place after it. */
-INLINE number_Number number_read_number(slice source, uint64_t at)
-{
-    number_Number result;
-    uint64_t end, a, at1, b, at2, c, at3, t15, t16, t17, t20, t21, t22, t23, t24, t25;
-    bool t10, t14, t19;
-    char *t11, *t13, *t18;
-    uint8_t t12;
-    end = source.count;
-    t10 = end <= at;
-    if (t10) {
-        result = (number_Number){.fault = {1u, 10u}};
+        t6 = t16.break_.m1;
+        result = core_ResultFromResidualErrResidual_from_residual_tuple(t6);
         return result;
     }
-    t11 = source.at + at;
-    t12 = *(uint8_t *)t11;
-    a = number_byte_number(t12);
-    at1 = at + 1ull;
-    t10 = a < 128ull;
-    if (t10) {
-        result = (number_Number){.value = {0u, a, at1}};
+    t15 = t18;
+    a = t15.m0;
+    at_2 = t15.m1;
+    t19 = a < 128ull;
+    if (t19) {
+        t20 = (tuple_uint64_uint64){a, at_2};
+        result = (Result_tuple_uint64_uint64_answer_Refusal){.ok = {0u, t20}};
         return result;
     }
-    t10 = end <= at1;
-    if (t10) {
-        result = (number_Number){.fault = {1u, 10u}};
-        return result;
-    }
-    t13 = source.at + at1;
-    t12 = *(uint8_t *)t13;
-    b = number_byte_number(t12);
-    at2 = at1 + 1ull;
-    t10 = b < 128ull;
-    if (t10) {
-        t14 = b == 0ull;
-        if (t14) {
-            result = (number_Number){.fault = {1u, 11u}};
-            return result;
-        }
-        t15 = a - 128ull;
-        t16 = b * 128ull;
-        t17 = t15 + t16;
-        result = (number_Number){.value = {0u, t17, at2}};
-        return result;
-    }
-    t10 = end <= at2;
-    if (t10) {
-        result = (number_Number){.fault = {1u, 10u}};
-        return result;
-    }
-    t18 = source.at + at2;
-    t12 = *(uint8_t *)t18;
-    c = number_byte_number(t12);
-    at3 = at2 + 1ull;
-    t10 = c < 128ull;
-    if (t10) {
-        t19 = c == 0ull;
-        if (t19) {
-            result = (number_Number){.fault = {1u, 11u}};
-            return result;
-        }
-        t20 = a - 128ull;
-        t21 = b - 128ull;
-        t22 = t21 * 128ull;
-        t23 = t20 + t22;
-        t24 = c * 16384ull;
-        t25 = t23 + t24;
-        result = (number_Number){.value = {0u, t25, at3}};
-        return result;
-    }
-    result = (number_Number){.fault = {1u, 11u}};
-    return result;
-}
-
-/* number, src/lib.rt:85: The number at a place where a number is known to stand. */
-INLINE number_Known number_known_number(slice source, uint64_t at)
-{
-    number_Known result, t6;
-    uint64_t number, next;
-    number_Number t5;
-    t5 = number_read_number(source, at);
-    switch (t5.value.tag) {
+    t17 = number_read_byte(source, at_2);
+    t22 = core_ResultTry_branch_tuple_uint64_uint64_answer_Refusal(t17);
+    switch (t22.continue_.tag) {
     case 0:
-        number = t5.value.m1;
-        next = t5.value.m2;
-        t6 = (number_Known){number, next};
+        t9 = t22.continue_.m1;
+        t23 = t9;
         break;
     default:
-        t6 = (number_Known){0ull, at};
-        break;
+        t10 = t22.break_.m1;
+        result = core_ResultFromResidualErrResidual_from_residual_tuple(t10);
+        return result;
     }
-    result = t6;
+    t21 = t23;
+    b = t21.m0;
+    at_3 = t21.m1;
+    t19 = b == 0ull;
+    if (t19) {
+        t24 = (answer_Refusal){answer_Refusal_bad_number};
+        result = (Result_tuple_uint64_uint64_answer_Refusal){.err = {1u, t24}};
+        return result;
+    }
+    t19 = b < 128ull;
+    if (t19) {
+        t25 = a - 128ull;
+        t26 = b * 128ull;
+        t27 = t25 + t26;
+        t28 = (tuple_uint64_uint64){t27, at_3};
+        result = (Result_tuple_uint64_uint64_answer_Refusal){.ok = {0u, t28}};
+        return result;
+    }
+    t17 = number_read_byte(source, at_3);
+    t30 = core_ResultTry_branch_tuple_uint64_uint64_answer_Refusal(t17);
+    switch (t30.continue_.tag) {
+    case 0:
+        t13 = t30.continue_.m1;
+        t31 = t13;
+        break;
+    default:
+        t14 = t30.break_.m1;
+        result = core_ResultFromResidualErrResidual_from_residual_tuple(t14);
+        return result;
+    }
+    t29 = t31;
+    c = t29.m0;
+    at_4 = t29.m1;
+    t32 = c == 0ull;
+    if (!t32) {
+        t32 = 128ull <= c;
+        t33 = t32;
+        if (!t33) {
+            goto after2;
+        }
+    }
+    t34 = (answer_Refusal){answer_Refusal_bad_number};
+    result = (Result_tuple_uint64_uint64_answer_Refusal){.err = {1u, t34}};
+    return result;
+    goto after1;
+after2:;
+after1:;
+    t35 = a - 128ull;
+    t36 = b - 128ull;
+    t37 = t36 * 128ull;
+    t38 = t35 + t37;
+    t39 = c * 16384ull;
+    t40 = t38 + t39;
+    t41 = (tuple_uint64_uint64){t40, at_4};
+    result = (Result_tuple_uint64_uint64_answer_Refusal){.ok = {0u, t41}};
+    return result;
+}
+
+/* number, src/lib.rt:47: The number at a place where a number is known to stand, and the place after it. */
+INLINE tuple_uint64_uint64 number_known_number(slice source, uint64_t at)
+{
+    tuple_uint64_uint64 result, known;
+    Result_tuple_uint64_uint64_answer_Refusal t4;
+    t4 = number_read_number(source, at);
+    known = t4.ok.m1;
+    result = known;
     return result;
 }
 
@@ -1112,57 +2499,30 @@ INLINE bool field_noise_is_field(uint64_t field)
 /* field, src/noise.rt:26: Whether a noise value is admitted. */
 INLINE bool field_noise_is_noise(uint64_t field, uint64_t value)
 {
-    bool result, t3, t4;
-    uint64_t t5;
+    bool result, t3, t4, t5;
+    uint64_t t6;
     t3 = field == 1ull;
     if (t3) {
-        result = value == 1ull;
-        return result;
-    }
-    t4 = 1ull <= value;
-    if (t4) {
-        t5 = 2305843009213693951ull - 1ull;
-        t4 = value <= t5;
+        t4 = value == 1ull;
+    } else {
+        t5 = 1ull <= value;
+        if (t5) {
+            t6 = 2305843009213693951ull - 1ull;
+            t5 = value <= t6;
+        }
+        t4 = t5;
     }
     result = t4;
     return result;
 }
 
-/* field, src/bytes.rt:6: The word of eight bytes. */
-INLINE uint64_t field_bytes_eight(uint8_t a, uint8_t b, uint8_t c, uint8_t d, uint8_t e, uint8_t f, uint8_t g, uint8_t h)
-{
-    uint64_t result, t9, t10, t11, t12, t13, t14, t15, t16, t17, t18, t19, t20, t21, t22, t23, t24, t25, t26, t27, t28, t29;
-    t9 = (uint64_t)a;
-    t10 = (uint64_t)b;
-    t11 = 256ull * t10;
-    t12 = t9 + t11;
-    t13 = (uint64_t)c;
-    t14 = 65536ull * t13;
-    t15 = t12 + t14;
-    t16 = (uint64_t)d;
-    t17 = 16777216ull * t16;
-    t18 = t15 + t17;
-    t19 = (uint64_t)e;
-    t20 = 4294967296ull * t19;
-    t21 = t18 + t20;
-    t22 = (uint64_t)f;
-    t23 = 1099511627776ull * t22;
-    t24 = t21 + t23;
-    t25 = (uint64_t)g;
-    t26 = 281474976710656ull * t25;
-    t27 = t24 + t26;
-    t28 = (uint64_t)h;
-    t29 = 72057594037927936ull * t28;
-    result = t27 + t29;
-    return result;
-}
-
-/* field, src/bytes.rt:20: The word whose eight bytes begin at a place. */
+/* field, src/bytes.rt:7: The word whose eight bytes begin at a place. */
 INLINE uint64_t field_bytes_word_at(slice bytes, uint64_t at)
 {
     uint64_t result, t5, t8, t11, t14, t17, t20, t23;
     char *t3, *t6, *t9, *t12, *t15, *t18, *t21, *t24;
     uint8_t t4, t7, t10, t13, t16, t19, t22, t25;
+    uint8_8 t26;
     t3 = bytes.at + at;
     t4 = *(uint8_t *)t3;
     t5 = at + 1ull;
@@ -1186,75 +2546,71 @@ INLINE uint64_t field_bytes_word_at(slice bytes, uint64_t at)
     t23 = at + 7ull;
     t24 = bytes.at + t23;
     t25 = *(uint8_t *)t24;
-    result = field_bytes_eight(t4, t7, t10, t13, t16, t19, t22, t25);
+    t26 = (uint8_8){{t4, t7, t10, t13, t16, t19, t22, t25}};
+    result = core_u64_from_le_bytes(t26);
     return result;
 }
 
-/* field, src/element.rt:47: The element whose bytes begin at a place; its second word is 0 where it has one. */
+/* field, src/element.rt:85: The element whose bytes begin at a place; its second word is 0 where it has one. */
 INLINE field_element_Element field_element_element_at(uint64_t field, slice bytes, uint64_t at)
 {
     field_element_Element result;
-    uint64_t low, t6, t7;
-    bool t5;
+    uint64_t low, high, t7;
+    bool t6;
     low = field_bytes_word_at(bytes, at);
-    t5 = field == 1ull;
-    if (t5) {
+    t6 = field == 1ull;
+    if (t6) {
         t7 = at + 8ull;
-        t6 = field_bytes_word_at(bytes, t7);
-        result = (field_element_Element){low, t6};
+        high = field_bytes_word_at(bytes, t7);
+        result = (field_element_Element){low, high};
         return result;
     }
     result = (field_element_Element){low, 0ull};
     return result;
 }
 
-/* field, src/element.rt:155: Whether the words are an element. */
+/* field, src/element.rt:150: Whether the words are an element. */
 INLINE bool field_element_is_element(uint64_t field, field_element_Element a)
 {
     bool result, t3;
     t3 = field == 1ull;
-    if (t3) {
-        result = true;
-        return result;
+    if (!t3) {
+        t3 = a.low < 2305843009213693951ull;
     }
-    result = a.low < 2305843009213693951ull;
+    result = t3;
     return result;
 }
 
-/* field, src/element.rt:165: Whether the words are those of zero. */
+/* field, src/element.rt:157: Whether the words are those of zero. */
 INLINE bool field_element_is_zero(uint64_t field, field_element_Element a)
 {
-    bool result, t3;
-    t3 = a.low != 0ull;
+    bool result, t3, t4;
+    t3 = a.low == 0ull;
     if (t3) {
-        result = false;
-        return result;
+        t4 = field != 1ull;
+        if (!t4) {
+            t4 = a.high == 0ull;
+        }
+        t3 = t4;
     }
-    t3 = field == 1ull;
-    if (t3) {
-        result = a.high == 0ull;
-        return result;
-    }
-    result = true;
+    result = t3;
     return result;
 }
 
-/* field, src/element.rt:178: Whether the words are an element other than zero. */
+/* field, src/element.rt:164: Whether the words are an element other than zero. */
 INLINE bool field_element_is_scalar(uint64_t field, field_element_Element a)
 {
     bool result, t3, t4;
     t3 = field_element_is_element(field, a);
-    t4 = !t3;
-    if (t4) {
-        result = false;
-        return result;
+    if (t3) {
+        t4 = field_element_is_zero(field, a);
+        t3 = !t4;
     }
-    t3 = field_element_is_zero(field, a);
-    result = !t3;
+    result = t3;
     return result;
 }
 
-/* field, src/element.rt:188: Whether a second word that no element of the field has is 0. */
+/* field, src/element.rt:171: Whether a second word that no element of the field has is 0. */
 INLINE bool field_element_rest_zero(uint64_t field, uint64_t high)
 {
     bool result, t3;
@@ -1266,59 +2622,112 @@ INLINE bool field_element_rest_zero(uint64_t field, uint64_t high)
     return result;
 }
 
-/* field, src/element.rt:22: How many bytes an element takes. */
-INLINE uint64_t field_element_element_length(uint64_t field)
+/* field, src/width.rt:8: How many words an element of a field takes. */
+INLINE uint64_t field_width_element_width(uint64_t field)
 {
     uint64_t result, t3;
     bool t2;
     t2 = field == 1ull;
     if (t2) {
-        t3 = 16ull;
+        t3 = 2ull;
     } else {
-        t3 = 8ull;
+        t3 = 1ull;
     }
     result = t3;
     return result;
 }
 
-/* field, src/bytes.rt:91: The lowest four bytes of a word. */
-INLINE uint8_4 field_bytes_column(uint64_t word)
+/* field, src/element.rt:67: How many bytes an element takes. */
+INLINE uint64_t field_element_element_length(uint64_t field)
 {
-    uint8_4 result;
-    uint64_t w1, w2, w3, t5, t7, t9, t11;
-    uint8_t t6, t8, t10, t12;
-    w1 = word / 256ull;
-    w2 = w1 / 256ull;
-    w3 = w2 / 256ull;
-    t5 = word % 256ull;
-    t6 = (uint8_t)t5;
-    t7 = w1 % 256ull;
-    t8 = (uint8_t)t7;
-    t9 = w2 % 256ull;
-    t10 = (uint8_t)t9;
-    t11 = w3 % 256ull;
-    t12 = (uint8_t)t11;
-    result = (uint8_4){{t6, t8, t10, t12}};
+    uint64_t result, t2;
+    t2 = field_width_element_width(field);
+    result = 8ull * t2;
     return result;
 }
 
-/* field, src/bytes.rt:106: The 16 bytes of two words as four columns. */
+/* field, src/block.rt:62: The block whose 16 bytes begin at a place. */
+INLINE field_block_Block field_block_Block_read(slice bytes, uint64_t at)
+{
+    field_block_Block result;
+    uint64_t t3, t4, t5;
+    t3 = field_bytes_word_at(bytes, at);
+    t5 = at + 8ull;
+    t4 = field_bytes_word_at(bytes, t5);
+    result = (field_block_Block){t3, t4};
+    return result;
+}
+
+/* field, src/bytes.rt:49: The 16 bytes of two words as four columns. */
 INLINE uint8_4_4 field_bytes_word_columns(uint64_t low, uint64_t high)
 {
     uint8_4_4 result;
-    uint8_4 t3, t4, t6, t7;
-    uint64_t t5, t8;
-    t3 = field_bytes_column(low);
-    t5 = low / 4294967296ull;
-    t4 = field_bytes_column(t5);
-    t6 = field_bytes_column(high);
-    t8 = high / 4294967296ull;
-    t7 = field_bytes_column(t8);
-    result = (uint8_4_4){{t3, t4, t6, t7}};
+    uint8_t a, b, c, d, e, f, g, h, i, j, k, l, m, n, o, p;
+    uint8_8 t19, t20, t37, t38;
+    char *t21, *t22, *t23, *t24, *t25, *t26, *t27, *t28, *t29, *t30, *t31, *t32, *t33, *t34, *t35, *t36, *t39, *t40, *t41, *t42, *t43, *t44,
+        *t45, *t46, *t47, *t48, *t49, *t50, *t51, *t52, *t53, *t54;
+    uint8_4 t55, t56, t57, t58;
+    t19 = core_u64_to_le_bytes(low);
+    t20 = t19;
+    t21 = (char *)&t20;
+    t22 = t21 + 0ull;
+    t23 = (char *)&t20;
+    t24 = t23 + 1ull;
+    t25 = (char *)&t20;
+    t26 = t25 + 2ull;
+    t27 = (char *)&t20;
+    t28 = t27 + 3ull;
+    t29 = (char *)&t20;
+    t30 = t29 + 4ull;
+    t31 = (char *)&t20;
+    t32 = t31 + 5ull;
+    t33 = (char *)&t20;
+    t34 = t33 + 6ull;
+    t35 = (char *)&t20;
+    t36 = t35 + 7ull;
+    a = *(uint8_t *)t22;
+    b = *(uint8_t *)t24;
+    c = *(uint8_t *)t26;
+    d = *(uint8_t *)t28;
+    e = *(uint8_t *)t30;
+    f = *(uint8_t *)t32;
+    g = *(uint8_t *)t34;
+    h = *(uint8_t *)t36;
+    t37 = core_u64_to_le_bytes(high);
+    t38 = t37;
+    t39 = (char *)&t38;
+    t40 = t39 + 0ull;
+    t41 = (char *)&t38;
+    t42 = t41 + 1ull;
+    t43 = (char *)&t38;
+    t44 = t43 + 2ull;
+    t45 = (char *)&t38;
+    t46 = t45 + 3ull;
+    t47 = (char *)&t38;
+    t48 = t47 + 4ull;
+    t49 = (char *)&t38;
+    t50 = t49 + 5ull;
+    t51 = (char *)&t38;
+    t52 = t51 + 6ull;
+    t53 = (char *)&t38;
+    t54 = t53 + 7ull;
+    i = *(uint8_t *)t40;
+    j = *(uint8_t *)t42;
+    k = *(uint8_t *)t44;
+    l = *(uint8_t *)t46;
+    m = *(uint8_t *)t48;
+    n = *(uint8_t *)t50;
+    o = *(uint8_t *)t52;
+    p = *(uint8_t *)t54;
+    t55 = (uint8_4){{a, b, c, d}};
+    t56 = (uint8_4){{e, f, g, h}};
+    t57 = (uint8_4){{i, j, k, l}};
+    t58 = (uint8_4){{m, n, o, p}};
+    result = (uint8_4_4){{t55, t56, t57, t58}};
     return result;
 }
 
-/* field, src/block.rt:64: The 16 bytes of the two words as four columns. */
+/* field, src/block.rt:82: The 16 bytes of the two words as four columns. */
 INLINE uint8_4_4 field_block_Block_columns(field_block_Block self)
 {
     uint8_4_4 result;
@@ -1326,113 +2735,117 @@ INLINE uint8_4_4 field_block_Block_columns(field_block_Block self)
     return result;
 }
 
-/* field, src/bytes.rt:59: The first eight bytes of four columns as a word. */
+/* field, src/bytes.rt:33: The first eight bytes of four columns as a word. */
 INLINE uint64_t field_bytes_low_word(uint8_4_4 columns)
 {
     uint64_t result;
     uint8_4_4 columns_slot;
-    char *t3, *t4, *t5, *t6, *t8, *t9, *t10, *t11, *t13, *t14, *t15, *t16, *t18, *t19, *t20, *t21, *t23, *t24, *t25, *t26, *t28, *t29, *t30,
-        *t31, *t33, *t34, *t35, *t36, *t38, *t39, *t40, *t41;
-    uint8_t t7, t12, t17, t22, t27, t32, t37, t42;
+    uint8_t a, b, c, d, e, f, g, h;
+    char *t11, *t12, *t13, *t14, *t15, *t16, *t17, *t18, *t19, *t20, *t21, *t22, *t23, *t24, *t25, *t26, *t27, *t28, *t29, *t30, *t31, *t32,
+        *t33, *t34, *t35, *t36, *t37, *t38, *t39, *t40, *t41, *t42;
+    uint8_8 t43;
     columns_slot = columns;
-    t3 = (char *)&columns_slot;
-    t4 = t3 + 0ull;
-    t5 = t4;
-    t6 = t5 + 0ull;
-    t7 = *(uint8_t *)t6;
-    t8 = (char *)&columns_slot;
-    t9 = t8 + 0ull;
-    t10 = t9;
-    t11 = t10 + 1ull;
-    t12 = *(uint8_t *)t11;
-    t13 = (char *)&columns_slot;
+    t11 = (char *)&columns_slot;
+    t12 = t11 + 0ull;
+    t13 = t12;
     t14 = t13 + 0ull;
-    t15 = t14;
-    t16 = t15 + 2ull;
-    t17 = *(uint8_t *)t16;
-    t18 = (char *)&columns_slot;
-    t19 = t18 + 0ull;
-    t20 = t19;
-    t21 = t20 + 3ull;
-    t22 = *(uint8_t *)t21;
+    t15 = (char *)&columns_slot;
+    t16 = t15 + 0ull;
+    t17 = t16;
+    t18 = t17 + 1ull;
+    t19 = (char *)&columns_slot;
+    t20 = t19 + 0ull;
+    t21 = t20;
+    t22 = t21 + 2ull;
     t23 = (char *)&columns_slot;
-    t24 = t23 + 4ull;
+    t24 = t23 + 0ull;
     t25 = t24;
-    t26 = t25 + 0ull;
-    t27 = *(uint8_t *)t26;
-    t28 = (char *)&columns_slot;
-    t29 = t28 + 4ull;
-    t30 = t29;
-    t31 = t30 + 1ull;
-    t32 = *(uint8_t *)t31;
-    t33 = (char *)&columns_slot;
-    t34 = t33 + 4ull;
-    t35 = t34;
-    t36 = t35 + 2ull;
-    t37 = *(uint8_t *)t36;
-    t38 = (char *)&columns_slot;
-    t39 = t38 + 4ull;
-    t40 = t39;
-    t41 = t40 + 3ull;
-    t42 = *(uint8_t *)t41;
-    result = field_bytes_eight(t7, t12, t17, t22, t27, t32, t37, t42);
+    t26 = t25 + 3ull;
+    t27 = (char *)&columns_slot;
+    t28 = t27 + 4ull;
+    t29 = t28;
+    t30 = t29 + 0ull;
+    t31 = (char *)&columns_slot;
+    t32 = t31 + 4ull;
+    t33 = t32;
+    t34 = t33 + 1ull;
+    t35 = (char *)&columns_slot;
+    t36 = t35 + 4ull;
+    t37 = t36;
+    t38 = t37 + 2ull;
+    t39 = (char *)&columns_slot;
+    t40 = t39 + 4ull;
+    t41 = t40;
+    t42 = t41 + 3ull;
+    a = *(uint8_t *)t14;
+    b = *(uint8_t *)t18;
+    c = *(uint8_t *)t22;
+    d = *(uint8_t *)t26;
+    e = *(uint8_t *)t30;
+    f = *(uint8_t *)t34;
+    g = *(uint8_t *)t38;
+    h = *(uint8_t *)t42;
+    t43 = (uint8_8){{a, b, c, d, e, f, g, h}};
+    result = core_u64_from_le_bytes(t43);
     return result;
 }
 
-/* field, src/bytes.rt:75: The last eight bytes of four columns as a word. */
+/* field, src/bytes.rt:41: The last eight bytes of four columns as a word. */
 INLINE uint64_t field_bytes_high_word(uint8_4_4 columns)
 {
     uint64_t result;
     uint8_4_4 columns_slot;
-    char *t3, *t4, *t5, *t6, *t8, *t9, *t10, *t11, *t13, *t14, *t15, *t16, *t18, *t19, *t20, *t21, *t23, *t24, *t25, *t26, *t28, *t29, *t30,
-        *t31, *t33, *t34, *t35, *t36, *t38, *t39, *t40, *t41;
-    uint8_t t7, t12, t17, t22, t27, t32, t37, t42;
+    uint8_t a, b, c, d, e, f, g, h;
+    char *t11, *t12, *t13, *t14, *t15, *t16, *t17, *t18, *t19, *t20, *t21, *t22, *t23, *t24, *t25, *t26, *t27, *t28, *t29, *t30, *t31, *t32,
+        *t33, *t34, *t35, *t36, *t37, *t38, *t39, *t40, *t41, *t42;
+    uint8_8 t43;
     columns_slot = columns;
-    t3 = (char *)&columns_slot;
-    t4 = t3 + 8ull;
-    t5 = t4;
-    t6 = t5 + 0ull;
-    t7 = *(uint8_t *)t6;
-    t8 = (char *)&columns_slot;
-    t9 = t8 + 8ull;
-    t10 = t9;
-    t11 = t10 + 1ull;
-    t12 = *(uint8_t *)t11;
-    t13 = (char *)&columns_slot;
-    t14 = t13 + 8ull;
-    t15 = t14;
-    t16 = t15 + 2ull;
-    t17 = *(uint8_t *)t16;
-    t18 = (char *)&columns_slot;
-    t19 = t18 + 8ull;
-    t20 = t19;
-    t21 = t20 + 3ull;
-    t22 = *(uint8_t *)t21;
+    t11 = (char *)&columns_slot;
+    t12 = t11 + 8ull;
+    t13 = t12;
+    t14 = t13 + 0ull;
+    t15 = (char *)&columns_slot;
+    t16 = t15 + 8ull;
+    t17 = t16;
+    t18 = t17 + 1ull;
+    t19 = (char *)&columns_slot;
+    t20 = t19 + 8ull;
+    t21 = t20;
+    t22 = t21 + 2ull;
     t23 = (char *)&columns_slot;
-    t24 = t23 + 12ull;
+    t24 = t23 + 8ull;
     t25 = t24;
-    t26 = t25 + 0ull;
-    t27 = *(uint8_t *)t26;
-    t28 = (char *)&columns_slot;
-    t29 = t28 + 12ull;
-    t30 = t29;
-    t31 = t30 + 1ull;
-    t32 = *(uint8_t *)t31;
-    t33 = (char *)&columns_slot;
-    t34 = t33 + 12ull;
-    t35 = t34;
-    t36 = t35 + 2ull;
-    t37 = *(uint8_t *)t36;
-    t38 = (char *)&columns_slot;
-    t39 = t38 + 12ull;
-    t40 = t39;
-    t41 = t40 + 3ull;
-    t42 = *(uint8_t *)t41;
-    result = field_bytes_eight(t7, t12, t17, t22, t27, t32, t37, t42);
+    t26 = t25 + 3ull;
+    t27 = (char *)&columns_slot;
+    t28 = t27 + 12ull;
+    t29 = t28;
+    t30 = t29 + 0ull;
+    t31 = (char *)&columns_slot;
+    t32 = t31 + 12ull;
+    t33 = t32;
+    t34 = t33 + 1ull;
+    t35 = (char *)&columns_slot;
+    t36 = t35 + 12ull;
+    t37 = t36;
+    t38 = t37 + 2ull;
+    t39 = (char *)&columns_slot;
+    t40 = t39 + 12ull;
+    t41 = t40;
+    t42 = t41 + 3ull;
+    a = *(uint8_t *)t14;
+    b = *(uint8_t *)t18;
+    c = *(uint8_t *)t22;
+    d = *(uint8_t *)t26;
+    e = *(uint8_t *)t30;
+    f = *(uint8_t *)t34;
+    g = *(uint8_t *)t38;
+    h = *(uint8_t *)t42;
+    t43 = (uint8_8){{a, b, c, d, e, f, g, h}};
+    result = core_u64_from_le_bytes(t43);
     return result;
 }
 
-/* field, src/block.rt:54: The element of a leaf: its 16 bytes. */
+/* field, src/block.rt:52: The element of a leaf: its 16 bytes. */
 INLINE field_block_Block field_block_Block_of_columns(uint8_4_4 columns)
 {
     field_block_Block result;
@@ -1443,7 +2856,7 @@ INLINE field_block_Block field_block_Block_of_columns(uint8_4_4 columns)
     return result;
 }
 
-/* field, src/block.rt:27: The sum, which is exclusive or. */
+/* field, src/block.rt:28: The sum, which is exclusive or. */
 INLINE field_block_Block field_block_Block_add(field_block_Block self, field_block_Block other)
 {
     field_block_Block result;
@@ -1454,81 +2867,86 @@ INLINE field_block_Block field_block_Block_add(field_block_Block self, field_blo
     return result;
 }
 
-/* field, src/bytes.rt:37: Writes the eight bytes of a word from a place on. */
+/* field, src/bytes.rt:25: Writes the eight bytes of a word from a place on. */
 INLINE void field_bytes_put_word(slice bytes, uint64_t at, uint64_t word)
 {
-    uint64_t w1, w2, w3, w4, w5, w6, w7, t11, t14;
-    uint8_t t12;
-    char *t13, *t15, *t16, *t17, *t18, *t19, *t20, *t21;
-    t11 = word % 256ull;
-    t12 = (uint8_t)t11;
-    t13 = bytes.at + at;
-    *(uint8_t *)t13 = t12;
-    w1 = word / 256ull;
-    t11 = w1 % 256ull;
-    t12 = (uint8_t)t11;
-    t14 = at + 1ull;
-    t15 = bytes.at + t14;
-    *(uint8_t *)t15 = t12;
-    w2 = w1 / 256ull;
-    t11 = w2 % 256ull;
-    t12 = (uint8_t)t11;
-    t14 = at + 2ull;
-    t16 = bytes.at + t14;
-    *(uint8_t *)t16 = t12;
-    w3 = w2 / 256ull;
-    t11 = w3 % 256ull;
-    t12 = (uint8_t)t11;
-    t14 = at + 3ull;
-    t17 = bytes.at + t14;
-    *(uint8_t *)t17 = t12;
-    w4 = w3 / 256ull;
-    t11 = w4 % 256ull;
-    t12 = (uint8_t)t11;
-    t14 = at + 4ull;
-    t18 = bytes.at + t14;
-    *(uint8_t *)t18 = t12;
-    w5 = w4 / 256ull;
-    t11 = w5 % 256ull;
-    t12 = (uint8_t)t11;
-    t14 = at + 5ull;
-    t19 = bytes.at + t14;
-    *(uint8_t *)t19 = t12;
-    w6 = w5 / 256ull;
-    t11 = w6 % 256ull;
-    t12 = (uint8_t)t11;
-    t14 = at + 6ull;
-    t20 = bytes.at + t14;
-    *(uint8_t *)t20 = t12;
-    w7 = w6 / 256ull;
-    t11 = w7 % 256ull;
-    t12 = (uint8_t)t11;
-    t14 = at + 7ull;
-    t21 = bytes.at + t14;
-    *(uint8_t *)t21 = t12;
+    uint64_t t5, t7;
+    char *t6, *t8, *t12;
+    slice t9, t13;
+    uint8_8 t10, t11;
+    t5 = at + 8ull;
+    t6 = bytes.at + at;
+    t7 = t5 - at;
+    t8 = t6;
+    t9 = (slice){t8, t7};
+    t10 = core_u64_to_le_bytes(word);
+    t11 = t10;
+    t12 = (char *)&t11;
+    t13 = (slice){t12, 8ull};
+    core_slice_copy_from_slice_uint8(t9, t13);
 }
 
-/* field, src/element.rt:29: The element of a leaf. */
-INLINE field_element_Element field_element_leaf_element(uint64_t field, uint8_4_4 leaf)
+/* field, src/block.rt:73: Writes the block's 16 bytes from a place on. */
+INLINE void field_block_Block_write(field_block_Block self, slice bytes, uint64_t at)
+{
+    char *t5, *t7;
+    slice t6, t8;
+    uint64_t t9;
+    t5 = bytes.at;
+    t6 = (slice){t5, bytes.count};
+    field_bytes_put_word(t6, at, self.low);
+    t7 = bytes.at;
+    t8 = (slice){t7, bytes.count};
+    t9 = at + 8ull;
+    field_bytes_put_word(t8, t9, self.high);
+}
+
+/* field, src/element.rt:47 */
+INLINE field_element_Element field_element_ElementFromBlock_from(field_block_Block block)
 {
     field_element_Element result;
-    field_block_Block block;
-    prime_prime_Prime prime;
-    bool t5;
-    uint64_t t6;
-    t5 = field == 1ull;
-    if (t5) {
-        block = field_block_Block_of_columns(leaf);
-        result = (field_element_Element){block.low, block.high};
-        return result;
-    }
-    t6 = field_bytes_low_word(leaf);
-    prime = prime_prime_Prime_reduce(t6);
+    result = (field_element_Element){block.low, block.high};
+    return result;
+}
+
+/* field, src/element.rt:58 */
+INLINE field_element_Element field_element_ElementFromPrime_from(prime_prime_Prime prime)
+{
+    field_element_Element result;
     result = (field_element_Element){prime.word, 0ull};
     return result;
 }
 
-/* field, src/block.rt:47: The block if the noise value is 1, else zero. */
+/* field, src/element.rt:74: The element of a leaf. */
+INLINE field_element_Element field_element_leaf_element(uint64_t field, uint8_4_4 leaf)
+{
+    field_element_Element result, t4;
+    bool t3;
+    field_block_Block t5;
+    prime_prime_Prime t6;
+    uint64_t t7;
+    t3 = field == 1ull;
+    if (t3) {
+        t5 = field_block_Block_of_columns(leaf);
+        t4 = field_element_ElementFromBlock_from(t5);
+    } else {
+        t7 = field_bytes_low_word(leaf);
+        t6 = prime_prime_Prime_reduce(t7);
+        t4 = field_element_ElementFromPrime_from(t6);
+    }
+    result = t4;
+    return result;
+}
+
+/* field, src/element.rt:27: As an element of field 1. */
+INLINE field_block_Block field_element_Element_block(field_element_Element self)
+{
+    field_block_Block result;
+    result = (field_block_Block){self.low, self.high};
+    return result;
+}
+
+/* field, src/block.rt:45: The block if the noise value is 1, else zero. */
 INLINE field_block_Block field_block_Block_scale(field_block_Block self, uint64_t bit)
 {
     field_block_Block result, t4;
@@ -1543,45 +2961,64 @@ INLINE field_block_Block field_block_Block_scale(field_block_Block self, uint64_
     return result;
 }
 
-/* field, src/element.rt:118: A noise value times an element. */
-INLINE field_element_Element field_element_element_scaled(uint64_t field, uint64_t value, field_element_Element a)
+/* field, src/element.rt:37: As an element of field 2, which its first word is. */
+INLINE prime_prime_Prime field_element_Element_prime(field_element_Element self)
 {
-    field_element_Element result;
-    field_block_Block block, multiple;
-    prime_prime_Prime noise, element, multiple_2;
-    bool t9;
-    t9 = field == 1ull;
-    if (t9) {
-        block = (field_block_Block){a.low, a.high};
-        multiple = field_block_Block_scale(block, value);
-        result = (field_element_Element){multiple.low, multiple.high};
-        return result;
-    }
-    noise = (prime_prime_Prime){value};
-    element = (prime_prime_Prime){a.low};
-    multiple_2 = prime_prime_Prime_mul(noise, element);
-    result = (field_element_Element){multiple_2.word, 0ull};
+    prime_prime_Prime result;
+    result = (prime_prime_Prime){self.low};
     return result;
 }
 
-/* field, src/element.rt:99: The difference of two elements. */
+/* field, src/element.rt:132: A noise value times an element. */
+INLINE field_element_Element field_element_element_scaled(uint64_t field, uint64_t value, field_element_Element a)
+{
+    field_element_Element result, t5;
+    bool t4;
+    field_block_Block t6, t7;
+    prime_prime_Prime t8, t9, t10;
+    t4 = field == 1ull;
+    if (t4) {
+        t7 = field_element_Element_block(a);
+        t6 = field_block_Block_scale(t7, value);
+        t5 = field_element_ElementFromBlock_from(t6);
+    } else {
+        t9 = (prime_prime_Prime){value};
+        t10 = field_element_Element_prime(a);
+        t8 = prime_prime_Prime_mul(t9, t10);
+        t5 = field_element_ElementFromPrime_from(t8);
+    }
+    result = t5;
+    return result;
+}
+
+/* field, src/block.rt:38: The difference, which is the sum. */
+INLINE field_block_Block field_block_Block_sub(field_block_Block self, field_block_Block other)
+{
+    field_block_Block result;
+    result = field_block_Block_add(self, other);
+    return result;
+}
+
+/* field, src/element.rt:121: The difference of two elements. */
 INLINE field_element_Element field_element_element_difference(uint64_t field, field_element_Element a, field_element_Element b)
 {
-    field_element_Element result;
-    prime_prime_Prime first, second, difference;
-    bool t7;
-    uint64_t t8, t9;
-    t7 = field == 1ull;
-    if (t7) {
-        t8 = a.low ^ b.low;
-        t9 = a.high ^ b.high;
-        result = (field_element_Element){t8, t9};
-        return result;
+    field_element_Element result, t5;
+    bool t4;
+    field_block_Block t6, t7, t8;
+    prime_prime_Prime t9, t10, t11;
+    t4 = field == 1ull;
+    if (t4) {
+        t7 = field_element_Element_block(a);
+        t8 = field_element_Element_block(b);
+        t6 = field_block_Block_sub(t7, t8);
+        t5 = field_element_ElementFromBlock_from(t6);
+    } else {
+        t10 = field_element_Element_prime(a);
+        t11 = field_element_Element_prime(b);
+        t9 = prime_prime_Prime_sub(t10, t11);
+        t5 = field_element_ElementFromPrime_from(t9);
     }
-    first = (prime_prime_Prime){a.low};
-    second = (prime_prime_Prime){b.low};
-    difference = prime_prime_Prime_sub(first, second);
-    result = (field_element_Element){difference.word, 0ull};
+    result = t5;
     return result;
 }
 
@@ -1593,7 +3030,7 @@ INLINE bool field_noise_one_noise(uint64_t field)
     return result;
 }
 
-/* field, src/element.rt:195: Writes the bytes of an element from a place on. */
+/* field, src/element.rt:178: Writes the bytes of an element from a place on. */
 INLINE void field_element_put_element(uint64_t field, slice bytes, uint64_t at, field_element_Element element)
 {
     char *t6, *t10;
@@ -1612,30 +3049,114 @@ INLINE void field_element_put_element(uint64_t field, slice bytes, uint64_t at, 
     }
 }
 
-/* field, src/width.rt:11: How many words an element of a field takes. */
-INLINE uint64_t field_width_element_width(uint64_t field)
-{
-    uint64_t result, t3;
-    bool t2;
-    t2 = field == 1ull;
-    if (t2) {
-        t3 = 2ull;
-    } else {
-        t3 = 1ull;
-    }
-    result = t3;
-    return result;
-}
-
-/* field, src/block.rt:19: The zero of the element kind. */
-INLINE field_block_Block field_block_Block_zero(void)
+/* field, src/parts.rt:37 */
+INLINE field_block_Block field_parts_BlockFieldElement_zero(void)
 {
     field_block_Block result;
     result = (field_block_Block){0ull, 0ull};
     return result;
 }
 
-/* field, src/block.rt:72: The sum of two noise values of field 1. */
+/* field, src/parts.rt:49 */
+INLINE field_block_Block field_parts_BlockFieldElement_at(slice words, uint64_t i)
+{
+    field_block_Block result;
+    uint64_t t3, t6, t7, t8, t11;
+    char *t5, *t10;
+    t3 = i * 2ull;
+    t5 = (char *)((uint64_t *)words.at + t3);
+    t6 = *(uint64_t *)t5;
+    t7 = i * 2ull;
+    t8 = t7 + 1ull;
+    t10 = (char *)((uint64_t *)words.at + t8);
+    t11 = *(uint64_t *)t10;
+    result = (field_block_Block){t6, t11};
+    return result;
+}
+
+/* field, src/parts.rt:41 */
+INLINE field_block_Block field_parts_BlockFieldElement_add(field_block_Block self, field_block_Block other)
+{
+    field_block_Block result;
+    result = field_block_Block_add(self, other);
+    return result;
+}
+
+/* field, src/parts.rt:56 */
+INLINE void field_parts_BlockFieldElement_put(field_block_Block self, slice words, uint64_t i)
+{
+    uint64_t t4, t5, t6, t8;
+    char *t7, *t10;
+    t4 = self.low;
+    t5 = i * 2ull;
+    t6 = t5 * 8ull;
+    t7 = (char *)((uint64_t *)words.at + t5);
+    *(uint64_t *)t7 = t4;
+    t8 = self.high;
+    t5 = i * 2ull;
+    t6 = t5 + 1ull;
+    t10 = (char *)((uint64_t *)words.at + t6);
+    *(uint64_t *)t10 = t8;
+}
+
+/* field, src/parts.rt:65 */
+INLINE prime_prime_Prime field_parts_PrimeFieldElement_zero(void)
+{
+    prime_prime_Prime result;
+    result = (prime_prime_Prime){0ull};
+    return result;
+}
+
+/* field, src/parts.rt:77 */
+INLINE prime_prime_Prime field_parts_PrimeFieldElement_at(slice words, uint64_t i)
+{
+    prime_prime_Prime result;
+    char *t4;
+    uint64_t t5;
+    t4 = (char *)((uint64_t *)words.at + i);
+    t5 = *(uint64_t *)t4;
+    result = (prime_prime_Prime){t5};
+    return result;
+}
+
+/* field, src/parts.rt:69 */
+INLINE prime_prime_Prime field_parts_PrimeFieldElement_add(prime_prime_Prime self, prime_prime_Prime other)
+{
+    prime_prime_Prime result;
+    result = prime_prime_Prime_add(self, other);
+    return result;
+}
+
+/* field, src/parts.rt:81 */
+INLINE void field_parts_PrimeFieldElement_put(prime_prime_Prime self, slice words, uint64_t i)
+{
+    uint64_t t4;
+    char *t6;
+    t4 = self.word;
+    t6 = (char *)((uint64_t *)words.at + i);
+    *(uint64_t *)t6 = t4;
+}
+
+/* field, src/parts.rt:90 */
+INLINE uint64_t field_parts_U64FieldElement_zero(void)
+{
+    uint64_t result;
+    result = 0ull;
+    return result;
+}
+
+/* field, src/parts.rt:102 */
+INLINE uint64_t field_parts_U64FieldElement_at(slice words, uint64_t i)
+{
+    uint64_t result, t5;
+    char *t4;
+    t4 = (char *)((uint64_t *)words.at + i);
+    t5 = *(uint64_t *)t4;
+    result = t5;
+    return result;
+}
+
+/* field, src/block.rt:90: The sum of two noise values of field 1. */
 INLINE uint64_t field_block_add_bits(uint64_t a, uint64_t b)
 {
     uint64_t result, t3, t4, t5;
@@ -1646,78 +3167,91 @@ INLINE uint64_t field_block_add_bits(uint64_t a, uint64_t b)
     return result;
 }
 
-/* field, src/width.rt:18: Writes element i of field 1, two words. */
-INLINE void field_width_put_block(slice words, uint64_t i, field_block_Block element)
+/* field, src/parts.rt:94 */
+INLINE uint64_t field_parts_U64FieldElement_add(uint64_t self, uint64_t other)
 {
-    uint64_t low, t5, t6, t8;
-    char *t7, *t10;
-    low = i * 2ull;
-    t5 = element.low;
-    t6 = low * 8ull;
-    t7 = (char *)((uint64_t *)words.at + low);
-    *(uint64_t *)t7 = t5;
-    t8 = element.high;
-    t6 = low + 1ull;
-    t10 = (char *)((uint64_t *)words.at + t6);
-    *(uint64_t *)t10 = t8;
+    uint64_t result;
+    result = field_block_add_bits(self, other);
+    return result;
 }
 
-/* field, src/noise.rt:36: The coefficient of a term's word. */
+/* field, src/parts.rt:106 */
+INLINE void field_parts_U64FieldElement_put(uint64_t self, slice words, uint64_t i)
+{
+    char *t5;
+    t5 = (char *)((uint64_t *)words.at + i);
+    *(uint64_t *)t5 = self;
+}
+
+/* field, src/block.rt:20: The zero of the element kind. */
+INLINE field_block_Block field_block_Block_zero(void)
+{
+    field_block_Block result;
+    result = (field_block_Block){0ull, 0ull};
+    return result;
+}
+
+/* field, src/noise.rt:37: The coefficient of a term's word. */
 INLINE uint64_t field_noise_coefficient(uint64_t field, uint64_t word)
 {
-    uint64_t result;
-    prime_prime_Prime reduced;
-    bool t4;
-    t4 = field == 1ull;
-    if (t4) {
-        result = 1ull;
-        return result;
+    uint64_t result, t4;
+    bool t3;
+    prime_prime_Prime t5;
+    t3 = field == 1ull;
+    if (t3) {
+        t4 = 1ull;
+    } else {
+        t5 = prime_prime_Prime_reduce(word);
+        t4 = t5.word;
     }
-    reduced = prime_prime_Prime_reduce(word);
-    result = reduced.word;
+    result = t4;
     return result;
 }
 
-/* field, src/element.rt:80: The sum of two elements. */
+/* field, src/element.rt:110: The sum of two elements. It and the difference are a line a field: one function of both would take the
+ * operations as two closures. */
 INLINE field_element_Element field_element_element_sum(uint64_t field, field_element_Element a, field_element_Element b)
 {
-    field_element_Element result;
-    prime_prime_Prime first, second, sum;
-    bool t7;
-    uint64_t t8, t9;
-    t7 = field == 1ull;
-    if (t7) {
-        t8 = a.low ^ b.low;
-        t9 = a.high ^ b.high;
-        result = (field_element_Element){t8, t9};
-        return result;
+    field_element_Element result, t5;
+    bool t4;
+    field_block_Block t6, t7, t8;
+    prime_prime_Prime t9, t10, t11;
+    t4 = field == 1ull;
+    if (t4) {
+        t7 = field_element_Element_block(a);
+        t8 = field_element_Element_block(b);
+        t6 = field_block_Block_add(t7, t8);
+        t5 = field_element_ElementFromBlock_from(t6);
+    } else {
+        t10 = field_element_Element_prime(a);
+        t11 = field_element_Element_prime(b);
+        t9 = prime_prime_Prime_add(t10, t11);
+        t5 = field_element_ElementFromPrime_from(t9);
     }
-    first = (prime_prime_Prime){a.low};
-    second = (prime_prime_Prime){b.low};
-    sum = prime_prime_Prime_add(first, second);
-    result = (field_element_Element){sum.word, 0ull};
+    result = t5;
     return result;
 }
 
-/* field, src/noise.rt:47: The sum of two noise values. */
+/* field, src/noise.rt:48: The sum of two noise values. */
 INLINE uint64_t field_noise_noise_sum(uint64_t field, uint64_t a, uint64_t b)
 {
-    uint64_t result;
-    prime_prime_Prime first, second, sum;
-    bool t7;
-    t7 = field == 1ull;
-    if (t7) {
-        result = field_block_add_bits(a, b);
-        return result;
+    uint64_t result, t5;
+    bool t4;
+    prime_prime_Prime t6, t7, t8;
+    t4 = field == 1ull;
+    if (t4) {
+        t5 = field_block_add_bits(a, b);
+    } else {
+        t7 = (prime_prime_Prime){a};
+        t8 = (prime_prime_Prime){b};
+        t6 = prime_prime_Prime_add(t7, t8);
+        t5 = t6.word;
     }
-    first = (prime_prime_Prime){a};
-    second = (prime_prime_Prime){b};
-    sum = prime_prime_Prime_add(first, second);
-    result = sum.word;
+    result = t5;
     return result;
 }
 
-/* record, src/writing.rt:130: How many bytes a head takes. */
+/* record, src/writing.rt:128: How many bytes a head takes. */
 INLINE uint64_t record_writing_head_length(uint64_t depth, uint64_t branch_bits, uint64_t trees, uint64_t terms, uint64_t outputs)
 {
     uint64_t result, up_to_trees, from_terms, t8, t9, t10, t11;
@@ -1743,22 +3277,7 @@ INLINE uint64_t record_sizes_leaves(uint64_t depth)
     return result;
 }
 
-/* record, src/sizes.rt:22: The smaller of two numbers. */
-INLINE uint64_t record_sizes_smaller(uint64_t a, uint64_t b)
-{
-    uint64_t result, t4;
-    bool t3;
-    t3 = a <= b;
-    if (t3) {
-        t4 = a;
-    } else {
-        t4 = b;
-    }
-    result = t4;
-    return result;
-}
-
-/* record, src/writing.rt:145: How many bytes a tree takes up to its siblings. */
+/* record, src/writing.rt:143: How many bytes a tree takes up to its siblings. */
 INLINE uint64_t record_writing_tree_start_length(uint64_t base, uint64_t position)
 {
     uint64_t result, t3, t4;
@@ -1779,7 +3298,7 @@ INLINE uint64_t record_sizes_sibling_count(uint64_t depth, uint64_t branch_bits)
     return result;
 }
 
-/* record, src/writing.rt:153: How many bytes a tree takes, after positions below `base`. */
+/* record, src/writing.rt:151: How many bytes a tree takes, after positions below `base`. */
 INLINE uint64_t record_writing_tree_length(record_Layout layout, uint64_t base, uint64_t position)
 {
     uint64_t result, t4, t5, t6;
@@ -1790,36 +3309,36 @@ INLINE uint64_t record_writing_tree_length(record_Layout layout, uint64_t base, 
     return result;
 }
 
-/* record, src/writing.rt:169: How many bytes the noise record takes. */
+/* record, src/writing.rt:167: How many bytes the noise record takes. */
 static uint64_t record_writing_noise_length(record_Layout layout, slice positions)
 {
-    uint64_t result, total, base, i, position, t7;
-    bool t8;
-    char *t9;
-    uint32_t t10;
+    uint64_t result, total, base, position_index, position_2, position_index_end, t13;
+    char *position, *t11;
+    bool t9;
+    uint32_t t12;
     total = layout.body;
     base = 0ull;
-    i = 0ull;
+    position_index = 0ull;
+    position_index_end = positions.count;
     for (;;) {
-        t7 = positions.count;
-        t8 = i < t7;
-        if (!t8) {
+        t9 = position_index < position_index_end;
+        if (!t9) {
             break;
         }
-        t7 = i * 4ull;
-        t9 = (char *)((uint32_t *)positions.at + i);
-        t10 = *(uint32_t *)t9;
-        position = (uint64_t)t10;
-        t7 = record_writing_tree_length(layout, base, position);
-        total = total + t7;
-        base = position + 1ull;
-        i = i + 1ull;
+        t11 = (char *)((uint32_t *)positions.at + position_index);
+        position = t11;
+        t12 = *(uint32_t *)position;
+        position_2 = (uint64_t)t12;
+        t13 = record_writing_tree_length(layout, base, position_2);
+        total = total + t13;
+        base = position_2 + 1ull;
+        position_index = position_index + 1ull;
     }
     result = total;
     return result;
 }
 
-/* record, src/writing.rt:161: How many bytes the scalar record takes. */
+/* record, src/writing.rt:159: How many bytes the scalar record takes. */
 INLINE uint64_t record_writing_scalar_length(record_Layout layout)
 {
     uint64_t result, t2, t3, t4;
@@ -1830,7 +3349,16 @@ INLINE uint64_t record_writing_scalar_length(record_Layout layout)
     return result;
 }
 
-/* record, src/writing.rt:52: Writes g, t, ℓ and n from a place on; the place after them. */
+/* record, src/lib.rt:27: The end byte. */
+INLINE uint8_t record_End_byte(record_End self)
+{
+    uint8_t result, t2;
+    t2 = self.tag;
+    result = (uint8_t)((uint32_t)t2 + 1u);
+    return result;
+}
+
+/* record, src/writing.rt:50: Writes g, t, ℓ and n from a place on; the place after them. */
 INLINE uint64_t record_writing_write_after_depth(slice buffer, uint64_t at, record_Layout layout)
 {
     uint64_t result, at4, at5, at6;
@@ -1851,7 +3379,7 @@ INLINE uint64_t record_writing_write_after_depth(slice buffer, uint64_t at, reco
     return result;
 }
 
-/* record, src/writing.rt:63: Writes d, g, t, ℓ and n after the field byte; the place after them. */
+/* record, src/writing.rt:61: Writes d, g, t, ℓ and n after the field byte; the place after them. */
 INLINE uint64_t record_writing_write_sizes(slice buffer, record_Layout layout)
 {
     uint64_t result, at;
@@ -1866,56 +3394,59 @@ INLINE uint64_t record_writing_write_sizes(slice buffer, record_Layout layout)
     return result;
 }
 
-/* record, src/writing.rt:18: Writes a count of bytes of `from`, which begin at `start`, from a place on; the place after them. */
-static uint64_t record_writing_write_bytes(slice buffer, uint64_t at, slice from, uint64_t start, uint64_t count)
+/* record, src/writing.rt:18: Writes bytes from a place on; the place after them. Byte by byte: `copy_from_slice` here makes the archive
+ * ask for `memmove`. */
+static uint64_t record_writing_write_bytes(slice buffer, uint64_t at, slice bytes)
 {
-    uint64_t result, i, t8, t11;
-    bool t7;
-    char *t9, *t12;
-    uint8_t t10;
+    uint64_t result, i, i_end, t9, t11;
+    bool t6;
+    char *t7, *t10;
+    uint8_t t8;
     i = 0ull;
+    i_end = bytes.count;
     for (;;) {
-        t7 = i < count;
-        if (!t7) {
+        t6 = i < i_end;
+        if (!t6) {
             break;
         }
-        t8 = start + i;
-        t9 = from.at + t8;
-        t10 = *(uint8_t *)t9;
-        t11 = at + i;
-        t12 = buffer.at + t11;
-        *(uint8_t *)t12 = t10;
+        t7 = bytes.at + i;
+        t8 = *(uint8_t *)t7;
+        t9 = at + i;
+        t10 = buffer.at + t9;
+        *(uint8_t *)t10 = t8;
         i = i + 1ull;
     }
-    result = at + count;
+    t11 = bytes.count;
+    result = at + t11;
     return result;
 }
 
-/* record, src/writing.rt:72: Writes the head of a record at the buffer's front; the place after it. */
-INLINE uint64_t record_writing_write_head(slice buffer, uint8_t end, record_Layout layout, slice code_key, slice label)
+/* record, src/writing.rt:70: Writes the head of a record at the buffer's front; the place after it. */
+INLINE uint64_t record_writing_write_head(slice buffer, record_End end, record_Layout layout, slice code_key, slice label)
 {
     uint64_t result, at, next;
-    char *t8, *t10, *t11, *t13, *t15;
-    uint8_t t9;
+    uint8_t t8;
+    char *t9, *t10, *t11, *t13, *t15;
     slice t12, t14, t16;
-    t8 = buffer.at + 0ull;
-    *(uint8_t *)t8 = end;
-    t9 = (uint8_t)layout.field;
+    t8 = record_End_byte(end);
+    t9 = buffer.at + 0ull;
+    *(uint8_t *)t9 = t8;
+    t8 = (uint8_t)layout.field;
     t10 = buffer.at + 1ull;
-    *(uint8_t *)t10 = t9;
+    *(uint8_t *)t10 = t8;
     t11 = buffer.at;
     t12 = (slice){t11, buffer.count};
     at = record_writing_write_sizes(t12, layout);
     t13 = buffer.at;
     t14 = (slice){t13, buffer.count};
-    next = record_writing_write_bytes(t14, at, code_key, 0ull, 16ull);
+    next = record_writing_write_bytes(t14, at, code_key);
     t15 = buffer.at;
     t16 = (slice){t15, buffer.count};
-    result = record_writing_write_bytes(t16, next, label, 0ull, 16ull);
+    result = record_writing_write_bytes(t16, next, label);
     return result;
 }
 
-/* record, src/writing.rt:31: Writes a noise value from a place on, none where it is always 1; the place after it. */
+/* record, src/writing.rt:29: Writes a noise value from a place on, none where it is always 1; the place after it. */
 INLINE uint64_t record_writing_write_value(slice buffer, uint64_t at, uint64_t field, uint64_t value)
 {
     uint64_t result;
@@ -1934,7 +3465,7 @@ INLINE uint64_t record_writing_write_value(slice buffer, uint64_t at, uint64_t f
     return result;
 }
 
-/* record, src/writing.rt:43: Writes an element from a place on; the place after it. */
+/* record, src/writing.rt:41: Writes an element from a place on; the place after it. */
 INLINE uint64_t record_writing_write_element(slice buffer, uint64_t at, uint64_t field, field_element_Element element)
 {
     uint64_t result, t8;
@@ -1948,7 +3479,7 @@ INLINE uint64_t record_writing_write_element(slice buffer, uint64_t at, uint64_t
     return result;
 }
 
-/* record, src/writing.rt:91: Writes a tree up to its siblings from a place on, its position as the number `back`; the place of the
+/* record, src/writing.rt:89: Writes a tree up to its siblings from a place on, its position as the number `back`; the place of the
  * siblings. */
 INLINE uint64_t record_writing_write_tree_start(slice buffer, uint64_t at, uint64_t field, uint64_t back, uint64_t value,
     field_element_Element correction)
@@ -1968,344 +3499,435 @@ INLINE uint64_t record_writing_write_tree_start(slice buffer, uint64_t at, uint6
     return result;
 }
 
-/* record, src/writing.rt:109: Writes the scalar record at the buffer's front; its length. */
+/* record, src/writing.rt:107: Writes the scalar record at the buffer's front; its length. */
 INLINE uint64_t record_writing_write_scalar(slice buffer, record_Layout layout, slice code_key, slice label, field_element_Element delta,
     slice roots)
 {
-    uint64_t result, at, next, t15;
-    char *t9, *t11, *t13;
-    slice t10, t12, t14;
+    uint64_t result, at, next;
+    char *t9, *t12, *t14;
+    slice t10, t13, t15;
+    record_End t11;
     t9 = buffer.at;
     t10 = (slice){t9, buffer.count};
-    at = record_writing_write_head(t10, 2u, layout, code_key, label);
-    t11 = buffer.at;
-    t12 = (slice){t11, buffer.count};
-    next = record_writing_write_element(t12, at, layout.field, delta);
-    t13 = buffer.at;
-    t14 = (slice){t13, buffer.count};
-    t15 = 16ull * layout.trees;
-    result = record_writing_write_bytes(t14, next, roots, 0ull, t15);
+    t11 = (record_End){record_End_scalar};
+    at = record_writing_write_head(t10, t11, layout, code_key, label);
+    t12 = buffer.at;
+    t13 = (slice){t12, buffer.count};
+    next = record_writing_write_element(t13, at, layout.field, delta);
+    t14 = buffer.at;
+    t15 = (slice){t14, buffer.count};
+    result = record_writing_write_bytes(t15, next, roots);
     return result;
 }
 
-/* record, src/lib.rt:53: The number that a record is refused with. */
-INLINE uint32_t record_record_fault(record_RecordAnswer r)
+/* circuit, src/gates.rt:19: A number from the least to the most, and the place after it. */
+INLINE Result_tuple_uint64_uint64_answer_Refusal circuit_gates_read_within(slice source, uint64_t at, uint64_t least, uint64_t most)
 {
-    uint32_t result, k, t3;
-    switch (r.accepted.tag) {
-    case 0:
-        t3 = 0u;
-        break;
-    default:
-        k = r.fault.m1;
-        t3 = k;
-        break;
-    }
-    result = t3;
-    return result;
-}
-
-/* circuit, src/gates.rt:13: A number from the least to the most. */
-INLINE number_Number circuit_gates_read_within(slice source, uint64_t at, uint64_t least, uint64_t most)
-{
-    number_Number result, r;
+    Result_tuple_uint64_uint64_answer_Refusal result, t11;
     uint64_t n, next;
-    bool t8;
-    r = number_read_number(source, at);
-    switch (r.value.tag) {
+    tuple_uint64_uint64 t7, t9, t12, t16;
+    ErrResidual_answer_Refusal t8;
+    ControlFlow_ErrResidual_answer_Refusal_tuple_uint64_uint64 t10;
+    bool t13, t14;
+    answer_Refusal t15;
+    t11 = number_read_number(source, at);
+    t10 = core_ResultTry_branch_tuple_uint64_uint64_answer_Refusal(t11);
+    switch (t10.continue_.tag) {
     case 0:
-        n = r.value.m1;
-        next = r.value.m2;
+        t7 = t10.continue_.m1;
+        t12 = t7;
         break;
     default:
-        result = r;
+        t8 = t10.break_.m1;
+        result = core_ResultFromResidualErrResidual_from_residual_tuple(t8);
         return result;
     }
-    t8 = n < least;
-    if (t8) {
-        result = (number_Number){.fault = {1u, 17u}};
-        return result;
+    t9 = t12;
+    n = t9.m0;
+    next = t9.m1;
+    t13 = n < least;
+    if (!t13) {
+        t13 = most < n;
+        t14 = t13;
+        if (!t14) {
+            goto after2;
+        }
     }
-    t8 = most < n;
-    if (t8) {
-        result = (number_Number){.fault = {1u, 17u}};
-        return result;
-    }
-    result = (number_Number){.value = {0u, n, next}};
+    t15 = (answer_Refusal){answer_Refusal_bad_circuit};
+    result = (Result_tuple_uint64_uint64_answer_Refusal){.err = {1u, t15}};
+    return result;
+    goto after1;
+after2:;
+after1:;
+    t16 = (tuple_uint64_uint64){n, next};
+    result = (Result_tuple_uint64_uint64_answer_Refusal){.ok = {0u, t16}};
     return result;
 }
 
-/* circuit, src/gates.rt:30: A wire below a limit. */
-INLINE number_Number circuit_gates_read_wire(slice source, uint64_t at, uint64_t limit)
+/* circuit, src/gates.rt:36: A wire below a limit, and the place after it. */
+INLINE Result_tuple_uint64_uint64_answer_Refusal circuit_gates_read_wire(slice source, uint64_t at, uint64_t limit)
 {
-    number_Number result, r;
-    uint64_t w, next;
-    bool t7;
-    r = number_read_number(source, at);
-    switch (r.value.tag) {
+    Result_tuple_uint64_uint64_answer_Refusal result, t10;
+    uint64_t wire, next;
+    tuple_uint64_uint64 t6, t8, t11, t14;
+    ErrResidual_answer_Refusal t7;
+    ControlFlow_ErrResidual_answer_Refusal_tuple_uint64_uint64 t9;
+    bool t12;
+    answer_Refusal t13;
+    t10 = number_read_number(source, at);
+    t9 = core_ResultTry_branch_tuple_uint64_uint64_answer_Refusal(t10);
+    switch (t9.continue_.tag) {
     case 0:
-        w = r.value.m1;
-        next = r.value.m2;
+        t6 = t9.continue_.m1;
+        t11 = t6;
         break;
     default:
-        result = r;
+        t7 = t9.break_.m1;
+        result = core_ResultFromResidualErrResidual_from_residual_tuple(t7);
         return result;
     }
-    t7 = limit <= w;
-    if (t7) {
-        result = (number_Number){.fault = {1u, 17u}};
+    t8 = t11;
+    wire = t8.m0;
+    next = t8.m1;
+    t12 = limit <= wire;
+    if (t12) {
+        t13 = (answer_Refusal){answer_Refusal_bad_circuit};
+        result = (Result_tuple_uint64_uint64_answer_Refusal){.err = {1u, t13}};
         return result;
     }
-    result = (number_Number){.value = {0u, w, next}};
+    t14 = (tuple_uint64_uint64){wire, next};
+    result = (Result_tuple_uint64_uint64_answer_Refusal){.ok = {0u, t14}};
     return result;
 }
 
-/* circuit, src/gates.rt:44: The gate at a wire; the value is its kind. */
-INLINE number_Number circuit_gates_read_gate(slice source, uint64_t at, uint64_t wire)
+/* circuit, src/gates.rt:48: The gate at a wire, and the place after it. */
+static Result_tuple_circuit_Gate_uint64_answer_Refusal circuit_gates_read_gate(slice source, uint64_t at, uint64_t wire)
 {
-    number_Number result, r0, r1, r2;
-    uint64_t kind, at1, at2, at3;
-    bool t11;
-    r0 = circuit_gates_read_within(source, at, 1ull, 3ull);
-    switch (r0.value.tag) {
+    Result_tuple_circuit_Gate_uint64_answer_Refusal result;
+    uint64_t kind, at_2, first, at_3, second, at_4;
+    tuple_uint64_uint64 t6, t10, t14, t16, t19, t20, t22, t26, t28;
+    ErrResidual_answer_Refusal t7, t11, t15;
+    ControlFlow_ErrResidual_answer_Refusal_tuple_uint64_uint64 t17, t21, t27;
+    Result_tuple_uint64_uint64_answer_Refusal t18;
+    bool t23;
+    circuit_Gate t24, t29, t31;
+    tuple_circuit_Gate_uint64 t25, t30, t32;
+    t18 = circuit_gates_read_within(source, at, 1ull, 3ull);
+    t17 = core_ResultTry_branch_tuple_uint64_uint64_answer_Refusal(t18);
+    switch (t17.continue_.tag) {
     case 0:
-        kind = r0.value.m1;
-        at1 = r0.value.m2;
+        t6 = t17.continue_.m1;
+        t19 = t6;
         break;
     default:
-        result = r0;
+        t7 = t17.break_.m1;
+        result = core_ResultFromResidualErrResidual_from_residual_tuple_3(t7);
         return result;
     }
-    r1 = circuit_gates_read_wire(source, at1, wire);
-    switch (r1.value.tag) {
+    t16 = t19;
+    kind = t16.m0;
+    at_2 = t16.m1;
+    t18 = circuit_gates_read_wire(source, at_2, wire);
+    t21 = core_ResultTry_branch_tuple_uint64_uint64_answer_Refusal(t18);
+    switch (t21.continue_.tag) {
     case 0:
-        at2 = r1.value.m2;
+        t10 = t21.continue_.m1;
+        t22 = t10;
         break;
     default:
-        result = r1;
+        t11 = t21.break_.m1;
+        result = core_ResultFromResidualErrResidual_from_residual_tuple_3(t11);
         return result;
     }
-    t11 = kind == 3ull;
-    if (t11) {
-        result = (number_Number){.value = {0u, kind, at2}};
+    t20 = t22;
+    first = t20.m0;
+    at_3 = t20.m1;
+    t23 = kind == 3ull;
+    if (t23) {
+        t24 = (circuit_Gate){.not = {2u, first}};
+        t25 = (tuple_circuit_Gate_uint64){t24, at_3};
+        result = (Result_tuple_circuit_Gate_uint64_answer_Refusal){.ok = {0u, t25}};
         return result;
     }
-    r2 = circuit_gates_read_wire(source, at2, wire);
-    switch (r2.value.tag) {
+    t18 = circuit_gates_read_wire(source, at_3, wire);
+    t27 = core_ResultTry_branch_tuple_uint64_uint64_answer_Refusal(t18);
+    switch (t27.continue_.tag) {
     case 0:
-        at3 = r2.value.m2;
+        t14 = t27.continue_.m1;
+        t28 = t14;
         break;
     default:
-        result = r2;
+        t15 = t27.break_.m1;
+        result = core_ResultFromResidualErrResidual_from_residual_tuple_3(t15);
         return result;
     }
-    result = (number_Number){.value = {0u, kind, at3}};
+    t26 = t28;
+    second = t26.m0;
+    at_4 = t26.m1;
+    t23 = kind == 1ull;
+    if (t23) {
+        t29 = (circuit_Gate){.xor = {0u, first, second}};
+        t30 = (tuple_circuit_Gate_uint64){t29, at_4};
+        result = (Result_tuple_circuit_Gate_uint64_answer_Refusal){.ok = {0u, t30}};
+        return result;
+    }
+    t31 = (circuit_Gate){.and = {1u, first, second}};
+    t32 = (tuple_circuit_Gate_uint64){t31, at_4};
+    result = (Result_tuple_circuit_Gate_uint64_answer_Refusal){.ok = {0u, t32}};
     return result;
 }
 
-/* circuit, src/gates.rt:66: One for an AND, else none. */
-INLINE uint64_t circuit_gates_and_of(uint64_t kind)
+/* circuit, src/lib.rt:36: Whether the gate is an AND. */
+INLINE bool circuit_Gate_is_and(circuit_Gate self)
 {
-    uint64_t result, t3;
-    bool t2;
-    t2 = kind == 2ull;
-    if (t2) {
-        t3 = 1ull;
-    } else {
-        t3 = 0ull;
+    bool result, t2;
+    switch (self.xor.tag) {
+    case 1:
+        t2 = true;
+        break;
+    default:
+        t2 = false;
+        break;
     }
-    result = t3;
+    result = t2;
     return result;
 }
 
-/* circuit, src/gates.rt:73: Gates, the first at wire `inputs`; the value is the number of ANDs. */
-static number_Number circuit_gates_read_gates(slice source, uint64_t body, uint64_t gates, uint64_t inputs)
+/* circuit, src/gates.rt:64: Gates, the first at wire `inputs`: how many ANDs they are, and the place after them. */
+static Result_tuple_uint64_uint64_answer_Refusal circuit_gates_read_gates(slice source, uint64_t body, uint64_t gates, uint64_t inputs)
 {
-    number_Number result, r;
-    uint64_t at, ands, i, kind, next, t12;
-    bool t11;
+    Result_tuple_uint64_uint64_answer_Refusal result;
+    uint64_t at, ands, i, next, t16;
+    circuit_Gate gate;
+    tuple_circuit_Gate_uint64 t10, t13, t17;
+    ErrResidual_answer_Refusal t11;
+    bool t12;
+    ControlFlow_ErrResidual_answer_Refusal_tuple_circuit_Gate t14;
+    Result_tuple_circuit_Gate_uint64_answer_Refusal t15;
+    tuple_uint64_uint64 t18;
     at = body;
     ands = 0ull;
     i = 0ull;
     for (;;) {
-        t11 = i < gates;
-        if (!t11) {
+        t12 = i < gates;
+        if (!t12) {
             break;
         }
-        t12 = inputs + i;
-        r = circuit_gates_read_gate(source, at, t12);
-        switch (r.value.tag) {
+        t16 = inputs + i;
+        t15 = circuit_gates_read_gate(source, at, t16);
+        t14 = core_ResultTry_branch_tuple_circuit_Gate_uint64_answer(t15);
+        switch (t14.continue_.tag) {
         case 0:
-            kind = r.value.m1;
-            next = r.value.m2;
+            t10 = t14.continue_.m1;
+            t17 = t10;
             break;
         default:
-            result = r;
+            t11 = t14.break_.m1;
+            result = core_ResultFromResidualErrResidual_from_residual_tuple(t11);
             return result;
         }
-        t12 = circuit_gates_and_of(kind);
-        ands = ands + t12;
+        t13 = t17;
+        gate = t13.m0;
+        next = t13.m1;
+        t12 = circuit_Gate_is_and(gate);
+        t16 = core_UsizeFromBool_from(t12);
+        ands = ands + t16;
         at = next;
         i = i + 1ull;
     }
-    result = (number_Number){.value = {0u, ands, at}};
+    t18 = (tuple_uint64_uint64){ands, at};
+    result = (Result_tuple_uint64_uint64_answer_Refusal){.ok = {0u, t18}};
     return result;
 }
 
-/* circuit, src/gates.rt:93: Wires below a limit; the value is 0. */
-static number_Number circuit_gates_read_wires(slice source, uint64_t tail, uint64_t count, uint64_t limit)
+/* circuit, src/gates.rt:84: Wires below a limit: the place after them. */
+static Result_uint64_answer_Refusal circuit_gates_read_wires(slice source, uint64_t tail, uint64_t count, uint64_t limit)
 {
-    number_Number result, r;
-    uint64_t at, i, next;
-    bool t9;
+    Result_uint64_answer_Refusal result;
+    uint64_t at, next, counter;
+    tuple_uint64_uint64 t7, t11, t14;
+    ErrResidual_answer_Refusal t8;
+    bool t10;
+    ControlFlow_ErrResidual_answer_Refusal_tuple_uint64_uint64 t12;
+    Result_tuple_uint64_uint64_answer_Refusal t13;
     at = tail;
-    i = 0ull;
+    counter = 0ull;
     for (;;) {
-        t9 = i < count;
-        if (!t9) {
+        t10 = counter < count;
+        if (!t10) {
             break;
         }
-        r = circuit_gates_read_wire(source, at, limit);
-        switch (r.value.tag) {
+        t13 = circuit_gates_read_wire(source, at, limit);
+        t12 = core_ResultTry_branch_tuple_uint64_uint64_answer_Refusal(t13);
+        switch (t12.continue_.tag) {
         case 0:
-            next = r.value.m2;
+            t7 = t12.continue_.m1;
+            t14 = t7;
             break;
         default:
-            result = r;
+            t8 = t12.break_.m1;
+            result = core_ResultFromResidualErrResidual_from_residual_uint64(t8);
             return result;
         }
+        t11 = t14;
+        next = t11.m1;
         at = next;
-        i = i + 1ull;
+        counter = counter + 1ull;
     }
-    result = (number_Number){.value = {0u, 0ull, at}};
+    result = (Result_uint64_answer_Refusal){.ok = {0u, at}};
     return result;
 }
 
-/* circuit, src/reading.rt:24: The circuit, whole and tested. */
-INLINE circuit_Answer circuit_reading_read_circuit(slice source)
+/* circuit, src/reading.rt:12: The circuit, whole and tested. */
+static Result_circuit_Layout_answer_Refusal circuit_reading_read_circuit(slice source)
 {
-    circuit_Answer result;
-    number_Number r0, r1, r2, r3, r4;
-    uint64_t inputs, at1, gates, at2, outputs, body, ands, tail, end, t17;
-    uint32_t t16, t18, t19, t20, t21;
-    bool t22;
-    circuit_Layout t23;
-    r0 = circuit_gates_read_within(source, 0ull, 1ull, 4096ull);
-    switch (r0.value.tag) {
+    Result_circuit_Layout_answer_Refusal result;
+    uint64_t inputs, at, gates, at_2, outputs, body, ands, tail, end, t19, t27, t37;
+    tuple_uint64_uint64 t4, t8, t12, t16, t21, t24, t25, t28, t29, t31, t32, t34;
+    ErrResidual_answer_Refusal t5, t9, t13, t17, t20;
+    ControlFlow_ErrResidual_answer_Refusal_tuple_uint64_uint64 t22, t26, t30, t33;
+    Result_tuple_uint64_uint64_answer_Refusal t23;
+    ControlFlow_ErrResidual_answer_Refusal_uint64 t35;
+    Result_uint64_answer_Refusal t36;
+    bool t38;
+    answer_Refusal t39;
+    circuit_Layout t40;
+    t23 = circuit_gates_read_within(source, 0ull, 1ull, 4096ull);
+    t22 = core_ResultTry_branch_tuple_uint64_uint64_answer_Refusal(t23);
+    switch (t22.continue_.tag) {
     case 0:
-        inputs = r0.value.m1;
-        at1 = r0.value.m2;
+        t4 = t22.continue_.m1;
+        t24 = t4;
         break;
     default:
-        t16 = number_number_fault(r0);
-        result = (circuit_Answer){.fault = {1u, t16}};
+        t5 = t22.break_.m1;
+        result = core_ResultFromResidualErrResidual_from_residual_circuit(t5);
         return result;
     }
-    t17 = 4096ull - inputs;
-    r1 = circuit_gates_read_within(source, at1, 0ull, t17);
-    switch (r1.value.tag) {
+    t21 = t24;
+    inputs = t21.m0;
+    at = t21.m1;
+    t27 = 4096ull - inputs;
+    t23 = circuit_gates_read_within(source, at, 0ull, t27);
+    t26 = core_ResultTry_branch_tuple_uint64_uint64_answer_Refusal(t23);
+    switch (t26.continue_.tag) {
     case 0:
-        gates = r1.value.m1;
-        at2 = r1.value.m2;
+        t8 = t26.continue_.m1;
+        t28 = t8;
         break;
     default:
-        t18 = number_number_fault(r1);
-        result = (circuit_Answer){.fault = {1u, t18}};
+        t9 = t26.break_.m1;
+        result = core_ResultFromResidualErrResidual_from_residual_circuit(t9);
         return result;
     }
-    r2 = circuit_gates_read_within(source, at2, 1ull, 4096ull);
-    switch (r2.value.tag) {
+    t25 = t28;
+    gates = t25.m0;
+    at_2 = t25.m1;
+    t23 = circuit_gates_read_within(source, at_2, 1ull, 4096ull);
+    t30 = core_ResultTry_branch_tuple_uint64_uint64_answer_Refusal(t23);
+    switch (t30.continue_.tag) {
     case 0:
-        outputs = r2.value.m1;
-        body = r2.value.m2;
+        t12 = t30.continue_.m1;
+        t31 = t12;
         break;
     default:
-        t19 = number_number_fault(r2);
-        result = (circuit_Answer){.fault = {1u, t19}};
+        t13 = t30.break_.m1;
+        result = core_ResultFromResidualErrResidual_from_residual_circuit(t13);
         return result;
     }
-    r3 = circuit_gates_read_gates(source, body, gates, inputs);
-    switch (r3.value.tag) {
+    t29 = t31;
+    outputs = t29.m0;
+    body = t29.m1;
+    t23 = circuit_gates_read_gates(source, body, gates, inputs);
+    t33 = core_ResultTry_branch_tuple_uint64_uint64_answer_Refusal(t23);
+    switch (t33.continue_.tag) {
     case 0:
-        ands = r3.value.m1;
-        tail = r3.value.m2;
+        t16 = t33.continue_.m1;
+        t34 = t16;
         break;
     default:
-        t20 = number_number_fault(r3);
-        result = (circuit_Answer){.fault = {1u, t20}};
+        t17 = t33.break_.m1;
+        result = core_ResultFromResidualErrResidual_from_residual_circuit(t17);
         return result;
     }
-    t17 = inputs + gates;
-    r4 = circuit_gates_read_wires(source, tail, outputs, t17);
-    switch (r4.value.tag) {
+    t32 = t34;
+    ands = t32.m0;
+    tail = t32.m1;
+    t27 = inputs + gates;
+    t36 = circuit_gates_read_wires(source, tail, outputs, t27);
+    t35 = core_ResultTry_branch_uint64_answer_Refusal(t36);
+    switch (t35.continue_.tag) {
     case 0:
-        end = r4.value.m2;
+        t19 = t35.continue_.m1;
+        t37 = t19;
         break;
     default:
-        t21 = number_number_fault(r4);
-        result = (circuit_Answer){.fault = {1u, t21}};
+        t20 = t35.break_.m1;
+        result = core_ResultFromResidualErrResidual_from_residual_circuit(t20);
         return result;
     }
-    t17 = source.count;
-    t22 = end < t17;
-    if (t22) {
-        result = (circuit_Answer){.fault = {1u, 12u}};
+    end = t37;
+    t27 = source.count;
+    t38 = end < t27;
+    if (t38) {
+        t39 = (answer_Refusal){answer_Refusal_bytes_after};
+        result = (Result_circuit_Layout_answer_Refusal){.err = {1u, t39}};
         return result;
     }
-    t23 = (circuit_Layout){inputs, gates, outputs, ands, body, tail};
-    result = (circuit_Answer){.accepted = {0u, t23}};
+    t40 = (circuit_Layout){inputs, gates, outputs, ands, body, tail};
+    result = (Result_circuit_Layout_answer_Refusal){.ok = {0u, t40}};
     return result;
 }
 
-/* circuit, src/reading.rt:14: The number that a circuit is refused with; 0 for one that is accepted. */
-INLINE uint32_t circuit_reading_circuit_fault(circuit_Answer r)
+/* circuit, src/again.rt:14: The gate at a place of an accepted circuit, at a wire, and the place after it. It stays beside `read_gate`,
+ * since it tests no kind and no wire again: by `read_gate` a round takes 7 % more instructions. */
+static tuple_circuit_Gate_uint64 circuit_again_known_gate(slice source, uint64_t at, uint64_t wire)
 {
-    uint32_t result, k, t3;
-    switch (r.accepted.tag) {
-    case 0:
-        t3 = 0u;
-        break;
-    default:
-        k = r.fault.m1;
-        t3 = k;
-        break;
-    }
-    result = t3;
-    return result;
-}
-
-/* circuit, src/again.rt:13: The gate at a place of an accepted circuit, at a wire. */
-INLINE circuit_GateRead circuit_again_known_gate(slice source, uint64_t at, uint64_t wire)
-{
-    circuit_GateRead result;
-    number_Known kind, first_wire, second_wire;
-    bool t7;
+    tuple_circuit_Gate_uint64 result;
+    uint64_t kind, at_2, first, at_3, second, at_4;
+    tuple_uint64_uint64 t10, t11, t14;
+    bool t12;
+    circuit_Gate t13, t15, t16;
     (void)wire;
-    kind = number_known_number(source, at);
-    first_wire = number_known_number(source, kind.next);
-    t7 = kind.number == 3ull;
-    if (t7) {
-        result = (circuit_GateRead){3ull, first_wire.number, 0ull, first_wire.next};
+    t10 = number_known_number(source, at);
+    kind = t10.m0;
+    at_2 = t10.m1;
+    t11 = number_known_number(source, at_2);
+    first = t11.m0;
+    at_3 = t11.m1;
+    t12 = kind == 3ull;
+    if (t12) {
+        t13 = (circuit_Gate){.not = {2u, first}};
+        result = (tuple_circuit_Gate_uint64){t13, at_3};
         return result;
     }
-    second_wire = number_known_number(source, first_wire.next);
-    result = (circuit_GateRead){kind.number, first_wire.number, second_wire.number, second_wire.next};
+    t14 = number_known_number(source, at_3);
+    second = t14.m0;
+    at_4 = t14.m1;
+    t12 = kind == 1ull;
+    if (t12) {
+        t15 = (circuit_Gate){.xor = {0u, first, second}};
+        result = (tuple_circuit_Gate_uint64){t15, at_4};
+        return result;
+    }
+    t16 = (circuit_Gate){.and = {1u, first, second}};
+    result = (tuple_circuit_Gate_uint64){t16, at_4};
     return result;
 }
 
-/* circuit, src/again.rt:38: The wire at a place of an accepted circuit, below a limit. */
-INLINE number_Known circuit_again_known_wire(slice source, uint64_t at, uint64_t limit)
+/* circuit, src/again.rt:32: The wire at a place of an accepted circuit, below a limit, and the place after it. */
+INLINE tuple_uint64_uint64 circuit_again_known_wire(slice source, uint64_t at, uint64_t limit)
 {
-    number_Known result;
+    tuple_uint64_uint64 result;
     (void)limit;
     result = number_known_number(source, at);
     return result;
 }
 
-/* aes_sbox, src/lib.rt:29: The S-box by value, for a caller to lend on. */
-INLINE uint8_256 aes_sbox_table(void)
+/* aes_sbox, src/lib.rt:31: The S-box. */
+INLINE char *aes_sbox_table(void)
 {
-    uint8_256 result;
+    char *result;
     static const uint8_256 table = {{
         99, 124, 119, 123, 242, 107, 111, 197, 48, 1, 103, 43, 254, 215, 171, 118, 202, 130, 201, 125, 250, 89, 71, 240, 173, 212, 162, 175,
             156, 164, 114, 192, 183, 253, 147, 38, 54, 63, 247, 204, 52, 165, 229, 241, 113, 216, 49, 21, 4, 199, 35, 195, 24, 150, 5, 154,
@@ -2318,19 +3940,26 @@ INLINE uint8_256 aes_sbox_table(void)
             225, 248, 152, 17, 105, 217, 142, 148, 155, 30, 135, 233, 206, 85, 40, 223, 140, 161, 137, 13, 191, 230, 66, 104, 65, 153, 45,
             15, 176, 84, 187, 22
     }};
-    result = table;
+    result = (char *)&table;
     return result;
 }
 
-/* aes_sbox, src/lib.rt:36: The number in a wider type. */
-INLINE uint64_t aes_sbox_byte_word(uint8_t x)
+/* aes_sbox, src/lib.rt:38: The S-box at a byte. */
+INLINE uint8_t aes_sbox_sub(uint8_t x)
 {
-    uint64_t result;
-    result = (uint64_t)x;
+    uint8_t result, t6;
+    char *t2, *t4, *t5;
+    uint64_t t3;
+    t2 = aes_sbox_table();
+    t3 = (uint64_t)x;
+    t4 = t2;
+    t5 = t4 + t3;
+    t6 = *(uint8_t *)t5;
+    result = t6;
     return result;
 }
 
-/* aes_sbox, src/lib.rt:43: Twice a byte in the field of FIPS 197. */
+/* aes_sbox, src/lib.rt:45: Twice a byte in the field of FIPS 197. */
 INLINE uint64_t aes_sbox_twice(uint64_t s)
 {
     uint64_t result, t2, t3, t4, t5;
@@ -2342,7 +3971,7 @@ INLINE uint64_t aes_sbox_twice(uint64_t s)
     return result;
 }
 
-/* aes_sbox, src/lib.rt:51: Three times a byte in the field of FIPS 197. */
+/* aes_sbox, src/lib.rt:53: Three times a byte in the field of FIPS 197. */
 INLINE uint64_t aes_sbox_thrice(uint64_t s)
 {
     uint64_t result, t2;
@@ -2351,7 +3980,7 @@ INLINE uint64_t aes_sbox_thrice(uint64_t s)
     return result;
 }
 
-/* aes_sbox, src/lib.rt:59: The wide column of four bytes. */
+/* aes_sbox, src/lib.rt:61: The wide column of four bytes. */
 INLINE uint64_t aes_sbox_wide_column(uint64_t a, uint64_t b, uint64_t c, uint64_t d)
 {
     uint64_t result, t5, t6, t7, t8, t9;
@@ -2364,7 +3993,7 @@ INLINE uint64_t aes_sbox_wide_column(uint64_t a, uint64_t b, uint64_t c, uint64_
     return result;
 }
 
-/* aes_sbox, src/lib.rt:67: A wide column whose rows moved down by two. */
+/* aes_sbox, src/lib.rt:69: A wide column whose rows moved down by two. */
 INLINE uint64_t aes_sbox_half_turned(uint64_t w)
 {
     uint64_t result, t2, t3, t4;
@@ -2375,100 +4004,123 @@ INLINE uint64_t aes_sbox_half_turned(uint64_t w)
     return result;
 }
 
-/* aes_sbox, src/lib.rt:74: A byte at the places of rows 0 and 1, each in a half of the word. */
-INLINE uint64_t aes_sbox_low_rows(uint64_t s)
+/* aes_sbox, src/lib.rt:76: Fills the tables' words. */
+static void aes_sbox_fill_tables(char *words)
 {
-    uint64_t result, t2;
-    t2 = s * 1099511627776ull;
-    result = s + t2;
-    return result;
-}
-
-/* aes_sbox, src/lib.rt:82: A byte at the places of rows 2 and 3, each in a half of the word. */
-INLINE uint64_t aes_sbox_high_rows(uint64_t s)
-{
-    uint64_t result, t2, t3;
-    t2 = s * 65536ull;
-    t3 = s * 72057594037927936ull;
-    result = t2 + t3;
-    return result;
-}
-
-/* aes_sbox, src/lib.rt:90: Fills the tables, lent as a slice, of which the proof knows the length. */
-static void aes_sbox_fill(slice tables)
-{
-    uint8_256 sb, t13;
-    uint64_t x, s, d, e, m0, m1, m2, m3, l0, l1, t18;
-    bool t14;
-    char *t15, *t16, *t19, *t21, *t22, *t23, *t24, *t25;
-    uint8_t t17;
-    t13 = aes_sbox_table();
-    sb = t13;
+    uint64_t x, s, d, e, m0, m1, t11, t14, t17, t22, t25;
+    bool t8;
+    uint8_t t9, t10;
+    char *t12, *t13, *t15, *t16, *t18, *t19, *t20, *t21, *t23, *t24, *t26, *t27;
     x = 0ull;
     for (;;) {
-        t14 = x < 256ull;
-        if (!t14) {
+        t8 = x < 256ull;
+        if (!t8) {
             break;
         }
-        t15 = (char *)&sb;
-        t16 = t15 + x;
-        t17 = *(uint8_t *)t16;
-        s = aes_sbox_byte_word(t17);
+        t10 = (uint8_t)x;
+        t9 = aes_sbox_sub(t10);
+        s = core_U64FromU8_from(t9);
         d = aes_sbox_twice(s);
         e = aes_sbox_thrice(s);
         m0 = aes_sbox_wide_column(d, s, s, e);
         m1 = aes_sbox_wide_column(e, d, s, s);
-        m2 = aes_sbox_half_turned(m0);
-        m3 = aes_sbox_half_turned(m1);
-        l0 = aes_sbox_low_rows(s);
-        l1 = aes_sbox_high_rows(s);
-        t18 = x * 8ull;
-        t19 = (char *)((uint64_t *)tables.at + x);
-        *(uint64_t *)t19 = m0;
-        t18 = 256ull + x;
-        t21 = (char *)((uint64_t *)tables.at + t18);
-        *(uint64_t *)t21 = m1;
-        t18 = 512ull + x;
-        t22 = (char *)((uint64_t *)tables.at + t18);
-        *(uint64_t *)t22 = m2;
-        t18 = 768ull + x;
-        t23 = (char *)((uint64_t *)tables.at + t18);
-        *(uint64_t *)t23 = m3;
-        t18 = 1024ull + x;
-        t24 = (char *)((uint64_t *)tables.at + t18);
-        *(uint64_t *)t24 = l0;
-        t18 = 1280ull + x;
-        t25 = (char *)((uint64_t *)tables.at + t18);
-        *(uint64_t *)t25 = l1;
+        t11 = x * 8ull;
+        t12 = words;
+        t13 = (char *)((uint64_t *)t12 + x);
+        *(uint64_t *)t13 = m0;
+        t11 = 256ull + x;
+        t14 = t11 * 8ull;
+        t15 = words;
+        t16 = (char *)((uint64_t *)t15 + t11);
+        *(uint64_t *)t16 = m1;
+        t17 = aes_sbox_half_turned(m0);
+        t11 = 512ull + x;
+        t14 = t11 * 8ull;
+        t18 = words;
+        t19 = (char *)((uint64_t *)t18 + t11);
+        *(uint64_t *)t19 = t17;
+        t17 = aes_sbox_half_turned(m1);
+        t14 = 768ull + x;
+        t11 = t14 * 8ull;
+        t20 = words;
+        t21 = (char *)((uint64_t *)t20 + t14);
+        *(uint64_t *)t21 = t17;
+        t17 = s * 1099511627776ull;
+        t22 = s + t17;
+        t11 = 1024ull + x;
+        t14 = t11 * 8ull;
+        t23 = words;
+        t24 = (char *)((uint64_t *)t23 + t11);
+        *(uint64_t *)t24 = t22;
+        t17 = s * 65536ull;
+        t22 = s * 72057594037927936ull;
+        t25 = t17 + t22;
+        t14 = 1280ull + x;
+        t11 = t14 * 8ull;
+        t26 = words;
+        t27 = (char *)((uint64_t *)t26 + t14);
+        *(uint64_t *)t27 = t25;
         x = x + 1ull;
     }
 }
 
-/* aes_sbox, src/lib.rt:117: Fills the tables that the rounds read. */
-INLINE void aes_sbox_fill_tables(char *tables)
+/* aes_sbox, src/lib.rt:103: Fills words with the tables, and lends them. */
+INLINE aes_sbox_Tables aes_sbox_Tables_fill(char *words)
 {
-    char *t3;
-    slice t4;
-    t3 = tables;
-    t4 = (slice){t3, 1536ull};
-    aes_sbox_fill(t4);
-}
-
-/* aes128, src/key.rt:16: The S-box at a byte. */
-INLINE uint8_t aes128_key_sub(char *sbox, uint8_t x)
-{
-    uint8_t result, t6;
-    uint64_t t3;
-    char *t4, *t5;
-    t3 = (uint64_t)x;
-    t4 = sbox;
-    t5 = t4 + t3;
-    t6 = *(uint8_t *)t5;
-    result = t6;
+    aes_sbox_Tables result;
+    char *t3, *t4;
+    t3 = words;
+    aes_sbox_fill_tables(t3);
+    t4 = words;
+    result = (aes_sbox_Tables){t4};
     return result;
 }
 
-/* aes128, src/key.rt:24: The exclusive or of two words. */
+/* aes_sbox, src/lib.rt:116: What a byte in a row adds to its column under SubBytes and MixColumns, as a wide column. */
+INLINE uint64_t aes_sbox_Tables_mixed(aes_sbox_Tables self, uint64_t row, uint8_t x)
+{
+    uint64_t result, t4, t5, t6, t10;
+    char *t8, *t9;
+    t4 = 256ull * row;
+    t5 = (uint64_t)x;
+    t6 = t4 + t5;
+    t8 = self.words;
+    t9 = (char *)((uint64_t *)t8 + t6);
+    t10 = *(uint64_t *)t9;
+    result = t10;
+    return result;
+}
+
+/* aes_sbox, src/lib.rt:124: The S-box's value at a byte at the places of rows 0 and 1, each in a half of the word. */
+INLINE uint64_t aes_sbox_Tables_low_rows(aes_sbox_Tables self, uint8_t x)
+{
+    uint64_t result, t3, t4, t8;
+    char *t6, *t7;
+    t3 = (uint64_t)x;
+    t4 = 1024ull + t3;
+    t6 = self.words;
+    t7 = (char *)((uint64_t *)t6 + t4);
+    t8 = *(uint64_t *)t7;
+    result = t8;
+    return result;
+}
+
+/* aes_sbox, src/lib.rt:131: The S-box's value at a byte at the places of rows 2 and 3, each in a half of the word. */
+INLINE uint64_t aes_sbox_Tables_high_rows(aes_sbox_Tables self, uint8_t x)
+{
+    uint64_t result, t3, t4, t8;
+    char *t6, *t7;
+    t3 = (uint64_t)x;
+    t4 = 1280ull + t3;
+    t6 = self.words;
+    t7 = (char *)((uint64_t *)t6 + t4);
+    t8 = *(uint64_t *)t7;
+    result = t8;
+    return result;
+}
+
+/* aes128, src/key.rt:15: The exclusive or of two words. Written out, which is as short: by `array::from_fn` the check does not find the
+ * proof. */
 INLINE uint8_4 aes128_key_xor_word(uint8_4 a, uint8_4 b)
 {
     uint8_4 result, a_slot, b_slot;
@@ -2508,118 +4160,110 @@ INLINE uint8_4 aes128_key_xor_word(uint8_4 a, uint8_4 b)
     return result;
 }
 
-/* aes128, src/key.rt:31: The round key after k, whose round constant has the first byte x. */
-INLINE uint8_4_4 aes128_key_next_key(char *sbox, uint8_4_4 k, uint8_t x)
+/* aes128, src/key.rt:22: The round key after k, whose round constant has the first byte x. */
+INLINE uint8_4_4 aes128_key_next_key(uint8_4_4 k, uint8_t x)
 {
     uint8_4_4 result, k_slot;
-    uint8_4 t, temp, w0, w1, w2, w3, t17, t27;
-    uint8_t s0, s1, s2, s3, t20;
-    char *t15, *t16, *t18, *t19, *t21, *t22, *t23, *t24, *t25, *t26, *t28, *t29, *t30, *t31, *t32, *t33, *t34, *t35;
+    uint8_4 t, temp, w0, w1, w2, w3, t12, t29;
+    char *t10, *t11, *t14, *t15, *t18, *t19, *t22, *t23, *t26, *t27, *t30, *t31, *t32, *t33, *t34, *t35, *t36, *t37;
+    uint8_t t13, t16, t17, t20, t21, t24, t25, t28;
     k_slot = k;
-    t15 = (char *)&k_slot;
-    t16 = t15 + 12ull;
-    t17 = *(uint8_4 *)t16;
-    t = t17;
+    t10 = (char *)&k_slot;
+    t11 = t10 + 12ull;
+    t12 = *(uint8_4 *)t11;
+    t = t12;
+    t14 = (char *)&t;
+    t15 = t14 + 1ull;
+    t16 = *(uint8_t *)t15;
+    t13 = aes_sbox_sub(t16);
     t18 = (char *)&t;
-    t19 = t18 + 1ull;
+    t19 = t18 + 2ull;
     t20 = *(uint8_t *)t19;
-    s0 = aes128_key_sub(sbox, t20);
-    t21 = (char *)&t;
-    t22 = t21 + 2ull;
-    t20 = *(uint8_t *)t22;
-    s1 = aes128_key_sub(sbox, t20);
-    t23 = (char *)&t;
-    t24 = t23 + 3ull;
-    t20 = *(uint8_t *)t24;
-    s2 = aes128_key_sub(sbox, t20);
-    t25 = (char *)&t;
-    t26 = t25 + 0ull;
-    t20 = *(uint8_t *)t26;
-    s3 = aes128_key_sub(sbox, t20);
-    t17 = (uint8_4){{s0, s1, s2, s3}};
-    t27 = (uint8_4){{x, 0u, 0u, 0u}};
-    temp = aes128_key_xor_word(t17, t27);
-    t28 = (char *)&k_slot;
-    t29 = t28 + 0ull;
-    t17 = *(uint8_4 *)t29;
-    w0 = aes128_key_xor_word(t17, temp);
+    t17 = aes_sbox_sub(t20);
+    t22 = (char *)&t;
+    t23 = t22 + 3ull;
+    t24 = *(uint8_t *)t23;
+    t21 = aes_sbox_sub(t24);
+    t26 = (char *)&t;
+    t27 = t26 + 0ull;
+    t28 = *(uint8_t *)t27;
+    t25 = aes_sbox_sub(t28);
+    t12 = (uint8_4){{t13, t17, t21, t25}};
+    t29 = (uint8_4){{x, 0u, 0u, 0u}};
+    temp = aes128_key_xor_word(t12, t29);
     t30 = (char *)&k_slot;
-    t31 = t30 + 4ull;
-    t27 = *(uint8_4 *)t31;
-    w1 = aes128_key_xor_word(t27, w0);
+    t31 = t30 + 0ull;
+    t12 = *(uint8_4 *)t31;
+    w0 = aes128_key_xor_word(t12, temp);
     t32 = (char *)&k_slot;
-    t33 = t32 + 8ull;
-    t17 = *(uint8_4 *)t33;
-    w2 = aes128_key_xor_word(t17, w1);
+    t33 = t32 + 4ull;
+    t29 = *(uint8_4 *)t33;
+    w1 = aes128_key_xor_word(t29, w0);
     t34 = (char *)&k_slot;
-    t35 = t34 + 12ull;
-    t27 = *(uint8_4 *)t35;
-    w3 = aes128_key_xor_word(t27, w2);
+    t35 = t34 + 8ull;
+    t12 = *(uint8_4 *)t35;
+    w2 = aes128_key_xor_word(t12, w1);
+    t36 = (char *)&k_slot;
+    t37 = t36 + 12ull;
+    t29 = *(uint8_4 *)t37;
+    w3 = aes128_key_xor_word(t29, w2);
     result = (uint8_4_4){{w0, w1, w2, w3}};
     return result;
 }
 
-/* aes128, src/key.rt:49: KeyExpansion: the eleven round keys. */
-static uint8_4_4_11 aes128_key_expand_key(char *sbox, uint8_4_4 key)
+/* aes128, src/key.rt:38: KeyExpansion: the eleven round keys. */
+static uint8_4_4_11 aes128_key_expand_key(uint8_4_4 key)
 {
-    uint8_4_4_11 result;
-    uint8_4_4 k1, k2, k3, k4, k5, k6, k7, k8, k9, k10;
-    k1 = aes128_key_next_key(sbox, key, 1u);
-    k2 = aes128_key_next_key(sbox, k1, 2u);
-    k3 = aes128_key_next_key(sbox, k2, 4u);
-    k4 = aes128_key_next_key(sbox, k3, 8u);
-    k5 = aes128_key_next_key(sbox, k4, 16u);
-    k6 = aes128_key_next_key(sbox, k5, 32u);
-    k7 = aes128_key_next_key(sbox, k6, 64u);
-    k8 = aes128_key_next_key(sbox, k7, 128u);
-    k9 = aes128_key_next_key(sbox, k8, 27u);
-    k10 = aes128_key_next_key(sbox, k9, 54u);
-    result = (uint8_4_4_11){{key, k1, k2, k3, k4, k5, k6, k7, k8, k9, k10}};
+    uint8_4_4_11 result, keys;
+    char *x_items, *x, *t6, *t8, *t9, *t12, *t13, *t18, *t19;
+    uint64_t i, t11, t16, t17;
+    bool t7;
+    uint8_4_4 t10, t14;
+    uint8_t t15;
+    for (int each = 0; each < 11; each++)
+        keys.a[each] = key;
+    static const uint8_10 table = {{
+        1, 2, 4, 8, 16, 32, 64, 128, 27, 54
+    }};
+    t6 = (char *)&table;
+    x_items = t6;
+    i = 0ull;
+    for (;;) {
+        t7 = i < 10ull;
+        if (!t7) {
+            break;
+        }
+        t8 = x_items;
+        t9 = t8 + i;
+        x = t9;
+        t11 = i * 16ull;
+        t12 = (char *)&keys;
+        t13 = t12 + t11;
+        t14 = *(uint8_4_4 *)t13;
+        t15 = *(uint8_t *)x;
+        t10 = aes128_key_next_key(t14, t15);
+        t16 = i + 1ull;
+        t17 = t16 * 16ull;
+        t18 = (char *)&keys;
+        t19 = t18 + t17;
+        *(uint8_4_4 *)t19 = t10;
+        i = i + 1ull;
+    }
+    result = keys;
     return result;
 }
 
-/* aes128, src/key.rt:67: The number in a wider type. */
-INLINE uint64_t aes128_key_number(uint8_t x)
-{
-    uint64_t result;
-    result = (uint64_t)x;
-    return result;
-}
-
-/* aes128, src/key.rt:99: The number of four bytes, least first. */
+/* aes128, src/key.rt:74: The number of four bytes, least first. */
 INLINE uint64_t aes128_key_half_word(uint8_4 a)
 {
-    uint64_t result, t3, t7, t11, t12, t13, t17, t18, t19, t23;
-    uint8_4 a_slot;
-    char *t4, *t5, *t8, *t9, *t14, *t15, *t20, *t21;
-    uint8_t t6, t10, t16, t22;
-    a_slot = a;
-    t4 = (char *)&a_slot;
-    t5 = t4 + 0ull;
-    t6 = *(uint8_t *)t5;
-    t3 = aes128_key_number(t6);
-    t8 = (char *)&a_slot;
-    t9 = t8 + 1ull;
-    t10 = *(uint8_t *)t9;
-    t7 = aes128_key_number(t10);
-    t11 = t7 * 256ull;
-    t12 = t3 + t11;
-    t14 = (char *)&a_slot;
-    t15 = t14 + 2ull;
-    t16 = *(uint8_t *)t15;
-    t13 = aes128_key_number(t16);
-    t17 = t13 * 65536ull;
-    t18 = t12 + t17;
-    t20 = (char *)&a_slot;
-    t21 = t20 + 3ull;
-    t22 = *(uint8_t *)t21;
-    t19 = aes128_key_number(t22);
-    t23 = t19 * 16777216ull;
-    result = t18 + t23;
+    uint64_t result;
+    uint32_t t2;
+    t2 = core_u32_from_le_bytes(a);
+    result = core_U64FromU32_from(t2);
     return result;
 }
 
-/* aes128, src/key.rt:106: The block of a round key. */
+/* aes128, src/key.rt:81: The block of a round key. */
 INLINE field_block_Block aes128_key_block_key(uint8_4_4 k)
 {
     field_block_Block result;
@@ -2652,7 +4296,7 @@ INLINE field_block_Block aes128_key_block_key(uint8_4_4 k)
     return result;
 }
 
-/* aes128, src/key.rt:74: The wide column of four bytes. */
+/* aes128, src/key.rt:49: The wide column of four bytes. */
 INLINE uint64_t aes128_key_wide_of(uint8_t a, uint8_t b, uint8_t c, uint8_t d)
 {
     uint64_t result, t5, t6, t7, t8, t9, t10, t11, t12, t13;
@@ -2669,7 +4313,7 @@ INLINE uint64_t aes128_key_wide_of(uint8_t a, uint8_t b, uint8_t c, uint8_t d)
     return result;
 }
 
-/* aes128, src/key.rt:81: The wide column of a word. */
+/* aes128, src/key.rt:56: The wide column of a word. */
 INLINE uint64_t aes128_key_wide_column(uint8_4 a)
 {
     uint64_t result;
@@ -2693,7 +4337,7 @@ INLINE uint64_t aes128_key_wide_column(uint8_4 a)
     return result;
 }
 
-/* aes128, src/key.rt:88: The wide columns of a round key. */
+/* aes128, src/key.rt:63: The wide columns of a round key. */
 INLINE uint64_4 aes128_key_wide_key(uint8_4_4 k)
 {
     uint64_4 result;
@@ -2722,7 +4366,7 @@ INLINE uint64_4 aes128_key_wide_key(uint8_4_4 k)
     return result;
 }
 
-/* aes128, src/key.rt:120: The words of eleven round keys. */
+/* aes128, src/key.rt:95: The words of eleven round keys. */
 static uint64_40 aes128_key_words_of(uint8_4_4_11 k)
 {
     uint64_40 result, words;
@@ -2813,52 +4457,55 @@ static uint64_40 aes128_key_words_of(uint8_4_4_11 k)
     return result;
 }
 
-/* aes128, src/key.rt:144: The round keys of a key, as words. */
-INLINE uint64_40 aes128_key_schedule(char *sbox, uint8_4_4 key)
+/* aes128, src/key.rt:117: The round keys of a key, as words. */
+INLINE uint64_40 aes128_key_schedule(uint8_4_4 key)
 {
     uint64_40 result;
-    uint8_4_4_11 keys;
-    keys = aes128_key_expand_key(sbox, key);
-    result = aes128_key_words_of(keys);
+    uint8_4_4_11 t2;
+    t2 = aes128_key_expand_key(key);
+    result = aes128_key_words_of(t2);
     return result;
 }
 
-/* pads, src/bytes.rt:9: The block whose 16 bytes begin at a place. */
+/* pads, src/bytes.rt:9: The block whose 16 bytes begin at a place, as the definitions of pads say it. */
 INLINE field_block_Block pads_bytes_block_at(slice bytes, uint64_t at)
 {
     field_block_Block result;
-    uint64_t t3, t4, t5;
-    t3 = field_bytes_word_at(bytes, at);
-    t5 = at + 8ull;
-    t4 = field_bytes_word_at(bytes, t5);
-    result = (field_block_Block){t3, t4};
+    result = field_block_Block_read(bytes, at);
     return result;
 }
 
-/* pads, src/bytes.rt:20: Writes the 16 bytes of a block from a place on. */
+/* pads, src/bytes.rt:17: Writes the 16 bytes of a block from a place on. */
 INLINE void pads_bytes_put_block(slice bytes, uint64_t at, field_block_Block b)
 {
-    char *t5, *t7;
-    slice t6, t8;
-    uint64_t t9;
+    char *t5;
+    slice t6;
     t5 = bytes.at;
     t6 = (slice){t5, bytes.count};
-    field_bytes_put_word(t6, at, b.low);
-    t7 = bytes.at;
-    t8 = (slice){t7, bytes.count};
-    t9 = at + 8ull;
-    field_bytes_put_word(t8, t9, b.high);
+    field_block_Block_write(b, t6, at);
 }
 
-/* circuit_describe, src/lib.rt:27: The answer for a refused circuit. */
-INLINE circuit_describe_DescribedCircuit circuit_describe_refusal(uint32_t number)
+/* circuit_run, src/lib.rt:47: A refused step: zeros, and the state as it was. */
+INLINE circuit_run_Stepped circuit_run_Stepped_refused(answer_Refusal refusal, circuit_run_StepState state)
 {
-    circuit_describe_DescribedCircuit result;
-    result = (circuit_describe_DescribedCircuit){number, 0ull, 0ull, 0ull, 0ull, 0ull};
+    circuit_run_Stepped result;
+    uint32_t t3;
+    t3 = answer_Refusal_number(refusal);
+    result = (circuit_run_Stepped){t3, 0ull, 0u, 0u, state};
     return result;
 }
 
-/* circuit_describe, src/lib.rt:41: The greater of two levels. */
+/* circuit_run, src/lib.rt:80: A refused round: zeros, and the state as it was. */
+INLINE circuit_run_Rounded circuit_run_Rounded_refused(answer_Refusal refusal, circuit_run_RoundState state)
+{
+    circuit_run_Rounded result;
+    uint32_t t3;
+    t3 = answer_Refusal_number(refusal);
+    result = (circuit_run_Rounded){t3, 0ull, 0ull, state};
+    return result;
+}
+
+/* circuit_describe, src/lib.rt:44: The greater of two levels. */
 INLINE uint16_t circuit_describe_greater_of(uint16_t a, uint16_t b)
 {
     uint16_t result, t4;
@@ -2873,107 +4520,134 @@ INLINE uint16_t circuit_describe_greater_of(uint16_t a, uint16_t b)
     return result;
 }
 
-/* circuit_describe, src/lib.rt:48: The level of a gate of a kind, from those of its wires. */
-INLINE uint16_t circuit_describe_level_of(uint64_t kind, uint16_t a, uint16_t b)
+/* circuit_describe, src/lib.rt:51: The level of a gate, from those of its wires. */
+INLINE uint16_t circuit_describe_level_of(circuit_Gate gate, char *levels)
 {
-    uint16_t result, most;
-    bool t5;
-    t5 = kind == 3ull;
-    if (t5) {
-        result = a;
-        return result;
+    uint16_t result, t8, t12, t16, t17, t21, t25, t29;
+    uint64_t a, b, a_2, b_2, a_3;
+    char *t10, *t11, *t14, *t15, *t19, *t20, *t23, *t24, *t27, *t28;
+    switch (gate.xor.tag) {
+    case 0:
+        a = gate.xor.m1;
+        b = gate.xor.m2;
+        t10 = levels;
+        t11 = (char *)((uint16_t *)t10 + a);
+        t12 = *(uint16_t *)t11;
+        t14 = levels;
+        t15 = (char *)((uint16_t *)t14 + b);
+        t16 = *(uint16_t *)t15;
+        t8 = circuit_describe_greater_of(t12, t16);
+        break;
+    case 1:
+        a_2 = gate.and.m1;
+        b_2 = gate.and.m2;
+        t19 = levels;
+        t20 = (char *)((uint16_t *)t19 + a_2);
+        t21 = *(uint16_t *)t20;
+        t23 = levels;
+        t24 = (char *)((uint16_t *)t23 + b_2);
+        t25 = *(uint16_t *)t24;
+        t17 = circuit_describe_greater_of(t21, t25);
+        t8 = (uint16_t)((uint32_t)1u + t17);
+        break;
+    default:
+        a_3 = gate.not.m1;
+        t27 = levels;
+        t28 = (char *)((uint16_t *)t27 + a_3);
+        t29 = *(uint16_t *)t28;
+        t8 = t29;
+        break;
     }
-    most = circuit_describe_greater_of(a, b);
-    t5 = kind == 2ull;
-    if (t5) {
-        result = (uint16_t)((uint32_t)1u + most);
-        return result;
-    }
-    result = most;
+    result = t8;
     return result;
 }
 
 /* circuit_describe, src/lib.rt:63: The greatest level of any wire. */
 static uint64_t circuit_describe_depth_of(slice source, circuit_Layout layout)
 {
-    uint64_t result, inputs, gates, at, i, wire, first_wire, second_wire;
+    uint64_t result, at, i, wire, next, i_end;
     uint16_4096 levels;
-    uint16_t most, level, t18, t22;
-    circuit_GateRead g;
-    bool t14;
-    char *t16, *t17, *t20, *t21, *t23, *t24;
-    inputs = layout.inputs;
-    gates = layout.gates;
+    uint16_t most, level;
+    circuit_Gate gate;
+    bool t12;
+    tuple_circuit_Gate_uint64 t13;
+    char *t14, *t16, *t17;
     for (int each = 0; each < 4096; each++)
         levels.a[each] = 0u;
     most = 0u;
     at = layout.body;
     i = 0ull;
+    i_end = layout.gates;
     for (;;) {
-        t14 = i < gates;
-        if (!t14) {
+        t12 = i < i_end;
+        if (!t12) {
             break;
         }
-        wire = inputs + i;
-        g = circuit_again_known_gate(source, at, wire);
-        first_wire = g.first_wire;
-        second_wire = g.second_wire;
+        wire = layout.inputs + i;
+        t13 = circuit_again_known_gate(source, at, wire);
+        gate = t13.m0;
+        next = t13.m1;
+        t14 = (char *)&levels;
+        level = circuit_describe_level_of(gate, t14);
         t16 = (char *)&levels;
-        t17 = (char *)((uint16_t *)t16 + first_wire);
-        t18 = *(uint16_t *)t17;
-        t20 = (char *)&levels;
-        t21 = (char *)((uint16_t *)t20 + second_wire);
-        t22 = *(uint16_t *)t21;
-        level = circuit_describe_level_of(g.kind, t18, t22);
-        t23 = (char *)&levels;
-        t24 = (char *)((uint16_t *)t23 + wire);
-        *(uint16_t *)t24 = level;
+        t17 = (char *)((uint16_t *)t16 + wire);
+        *(uint16_t *)t17 = level;
         most = circuit_describe_greater_of(most, level);
-        at = g.next;
+        at = next;
         i = i + 1ull;
     }
-    result = (uint64_t)most;
+    result = core_UsizeFromU16_from(most);
     return result;
 }
 
-/* circuit_describe, src/lib.rt:88: What a circuit is, or the number that it is refused with. */
-INLINE circuit_describe_DescribedCircuit circuit_describe_describe_circuit(slice source)
+/* circuit_describe, src/lib.rt:29: The answer for a refused circuit. */
+INLINE circuit_describe_DescribedCircuit circuit_describe_DescribedCircuit_refused(answer_Refusal refusal)
 {
     circuit_describe_DescribedCircuit result;
-    circuit_Answer read;
-    circuit_Layout layout;
-    uint32_t t4;
-    uint64_t t5, t6;
-    read = circuit_reading_read_circuit(source);
-    switch (read.accepted.tag) {
-    case 0:
-        layout = read.accepted.m1;
-        break;
-    default:
-        t4 = circuit_reading_circuit_fault(read);
-        result = circuit_describe_refusal(t4);
-        return result;
-    }
-    t5 = circuit_describe_depth_of(source, layout);
-    t6 = t5 + 1ull;
-    result = (circuit_describe_DescribedCircuit){0u, layout.inputs, layout.gates, layout.outputs, layout.ands, t6};
+    uint32_t t2;
+    t2 = answer_Refusal_number(refusal);
+    result = (circuit_describe_DescribedCircuit){t2, 0ull, 0ull, 0ull, 0ull, 0ull};
     return result;
 }
 
-/* circuit_gates, src/shares.rt:10: Whether the role is 1 or 2. */
+/* circuit_describe, src/lib.rt:82: What a circuit is, or the number that it is refused with. */
+INLINE circuit_describe_DescribedCircuit circuit_describe_describe_circuit(slice source)
+{
+    circuit_describe_DescribedCircuit result, t5;
+    circuit_Layout layout;
+    answer_Refusal refusal;
+    Result_circuit_Layout_answer_Refusal t4;
+    uint64_t t6, t7;
+    t4 = circuit_reading_read_circuit(source);
+    switch (t4.ok.tag) {
+    case 0:
+        layout = t4.ok.m1;
+        t6 = circuit_describe_depth_of(source, layout);
+        t7 = t6 + 1ull;
+        t5 = (circuit_describe_DescribedCircuit){0u, layout.inputs, layout.gates, layout.outputs, layout.ands, t7};
+        break;
+    default:
+        refusal = t4.err.m1;
+        t5 = circuit_describe_DescribedCircuit_refused(refusal);
+        break;
+    }
+    result = t5;
+    return result;
+}
+
+/* circuit_gates, src/shares.rt:9: Whether the role is 1 or 2. */
 INLINE bool circuit_gates_shares_is_role(uint8_t role)
 {
     bool result, t2;
     t2 = role == 1u;
-    if (t2) {
-        result = true;
-        return result;
+    if (!t2) {
+        t2 = role == 2u;
     }
-    result = role == 2u;
+    result = t2;
     return result;
 }
 
-/* circuit_gates, src/shares.rt:37: The share of an AND that waits, its wires' shares given: it takes the triple of its number and its
+/* circuit_gates, src/shares.rt:23: The share of an AND that waits, its wires' shares given: it takes the triple of its number and its
  * two far bits. */
 INLINE uint8_t circuit_gates_shares_opened_share(uint8_t role, uint8_t x, uint8_t y, slice triples, uint64_t ands, uint8_t far_first,
     uint8_t far_second)
@@ -3013,7 +4687,7 @@ INLINE uint8_t circuit_gates_shares_opened_share(uint8_t role, uint8_t x, uint8_
     return result;
 }
 
-/* circuit_gates, src/shares.rt:61: Gives the AND that a run waits at its share. */
+/* circuit_gates, src/shares.rt:47: Gives the AND that a run waits at its share. */
 INLINE void circuit_gates_shares_give_and(circuit_run_places_Asked asked, circuit_run_places_Spot spot, uint64_t wire, slice triples, char
     *wires)
 {
@@ -3034,7 +4708,7 @@ INLINE void circuit_gates_shares_give_and(circuit_run_places_Asked asked, circui
     *(uint8_t *)t16 = t8;
 }
 
-/* circuit_gates, src/shares.rt:20: NOT at one end. */
+/* circuit_gates, src/shares.rt:16: NOT at one end. */
 INLINE uint8_t circuit_gates_shares_flip(uint8_t role, uint8_t x)
 {
     uint8_t result, t4;
@@ -3049,21 +4723,7 @@ INLINE uint8_t circuit_gates_shares_flip(uint8_t role, uint8_t x)
     return result;
 }
 
-/* circuit_gates, src/shares.rt:27: The share of a gate that is no AND. */
-INLINE uint8_t circuit_gates_shares_local_share(uint8_t role, uint64_t kind, uint8_t x, uint8_t y)
-{
-    uint8_t result;
-    bool t5;
-    t5 = kind == 1ull;
-    if (t5) {
-        result = (uint8_t)(x ^ y);
-        return result;
-    }
-    result = circuit_gates_shares_flip(role, x);
-    return result;
-}
-
-/* circuit_gates, src/bytes.rt:10: The byte of an input: a known one stays, another takes its share. */
+/* circuit_gates, src/bytes.rt:12: The byte of an input: a known one stays, another takes its share. */
 INLINE uint8_t circuit_gates_bytes_input_byte(uint8_t byte, uint8_t share)
 {
     uint8_t result, t4;
@@ -3078,268 +4738,307 @@ INLINE uint8_t circuit_gates_bytes_input_byte(uint8_t byte, uint8_t share)
     return result;
 }
 
-/* circuit_gates, src/bytes.rt:18: The byte of an AND that waited, its wires' bytes given: it takes the triple of its number and the far
- * bits of its place. */
-INLINE uint8_t circuit_gates_bytes_opened_byte(uint8_t role, uint8_t x, uint8_t y, slice triples, uint64_t ands, slice far_bits, uint64_t
-    passed)
+/* circuit_gates, src/bytes.rt:63: The byte of an exclusive or that is not known. */
+INLINE uint8_t circuit_gates_bytes_xor_byte(uint8_t x, uint8_t y)
 {
-    uint8_t result, first, second, t12, t15, t16;
-    uint64_t place, t13;
-    char *t11, *t14;
-    place = 2ull * passed;
-    t11 = far_bits.at + place;
-    t12 = *(uint8_t *)t11;
-    first = t12;
-    t13 = place + 1ull;
-    t14 = far_bits.at + t13;
-    t12 = *(uint8_t *)t14;
-    second = t12;
-    t15 = (uint8_t)(x % 2u);
-    t16 = (uint8_t)(y % 2u);
-    t12 = circuit_gates_shares_opened_share(role, t15, t16, triples, ands, first, second);
-    result = (uint8_t)((uint32_t)2u + t12);
+    uint8_t result, t5, t6, t7;
+    bool t3, t4;
+    t3 = x < 2u;
+    if (!t3) {
+        t3 = y < 2u;
+        t4 = t3;
+        if (!t4) {
+            goto after2;
+        }
+    }
+    result = 0u;
+    return result;
+    goto after1;
+after2:;
+after1:;
+    t5 = (uint8_t)(x % 2u);
+    t6 = (uint8_t)(y % 2u);
+    t7 = (uint8_t)(t5 ^ t6);
+    result = (uint8_t)((uint32_t)2u + t7);
     return result;
 }
 
-/* circuit_gates, src/bytes.rt:45: The byte of an AND that is not known. */
-INLINE uint8_t circuit_gates_bytes_and_byte(uint8_t role, circuit_gates_bytes_GateBytes bytes, slice triples, uint64_t ands, slice far_bits,
-    uint64_t passed)
+/* circuit_gates, src/bytes.rt:31: The byte of an AND that waited, its wires' bytes given. */
+INLINE uint8_t circuit_gates_bytes_opened_byte(circuit_gates_bytes_Opening opening, uint8_t x, uint8_t y)
+{
+    uint8_t result, role, first, second, t13, t16, t17;
+    slice triples, far_bits;
+    uint64_t ands, passed, place, t14;
+    char *t12, *t15;
+    role = opening.role;
+    triples = opening.triples;
+    ands = opening.ands;
+    far_bits = opening.far_bits;
+    passed = opening.passed;
+    place = 2ull * passed;
+    t12 = far_bits.at + place;
+    t13 = *(uint8_t *)t12;
+    first = t13;
+    t14 = place + 1ull;
+    t15 = far_bits.at + t14;
+    t13 = *(uint8_t *)t15;
+    second = t13;
+    t16 = (uint8_t)(x % 2u);
+    t17 = (uint8_t)(y % 2u);
+    t13 = circuit_gates_shares_opened_share(role, t16, t17, triples, ands, first, second);
+    result = (uint8_t)((uint32_t)2u + t13);
+    return result;
+}
+
+/* circuit_gates, src/bytes.rt:49: The byte of an AND that is not known, from its own and those of its wires. */
+INLINE uint8_t circuit_gates_bytes_and_byte(circuit_gates_bytes_Opening opening, uint8_t own, uint8_t x, uint8_t y)
 {
     uint8_t result;
-    bool t7;
-    t7 = bytes.own == 1u;
-    if (t7) {
-        result = circuit_gates_bytes_opened_byte(role, bytes.x, bytes.y, triples, ands, far_bits, passed);
+    bool t5, t7, t8;
+    circuit_gates_bytes_Opening t6;
+    t5 = own == 1u;
+    if (t5) {
+        t6 = opening;
+        result = circuit_gates_bytes_opened_byte(t6, x, y);
         return result;
     }
-    t7 = bytes.x < 2u;
-    if (t7) {
-        result = 0u;
-        return result;
+    t7 = x < 2u;
+    if (!t7) {
+        t7 = y < 2u;
+        t8 = t7;
+        if (!t8) {
+            goto after2;
+        }
     }
-    t7 = bytes.y < 2u;
-    if (t7) {
-        result = 0u;
-        return result;
-    }
+    result = 0u;
+    return result;
+    goto after1;
+after2:;
+after1:;
     result = 1u;
     return result;
 }
 
-/* circuit_gates, src/bytes.rt:69: The byte of an exclusive or or NOT that is not known. */
-INLINE uint8_t circuit_gates_bytes_local_byte(uint8_t role, uint64_t kind, uint8_t x, uint8_t y)
+/* circuit_gates, src/bytes.rt:73: The byte of a NOT that is not known. */
+INLINE uint8_t circuit_gates_bytes_not_byte(uint8_t role, uint8_t x)
 {
-    uint8_t result, t6, t7, t8, t9, t10;
-    bool t5;
-    t5 = x < 2u;
-    if (t5) {
+    uint8_t result, t4, t5;
+    bool t3;
+    t3 = x < 2u;
+    if (t3) {
         result = 0u;
         return result;
     }
-    t5 = kind == 3ull;
-    if (t5) {
-        t7 = (uint8_t)(x % 2u);
-        t6 = circuit_gates_shares_flip(role, t7);
-        result = (uint8_t)((uint32_t)2u + t6);
-        return result;
-    }
-    t5 = y < 2u;
-    if (t5) {
-        result = 0u;
-        return result;
-    }
-    t8 = (uint8_t)(x % 2u);
-    t9 = (uint8_t)(y % 2u);
-    t10 = (uint8_t)(t8 ^ t9);
-    result = (uint8_t)((uint32_t)2u + t10);
+    t5 = (uint8_t)(x % 2u);
+    t4 = circuit_gates_shares_flip(role, t5);
+    result = (uint8_t)((uint32_t)2u + t4);
     return result;
 }
 
-/* circuit_gates, src/bytes.rt:85: The byte of a gate of a kind, from those before: a known one stays. */
-INLINE uint8_t circuit_gates_bytes_gate_byte(uint8_t role, uint64_t kind, circuit_gates_bytes_GateBytes bytes, slice triples, uint64_t ands,
-    slice far_bits, uint64_t passed)
+/* circuit_gates, src/bytes.rt:83: The byte of a gate, from its own and those of the wires before it: a known one stays. */
+INLINE uint8_t circuit_gates_bytes_byte_after(circuit_Gate gate, uint8_t own, char *wires, circuit_gates_bytes_Opening opening)
 {
-    uint8_t result;
-    bool t8;
-    t8 = 2u <= bytes.own;
-    if (t8) {
-        result = bytes.own;
+    uint8_t result, t11, t14, t17, t21, t24, t25, t28;
+    uint64_t a, b, a_2, b_2, a_3;
+    bool t10;
+    char *t12, *t13, *t15, *t16, *t19, *t20, *t22, *t23, *t26, *t27;
+    circuit_gates_bytes_Opening t18;
+    t10 = 2u <= own;
+    if (t10) {
+        result = own;
         return result;
     }
-    t8 = kind == 2ull;
-    if (t8) {
-        result = circuit_gates_bytes_and_byte(role, bytes, triples, ands, far_bits, passed);
-        return result;
+    switch (gate.xor.tag) {
+    case 0:
+        a = gate.xor.m1;
+        b = gate.xor.m2;
+        t12 = wires;
+        t13 = t12 + a;
+        t14 = *(uint8_t *)t13;
+        t15 = wires;
+        t16 = t15 + b;
+        t17 = *(uint8_t *)t16;
+        t11 = circuit_gates_bytes_xor_byte(t14, t17);
+        break;
+    case 1:
+        a_2 = gate.and.m1;
+        b_2 = gate.and.m2;
+        t18 = opening;
+        t19 = wires;
+        t20 = t19 + a_2;
+        t21 = *(uint8_t *)t20;
+        t22 = wires;
+        t23 = t22 + b_2;
+        t24 = *(uint8_t *)t23;
+        t11 = circuit_gates_bytes_and_byte(t18, own, t21, t24);
+        break;
+    default:
+        a_3 = gate.not.m1;
+        t25 = opening.role;
+        t26 = wires;
+        t27 = t26 + a_3;
+        t28 = *(uint8_t *)t27;
+        t11 = circuit_gates_bytes_not_byte(t25, t28);
+        break;
     }
-    result = circuit_gates_bytes_local_byte(role, kind, bytes.x, bytes.y);
+    result = t11;
     return result;
 }
 
-/* circuit_round, src/lib.rt:20: A refused round: zeros, and the state as it was. */
-INLINE circuit_run_Rounded circuit_round_refused(uint32_t number, circuit_run_RoundState state)
+/* circuit_round, src/tests.rt:21: How many gates wait. */
+static uint64_t circuit_round_tests_waiting_gates(char *wires, circuit_Layout layout)
 {
-    circuit_run_Rounded result;
-    result = (circuit_run_Rounded){number, 0ull, 0ull, state};
-    return result;
-}
-
-/* circuit_round, src/tests.rt:24: One for a byte that waits, else none. */
-INLINE uint64_t circuit_round_tests_wait_of(uint8_t byte)
-{
-    uint64_t result, t3;
-    bool t2;
-    t2 = byte == 1u;
-    if (t2) {
-        t3 = 1ull;
-    } else {
-        t3 = 0ull;
-    }
-    result = t3;
-    return result;
-}
-
-/* circuit_round, src/tests.rt:31: How many gates wait. */
-static uint64_t circuit_round_tests_waiting_gates(char *wires, uint64_t inputs, uint64_t gates)
-{
-    uint64_t result, count, i, t7, t8;
-    bool t6;
-    char *t9, *t10;
-    uint8_t t11;
+    uint64_t result, count, byte_index, t8, t11, byte_index_end, t16;
+    slice byte_items, t7;
+    char *byte, *t9, *t10, *t12, *t15;
+    bool t14, t18;
+    uint8_t t17;
     count = 0ull;
-    i = 0ull;
+    t8 = layout.inputs + layout.gates;
+    t9 = wires;
+    t10 = t9 + layout.inputs;
+    t11 = t8 - layout.inputs;
+    t12 = t10;
+    t7 = (slice){t12, t11};
+    byte_items = t7;
+    byte_index = 0ull;
+    byte_index_end = byte_items.count;
     for (;;) {
-        t6 = i < gates;
-        if (!t6) {
+        t14 = byte_index < byte_index_end;
+        if (!t14) {
             break;
         }
-        t8 = inputs + i;
-        t9 = wires;
-        t10 = t9 + t8;
-        t11 = *(uint8_t *)t10;
-        t7 = circuit_round_tests_wait_of(t11);
-        count = count + t7;
-        i = i + 1ull;
+        t15 = byte_items.at + byte_index;
+        byte = t15;
+        t17 = *(uint8_t *)byte;
+        t18 = t17 == 1u;
+        t16 = core_UsizeFromBool_from(t18);
+        count = count + t16;
+        byte_index = byte_index + 1ull;
     }
     result = count;
     return result;
 }
 
-/* circuit_round, src/tests.rt:45: The number by the bytes and the role of a round on a circuit of so many ANDs. */
-INLINE uint32_t circuit_round_tests_bits_number(uint64_t ands, uint8_t role, slice shares, slice triples, slice far_bits)
+/* circuit_round, src/tests.rt:33: Tests the bytes and the role of a round on a circuit of so many ANDs. */
+INLINE Result_unit_answer_Refusal circuit_round_tests_check_bytes(uint64_t ands, uint8_t role, slice shares, slice triples, slice far_bits)
 {
-    uint32_t result;
-    bool t6, t7, t8, t9, t11, t12;
-    uint64_t t10;
+    Result_unit_answer_Refusal result;
+    bool t6, t8, t10, t12, t15, t16;
+    answer_Refusal t7, t9, t11, t14, t17;
+    uint64_t t13;
     t6 = answer_bytes_any_above(1u, shares);
     if (t6) {
-        result = 8u;
+        t7 = (answer_Refusal){answer_Refusal_not_element};
+        result = (Result_unit_answer_Refusal){.err = {1u, t7}};
         return result;
     }
-    t7 = answer_bytes_any_above(1u, triples);
-    if (t7) {
-        result = 8u;
-        return result;
-    }
-    t8 = answer_bytes_any_above(1u, far_bits);
+    t8 = answer_bytes_any_above(1u, triples);
     if (t8) {
-        result = 8u;
+        t9 = (answer_Refusal){answer_Refusal_not_element};
+        result = (Result_unit_answer_Refusal){.err = {1u, t9}};
         return result;
     }
-    t10 = triples.count;
-    t9 = answer_lengths_is_short(t10, 3ull, ands);
-    if (t9) {
-        result = 18u;
+    t10 = answer_bytes_any_above(1u, far_bits);
+    if (t10) {
+        t11 = (answer_Refusal){answer_Refusal_not_element};
+        result = (Result_unit_answer_Refusal){.err = {1u, t11}};
         return result;
     }
-    t11 = circuit_gates_shares_is_role(role);
-    t12 = !t11;
+    t13 = triples.count;
+    t12 = answer_lengths_is_short(t13, 3ull, ands);
     if (t12) {
-        result = 9u;
+        t14 = (answer_Refusal){answer_Refusal_too_few_triples};
+        result = (Result_unit_answer_Refusal){.err = {1u, t14}};
         return result;
     }
-    result = 0u;
+    t15 = circuit_gates_shares_is_role(role);
+    t16 = !t15;
+    if (t16) {
+        t17 = (answer_Refusal){answer_Refusal_wrong_end};
+        result = (Result_unit_answer_Refusal){.err = {1u, t17}};
+        return result;
+    }
+    result = (Result_unit_answer_Refusal){.ok = {0u}};
     return result;
 }
 
-/* circuit_round, src/tests.rt:67: The number of a round whose state has so many gates that wait, with room for an output and for bits of
- * so many bytes. */
-INLINE uint32_t circuit_round_tests_round_number(circuit_Layout layout, uint64_t waits, uint8_t role, slice shares, slice triples, slice
+/* circuit_round, src/tests.rt:61: Tests a round on a state of these wires, with room for an output and for bits of so many bytes. */
+INLINE Result_unit_answer_Refusal circuit_round_tests_check(circuit_round_tests_Frame frame, char *wires, slice shares, slice triples, slice
     far_bits, uint64_t room, uint64_t bits_room)
 {
-    uint32_t result;
-    uint64_t t9, t11;
-    bool t10, t12, t13;
-    t9 = shares.count;
-    t10 = t9 != layout.inputs;
-    if (t10) {
-        result = 3u;
-        return result;
-    }
-    t9 = triples.count;
-    t11 = t9 % 3ull;
-    t10 = t11 != 0ull;
-    if (t10) {
-        result = 3u;
-        return result;
-    }
-    t9 = far_bits.count;
-    t10 = answer_lengths_is_times(t9, 2ull, waits);
-    t12 = !t10;
-    if (t12) {
-        result = 3u;
-        return result;
-    }
-    t10 = room < layout.outputs;
-    if (t10) {
-        result = 13u;
-        return result;
-    }
-    t13 = answer_lengths_is_short(bits_room, 2ull, layout.ands);
-    if (t13) {
-        result = 13u;
-        return result;
-    }
-    result = circuit_round_tests_bits_number(layout.ands, role, shares, triples, far_bits);
-    return result;
-}
-
-/* circuit_round, src/tests.rt:98: The number of a round on a state of these wires, with room for an output and for bits of so many
- * bytes. */
-INLINE uint32_t circuit_round_tests_check(circuit_round_tests_Frame frame, char *wires, slice shares, slice triples, slice far_bits,
-    uint64_t room, uint64_t bits_room)
-{
-    uint32_t result;
+    Result_unit_answer_Refusal result;
     circuit_Layout layout;
-    uint64_t waits;
+    uint8_t role;
+    uint64_t waits, t11, t14;
+    bool t12, t16, t19;
+    answer_Refusal t13, t15, t17, t18, t20;
     layout = frame.layout;
-    waits = circuit_round_tests_waiting_gates(wires, layout.inputs, layout.gates);
-    result = circuit_round_tests_round_number(layout, waits, frame.role, shares, triples, far_bits, room, bits_room);
+    role = frame.role;
+    waits = circuit_round_tests_waiting_gates(wires, layout);
+    t11 = shares.count;
+    t12 = t11 != layout.inputs;
+    if (t12) {
+        t13 = (answer_Refusal){answer_Refusal_bad_length};
+        result = (Result_unit_answer_Refusal){.err = {1u, t13}};
+        return result;
+    }
+    t11 = triples.count;
+    t14 = t11 % 3ull;
+    t12 = t14 != 0ull;
+    if (t12) {
+        t15 = (answer_Refusal){answer_Refusal_bad_length};
+        result = (Result_unit_answer_Refusal){.err = {1u, t15}};
+        return result;
+    }
+    t11 = far_bits.count;
+    t12 = answer_lengths_is_times(t11, 2ull, waits);
+    t16 = !t12;
+    if (t16) {
+        t17 = (answer_Refusal){answer_Refusal_bad_length};
+        result = (Result_unit_answer_Refusal){.err = {1u, t17}};
+        return result;
+    }
+    t12 = room < layout.outputs;
+    if (t12) {
+        t18 = (answer_Refusal){answer_Refusal_buffer_short};
+        result = (Result_unit_answer_Refusal){.err = {1u, t18}};
+        return result;
+    }
+    t19 = answer_lengths_is_short(bits_room, 2ull, layout.ands);
+    if (t19) {
+        t20 = (answer_Refusal){answer_Refusal_buffer_short};
+        result = (Result_unit_answer_Refusal){.err = {1u, t20}};
+        return result;
+    }
+    result = circuit_round_tests_check_bytes(layout.ands, role, shares, triples, far_bits);
     return result;
 }
 
 /* circuit_round, src/passing.rt:13: Gives each input that is not known its share. */
 static void circuit_round_passing_take_inputs(slice shares, char *wires)
 {
-    uint64_t i, t4;
-    bool t5;
-    uint8_t t6, t9, t11;
-    char *t7, *t8, *t10, *t12, *t13;
+    uint64_t i, i_end;
+    char *share, *t7, *t9, *t10, *t13, *t14;
+    bool t6;
+    uint8_t t8, t11, t12;
     i = 0ull;
+    i_end = shares.count;
     for (;;) {
-        t4 = shares.count;
-        t5 = i < t4;
-        if (!t5) {
+        t6 = i < i_end;
+        if (!t6) {
             break;
         }
-        t7 = wires;
-        t8 = t7 + i;
-        t9 = *(uint8_t *)t8;
-        t10 = shares.at + i;
+        t7 = shares.at + i;
+        share = t7;
+        t9 = wires;
+        t10 = t9 + i;
         t11 = *(uint8_t *)t10;
-        t6 = circuit_gates_bytes_input_byte(t9, t11);
-        t12 = wires;
-        t13 = t12 + i;
-        *(uint8_t *)t13 = t6;
+        t12 = *(uint8_t *)share;
+        t8 = circuit_gates_bytes_input_byte(t11, t12);
+        t13 = wires;
+        t14 = t13 + i;
+        *(uint8_t *)t14 = t8;
         i = i + 1ull;
     }
 }
@@ -3376,59 +5075,69 @@ INLINE uint64_t circuit_round_writing_put_bits(uint8_t byte, uint8_t x, uint8_t 
     return result;
 }
 
-/* circuit_round, src/passing.rt:25: Passes over the gates and puts the bits of those that wait afterwards; how many bits they are. */
+/* circuit_round, src/passing.rt:23: Passes over the gates and puts the bits of those that wait afterwards; how many bits they are. */
 static uint64_t circuit_round_passing_pass_gates(slice source, circuit_round_tests_Frame frame, slice triples, slice far_bits, slice
     bits_out, char *wires)
 {
-    uint64_t result, inputs, gates, at, ands, passed, place, i, wire, first_wire, second_wire, t36;
-    uint8_t role, before, x, y, after, t27;
-    circuit_GateRead g;
-    circuit_gates_bytes_GateBytes bytes;
-    bool t24;
-    char *t25, *t26, *t28, *t29, *t30, *t31, *t32, *t33, *t34;
-    slice t35;
+    uint64_t result, at, ands, passed, place, i, wire, next, a, b, i_end, t40;
+    circuit_Layout layout;
+    uint8_t role, before, after, t27, t32, t35;
+    circuit_Gate gate;
+    circuit_gates_bytes_Opening opening, t29;
+    bool t23;
+    tuple_circuit_Gate_uint64 t24;
+    char *t25, *t26, *t28, *t30, *t31, *t33, *t34, *t36, *t38, *t39;
+    slice t37;
+    layout = frame.layout;
     role = frame.role;
-    inputs = frame.layout.inputs;
-    gates = frame.layout.gates;
-    at = frame.layout.body;
+    at = layout.body;
     ands = 0ull;
     passed = 0ull;
     place = 0ull;
     i = 0ull;
+    i_end = layout.gates;
     for (;;) {
-        t24 = i < gates;
-        if (!t24) {
+        t23 = i < i_end;
+        if (!t23) {
             break;
         }
-        wire = inputs + i;
-        g = circuit_again_known_gate(source, at, wire);
-        first_wire = g.first_wire;
-        second_wire = g.second_wire;
+        wire = layout.inputs + i;
+        t24 = circuit_again_known_gate(source, at, wire);
+        gate = t24.m0;
+        next = t24.m1;
+        opening = (circuit_gates_bytes_Opening){role, triples, ands, far_bits, passed};
         t25 = wires;
         t26 = t25 + wire;
         t27 = *(uint8_t *)t26;
         before = t27;
         t28 = wires;
-        t29 = t28 + first_wire;
-        t27 = *(uint8_t *)t29;
-        x = t27;
-        t30 = wires;
-        t31 = t30 + second_wire;
-        t27 = *(uint8_t *)t31;
-        y = t27;
-        bytes = (circuit_gates_bytes_GateBytes){before, x, y};
-        after = circuit_gates_bytes_gate_byte(role, g.kind, bytes, triples, ands, far_bits, passed);
-        t32 = wires;
-        t33 = t32 + wire;
-        *(uint8_t *)t33 = after;
-        t34 = bits_out.at;
-        t35 = (slice){t34, bits_out.count};
-        place = circuit_round_writing_put_bits(after, x, y, triples, ands, t35, place);
-        t36 = circuit_gates_and_of(g.kind);
-        ands = ands + t36;
-        t36 = circuit_round_tests_wait_of(before);
-        passed = passed + t36;
-        at = g.next;
+        t29 = opening;
+        after = circuit_gates_bytes_byte_after(gate, before, t28, t29);
+        switch (gate.xor.tag) {
+        case 1:
+            a = gate.and.m1;
+            b = gate.and.m2;
+            t30 = wires;
+            t31 = t30 + a;
+            t32 = *(uint8_t *)t31;
+            t33 = wires;
+            t34 = t33 + b;
+            t35 = *(uint8_t *)t34;
+            t36 = bits_out.at;
+            t37 = (slice){t36, bits_out.count};
+            place = circuit_round_writing_put_bits(after, t32, t35, triples, ands, t37, place);
+            ands = ands + 1ull;
+            break;
+        default:
+            break;
+        }
+        t38 = wires;
+        t39 = t38 + wire;
+        *(uint8_t *)t39 = after;
+        t23 = before == 1u;
+        t40 = core_UsizeFromBool_from(t23);
+        passed = passed + t40;
+        at = next;
         i = i + 1ull;
     }
     result = place;
@@ -3438,29 +5147,30 @@ static uint64_t circuit_round_passing_pass_gates(slice source, circuit_round_tes
 /* circuit_round, src/writing.rt:33: Writes the shares of the output wires. */
 static void circuit_round_writing_write_shares(slice source, circuit_Layout layout, char *wires, slice output)
 {
-    uint64_t outputs, limit, at, i, wire;
-    number_Known w;
+    uint64_t limit, at, i, wire, next, i_end;
     bool t11;
-    char *t12, *t13, *t16;
-    uint8_t t14, t15;
-    outputs = layout.outputs;
+    tuple_uint64_uint64 t12;
+    char *t13, *t14, *t17;
+    uint8_t t15, t16;
     limit = layout.inputs + layout.gates;
     at = layout.tail;
     i = 0ull;
+    i_end = layout.outputs;
     for (;;) {
-        t11 = i < outputs;
+        t11 = i < i_end;
         if (!t11) {
             break;
         }
-        w = circuit_again_known_wire(source, at, limit);
-        wire = w.number;
-        t12 = wires;
-        t13 = t12 + wire;
-        t14 = *(uint8_t *)t13;
-        t15 = (uint8_t)(t14 % 2u);
-        t16 = output.at + i;
-        *(uint8_t *)t16 = t15;
-        at = w.next;
+        t12 = circuit_again_known_wire(source, at, limit);
+        wire = t12.m0;
+        next = t12.m1;
+        t13 = wires;
+        t14 = t13 + wire;
+        t15 = *(uint8_t *)t14;
+        t16 = (uint8_t)(t15 % 2u);
+        t17 = output.at + i;
+        *(uint8_t *)t17 = t16;
+        at = next;
         i = i + 1ull;
     }
 }
@@ -3496,69 +5206,78 @@ INLINE circuit_round_accepted_Lengths circuit_round_accepted_accepted_round(slic
     return result;
 }
 
-/* circuit_round, src/lib.rt:33: One round of an end's run: opens every AND whose wires are known and gives its two bits to send, or
+/* circuit_round, src/lib.rt:20: One round of an end's run: opens every AND whose wires are known and gives its two bits to send, or
  * writes the outputs of a run where none waits. */
-static circuit_run_Rounded circuit_round_round_run(uint8_t role, slice circuit, slice shares, slice triples, slice output, slice far_bits,
+INLINE circuit_run_Rounded circuit_round_round_run(uint8_t role, slice circuit, slice shares, slice triples, slice output, slice far_bits,
     slice bits_out, circuit_run_RoundState state)
 {
     circuit_run_Rounded result;
-    circuit_Answer read;
-    circuit_Layout layout;
-    uint8_4096 wires, t25;
+    circuit_run_RoundState state_slot, t19, t24, t31;
+    circuit_Layout layout, layout_2, t18;
+    answer_Refusal refusal, refusal_2;
     circuit_round_tests_Frame frame;
-    uint32_t number, t15;
+    uint8_4096 wires, t25;
     circuit_round_accepted_Lengths lengths;
-    char *t16, *t20, *t22, *t24;
-    uint64_t t17, t18;
-    bool t19;
-    slice t21, t23;
-    circuit_run_RoundState t26;
-    read = circuit_reading_read_circuit(circuit);
-    switch (read.accepted.tag) {
+    Result_circuit_Layout_answer_Refusal t17;
+    Result_unit_answer_Refusal t20;
+    char *t21, *t26, *t28, *t30;
+    uint64_t t22, t23;
+    slice t27, t29;
+    state_slot = state;
+    t17 = circuit_reading_read_circuit(circuit);
+    switch (t17.ok.tag) {
     case 0:
-        layout = read.accepted.m1;
+        layout_2 = t17.ok.m1;
+        t18 = layout_2;
         break;
     default:
-        t15 = circuit_reading_circuit_fault(read);
-        result = circuit_round_refused(t15, state);
+        refusal = t17.err.m1;
+        t19 = state_slot;
+        result = circuit_run_Rounded_refused(refusal, t19);
         return result;
     }
-    wires = state.wires;
+    layout = t18;
     frame = (circuit_round_tests_Frame){layout, role};
-    t16 = (char *)&wires;
-    t17 = output.count;
-    t18 = bits_out.count;
-    number = circuit_round_tests_check(frame, t16, shares, triples, far_bits, t17, t18);
-    t19 = number != 0u;
-    if (t19) {
-        result = circuit_round_refused(number, state);
+    t21 = (char *)&state_slot.wires;
+    t22 = output.count;
+    t23 = bits_out.count;
+    t20 = circuit_round_tests_check(frame, t21, shares, triples, far_bits, t22, t23);
+    switch (t20.ok.tag) {
+    case 1:
+        refusal_2 = t20.err.m1;
+        t24 = state_slot;
+        result = circuit_run_Rounded_refused(refusal_2, t24);
         return result;
+    default:
+        break;
     }
-    t20 = output.at;
-    t21 = (slice){t20, output.count};
-    t22 = bits_out.at;
-    t23 = (slice){t22, bits_out.count};
-    t24 = (char *)&wires;
-    lengths = circuit_round_accepted_accepted_round(circuit, frame, shares, triples, t21, far_bits, t23, t24);
+    t25 = state_slot.wires;
+    wires = t25;
+    t26 = output.at;
+    t27 = (slice){t26, output.count};
+    t28 = bits_out.at;
+    t29 = (slice){t28, bits_out.count};
+    t30 = (char *)&wires;
+    lengths = circuit_round_accepted_accepted_round(circuit, frame, shares, triples, t27, far_bits, t29, t30);
     t25 = wires;
-    t26 = (circuit_run_RoundState){t25};
-    result = (circuit_run_Rounded){0u, lengths.written, lengths.bits_written, t26};
+    t31 = (circuit_run_RoundState){t25};
+    result = (circuit_run_Rounded){0u, lengths.written, lengths.bits_written, t31};
     return result;
 }
 
-/* circuit_step, src/lib.rt:21: A refused step: zeros, and the state as it was. */
-INLINE circuit_run_Stepped circuit_step_refused(uint32_t number, circuit_run_StepState state)
+/* circuit_step, src/tests.rt:17: Whether the far bits of a run that waits are bits. */
+INLINE bool circuit_step_tests_are_far_bits(bool waits, uint8_t far_first, uint8_t far_second)
 {
-    circuit_run_Stepped result;
-    result = (circuit_run_Stepped){number, 0ull, 0u, 0u, state};
-    return result;
-}
-
-/* circuit_step, src/waiting.rt:29: A spot without an AND. */
-INLINE circuit_run_places_Spot circuit_step_waiting_no_spot(bool admitted, uint64_t gate)
-{
-    circuit_run_places_Spot result;
-    result = (circuit_run_places_Spot){admitted, gate, 0ull, 0ull, 0ull, 0ull};
+    bool result, t4, t5;
+    t4 = !waits;
+    if (!t4) {
+        t5 = far_first <= 1u;
+        if (t5) {
+            t5 = far_second <= 1u;
+        }
+        t4 = t5;
+    }
+    result = t4;
     return result;
 }
 
@@ -3566,10 +5285,10 @@ INLINE circuit_run_places_Spot circuit_step_waiting_no_spot(bool admitted, uint6
 static circuit_run_places_Place circuit_step_waiting_place_of(slice source, circuit_Layout layout, uint64_t gate)
 {
     circuit_run_places_Place result;
-    uint64_t inputs, at, ands, i, t10;
-    circuit_GateRead g;
+    uint64_t at, ands, i, next, t11;
+    circuit_Gate passed;
     bool t9;
-    inputs = layout.inputs;
+    tuple_circuit_Gate_uint64 t10;
     at = layout.body;
     ands = 0ull;
     i = 0ull;
@@ -3578,162 +5297,208 @@ static circuit_run_places_Place circuit_step_waiting_place_of(slice source, circ
         if (!t9) {
             break;
         }
-        t10 = inputs + i;
-        g = circuit_again_known_gate(source, at, t10);
-        t10 = circuit_gates_and_of(g.kind);
-        ands = ands + t10;
-        at = g.next;
+        t11 = layout.inputs + i;
+        t10 = circuit_again_known_gate(source, at, t11);
+        passed = t10.m0;
+        next = t10.m1;
+        t9 = circuit_Gate_is_and(passed);
+        t11 = core_UsizeFromBool_from(t9);
+        ands = ands + t11;
+        at = next;
         i = i + 1ull;
     }
-    result = (circuit_run_places_Place){i, at, ands};
+    result = (circuit_run_places_Place){gate, at, ands};
     return result;
 }
 
-/* circuit_step, src/waiting.rt:43: Where a state of a phase and a gate stands. */
-INLINE circuit_run_places_Spot circuit_step_waiting_spot_of(slice source, circuit_Layout layout, uint32_t phase, uint64_t gate)
+/* circuit_step, src/waiting.rt:26: The AND at a gate, where there is one. */
+INLINE Option_circuit_run_places_Spot circuit_step_waiting_and_at(slice source, circuit_Layout layout, uint64_t gate)
 {
-    circuit_run_places_Spot result;
-    circuit_run_places_Place place;
-    circuit_GateRead g;
-    bool t7, t8;
-    uint64_t t9;
-    t7 = phase != 1u;
-    if (t7) {
-        t8 = phase <= 2u;
-        result = circuit_step_waiting_no_spot(t8, gate);
-        return result;
-    }
-    t7 = layout.gates <= gate;
-    if (t7) {
-        result = circuit_step_waiting_no_spot(false, gate);
-        return result;
-    }
-    place = circuit_step_waiting_place_of(source, layout, gate);
-    t9 = layout.inputs + gate;
-    g = circuit_again_known_gate(source, place.at, t9);
-    t7 = g.kind == 2ull;
-    result = (circuit_run_places_Spot){t7, gate, g.first_wire, g.second_wire, place.ands, g.next};
-    return result;
-}
-
-/* circuit_step, src/tests.rt:16: Whether the far bits of a run that waits are bits. */
-INLINE bool circuit_step_tests_are_far_bits(bool waits, uint8_t far_first, uint8_t far_second)
-{
-    bool result, t4;
-    t4 = !waits;
-    if (t4) {
-        result = true;
-        return result;
-    }
-    t4 = 1u < far_first;
-    if (t4) {
-        result = false;
-        return result;
-    }
-    result = far_second <= 1u;
-    return result;
-}
-
-/* circuit_step, src/tests.rt:29: The number of a step, with room for an output of `room` bytes. */
-INLINE uint32_t circuit_step_tests_step_number(circuit_Layout layout, bool admitted, circuit_run_places_Asked asked, slice shares, slice
-    triples, uint64_t room)
-{
-    uint32_t result;
-    uint64_t t7, t9;
-    bool t8, t10, t11, t12, t13;
-    t7 = shares.count;
-    t8 = t7 != layout.inputs;
-    if (t8) {
-        result = 3u;
-        return result;
-    }
-    t7 = triples.count;
-    t9 = t7 % 3ull;
-    t8 = t9 != 0ull;
-    if (t8) {
-        result = 3u;
-        return result;
-    }
-    t8 = room < layout.outputs;
-    if (t8) {
-        result = 13u;
-        return result;
-    }
-    t10 = answer_bytes_any_above(1u, shares);
+    Option_circuit_run_places_Spot result;
+    uint64_t at, ands, next, first_wire, second_wire, t13;
+    circuit_Gate found;
+    bool t10;
+    circuit_run_places_Place t11;
+    tuple_circuit_Gate_uint64 t12;
+    circuit_run_places_Spot t14;
+    t10 = layout.gates <= gate;
     if (t10) {
-        result = 8u;
+        result = (Option_circuit_run_places_Spot){.none = {0u}};
         return result;
     }
-    t11 = answer_bytes_any_above(1u, triples);
-    if (t11) {
-        result = 8u;
+    t11 = circuit_step_waiting_place_of(source, layout, gate);
+    at = t11.at;
+    ands = t11.ands;
+    t13 = layout.inputs + gate;
+    t12 = circuit_again_known_gate(source, at, t13);
+    found = t12.m0;
+    next = t12.m1;
+    switch (found.xor.tag) {
+    case 1:
+        first_wire = found.and.m1;
+        second_wire = found.and.m2;
+        break;
+    default:
+        result = (Option_circuit_run_places_Spot){.none = {0u}};
         return result;
     }
-    t8 = circuit_step_tests_are_far_bits(asked.waits, asked.far_first, asked.far_second);
-    t12 = !t8;
-    if (t12) {
-        result = 8u;
-        return result;
-    }
-    t7 = triples.count;
-    t13 = answer_lengths_is_short(t7, 3ull, layout.ands);
-    if (t13) {
-        result = 18u;
-        return result;
-    }
-    t12 = !admitted;
-    if (t12) {
-        result = 17u;
-        return result;
-    }
-    t8 = circuit_gates_shares_is_role(asked.role);
-    t12 = !t8;
-    if (t12) {
-        result = 9u;
-        return result;
-    }
-    result = 0u;
+    t14 = (circuit_run_places_Spot){gate, first_wire, second_wire, ands, next};
+    result = (Option_circuit_run_places_Spot){.some = {1u, t14}};
     return result;
 }
 
-/* circuit_step, src/checking.rt:12: The number of a step on a state of this phase and gate, with room for an output of `room` bytes. */
-INLINE circuit_run_places_Checked circuit_step_checking_check(slice source, circuit_Layout layout, circuit_run_places_Asked asked, uint32_t
-    phase, uint64_t gate, slice shares, slice triples, uint64_t room)
+/* circuit_step, src/waiting.rt:48: The run of a state of a phase and a gate, where the state is admitted. */
+INLINE Option_circuit_run_places_Run circuit_step_waiting_run_of(slice source, circuit_Layout layout, uint32_t phase, uint64_t gate)
 {
-    circuit_run_places_Checked result;
-    circuit_run_places_Spot spot;
-    uint32_t number;
-    spot = circuit_step_waiting_spot_of(source, layout, phase, gate);
-    number = circuit_step_tests_step_number(layout, spot.admitted, asked, shares, triples, room);
-    result = (circuit_run_places_Checked){number, spot};
+    Option_circuit_run_places_Run result, t8;
+    circuit_run_places_Spot spot, t6, t13;
+    Option_circuit_run_places_Spot t9, t12;
+    circuit_run_places_Run t10, t14, t15;
+    ControlFlow_NoValue_circuit_run_places_Spot t11;
+    switch (phase) {
+    case 0:
+        t9 = (Option_circuit_run_places_Spot){.none = {0u}};
+        t10 = (circuit_run_places_Run){.going = {0u, t9}};
+        t8 = (Option_circuit_run_places_Run){.some = {1u, t10}};
+        break;
+    case 1:
+        t12 = circuit_step_waiting_and_at(source, layout, gate);
+        t11 = core_OptionTry_branch_circuit_run_places_Spot(t12);
+        switch (t11.continue_.tag) {
+        case 0:
+            t6 = t11.continue_.m1;
+            t13 = t6;
+            break;
+        default:
+            result = core_OptionFromResidualNoValue_from_residual_circuit_run();
+            return result;
+        }
+        spot = t13;
+        t12 = (Option_circuit_run_places_Spot){.some = {1u, spot}};
+        t14 = (circuit_run_places_Run){.going = {0u, t12}};
+        t8 = (Option_circuit_run_places_Run){.some = {1u, t14}};
+        break;
+    case 2:
+        t15 = (circuit_run_places_Run){.finished = {1u}};
+        t8 = (Option_circuit_run_places_Run){.some = {1u, t15}};
+        break;
+    default:
+        t8 = (Option_circuit_run_places_Run){.none = {0u}};
+        break;
+    }
+    result = t8;
     return result;
 }
 
-/* circuit_step, src/running.rt:100: Writes the shares of the output wires. */
+/* circuit_step, src/tests.rt:24: The run of a step on a state, with room for an output of `room` bytes. */
+INLINE Result_circuit_run_places_Run_answer_Refusal circuit_step_tests_check(slice source, circuit_Layout layout, circuit_run_places_Asked
+    asked, char *state, slice shares, slice triples, uint64_t room)
+{
+    Result_circuit_run_places_Run_answer_Refusal result;
+    circuit_run_places_Run run;
+    uint64_t t9, t12;
+    bool t10, t15, t17, t19, t21;
+    answer_Refusal t11, t13, t14, t16, t18, t20, t22, t26, t27;
+    Option_circuit_run_places_Run t23;
+    uint32_t t24, t25;
+    t9 = shares.count;
+    t10 = t9 != layout.inputs;
+    if (t10) {
+        t11 = (answer_Refusal){answer_Refusal_bad_length};
+        result = (Result_circuit_run_places_Run_answer_Refusal){.err = {1u, t11}};
+        return result;
+    }
+    t9 = triples.count;
+    t12 = t9 % 3ull;
+    t10 = t12 != 0ull;
+    if (t10) {
+        t13 = (answer_Refusal){answer_Refusal_bad_length};
+        result = (Result_circuit_run_places_Run_answer_Refusal){.err = {1u, t13}};
+        return result;
+    }
+    t10 = room < layout.outputs;
+    if (t10) {
+        t14 = (answer_Refusal){answer_Refusal_buffer_short};
+        result = (Result_circuit_run_places_Run_answer_Refusal){.err = {1u, t14}};
+        return result;
+    }
+    t15 = answer_bytes_any_above(1u, shares);
+    if (t15) {
+        t16 = (answer_Refusal){answer_Refusal_not_element};
+        result = (Result_circuit_run_places_Run_answer_Refusal){.err = {1u, t16}};
+        return result;
+    }
+    t17 = answer_bytes_any_above(1u, triples);
+    if (t17) {
+        t18 = (answer_Refusal){answer_Refusal_not_element};
+        result = (Result_circuit_run_places_Run_answer_Refusal){.err = {1u, t18}};
+        return result;
+    }
+    t10 = circuit_step_tests_are_far_bits(asked.waits, asked.far_first, asked.far_second);
+    t19 = !t10;
+    if (t19) {
+        t20 = (answer_Refusal){answer_Refusal_not_element};
+        result = (Result_circuit_run_places_Run_answer_Refusal){.err = {1u, t20}};
+        return result;
+    }
+    t9 = triples.count;
+    t21 = answer_lengths_is_short(t9, 3ull, layout.ands);
+    if (t21) {
+        t22 = (answer_Refusal){answer_Refusal_too_few_triples};
+        result = (Result_circuit_run_places_Run_answer_Refusal){.err = {1u, t22}};
+        return result;
+    }
+    t24 = ((circuit_run_StepState *)state)->phase;
+    t25 = ((circuit_run_StepState *)state)->gate;
+    t12 = (uint64_t)t25;
+    t23 = circuit_step_waiting_run_of(source, layout, t24, t12);
+    switch (t23.none.tag) {
+    case 1:
+        run = t23.some.m1;
+        break;
+    default:
+        t26 = (answer_Refusal){answer_Refusal_bad_circuit};
+        result = (Result_circuit_run_places_Run_answer_Refusal){.err = {1u, t26}};
+        return result;
+    }
+    t10 = circuit_gates_shares_is_role(asked.role);
+    t19 = !t10;
+    if (t19) {
+        t27 = (answer_Refusal){answer_Refusal_wrong_end};
+        result = (Result_circuit_run_places_Run_answer_Refusal){.err = {1u, t27}};
+        return result;
+    }
+    result = (Result_circuit_run_places_Run_answer_Refusal){.ok = {0u, run}};
+    return result;
+}
+
+/* circuit_step, src/running.rt:97: Writes the shares of the output wires, which a step's state holds as they are; a round's has them in
+ * bytes (`write_shares`). */
 static void circuit_step_running_write_outputs(slice source, circuit_Layout layout, char *wires, slice output)
 {
-    uint64_t outputs, limit, at, i, wire;
-    number_Known w;
+    uint64_t limit, at, i, wire, next, i_end;
     bool t11;
-    char *t12, *t13, *t15;
-    uint8_t t14;
-    outputs = layout.outputs;
+    tuple_uint64_uint64 t12;
+    char *t13, *t14, *t16;
+    uint8_t t15;
     limit = layout.inputs + layout.gates;
     at = layout.tail;
     i = 0ull;
+    i_end = layout.outputs;
     for (;;) {
-        t11 = i < outputs;
+        t11 = i < i_end;
         if (!t11) {
             break;
         }
-        w = circuit_again_known_wire(source, at, limit);
-        wire = w.number;
-        t12 = wires;
-        t13 = t12 + wire;
-        t14 = *(uint8_t *)t13;
-        t15 = output.at + i;
-        *(uint8_t *)t15 = t14;
-        at = w.next;
+        t12 = circuit_again_known_wire(source, at, limit);
+        wire = t12.m0;
+        next = t12.m1;
+        t13 = wires;
+        t14 = t13 + wire;
+        t15 = *(uint8_t *)t14;
+        t16 = output.at + i;
+        *(uint8_t *)t16 = t15;
+        at = next;
         i = i + 1ull;
     }
 }
@@ -3742,223 +5507,266 @@ static void circuit_step_running_write_outputs(slice source, circuit_Layout layo
 INLINE circuit_run_Stepped circuit_step_accepted_finish(slice circuit, circuit_Layout layout, slice output, circuit_run_StepState state)
 {
     circuit_run_Stepped result;
-    uint8_4096 wires;
+    circuit_run_StepState state_slot, t10;
     char *t7, *t8;
     slice t9;
-    wires = state.wires;
-    t7 = (char *)&wires;
+    state_slot = state;
+    t7 = (char *)&state_slot.wires;
     t8 = output.at;
     t9 = (slice){t8, output.count};
     circuit_step_running_write_outputs(circuit, layout, t7, t9);
-    result = (circuit_run_Stepped){0u, layout.outputs, 0u, 0u, state};
+    t10 = state_slot;
+    result = (circuit_run_Stepped){0u, layout.outputs, 0u, 0u, t10};
     return result;
 }
 
-/* circuit_step, src/running.rt:13: Runs from a place to the next AND or to the end. */
-static circuit_run_places_Reached circuit_step_running_run_on(slice source, circuit_Layout layout, uint8_t role, circuit_run_places_Place
-    from, char *wires)
-{
-    circuit_run_places_Reached result;
-    uint64_t inputs, gates, ands, at, i, wire, first_wire, second_wire;
-    circuit_GateRead g;
-    bool t15;
-    uint8_t t16, t19, t22;
-    char *t17, *t18, *t20, *t21, *t23, *t24;
-    inputs = layout.inputs;
-    gates = layout.gates;
-    ands = from.ands;
-    at = from.at;
-    i = from.gate;
-    for (;;) {
-        t15 = i < gates;
-        if (!t15) {
-            break;
-        }
-        wire = inputs + i;
-        g = circuit_again_known_gate(source, at, wire);
-        first_wire = g.first_wire;
-        second_wire = g.second_wire;
-        t15 = g.kind == 2ull;
-        if (t15) {
-            result = (circuit_run_places_Reached){true, i, first_wire, second_wire, ands};
-            return result;
-        }
-        t17 = wires;
-        t18 = t17 + first_wire;
-        t19 = *(uint8_t *)t18;
-        t20 = wires;
-        t21 = t20 + second_wire;
-        t22 = *(uint8_t *)t21;
-        t16 = circuit_gates_shares_local_share(role, g.kind, t19, t22);
-        t23 = wires;
-        t24 = t23 + wire;
-        *(uint8_t *)t24 = t16;
-        at = g.next;
-        i = i + 1ull;
-    }
-    result = (circuit_run_places_Reached){false, i, 0ull, 0ull, ands};
-    return result;
-}
-
-/* circuit_step, src/running.rt:52: The wires of a fresh run: the shares, and zero past them. */
-static uint8_4096 circuit_step_running_fresh_wires(slice shares)
+/* circuit_step, src/running.rt:48: The wires of a fresh run: the shares, and zero past them. */
+INLINE uint8_4096 circuit_step_running_fresh_wires(slice shares)
 {
     uint8_4096 result, wires;
-    uint64_t i, t4;
-    bool t5;
-    char *t6, *t8, *t9;
-    uint8_t t7;
+    uint64_t t4;
+    char *t5;
+    slice t6;
     for (int each = 0; each < 4096; each++)
         wires.a[each] = 0u;
-    i = 0ull;
-    for (;;) {
-        t4 = shares.count;
-        t5 = i < t4;
-        if (!t5) {
-            break;
-        }
-        t6 = shares.at + i;
-        t7 = *(uint8_t *)t6;
-        t8 = (char *)&wires;
-        t9 = t8 + i;
-        *(uint8_t *)t9 = t7;
-        i = i + 1ull;
-    }
+    t4 = shares.count;
+    t5 = (char *)&wires;
+    t6 = (slice){t5, t4};
+    core_slice_copy_from_slice_uint8(t6, shares);
     result = wires;
     return result;
 }
 
-/* circuit_step, src/running.rt:66: Takes a fresh run, or one that waits, to the next AND or to the end. */
-INLINE circuit_run_places_Reached circuit_step_running_proceed(slice source, circuit_Layout layout, circuit_run_places_Asked asked,
-    circuit_run_places_Spot spot, slice shares, slice triples, char *wires)
+/* circuit_step, src/running.rt:13: Runs from a place to the next AND, which it gives, or to the end. */
+static Option_circuit_run_places_Spot circuit_step_running_run_on(slice source, circuit_Layout layout, uint8_t role,
+    circuit_run_places_Place from, char *wires)
 {
-    circuit_run_places_Reached result;
-    circuit_run_places_Place after, start;
-    uint8_4096 fresh;
-    bool t11;
-    uint64_t t13, t15;
-    char *t14, *t16, *t17;
-    t11 = asked.waits;
-    if (t11) {
-        t13 = layout.inputs + spot.gate;
-        t14 = wires;
-        circuit_gates_shares_give_and(asked, spot, t13, triples, t14);
-        t13 = spot.gate + 1ull;
-        t15 = spot.ands + 1ull;
-        after = (circuit_run_places_Place){t13, spot.next, t15};
-        t16 = wires;
-        result = circuit_step_running_run_on(source, layout, asked.role, after, t16);
-        return result;
+    Option_circuit_run_places_Spot result;
+    uint64_t at, gate, wire, next, a, b, a_2, first_wire, second_wire, gate_end, t18, t19, t22, t23, t26, t30, t35, t39, t40, t41, t42, t43,
+        t45;
+    circuit_Gate found;
+    bool t17;
+    tuple_circuit_Gate_uint64 t20;
+    slice t21;
+    uint8_t t24, t25, t29, t33, t34, t38;
+    char *t27, *t28, *t31, *t32, *t36, *t37, *t46, *t47;
+    circuit_run_places_Spot t44;
+    at = from.at;
+    gate = from.gate;
+    gate_end = layout.gates;
+    for (;;) {
+        t17 = gate < gate_end;
+        if (!t17) {
+            break;
+        }
+        t18 = layout.inputs;
+        t19 = gate;
+        wire = t18 + t19;
+        t21 = source;
+        t22 = at;
+        t23 = wire;
+        t20 = circuit_again_known_gate(t21, t22, t23);
+        found = t20.m0;
+        next = t20.m1;
+        switch (found.xor.tag) {
+        case 0:
+            a = found.xor.m1;
+            b = found.xor.m2;
+            t26 = a;
+            t27 = wires;
+            t28 = t27 + t26;
+            t29 = *(uint8_t *)t28;
+            t30 = b;
+            t31 = wires;
+            t32 = t31 + t30;
+            t33 = *(uint8_t *)t32;
+            t25 = (uint8_t)(t29 ^ t33);
+            break;
+        case 2:
+            a_2 = found.not.m1;
+            t34 = role;
+            t35 = a_2;
+            t36 = wires;
+            t37 = t36 + t35;
+            t38 = *(uint8_t *)t37;
+            t25 = circuit_gates_shares_flip(t34, t38);
+            break;
+        default:
+            first_wire = found.and.m1;
+            second_wire = found.and.m2;
+            t39 = gate;
+            t40 = first_wire;
+            t41 = second_wire;
+            t42 = from.ands;
+            t43 = next;
+            t44 = (circuit_run_places_Spot){t39, t40, t41, t42, t43};
+            result = (Option_circuit_run_places_Spot){.some = {1u, t44}};
+            return result;
+        }
+        t24 = t25;
+        t45 = wire;
+        t46 = wires;
+        t47 = t46 + t45;
+        *(uint8_t *)t47 = t24;
+        at = next;
+        gate = gate + 1ull;
     }
-    fresh = circuit_step_running_fresh_wires(shares);
-    *(uint8_4096 *)wires = fresh;
-    start = (circuit_run_places_Place){0ull, layout.body, 0ull};
-    t17 = wires;
-    result = circuit_step_running_run_on(source, layout, asked.role, start, t17);
+    result = (Option_circuit_run_places_Spot){.none = {0u}};
     return result;
 }
 
-/* circuit_step, src/accepted.rt:31: Runs to the next AND and gives its two bits, or to the end and writes the outputs. */
+/* circuit_step, src/running.rt:58: Takes a fresh run, or one that waits at an AND, to the next AND or to the end. */
+INLINE Option_circuit_run_places_Spot circuit_step_running_proceed(slice source, circuit_Layout layout, circuit_run_places_Asked asked,
+    Option_circuit_run_places_Spot waiting, slice shares, slice triples, char *wires)
+{
+    Option_circuit_run_places_Spot result;
+    circuit_run_places_Place from, t10;
+    circuit_run_places_Spot spot;
+    uint64_t t12, t14;
+    char *t13, *t16;
+    uint8_4096 t15;
+    switch (waiting.none.tag) {
+    case 1:
+        spot = waiting.some.m1;
+        t12 = layout.inputs + spot.gate;
+        t13 = wires;
+        circuit_gates_shares_give_and(asked, spot, t12, triples, t13);
+        t12 = spot.gate + 1ull;
+        t14 = spot.ands + 1ull;
+        t10 = (circuit_run_places_Place){t12, spot.next, t14};
+        break;
+    default:
+        t15 = circuit_step_running_fresh_wires(shares);
+        *(uint8_4096 *)wires = t15;
+        t10 = (circuit_run_places_Place){0ull, layout.body, 0ull};
+        break;
+    }
+    from = t10;
+    t16 = wires;
+    result = circuit_step_running_run_on(source, layout, asked.role, from, t16);
+    return result;
+}
+
+/* circuit_step, src/accepted.rt:30: Runs to the next AND and gives its two bits, or to the end and writes the outputs. */
 INLINE circuit_run_Stepped circuit_step_accepted_accepted_step(slice circuit, circuit_Layout layout, circuit_run_places_Asked asked,
-    circuit_run_places_Spot spot, slice shares, slice triples, slice output, circuit_run_StepState state)
+    circuit_run_places_Run run, slice shares, slice triples, slice output, circuit_run_StepState state)
 {
     circuit_run_Stepped result;
-    uint8_4096 wires, t33, t35;
-    circuit_run_places_Reached reached;
-    uint32_t gate;
-    uint64_t first_wire, second_wire, at, t29;
-    circuit_run_StepState last, t34;
-    bool t16;
-    char *t17, *t19, *t20, *t21, *t23, *t26, *t27, *t30, *t36;
-    slice t18, t37;
-    uint8_t t22, t24, t25, t28, t31, t32;
-    t16 = state.phase == 2u;
-    if (t16) {
-        t17 = output.at;
-        t18 = (slice){t17, output.count};
-        result = circuit_step_accepted_finish(circuit, layout, t18, state);
+    Option_circuit_run_places_Spot waiting, reached;
+    uint8_4096 wires, t19, t38;
+    circuit_run_places_Spot spot;
+    circuit_run_StepState last, t39;
+    uint64_t at, t22, t29, t33;
+    char *t15, *t17, *t20, *t23, *t24, *t26, *t30, *t31, *t34;
+    slice t16, t21;
+    uint32_t t18, t37;
+    uint8_t t25, t27, t28, t32, t35, t36;
+    switch (run.going.tag) {
+    case 0:
+        waiting = run.going.m1;
+        break;
+    default:
+        t15 = output.at;
+        t16 = (slice){t15, output.count};
+        result = circuit_step_accepted_finish(circuit, layout, t16, state);
         return result;
     }
     wires = state.wires;
-    t19 = (char *)&wires;
-    reached = circuit_step_running_proceed(circuit, layout, asked, spot, shares, triples, t19);
-    gate = (uint32_t)reached.gate;
-    t16 = reached.waits;
-    if (t16) {
-        first_wire = reached.first_wire;
-        second_wire = reached.second_wire;
-        at = reached.ands * 3ull;
-        t20 = (char *)&wires;
-        t21 = t20 + first_wire;
-        t22 = *(uint8_t *)t21;
-        t23 = triples.at + at;
-        t24 = *(uint8_t *)t23;
-        t25 = (uint8_t)(t22 ^ t24);
-        t26 = (char *)&wires;
-        t27 = t26 + second_wire;
-        t28 = *(uint8_t *)t27;
-        t29 = at + 1ull;
-        t30 = triples.at + t29;
-        t31 = *(uint8_t *)t30;
-        t32 = (uint8_t)(t28 ^ t31);
-        t33 = wires;
-        t34 = (circuit_run_StepState){1u, gate, t33};
-        result = (circuit_run_Stepped){0u, 0ull, t25, t32, t34};
-        return result;
-    }
-    t35 = wires;
-    last = (circuit_run_StepState){2u, gate, t35};
-    t36 = output.at;
-    t37 = (slice){t36, output.count};
-    result = circuit_step_accepted_finish(circuit, layout, t37, last);
-    return result;
-}
-
-/* circuit_step, src/lib.rt:34: One step of an end's run: up to the next AND, whose two bits to send it gives, or to the end, where it
- * writes the outputs. */
-static circuit_run_Stepped circuit_step_step_run(uint8_t role, slice circuit, slice shares, slice triples, slice output, uint8_t far_first,
-    uint8_t far_second, circuit_run_StepState state)
-{
-    circuit_run_Stepped result;
-    circuit_Answer read;
-    circuit_Layout layout;
-    uint32_t phase, t16;
-    circuit_run_places_Asked asked;
-    uint64_t gate, t18;
-    circuit_run_places_Checked checked;
-    circuit_run_places_Spot spot;
-    bool t17;
-    char *t19;
-    slice t20;
-    read = circuit_reading_read_circuit(circuit);
-    switch (read.accepted.tag) {
-    case 0:
-        layout = read.accepted.m1;
+    t17 = (char *)&wires;
+    reached = circuit_step_running_proceed(circuit, layout, asked, waiting, shares, triples, t17);
+    switch (reached.none.tag) {
+    case 1:
+        spot = reached.some.m1;
         break;
     default:
-        t16 = circuit_reading_circuit_fault(read);
-        result = circuit_step_refused(t16, state);
+        t18 = (uint32_t)layout.gates;
+        t19 = wires;
+        last = (circuit_run_StepState){2u, t18, t19};
+        t20 = output.at;
+        t21 = (slice){t20, output.count};
+        result = circuit_step_accepted_finish(circuit, layout, t21, last);
         return result;
     }
-    phase = state.phase;
-    t17 = phase == 1u;
-    asked = (circuit_run_places_Asked){role, t17, far_first, far_second};
-    gate = (uint64_t)state.gate;
-    t18 = output.count;
-    checked = circuit_step_checking_check(circuit, layout, asked, phase, gate, shares, triples, t18);
-    t17 = checked.number != 0u;
-    if (t17) {
-        result = circuit_step_refused(checked.number, state);
-        return result;
-    }
-    spot = checked.spot;
-    t19 = output.at;
-    t20 = (slice){t19, output.count};
-    result = circuit_step_accepted_accepted_step(circuit, layout, asked, spot, shares, triples, t20, state);
+    at = spot.ands * 3ull;
+    t22 = spot.first_wire;
+    t23 = (char *)&wires;
+    t24 = t23 + t22;
+    t25 = *(uint8_t *)t24;
+    t26 = triples.at + at;
+    t27 = *(uint8_t *)t26;
+    t28 = (uint8_t)(t25 ^ t27);
+    t29 = spot.second_wire;
+    t30 = (char *)&wires;
+    t31 = t30 + t29;
+    t32 = *(uint8_t *)t31;
+    t33 = at + 1ull;
+    t34 = triples.at + t33;
+    t35 = *(uint8_t *)t34;
+    t36 = (uint8_t)(t32 ^ t35);
+    t37 = (uint32_t)spot.gate;
+    t38 = wires;
+    t39 = (circuit_run_StepState){1u, t37, t38};
+    result = (circuit_run_Stepped){0u, 0ull, t28, t36, t39};
     return result;
 }
 
-/* dealing_tests, src/tests.rt:15: Whether a size is 1 to `top`. */
+/* circuit_step, src/lib.rt:18: One step of an end's run: up to the next AND, whose two bits to send it gives, or to the end, where it
+ * writes the outputs. */
+INLINE circuit_run_Stepped circuit_step_step_run(uint8_t role, slice circuit, slice shares, slice triples, slice output, uint8_t far_first,
+    uint8_t far_second, circuit_run_StepState state)
+{
+    circuit_run_Stepped result, t24;
+    circuit_run_StepState state_slot, t18, t27, t28;
+    circuit_Layout layout, layout_2, t17;
+    answer_Refusal refusal, refusal_2;
+    circuit_run_places_Asked asked;
+    circuit_run_places_Run run;
+    Result_circuit_Layout_answer_Refusal t16;
+    uint32_t t19;
+    bool t20;
+    Result_circuit_run_places_Run_answer_Refusal t21;
+    char *t22, *t25;
+    uint64_t t23;
+    slice t26;
+    state_slot = state;
+    t16 = circuit_reading_read_circuit(circuit);
+    switch (t16.ok.tag) {
+    case 0:
+        layout_2 = t16.ok.m1;
+        t17 = layout_2;
+        break;
+    default:
+        refusal = t16.err.m1;
+        t18 = state_slot;
+        result = circuit_run_Stepped_refused(refusal, t18);
+        return result;
+    }
+    layout = t17;
+    t19 = state_slot.phase;
+    t20 = t19 == 1u;
+    asked = (circuit_run_places_Asked){role, t20, far_first, far_second};
+    t22 = (char *)&state_slot;
+    t23 = output.count;
+    t21 = circuit_step_tests_check(circuit, layout, asked, t22, shares, triples, t23);
+    switch (t21.ok.tag) {
+    case 0:
+        run = t21.ok.m1;
+        t25 = output.at;
+        t26 = (slice){t25, output.count};
+        t27 = state_slot;
+        t24 = circuit_step_accepted_accepted_step(circuit, layout, asked, run, shares, triples, t26, t27);
+        break;
+    default:
+        refusal_2 = t21.err.m1;
+        t28 = state_slot;
+        t24 = circuit_run_Stepped_refused(refusal_2, t28);
+        break;
+    }
+    result = t24;
+    return result;
+}
+
+/* dealing_tests, src/tests.rt:16: Whether a size is 1 to `top`. */
 INLINE bool dealing_tests_tests_is_size(uint64_t top, uint64_t size)
 {
     bool result, t3;
@@ -3970,34 +5778,32 @@ INLINE bool dealing_tests_tests_is_size(uint64_t top, uint64_t size)
     return result;
 }
 
-/* dealing_tests, src/tests.rt:22: Whether g is 1, 2 or 3 and d a multiple of it (document 02, 10). */
+/* dealing_tests, src/tests.rt:23: Whether g is 1, 2 or 3 and d a multiple of it (document 02, 10). */
 INLINE bool dealing_tests_tests_is_branch(uint64_t depth, uint64_t branch_bits)
 {
-    bool result, t3, t4;
-    uint64_t t5;
+    bool result, t3;
+    uint64_t t4;
     t3 = dealing_tests_tests_is_size(3ull, branch_bits);
-    t4 = !t3;
-    if (t4) {
-        result = false;
-        return result;
+    if (t3) {
+        t4 = depth % branch_bits;
+        t3 = t4 == 0ull;
     }
-    t5 = depth % branch_bits;
-    result = t5 == 0ull;
+    result = t3;
     return result;
 }
 
-/* dealing_tests, src/tests.rt:32: Whether a count is 1 to the smaller of a limit and N. */
+/* dealing_tests, src/tests.rt:30: Whether a count is 1 to the smaller of a limit and N. */
 INLINE bool dealing_tests_tests_is_count(uint64_t limit, uint64_t depth, uint64_t count)
 {
     bool result;
     uint64_t t4, t5;
     t5 = record_sizes_leaves(depth);
-    t4 = record_sizes_smaller(limit, t5);
+    t4 = core_usize_min(limit, t5);
     result = dealing_tests_tests_is_size(t4, count);
     return result;
 }
 
-/* dealing_tests, src/tests.rt:40: Whether n is 1 to N / 2. */
+/* dealing_tests, src/tests.rt:38: Whether n is 1 to N / 2. */
 INLINE bool dealing_tests_tests_is_outputs(uint64_t depth, uint64_t outputs)
 {
     bool result;
@@ -4008,265 +5814,360 @@ INLINE bool dealing_tests_tests_is_outputs(uint64_t depth, uint64_t outputs)
     return result;
 }
 
-/* dealing_tests, src/tests.rt:48: The number of the first fault of field, d, g, t, ℓ and n, or 0 where there is none. */
-INLINE uint32_t dealing_tests_tests_sizes_number(record_Layout layout)
+/* dealing_tests, src/tests.rt:46: Tests field, d, g, t, ℓ and n. */
+INLINE Result_unit_answer_Refusal dealing_tests_tests_check_sizes(record_Layout layout)
 {
-    uint32_t result;
+    Result_unit_answer_Refusal result;
     bool t2, t3;
+    answer_Refusal t4, t5, t6, t7, t8, t9;
     t2 = field_noise_is_field(layout.field);
     t3 = !t2;
     if (t3) {
-        result = 1u;
+        t4 = (answer_Refusal){answer_Refusal_bad_field};
+        result = (Result_unit_answer_Refusal){.err = {1u, t4}};
         return result;
     }
     t2 = dealing_tests_tests_is_size(16ull, layout.depth);
     t3 = !t2;
     if (t3) {
-        result = 2u;
+        t5 = (answer_Refusal){answer_Refusal_bad_size};
+        result = (Result_unit_answer_Refusal){.err = {1u, t5}};
         return result;
     }
     t2 = dealing_tests_tests_is_branch(layout.depth, layout.branch_bits);
     t3 = !t2;
     if (t3) {
-        result = 2u;
+        t6 = (answer_Refusal){answer_Refusal_bad_size};
+        result = (Result_unit_answer_Refusal){.err = {1u, t6}};
         return result;
     }
     t2 = dealing_tests_tests_is_count(64ull, layout.depth, layout.trees);
     t3 = !t2;
     if (t3) {
-        result = 2u;
+        t7 = (answer_Refusal){answer_Refusal_bad_size};
+        result = (Result_unit_answer_Refusal){.err = {1u, t7}};
         return result;
     }
     t2 = dealing_tests_tests_is_count(32ull, layout.depth, layout.terms);
     t3 = !t2;
     if (t3) {
-        result = 2u;
+        t8 = (answer_Refusal){answer_Refusal_bad_size};
+        result = (Result_unit_answer_Refusal){.err = {1u, t8}};
         return result;
     }
     t2 = dealing_tests_tests_is_outputs(layout.depth, layout.outputs);
     t3 = !t2;
     if (t3) {
-        result = 2u;
+        t9 = (answer_Refusal){answer_Refusal_bad_size};
+        result = (Result_unit_answer_Refusal){.err = {1u, t9}};
         return result;
     }
-    result = 0u;
+    result = (Result_unit_answer_Refusal){.ok = {0u}};
     return result;
 }
 
-/* dealing_tests, src/tests.rt:73: The number of the first slice that has not the length that the sizes call for, or 0 where there is
- * none. */
-INLINE uint32_t dealing_tests_tests_lengths_number(record_Layout layout, slice roots, slice positions, slice values, slice delta, slice
-    code_key, slice label)
+/* dealing_tests, src/tests.rt:71: Tests that each slice has the length that the sizes call for. */
+INLINE Result_unit_answer_Refusal dealing_tests_tests_check_lengths(char *input)
 {
-    uint32_t result;
-    bool t8, t10;
-    uint64_t t9;
-    t9 = roots.count;
-    t8 = answer_lengths_is_times(t9, 16ull, layout.trees);
-    t10 = !t8;
-    if (t10) {
-        result = 3u;
+    Result_unit_answer_Refusal result;
+    record_Layout layout;
+    slice roots, positions, values, delta, code_key, label;
+    bool t9, t11;
+    uint64_t t10;
+    answer_Refusal t12, t13, t14, t15, t16, t17;
+    layout = ((dealing_tests_input_Input *)input)->layout;
+    roots = ((dealing_tests_input_Input *)input)->roots;
+    positions = ((dealing_tests_input_Input *)input)->positions;
+    values = ((dealing_tests_input_Input *)input)->values;
+    delta = ((dealing_tests_input_Input *)input)->delta;
+    code_key = ((dealing_tests_input_Input *)input)->code_key;
+    label = ((dealing_tests_input_Input *)input)->label;
+    t10 = roots.count;
+    t9 = answer_lengths_is_times(t10, 16ull, layout.trees);
+    t11 = !t9;
+    if (t11) {
+        t12 = (answer_Refusal){answer_Refusal_bad_length};
+        result = (Result_unit_answer_Refusal){.err = {1u, t12}};
         return result;
     }
-    t9 = positions.count;
-    t8 = t9 != layout.trees;
-    if (t8) {
-        result = 3u;
+    t10 = positions.count;
+    t9 = t10 != layout.trees;
+    if (t9) {
+        t13 = (answer_Refusal){answer_Refusal_bad_length};
+        result = (Result_unit_answer_Refusal){.err = {1u, t13}};
         return result;
     }
-    t9 = values.count;
-    t10 = t9 != layout.trees;
-    if (t10) {
-        result = 3u;
+    t10 = values.count;
+    t11 = t10 != layout.trees;
+    if (t11) {
+        t14 = (answer_Refusal){answer_Refusal_bad_length};
+        result = (Result_unit_answer_Refusal){.err = {1u, t14}};
         return result;
     }
-    t9 = delta.count;
-    t8 = t9 != 16ull;
-    if (t8) {
-        result = 3u;
+    t10 = delta.count;
+    t9 = t10 != 16ull;
+    if (t9) {
+        t15 = (answer_Refusal){answer_Refusal_bad_length};
+        result = (Result_unit_answer_Refusal){.err = {1u, t15}};
         return result;
     }
-    t9 = code_key.count;
-    t10 = t9 != 16ull;
-    if (t10) {
-        result = 3u;
+    t10 = code_key.count;
+    t11 = t10 != 16ull;
+    if (t11) {
+        t16 = (answer_Refusal){answer_Refusal_bad_length};
+        result = (Result_unit_answer_Refusal){.err = {1u, t16}};
         return result;
     }
-    t9 = label.count;
-    t8 = t9 != 16ull;
-    if (t8) {
-        result = 3u;
+    t10 = label.count;
+    t9 = t10 != 16ull;
+    if (t9) {
+        t17 = (answer_Refusal){answer_Refusal_bad_length};
+        result = (Result_unit_answer_Refusal){.err = {1u, t17}};
         return result;
     }
-    result = 0u;
+    result = (Result_unit_answer_Refusal){.ok = {0u}};
     return result;
 }
 
-/* dealing_tests, src/tests.rt:107: The number in a wider type. */
-INLINE uint64_t dealing_tests_tests_wide(uint32_t x)
+/* dealing_tests, src/tests.rt:105: Whether the positions are strictly rising and below N. */
+static bool dealing_tests_tests_rising(uint64_t depth, slice positions)
 {
-    uint64_t result;
-    result = (uint64_t)x;
-    return result;
-}
-
-/* dealing_tests, src/tests.rt:114: Whether the positions are strictly rising and below N. */
-static bool dealing_tests_tests_rising(uint64_t depth, uint64_t trees, slice positions)
-{
-    bool result, t8;
-    uint64_t all, base, i, position;
-    char *t10;
-    uint32_t t11;
+    bool result, t9, t13, t14;
+    uint64_t all, base, position_index, position_2, position_index_end;
+    char *position, *t11;
+    uint32_t t12;
     all = record_sizes_leaves(depth);
     base = 0ull;
-    i = 0ull;
+    position_index = 0ull;
+    position_index_end = positions.count;
     for (;;) {
-        t8 = i < trees;
-        if (!t8) {
+        t9 = position_index < position_index_end;
+        if (!t9) {
             break;
         }
-        t10 = (char *)((uint32_t *)positions.at + i);
-        t11 = *(uint32_t *)t10;
-        position = dealing_tests_tests_wide(t11);
-        t8 = position < base;
-        if (t8) {
-            result = false;
-            return result;
+        t11 = (char *)((uint32_t *)positions.at + position_index);
+        position = t11;
+        t12 = *(uint32_t *)position;
+        position_2 = (uint64_t)t12;
+        t13 = position_2 < base;
+        if (!t13) {
+            t13 = all <= position_2;
+            t14 = t13;
+            if (!t14) {
+                goto after5;
+            }
         }
-        t8 = all <= position;
-        if (t8) {
-            result = false;
-            return result;
-        }
-        base = position + 1ull;
-        i = i + 1ull;
-    }
-    result = true;
-    return result;
-}
-
-/* dealing_tests, src/tests.rt:136: Whether every noise value is admitted. */
-static bool dealing_tests_tests_every_noise(uint64_t field, uint64_t trees, slice values)
-{
-    bool result, t5, t9;
-    uint64_t i, t8;
-    char *t7;
-    i = 0ull;
-    for (;;) {
-        t5 = i < trees;
-        if (!t5) {
-            break;
-        }
-        t7 = (char *)((uint64_t *)values.at + i);
-        t8 = *(uint64_t *)t7;
-        t5 = field_noise_is_noise(field, t8);
-        t9 = !t5;
-        if (t9) {
-            result = false;
-            return result;
-        }
-        i = i + 1ull;
-    }
-    result = true;
-    return result;
-}
-
-/* dealing_tests, src/tests.rt:151: Whether Δ is admitted. */
-INLINE bool dealing_tests_tests_delta_admitted(uint64_t field, slice delta)
-{
-    bool result, t4, t5;
-    field_element_Element scalar;
-    uint64_t t6;
-    scalar = field_element_element_at(field, delta, 0ull);
-    t4 = field_element_is_scalar(field, scalar);
-    t5 = !t4;
-    if (t5) {
         result = false;
         return result;
+        goto after4;
+    after5:;
+    after4:;
+        base = position_2 + 1ull;
+        position_index = position_index + 1ull;
     }
-    t6 = field_bytes_word_at(delta, 8ull);
-    result = field_element_rest_zero(field, t6);
+    result = true;
     return result;
 }
 
-/* dealing_tests, src/tests.rt:163: The number of the first fault of positions, noise values and Δ, or 0 where there is none. */
-INLINE uint32_t dealing_tests_tests_content_number(record_Layout layout, slice positions, slice values, slice delta)
+/* dealing_tests::tests::fn::every_noise::all, a closure */
+INLINE bool dealing_tests_tests_fn_every_noise_all(char *self, char *value)
 {
-    uint32_t result;
-    bool t5, t6;
-    t5 = dealing_tests_tests_rising(layout.depth, layout.trees, positions);
-    t6 = !t5;
-    if (t6) {
-        result = 4u;
-        return result;
-    }
-    t5 = dealing_tests_tests_every_noise(layout.field, layout.trees, values);
-    t6 = !t5;
-    if (t6) {
-        result = 5u;
-        return result;
-    }
-    t5 = dealing_tests_tests_delta_admitted(layout.field, delta);
-    t6 = !t5;
-    if (t6) {
-        result = 6u;
-        return result;
-    }
-    result = 0u;
+    bool result;
+    char *field;
+    uint64_t t4, t5;
+    field = ((dealing_tests_tests_fn_every_noise_all_Self_ref_uint64 *)self)->m0;
+    t4 = *(uint64_t *)field;
+    t5 = *(uint64_t *)value;
+    result = field_noise_is_noise(t4, t5);
     return result;
 }
 
-/* dealing_tests, src/fault.rt:19: 13 where a record has no room in its buffer, else 0. */
-INLINE uint32_t dealing_tests_fault_rooms_number(record_Layout layout, dealing_tests_fault_Rooms rooms, slice positions)
+/* dealing_tests::tests::fn::every_noise::all+FnMut::call_mut, a closure */
+INLINE bool dealing_tests_tests_fn_every_noise_all_FnMut_call_mut(char *arg1, char *arg2)
 {
-    uint32_t result;
-    uint64_t noise_bytes, scalar_bytes;
-    bool t6;
-    noise_bytes = record_writing_noise_length(layout, positions);
-    t6 = rooms.noise < noise_bytes;
-    if (t6) {
-        result = 13u;
-        return result;
-    }
-    scalar_bytes = record_writing_scalar_length(layout);
-    t6 = rooms.scalar < scalar_bytes;
-    if (t6) {
-        result = 13u;
-        return result;
-    }
-    result = 0u;
+    bool result;
+    char *t3;
+    t3 = arg1;
+    result = dealing_tests_tests_fn_every_noise_all(t3, arg2);
     return result;
 }
 
-/* dealing_tests, src/fault.rt:35: The number for an input and buffers of these lengths. */
-INLINE uint32_t dealing_tests_fault_deal_number(record_Layout layout, dealing_tests_fault_Rooms rooms, slice roots, slice positions, slice
-    values, slice delta, slice code_key, slice label)
+/* core::iter::base::Iterator::all of the kit, at Iter<u64> and &u64 and a closure */
+static bool core_Iterator_all_Iter_uint64_ref_uint64_dealing_tests(char *self, dealing_tests_tests_fn_every_noise_all_Self_ref_uint64 f)
 {
-    uint32_t result, sizes, lengths, content;
-    bool t12;
-    sizes = dealing_tests_tests_sizes_number(layout);
-    t12 = sizes != 0u;
-    if (t12) {
-        result = sizes;
-        return result;
+    bool result, t7, t10;
+    dealing_tests_tests_fn_every_noise_all_Self_ref_uint64 f_slot;
+    char *x, *t6, *t8, *t9;
+    Option_ref_uint64 t5;
+    f_slot = f;
+    for (;;) {
+        t6 = self;
+        t5 = core_IterIterator_next_uint64(t6);
+        switch (t5.none.tag) {
+        case 1:
+            x = t5.some.m1;
+            t8 = (char *)&f_slot;
+            t9 = x;
+            t7 = dealing_tests_tests_fn_every_noise_all_FnMut_call_mut(t8, t9);
+            t10 = !t7;
+            if (t10) {
+                result = false;
+                return result;
+            }
+            break;
+        default:
+            goto after1;
+        }
     }
-    lengths = dealing_tests_tests_lengths_number(layout, roots, positions, values, delta, code_key, label);
-    t12 = lengths != 0u;
-    if (t12) {
-        result = lengths;
-        return result;
-    }
-    content = dealing_tests_tests_content_number(layout, positions, values, delta);
-    t12 = content != 0u;
-    if (t12) {
-        result = content;
-        return result;
-    }
-    result = dealing_tests_fault_rooms_number(layout, rooms, positions);
+after1:;
+    result = true;
     return result;
 }
 
-/* aes_blocks, src/round.rt:100: The first AddRoundKey, of a block. */
+/* dealing_tests, src/tests.rt:122: Whether every noise value is admitted. */
+INLINE bool dealing_tests_tests_every_noise(uint64_t field, slice values)
+{
+    bool result;
+    uint64_t field_slot;
+    Iter_uint64 t4, t5;
+    char *t6, *t7;
+    dealing_tests_tests_fn_every_noise_all_Self_ref_uint64 t8;
+    field_slot = field;
+    t4 = core_slice_iter_uint64(values);
+    t5 = t4;
+    t6 = (char *)&t5;
+    t7 = (char *)&field_slot;
+    t8 = (dealing_tests_tests_fn_every_noise_all_Self_ref_uint64){t7};
+    result = core_Iterator_all_Iter_uint64_ref_uint64_dealing_tests(t6, t8);
+    return result;
+}
+
+/* dealing_tests, src/tests.rt:129: Whether Δ is admitted. */
+INLINE bool dealing_tests_tests_delta_admitted(uint64_t field, slice delta)
+{
+    bool result, t3;
+    field_element_Element t4;
+    uint64_t t5;
+    t4 = field_element_element_at(field, delta, 0ull);
+    t3 = field_element_is_scalar(field, t4);
+    if (t3) {
+        t5 = field_bytes_word_at(delta, 8ull);
+        t3 = field_element_rest_zero(field, t5);
+    }
+    result = t3;
+    return result;
+}
+
+/* dealing_tests, src/tests.rt:137: Tests positions, noise values and Δ. */
+INLINE Result_unit_answer_Refusal dealing_tests_tests_check_content(char *input)
+{
+    Result_unit_answer_Refusal result;
+    record_Layout layout;
+    bool t3, t5;
+    slice t4, t7, t9;
+    answer_Refusal t6, t8, t10;
+    layout = ((dealing_tests_input_Input *)input)->layout;
+    t4 = ((dealing_tests_input_Input *)input)->positions;
+    t3 = dealing_tests_tests_rising(layout.depth, t4);
+    t5 = !t3;
+    if (t5) {
+        t6 = (answer_Refusal){answer_Refusal_bad_position};
+        result = (Result_unit_answer_Refusal){.err = {1u, t6}};
+        return result;
+    }
+    t7 = ((dealing_tests_input_Input *)input)->values;
+    t3 = dealing_tests_tests_every_noise(layout.field, t7);
+    t5 = !t3;
+    if (t5) {
+        t8 = (answer_Refusal){answer_Refusal_bad_noise};
+        result = (Result_unit_answer_Refusal){.err = {1u, t8}};
+        return result;
+    }
+    t9 = ((dealing_tests_input_Input *)input)->delta;
+    t3 = dealing_tests_tests_delta_admitted(layout.field, t9);
+    t5 = !t3;
+    if (t5) {
+        t10 = (answer_Refusal){answer_Refusal_bad_delta};
+        result = (Result_unit_answer_Refusal){.err = {1u, t10}};
+        return result;
+    }
+    result = (Result_unit_answer_Refusal){.ok = {0u}};
+    return result;
+}
+
+/* dealing_tests, src/input.rt:33: Tests both buffers for room for their records. */
+INLINE Result_unit_answer_Refusal dealing_tests_input_check_rooms(record_Layout layout, dealing_tests_input_Rooms rooms, slice positions)
+{
+    Result_unit_answer_Refusal result;
+    uint64_t t4;
+    bool t5;
+    answer_Refusal t6, t7;
+    t4 = record_writing_noise_length(layout, positions);
+    t5 = rooms.noise < t4;
+    if (t5) {
+        t6 = (answer_Refusal){answer_Refusal_buffer_short};
+        result = (Result_unit_answer_Refusal){.err = {1u, t6}};
+        return result;
+    }
+    t4 = record_writing_scalar_length(layout);
+    t5 = rooms.scalar < t4;
+    if (t5) {
+        t7 = (answer_Refusal){answer_Refusal_buffer_short};
+        result = (Result_unit_answer_Refusal){.err = {1u, t7}};
+        return result;
+    }
+    result = (Result_unit_answer_Refusal){.ok = {0u}};
+    return result;
+}
+
+/* dealing_tests, src/input.rt:47: Tests an input and buffers of these lengths. */
+static Result_unit_answer_Refusal dealing_tests_input_check(char *input, uint64_t rooms_noise, uint64_t rooms_scalar)
+{
+    Result_unit_answer_Refusal result, t10;
+    dealing_tests_input_Rooms rooms;
+    ErrResidual_answer_Refusal t4, t6, t8;
+    ControlFlow_ErrResidual_answer_Refusal_unit t9, t12, t13;
+    record_Layout t11;
+    slice t14;
+    rooms = (dealing_tests_input_Rooms){rooms_noise, rooms_scalar};
+    t11 = ((dealing_tests_input_Input *)input)->layout;
+    t10 = dealing_tests_tests_check_sizes(t11);
+    t9 = core_ResultTry_branch_unit_answer_Refusal(t10);
+    switch (t9.continue_.tag) {
+    case 0:
+        break;
+    default:
+        t4 = t9.break_.m1;
+        result = core_ResultFromResidualErrResidual_from_residual_unit(t4);
+        return result;
+    }
+    t10 = dealing_tests_tests_check_lengths(input);
+    t12 = core_ResultTry_branch_unit_answer_Refusal(t10);
+    switch (t12.continue_.tag) {
+    case 0:
+        break;
+    default:
+        t6 = t12.break_.m1;
+        result = core_ResultFromResidualErrResidual_from_residual_unit(t6);
+        return result;
+    }
+    t10 = dealing_tests_tests_check_content(input);
+    t13 = core_ResultTry_branch_unit_answer_Refusal(t10);
+    switch (t13.continue_.tag) {
+    case 0:
+        break;
+    default:
+        t8 = t13.break_.m1;
+        result = core_ResultFromResidualErrResidual_from_residual_unit(t8);
+        return result;
+    }
+    t11 = ((dealing_tests_input_Input *)input)->layout;
+    t14 = ((dealing_tests_input_Input *)input)->positions;
+    result = dealing_tests_input_check_rooms(t11, rooms, t14);
+    return result;
+}
+
+/* aes_blocks, src/round.rt:86: The first AddRoundKey, of a block. */
 INLINE uint8_4_4 aes_blocks_round_first_key(field_block_Block s, char *keys)
 {
     uint8_4_4 result;
@@ -4283,20 +6184,6 @@ INLINE uint8_4_4 aes_blocks_round_first_key(field_block_Block s, char *keys)
     t11 = s.high ^ t10;
     t = (field_block_Block){t7, t11};
     result = field_block_Block_columns(t);
-    return result;
-}
-
-/* aes_blocks, src/round.rt:27: The entry for a byte of the table that begins at a place. */
-INLINE uint64_t aes_blocks_round_entry(char *tables, uint64_t at, uint8_t x)
-{
-    uint64_t result, t4, t5, t9;
-    char *t7, *t8;
-    t4 = (uint64_t)x;
-    t5 = at + t4;
-    t7 = tables;
-    t8 = (char *)((uint64_t *)t7 + t5);
-    t9 = *(uint64_t *)t8;
-    result = t9;
     return result;
 }
 
@@ -4321,142 +6208,157 @@ INLINE uint8_4 aes_blocks_round_rows(uint64_t w)
     return result;
 }
 
-/* aes_blocks, src/round.rt:35: Column c of a round: SubBytes, ShiftRows and MixColumns of a state, and the round key's column. */
-INLINE uint8_4 aes_blocks_round_mix_column(char *tables, char *s, uint64_t c, uint64_t k)
+/* aes_blocks, src/round.rt:27: Column c of a round: SubBytes, ShiftRows and MixColumns of a state, and the round key's column. */
+INLINE uint8_4 aes_blocks_round_mix_column(aes_sbox_Tables tables, char *s, uint64_t c, uint64_t k)
 {
     uint8_4 result;
-    uint64_t t5, t6, t12, t13, t14, t15, t16, t22, t23, t24, t25, t26, t32, t33, t34, t35, t36, t42;
-    char *t7, *t8, *t9, *t10, *t17, *t18, *t19, *t20, *t27, *t28, *t29, *t30, *t37, *t38, *t39, *t40;
-    uint8_t t11, t21, t31, t41;
+    uint64_t t5, t7, t13, t14, t16, t17, t18, t24, t25, t27, t28, t29, t35, t36, t38, t39, t40, t46;
+    aes_sbox_Tables t6, t15, t26, t37;
+    char *t8, *t9, *t10, *t11, *t19, *t20, *t21, *t22, *t30, *t31, *t32, *t33, *t41, *t42, *t43, *t44;
+    uint8_t t12, t23, t34, t45;
+    t6 = tables;
+    t7 = c * 4ull;
+    t8 = s;
+    t9 = t8 + t7;
+    t10 = t9;
+    t11 = t10 + 0ull;
+    t12 = *(uint8_t *)t11;
+    t5 = aes_sbox_Tables_mixed(t6, 0ull, t12);
+    t13 = k ^ t5;
+    t15 = tables;
+    t16 = c + 3ull;
+    t17 = t16 % 4ull;
+    t18 = t17 * 4ull;
+    t19 = s;
+    t20 = t19 + t18;
+    t21 = t20;
+    t22 = t21 + 3ull;
+    t23 = *(uint8_t *)t22;
+    t14 = aes_sbox_Tables_mixed(t15, 3ull, t23);
+    t24 = t13 ^ t14;
+    t26 = tables;
+    t27 = c + 1ull;
+    t28 = t27 % 4ull;
+    t29 = t28 * 4ull;
+    t30 = s;
+    t31 = t30 + t29;
+    t32 = t31;
+    t33 = t32 + 1ull;
+    t34 = *(uint8_t *)t33;
+    t25 = aes_sbox_Tables_mixed(t26, 1ull, t34);
+    t35 = t24 ^ t25;
+    t37 = tables;
+    t38 = c + 2ull;
+    t39 = t38 % 4ull;
+    t40 = t39 * 4ull;
+    t41 = s;
+    t42 = t41 + t40;
+    t43 = t42;
+    t44 = t43 + 2ull;
+    t45 = *(uint8_t *)t44;
+    t36 = aes_sbox_Tables_mixed(t37, 2ull, t45);
+    t46 = t35 ^ t36;
+    result = aes_blocks_round_rows(t46);
+    return result;
+}
+
+/* aes_blocks, src/round.rt:40: A round with all four steps, whose round key's columns begin at a place. */
+INLINE uint8_4_4 aes_blocks_round_full_round(aes_sbox_Tables tables, uint8_4_4 s, char *keys, uint64_t at)
+{
+    uint8_4_4 result, s_slot;
+    uint8_4 c0, c1, c2, c3;
+    aes_sbox_Tables t10, t16, t21, t25;
+    char *t11, *t13, *t14, *t17, *t19, *t20, *t22, *t23, *t24, *t26, *t27, *t28;
+    uint64_t t12, t15;
+    s_slot = s;
+    t10 = tables;
+    t11 = (char *)&s_slot;
+    t12 = at * 8ull;
+    t13 = keys;
+    t14 = (char *)((uint64_t *)t13 + at);
+    t15 = *(uint64_t *)t14;
+    c0 = aes_blocks_round_mix_column(t10, t11, 0ull, t15);
+    t16 = tables;
+    t17 = (char *)&s_slot;
+    t12 = at + 1ull;
+    t19 = keys;
+    t20 = (char *)((uint64_t *)t19 + t12);
+    t15 = *(uint64_t *)t20;
+    c1 = aes_blocks_round_mix_column(t16, t17, 1ull, t15);
+    t21 = tables;
+    t22 = (char *)&s_slot;
+    t12 = at + 2ull;
+    t23 = keys;
+    t24 = (char *)((uint64_t *)t23 + t12);
+    t15 = *(uint64_t *)t24;
+    c2 = aes_blocks_round_mix_column(t21, t22, 2ull, t15);
+    t25 = tables;
+    t26 = (char *)&s_slot;
+    t12 = at + 3ull;
+    t27 = keys;
+    t28 = (char *)((uint64_t *)t27 + t12);
+    t15 = *(uint64_t *)t28;
+    c3 = aes_blocks_round_mix_column(t25, t26, 3ull, t15);
+    result = (uint8_4_4){{c0, c1, c2, c3}};
+    return result;
+}
+
+/* aes_blocks, src/round.rt:52: Column c of the last round without its round key, as the four low bytes of a word. */
+INLINE uint64_t aes_blocks_round_last_column(aes_sbox_Tables tables, char *s, uint64_t c)
+{
+    uint64_t result, t4, t6, t12, t13, t15, t16, t17, t23, t24, t25, t27, t28, t29, t35, t36, t37, t39, t40, t41, t47;
+    aes_sbox_Tables t5, t14, t26, t38;
+    char *t7, *t8, *t9, *t10, *t18, *t19, *t20, *t21, *t30, *t31, *t32, *t33, *t42, *t43, *t44, *t45;
+    uint8_t t11, t22, t34, t46;
+    t5 = tables;
     t6 = c * 4ull;
     t7 = s;
     t8 = t7 + t6;
     t9 = t8;
     t10 = t9 + 0ull;
     t11 = *(uint8_t *)t10;
-    t5 = aes_blocks_round_entry(tables, 0ull, t11);
-    t12 = k ^ t5;
-    t14 = c + 3ull;
-    t15 = t14 % 4ull;
-    t16 = t15 * 4ull;
-    t17 = s;
-    t18 = t17 + t16;
-    t19 = t18;
-    t20 = t19 + 3ull;
-    t21 = *(uint8_t *)t20;
-    t13 = aes_blocks_round_entry(tables, 768ull, t21);
-    t22 = t12 ^ t13;
-    t24 = c + 1ull;
-    t25 = t24 % 4ull;
-    t26 = t25 * 4ull;
-    t27 = s;
-    t28 = t27 + t26;
-    t29 = t28;
-    t30 = t29 + 1ull;
-    t31 = *(uint8_t *)t30;
-    t23 = aes_blocks_round_entry(tables, 256ull, t31);
-    t32 = t22 ^ t23;
-    t34 = c + 2ull;
-    t35 = t34 % 4ull;
-    t36 = t35 * 4ull;
-    t37 = s;
-    t38 = t37 + t36;
-    t39 = t38;
-    t40 = t39 + 2ull;
-    t41 = *(uint8_t *)t40;
-    t33 = aes_blocks_round_entry(tables, 512ull, t41);
-    t42 = t32 ^ t33;
-    result = aes_blocks_round_rows(t42);
+    t4 = aes_sbox_Tables_low_rows(t5, t11);
+    t12 = t4 % 4294967296ull;
+    t14 = tables;
+    t15 = c + 3ull;
+    t16 = t15 % 4ull;
+    t17 = t16 * 4ull;
+    t18 = s;
+    t19 = t18 + t17;
+    t20 = t19;
+    t21 = t20 + 3ull;
+    t22 = *(uint8_t *)t21;
+    t13 = aes_sbox_Tables_high_rows(t14, t22);
+    t23 = t13 / 4294967296ull;
+    t24 = t12 ^ t23;
+    t26 = tables;
+    t27 = c + 1ull;
+    t28 = t27 % 4ull;
+    t29 = t28 * 4ull;
+    t30 = s;
+    t31 = t30 + t29;
+    t32 = t31;
+    t33 = t32 + 1ull;
+    t34 = *(uint8_t *)t33;
+    t25 = aes_sbox_Tables_low_rows(t26, t34);
+    t35 = t25 / 4294967296ull;
+    t36 = t24 ^ t35;
+    t38 = tables;
+    t39 = c + 2ull;
+    t40 = t39 % 4ull;
+    t41 = t40 * 4ull;
+    t42 = s;
+    t43 = t42 + t41;
+    t44 = t43;
+    t45 = t44 + 2ull;
+    t46 = *(uint8_t *)t45;
+    t37 = aes_sbox_Tables_high_rows(t38, t46);
+    t47 = t37 % 4294967296ull;
+    result = t36 ^ t47;
     return result;
 }
 
-/* aes_blocks, src/round.rt:48: A round with all four steps, whose round key's columns begin at a place. */
-INLINE uint8_4_4 aes_blocks_round_full_round(char *tables, uint8_4_4 s, char *keys, uint64_t at)
-{
-    uint8_4_4 result, s_slot;
-    uint8_4 c0, c1, c2, c3;
-    char *t10, *t12, *t13, *t15, *t17, *t18, *t19, *t20, *t21, *t22, *t23, *t24;
-    uint64_t t11, t14;
-    s_slot = s;
-    t10 = (char *)&s_slot;
-    t11 = at * 8ull;
-    t12 = keys;
-    t13 = (char *)((uint64_t *)t12 + at);
-    t14 = *(uint64_t *)t13;
-    c0 = aes_blocks_round_mix_column(tables, t10, 0ull, t14);
-    t15 = (char *)&s_slot;
-    t11 = at + 1ull;
-    t17 = keys;
-    t18 = (char *)((uint64_t *)t17 + t11);
-    t14 = *(uint64_t *)t18;
-    c1 = aes_blocks_round_mix_column(tables, t15, 1ull, t14);
-    t19 = (char *)&s_slot;
-    t11 = at + 2ull;
-    t20 = keys;
-    t21 = (char *)((uint64_t *)t20 + t11);
-    t14 = *(uint64_t *)t21;
-    c2 = aes_blocks_round_mix_column(tables, t19, 2ull, t14);
-    t22 = (char *)&s_slot;
-    t11 = at + 3ull;
-    t23 = keys;
-    t24 = (char *)((uint64_t *)t23 + t11);
-    t14 = *(uint64_t *)t24;
-    c3 = aes_blocks_round_mix_column(tables, t22, 3ull, t14);
-    result = (uint8_4_4){{c0, c1, c2, c3}};
-    return result;
-}
-
-/* aes_blocks, src/round.rt:65: Column c of the last round without its round key, as the four low bytes of a word. */
-INLINE uint64_t aes_blocks_round_last_column(char *tables, char *s, uint64_t c)
-{
-    uint64_t result, t4, t5, t11, t12, t13, t14, t15, t21, t22, t23, t24, t25, t26, t32, t33, t34, t35, t36, t37, t43;
-    char *t6, *t7, *t8, *t9, *t16, *t17, *t18, *t19, *t27, *t28, *t29, *t30, *t38, *t39, *t40, *t41;
-    uint8_t t10, t20, t31, t42;
-    t5 = c * 4ull;
-    t6 = s;
-    t7 = t6 + t5;
-    t8 = t7;
-    t9 = t8 + 0ull;
-    t10 = *(uint8_t *)t9;
-    t4 = aes_blocks_round_entry(tables, 1024ull, t10);
-    t11 = t4 % 4294967296ull;
-    t13 = c + 3ull;
-    t14 = t13 % 4ull;
-    t15 = t14 * 4ull;
-    t16 = s;
-    t17 = t16 + t15;
-    t18 = t17;
-    t19 = t18 + 3ull;
-    t20 = *(uint8_t *)t19;
-    t12 = aes_blocks_round_entry(tables, 1280ull, t20);
-    t21 = t12 / 4294967296ull;
-    t22 = t11 ^ t21;
-    t24 = c + 1ull;
-    t25 = t24 % 4ull;
-    t26 = t25 * 4ull;
-    t27 = s;
-    t28 = t27 + t26;
-    t29 = t28;
-    t30 = t29 + 1ull;
-    t31 = *(uint8_t *)t30;
-    t23 = aes_blocks_round_entry(tables, 1024ull, t31);
-    t32 = t23 / 4294967296ull;
-    t33 = t22 ^ t32;
-    t35 = c + 2ull;
-    t36 = t35 % 4ull;
-    t37 = t36 * 4ull;
-    t38 = s;
-    t39 = t38 + t37;
-    t40 = t39;
-    t41 = t40 + 2ull;
-    t42 = *(uint8_t *)t41;
-    t34 = aes_blocks_round_entry(tables, 1280ull, t42);
-    t43 = t34 % 4294967296ull;
-    result = t33 ^ t43;
-    return result;
-}
-
-/* aes_blocks, src/round.rt:76: The exclusive or of a word and of the word whose halves are two columns. */
+/* aes_blocks, src/round.rt:63: The exclusive or of a word and of the word whose halves are two columns. */
 INLINE uint64_t aes_blocks_round_last_word(uint64_t k, uint64_t c0, uint64_t c1)
 {
     uint64_t result, t4, t5;
@@ -4466,89 +6368,126 @@ INLINE uint64_t aes_blocks_round_last_word(uint64_t k, uint64_t c0, uint64_t c1)
     return result;
 }
 
-/* aes_blocks, src/round.rt:84: The last round, which has no MixColumns. */
-INLINE uint8_4_4 aes_blocks_round_last_round(char *tables, uint8_4_4 s, char *keys)
+/* aes_blocks, src/round.rt:71: The last round, which has no MixColumns. */
+INLINE uint8_4_4 aes_blocks_round_last_round(aes_sbox_Tables tables, uint8_4_4 s, char *keys)
 {
     uint8_4_4 result, s_slot;
-    uint64_t c0, c1, c2, c3, t14, t17, t18, t21;
+    uint64_t c0, c1, c2, c3, t18, t21, t22, t25;
     field_block_Block t;
-    char *t10, *t11, *t12, *t13, *t15, *t16, *t19, *t20;
+    aes_sbox_Tables t10, t12, t14, t16;
+    char *t11, *t13, *t15, *t17, *t19, *t20, *t23, *t24;
     s_slot = s;
-    t10 = (char *)&s_slot;
-    c0 = aes_blocks_round_last_column(tables, t10, 0ull);
+    t10 = tables;
     t11 = (char *)&s_slot;
-    c1 = aes_blocks_round_last_column(tables, t11, 1ull);
-    t12 = (char *)&s_slot;
-    c2 = aes_blocks_round_last_column(tables, t12, 2ull);
+    c0 = aes_blocks_round_last_column(t10, t11, 0ull);
+    t12 = tables;
     t13 = (char *)&s_slot;
-    c3 = aes_blocks_round_last_column(tables, t13, 3ull);
-    t15 = keys;
-    t16 = t15 + 304ull;
-    t17 = *(uint64_t *)t16;
-    t14 = aes_blocks_round_last_word(t17, c0, c1);
+    c1 = aes_blocks_round_last_column(t12, t13, 1ull);
+    t14 = tables;
+    t15 = (char *)&s_slot;
+    c2 = aes_blocks_round_last_column(t14, t15, 2ull);
+    t16 = tables;
+    t17 = (char *)&s_slot;
+    c3 = aes_blocks_round_last_column(t16, t17, 3ull);
     t19 = keys;
-    t20 = t19 + 312ull;
+    t20 = t19 + 304ull;
     t21 = *(uint64_t *)t20;
-    t18 = aes_blocks_round_last_word(t21, c2, c3);
-    t = (field_block_Block){t14, t18};
+    t18 = aes_blocks_round_last_word(t21, c0, c1);
+    t23 = keys;
+    t24 = t23 + 312ull;
+    t25 = *(uint64_t *)t24;
+    t22 = aes_blocks_round_last_word(t25, c2, c3);
+    t = (field_block_Block){t18, t22};
     result = field_block_Block_columns(t);
     return result;
 }
 
-/* aes_blocks, src/lib.rt:41: The ciphers of two blocks, each under round keys of its own, in alternation. */
-static aes_blocks_TwoBlocks aes_blocks_encrypt_two(char *tables, char *one_keys, char *other_keys, uint64_t one_low, uint64_t one_high,
-    uint64_t other_low, uint64_t other_high)
+/* aes_blocks, src/lib.rt:43: The ciphers of two blocks, each under round keys of its own, in alternation. */
+static aes_blocks_Two_field_block_Block aes_blocks_encrypt_two(aes_sbox_Tables tables, char *one_keys, char *other_keys, uint64_t one_low,
+    uint64_t one_high, uint64_t other_low, uint64_t other_high)
 {
-    aes_blocks_TwoBlocks result;
-    field_block_Block one, other, t28, t29;
+    aes_blocks_Two_field_block_Block result;
+    field_block_Block one, other, t48, t49;
     uint8_4_4 a0, a1, b0, b1, a2, b2, a3, b3, a4, b4, a5, b5, a6, b6, a7, b7, a8, b8, a9, b9, a10, b10;
+    aes_sbox_Tables t28, t29, t30, t31, t32, t33, t34, t35, t36, t37, t38, t39, t40, t41, t42, t43, t44, t45, t46, t47;
     one = (field_block_Block){one_low, one_high};
     other = (field_block_Block){other_low, other_high};
     a0 = aes_blocks_round_first_key(one, one_keys);
-    a1 = aes_blocks_round_full_round(tables, a0, one_keys, 2ull);
+    t28 = tables;
+    a1 = aes_blocks_round_full_round(t28, a0, one_keys, 2ull);
     b0 = aes_blocks_round_first_key(other, other_keys);
-    b1 = aes_blocks_round_full_round(tables, b0, other_keys, 2ull);
-    a2 = aes_blocks_round_full_round(tables, a1, one_keys, 6ull);
-    b2 = aes_blocks_round_full_round(tables, b1, other_keys, 6ull);
-    a3 = aes_blocks_round_full_round(tables, a2, one_keys, 10ull);
-    b3 = aes_blocks_round_full_round(tables, b2, other_keys, 10ull);
-    a4 = aes_blocks_round_full_round(tables, a3, one_keys, 14ull);
-    b4 = aes_blocks_round_full_round(tables, b3, other_keys, 14ull);
-    a5 = aes_blocks_round_full_round(tables, a4, one_keys, 18ull);
-    b5 = aes_blocks_round_full_round(tables, b4, other_keys, 18ull);
-    a6 = aes_blocks_round_full_round(tables, a5, one_keys, 22ull);
-    b6 = aes_blocks_round_full_round(tables, b5, other_keys, 22ull);
-    a7 = aes_blocks_round_full_round(tables, a6, one_keys, 26ull);
-    b7 = aes_blocks_round_full_round(tables, b6, other_keys, 26ull);
-    a8 = aes_blocks_round_full_round(tables, a7, one_keys, 30ull);
-    b8 = aes_blocks_round_full_round(tables, b7, other_keys, 30ull);
-    a9 = aes_blocks_round_full_round(tables, a8, one_keys, 34ull);
-    b9 = aes_blocks_round_full_round(tables, b8, other_keys, 34ull);
-    a10 = aes_blocks_round_last_round(tables, a9, one_keys);
-    b10 = aes_blocks_round_last_round(tables, b9, other_keys);
-    t28 = field_block_Block_of_columns(a10);
-    t29 = field_block_Block_of_columns(b10);
-    result = (aes_blocks_TwoBlocks){t28, t29};
+    t29 = tables;
+    b1 = aes_blocks_round_full_round(t29, b0, other_keys, 2ull);
+    t30 = tables;
+    a2 = aes_blocks_round_full_round(t30, a1, one_keys, 6ull);
+    t31 = tables;
+    b2 = aes_blocks_round_full_round(t31, b1, other_keys, 6ull);
+    t32 = tables;
+    a3 = aes_blocks_round_full_round(t32, a2, one_keys, 10ull);
+    t33 = tables;
+    b3 = aes_blocks_round_full_round(t33, b2, other_keys, 10ull);
+    t34 = tables;
+    a4 = aes_blocks_round_full_round(t34, a3, one_keys, 14ull);
+    t35 = tables;
+    b4 = aes_blocks_round_full_round(t35, b3, other_keys, 14ull);
+    t36 = tables;
+    a5 = aes_blocks_round_full_round(t36, a4, one_keys, 18ull);
+    t37 = tables;
+    b5 = aes_blocks_round_full_round(t37, b4, other_keys, 18ull);
+    t38 = tables;
+    a6 = aes_blocks_round_full_round(t38, a5, one_keys, 22ull);
+    t39 = tables;
+    b6 = aes_blocks_round_full_round(t39, b5, other_keys, 22ull);
+    t40 = tables;
+    a7 = aes_blocks_round_full_round(t40, a6, one_keys, 26ull);
+    t41 = tables;
+    b7 = aes_blocks_round_full_round(t41, b6, other_keys, 26ull);
+    t42 = tables;
+    a8 = aes_blocks_round_full_round(t42, a7, one_keys, 30ull);
+    t43 = tables;
+    b8 = aes_blocks_round_full_round(t43, b7, other_keys, 30ull);
+    t44 = tables;
+    a9 = aes_blocks_round_full_round(t44, a8, one_keys, 34ull);
+    t45 = tables;
+    b9 = aes_blocks_round_full_round(t45, b8, other_keys, 34ull);
+    t46 = tables;
+    a10 = aes_blocks_round_last_round(t46, a9, one_keys);
+    t47 = tables;
+    b10 = aes_blocks_round_last_round(t47, b9, other_keys);
+    t48 = field_block_Block_of_columns(a10);
+    t49 = field_block_Block_of_columns(b10);
+    result = (aes_blocks_Two_field_block_Block){t48, t49};
     return result;
 }
 
-/* aes_blocks, src/lib.rt:22: The cipher of a block. */
-static field_block_Block aes_blocks_encrypt(char *tables, char *keys, uint64_t s_low, uint64_t s_high)
+/* aes_blocks, src/lib.rt:25: The cipher of a block. */
+static field_block_Block aes_blocks_encrypt(aes_sbox_Tables tables, char *keys, uint64_t s_low, uint64_t s_high)
 {
     field_block_Block result, s;
     uint8_4_4 a0, a1, a2, a3, a4, a5, a6, a7, a8, a9, a10;
+    aes_sbox_Tables t15, t16, t17, t18, t19, t20, t21, t22, t23, t24;
     s = (field_block_Block){s_low, s_high};
     a0 = aes_blocks_round_first_key(s, keys);
-    a1 = aes_blocks_round_full_round(tables, a0, keys, 2ull);
-    a2 = aes_blocks_round_full_round(tables, a1, keys, 6ull);
-    a3 = aes_blocks_round_full_round(tables, a2, keys, 10ull);
-    a4 = aes_blocks_round_full_round(tables, a3, keys, 14ull);
-    a5 = aes_blocks_round_full_round(tables, a4, keys, 18ull);
-    a6 = aes_blocks_round_full_round(tables, a5, keys, 22ull);
-    a7 = aes_blocks_round_full_round(tables, a6, keys, 26ull);
-    a8 = aes_blocks_round_full_round(tables, a7, keys, 30ull);
-    a9 = aes_blocks_round_full_round(tables, a8, keys, 34ull);
-    a10 = aes_blocks_round_last_round(tables, a9, keys);
+    t15 = tables;
+    a1 = aes_blocks_round_full_round(t15, a0, keys, 2ull);
+    t16 = tables;
+    a2 = aes_blocks_round_full_round(t16, a1, keys, 6ull);
+    t17 = tables;
+    a3 = aes_blocks_round_full_round(t17, a2, keys, 10ull);
+    t18 = tables;
+    a4 = aes_blocks_round_full_round(t18, a3, keys, 14ull);
+    t19 = tables;
+    a5 = aes_blocks_round_full_round(t19, a4, keys, 18ull);
+    t20 = tables;
+    a6 = aes_blocks_round_full_round(t20, a5, keys, 22ull);
+    t21 = tables;
+    a7 = aes_blocks_round_full_round(t21, a6, keys, 26ull);
+    t22 = tables;
+    a8 = aes_blocks_round_full_round(t22, a7, keys, 30ull);
+    t23 = tables;
+    a9 = aes_blocks_round_full_round(t23, a8, keys, 34ull);
+    t24 = tables;
+    a10 = aes_blocks_round_last_round(t24, a9, keys);
     result = field_block_Block_of_columns(a10);
     return result;
 }
@@ -4561,187 +6500,190 @@ INLINE uint64_t tree_walk_powers_power(uint64_t bits)
     return result;
 }
 
-/* tree_walk, src/node.rt:15: The round keys of the child keys of a node's 2^branch_bits children, those of child c at place c. */
-static uint64_40_8 tree_walk_node_child_keys(char *sbox, uint64_t branch_bits)
+/* tree_walk, src/node.rt:14: The round keys of the child keys of a node's 2^branch_bits children, those of child c at place c. */
+static uint64_40_8 tree_walk_node_child_keys(uint64_t branch_bits)
 {
     uint64_40_8 result, keys;
-    uint64_t count, c, t12;
-    uint8_t byte;
-    uint8_4 column;
-    uint64_40 schedule, t9;
-    bool t10;
-    uint8_4_4 t11;
-    char *t13, *t14;
+    uint64_t count, c, t11;
+    uint64_40 t5, t7;
+    bool t6;
+    uint8_t t8;
+    uint8_4 t9;
+    uint8_4_4 t10;
+    char *t12, *t13;
     count = tree_walk_powers_power(branch_bits);
     for (int each = 0; each < 40; each++)
-        t9.a[each] = 0ull;
+        t5.a[each] = 0ull;
     for (int each = 0; each < 8; each++)
-        keys.a[each] = t9;
+        keys.a[each] = t5;
     c = 0ull;
     for (;;) {
-        t10 = c < count;
-        if (!t10) {
+        t6 = c < count;
+        if (!t6) {
             break;
         }
-        byte = (uint8_t)c;
+        t8 = (uint8_t)c;
         for (int each = 0; each < 4; each++)
-            column.a[each] = byte;
+            t9.a[each] = t8;
         for (int each = 0; each < 4; each++)
-            t11.a[each] = column;
-        schedule = aes128_key_schedule(sbox, t11);
-        t12 = c * 320ull;
-        t13 = (char *)&keys;
-        t14 = t13 + t12;
-        *(uint64_40 *)t14 = schedule;
+            t10.a[each] = t9;
+        t7 = aes128_key_schedule(t10);
+        t11 = c * 320ull;
+        t12 = (char *)&keys;
+        t13 = t12 + t11;
+        *(uint64_40 *)t13 = t7;
         c = c + 1ull;
     }
     result = keys;
     return result;
 }
 
-/* tree_walk, src/columns.rt:10: The node whose 16 bytes begin at a place. */
+/* tree_walk, src/columns.rt:10: The node whose 16 bytes begin at a place: a block, as the definitions of trees say it. */
 INLINE field_block_Block tree_walk_columns_node_at(slice bytes, uint64_t at)
 {
     field_block_Block result;
-    uint64_t t3, t4, t5;
-    t3 = field_bytes_word_at(bytes, at);
-    t5 = at + 8ull;
-    t4 = field_bytes_word_at(bytes, t5);
-    result = (field_block_Block){t3, t4};
+    result = field_block_Block_read(bytes, at);
     return result;
 }
 
-/* tree_walk, src/columns.rt:21: The block whose 16 bytes begin at a place, in columns. */
+/* tree_walk, src/columns.rt:18: The block whose 16 bytes begin at a place, in columns. */
 INLINE uint8_4_4 tree_walk_columns_columns_at(slice bytes, uint64_t at)
 {
     uint8_4_4 result;
-    field_block_Block node;
-    node = tree_walk_columns_node_at(bytes, at);
-    result = field_block_Block_columns(node);
+    field_block_Block t3;
+    t3 = tree_walk_columns_node_at(bytes, at);
+    result = field_block_Block_columns(t3);
     return result;
 }
 
-/* tree_walk, src/node.rt:33: Children c and c + 1 of a node. */
-INLINE aes_blocks_TwoBlocks tree_walk_node_children(char *tables, char *keys, uint64_t c, field_block_Block s)
+/* tree_walk, src/node.rt:28: Children c and c + 1 of a node. Inlined, so that sums of leaves make no call more. */
+INLINE aes_blocks_Two_field_block_Block tree_walk_node_children(aes_sbox_Tables tables, char *keys, uint64_t c, field_block_Block s)
 {
-    aes_blocks_TwoBlocks result, both;
-    uint64_t t6, t10, t11;
-    char *t7, *t8, *t9, *t12, *t13, *t14;
-    field_block_Block t15, t16, t17, t18;
-    t6 = c * 320ull;
-    t7 = keys;
-    t8 = t7 + t6;
-    t9 = t8;
-    t10 = c + 1ull;
-    t11 = t10 * 320ull;
-    t12 = keys;
-    t13 = t12 + t11;
-    t14 = t13;
-    both = aes_blocks_encrypt_two(tables, t9, t14, s.low, s.high, s.low, s.high);
-    t16 = both.one;
-    t15 = field_block_Block_add(t16, s);
-    t18 = both.other;
-    t17 = field_block_Block_add(t18, s);
-    result = (aes_blocks_TwoBlocks){t15, t17};
+    aes_blocks_Two_field_block_Block result, both;
+    aes_sbox_Tables t6;
+    uint64_t t7, t11, t12;
+    char *t8, *t9, *t10, *t13, *t14, *t15;
+    field_block_Block t16, t17, t18, t19;
+    t6 = tables;
+    t7 = c * 320ull;
+    t8 = keys;
+    t9 = t8 + t7;
+    t10 = t9;
+    t11 = c + 1ull;
+    t12 = t11 * 320ull;
+    t13 = keys;
+    t14 = t13 + t12;
+    t15 = t14;
+    both = aes_blocks_encrypt_two(t6, t10, t15, s.low, s.high, s.low, s.high);
+    t17 = both.one;
+    t16 = field_block_Block_add(t17, s);
+    t19 = both.other;
+    t18 = field_block_Block_add(t19, s);
+    result = (aes_blocks_Two_field_block_Block){t16, t18};
     return result;
 }
 
-/* tree_walk, src/columns.rt:30: Writes the 16 bytes of a node from a place on. */
+/* tree_walk, src/columns.rt:26: Writes the 16 bytes of a node from a place on. */
 INLINE void tree_walk_columns_put_node(slice bytes, uint64_t at, field_block_Block s)
 {
-    char *t5, *t7;
-    slice t6, t8;
-    uint64_t t9;
+    char *t5;
+    slice t6;
     t5 = bytes.at;
     t6 = (slice){t5, bytes.count};
-    field_bytes_put_word(t6, at, s.low);
-    t7 = bytes.at;
-    t8 = (slice){t7, bytes.count};
-    t9 = at + 8ull;
-    field_bytes_put_word(t8, t9, s.high);
+    field_block_Block_write(s, t6, at);
 }
 
 /* tree_walk, src/leaf.rt:18: Writes so many pairs of children of s, from child `from` on, from a place on. */
-static void tree_walk_leaf_put_children(char *tables, char *keys, field_block_Block s, uint64_t from, uint64_t pairs, uint64_t at, slice
-    out)
+static void tree_walk_leaf_put_children(aes_sbox_Tables tables, char *keys, field_block_Block s, uint64_t from, uint64_t pairs, uint64_t at,
+    slice out)
 {
-    aes_blocks_TwoBlocks both;
+    aes_blocks_Two_field_block_Block both;
     bool t9;
-    char *t11, *t14, *t20;
-    slice t12, t15, t21;
-    field_block_Block t13, t17;
-    uint64_t t16, t18, t19;
+    aes_sbox_Tables t10, t19;
+    char *t12, *t15, *t22;
+    slice t13, t16, t23;
+    field_block_Block t14, t18;
+    uint64_t t17, t20, t21;
     t9 = pairs == 0ull;
     if (t9) {
         return;
     }
-    both = tree_walk_node_children(tables, keys, from, s);
-    t11 = out.at;
-    t12 = (slice){t11, out.count};
-    t13 = both.one;
-    tree_walk_columns_put_node(t12, at, t13);
-    t14 = out.at;
-    t15 = (slice){t14, out.count};
-    t16 = at + 16ull;
-    t17 = both.other;
-    tree_walk_columns_put_node(t15, t16, t17);
-    t16 = from + 2ull;
-    t18 = pairs - 1ull;
-    t19 = at + 32ull;
-    t20 = out.at;
-    t21 = (slice){t20, out.count};
-    tree_walk_leaf_put_children(tables, keys, s, t16, t18, t19, t21);
+    t10 = tables;
+    both = tree_walk_node_children(t10, keys, from, s);
+    t12 = out.at;
+    t13 = (slice){t12, out.count};
+    t14 = both.one;
+    tree_walk_columns_put_node(t13, at, t14);
+    t15 = out.at;
+    t16 = (slice){t15, out.count};
+    t17 = at + 16ull;
+    t18 = both.other;
+    tree_walk_columns_put_node(t16, t17, t18);
+    t19 = tables;
+    t17 = from + 2ull;
+    t20 = pairs - 1ull;
+    t21 = at + 32ull;
+    t22 = out.at;
+    t23 = (slice){t22, out.count};
+    tree_walk_leaf_put_children(t19, keys, s, t17, t20, t21, t23);
 }
 
 /* tree_walk, src/leaf.rt:40: The child of s that a digit names; writes the other of its pair from a place on. */
-INLINE field_block_Block tree_walk_leaf_put_twin(char *tables, char *keys, field_block_Block s, uint64_t digit, uint64_t at, slice out)
+INLINE field_block_Block tree_walk_leaf_put_twin(aes_sbox_Tables tables, char *keys, field_block_Block s, uint64_t digit, uint64_t at, slice
+    out)
 {
-    field_block_Block result, t11, t15, t19;
-    aes_blocks_TwoBlocks both;
-    uint64_t t8, t9;
-    bool t10;
-    char *t13, *t17;
-    slice t14, t18;
-    t8 = digit / 2ull;
-    t9 = 2ull * t8;
-    both = tree_walk_node_children(tables, keys, t9, s);
-    t8 = digit % 2ull;
-    t10 = t8 == 0ull;
-    if (t10) {
-        t13 = out.at;
-        t14 = (slice){t13, out.count};
-        t15 = both.other;
-        tree_walk_columns_put_node(t14, at, t15);
-        t11 = both.one;
+    field_block_Block result, t12, t16, t20;
+    aes_blocks_Two_field_block_Block both;
+    aes_sbox_Tables t8;
+    uint64_t t9, t10;
+    bool t11;
+    char *t14, *t18;
+    slice t15, t19;
+    t8 = tables;
+    t9 = digit / 2ull;
+    t10 = 2ull * t9;
+    both = tree_walk_node_children(t8, keys, t10, s);
+    t9 = digit % 2ull;
+    t11 = t9 == 0ull;
+    if (t11) {
+        t14 = out.at;
+        t15 = (slice){t14, out.count};
+        t16 = both.other;
+        tree_walk_columns_put_node(t15, at, t16);
+        t12 = both.one;
     } else {
-        t17 = out.at;
-        t18 = (slice){t17, out.count};
-        t19 = both.one;
-        tree_walk_columns_put_node(t18, at, t19);
-        t11 = both.other;
+        t18 = out.at;
+        t19 = (slice){t18, out.count};
+        t20 = both.one;
+        tree_walk_columns_put_node(t19, at, t20);
+        t12 = both.other;
     }
-    result = t11;
+    result = t12;
     return result;
 }
 
 /* tree_walk, src/leaf.rt:62: The child of s that a digit names; writes the children before its pair and the other of its pair from a
  * place on. */
-INLINE field_block_Block tree_walk_leaf_put_before(char *tables, char *keys, field_block_Block s, uint64_t digit, uint64_t at, slice out)
+INLINE field_block_Block tree_walk_leaf_put_before(aes_sbox_Tables tables, char *keys, field_block_Block s, uint64_t digit, uint64_t at,
+    slice out)
 {
     field_block_Block result;
-    uint64_t t8, t11, t12;
-    char *t9, *t13;
-    slice t10, t14;
-    t8 = digit / 2ull;
-    t9 = out.at;
-    t10 = (slice){t9, out.count};
-    tree_walk_leaf_put_children(tables, keys, s, 0ull, t8, at, t10);
-    t8 = digit / 2ull;
-    t11 = 32ull * t8;
-    t12 = at + t11;
-    t13 = out.at;
-    t14 = (slice){t13, out.count};
-    result = tree_walk_leaf_put_twin(tables, keys, s, digit, t12, t14);
+    aes_sbox_Tables t8, t12;
+    uint64_t t9, t13, t14;
+    char *t10, *t15;
+    slice t11, t16;
+    t8 = tables;
+    t9 = digit / 2ull;
+    t10 = out.at;
+    t11 = (slice){t10, out.count};
+    tree_walk_leaf_put_children(t8, keys, s, 0ull, t9, at, t11);
+    t12 = tables;
+    t9 = digit / 2ull;
+    t13 = 32ull * t9;
+    t14 = at + t13;
+    t15 = out.at;
+    t16 = (slice){t15, out.count};
+    result = tree_walk_leaf_put_twin(t12, keys, s, digit, t14, t16);
     return result;
 }
 
@@ -4758,78 +6700,84 @@ INLINE uint64_t tree_walk_leaf_pairs_after(uint64_t branch_bits, uint64_t digit)
 }
 
 /* tree_walk, src/leaf.rt:87: The child of s that a digit names; writes the others, in rising order, from a place on. */
-INLINE field_block_Block tree_walk_leaf_pass_level(char *tables, char *keys, uint64_t branch_bits, field_block_Block s, uint64_t digit,
-    uint64_t at, slice out)
+INLINE field_block_Block tree_walk_leaf_pass_level(aes_sbox_Tables tables, char *keys, uint64_t branch_bits, field_block_Block s, uint64_t
+    digit, uint64_t at, slice out)
 {
     field_block_Block result, next;
-    uint64_t pair, after, t14, t15, t16, t17, t18;
-    char *t11, *t19;
-    slice t12, t20;
+    uint64_t pair, after, t16, t17, t18, t19, t20;
+    aes_sbox_Tables t11, t15;
+    char *t12, *t21;
+    slice t13, t22;
     pair = digit / 2ull;
-    t11 = out.at;
-    t12 = (slice){t11, out.count};
-    next = tree_walk_leaf_put_before(tables, keys, s, digit, at, t12);
+    t11 = tables;
+    t12 = out.at;
+    t13 = (slice){t12, out.count};
+    next = tree_walk_leaf_put_before(t11, keys, s, digit, at, t13);
     after = tree_walk_leaf_pairs_after(branch_bits, digit);
-    t14 = 2ull * pair;
-    t15 = t14 + 2ull;
-    t16 = 32ull * pair;
-    t17 = at + t16;
-    t18 = t17 + 16ull;
-    t19 = out.at;
-    t20 = (slice){t19, out.count};
-    tree_walk_leaf_put_children(tables, keys, s, t15, after, t18, t20);
+    t15 = tables;
+    t16 = 2ull * pair;
+    t17 = t16 + 2ull;
+    t18 = 32ull * pair;
+    t19 = at + t18;
+    t20 = t19 + 16ull;
+    t21 = out.at;
+    t22 = (slice){t21, out.count};
+    tree_walk_leaf_put_children(t15, keys, s, t17, after, t20, t22);
     result = next;
     return result;
 }
 
 /* tree_walk, src/leaf.rt:116: The leaf below a node at the position; writes the siblings beside the path to it, top first, from their
  * place on. */
-static field_block_Block tree_walk_leaf_walk_from(char *tables, char *keys, field_block_Block root, tree_punctured_Punctured tree, slice
-    out)
+static field_block_Block tree_walk_leaf_walk_from(aes_sbox_Tables tables, char *keys, field_block_Block root, tree_punctured_Punctured tree,
+    slice out)
 {
-    field_block_Block result, node, next;
-    uint64_t branch_bits, position, count, levels, at, digit, t15, t16;
-    bool t14;
+    field_block_Block result, node;
+    uint64_t branch_bits, position, count, at, level, digit, t14, t15;
+    bool t13;
+    aes_sbox_Tables t16;
     char *t17;
     slice t18;
     branch_bits = tree.branch_bits;
     position = tree.position;
     count = tree_walk_powers_power(branch_bits);
     node = root;
-    levels = tree.levels;
     at = tree.at;
+    level = tree.levels;
     for (;;) {
-        t14 = 0ull < levels;
-        if (!t14) {
+        t13 = 0ull < level;
+        if (!t13) {
             break;
         }
-        levels = levels - 1ull;
-        t15 = levels * branch_bits;
-        t16 = position >> t15;
-        digit = t16 % count;
+        level = level - 1ull;
+        t14 = level * branch_bits;
+        t15 = position >> t14;
+        digit = t15 % count;
+        t16 = tables;
         t17 = out.at;
         t18 = (slice){t17, out.count};
-        next = tree_walk_leaf_pass_level(tables, keys, branch_bits, node, digit, at, t18);
-        node = next;
-        t15 = count - 1ull;
-        t16 = 16ull * t15;
-        at = at + t16;
+        node = tree_walk_leaf_pass_level(t16, keys, branch_bits, node, digit, at, t18);
+        t14 = count - 1ull;
+        t15 = 16ull * t14;
+        at = at + t15;
     }
     result = node;
     return result;
 }
 
-/* tree_walk, src/leaf.rt:144: The leaf at the position; writes the siblings beside the path to it, top first, from their place on. */
-INLINE uint8_4_4 tree_walk_leaf_walk(char *tables, char *keys, uint8_4_4 root, tree_punctured_Punctured tree, slice out)
+/* tree_walk, src/leaf.rt:141: The leaf at the position; writes the siblings beside the path to it, top first, from their place on. */
+INLINE uint8_4_4 tree_walk_leaf_walk(aes_sbox_Tables tables, char *keys, uint8_4_4 root, tree_punctured_Punctured tree, slice out)
 {
     uint8_4_4 result;
-    field_block_Block leaf, t7;
-    char *t8;
-    slice t9;
-    t7 = field_block_Block_of_columns(root);
-    t8 = out.at;
-    t9 = (slice){t8, out.count};
-    leaf = tree_walk_leaf_walk_from(tables, keys, t7, tree, t9);
+    field_block_Block leaf, t8;
+    aes_sbox_Tables t7;
+    char *t9;
+    slice t10;
+    t7 = tables;
+    t8 = field_block_Block_of_columns(root);
+    t9 = out.at;
+    t10 = (slice){t9, out.count};
+    leaf = tree_walk_leaf_walk_from(t7, keys, t8, tree, t10);
     result = field_block_Block_columns(leaf);
     return result;
 }
@@ -4845,7 +6793,7 @@ INLINE uint64_t tree_walk_down_digit(uint64_t branch_bits, uint64_t left, uint64
     return result;
 }
 
-/* tree_walk, src/down.rt:87: The sibling that leaf j follows from, of a tree punctured elsewhere whose siblings begin at a place. */
+/* tree_walk, src/down.rt:76: The sibling that leaf j follows from, of a tree punctured elsewhere whose siblings begin at a place. */
 static tree_walk_down_Start tree_walk_down_from_sibling(uint64_t branch_bits, uint64_t levels, uint64_t position, uint64_t j, uint64_t at)
 {
     tree_walk_down_Start result;
@@ -4877,113 +6825,122 @@ static tree_walk_down_Start tree_walk_down_from_sibling(uint64_t branch_bits, ui
     return result;
 }
 
-/* tree_walk, src/node.rt:46: Child c of a node. */
-INLINE field_block_Block tree_walk_node_child(char *tables, char *keys, uint64_t c, field_block_Block s)
+/* tree_walk, src/node.rt:41: Child c of a node. */
+INLINE field_block_Block tree_walk_node_child(aes_sbox_Tables tables, char *keys, uint64_t c, field_block_Block s)
 {
     field_block_Block result, e;
-    uint64_t t6;
-    char *t7, *t8, *t9;
-    t6 = c * 320ull;
-    t7 = keys;
-    t8 = t7 + t6;
-    t9 = t8;
-    e = aes_blocks_encrypt(tables, t9, s.low, s.high);
+    aes_sbox_Tables t6;
+    uint64_t t7;
+    char *t8, *t9, *t10;
+    t6 = tables;
+    t7 = c * 320ull;
+    t8 = keys;
+    t9 = t8 + t7;
+    t10 = t9;
+    e = aes_blocks_encrypt(t6, t10, s.low, s.high);
     result = field_block_Block_add(e, s);
     return result;
 }
 
 /* tree_walk, src/down.rt:33: The node above leaf j with `stop` levels below it, from the one with `left` levels below it. */
-static field_block_Block tree_walk_down_walk_to(char *tables, char *keys, uint64_t branch_bits, uint64_t left, uint64_t stop,
+static field_block_Block tree_walk_down_walk_to(aes_sbox_Tables tables, char *keys, uint64_t branch_bits, uint64_t left, uint64_t stop,
     field_block_Block s, uint64_t j)
 {
-    field_block_Block result, node, next;
-    uint64_t levels, c;
-    bool t12;
+    field_block_Block result, node;
+    uint64_t level, t12;
+    bool t10;
+    aes_sbox_Tables t11;
     node = s;
-    levels = left;
+    level = left;
     for (;;) {
-        t12 = stop < levels;
-        if (!t12) {
+        t10 = stop < level;
+        if (!t10) {
             break;
         }
-        levels = levels - 1ull;
-        c = tree_walk_down_digit(branch_bits, levels, j);
-        next = tree_walk_node_child(tables, keys, c, node);
-        node = next;
+        level = level - 1ull;
+        t11 = tables;
+        t12 = tree_walk_down_digit(branch_bits, level, j);
+        node = tree_walk_node_child(t11, keys, t12, node);
     }
     result = node;
     return result;
 }
 
-/* tree_walk, src/node.rt:55: Child c of each of two nodes. */
-INLINE aes_blocks_TwoBlocks tree_walk_node_child_of_both(char *tables, char *keys, uint64_t c, field_block_Block a, field_block_Block b)
+/* tree_walk, src/node.rt:50: Child c of each of two nodes. */
+INLINE aes_blocks_Two_field_block_Block tree_walk_node_child_of_both(aes_sbox_Tables tables, char *keys, uint64_t c, field_block_Block a,
+    field_block_Block b)
 {
-    aes_blocks_TwoBlocks result, both;
-    uint64_t t7, t11;
-    char *t8, *t9, *t10, *t12, *t13, *t14;
-    field_block_Block t15, t16, t17, t18;
-    t7 = c * 320ull;
-    t8 = keys;
-    t9 = t8 + t7;
-    t10 = t9;
-    t11 = c * 320ull;
-    t12 = keys;
-    t13 = t12 + t11;
-    t14 = t13;
-    both = aes_blocks_encrypt_two(tables, t10, t14, a.low, a.high, b.low, b.high);
-    t16 = both.one;
-    t15 = field_block_Block_add(t16, a);
-    t18 = both.other;
-    t17 = field_block_Block_add(t18, b);
-    result = (aes_blocks_TwoBlocks){t15, t17};
+    aes_blocks_Two_field_block_Block result, both;
+    aes_sbox_Tables t7;
+    uint64_t t8, t12;
+    char *t9, *t10, *t11, *t13, *t14, *t15;
+    field_block_Block t16, t17, t18, t19;
+    t7 = tables;
+    t8 = c * 320ull;
+    t9 = keys;
+    t10 = t9 + t8;
+    t11 = t10;
+    t12 = c * 320ull;
+    t13 = keys;
+    t14 = t13 + t12;
+    t15 = t14;
+    both = aes_blocks_encrypt_two(t7, t11, t15, a.low, a.high, b.low, b.high);
+    t17 = both.one;
+    t16 = field_block_Block_add(t17, a);
+    t19 = both.other;
+    t18 = field_block_Block_add(t19, b);
+    result = (aes_blocks_Two_field_block_Block){t16, t18};
     return result;
 }
 
-/* tree_walk, src/down.rt:59: Leaf j below each of two nodes with `left` levels below them. */
-static aes_blocks_TwoBlocks tree_walk_down_walk_both(char *tables, char *keys, uint64_t branch_bits, uint64_t left, field_block_Block a,
-    field_block_Block b, uint64_t j)
+/* tree_walk, src/down.rt:54: Leaf j below each of two nodes with `left` levels below them. */
+static aes_blocks_Two_field_block_Block tree_walk_down_walk_both(aes_sbox_Tables tables, char *keys, uint64_t branch_bits, uint64_t left,
+    field_block_Block a, field_block_Block b, uint64_t j)
 {
-    aes_blocks_TwoBlocks result, next;
-    field_block_Block x, y;
-    uint64_t levels, c;
-    bool t13;
-    x = a;
-    y = b;
-    levels = left;
+    aes_blocks_Two_field_block_Block result, nodes;
+    uint64_t level, c;
+    bool t11;
+    aes_sbox_Tables t12;
+    field_block_Block t13, t14;
+    nodes = (aes_blocks_Two_field_block_Block){a, b};
+    level = left;
     for (;;) {
-        t13 = 0ull < levels;
-        if (!t13) {
+        t11 = 0ull < level;
+        if (!t11) {
             break;
         }
-        levels = levels - 1ull;
-        c = tree_walk_down_digit(branch_bits, levels, j);
-        next = tree_walk_node_child_of_both(tables, keys, c, x, y);
-        x = next.one;
-        y = next.other;
+        level = level - 1ull;
+        c = tree_walk_down_digit(branch_bits, level, j);
+        t12 = tables;
+        t13 = nodes.one;
+        t14 = nodes.other;
+        nodes = tree_walk_node_child_of_both(t12, keys, c, t13, t14);
     }
-    result = (aes_blocks_TwoBlocks){x, y};
+    result = nodes;
     return result;
 }
 
-/* dealing_call, src/noise.rt:42: Tree i, after positions below `base`, at a place. */
-INLINE dealing_call_noise_Planned dealing_call_noise_plan(record_Layout layout, slice positions, slice values, uint64_t i, uint64_t base,
-    uint64_t at)
+/* dealing_call, src/noise.rt:44: Tree i, after positions below `base`, at a place. */
+INLINE dealing_call_noise_Planned dealing_call_noise_plan(char *input, uint64_t i, uint64_t base, uint64_t at)
 {
     dealing_call_noise_Planned result;
-    uint64_t t7, t13;
-    char *t9, *t12;
+    uint64_t t5, t6, t7, t11, t14;
+    char *t9, *t13;
     uint32_t t10;
-    t9 = (char *)((uint32_t *)positions.at + i);
+    t5 = ((dealing_tests_input_Input *)input)->layout.field;
+    t6 = ((dealing_tests_input_Input *)input)->layout.depth;
+    t7 = ((dealing_tests_input_Input *)input)->layout.branch_bits;
+    t9 = (char *)((uint32_t *)((dealing_tests_input_Input *)input)->positions.at + i);
     t10 = *(uint32_t *)t9;
-    t7 = dealing_tests_tests_wide(t10);
-    t12 = (char *)((uint64_t *)values.at + i);
-    t13 = *(uint64_t *)t12;
-    result = (dealing_call_noise_Planned){layout.field, layout.depth, layout.branch_bits, t7, t13, base, at};
+    t11 = (uint64_t)t10;
+    t13 = (char *)((uint64_t *)((dealing_tests_input_Input *)input)->values.at + i);
+    t14 = *(uint64_t *)t13;
+    result = (dealing_call_noise_Planned){t5, t6, t7, t11, t14, base, at};
     return result;
 }
 
-/* dealing_call, src/noise.rt:19: The correction of a tree: the element of the leaf at its position minus Δ × its noise value. */
-INLINE field_element_Element dealing_call_noise_correction(uint64_t field, uint8_4_4 leaf, uint64_t value, slice delta)
+/* dealing_call, src/noise.rt:21: The correction of a tree: the element of the leaf at its position minus Δ × its noise value. */
+static field_element_Element dealing_call_noise_correction(uint64_t field, uint8_4_4 leaf, uint64_t value, slice delta)
 {
     field_element_Element result, scalar, element, multiple;
     scalar = field_element_element_at(field, delta, 0ull);
@@ -4993,8 +6950,8 @@ INLINE field_element_Element dealing_call_noise_correction(uint64_t field, uint8
     return result;
 }
 
-/* dealing_call, src/noise.rt:65: Writes a tree up to its siblings at its place, the correction from the leaf at its position. */
-static uint64_t dealing_call_noise_write_planned(uint8_4_4 leaf, dealing_call_noise_Planned tree, slice delta, slice out)
+/* dealing_call, src/noise.rt:60: Writes a tree up to its siblings at its place, the correction from the leaf at its position. */
+INLINE uint64_t dealing_call_noise_write_planned(uint8_4_4 leaf, dealing_call_noise_Planned tree, slice delta, slice out)
 {
     uint64_t result, back;
     field_element_Element words;
@@ -5008,15 +6965,16 @@ static uint64_t dealing_call_noise_write_planned(uint8_4_4 leaf, dealing_call_no
     return result;
 }
 
-/* dealing_call, src/noise.rt:76: Writes a tree at its place; the place after it. The walk to the leaf writes the siblings. */
-INLINE uint64_t dealing_call_noise_write_tree(char *tables, char *keys, uint8_4_4 root, dealing_call_noise_Planned tree, slice delta, slice
-    out)
+/* dealing_call, src/noise.rt:71: Writes a tree at its place; the place after it. The walk to the leaf writes the siblings. */
+static uint64_t dealing_call_noise_write_tree(aes_sbox_Tables tables, char *keys, uint8_4_4 root, dealing_call_noise_Planned tree, slice
+    delta, slice out)
 {
     uint64_t result, siblings, next, t11, t12;
     tree_punctured_Punctured place;
     uint8_4_4 leaf;
-    char *t13, *t15;
-    slice t14, t16;
+    aes_sbox_Tables t13;
+    char *t14, *t16;
+    slice t15, t17;
     t11 = record_writing_tree_start_length(tree.base, tree.position);
     siblings = tree.at + t11;
     t11 = record_sizes_sibling_count(tree.depth, tree.branch_bits);
@@ -5024,53 +6982,55 @@ INLINE uint64_t dealing_call_noise_write_tree(char *tables, char *keys, uint8_4_
     next = siblings + t12;
     t11 = tree.depth / tree.branch_bits;
     place = (tree_punctured_Punctured){tree.branch_bits, t11, tree.position, siblings};
-    t13 = out.at;
-    t14 = (slice){t13, out.count};
-    leaf = tree_walk_leaf_walk(tables, keys, root, place, t14);
-    t15 = out.at;
-    t16 = (slice){t15, out.count};
-    t12 = dealing_call_noise_write_planned(leaf, tree, delta, t16);
+    t13 = tables;
+    t14 = out.at;
+    t15 = (slice){t14, out.count};
+    leaf = tree_walk_leaf_walk(t13, keys, root, place, t15);
+    t16 = out.at;
+    t17 = (slice){t16, out.count};
+    t12 = dealing_call_noise_write_planned(leaf, tree, delta, t17);
     result = next;
     return result;
 }
 
-/* dealing_call, src/noise.rt:103: Writes the trees after the head; the place after them. */
-static uint64_t dealing_call_noise_write_trees(slice out, record_Layout layout, slice roots, slice positions, slice values, slice delta)
+/* dealing_call, src/noise.rt:98: Writes the trees after the head; the place after them. */
+static uint64_t dealing_call_noise_write_trees(slice out, char *input)
 {
-    uint64_t result, at, base, i, t21;
-    uint8_256 sb, t15;
-    uint64_1536 tables;
-    uint64_40_8 keys, t18;
+    uint64_t result, at, base, i, t13, i_end, t17;
+    uint64_1536 words;
+    aes_sbox_Tables tables, t18;
+    uint64_40_8 keys, t12;
     dealing_call_noise_Planned tree;
     uint8_4_4 root;
-    char *t17, *t19, *t22, *t23, *t24;
-    bool t20;
-    slice t25;
-    t15 = aes_sbox_table();
-    sb = t15;
+    char *t11, *t19, *t20;
+    bool t15;
+    slice t16, t21;
     for (int each = 0; each < 1536; each++)
-        tables.a[each] = 0ull;
-    t17 = (char *)&tables;
-    aes_sbox_fill_tables(t17);
-    t19 = (char *)&sb;
-    t18 = tree_walk_node_child_keys(t19, layout.branch_bits);
-    keys = t18;
-    at = layout.body;
+        words.a[each] = 0ull;
+    t11 = (char *)&words;
+    tables = aes_sbox_Tables_fill(t11);
+    t13 = ((dealing_tests_input_Input *)input)->layout.branch_bits;
+    t12 = tree_walk_node_child_keys(t13);
+    keys = t12;
+    at = ((dealing_tests_input_Input *)input)->layout.body;
     base = 0ull;
     i = 0ull;
+    i_end = ((dealing_tests_input_Input *)input)->layout.trees;
     for (;;) {
-        t20 = i < layout.trees;
-        if (!t20) {
+        t15 = i < i_end;
+        if (!t15) {
             break;
         }
-        tree = dealing_call_noise_plan(layout, positions, values, i, base, at);
-        t21 = 16ull * i;
-        root = tree_walk_columns_columns_at(roots, t21);
-        t22 = (char *)&tables;
-        t23 = (char *)&keys;
-        t24 = out.at;
-        t25 = (slice){t24, out.count};
-        at = dealing_call_noise_write_tree(t22, t23, root, tree, delta, t25);
+        tree = dealing_call_noise_plan(input, i, base, at);
+        t16 = ((dealing_tests_input_Input *)input)->roots;
+        t17 = 16ull * i;
+        root = tree_walk_columns_columns_at(t16, t17);
+        t18 = tables;
+        t19 = (char *)&keys;
+        t16 = ((dealing_tests_input_Input *)input)->delta;
+        t20 = out.at;
+        t21 = (slice){t20, out.count};
+        at = dealing_call_noise_write_tree(t18, t19, root, tree, t16, t21);
         base = tree.position + 1ull;
         i = i + 1ull;
     }
@@ -5078,67 +7038,87 @@ static uint64_t dealing_call_noise_write_trees(slice out, record_Layout layout, 
     return result;
 }
 
-/* dealing_call, src/noise.rt:133: Writes the noise record at the buffer's front; its length. */
-INLINE uint64_t dealing_call_noise_write_noise(slice out, record_Layout layout, slice code_key, slice label, slice roots, slice positions,
-    slice values, slice delta)
+/* dealing_call, src/noise.rt:120: Writes the noise record at the buffer's front; its length. */
+INLINE uint64_t dealing_call_noise_write_noise(slice out, char *input)
 {
     uint64_t result;
-    char *t10, *t12;
-    slice t11, t13;
+    char *t4, *t10;
+    slice t5, t8, t9, t11;
+    record_End t6;
+    record_Layout t7;
+    t4 = out.at;
+    t5 = (slice){t4, out.count};
+    t6 = (record_End){record_End_noise};
+    t7 = ((dealing_tests_input_Input *)input)->layout;
+    t8 = ((dealing_tests_input_Input *)input)->code_key;
+    t9 = ((dealing_tests_input_Input *)input)->label;
+    (void)record_writing_write_head(t5, t6, t7, t8, t9);
     t10 = out.at;
     t11 = (slice){t10, out.count};
-    (void)record_writing_write_head(t11, 1u, layout, code_key, label);
-    t12 = out.at;
-    t13 = (slice){t12, out.count};
-    result = dealing_call_noise_write_trees(t13, layout, roots, positions, values, delta);
+    result = dealing_call_noise_write_trees(t11, input);
     return result;
 }
 
-/* dealing_call, src/scalar.rt:13: Writes the scalar record at the buffer's front; its length. */
-INLINE uint64_t dealing_call_scalar_write_scalar_part(slice out, record_Layout layout, slice code_key, slice label, slice delta, slice
-    roots)
+/* dealing_call, src/scalar.rt:14: Writes the scalar record at the buffer's front; its length. */
+static uint64_t dealing_call_scalar_write_scalar_part(slice out, char *input)
 {
-    uint64_t result;
+    uint64_t result, t4;
     field_element_Element scalar;
-    char *t8;
-    slice t9;
-    scalar = field_element_element_at(layout.field, delta, 0ull);
-    t8 = out.at;
-    t9 = (slice){t8, out.count};
-    result = record_writing_write_scalar(t9, layout, code_key, label, scalar, roots);
+    slice t5, t7, t9, t10;
+    char *t6;
+    record_Layout t8;
+    t4 = ((dealing_tests_input_Input *)input)->layout.field;
+    t5 = ((dealing_tests_input_Input *)input)->delta;
+    scalar = field_element_element_at(t4, t5, 0ull);
+    t6 = out.at;
+    t7 = (slice){t6, out.count};
+    t8 = ((dealing_tests_input_Input *)input)->layout;
+    t5 = ((dealing_tests_input_Input *)input)->code_key;
+    t9 = ((dealing_tests_input_Input *)input)->label;
+    t10 = ((dealing_tests_input_Input *)input)->roots;
+    result = record_writing_write_scalar(t7, t8, t5, t9, scalar, t10);
     return result;
 }
 
-/* dealing_call, src/lib.rt:19: Writes the noise record and the scalar record of a dealing, each to its own buffer. */
-static answer_TwoLengths dealing_call_deal(uint8_t field, uint64_t depth, uint64_t branch_bits, uint64_t trees, uint64_t terms, uint64_t
+/* dealing_call, src/lib.rt:19: Writes the noise record and the scalar record of a dealing, each to its own buffer. The parameters are
+ * those of the C interface. */
+INLINE answer_TwoLengths dealing_call_deal(uint8_t field, uint64_t depth, uint64_t branch_bits, uint64_t trees, uint64_t terms, uint64_t
     outputs, slice roots, slice positions, slice values, slice delta, slice code_key, slice label, slice noise_record, slice scalar_record)
 {
     answer_TwoLengths result;
-    record_Layout layout;
-    dealing_tests_fault_Rooms rooms;
-    uint32_t number;
+    dealing_tests_input_Input input;
+    dealing_tests_input_Rooms rooms;
+    answer_Refusal refusal;
     uint64_t noise_bytes, scalar_bytes, t20, t21;
-    bool t22;
-    char *t23, *t25;
-    slice t24, t26;
+    record_Layout t22;
+    Result_unit_answer_Refusal t23;
+    char *t24, *t25, *t27, *t28, *t30;
+    slice t26, t29;
     t20 = (uint64_t)field;
     t21 = record_writing_head_length(depth, branch_bits, trees, terms, outputs);
-    layout = (record_Layout){t20, depth, branch_bits, trees, terms, outputs, t21};
+    t22 = (record_Layout){t20, depth, branch_bits, trees, terms, outputs, t21};
+    input = (dealing_tests_input_Input){t22, roots, positions, values, delta, code_key, label};
     t20 = noise_record.count;
     t21 = scalar_record.count;
-    rooms = (dealing_tests_fault_Rooms){t20, t21};
-    number = dealing_tests_fault_deal_number(layout, rooms, roots, positions, values, delta, code_key, label);
-    t22 = number != 0u;
-    if (t22) {
-        result = answer_refused_two(number);
+    rooms = (dealing_tests_input_Rooms){t20, t21};
+    t24 = (char *)&input;
+    t23 = dealing_tests_input_check(t24, rooms.noise, rooms.scalar);
+    switch (t23.ok.tag) {
+    case 1:
+        refusal = t23.err.m1;
+        result = answer_TwoLengths_refused(refusal);
         return result;
+    default:
+        break;
     }
-    t23 = noise_record.at;
-    t24 = (slice){t23, noise_record.count};
-    noise_bytes = dealing_call_noise_write_noise(t24, layout, code_key, label, roots, positions, values, delta);
-    t25 = scalar_record.at;
-    t26 = (slice){t25, scalar_record.count};
-    scalar_bytes = dealing_call_scalar_write_scalar_part(t26, layout, code_key, label, delta, roots);
+    t25 = noise_record.at;
+    t26 = (slice){t25, noise_record.count};
+    t27 = (char *)&input;
+    noise_bytes = dealing_call_noise_write_noise(t26, t27);
+    t28 = scalar_record.at;
+    t29 = (slice){t28, scalar_record.count};
+    t30 = (char *)&input;
+    scalar_bytes = dealing_call_scalar_write_scalar_part(t29, t30);
     result = (answer_TwoLengths){0u, noise_bytes, scalar_bytes};
     return result;
 }
@@ -5159,18 +7139,16 @@ INLINE uint64_t code_places_row_place_of(code_Shape shape, uint64_t i, uint64_t 
 /* code_places, src/used.rt:12: Whether every word is below the bound, where that is known of all but one. */
 INLINE bool code_places_used_still_below(bool others, uint64_t word, uint64_t bound)
 {
-    bool result, t4, t5;
-    t4 = word < bound;
+    bool result, t4;
+    t4 = others;
     if (t4) {
-        t5 = others;
-    } else {
-        t5 = false;
+        t4 = word < bound;
     }
-    result = t5;
+    result = t4;
     return result;
 }
 
-/* code_places, src/used.rt:67: Whether the four words from a place on are below the bound. */
+/* code_places, src/used.rt:60: Whether the four words from a place on are below the bound. */
 INLINE bool code_places_used_four_below(slice words, uint64_t i, uint64_t bound)
 {
     bool result, one, two, three;
@@ -5195,39 +7173,40 @@ INLINE bool code_places_used_four_below(slice words, uint64_t i, uint64_t bound)
     return result;
 }
 
-/* code_places, src/used.rt:78: Whether every word is below the bound, four words a turn. */
+/* code_places, src/used.rt:71: Whether every word is below the bound, four words a turn. */
 static bool code_places_used_all_below(slice words, uint64_t bound)
 {
-    bool result, four, t7, t9;
-    uint64_t i, t5, t6, t8, t11;
-    char *t10;
-    i = 0ull;
+    bool result, t7, t9, t11;
+    uint64_t turns, turn, i, t6, t8, i_end, t14;
+    char *t13;
+    t6 = words.count;
+    turns = t6 / 4ull;
+    turn = 0ull;
     for (;;) {
-        t5 = i + 3ull;
-        t6 = words.count;
-        t7 = t5 < t6;
+        t7 = turn < turns;
         if (!t7) {
             break;
         }
-        four = code_places_used_four_below(words, i, bound);
-        t7 = !four;
-        if (t7) {
+        t8 = 4ull * turn;
+        t7 = code_places_used_four_below(words, t8, bound);
+        t9 = !t7;
+        if (t9) {
             result = false;
             return result;
         }
-        i = i + 4ull;
+        turn = turn + 1ull;
     }
+    i = 4ull * turns;
+    i_end = words.count;
     for (;;) {
-        t8 = words.count;
-        t9 = i < t8;
-        if (!t9) {
+        t11 = i < i_end;
+        if (!t11) {
             break;
         }
-        t8 = i * 8ull;
-        t10 = (char *)((uint64_t *)words.at + i);
-        t11 = *(uint64_t *)t10;
-        t9 = bound <= t11;
-        if (t9) {
+        t13 = (char *)((uint64_t *)words.at + i);
+        t14 = *(uint64_t *)t13;
+        t11 = bound <= t14;
+        if (t11) {
             result = false;
             return result;
         }
@@ -5238,47 +7217,54 @@ static bool code_places_used_all_below(slice words, uint64_t bound)
 }
 
 /* code_places, src/row.rt:29: Term i of row x. */
-INLINE code_places_row_Term code_places_row_row_term(char *tables, char *keys, code_Shape shape, uint64_t x, uint64_t i)
+INLINE code_places_row_Term code_places_row_row_term(aes_sbox_Tables tables, char *keys, code_Shape shape, uint64_t x, uint64_t i)
 {
     code_places_row_Term result;
-    field_block_Block block, t9;
-    uint64_t t7, t8, t10;
-    t7 = x;
-    t8 = i;
-    t9 = (field_block_Block){t7, t8};
-    block = aes_blocks_encrypt(tables, keys, t9.low, t9.high);
-    t10 = code_places_row_place_of(shape, i, block.low);
-    result = (code_places_row_Term){t10, block.high};
+    field_block_Block block, t10;
+    aes_sbox_Tables t7;
+    uint64_t t8, t9, t11;
+    t7 = tables;
+    t8 = x;
+    t9 = i;
+    t10 = (field_block_Block){t8, t9};
+    block = aes_blocks_encrypt(t7, keys, t10.low, t10.high);
+    t11 = code_places_row_place_of(shape, i, block.low);
+    result = (code_places_row_Term){t11, block.high};
     return result;
 }
 
-/* code_places, src/row.rt:50: The place of term i of row x. */
-INLINE uint64_t code_places_row_row_place(char *tables, char *keys, code_Shape shape, uint64_t x, uint64_t i)
+/* code_places, src/row.rt:49: The place of term i of row x. */
+INLINE uint64_t code_places_row_row_place(aes_sbox_Tables tables, char *keys, code_Shape shape, uint64_t x, uint64_t i)
 {
     uint64_t result;
-    code_places_row_Term term;
-    term = code_places_row_row_term(tables, keys, shape, x, i);
-    result = term.place;
+    code_places_row_Term t6;
+    aes_sbox_Tables t7;
+    t7 = tables;
+    t6 = code_places_row_row_term(t7, keys, shape, x, i);
+    result = t6.place;
     return result;
 }
 
 /* code_places, src/used.rt:19: Whether every word at the places of row x is below the bound. */
-static bool code_places_used_row_below(char *tables, char *keys, code_Shape shape, uint64_t x, slice words, uint64_t bound)
+static bool code_places_used_row_below(aes_sbox_Tables tables, char *keys, code_Shape shape, uint64_t x, slice words, uint64_t bound)
 {
-    bool result, t9;
-    uint64_t i, j, t12;
-    char *t11;
+    bool result, t10;
+    uint64_t i, j, i_end, t14;
+    aes_sbox_Tables t11;
+    char *t13;
     i = 0ull;
+    i_end = shape.terms;
     for (;;) {
-        t9 = i < shape.terms;
-        if (!t9) {
+        t10 = i < i_end;
+        if (!t10) {
             break;
         }
-        j = code_places_row_row_place(tables, keys, shape, x, i);
-        t11 = (char *)((uint64_t *)words.at + j);
-        t12 = *(uint64_t *)t11;
-        t9 = bound <= t12;
-        if (t9) {
+        t11 = tables;
+        j = code_places_row_row_place(t11, keys, shape, x, i);
+        t13 = (char *)((uint64_t *)words.at + j);
+        t14 = *(uint64_t *)t13;
+        t10 = bound <= t14;
+        if (t10) {
             result = false;
             return result;
         }
@@ -5288,21 +7274,25 @@ static bool code_places_used_row_below(char *tables, char *keys, code_Shape shap
     return result;
 }
 
-/* code_places, src/used.rt:43: The test, row by row. */
-static bool code_places_used_rows_below(char *tables, char *keys, code_Shape shape, code_Window window, slice words, uint64_t bound)
+/* code_places, src/used.rt:40: The test, row by row. */
+static bool code_places_used_rows_below(aes_sbox_Tables tables, char *keys, code_Shape shape, code_Window window, slice words, uint64_t
+    bound)
 {
-    bool result, below, t9;
-    uint64_t k, t10;
+    bool result, t9, t12;
+    uint64_t k, k_end, t11;
+    aes_sbox_Tables t10;
     k = 0ull;
+    k_end = window.count;
     for (;;) {
-        t9 = k < window.count;
+        t9 = k < k_end;
         if (!t9) {
             break;
         }
-        t10 = window.first + k;
-        below = code_places_used_row_below(tables, keys, shape, t10, words, bound);
-        t9 = !below;
-        if (t9) {
+        t10 = tables;
+        t11 = window.first + k;
+        t9 = code_places_used_row_below(t10, keys, shape, t11, words, bound);
+        t12 = !t9;
+        if (t12) {
             result = false;
             return result;
         }
@@ -5312,90 +7302,85 @@ static bool code_places_used_rows_below(char *tables, char *keys, code_Shape sha
     return result;
 }
 
-/* code_places, src/used.rt:100: The test, by a pass over all words where that is less work than the rows' ciphers; the rows are walked
+/* code_places, src/used.rt:90: The test, by a pass over all words where that is less work than the rows' ciphers; the rows are walked
  * only if that pass finds a word at the bound or above, or is not made. A term takes about as long as 100 words of the pass. */
-INLINE bool code_places_used_used_below(char *tables, char *keys, code_Shape shape, code_Window window, slice words, uint64_t bound)
+INLINE bool code_places_used_used_below(aes_sbox_Tables tables, char *keys, code_Shape shape, code_Window window, slice words, uint64_t
+    bound)
 {
-    bool result, all, t10, t11;
+    bool result, t7, t10;
     uint64_t t8, t9;
+    aes_sbox_Tables t11;
     t8 = shape.places / 100ull;
     t9 = window.count * shape.terms;
-    t10 = t8 <= t9;
-    if (t10) {
-        all = code_places_used_all_below(words, bound);
-        t11 = all;
-        if (t11) {
+    t7 = t8 <= t9;
+    if (t7) {
+        t7 = code_places_used_all_below(words, bound);
+        t10 = t7;
+        if (t10) {
             result = true;
             return result;
+            goto after1;
         }
     }
-    result = code_places_used_rows_below(tables, keys, shape, window, words, bound);
+after1:;
+    t11 = tables;
+    result = code_places_used_rows_below(t11, keys, shape, window, words, bound);
     return result;
 }
 
-/* code_sums, src/accumulation.rt:27: Accumulates `count` elements of field 1, two words each. */
-static void code_sums_accumulation_accumulate_blocks(slice v, uint64_t count)
+/* code_sums, src/accumulation.rt:12, at Block: Accumulates `count` values. */
+static void code_sums_accumulation_accumulate_field_block_Block(slice words, uint64_t count)
 {
-    field_block_Block total, next, t15;
-    uint64_t i, low, high, t11, t14, t16, t18;
-    bool t8;
-    char *t10, *t13, *t17, *t19;
-    total = field_block_Block_zero();
+    field_block_Block total, t6;
+    uint64_t i;
+    bool t5;
+    char *t7, *t10;
+    slice t8, t11;
+    total = field_parts_BlockFieldElement_zero();
     i = 0ull;
     for (;;) {
-        t8 = i < count;
-        if (!t8) {
+        t5 = i < count;
+        if (!t5) {
             break;
         }
-        low = i * 2ull;
-        high = low + 1ull;
-        t10 = (char *)((uint64_t *)v.at + low);
-        t11 = *(uint64_t *)t10;
-        t13 = (char *)((uint64_t *)v.at + high);
-        t14 = *(uint64_t *)t13;
-        t15 = (field_block_Block){t11, t14};
-        next = field_block_Block_add(total, t15);
-        t16 = next.low;
-        t17 = (char *)((uint64_t *)v.at + low);
-        *(uint64_t *)t17 = t16;
-        t18 = next.high;
-        t19 = (char *)((uint64_t *)v.at + high);
-        *(uint64_t *)t19 = t18;
-        total = next;
+        t7 = words.at;
+        t8 = (slice){t7, words.count};
+        t6 = field_parts_BlockFieldElement_at(t8, i);
+        total = field_parts_BlockFieldElement_add(total, t6);
+        t10 = words.at;
+        t11 = (slice){t10, words.count};
+        field_parts_BlockFieldElement_put(total, t11, i);
         i = i + 1ull;
     }
 }
 
-/* code_sums, src/accumulation.rt:48: Accumulates elements of field 2, one word each; noise words are of the same kind. */
-static void code_sums_accumulation_accumulate_primes(slice v)
+/* code_sums, src/accumulation.rt:12, at Prime: Accumulates `count` values. */
+static void code_sums_accumulation_accumulate_prime_prime_Prime(slice words, uint64_t count)
 {
-    prime_prime_Prime total, next, t9;
-    uint64_t i, t5, t8, t10;
-    bool t6;
-    char *t7, *t11;
-    total = prime_prime_Prime_zero();
+    prime_prime_Prime total, t6;
+    uint64_t i;
+    bool t5;
+    char *t7, *t10;
+    slice t8, t11;
+    total = field_parts_PrimeFieldElement_zero();
     i = 0ull;
     for (;;) {
-        t5 = v.count;
-        t6 = i < t5;
-        if (!t6) {
+        t5 = i < count;
+        if (!t5) {
             break;
         }
-        t5 = i * 8ull;
-        t7 = (char *)((uint64_t *)v.at + i);
-        t8 = *(uint64_t *)t7;
-        t9 = (prime_prime_Prime){t8};
-        next = prime_prime_Prime_add(total, t9);
-        t10 = next.word;
-        t5 = i * 8ull;
-        t11 = (char *)((uint64_t *)v.at + i);
-        *(uint64_t *)t11 = t10;
-        total = next;
+        t7 = words.at;
+        t8 = (slice){t7, words.count};
+        t6 = field_parts_PrimeFieldElement_at(t8, i);
+        total = field_parts_PrimeFieldElement_add(total, t6);
+        t10 = words.at;
+        t11 = (slice){t10, words.count};
+        field_parts_PrimeFieldElement_put(total, t11, i);
         i = i + 1ull;
     }
 }
 
-/* code_sums, src/accumulation.rt:75: Accumulates `count` elements of a field. */
+/* code_sums, src/accumulation.rt:38: Accumulates `count` elements of a field. */
 INLINE void code_sums_accumulation_accumulate_elements(uint64_t field, uint64_t count, slice words)
 {
     bool t4;
@@ -5405,607 +7390,770 @@ INLINE void code_sums_accumulation_accumulate_elements(uint64_t field, uint64_t 
     if (t4) {
         t6 = words.at;
         t7 = (slice){t6, words.count};
-        code_sums_accumulation_accumulate_blocks(t7, count);
+        code_sums_accumulation_accumulate_field_block_Block(t7, count);
     } else {
         t9 = words.at;
         t10 = (slice){t9, words.count};
-        code_sums_accumulation_accumulate_primes(t10);
+        code_sums_accumulation_accumulate_prime_prime_Prime(t10, count);
     }
 }
 
-/* code_sums, src/accumulation.rt:13: Accumulates noise words of field 1. */
-static void code_sums_accumulation_accumulate_bits(slice v)
+/* code_sums, src/accumulation.rt:12, at u64: Accumulates `count` values. */
+static void code_sums_accumulation_accumulate_uint64(slice words, uint64_t count)
 {
-    uint64_t total, i, t4, t7;
+    uint64_t total, i, t6;
     bool t5;
-    char *t6, *t8;
-    total = 0ull;
+    char *t7, *t10;
+    slice t8, t11;
+    total = field_parts_U64FieldElement_zero();
     i = 0ull;
     for (;;) {
-        t4 = v.count;
-        t5 = i < t4;
+        t5 = i < count;
         if (!t5) {
             break;
         }
-        t4 = i * 8ull;
-        t6 = (char *)((uint64_t *)v.at + i);
-        t7 = *(uint64_t *)t6;
-        total = field_block_add_bits(total, t7);
-        t4 = i * 8ull;
-        t8 = (char *)((uint64_t *)v.at + i);
-        *(uint64_t *)t8 = total;
+        t7 = words.at;
+        t8 = (slice){t7, words.count};
+        t6 = field_parts_U64FieldElement_at(t8, i);
+        total = field_parts_U64FieldElement_add(total, t6);
+        t10 = words.at;
+        t11 = (slice){t10, words.count};
+        field_parts_U64FieldElement_put(total, t11, i);
         i = i + 1ull;
     }
 }
 
-/* code_sums, src/accumulation.rt:63: Accumulates noise words of a field. */
+/* code_sums, src/accumulation.rt:25: Accumulates noise words of a field. */
 INLINE void code_sums_accumulation_accumulate_noise(uint64_t field, slice words)
 {
     bool t3;
-    char *t5, *t8;
-    slice t6, t9;
+    char *t5, *t9;
+    slice t6, t10;
+    uint64_t t7, t11;
     t3 = field == 1ull;
     if (t3) {
         t5 = words.at;
         t6 = (slice){t5, words.count};
-        code_sums_accumulation_accumulate_bits(t6);
+        t7 = words.count;
+        code_sums_accumulation_accumulate_uint64(t6, t7);
     } else {
-        t8 = words.at;
-        t9 = (slice){t8, words.count};
-        code_sums_accumulation_accumulate_primes(t9);
+        t9 = words.at;
+        t10 = (slice){t9, words.count};
+        t11 = words.count;
+        code_sums_accumulation_accumulate_prime_prime_Prime(t10, t11);
     }
 }
 
-/* record_head, src/head.rt:65: The end byte and the field byte; the value is the field. */
-INLINE number_Number record_head_head_read_field(slice source, uint8_t end)
+/* record_head, src/head.rt:53: The field, from the end byte and the field byte, and the place after them. */
+INLINE Result_tuple_uint64_uint64_answer_Refusal record_head_head_read_field(slice source, uint8_t end)
 {
-    number_Number result;
+    Result_tuple_uint64_uint64_answer_Refusal result;
     uint64_t field, t4;
-    bool t5, t9;
-    char *t6, *t8;
-    uint8_t t7;
+    bool t5, t12;
+    answer_Refusal t6, t9, t10, t13;
+    char *t7, *t11;
+    uint8_t t8;
+    tuple_uint64_uint64 t14;
     t4 = source.count;
     t5 = t4 <= 0ull;
     if (t5) {
-        result = (number_Number){.fault = {1u, 10u}};
+        t6 = (answer_Refusal){answer_Refusal_record_ends};
+        result = (Result_tuple_uint64_uint64_answer_Refusal){.err = {1u, t6}};
         return result;
     }
-    t6 = source.at + 0ull;
-    t7 = *(uint8_t *)t6;
-    t5 = t7 != end;
+    t7 = source.at + 0ull;
+    t8 = *(uint8_t *)t7;
+    t5 = t8 != end;
     if (t5) {
-        result = (number_Number){.fault = {1u, 9u}};
+        t9 = (answer_Refusal){answer_Refusal_wrong_end};
+        result = (Result_tuple_uint64_uint64_answer_Refusal){.err = {1u, t9}};
         return result;
     }
     t4 = source.count;
     t5 = t4 <= 1ull;
     if (t5) {
-        result = (number_Number){.fault = {1u, 10u}};
+        t10 = (answer_Refusal){answer_Refusal_record_ends};
+        result = (Result_tuple_uint64_uint64_answer_Refusal){.err = {1u, t10}};
         return result;
     }
-    t8 = source.at + 1ull;
-    t7 = *(uint8_t *)t8;
-    field = (uint64_t)t7;
-    t9 = field_noise_is_field(field);
-    if (t9) {
-        result = (number_Number){.value = {0u, field, 2ull}};
+    t11 = source.at + 1ull;
+    t8 = *(uint8_t *)t11;
+    field = (uint64_t)t8;
+    t5 = field_noise_is_field(field);
+    t12 = !t5;
+    if (t12) {
+        t13 = (answer_Refusal){answer_Refusal_bad_field};
+        result = (Result_tuple_uint64_uint64_answer_Refusal){.err = {1u, t13}};
         return result;
     }
-    result = (number_Number){.fault = {1u, 1u}};
+    t14 = (tuple_uint64_uint64){field, 2ull};
+    result = (Result_tuple_uint64_uint64_answer_Refusal){.ok = {0u, t14}};
     return result;
 }
 
-/* record_head, src/head.rt:34: A size of 1 to `top`. */
-INLINE number_Number record_head_head_read_size(slice source, uint64_t at, uint64_t top)
+/* record_head, src/head.rt:31: A size of 1 to `top`, and the place after it. */
+INLINE Result_tuple_uint64_uint64_answer_Refusal record_head_head_read_size(slice source, uint64_t at, uint64_t top)
 {
-    number_Number result, r;
-    uint64_t n, next;
-    bool t7;
-    r = number_read_number(source, at);
-    switch (r.value.tag) {
+    Result_tuple_uint64_uint64_answer_Refusal result, t10;
+    uint64_t size, at_2;
+    tuple_uint64_uint64 t6, t8, t11, t15;
+    ErrResidual_answer_Refusal t7;
+    ControlFlow_ErrResidual_answer_Refusal_tuple_uint64_uint64 t9;
+    bool t12, t13;
+    answer_Refusal t14;
+    t10 = number_read_number(source, at);
+    t9 = core_ResultTry_branch_tuple_uint64_uint64_answer_Refusal(t10);
+    switch (t9.continue_.tag) {
     case 0:
-        n = r.value.m1;
-        next = r.value.m2;
+        t6 = t9.continue_.m1;
+        t11 = t6;
         break;
     default:
-        result = r;
+        t7 = t9.break_.m1;
+        result = core_ResultFromResidualErrResidual_from_residual_tuple(t7);
         return result;
     }
-    t7 = n < 1ull;
-    if (t7) {
-        result = (number_Number){.fault = {1u, 2u}};
-        return result;
+    t8 = t11;
+    size = t8.m0;
+    at_2 = t8.m1;
+    t12 = size < 1ull;
+    if (!t12) {
+        t12 = top < size;
+        t13 = t12;
+        if (!t13) {
+            goto after2;
+        }
     }
-    t7 = top < n;
-    if (t7) {
-        result = (number_Number){.fault = {1u, 2u}};
-        return result;
-    }
-    result = (number_Number){.value = {0u, n, next}};
+    t14 = (answer_Refusal){answer_Refusal_bad_size};
+    result = (Result_tuple_uint64_uint64_answer_Refusal){.err = {1u, t14}};
+    return result;
+    goto after1;
+after2:;
+after1:;
+    t15 = (tuple_uint64_uint64){size, at_2};
+    result = (Result_tuple_uint64_uint64_answer_Refusal){.ok = {0u, t15}};
     return result;
 }
 
-/* record_head, src/head.rt:51: g: 1, 2 or 3, and a divisor of d. */
-INLINE number_Number record_head_head_read_branch(slice source, uint64_t at, uint64_t depth)
+/* record_head, src/head.rt:42: g: 1, 2 or 3, and a divisor of d; and the place after it. */
+INLINE Result_tuple_uint64_uint64_answer_Refusal record_head_head_read_branch(slice source, uint64_t at, uint64_t depth)
 {
-    number_Number result, r;
-    uint64_t g, next, t7;
-    bool t8;
-    r = record_head_head_read_size(source, at, 3ull);
-    switch (r.value.tag) {
+    Result_tuple_uint64_uint64_answer_Refusal result, t10;
+    uint64_t branch_bits, at_2, t12;
+    tuple_uint64_uint64 t6, t8, t11, t15;
+    ErrResidual_answer_Refusal t7;
+    ControlFlow_ErrResidual_answer_Refusal_tuple_uint64_uint64 t9;
+    bool t13;
+    answer_Refusal t14;
+    t10 = record_head_head_read_size(source, at, 3ull);
+    t9 = core_ResultTry_branch_tuple_uint64_uint64_answer_Refusal(t10);
+    switch (t9.continue_.tag) {
     case 0:
-        g = r.value.m1;
-        next = r.value.m2;
+        t6 = t9.continue_.m1;
+        t11 = t6;
         break;
     default:
-        result = r;
+        t7 = t9.break_.m1;
+        result = core_ResultFromResidualErrResidual_from_residual_tuple(t7);
         return result;
     }
-    t7 = depth % g;
-    t8 = t7 != 0ull;
-    if (t8) {
-        result = (number_Number){.fault = {1u, 2u}};
+    t8 = t11;
+    branch_bits = t8.m0;
+    at_2 = t8.m1;
+    t12 = depth % branch_bits;
+    t13 = t12 != 0ull;
+    if (t13) {
+        t14 = (answer_Refusal){answer_Refusal_bad_size};
+        result = (Result_tuple_uint64_uint64_answer_Refusal){.err = {1u, t14}};
         return result;
     }
-    result = (number_Number){.value = {0u, g, next}};
+    t15 = (tuple_uint64_uint64){branch_bits, at_2};
+    result = (Result_tuple_uint64_uint64_answer_Refusal){.ok = {0u, t15}};
     return result;
 }
 
 /* record_head, src/head.rt:14: Whether a record has a count of bytes from a place on. */
 INLINE bool record_head_head_has_bytes(slice source, uint64_t at, uint64_t count)
 {
-    bool result, t5;
-    uint64_t t4, t6;
-    t4 = source.count;
-    t5 = t4 < count;
-    if (t5) {
-        result = false;
-        return result;
-    }
-    t4 = source.count;
-    t6 = t4 - count;
-    result = at <= t6;
-    return result;
-}
-
-/* record_head, src/head.rt:24: A field of a count of bytes; the value is its place. */
-INLINE number_Number record_head_head_skip(slice source, uint64_t at, uint64_t count)
-{
-    number_Number result;
-    bool t4;
-    uint64_t t5;
-    t4 = record_head_head_has_bytes(source, at, count);
+    bool result, t4;
+    uint64_t t5, t6, t7;
+    t5 = source.count;
+    t4 = count <= t5;
     if (t4) {
-        t5 = at + count;
-        result = (number_Number){.value = {0u, at, t5}};
-        return result;
+        t6 = source.count;
+        t7 = t6 - count;
+        t4 = at <= t7;
     }
-    result = (number_Number){.fault = {1u, 10u}};
+    result = t4;
     return result;
 }
 
-/* record_head, src/head.rt:85: g, t, ℓ, n, the code key and the label, after d. */
-static record_RecordAnswer record_head_head_read_after_depth(slice source, uint64_t at2, uint64_t field, uint64_t depth)
+/* record_head, src/head.rt:21: The place after a field of a count of bytes. */
+INLINE Result_uint64_answer_Refusal record_head_head_skip(slice source, uint64_t at, uint64_t count)
 {
-    record_RecordAnswer result;
-    number_Number r2, r3, r4, r5, r6;
-    uint64_t branch_bits, at3, all, trees, at4, terms, at5, outputs, at6, body, t21;
-    uint32_t t20, t22, t23, t24, t25;
-    record_Layout t26;
-    r2 = record_head_head_read_branch(source, at2, depth);
-    switch (r2.value.tag) {
-    case 0:
-        branch_bits = r2.value.m1;
-        at3 = r2.value.m2;
-        break;
-    default:
-        t20 = number_number_fault(r2);
-        result = (record_RecordAnswer){.fault = {1u, t20}};
+    Result_uint64_answer_Refusal result;
+    bool t4, t5;
+    answer_Refusal t6;
+    uint64_t t7;
+    t4 = record_head_head_has_bytes(source, at, count);
+    t5 = !t4;
+    if (t5) {
+        t6 = (answer_Refusal){answer_Refusal_record_ends};
+        result = (Result_uint64_answer_Refusal){.err = {1u, t6}};
         return result;
     }
+    t7 = at + count;
+    result = (Result_uint64_answer_Refusal){.ok = {0u, t7}};
+    return result;
+}
+
+/* record_head, src/head.rt:73: g, t, ℓ, n, the code key and the label, after d. */
+static Result_record_Layout_answer_Refusal record_head_head_read_after_depth(slice source, uint64_t at, uint64_t field, uint64_t depth)
+{
+    Result_record_Layout_answer_Refusal result;
+    uint64_t all, branch_bits, at_2, trees, at_3, terms, at_4, outputs, at_5, body, t23, t31, t41;
+    tuple_uint64_uint64 t8, t12, t16, t20, t25, t28, t29, t32, t33, t35, t36, t38;
+    ErrResidual_answer_Refusal t9, t13, t17, t21, t24;
+    ControlFlow_ErrResidual_answer_Refusal_tuple_uint64_uint64 t26, t30, t34, t37;
+    Result_tuple_uint64_uint64_answer_Refusal t27;
+    ControlFlow_ErrResidual_answer_Refusal_uint64 t39;
+    Result_uint64_answer_Refusal t40;
+    record_Layout t42;
     all = record_sizes_leaves(depth);
-    t21 = record_sizes_smaller(64ull, all);
-    r3 = record_head_head_read_size(source, at3, t21);
-    switch (r3.value.tag) {
+    t27 = record_head_head_read_branch(source, at, depth);
+    t26 = core_ResultTry_branch_tuple_uint64_uint64_answer_Refusal(t27);
+    switch (t26.continue_.tag) {
     case 0:
-        trees = r3.value.m1;
-        at4 = r3.value.m2;
+        t8 = t26.continue_.m1;
+        t28 = t8;
         break;
     default:
-        t22 = number_number_fault(r3);
-        result = (record_RecordAnswer){.fault = {1u, t22}};
+        t9 = t26.break_.m1;
+        result = core_ResultFromResidualErrResidual_from_residual_record(t9);
         return result;
     }
-    t21 = record_sizes_smaller(32ull, all);
-    r4 = record_head_head_read_size(source, at4, t21);
-    switch (r4.value.tag) {
+    t25 = t28;
+    branch_bits = t25.m0;
+    at_2 = t25.m1;
+    t31 = core_usize_min(all, 64ull);
+    t27 = record_head_head_read_size(source, at_2, t31);
+    t30 = core_ResultTry_branch_tuple_uint64_uint64_answer_Refusal(t27);
+    switch (t30.continue_.tag) {
     case 0:
-        terms = r4.value.m1;
-        at5 = r4.value.m2;
+        t12 = t30.continue_.m1;
+        t32 = t12;
         break;
     default:
-        t23 = number_number_fault(r4);
-        result = (record_RecordAnswer){.fault = {1u, t23}};
+        t13 = t30.break_.m1;
+        result = core_ResultFromResidualErrResidual_from_residual_record(t13);
         return result;
     }
-    t21 = all / 2ull;
-    r5 = record_head_head_read_size(source, at5, t21);
-    switch (r5.value.tag) {
+    t29 = t32;
+    trees = t29.m0;
+    at_3 = t29.m1;
+    t31 = core_usize_min(all, 32ull);
+    t27 = record_head_head_read_size(source, at_3, t31);
+    t34 = core_ResultTry_branch_tuple_uint64_uint64_answer_Refusal(t27);
+    switch (t34.continue_.tag) {
     case 0:
-        outputs = r5.value.m1;
-        at6 = r5.value.m2;
+        t16 = t34.continue_.m1;
+        t35 = t16;
         break;
     default:
-        t24 = number_number_fault(r5);
-        result = (record_RecordAnswer){.fault = {1u, t24}};
+        t17 = t34.break_.m1;
+        result = core_ResultFromResidualErrResidual_from_residual_record(t17);
         return result;
     }
-    r6 = record_head_head_skip(source, at6, 32ull);
-    switch (r6.value.tag) {
+    t33 = t35;
+    terms = t33.m0;
+    at_4 = t33.m1;
+    t31 = all / 2ull;
+    t27 = record_head_head_read_size(source, at_4, t31);
+    t37 = core_ResultTry_branch_tuple_uint64_uint64_answer_Refusal(t27);
+    switch (t37.continue_.tag) {
     case 0:
-        body = r6.value.m2;
+        t20 = t37.continue_.m1;
+        t38 = t20;
         break;
     default:
-        t25 = number_number_fault(r6);
-        result = (record_RecordAnswer){.fault = {1u, t25}};
+        t21 = t37.break_.m1;
+        result = core_ResultFromResidualErrResidual_from_residual_record(t21);
         return result;
     }
-    t26 = (record_Layout){field, depth, branch_bits, trees, terms, outputs, body};
-    result = (record_RecordAnswer){.accepted = {0u, t26}};
+    t36 = t38;
+    outputs = t36.m0;
+    at_5 = t36.m1;
+    t40 = record_head_head_skip(source, at_5, 32ull);
+    t39 = core_ResultTry_branch_uint64_answer_Refusal(t40);
+    switch (t39.continue_.tag) {
+    case 0:
+        t23 = t39.continue_.m1;
+        t41 = t23;
+        break;
+    default:
+        t24 = t39.break_.m1;
+        result = core_ResultFromResidualErrResidual_from_residual_record(t24);
+        return result;
+    }
+    body = t41;
+    t42 = (record_Layout){field, depth, branch_bits, trees, terms, outputs, body};
+    result = (Result_record_Layout_answer_Refusal){.ok = {0u, t42}};
     return result;
 }
 
-/* record_head, src/head.rt:122: d, then the rest of the head. */
-INLINE record_RecordAnswer record_head_head_read_sizes(slice source, uint64_t at1, uint64_t field)
+/* record_head, src/head.rt:95: d, then the rest of the head. */
+INLINE Result_record_Layout_answer_Refusal record_head_head_read_sizes(slice source, uint64_t at, uint64_t field)
 {
-    record_RecordAnswer result;
-    number_Number r;
-    uint64_t depth, at2;
-    uint32_t t7;
-    r = record_head_head_read_size(source, at1, 16ull);
-    switch (r.value.tag) {
+    Result_record_Layout_answer_Refusal result;
+    uint64_t depth, at_2;
+    tuple_uint64_uint64 t6, t8, t11;
+    ErrResidual_answer_Refusal t7;
+    ControlFlow_ErrResidual_answer_Refusal_tuple_uint64_uint64 t9;
+    Result_tuple_uint64_uint64_answer_Refusal t10;
+    t10 = record_head_head_read_size(source, at, 16ull);
+    t9 = core_ResultTry_branch_tuple_uint64_uint64_answer_Refusal(t10);
+    switch (t9.continue_.tag) {
     case 0:
-        depth = r.value.m1;
-        at2 = r.value.m2;
+        t6 = t9.continue_.m1;
+        t11 = t6;
         break;
     default:
-        t7 = number_number_fault(r);
-        result = (record_RecordAnswer){.fault = {1u, t7}};
+        t7 = t9.break_.m1;
+        result = core_ResultFromResidualErrResidual_from_residual_record(t7);
         return result;
     }
-    result = record_head_head_read_after_depth(source, at2, field, depth);
+    t8 = t11;
+    depth = t8.m0;
+    at_2 = t8.m1;
+    result = record_head_head_read_after_depth(source, at_2, field, depth);
     return result;
 }
 
-/* record_head, src/head.rt:133: The head of a record of this end. */
-INLINE record_RecordAnswer record_head_head_read_head(slice source, uint8_t end)
+/* record_head, src/head.rt:103: The head of a record of the end with this byte. */
+INLINE Result_record_Layout_answer_Refusal record_head_head_read_head(slice source, uint8_t end)
 {
-    record_RecordAnswer result;
-    number_Number r;
+    Result_record_Layout_answer_Refusal result;
     uint64_t field, at;
-    uint32_t t6;
-    r = record_head_head_read_field(source, end);
-    switch (r.value.tag) {
+    tuple_uint64_uint64 t5, t7, t10;
+    ErrResidual_answer_Refusal t6;
+    ControlFlow_ErrResidual_answer_Refusal_tuple_uint64_uint64 t8;
+    Result_tuple_uint64_uint64_answer_Refusal t9;
+    t9 = record_head_head_read_field(source, end);
+    t8 = core_ResultTry_branch_tuple_uint64_uint64_answer_Refusal(t9);
+    switch (t8.continue_.tag) {
     case 0:
-        field = r.value.m1;
-        at = r.value.m2;
+        t5 = t8.continue_.m1;
+        t10 = t5;
         break;
     default:
-        t6 = number_number_fault(r);
-        result = (record_RecordAnswer){.fault = {1u, t6}};
+        t6 = t8.break_.m1;
+        result = core_ResultFromResidualErrResidual_from_residual_record(t6);
         return result;
     }
+    t7 = t10;
+    field = t7.m0;
+    at = t7.m1;
     result = record_head_head_read_sizes(source, at, field);
     return result;
 }
 
-/* record_reading, src/noise.rt:19: A position below `all`, after positions below `base`. */
-INLINE number_Number record_reading_noise_read_position(slice source, uint64_t at, uint64_t base, uint64_t all)
+/* record_reading, src/noise.rt:19: A position below `all`, after positions below `base`, and the place after it. */
+INLINE Result_tuple_uint64_uint64_answer_Refusal record_reading_noise_read_position(slice source, uint64_t at, uint64_t base, uint64_t all)
 {
-    number_Number result, r;
-    uint64_t x, next, t8;
-    bool t9;
-    r = number_read_number(source, at);
-    switch (r.value.tag) {
+    Result_tuple_uint64_uint64_answer_Refusal result, t11;
+    uint64_t back, at_2, t13;
+    tuple_uint64_uint64 t7, t9, t12, t16;
+    ErrResidual_answer_Refusal t8;
+    ControlFlow_ErrResidual_answer_Refusal_tuple_uint64_uint64 t10;
+    bool t14;
+    answer_Refusal t15;
+    t11 = number_read_number(source, at);
+    t10 = core_ResultTry_branch_tuple_uint64_uint64_answer_Refusal(t11);
+    switch (t10.continue_.tag) {
     case 0:
-        x = r.value.m1;
-        next = r.value.m2;
+        t7 = t10.continue_.m1;
+        t12 = t7;
         break;
     default:
-        result = r;
+        t8 = t10.break_.m1;
+        result = core_ResultFromResidualErrResidual_from_residual_tuple(t8);
         return result;
     }
-    t8 = all - base;
-    t9 = t8 <= x;
-    if (t9) {
-        result = (number_Number){.fault = {1u, 4u}};
+    t9 = t12;
+    back = t9.m0;
+    at_2 = t9.m1;
+    t13 = all - base;
+    t14 = t13 <= back;
+    if (t14) {
+        t15 = (answer_Refusal){answer_Refusal_bad_position};
+        result = (Result_tuple_uint64_uint64_answer_Refusal){.err = {1u, t15}};
         return result;
     }
-    t8 = base + x;
-    result = (number_Number){.value = {0u, t8, next}};
+    t13 = base + back;
+    t16 = (tuple_uint64_uint64){t13, at_2};
+    result = (Result_tuple_uint64_uint64_answer_Refusal){.ok = {0u, t16}};
     return result;
 }
 
-/* record_reading, src/element.rt:13: The noise value of a tree; where it is always 1 it takes no bytes. */
-INLINE number_Number record_reading_element_read_value(slice source, uint64_t at, uint64_t field)
+/* record_reading, src/element.rt:14: The noise value of a tree; where it is always 1 it takes no bytes. */
+INLINE Result_tuple_uint64_uint64_answer_Refusal record_reading_element_read_value(slice source, uint64_t at, uint64_t field)
 {
-    number_Number result;
-    uint64_t value, t8, t9;
-    bool t5, t6, t7;
+    Result_tuple_uint64_uint64_answer_Refusal result;
+    uint64_t value, t11;
+    bool t5, t7, t8;
+    tuple_uint64_uint64 t6, t12;
+    answer_Refusal t9, t10;
     t5 = field_noise_one_noise(field);
     if (t5) {
-        result = (number_Number){.value = {0u, 1ull, at}};
+        t6 = (tuple_uint64_uint64){1ull, at};
+        result = (Result_tuple_uint64_uint64_answer_Refusal){.ok = {0u, t6}};
         return result;
     }
-    t6 = record_head_head_has_bytes(source, at, 8ull);
-    if (t6) {
-        value = field_bytes_word_at(source, at);
-        t7 = field_noise_is_noise(field, value);
-        if (t7) {
-            t8 = value;
-            t9 = at + 8ull;
-            result = (number_Number){.value = {0u, t8, t9}};
-            return result;
-        }
-        result = (number_Number){.fault = {1u, 5u}};
+    t7 = record_head_head_has_bytes(source, at, 8ull);
+    t8 = !t7;
+    if (t8) {
+        t9 = (answer_Refusal){answer_Refusal_record_ends};
+        result = (Result_tuple_uint64_uint64_answer_Refusal){.err = {1u, t9}};
         return result;
     }
-    result = (number_Number){.fault = {1u, 10u}};
+    value = field_bytes_word_at(source, at);
+    t7 = field_noise_is_noise(field, value);
+    t8 = !t7;
+    if (t8) {
+        t10 = (answer_Refusal){answer_Refusal_bad_noise};
+        result = (Result_tuple_uint64_uint64_answer_Refusal){.err = {1u, t10}};
+        return result;
+    }
+    t11 = at + 8ull;
+    t12 = (tuple_uint64_uint64){value, t11};
+    result = (Result_tuple_uint64_uint64_answer_Refusal){.ok = {0u, t12}};
     return result;
 }
 
-/* record_reading, src/element.rt:30: The correction of a tree; the value is its first word. */
-INLINE number_Number record_reading_element_read_correction(slice source, uint64_t at, uint64_t field)
+/* record_reading, src/element.rt:31: The correction of a tree. */
+INLINE Result_tuple_field_element_Element_uint64_answer_Refusal record_reading_element_read_correction(slice source, uint64_t at, uint64_t
+    field)
 {
-    number_Number result;
-    uint64_t length, t8, t9;
+    Result_tuple_field_element_Element_uint64_answer_Refusal result;
+    uint64_t length, t10;
     field_element_Element correction;
     bool t6, t7;
+    answer_Refusal t8, t9;
+    tuple_field_element_Element_uint64 t11;
     length = field_element_element_length(field);
     t6 = record_head_head_has_bytes(source, at, length);
-    if (t6) {
-        correction = field_element_element_at(field, source, at);
-        t7 = field_element_is_element(field, correction);
-        if (t7) {
-            t8 = correction.low;
-            t9 = at + length;
-            result = (number_Number){.value = {0u, t8, t9}};
-            return result;
-        }
-        result = (number_Number){.fault = {1u, 8u}};
+    t7 = !t6;
+    if (t7) {
+        t8 = (answer_Refusal){answer_Refusal_record_ends};
+        result = (Result_tuple_field_element_Element_uint64_answer_Refusal){.err = {1u, t8}};
         return result;
     }
-    result = (number_Number){.fault = {1u, 10u}};
+    correction = field_element_element_at(field, source, at);
+    t6 = field_element_is_element(field, correction);
+    t7 = !t6;
+    if (t7) {
+        t9 = (answer_Refusal){answer_Refusal_not_element};
+        result = (Result_tuple_field_element_Element_uint64_answer_Refusal){.err = {1u, t9}};
+        return result;
+    }
+    t10 = at + length;
+    t11 = (tuple_field_element_Element_uint64){correction, t10};
+    result = (Result_tuple_field_element_Element_uint64_answer_Refusal){.ok = {0u, t11}};
     return result;
 }
 
-/* record_reading, src/noise.rt:34: A tree with so many siblings, after positions below `base`; the value is its position. */
-INLINE number_Number record_reading_noise_read_tree(slice source, uint64_t at, uint64_t base, uint64_t field, uint64_t depth, uint64_t
-    siblings)
+/* record_reading, src/noise.rt:36: A tree with so many siblings, after positions below `base`, and the place after it. */
+static Result_tuple_record_Tree_uint64_answer_Refusal record_reading_noise_read_tree(slice source, uint64_t at, uint64_t base, uint64_t
+    field, uint64_t depth, uint64_t siblings)
 {
-    number_Number result, r0, r1, r2, r3;
-    uint64_t position, at1, at2, at3, at4, t16;
-    t16 = record_sizes_leaves(depth);
-    r0 = record_reading_noise_read_position(source, at, base, t16);
-    switch (r0.value.tag) {
+    Result_tuple_record_Tree_uint64_answer_Refusal result;
+    uint64_t position, at_2, value, at_3, at_4, end, t20, t26, t38;
+    tuple_uint64_uint64 t9, t13, t23, t27, t28, t31;
+    ErrResidual_answer_Refusal t10, t14, t18, t21;
+    field_element_Element correction;
+    tuple_field_element_Element_uint64 t17, t32, t35;
+    record_Tree tree;
+    ControlFlow_ErrResidual_answer_Refusal_tuple_uint64_uint64 t24, t29;
+    Result_tuple_uint64_uint64_answer_Refusal t25, t30;
+    ControlFlow_ErrResidual_answer_Refusal_tuple_field_element t33;
+    Result_tuple_field_element_Element_uint64_answer_Refusal t34;
+    ControlFlow_ErrResidual_answer_Refusal_uint64 t36;
+    Result_uint64_answer_Refusal t37;
+    tuple_record_Tree_uint64 t39;
+    t26 = record_sizes_leaves(depth);
+    t25 = record_reading_noise_read_position(source, at, base, t26);
+    t24 = core_ResultTry_branch_tuple_uint64_uint64_answer_Refusal(t25);
+    switch (t24.continue_.tag) {
     case 0:
-        position = r0.value.m1;
-        at1 = r0.value.m2;
+        t9 = t24.continue_.m1;
+        t27 = t9;
         break;
     default:
-        result = r0;
+        t10 = t24.break_.m1;
+        result = core_ResultFromResidualErrResidual_from_residual_tuple_2(t10);
         return result;
     }
-    r1 = record_reading_element_read_value(source, at1, field);
-    switch (r1.value.tag) {
+    t23 = t27;
+    position = t23.m0;
+    at_2 = t23.m1;
+    t30 = record_reading_element_read_value(source, at_2, field);
+    t29 = core_ResultTry_branch_tuple_uint64_uint64_answer_Refusal(t30);
+    switch (t29.continue_.tag) {
     case 0:
-        at2 = r1.value.m2;
+        t13 = t29.continue_.m1;
+        t31 = t13;
         break;
     default:
-        result = r1;
+        t14 = t29.break_.m1;
+        result = core_ResultFromResidualErrResidual_from_residual_tuple_2(t14);
         return result;
     }
-    r2 = record_reading_element_read_correction(source, at2, field);
-    switch (r2.value.tag) {
+    t28 = t31;
+    value = t28.m0;
+    at_3 = t28.m1;
+    t34 = record_reading_element_read_correction(source, at_3, field);
+    t33 = core_ResultTry_branch_tuple_field_element_Element_uint64(t34);
+    switch (t33.continue_.tag) {
     case 0:
-        at3 = r2.value.m2;
+        t17 = t33.continue_.m1;
+        t35 = t17;
         break;
     default:
-        result = r2;
+        t18 = t33.break_.m1;
+        result = core_ResultFromResidualErrResidual_from_residual_tuple_2(t18);
         return result;
     }
-    t16 = 16ull * siblings;
-    r3 = record_head_head_skip(source, at3, t16);
-    switch (r3.value.tag) {
+    t32 = t35;
+    correction = t32.m0;
+    at_4 = t32.m1;
+    t26 = 16ull * siblings;
+    t37 = record_head_head_skip(source, at_4, t26);
+    t36 = core_ResultTry_branch_uint64_answer_Refusal(t37);
+    switch (t36.continue_.tag) {
     case 0:
-        at4 = r3.value.m2;
+        t20 = t36.continue_.m1;
+        t38 = t20;
         break;
     default:
-        result = r3;
+        t21 = t36.break_.m1;
+        result = core_ResultFromResidualErrResidual_from_residual_tuple_2(t21);
         return result;
     }
-    result = (number_Number){.value = {0u, position, at4}};
+    end = t38;
+    tree = (record_Tree){position, value, correction, at_4};
+    t39 = (tuple_record_Tree_uint64){tree, end};
+    result = (Result_tuple_record_Tree_uint64_answer_Refusal){.ok = {0u, t39}};
     return result;
 }
 
-/* record_reading, src/noise.rt:65: The noise record, whole and tested. */
-static record_RecordAnswer record_reading_noise_read_noise(slice source)
+/* record_reading, src/noise.rt:61: The noise record, whole and tested. */
+static Result_record_Layout_answer_Refusal record_reading_noise_read_noise(slice source)
 {
-    record_RecordAnswer result, r;
-    record_Layout layout;
-    uint64_t field, depth, siblings, trees, at, base, i, position, next, t16;
-    number_Number t;
-    bool t14, t17;
-    uint32_t t15;
-    r = record_head_head_read_head(source, 1u);
-    switch (r.accepted.tag) {
+    Result_record_Layout_answer_Refusal result, t13;
+    record_Layout layout, t3, t15;
+    ErrResidual_answer_Refusal t4, t11;
+    uint64_t siblings, at, base, next, counter, end, t23;
+    record_Tree tree;
+    tuple_record_Tree_uint64 t10, t19, t22;
+    ControlFlow_ErrResidual_answer_Refusal_record_Layout t12;
+    uint8_t t14;
+    bool t18, t24;
+    ControlFlow_ErrResidual_answer_Refusal_tuple_record_Tree t20;
+    Result_tuple_record_Tree_uint64_answer_Refusal t21;
+    answer_Refusal t25;
+    t14 = 1u;
+    t13 = record_head_head_read_head(source, t14);
+    t12 = core_ResultTry_branch_record_Layout_answer_Refusal(t13);
+    switch (t12.continue_.tag) {
     case 0:
-        layout = r.accepted.m1;
+        t3 = t12.continue_.m1;
+        t15 = t3;
         break;
     default:
-        result = r;
+        t4 = t12.break_.m1;
+        result = core_ResultFromResidualErrResidual_from_residual_record(t4);
         return result;
     }
-    field = layout.field;
-    depth = layout.depth;
-    siblings = record_sizes_sibling_count(depth, layout.branch_bits);
-    trees = layout.trees;
+    layout = t15;
+    siblings = record_sizes_sibling_count(layout.depth, layout.branch_bits);
     at = layout.body;
     base = 0ull;
-    i = 0ull;
+    counter = 0ull;
+    end = layout.trees;
     for (;;) {
-        t14 = i < trees;
-        if (!t14) {
+        t18 = counter < end;
+        if (!t18) {
             break;
         }
-        t = record_reading_noise_read_tree(source, at, base, field, depth, siblings);
-        switch (t.value.tag) {
+        t21 = record_reading_noise_read_tree(source, at, base, layout.field, layout.depth, siblings);
+        t20 = core_ResultTry_branch_tuple_record_Tree_uint64_answer(t21);
+        switch (t20.continue_.tag) {
         case 0:
-            position = t.value.m1;
-            next = t.value.m2;
+            t10 = t20.continue_.m1;
+            t22 = t10;
             break;
         default:
-            t15 = number_number_fault(t);
-            result = (record_RecordAnswer){.fault = {1u, t15}};
+            t11 = t20.break_.m1;
+            result = core_ResultFromResidualErrResidual_from_residual_record(t11);
             return result;
         }
-        base = position + 1ull;
+        t19 = t22;
+        tree = t19.m0;
+        next = t19.m1;
+        base = tree.position + 1ull;
         at = next;
-        i = i + 1ull;
+        counter = counter + 1ull;
     }
-    t16 = source.count;
-    t17 = at < t16;
-    if (t17) {
-        result = (record_RecordAnswer){.fault = {1u, 12u}};
+    t23 = source.count;
+    t24 = at < t23;
+    if (t24) {
+        t25 = (answer_Refusal){answer_Refusal_bytes_after};
+        result = (Result_record_Layout_answer_Refusal){.err = {1u, t25}};
         return result;
     }
-    result = (record_RecordAnswer){.accepted = {0u, layout}};
+    result = (Result_record_Layout_answer_Refusal){.ok = {0u, layout}};
     return result;
 }
 
-/* record_reading, src/element.rt:45: Δ; the value is its first word. */
-INLINE number_Number record_reading_element_read_delta(slice source, uint64_t at, uint64_t field)
+/* record_reading, src/element.rt:46: Δ, which has a test and a number of its own: shared, this and the correction would take both as
+ * parameters. */
+INLINE Result_tuple_field_element_Element_uint64_answer_Refusal record_reading_element_read_delta(slice source, uint64_t at, uint64_t field)
 {
-    number_Number result;
-    uint64_t length, t8, t9;
+    Result_tuple_field_element_Element_uint64_answer_Refusal result;
+    uint64_t length, t10;
     field_element_Element delta;
     bool t6, t7;
+    answer_Refusal t8, t9;
+    tuple_field_element_Element_uint64 t11;
     length = field_element_element_length(field);
     t6 = record_head_head_has_bytes(source, at, length);
-    if (t6) {
-        delta = field_element_element_at(field, source, at);
-        t7 = field_element_is_scalar(field, delta);
-        if (t7) {
-            t8 = delta.low;
-            t9 = at + length;
-            result = (number_Number){.value = {0u, t8, t9}};
-            return result;
-        }
-        result = (number_Number){.fault = {1u, 6u}};
+    t7 = !t6;
+    if (t7) {
+        t8 = (answer_Refusal){answer_Refusal_record_ends};
+        result = (Result_tuple_field_element_Element_uint64_answer_Refusal){.err = {1u, t8}};
         return result;
     }
-    result = (number_Number){.fault = {1u, 10u}};
+    delta = field_element_element_at(field, source, at);
+    t6 = field_element_is_scalar(field, delta);
+    t7 = !t6;
+    if (t7) {
+        t9 = (answer_Refusal){answer_Refusal_bad_delta};
+        result = (Result_tuple_field_element_Element_uint64_answer_Refusal){.err = {1u, t9}};
+        return result;
+    }
+    t10 = at + length;
+    t11 = (tuple_field_element_Element_uint64){delta, t10};
+    result = (Result_tuple_field_element_Element_uint64_answer_Refusal){.ok = {0u, t11}};
     return result;
 }
 
-/* record_reading, src/scalar.rt:13: The scalar record, whole and tested. Δ begins the body, and the roots follow it. */
-INLINE record_RecordAnswer record_reading_scalar_read_scalar(slice source)
+/* record_reading, src/scalar.rt:12: The scalar record, whole and tested. Δ begins the body, and the roots follow it. */
+static Result_record_Layout_answer_Refusal record_reading_scalar_read_scalar(slice source)
 {
-    record_RecordAnswer result, r;
-    record_Layout layout;
-    uint64_t trees, at, end, t10;
-    number_Number d, roots;
-    uint32_t t9, t11;
-    bool t12;
-    r = record_head_head_read_head(source, 2u);
-    switch (r.accepted.tag) {
+    Result_record_Layout_answer_Refusal result, t12;
+    record_Layout layout, t3, t14;
+    ErrResidual_answer_Refusal t4, t7, t10;
+    uint64_t at, end, t9, t21, t22;
+    tuple_field_element_Element_uint64 t6, t15, t18;
+    ControlFlow_ErrResidual_answer_Refusal_record_Layout t11;
+    uint8_t t13;
+    ControlFlow_ErrResidual_answer_Refusal_tuple_field_element t16;
+    Result_tuple_field_element_Element_uint64_answer_Refusal t17;
+    ControlFlow_ErrResidual_answer_Refusal_uint64 t19;
+    Result_uint64_answer_Refusal t20;
+    bool t23;
+    answer_Refusal t24;
+    t13 = 2u;
+    t12 = record_head_head_read_head(source, t13);
+    t11 = core_ResultTry_branch_record_Layout_answer_Refusal(t12);
+    switch (t11.continue_.tag) {
     case 0:
-        layout = r.accepted.m1;
+        t3 = t11.continue_.m1;
+        t14 = t3;
         break;
     default:
-        result = r;
+        t4 = t11.break_.m1;
+        result = core_ResultFromResidualErrResidual_from_residual_record(t4);
         return result;
     }
-    trees = layout.trees;
-    d = record_reading_element_read_delta(source, layout.body, layout.field);
-    switch (d.value.tag) {
+    layout = t14;
+    t17 = record_reading_element_read_delta(source, layout.body, layout.field);
+    t16 = core_ResultTry_branch_tuple_field_element_Element_uint64(t17);
+    switch (t16.continue_.tag) {
     case 0:
-        at = d.value.m2;
+        t6 = t16.continue_.m1;
+        t18 = t6;
         break;
     default:
-        t9 = number_number_fault(d);
-        result = (record_RecordAnswer){.fault = {1u, t9}};
+        t7 = t16.break_.m1;
+        result = core_ResultFromResidualErrResidual_from_residual_record(t7);
         return result;
     }
-    t10 = 16ull * trees;
-    roots = record_head_head_skip(source, at, t10);
-    switch (roots.value.tag) {
+    t15 = t18;
+    at = t15.m1;
+    t21 = 16ull * layout.trees;
+    t20 = record_head_head_skip(source, at, t21);
+    t19 = core_ResultTry_branch_uint64_answer_Refusal(t20);
+    switch (t19.continue_.tag) {
     case 0:
-        end = roots.value.m2;
+        t9 = t19.continue_.m1;
+        t22 = t9;
         break;
     default:
-        t11 = number_number_fault(roots);
-        result = (record_RecordAnswer){.fault = {1u, t11}};
+        t10 = t19.break_.m1;
+        result = core_ResultFromResidualErrResidual_from_residual_record(t10);
         return result;
     }
-    t10 = source.count;
-    t12 = end < t10;
-    if (t12) {
-        result = (record_RecordAnswer){.fault = {1u, 12u}};
+    end = t22;
+    t21 = source.count;
+    t23 = end < t21;
+    if (t23) {
+        t24 = (answer_Refusal){answer_Refusal_bytes_after};
+        result = (Result_record_Layout_answer_Refusal){.err = {1u, t24}};
         return result;
     }
-    result = (record_RecordAnswer){.accepted = {0u, layout}};
+    result = (Result_record_Layout_answer_Refusal){.ok = {0u, layout}};
     return result;
 }
 
-/* record_reading, src/noise.rt:95: The tree at a place of an accepted noise record, after positions below `base`. The next tree follows
+/* record_reading, src/noise.rt:80: The tree at a place of an accepted noise record, after positions below `base`. The next tree follows
  * its siblings. */
-INLINE record_Tree record_reading_noise_known_tree(slice source, uint64_t at, uint64_t base, uint64_t field, uint64_t depth, uint64_t
+static record_Tree record_reading_noise_known_tree(slice source, uint64_t at, uint64_t base, uint64_t field, uint64_t depth, uint64_t
     siblings)
 {
     record_Tree result;
-    number_Known number;
-    uint64_t next, position, value, t14, t15;
-    field_element_Element correction, correction_2;
-    bool t13;
+    uint64_t back, at_2, position, siblings_2, t14, t16;
+    tuple_uint64_uint64 t11;
+    bool t12;
+    field_element_Element t13, t15;
     (void)depth;
     (void)siblings;
-    number = number_known_number(source, at);
-    next = number.next;
-    position = base + number.number;
-    t13 = field_noise_one_noise(field);
-    if (t13) {
-        correction = field_element_element_at(field, source, next);
-        t14 = next + 16ull;
-        result = (record_Tree){position, 1ull, correction.low, correction.high, t14};
+    t11 = number_known_number(source, at);
+    back = t11.m0;
+    at_2 = t11.m1;
+    position = base + back;
+    siblings_2 = at_2 + 16ull;
+    t12 = field_noise_one_noise(field);
+    if (t12) {
+        t13 = field_element_element_at(field, source, at_2);
+        result = (record_Tree){position, 1ull, t13, siblings_2};
         return result;
     }
-    value = field_bytes_word_at(source, next);
-    t15 = next + 8ull;
-    correction_2 = field_element_element_at(field, source, t15);
-    t15 = next + 16ull;
-    result = (record_Tree){position, value, correction_2.low, correction_2.high, t15};
+    t14 = field_bytes_word_at(source, at_2);
+    t16 = at_2 + 8ull;
+    t15 = field_element_element_at(field, source, t16);
+    result = (record_Tree){position, t14, t15, siblings_2};
     return result;
 }
 
 /* tree_sums, src/zero.rt:5: Zeroes words. */
-static void tree_sums_zero_zero_words(slice words)
+INLINE void tree_sums_zero_zero_words(slice words)
 {
-    uint64_t i, t3;
-    bool t4;
-    char *t5;
-    i = 0ull;
-    for (;;) {
-        t3 = words.count;
-        t4 = i < t3;
-        if (!t4) {
-            break;
-        }
-        t3 = i * 8ull;
-        t5 = (char *)((uint64_t *)words.at + i);
-        *(uint64_t *)t5 = 0ull;
-        i = i + 1ull;
-    }
+    char *t3;
+    slice t4;
+    t3 = words.at;
+    t4 = (slice){t3, words.count};
+    core_slice_fill_uint64(t4, 0ull);
 }
 
 /* tree_sums, src/sums.rt:18: Adds an element of field 1 to the one that two words hold. */
@@ -6048,32 +8196,32 @@ INLINE void tree_sums_sums_add_words(uint64_t field, uint64_2 words, slice acc)
 {
     uint64_2 words_slot;
     field_block_Block element;
-    prime_prime_Prime element_2;
-    bool t7;
-    char *t8, *t9, *t11, *t12, *t15, *t17, *t18, *t21;
-    uint64_t t10, t13, t19;
-    slice t16, t22;
+    bool t6;
+    char *t7, *t8, *t10, *t11, *t14, *t17, *t18, *t21;
+    uint64_t t9, t12, t19;
+    slice t15, t22;
+    prime_prime_Prime t20;
     words_slot = words;
-    t7 = field == 1ull;
-    if (t7) {
-        t8 = (char *)&words_slot;
-        t9 = t8 + 0ull;
-        t10 = *(uint64_t *)t9;
-        t11 = (char *)&words_slot;
-        t12 = t11 + 8ull;
-        t13 = *(uint64_t *)t12;
-        element = (field_block_Block){t10, t13};
-        t15 = acc.at;
-        t16 = (slice){t15, acc.count};
-        tree_sums_sums_add_block(element, t16);
+    t6 = field == 1ull;
+    if (t6) {
+        t7 = (char *)&words_slot;
+        t8 = t7 + 0ull;
+        t9 = *(uint64_t *)t8;
+        t10 = (char *)&words_slot;
+        t11 = t10 + 8ull;
+        t12 = *(uint64_t *)t11;
+        element = (field_block_Block){t9, t12};
+        t14 = acc.at;
+        t15 = (slice){t14, acc.count};
+        tree_sums_sums_add_block(element, t15);
     } else {
         t17 = (char *)&words_slot;
         t18 = t17 + 0ull;
         t19 = *(uint64_t *)t18;
-        element_2 = (prime_prime_Prime){t19};
+        t20 = (prime_prime_Prime){t19};
         t21 = acc.at;
         t22 = (slice){t21, acc.count};
-        tree_sums_sums_add_prime(element_2, t22);
+        tree_sums_sums_add_prime(t20, t22);
     }
 }
 
@@ -6097,8 +8245,8 @@ INLINE void tree_sums_sums_add_leaf(uint64_t field, field_block_Block s, slice a
     }
 }
 
-/* tree_sums, src/sums.rt:71: Adds two elements of field 1 to those that four words hold. */
-INLINE void tree_sums_sums_add_blocks(aes_blocks_TwoBlocks both, slice acc)
+/* tree_sums, src/sums.rt:70: Adds two elements of field 1 to those that four words hold. */
+INLINE void tree_sums_sums_add_blocks(aes_blocks_Two_field_block_Block both, slice acc)
 {
     char *t3, *t6, *t7, *t8, *t9, *t10, *t11, *t12;
     uint64_t t4, t5;
@@ -6124,8 +8272,8 @@ INLINE void tree_sums_sums_add_blocks(aes_blocks_TwoBlocks both, slice acc)
     *(uint64_t *)t12 = t5;
 }
 
-/* tree_sums, src/sums.rt:82: Adds the elements of field 2 of two leaves to those that two words hold. */
-INLINE void tree_sums_sums_add_primes(aes_blocks_TwoBlocks both, slice acc)
+/* tree_sums, src/sums.rt:81: Adds the elements of field 2 of two leaves to those that two words hold. */
+INLINE void tree_sums_sums_add_primes(aes_blocks_Two_field_block_Block both, slice acc)
 {
     prime_prime_Prime word0, word1, a, b, t10;
     char *t7, *t9, *t12, *t14;
@@ -6148,144 +8296,147 @@ INLINE void tree_sums_sums_add_primes(aes_blocks_TwoBlocks both, slice acc)
     *(uint64_t *)t14 = t13;
 }
 
-/* tree_sums, src/sums.rt:95: Adds children c and c + 1 of s, which are leaves, to the elements of acc. */
-INLINE void tree_sums_sums_add_pair(char *tables, char *keys, uint64_t field, uint64_t c, field_block_Block s, slice acc)
+/* tree_sums, src/sums.rt:94: Adds children c and c + 1 of s, which are leaves, to the elements of acc. */
+INLINE void tree_sums_sums_add_pair(aes_sbox_Tables tables, char *keys, uint64_t field, uint64_t c, field_block_Block s, slice acc)
 {
-    aes_blocks_TwoBlocks ciphers, both;
-    uint64_t t9, t13, t14;
-    char *t10, *t11, *t12, *t15, *t16, *t17, *t24, *t27;
-    field_block_Block t18, t19, t20, t21;
-    bool t22;
-    slice t25, t28;
-    t9 = c * 320ull;
-    t10 = keys;
-    t11 = t10 + t9;
-    t12 = t11;
-    t13 = c + 1ull;
-    t14 = t13 * 320ull;
-    t15 = keys;
-    t16 = t15 + t14;
-    t17 = t16;
-    ciphers = aes_blocks_encrypt_two(tables, t12, t17, s.low, s.high, s.low, s.high);
-    t19 = ciphers.one;
-    t18 = field_block_Block_add(t19, s);
-    t21 = ciphers.other;
-    t20 = field_block_Block_add(t21, s);
-    both = (aes_blocks_TwoBlocks){t18, t20};
-    t22 = field == 1ull;
-    if (t22) {
-        t24 = acc.at;
-        t25 = (slice){t24, acc.count};
-        tree_sums_sums_add_blocks(both, t25);
-    } else {
-        t27 = acc.at;
-        t28 = (slice){t27, acc.count};
-        tree_sums_sums_add_primes(both, t28);
-    }
-}
-
-/* tree_sums, src/sums.rt:119: Adds four children of s from c on, which are leaves, to the elements of acc. */
-INLINE void tree_sums_sums_add_four(char *tables, char *keys, uint64_t field, uint64_t c, field_block_Block s, slice acc)
-{
-    uint64_t mid, t8, t14;
-    char *t10, *t13, *t15;
-    slice t11, t16;
-    t8 = acc.count;
-    mid = t8 / 2ull;
-    t10 = acc.at;
-    t11 = (slice){t10, mid};
-    tree_sums_sums_add_pair(tables, keys, field, c, s, t11);
-    t8 = c + 2ull;
-    t13 = (char *)((uint64_t *)acc.at + mid);
-    t14 = acc.count - mid;
-    t15 = t13;
-    t16 = (slice){t15, t14};
-    tree_sums_sums_add_pair(tables, keys, field, t8, s, t16);
-}
-
-/* tree_sums, src/sums.rt:136: Adds all two, four or eight children of s, which are leaves, to the elements of acc. */
-static void tree_sums_sums_add_bottom(char *tables, char *keys, uint64_t field, uint64_t bits, uint64_t c, uint64_t s_low, uint64_t s_high,
-    slice acc)
-{
-    field_block_Block s;
-    uint64_t mid, t17, t23;
-    bool t9, t13;
-    char *t11, *t15, *t19, *t22, *t24;
-    slice t12, t16, t20, t25;
-    s = (field_block_Block){s_low, s_high};
-    t9 = bits == 1ull;
+    aes_blocks_Two_field_block_Block both;
+    aes_sbox_Tables t8;
+    bool t9;
+    char *t11, *t14;
+    slice t12, t15;
+    t8 = tables;
+    both = tree_walk_node_children(t8, keys, c, s);
+    t9 = field == 1ull;
     if (t9) {
         t11 = acc.at;
         t12 = (slice){t11, acc.count};
-        tree_sums_sums_add_pair(tables, keys, field, c, s, t12);
+        tree_sums_sums_add_blocks(both, t12);
     } else {
-        t13 = bits == 2ull;
-        if (t13) {
-            t15 = acc.at;
-            t16 = (slice){t15, acc.count};
-            tree_sums_sums_add_four(tables, keys, field, c, s, t16);
-        } else {
-            t17 = acc.count;
-            mid = t17 / 2ull;
-            t19 = acc.at;
-            t20 = (slice){t19, mid};
-            tree_sums_sums_add_four(tables, keys, field, c, s, t20);
-            t17 = c + 4ull;
-            t22 = (char *)((uint64_t *)acc.at + mid);
-            t23 = acc.count - mid;
-            t24 = t22;
-            t25 = (slice){t24, t23};
-            tree_sums_sums_add_four(tables, keys, field, t17, s, t25);
-        }
+        t14 = acc.at;
+        t15 = (slice){t14, acc.count};
+        tree_sums_sums_add_primes(both, t15);
     }
 }
 
-/* tree_sums, src/sums.rt:160: Adds the two children of each of two nodes, which are leaves, to the elements of acc. */
-INLINE void tree_sums_sums_add_couple(char *tables, char *keys, uint64_t field, aes_blocks_TwoBlocks both, slice acc)
+/* tree_sums, src/sums.rt:114: Adds four children of s from c on, which are leaves, to the elements of acc. */
+INLINE void tree_sums_sums_add_four(aes_sbox_Tables tables, char *keys, uint64_t field, uint64_t c, field_block_Block s, slice acc)
 {
-    uint64_t mid, t7, t14;
-    field_block_Block t9, t12;
-    char *t10, *t13, *t15;
-    slice t11, t16;
-    t7 = acc.count;
-    mid = t7 / 2ull;
-    t9 = both.one;
-    t10 = acc.at;
-    t11 = (slice){t10, mid};
-    tree_sums_sums_add_pair(tables, keys, field, 0ull, t9, t11);
-    t12 = both.other;
-    t7 = mid * 8ull;
-    t13 = (char *)((uint64_t *)acc.at + mid);
-    t14 = acc.count - mid;
-    t15 = t13;
-    t16 = (slice){t15, t14};
-    tree_sums_sums_add_pair(tables, keys, field, 0ull, t12, t16);
-}
-
-/* tree_sums, src/sums.rt:178: Adds the leaves two levels below each of two nodes with two children a node: the children of both nodes
- * are made before any leaf, so that no leaf waits for the cipher right before it. */
-static void tree_sums_sums_add_both(char *tables, char *keys, uint64_t field, aes_blocks_TwoBlocks both, slice acc)
-{
-    aes_blocks_TwoBlocks low, high;
-    uint64_t mid, t11, t16;
-    field_block_Block t9, t10;
-    char *t13, *t15, *t17;
-    slice t14, t18;
-    t9 = both.one;
-    low = tree_walk_node_children(tables, keys, 0ull, t9);
-    t10 = both.other;
-    high = tree_walk_node_children(tables, keys, 0ull, t10);
-    t11 = acc.count;
-    mid = t11 / 2ull;
-    t13 = acc.at;
-    t14 = (slice){t13, mid};
-    tree_sums_sums_add_couple(tables, keys, field, low, t14);
-    t11 = mid * 8ull;
+    uint64_t mid, t8, t16;
+    aes_sbox_Tables t10, t13;
+    char *t11, *t15, *t17;
+    slice t12, t18;
+    t8 = acc.count;
+    mid = t8 / 2ull;
+    t10 = tables;
+    t11 = acc.at;
+    t12 = (slice){t11, mid};
+    tree_sums_sums_add_pair(t10, keys, field, c, s, t12);
+    t13 = tables;
+    t8 = c + 2ull;
     t15 = (char *)((uint64_t *)acc.at + mid);
     t16 = acc.count - mid;
     t17 = t15;
     t18 = (slice){t17, t16};
-    tree_sums_sums_add_couple(tables, keys, field, high, t18);
+    tree_sums_sums_add_pair(t13, keys, field, t8, s, t18);
+}
+
+/* tree_sums, src/sums.rt:131: Adds all two, four or eight children of s, which are leaves, to the elements of acc. */
+static void tree_sums_sums_add_bottom(aes_sbox_Tables tables, char *keys, uint64_t field, uint64_t bits, uint64_t c, uint64_t s_low,
+    uint64_t s_high, slice acc)
+{
+    field_block_Block s;
+    uint64_t mid, t19, t27;
+    bool t9, t14;
+    aes_sbox_Tables t11, t16, t21, t24;
+    char *t12, *t17, *t22, *t26, *t28;
+    slice t13, t18, t23, t29;
+    s = (field_block_Block){s_low, s_high};
+    t9 = bits == 1ull;
+    if (t9) {
+        t11 = tables;
+        t12 = acc.at;
+        t13 = (slice){t12, acc.count};
+        tree_sums_sums_add_pair(t11, keys, field, c, s, t13);
+    } else {
+        t14 = bits == 2ull;
+        if (t14) {
+            t16 = tables;
+            t17 = acc.at;
+            t18 = (slice){t17, acc.count};
+            tree_sums_sums_add_four(t16, keys, field, c, s, t18);
+        } else {
+            t19 = acc.count;
+            mid = t19 / 2ull;
+            t21 = tables;
+            t22 = acc.at;
+            t23 = (slice){t22, mid};
+            tree_sums_sums_add_four(t21, keys, field, c, s, t23);
+            t24 = tables;
+            t19 = c + 4ull;
+            t26 = (char *)((uint64_t *)acc.at + mid);
+            t27 = acc.count - mid;
+            t28 = t26;
+            t29 = (slice){t28, t27};
+            tree_sums_sums_add_four(t24, keys, field, t19, s, t29);
+        }
+    }
+}
+
+/* tree_sums, src/sums.rt:156: Adds the two children of each of two nodes, which are leaves, to the elements of acc. Two nodes here, two
+ * pairs of one node's in `add_four`: with both as parameters one function has more of them than lines. */
+INLINE void tree_sums_sums_add_couple(aes_sbox_Tables tables, char *keys, uint64_t field, aes_blocks_Two_field_block_Block both, slice acc)
+{
+    uint64_t mid, t7, t16;
+    aes_sbox_Tables t9, t13;
+    field_block_Block t10, t14;
+    char *t11, *t15, *t17;
+    slice t12, t18;
+    t7 = acc.count;
+    mid = t7 / 2ull;
+    t9 = tables;
+    t10 = both.one;
+    t11 = acc.at;
+    t12 = (slice){t11, mid};
+    tree_sums_sums_add_pair(t9, keys, field, 0ull, t10, t12);
+    t13 = tables;
+    t14 = both.other;
+    t7 = mid * 8ull;
+    t15 = (char *)((uint64_t *)acc.at + mid);
+    t16 = acc.count - mid;
+    t17 = t15;
+    t18 = (slice){t17, t16};
+    tree_sums_sums_add_pair(t13, keys, field, 0ull, t14, t18);
+}
+
+/* tree_sums, src/sums.rt:174: Adds the leaves two levels below each of two nodes with two children a node: the children of both nodes
+ * are made before any leaf, so that no leaf waits for the cipher right before it. */
+static void tree_sums_sums_add_both(aes_sbox_Tables tables, char *keys, uint64_t field, aes_blocks_Two_field_block_Block both, slice acc)
+{
+    aes_blocks_Two_field_block_Block low, high;
+    uint64_t mid, t13, t20;
+    aes_sbox_Tables t9, t11, t15, t18;
+    field_block_Block t10, t12;
+    char *t16, *t19, *t21;
+    slice t17, t22;
+    t9 = tables;
+    t10 = both.one;
+    low = tree_walk_node_children(t9, keys, 0ull, t10);
+    t11 = tables;
+    t12 = both.other;
+    high = tree_walk_node_children(t11, keys, 0ull, t12);
+    t13 = acc.count;
+    mid = t13 / 2ull;
+    t15 = tables;
+    t16 = acc.at;
+    t17 = (slice){t16, mid};
+    tree_sums_sums_add_couple(t15, keys, field, low, t17);
+    t18 = tables;
+    t13 = mid * 8ull;
+    t19 = (char *)((uint64_t *)acc.at + mid);
+    t20 = acc.count - mid;
+    t21 = t19;
+    t22 = (slice){t21, t20};
+    tree_sums_sums_add_couple(t18, keys, field, high, t22);
 }
 
 /* tree_fill, src/range.rt:27: How many leaves are below half of a range. */
@@ -6382,15 +8533,17 @@ INLINE tree_fill_range_Halves tree_fill_range_parted(tree_fill_range_Path path)
 }
 
 /* tree_fill, src/fill.rt:20: Adds the leaves below a range of the children of s to the elements of acc. */
-static void tree_fill_fill_add_range(char *tables, char *keys, uint64_t field, tree_sums_range_Range range, field_block_Block s, slice acc)
+static void tree_fill_fill_add_range(aes_sbox_Tables tables, char *keys, uint64_t field, tree_sums_range_Range range, field_block_Block s,
+    slice acc)
 {
-    uint64_t branch_bits, levels, bits, from, mid, mid_2, t31, t38, t41, t42, t43, t44, t45, t46, t47, t48, t49;
-    aes_blocks_TwoBlocks both;
+    uint64_t branch_bits, levels, bits, from, mid, mid_2, t34, t43, t46, t47, t48, t49, t50, t51, t52, t53, t54;
+    aes_blocks_Two_field_block_Block both;
     tree_sums_range_Range all, low, high;
-    bool t17, t21, t25, t26, t27;
-    char *t19, *t23, *t29, *t34, *t37, *t39, *t51, *t53, *t54;
-    slice t20, t24, t30, t35, t40, t52, t55;
-    field_block_Block t33, t36;
+    bool t17, t21, t26, t28, t29;
+    char *t19, *t24, *t32, *t38, *t42, *t44, *t57, *t60, *t61;
+    slice t20, t25, t33, t39, t45, t58, t62;
+    aes_sbox_Tables t23, t27, t31, t36, t40, t56, t59;
+    field_block_Block t37, t41;
     branch_bits = range.branch_bits;
     levels = range.levels;
     bits = range.bits;
@@ -6403,76 +8556,85 @@ static void tree_fill_fill_add_range(char *tables, char *keys, uint64_t field, t
     } else {
         t21 = levels == 1ull;
         if (t21) {
-            t23 = acc.at;
-            t24 = (slice){t23, acc.count};
-            tree_sums_sums_add_bottom(tables, keys, field, bits, from, s.low, s.high, t24);
+            t23 = tables;
+            t24 = acc.at;
+            t25 = (slice){t24, acc.count};
+            tree_sums_sums_add_bottom(t23, keys, field, bits, from, s.low, s.high, t25);
         } else {
-            t25 = bits == 1ull;
-            if (t25) {
-                both = tree_walk_node_children(tables, keys, from, s);
-                t26 = levels == 3ull;
-                if (t26) {
-                    t27 = branch_bits == 1ull;
-                    if (t27) {
-                        t29 = acc.at;
-                        t30 = (slice){t29, acc.count};
-                        tree_sums_sums_add_both(tables, keys, field, both, t30);
+            t26 = bits == 1ull;
+            if (t26) {
+                t27 = tables;
+                both = tree_walk_node_children(t27, keys, from, s);
+                t28 = levels == 3ull;
+                if (t28) {
+                    t29 = branch_bits == 1ull;
+                    if (t29) {
+                        t31 = tables;
+                        t32 = acc.at;
+                        t33 = (slice){t32, acc.count};
+                        tree_sums_sums_add_both(t31, keys, field, both, t33);
                         return;
                     }
                 }
-                t31 = levels - 1ull;
-                all = (tree_sums_range_Range){branch_bits, t31, branch_bits, 0ull};
-                t31 = acc.count;
-                mid = t31 / 2ull;
-                t33 = both.one;
-                t34 = acc.at;
-                t35 = (slice){t34, mid};
-                tree_fill_fill_add_range(tables, keys, field, all, t33, t35);
-                t36 = both.other;
-                t31 = mid * 8ull;
-                t37 = (char *)((uint64_t *)acc.at + mid);
-                t38 = acc.count - mid;
-                t39 = t37;
-                t40 = (slice){t39, t38};
-                tree_fill_fill_add_range(tables, keys, field, all, t36, t40);
+                t34 = levels - 1ull;
+                all = (tree_sums_range_Range){branch_bits, t34, branch_bits, 0ull};
+                t34 = acc.count;
+                mid = t34 / 2ull;
+                t36 = tables;
+                t37 = both.one;
+                t38 = acc.at;
+                t39 = (slice){t38, mid};
+                tree_fill_fill_add_range(t36, keys, field, all, t37, t39);
+                t40 = tables;
+                t41 = both.other;
+                t34 = mid * 8ull;
+                t42 = (char *)((uint64_t *)acc.at + mid);
+                t43 = acc.count - mid;
+                t44 = t42;
+                t45 = (slice){t44, t43};
+                tree_fill_fill_add_range(t40, keys, field, all, t41, t45);
             } else {
-                t41 = bits - 1ull;
-                t42 = range.branch_bits;
-                t43 = range.levels;
-                t44 = range.from;
-                low = (tree_sums_range_Range){t42, t43, t41, t44};
-                t45 = bits - 1ull;
-                t41 = tree_walk_powers_power(t45);
-                t46 = from + t41;
-                t47 = low.branch_bits;
-                t48 = low.levels;
-                t49 = low.bits;
-                high = (tree_sums_range_Range){t47, t48, t49, t46};
-                t41 = acc.count;
-                mid_2 = t41 / 2ull;
-                t51 = acc.at;
-                t52 = (slice){t51, mid_2};
-                tree_fill_fill_add_range(tables, keys, field, low, s, t52);
-                t46 = mid_2 * 8ull;
-                t53 = (char *)((uint64_t *)acc.at + mid_2);
-                t41 = acc.count - mid_2;
-                t54 = t53;
-                t55 = (slice){t54, t41};
-                tree_fill_fill_add_range(tables, keys, field, high, s, t55);
+                t46 = bits - 1ull;
+                t47 = range.branch_bits;
+                t48 = range.levels;
+                t49 = range.from;
+                low = (tree_sums_range_Range){t47, t48, t46, t49};
+                t50 = bits - 1ull;
+                t46 = tree_walk_powers_power(t50);
+                t51 = from + t46;
+                t52 = low.branch_bits;
+                t53 = low.levels;
+                t54 = low.bits;
+                high = (tree_sums_range_Range){t52, t53, t54, t51};
+                t46 = acc.count;
+                mid_2 = t46 / 2ull;
+                t56 = tables;
+                t57 = acc.at;
+                t58 = (slice){t57, mid_2};
+                tree_fill_fill_add_range(t56, keys, field, low, s, t58);
+                t59 = tables;
+                t51 = mid_2 * 8ull;
+                t60 = (char *)((uint64_t *)acc.at + mid_2);
+                t46 = acc.count - mid_2;
+                t61 = t60;
+                t62 = (slice){t61, t46};
+                tree_fill_fill_add_range(t59, keys, field, high, s, t62);
             }
         }
     }
 }
 
 /* tree_fill, src/fill.rt:72: Adds the leaves below a run of siblings, of those whose bytes begin at a place, to the elements of acc. */
-static void tree_fill_fill_add_run(char *tables, char *keys, uint64_t field, tree_sums_range_Range run, uint64_t at, slice bytes, slice acc)
+static void tree_fill_fill_add_run(aes_sbox_Tables tables, char *keys, uint64_t field, tree_sums_range_Range run, uint64_t at, slice bytes,
+    slice acc)
 {
-    uint64_t branch_bits, levels, bits, from, mid, t18, t19, t23, t24, t25, t26, t27, t28, t29, t30, t31;
+    uint64_t branch_bits, levels, bits, from, mid, t18, t19, t24, t25, t26, t27, t28, t29, t30, t31, t32;
     field_block_Block sibling;
     tree_sums_range_Range all, low, high;
     bool t17;
-    char *t21, *t33, *t35, *t36;
-    slice t22, t34, t37;
+    aes_sbox_Tables t21, t34, t37;
+    char *t22, *t35, *t38, *t39;
+    slice t23, t36, t40;
     branch_bits = run.branch_bits;
     levels = run.levels;
     bits = run.bits;
@@ -6484,48 +8646,52 @@ static void tree_fill_fill_add_run(char *tables, char *keys, uint64_t field, tre
         sibling = tree_walk_columns_node_at(bytes, t19);
         t18 = levels - 1ull;
         all = (tree_sums_range_Range){branch_bits, t18, branch_bits, 0ull};
-        t21 = acc.at;
-        t22 = (slice){t21, acc.count};
-        tree_fill_fill_add_range(tables, keys, field, all, sibling, t22);
+        t21 = tables;
+        t22 = acc.at;
+        t23 = (slice){t22, acc.count};
+        tree_fill_fill_add_range(t21, keys, field, all, sibling, t23);
     } else {
-        t23 = bits - 1ull;
-        t24 = run.branch_bits;
-        t25 = run.levels;
-        t26 = run.from;
-        low = (tree_sums_range_Range){t24, t25, t23, t26};
-        t27 = bits - 1ull;
-        t23 = tree_walk_powers_power(t27);
-        t28 = from + t23;
-        t29 = low.branch_bits;
-        t30 = low.levels;
-        t31 = low.bits;
-        high = (tree_sums_range_Range){t29, t30, t31, t28};
-        t23 = acc.count;
-        mid = t23 / 2ull;
-        t33 = acc.at;
-        t34 = (slice){t33, mid};
-        tree_fill_fill_add_run(tables, keys, field, low, at, bytes, t34);
-        t28 = mid * 8ull;
-        t35 = (char *)((uint64_t *)acc.at + mid);
-        t23 = acc.count - mid;
-        t36 = t35;
-        t37 = (slice){t36, t23};
-        tree_fill_fill_add_run(tables, keys, field, high, at, bytes, t37);
+        t24 = bits - 1ull;
+        t25 = run.branch_bits;
+        t26 = run.levels;
+        t27 = run.from;
+        low = (tree_sums_range_Range){t25, t26, t24, t27};
+        t28 = bits - 1ull;
+        t24 = tree_walk_powers_power(t28);
+        t29 = from + t24;
+        t30 = low.branch_bits;
+        t31 = low.levels;
+        t32 = low.bits;
+        high = (tree_sums_range_Range){t30, t31, t32, t29};
+        t24 = acc.count;
+        mid = t24 / 2ull;
+        t34 = tables;
+        t35 = acc.at;
+        t36 = (slice){t35, mid};
+        tree_fill_fill_add_run(t34, keys, field, low, at, bytes, t36);
+        t37 = tables;
+        t29 = mid * 8ull;
+        t38 = (char *)((uint64_t *)acc.at + mid);
+        t24 = acc.count - mid;
+        t39 = t38;
+        t40 = (slice){t39, t24};
+        tree_fill_fill_add_run(t37, keys, field, high, at, bytes, t40);
     }
 }
 
 /* tree_fill, src/fill.rt:114: Adds the leaves below a range that holds the position of a punctured tree to the elements of acc: the
  * correction at the position, the others from the siblings among the bytes. */
-static void tree_fill_fill_add_path(char *tables, char *keys, uint64_t field, tree_fill_range_Path path, slice bytes, uint64_2 correction,
-    slice acc)
+static void tree_fill_fill_add_path(aes_sbox_Tables tables, char *keys, uint64_t field, tree_fill_range_Path path, slice bytes, uint64_2
+    correction, slice acc)
 {
-    uint64_t at, mid, t15, t23, t33;
+    uint64_t at, mid, t15, t25, t37;
     tree_fill_range_Halves parts;
     bool t11;
-    char *t13, *t18, *t22, *t24, *t28, *t32, *t34;
-    slice t14, t19, t25, t29, t35;
-    tree_fill_range_Path t17, t30;
-    tree_sums_range_Range t20, t27;
+    char *t13, *t19, *t24, *t26, *t31, *t36, *t38;
+    slice t14, t20, t27, t32, t39;
+    aes_sbox_Tables t17, t21, t29, t33;
+    tree_fill_range_Path t18, t34;
+    tree_sums_range_Range t22, t30;
     at = path.at;
     t11 = path.range.levels == 0ull;
     if (t11) {
@@ -6539,62 +8705,70 @@ static void tree_fill_fill_add_path(char *tables, char *keys, uint64_t field, tr
     parts = tree_fill_range_parted(path);
     t11 = parts.lower;
     if (t11) {
-        t17 = parts.below;
-        t18 = acc.at;
-        t19 = (slice){t18, mid};
-        tree_fill_fill_add_path(tables, keys, field, t17, bytes, correction, t19);
-        t20 = parts.beside;
-        t22 = (char *)((uint64_t *)acc.at + mid);
-        t23 = acc.count - mid;
-        t24 = t22;
-        t25 = (slice){t24, t23};
-        tree_fill_fill_add_run(tables, keys, field, t20, at, bytes, t25);
+        t17 = tables;
+        t18 = parts.below;
+        t19 = acc.at;
+        t20 = (slice){t19, mid};
+        tree_fill_fill_add_path(t17, keys, field, t18, bytes, correction, t20);
+        t21 = tables;
+        t22 = parts.beside;
+        t24 = (char *)((uint64_t *)acc.at + mid);
+        t25 = acc.count - mid;
+        t26 = t24;
+        t27 = (slice){t26, t25};
+        tree_fill_fill_add_run(t21, keys, field, t22, at, bytes, t27);
     } else {
-        t27 = parts.beside;
-        t28 = acc.at;
-        t29 = (slice){t28, mid};
-        tree_fill_fill_add_run(tables, keys, field, t27, at, bytes, t29);
-        t30 = parts.below;
-        t32 = (char *)((uint64_t *)acc.at + mid);
-        t33 = acc.count - mid;
-        t34 = t32;
-        t35 = (slice){t34, t33};
-        tree_fill_fill_add_path(tables, keys, field, t30, bytes, correction, t35);
+        t29 = tables;
+        t30 = parts.beside;
+        t31 = acc.at;
+        t32 = (slice){t31, mid};
+        tree_fill_fill_add_run(t29, keys, field, t30, at, bytes, t32);
+        t33 = tables;
+        t34 = parts.below;
+        t36 = (char *)((uint64_t *)acc.at + mid);
+        t37 = acc.count - mid;
+        t38 = t36;
+        t39 = (slice){t38, t37};
+        tree_fill_fill_add_path(t33, keys, field, t34, bytes, correction, t39);
     }
 }
 
 /* tree_fill, src/fill.rt:198: Adds the leaves of a punctured tree to the elements of acc: at its position the correction, whose words
  * are lent by value, the others from the siblings among the bytes. */
-INLINE void tree_fill_fill_add_punctured(char *tables, char *keys, uint64_t field, tree_punctured_Punctured tree, slice bytes, uint64_2
-    correction, slice acc)
+INLINE void tree_fill_fill_add_punctured(aes_sbox_Tables tables, char *keys, uint64_t field, tree_punctured_Punctured tree, slice bytes,
+    uint64_2 correction, slice acc)
 {
     tree_fill_range_Path path;
     tree_sums_range_Range t9;
-    char *t11;
-    slice t12;
+    aes_sbox_Tables t11;
+    char *t12;
+    slice t13;
     t9 = (tree_sums_range_Range){tree.branch_bits, tree.levels, tree.branch_bits, 0ull};
     path = (tree_fill_range_Path){t9, tree.position, tree.at};
-    t11 = acc.at;
-    t12 = (slice){t11, acc.count};
-    tree_fill_fill_add_path(tables, keys, field, path, bytes, correction, t12);
+    t11 = tables;
+    t12 = acc.at;
+    t13 = (slice){t12, acc.count};
+    tree_fill_fill_add_path(t11, keys, field, path, bytes, correction, t13);
 }
 
 /* tree_fill, src/fill.rt:175: Adds the leaves of the tree below s to the elements of acc. */
-INLINE void tree_fill_fill_add_leaves(char *tables, char *keys, uint64_t field, uint64_t branch_bits, uint64_t levels, uint8_4_4 s, slice
-    acc)
+INLINE void tree_fill_fill_add_leaves(aes_sbox_Tables tables, char *keys, uint64_t field, uint64_t branch_bits, uint64_t levels, uint8_4_4
+    s, slice acc)
 {
     tree_sums_range_Range all;
-    field_block_Block t10;
-    char *t11;
-    slice t12;
+    aes_sbox_Tables t10;
+    field_block_Block t11;
+    char *t12;
+    slice t13;
     all = (tree_sums_range_Range){branch_bits, levels, branch_bits, 0ull};
-    t10 = field_block_Block_of_columns(s);
-    t11 = acc.at;
-    t12 = (slice){t11, acc.count};
-    tree_fill_fill_add_range(tables, keys, field, all, t10, t12);
+    t10 = tables;
+    t11 = field_block_Block_of_columns(s);
+    t12 = acc.at;
+    t13 = (slice){t12, acc.count};
+    tree_fill_fill_add_range(t10, keys, field, all, t11, t13);
 }
 
-/* window_tests, src/head.rt:29: How many words N elements take. */
+/* window_tests, src/head.rt:28: How many words N elements take. */
 INLINE uint64_t window_tests_head_vector_words(record_Layout layout)
 {
     uint64_t result, t2, t3;
@@ -6604,7 +8778,7 @@ INLINE uint64_t window_tests_head_vector_words(record_Layout layout)
     return result;
 }
 
-/* window_tests, src/lengths.rt:14: Whether a buffer is too short for so many elements of a field. */
+/* window_tests, src/lengths.rt:15: Whether a buffer is too short for so many elements of a field. */
 INLINE bool window_tests_lengths_lacks_room(uint64_t field, uint64_t count, uint64_t room)
 {
     bool result;
@@ -6614,47 +8788,52 @@ INLINE bool window_tests_lengths_lacks_room(uint64_t field, uint64_t count, uint
     return result;
 }
 
-/* window_tests, src/lengths.rt:22: The number of the tests 3, 7 and 13, from the lengths of the noise and of a vector of elements, and
- * of the buffers for a window of them. The scalar end, which has no noise, gives N for its length and the window's count for the room of
- * u. */
-INLINE uint32_t window_tests_lengths_window_number(record_Layout layout, uint64_t noise, uint64_t vector, code_Window window, uint64_t
-    u_room, uint64_t room)
+/* window_tests, src/lengths.rt:23: The tests 3, 7 and 13, from the lengths of the noise and of a vector of elements, and of the buffers
+ * for a window of them. The scalar end, which has no noise, gives N for its length and the window's count for the room of u. */
+INLINE Result_unit_answer_Refusal window_tests_lengths_check_window(record_Layout layout, uint64_t noise, uint64_t vector, code_Window
+    window, uint64_t u_room, uint64_t room)
 {
-    uint32_t result;
+    Result_unit_answer_Refusal result;
     uint64_t t7;
-    bool t8, t9, t10;
+    bool t8, t11, t14;
+    answer_Refusal t9, t10, t12, t13, t15;
     t7 = record_sizes_leaves(layout.depth);
     t8 = noise != t7;
     if (t8) {
-        result = 3u;
+        t9 = (answer_Refusal){answer_Refusal_bad_length};
+        result = (Result_unit_answer_Refusal){.err = {1u, t9}};
         return result;
     }
     t7 = window_tests_head_vector_words(layout);
     t8 = vector != t7;
     if (t8) {
-        result = 3u;
+        t10 = (answer_Refusal){answer_Refusal_bad_length};
+        result = (Result_unit_answer_Refusal){.err = {1u, t10}};
         return result;
     }
-    t9 = answer_lengths_is_past(window.first, window.count, layout.outputs);
-    if (t9) {
-        result = 7u;
+    t11 = answer_lengths_is_past(window.first, window.count, layout.outputs);
+    if (t11) {
+        t12 = (answer_Refusal){answer_Refusal_window_past_end};
+        result = (Result_unit_answer_Refusal){.err = {1u, t12}};
         return result;
     }
     t8 = u_room < window.count;
     if (t8) {
-        result = 13u;
+        t13 = (answer_Refusal){answer_Refusal_buffer_short};
+        result = (Result_unit_answer_Refusal){.err = {1u, t13}};
         return result;
     }
-    t10 = window_tests_lengths_lacks_room(layout.field, window.count, room);
-    if (t10) {
-        result = 13u;
+    t14 = window_tests_lengths_lacks_room(layout.field, window.count, room);
+    if (t14) {
+        t15 = (answer_Refusal){answer_Refusal_buffer_short};
+        result = (Result_unit_answer_Refusal){.err = {1u, t15}};
         return result;
     }
-    result = 0u;
+    result = (Result_unit_answer_Refusal){.ok = {0u}};
     return result;
 }
 
-/* window_tests, src/head.rt:37: The place of the code key's 16 bytes, which the label's 16 follow (document 02, 8). */
+/* window_tests, src/head.rt:36: The place of the code key's 16 bytes, which the label's 16 follow (document 02, 8). */
 INLINE uint64_t window_tests_head_code_key_at(record_Layout layout)
 {
     uint64_t result;
@@ -6662,19 +8841,19 @@ INLINE uint64_t window_tests_head_code_key_at(record_Layout layout)
     return result;
 }
 
-/* window_tests, src/head.rt:45: The round keys of the code key. */
-INLINE uint64_40 window_tests_head_code_keys(char *sbox, slice source, record_Layout layout)
+/* window_tests, src/head.rt:44: The round keys of the code key. */
+INLINE uint64_40 window_tests_head_code_keys(slice source, record_Layout layout)
 {
     uint64_40 result;
-    uint8_4_4 t4;
-    uint64_t t5;
-    t5 = window_tests_head_code_key_at(layout);
-    t4 = tree_walk_columns_columns_at(source, t5);
-    result = aes128_key_schedule(sbox, t4);
+    uint8_4_4 t3;
+    uint64_t t4;
+    t4 = window_tests_head_code_key_at(layout);
+    t3 = tree_walk_columns_columns_at(source, t4);
+    result = aes128_key_schedule(t3);
     return result;
 }
 
-/* window_tests, src/head.rt:16: The code's shape. */
+/* window_tests, src/head.rt:15: The code's shape. */
 INLINE code_Shape window_tests_head_shape_of(record_Layout layout)
 {
     code_Shape result;
@@ -6685,214 +8864,123 @@ INLINE code_Shape window_tests_head_shape_of(record_Layout layout)
     return result;
 }
 
-/* rows, src/row.rt:57: The element of field 1 at place j. */
-INLINE field_block_Block rows_row_binary_at(slice v, uint64_t j)
-{
-    field_block_Block result;
-    uint64_t low, t6, t7, t10;
-    char *t5, *t9;
-    low = j * 2ull;
-    t5 = (char *)((uint64_t *)v.at + low);
-    t6 = *(uint64_t *)t5;
-    t7 = low + 1ull;
-    t9 = (char *)((uint64_t *)v.at + t7);
-    t10 = *(uint64_t *)t9;
-    result = (field_block_Block){t6, t10};
-    return result;
-}
-
-/* aes_rows, src/lib.rt:24: Column 2 of a round of s, with its round key's column, without what the byte in row 0 adds, which comes of
+/* aes_rows, src/lib.rt:18: A column of a round of s, with its round key's column, without what the byte in row r adds, which comes of
  * column 2 of s. */
-INLINE uint8_4 aes_rows_without_row0(char *tables, char *s, uint64_t k)
+INLINE uint8_4 aes_rows_without_row(aes_sbox_Tables tables, char *s, uint64_t r, uint64_t k)
 {
     uint8_4 result;
-    uint64_t t4, t10, t11, t17, t18, t24;
-    char *t5, *t6, *t7, *t8, *t12, *t13, *t14, *t15, *t19, *t20, *t21, *t22;
-    uint8_t t9, t16, t23;
-    t5 = s;
-    t6 = t5 + 12ull;
-    t7 = t6;
-    t8 = t7 + 1ull;
-    t9 = *(uint8_t *)t8;
-    t4 = aes_blocks_round_entry(tables, 256ull, t9);
-    t10 = k ^ t4;
-    t12 = s;
-    t13 = t12 + 0ull;
-    t14 = t13;
-    t15 = t14 + 2ull;
-    t16 = *(uint8_t *)t15;
-    t11 = aes_blocks_round_entry(tables, 512ull, t16);
-    t17 = t10 ^ t11;
-    t19 = s;
-    t20 = t19 + 4ull;
-    t21 = t20;
-    t22 = t21 + 3ull;
-    t23 = *(uint8_t *)t22;
-    t18 = aes_blocks_round_entry(tables, 768ull, t23);
-    t24 = t17 ^ t18;
-    result = aes_blocks_round_rows(t24);
+    uint64_t a, b, c, t8, t9, t10, t11, t12, t19, t20, t27, t28, t35;
+    aes_sbox_Tables t13, t21, t29;
+    char *t14, *t15, *t16, *t17, *t22, *t23, *t24, *t25, *t30, *t31, *t32, *t33;
+    uint8_t t18, t26, t34;
+    t9 = r + 1ull;
+    t8 = t9 % 4ull;
+    t9 = r + 2ull;
+    t10 = t9 % 4ull;
+    t9 = r + 3ull;
+    t11 = t9 % 4ull;
+    a = t8;
+    b = t10;
+    c = t11;
+    t13 = tables;
+    t14 = s;
+    t15 = t14 + 12ull;
+    t16 = t15;
+    t17 = t16 + a;
+    t18 = *(uint8_t *)t17;
+    t12 = aes_sbox_Tables_mixed(t13, a, t18);
+    t19 = k ^ t12;
+    t21 = tables;
+    t22 = s;
+    t23 = t22 + 0ull;
+    t24 = t23;
+    t25 = t24 + b;
+    t26 = *(uint8_t *)t25;
+    t20 = aes_sbox_Tables_mixed(t21, b, t26);
+    t27 = t19 ^ t20;
+    t29 = tables;
+    t30 = s;
+    t31 = t30 + 4ull;
+    t32 = t31;
+    t33 = t32 + c;
+    t34 = *(uint8_t *)t33;
+    t28 = aes_sbox_Tables_mixed(t29, c, t34);
+    t35 = t27 ^ t28;
+    result = aes_blocks_round_rows(t35);
     return result;
 }
 
-/* aes_rows, src/lib.rt:42: Column 0 of it without what the byte in row 2 adds, which comes of column 2 too. */
-INLINE uint8_4 aes_rows_without_row2(char *tables, char *s, uint64_t k)
-{
-    uint8_4 result;
-    uint64_t t4, t10, t11, t17, t18, t24;
-    char *t5, *t6, *t7, *t8, *t12, *t13, *t14, *t15, *t19, *t20, *t21, *t22;
-    uint8_t t9, t16, t23;
-    t5 = s;
-    t6 = t5 + 0ull;
-    t7 = t6;
-    t8 = t7 + 0ull;
-    t9 = *(uint8_t *)t8;
-    t4 = aes_blocks_round_entry(tables, 0ull, t9);
-    t10 = k ^ t4;
-    t12 = s;
-    t13 = t12 + 4ull;
-    t14 = t13;
-    t15 = t14 + 1ull;
-    t16 = *(uint8_t *)t15;
-    t11 = aes_blocks_round_entry(tables, 256ull, t16);
-    t17 = t10 ^ t11;
-    t19 = s;
-    t20 = t19 + 12ull;
-    t21 = t20;
-    t22 = t21 + 3ull;
-    t23 = *(uint8_t *)t22;
-    t18 = aes_blocks_round_entry(tables, 768ull, t23);
-    t24 = t17 ^ t18;
-    result = aes_blocks_round_rows(t24);
-    return result;
-}
-
-/* aes_rows, src/lib.rt:34: Column 1 of it without what the byte in row 1 adds, which comes of column 2 too. */
-INLINE uint8_4 aes_rows_without_row1(char *tables, char *s, uint64_t k)
-{
-    uint8_4 result;
-    uint64_t t4, t10, t11, t17, t18, t24;
-    char *t5, *t6, *t7, *t8, *t12, *t13, *t14, *t15, *t19, *t20, *t21, *t22;
-    uint8_t t9, t16, t23;
-    t5 = s;
-    t6 = t5 + 4ull;
-    t7 = t6;
-    t8 = t7 + 0ull;
-    t9 = *(uint8_t *)t8;
-    t4 = aes_blocks_round_entry(tables, 0ull, t9);
-    t10 = k ^ t4;
-    t12 = s;
-    t13 = t12 + 12ull;
-    t14 = t13;
-    t15 = t14 + 2ull;
-    t16 = *(uint8_t *)t15;
-    t11 = aes_blocks_round_entry(tables, 512ull, t16);
-    t17 = t10 ^ t11;
-    t19 = s;
-    t20 = t19 + 0ull;
-    t21 = t20;
-    t22 = t21 + 3ull;
-    t23 = *(uint8_t *)t22;
-    t18 = aes_blocks_round_entry(tables, 768ull, t23);
-    t24 = t17 ^ t18;
-    result = aes_blocks_round_rows(t24);
-    return result;
-}
-
-/* aes_rows, src/lib.rt:50: Column 3 of it without what the byte in row 3 adds, which comes of column 2 too. */
-INLINE uint8_4 aes_rows_without_row3(char *tables, char *s, uint64_t k)
-{
-    uint8_4 result;
-    uint64_t t4, t10, t11, t17, t18, t24;
-    char *t5, *t6, *t7, *t8, *t12, *t13, *t14, *t15, *t19, *t20, *t21, *t22;
-    uint8_t t9, t16, t23;
-    t5 = s;
-    t6 = t5 + 12ull;
-    t7 = t6;
-    t8 = t7 + 0ull;
-    t9 = *(uint8_t *)t8;
-    t4 = aes_blocks_round_entry(tables, 0ull, t9);
-    t10 = k ^ t4;
-    t12 = s;
-    t13 = t12 + 0ull;
-    t14 = t13;
-    t15 = t14 + 1ull;
-    t16 = *(uint8_t *)t15;
-    t11 = aes_blocks_round_entry(tables, 256ull, t16);
-    t17 = t10 ^ t11;
-    t19 = s;
-    t20 = t19 + 4ull;
-    t21 = t20;
-    t22 = t21 + 2ull;
-    t23 = *(uint8_t *)t22;
-    t18 = aes_blocks_round_entry(tables, 512ull, t23);
-    t24 = t17 ^ t18;
-    result = aes_blocks_round_rows(t24);
-    return result;
-}
-
-/* aes_rows, src/lib.rt:58: The states after rounds 1 and 2 that the blocks of x and i share, for one x: each without what the bytes that
+/* aes_rows, src/lib.rt:27: The states after rounds 1 and 2 that the blocks of x and i share, for one x: each without what the bytes that
  * differ add. */
-static uint8_4_4_2 aes_rows_share(char *tables, char *keys, uint64_t x)
+static uint8_4_4_2 aes_rows_share(aes_sbox_Tables tables, char *keys, uint64_t x)
 {
     uint8_4_4_2 result;
-    uint8_4_4 s, t, t11, t13;
-    uint8_4 column2, c0, c1, c2, c3, t32, t35, t38;
+    uint8_4_4 s, t, t11, t14;
+    uint8_4 column2, c0, c1, c2, c3, t38, t41, t44;
     field_block_Block t12;
-    char *t14, *t15, *t16, *t18, *t19, *t20, *t21, *t22, *t23, *t24, *t25, *t26, *t27, *t28, *t29, *t30, *t31, *t33, *t34, *t36, *t37;
-    uint64_t t17;
+    aes_sbox_Tables t13, t15, t20, t24, t28, t32;
+    char *t16, *t17, *t18, *t21, *t22, *t23, *t25, *t26, *t27, *t29, *t30, *t31, *t33, *t34, *t35, *t36, *t37, *t39, *t40, *t42, *t43;
+    uint64_t t19;
     t12 = (field_block_Block){x, 0ull};
     t11 = aes_blocks_round_first_key(t12, keys);
     s = t11;
-    t13 = s;
-    t11 = aes_blocks_round_full_round(tables, t13, keys, 2ull);
+    t13 = tables;
+    t14 = s;
+    t11 = aes_blocks_round_full_round(t13, t14, keys, 2ull);
     t = t11;
-    t14 = (char *)&s;
-    t15 = keys;
-    t16 = t15 + 32ull;
-    t17 = *(uint64_t *)t16;
-    column2 = aes_rows_without_row0(tables, t14, t17);
-    t18 = (char *)&t;
-    t19 = keys;
-    t20 = t19 + 48ull;
-    t17 = *(uint64_t *)t20;
-    c0 = aes_rows_without_row2(tables, t18, t17);
+    t15 = tables;
+    t16 = (char *)&s;
+    t17 = keys;
+    t18 = t17 + 32ull;
+    t19 = *(uint64_t *)t18;
+    column2 = aes_rows_without_row(t15, t16, 0ull, t19);
+    t20 = tables;
     t21 = (char *)&t;
     t22 = keys;
-    t23 = t22 + 56ull;
-    t17 = *(uint64_t *)t23;
-    c1 = aes_rows_without_row1(tables, t21, t17);
-    t24 = (char *)&t;
-    t25 = keys;
-    t26 = t25 + 64ull;
-    t17 = *(uint64_t *)t26;
-    c2 = aes_rows_without_row0(tables, t24, t17);
-    t27 = (char *)&t;
-    t28 = keys;
-    t29 = t28 + 72ull;
-    t17 = *(uint64_t *)t29;
-    c3 = aes_rows_without_row3(tables, t27, t17);
-    t30 = (char *)&t;
-    t31 = t30 + 0ull;
-    t32 = *(uint8_4 *)t31;
+    t23 = t22 + 48ull;
+    t19 = *(uint64_t *)t23;
+    c0 = aes_rows_without_row(t20, t21, 2ull, t19);
+    t24 = tables;
+    t25 = (char *)&t;
+    t26 = keys;
+    t27 = t26 + 56ull;
+    t19 = *(uint64_t *)t27;
+    c1 = aes_rows_without_row(t24, t25, 1ull, t19);
+    t28 = tables;
+    t29 = (char *)&t;
+    t30 = keys;
+    t31 = t30 + 64ull;
+    t19 = *(uint64_t *)t31;
+    c2 = aes_rows_without_row(t28, t29, 0ull, t19);
+    t32 = tables;
     t33 = (char *)&t;
-    t34 = t33 + 4ull;
-    t35 = *(uint8_4 *)t34;
+    t34 = keys;
+    t35 = t34 + 72ull;
+    t19 = *(uint64_t *)t35;
+    c3 = aes_rows_without_row(t32, t33, 3ull, t19);
     t36 = (char *)&t;
-    t37 = t36 + 12ull;
+    t37 = t36 + 0ull;
     t38 = *(uint8_4 *)t37;
-    t11 = (uint8_4_4){{t32, t35, column2, t38}};
-    t13 = (uint8_4_4){{c0, c1, c2, c3}};
-    result = (uint8_4_4_2){{t11, t13}};
+    t39 = (char *)&t;
+    t40 = t39 + 4ull;
+    t41 = *(uint8_4 *)t40;
+    t42 = (char *)&t;
+    t43 = t42 + 12ull;
+    t44 = *(uint8_4 *)t43;
+    t11 = (uint8_4_4){{t38, t41, column2, t44}};
+    t14 = (uint8_4_4){{c0, c1, c2, c3}};
+    result = (uint8_4_4_2){{t11, t14}};
     return result;
 }
 
-/* aes_rows, src/lib.rt:73: Column c of a state with the entry for a byte of the table that begins at a place. */
-INLINE uint8_4 aes_rows_with_entry(char *tables, char *s, uint64_t c, uint64_t at, uint8_t x)
+/* aes_rows, src/lib.rt:41: Column c of a state with what a byte in a row adds. */
+INLINE uint8_4 aes_rows_with_byte(aes_sbox_Tables tables, char *s, uint64_t c, uint64_t row, uint8_t x)
 {
     uint8_4 result;
-    uint64_t t6, t7, t13, t19, t25, t31, t32;
+    uint64_t t6, t7, t13, t19, t25, t31, t33;
     char *t8, *t9, *t10, *t11, *t14, *t15, *t16, *t17, *t20, *t21, *t22, *t23, *t26, *t27, *t28, *t29;
     uint8_t t12, t18, t24, t30;
+    aes_sbox_Tables t32;
     t7 = c * 4ull;
     t8 = s;
     t9 = t8 + t7;
@@ -6918,21 +9006,23 @@ INLINE uint8_4 aes_rows_with_entry(char *tables, char *s, uint64_t c, uint64_t a
     t29 = t28 + 3ull;
     t30 = *(uint8_t *)t29;
     t6 = aes128_key_wide_of(t12, t18, t24, t30);
-    t31 = aes_blocks_round_entry(tables, at, x);
-    t32 = t6 ^ t31;
-    result = aes_blocks_round_rows(t32);
+    t32 = tables;
+    t31 = aes_sbox_Tables_mixed(t32, row, x);
+    t33 = t6 ^ t31;
+    result = aes_blocks_round_rows(t33);
     return result;
 }
 
-/* aes_rows, src/lib.rt:81: The state of the block of x and i after round 1, from the state that the blocks share: one lookup, for column
+/* aes_rows, src/lib.rt:49: The state of the block of x and i after round 1, from the state that the blocks share: one lookup, for column
  * 2. */
-INLINE uint8_4_4 aes_rows_first_round(char *tables, char *keys, uint8_4_4 s, uint64_t i)
+INLINE uint8_4_4 aes_rows_first_round(aes_sbox_Tables tables, char *keys, uint8_4_4 s, uint64_t i)
 {
     uint8_4_4 result, s_slot;
     uint8_t x;
-    uint8_4 c, t16, t19, t22;
-    char *t8, *t9, *t13, *t14, *t15, *t17, *t18, *t20, *t21;
+    uint8_4 c, t17, t20, t23;
+    char *t8, *t9, *t14, *t15, *t16, *t18, *t19, *t21, *t22;
     uint64_t t10, t11, t12;
+    aes_sbox_Tables t13;
     s_slot = s;
     t8 = keys;
     t9 = t8 + 8ull;
@@ -6940,576 +9030,612 @@ INLINE uint8_4_4 aes_rows_first_round(char *tables, char *keys, uint8_4_4 s, uin
     t11 = i ^ t10;
     t12 = t11 % 256ull;
     x = (uint8_t)t12;
-    t13 = (char *)&s_slot;
-    c = aes_rows_with_entry(tables, t13, 2ull, 0ull, x);
+    t13 = tables;
     t14 = (char *)&s_slot;
-    t15 = t14 + 0ull;
-    t16 = *(uint8_4 *)t15;
-    t17 = (char *)&s_slot;
-    t18 = t17 + 4ull;
-    t19 = *(uint8_4 *)t18;
-    t20 = (char *)&s_slot;
-    t21 = t20 + 12ull;
-    t22 = *(uint8_4 *)t21;
-    result = (uint8_4_4){{t16, t19, c, t22}};
+    c = aes_rows_with_byte(t13, t14, 2ull, 0ull, x);
+    t15 = (char *)&s_slot;
+    t16 = t15 + 0ull;
+    t17 = *(uint8_4 *)t16;
+    t18 = (char *)&s_slot;
+    t19 = t18 + 4ull;
+    t20 = *(uint8_4 *)t19;
+    t21 = (char *)&s_slot;
+    t22 = t21 + 12ull;
+    t23 = *(uint8_4 *)t22;
+    result = (uint8_4_4){{t17, t20, c, t23}};
     return result;
 }
 
-/* aes_rows, src/lib.rt:91: Its state after round 2, from the state that they share and from its state t after round 1: one lookup for
+/* aes_rows, src/lib.rt:58: Its state after round 2, from the state that they share and from its state t after round 1: one lookup for
  * each column. */
-INLINE uint8_4_4 aes_rows_second_round(char *tables, uint8_4_4 s, uint8_4_4 t)
+INLINE uint8_4_4 aes_rows_second_round(aes_sbox_Tables tables, uint8_4_4 s, uint8_4_4 t)
 {
     uint8_4_4 result, s_slot, t_slot;
     uint8_4 c0, c1, c2, c3;
-    char *t10, *t11, *t12, *t13, *t14, *t16, *t17, *t18, *t19, *t20, *t21, *t22, *t23, *t24, *t25, *t26, *t27, *t28, *t29, *t30;
-    uint8_t t15;
+    aes_sbox_Tables t10, t17, t23, t29;
+    char *t11, *t12, *t13, *t14, *t15, *t18, *t19, *t20, *t21, *t22, *t24, *t25, *t26, *t27, *t28, *t30, *t31, *t32, *t33, *t34;
+    uint8_t t16;
     s_slot = s;
     t_slot = t;
-    t10 = (char *)&s_slot;
-    t11 = (char *)&t_slot;
-    t12 = t11 + 8ull;
-    t13 = t12;
-    t14 = t13 + 2ull;
-    t15 = *(uint8_t *)t14;
-    c0 = aes_rows_with_entry(tables, t10, 0ull, 512ull, t15);
-    t16 = (char *)&s_slot;
-    t17 = (char *)&t_slot;
-    t18 = t17 + 8ull;
-    t19 = t18;
-    t20 = t19 + 1ull;
-    t15 = *(uint8_t *)t20;
-    c1 = aes_rows_with_entry(tables, t16, 1ull, 256ull, t15);
-    t21 = (char *)&s_slot;
-    t22 = (char *)&t_slot;
-    t23 = t22 + 8ull;
-    t24 = t23;
-    t25 = t24 + 0ull;
-    t15 = *(uint8_t *)t25;
-    c2 = aes_rows_with_entry(tables, t21, 2ull, 0ull, t15);
-    t26 = (char *)&s_slot;
-    t27 = (char *)&t_slot;
-    t28 = t27 + 8ull;
-    t29 = t28;
-    t30 = t29 + 3ull;
-    t15 = *(uint8_t *)t30;
-    c3 = aes_rows_with_entry(tables, t26, 3ull, 768ull, t15);
+    t10 = tables;
+    t11 = (char *)&s_slot;
+    t12 = (char *)&t_slot;
+    t13 = t12 + 8ull;
+    t14 = t13;
+    t15 = t14 + 2ull;
+    t16 = *(uint8_t *)t15;
+    c0 = aes_rows_with_byte(t10, t11, 0ull, 2ull, t16);
+    t17 = tables;
+    t18 = (char *)&s_slot;
+    t19 = (char *)&t_slot;
+    t20 = t19 + 8ull;
+    t21 = t20;
+    t22 = t21 + 1ull;
+    t16 = *(uint8_t *)t22;
+    c1 = aes_rows_with_byte(t17, t18, 1ull, 1ull, t16);
+    t23 = tables;
+    t24 = (char *)&s_slot;
+    t25 = (char *)&t_slot;
+    t26 = t25 + 8ull;
+    t27 = t26;
+    t28 = t27 + 0ull;
+    t16 = *(uint8_t *)t28;
+    c2 = aes_rows_with_byte(t23, t24, 2ull, 0ull, t16);
+    t29 = tables;
+    t30 = (char *)&s_slot;
+    t31 = (char *)&t_slot;
+    t32 = t31 + 8ull;
+    t33 = t32;
+    t34 = t33 + 3ull;
+    t16 = *(uint8_t *)t34;
+    c3 = aes_rows_with_byte(t29, t30, 3ull, 3ull, t16);
     result = (uint8_4_4){{c0, c1, c2, c3}};
     return result;
 }
 
-/* aes_rows, src/lib.rt:103: The first words of the ciphers of the blocks of x and i, and of x and i + 1, in alternation. */
-static aes_rows_TwoWords aes_rows_two_words(char *tables, char *keys, uint64_t x, uint8_4_4_2 shared, uint64_t i)
+/* aes_rows, src/lib.rt:71: The ciphers of the blocks of x and i, and of x and i + 1, in alternation. Inlined, so that a caller that
+ * reads the first words alone makes no others; the rounds are written out as in `encrypt_two`. */
+static aes_blocks_Two_field_block_Block aes_rows_two_blocks(aes_sbox_Tables tables, char *keys, uint64_t x, uint8_4_4_2 shared, uint64_t i)
 {
-    aes_rows_TwoWords result;
+    aes_blocks_Two_field_block_Block result;
     uint8_4_4_2 shared_slot;
-    uint8_4_4 a1, a2, b1, b2, a3, b3, a4, b4, a5, b5, a6, b6, a7, b7, a8, b8, a9, b9, a10, b10, t29;
-    char *t27, *t28, *t30, *t31, *t32, *t33, *t35, *t36;
-    uint64_t t34;
-    field_block_Block t37, t38;
+    uint8_4_4 a1, a2, b1, b2, a3, b3, a4, b4, a5, b5, a6, b6, a7, b7, a8, b8, a9, b9, a10, b10, t30;
+    aes_sbox_Tables t27, t31, t34, t38, t41, t42, t43, t44, t45, t46, t47, t48, t49, t50, t51, t52, t53, t54, t55, t56;
+    char *t28, *t29, *t32, *t33, *t35, *t36, *t39, *t40;
+    uint64_t t37;
+    field_block_Block t57, t58;
     (void)x;
     shared_slot = shared;
-    t27 = (char *)&shared_slot;
-    t28 = t27 + 0ull;
-    t29 = *(uint8_4_4 *)t28;
-    a1 = aes_rows_first_round(tables, keys, t29, i);
-    t30 = (char *)&shared_slot;
-    t31 = t30 + 16ull;
-    t29 = *(uint8_4_4 *)t31;
-    a2 = aes_rows_second_round(tables, t29, a1);
+    t27 = tables;
+    t28 = (char *)&shared_slot;
+    t29 = t28 + 0ull;
+    t30 = *(uint8_4_4 *)t29;
+    a1 = aes_rows_first_round(t27, keys, t30, i);
+    t31 = tables;
     t32 = (char *)&shared_slot;
-    t33 = t32 + 0ull;
-    t29 = *(uint8_4_4 *)t33;
-    t34 = i + 1ull;
-    b1 = aes_rows_first_round(tables, keys, t29, t34);
+    t33 = t32 + 16ull;
+    t30 = *(uint8_4_4 *)t33;
+    a2 = aes_rows_second_round(t31, t30, a1);
+    t34 = tables;
     t35 = (char *)&shared_slot;
-    t36 = t35 + 16ull;
-    t29 = *(uint8_4_4 *)t36;
-    b2 = aes_rows_second_round(tables, t29, b1);
-    a3 = aes_blocks_round_full_round(tables, a2, keys, 10ull);
-    b3 = aes_blocks_round_full_round(tables, b2, keys, 10ull);
-    a4 = aes_blocks_round_full_round(tables, a3, keys, 14ull);
-    b4 = aes_blocks_round_full_round(tables, b3, keys, 14ull);
-    a5 = aes_blocks_round_full_round(tables, a4, keys, 18ull);
-    b5 = aes_blocks_round_full_round(tables, b4, keys, 18ull);
-    a6 = aes_blocks_round_full_round(tables, a5, keys, 22ull);
-    b6 = aes_blocks_round_full_round(tables, b5, keys, 22ull);
-    a7 = aes_blocks_round_full_round(tables, a6, keys, 26ull);
-    b7 = aes_blocks_round_full_round(tables, b6, keys, 26ull);
-    a8 = aes_blocks_round_full_round(tables, a7, keys, 30ull);
-    b8 = aes_blocks_round_full_round(tables, b7, keys, 30ull);
-    a9 = aes_blocks_round_full_round(tables, a8, keys, 34ull);
-    b9 = aes_blocks_round_full_round(tables, b8, keys, 34ull);
-    a10 = aes_blocks_round_last_round(tables, a9, keys);
-    b10 = aes_blocks_round_last_round(tables, b9, keys);
-    t37 = field_block_Block_of_columns(a10);
-    t38 = field_block_Block_of_columns(b10);
-    result = (aes_rows_TwoWords){t37.low, t38.low};
+    t36 = t35 + 0ull;
+    t30 = *(uint8_4_4 *)t36;
+    t37 = i + 1ull;
+    b1 = aes_rows_first_round(t34, keys, t30, t37);
+    t38 = tables;
+    t39 = (char *)&shared_slot;
+    t40 = t39 + 16ull;
+    t30 = *(uint8_4_4 *)t40;
+    b2 = aes_rows_second_round(t38, t30, b1);
+    t41 = tables;
+    a3 = aes_blocks_round_full_round(t41, a2, keys, 10ull);
+    t42 = tables;
+    b3 = aes_blocks_round_full_round(t42, b2, keys, 10ull);
+    t43 = tables;
+    a4 = aes_blocks_round_full_round(t43, a3, keys, 14ull);
+    t44 = tables;
+    b4 = aes_blocks_round_full_round(t44, b3, keys, 14ull);
+    t45 = tables;
+    a5 = aes_blocks_round_full_round(t45, a4, keys, 18ull);
+    t46 = tables;
+    b5 = aes_blocks_round_full_round(t46, b4, keys, 18ull);
+    t47 = tables;
+    a6 = aes_blocks_round_full_round(t47, a5, keys, 22ull);
+    t48 = tables;
+    b6 = aes_blocks_round_full_round(t48, b5, keys, 22ull);
+    t49 = tables;
+    a7 = aes_blocks_round_full_round(t49, a6, keys, 26ull);
+    t50 = tables;
+    b7 = aes_blocks_round_full_round(t50, b6, keys, 26ull);
+    t51 = tables;
+    a8 = aes_blocks_round_full_round(t51, a7, keys, 30ull);
+    t52 = tables;
+    b8 = aes_blocks_round_full_round(t52, b7, keys, 30ull);
+    t53 = tables;
+    a9 = aes_blocks_round_full_round(t53, a8, keys, 34ull);
+    t54 = tables;
+    b9 = aes_blocks_round_full_round(t54, b8, keys, 34ull);
+    t55 = tables;
+    a10 = aes_blocks_round_last_round(t55, a9, keys);
+    t56 = tables;
+    b10 = aes_blocks_round_last_round(t56, b9, keys);
+    t57 = field_block_Block_of_columns(a10);
+    t58 = field_block_Block_of_columns(b10);
+    result = (aes_blocks_Two_field_block_Block){t57, t58};
     return result;
 }
 
-/* aes_rows, src/lib.rt:141: The ciphers of the blocks of x and i, and of x and i + 1, in alternation. */
-static aes_blocks_TwoBlocks aes_rows_two_blocks(char *tables, char *keys, uint64_t x, uint8_4_4_2 shared, uint64_t i)
-{
-    aes_blocks_TwoBlocks result;
-    uint8_4_4_2 shared_slot;
-    uint8_4_4 a1, a2, b1, b2, a3, b3, a4, b4, a5, b5, a6, b6, a7, b7, a8, b8, a9, b9, a10, b10, t29;
-    char *t27, *t28, *t30, *t31, *t32, *t33, *t35, *t36;
-    uint64_t t34;
-    field_block_Block t37, t38;
-    (void)x;
-    shared_slot = shared;
-    t27 = (char *)&shared_slot;
-    t28 = t27 + 0ull;
-    t29 = *(uint8_4_4 *)t28;
-    a1 = aes_rows_first_round(tables, keys, t29, i);
-    t30 = (char *)&shared_slot;
-    t31 = t30 + 16ull;
-    t29 = *(uint8_4_4 *)t31;
-    a2 = aes_rows_second_round(tables, t29, a1);
-    t32 = (char *)&shared_slot;
-    t33 = t32 + 0ull;
-    t29 = *(uint8_4_4 *)t33;
-    t34 = i + 1ull;
-    b1 = aes_rows_first_round(tables, keys, t29, t34);
-    t35 = (char *)&shared_slot;
-    t36 = t35 + 16ull;
-    t29 = *(uint8_4_4 *)t36;
-    b2 = aes_rows_second_round(tables, t29, b1);
-    a3 = aes_blocks_round_full_round(tables, a2, keys, 10ull);
-    b3 = aes_blocks_round_full_round(tables, b2, keys, 10ull);
-    a4 = aes_blocks_round_full_round(tables, a3, keys, 14ull);
-    b4 = aes_blocks_round_full_round(tables, b3, keys, 14ull);
-    a5 = aes_blocks_round_full_round(tables, a4, keys, 18ull);
-    b5 = aes_blocks_round_full_round(tables, b4, keys, 18ull);
-    a6 = aes_blocks_round_full_round(tables, a5, keys, 22ull);
-    b6 = aes_blocks_round_full_round(tables, b5, keys, 22ull);
-    a7 = aes_blocks_round_full_round(tables, a6, keys, 26ull);
-    b7 = aes_blocks_round_full_round(tables, b6, keys, 26ull);
-    a8 = aes_blocks_round_full_round(tables, a7, keys, 30ull);
-    b8 = aes_blocks_round_full_round(tables, b7, keys, 30ull);
-    a9 = aes_blocks_round_full_round(tables, a8, keys, 34ull);
-    b9 = aes_blocks_round_full_round(tables, b8, keys, 34ull);
-    a10 = aes_blocks_round_last_round(tables, a9, keys);
-    b10 = aes_blocks_round_last_round(tables, b9, keys);
-    t37 = field_block_Block_of_columns(a10);
-    t38 = field_block_Block_of_columns(b10);
-    result = (aes_blocks_TwoBlocks){t37, t38};
-    return result;
-}
-
-/* rows_noise, src/noise_binary.rt:21: Sums of field 1 at the noise end with term i added, by the first word of its block. */
-INLINE rows_row_BinaryPair rows_noise_noise_binary_noise_term_binary(code_Shape shape, uint64_t i, uint64_t word, slice noise, slice v,
-    rows_row_BinaryPair sums)
+/* rows_noise, src/noise_binary.rt:30 */
+INLINE rows_row_BinaryPair rows_noise_noise_binary_NoiseBinaryVectorsBinaryPair_with(rows_noise_noise_binary_NoiseBinary self, code_Shape
+    shape, uint64_t i, field_block_Block block, rows_row_BinaryPair sums)
 {
     rows_row_BinaryPair result;
-    uint64_t j, bit, t11;
-    char *t10;
-    field_block_Block t12, t13, t14;
+    uint64_t j, bit, t10;
+    char *t9;
+    field_block_Block t11, t12, t13;
+    slice t14;
     bool t15;
-    j = code_places_row_place_of(shape, i, word);
-    t10 = (char *)((uint64_t *)noise.at + j);
-    t11 = *(uint64_t *)t10;
-    bit = t11;
-    t11 = field_block_add_bits(sums.u, bit);
-    t13 = sums.v;
-    t14 = rows_row_binary_at(v, j);
-    t12 = field_block_Block_add(t13, t14);
+    j = code_places_row_place_of(shape, i, block.low);
+    t9 = (char *)((uint64_t *)self.noise.at + j);
+    t10 = *(uint64_t *)t9;
+    bit = t10;
+    t10 = field_block_add_bits(sums.u, bit);
+    t12 = sums.v;
+    t14 = self.v;
+    t13 = field_parts_BlockFieldElement_at(t14, j);
+    t11 = field_block_Block_add(t12, t13);
     t15 = code_places_used_still_below(sums.admitted, bit, 2ull);
-    result = (rows_row_BinaryPair){t11, t12, t15};
+    result = (rows_row_BinaryPair){t10, t11, t15};
     return result;
 }
 
-/* rows_noise, src/noise_binary.rt:43: Two terms of a row at the noise end in field 1, from term i on, or the one that is left. */
-INLINE rows_row_BinaryPair rows_noise_noise_binary_noise_turn_binary(char *tables, char *keys, rows_row_CodeRow row, uint8_4_4_2 shared,
-    uint64_t i, slice noise, slice v, rows_row_BinaryPair sums)
+/* rows, src/walked.rt:27, at BinaryPair and NoiseBinary: The sums of row x, from `start` on. Two terms' blocks are made at a time. */
+static rows_row_BinaryPair rows_walked_walk_rows_row_BinaryPair_rows_noise_noise(aes_sbox_Tables tables, char *keys, code_Shape shape,
+    uint64_t x, rows_noise_noise_binary_NoiseBinary vectors, rows_row_BinaryPair start)
 {
-    rows_row_BinaryPair result, next, t15;
-    code_Shape shape;
-    aes_rows_TwoWords words;
-    uint64_t t12, t13, t16;
-    bool t14;
-    shape = row.shape;
-    t12 = i;
-    words = aes_rows_two_words(tables, keys, row.x, shared, t12);
-    next = rows_noise_noise_binary_noise_term_binary(shape, i, words.one, noise, v, sums);
-    t13 = i + 1ull;
-    t14 = t13 < shape.terms;
-    if (t14) {
-        t16 = i + 1ull;
-        t15 = rows_noise_noise_binary_noise_term_binary(shape, t16, words.other, noise, v, next);
-    } else {
-        t15 = next;
-    }
-    result = t15;
-    return result;
-}
-
-/* rows_noise, src/noise_binary.rt:69: Row x of u and v in field 1. */
-static rows_row_BinaryPair rows_noise_noise_binary_noise_row_binary(char *tables, char *keys, code_Shape shape, uint64_t x, slice noise,
-    slice v)
-{
-    rows_row_BinaryPair result, sums, next;
-    rows_row_CodeRow row;
+    rows_row_BinaryPair result, sums, next, t21;
     uint8_4_4_2 shared;
-    uint64_t i, t12;
-    field_block_Block t13;
-    bool t14;
-    t12 = x;
-    row = (rows_row_CodeRow){shape, t12};
-    shared = aes_rows_share(tables, keys, row.x);
-    t13 = field_block_Block_zero();
-    sums = (rows_row_BinaryPair){0ull, t13, true};
+    uint64_t i, t13, i_end, t17, t18, t20, t22, t24;
+    aes_blocks_Two_field_block_Block pair;
+    aes_sbox_Tables t12, t16;
+    bool t15, t25;
+    field_block_Block t19, t23;
+    t12 = tables;
+    t13 = x;
+    shared = aes_rows_share(t12, keys, t13);
+    sums = start;
     i = 0ull;
+    i_end = shape.terms;
     for (;;) {
-        t14 = i < shape.terms;
-        if (!t14) {
+        t15 = i < i_end;
+        if (!t15) {
             break;
         }
-        next = rows_noise_noise_binary_noise_turn_binary(tables, keys, row, shared, i, noise, v, sums);
-        sums = next;
+        t16 = tables;
+        t17 = x;
+        t18 = i;
+        pair = aes_rows_two_blocks(t16, keys, t17, shared, t18);
+        t19 = pair.one;
+        next = rows_noise_noise_binary_NoiseBinaryVectorsBinaryPair_with(vectors, shape, i, t19, sums);
+        t20 = i + 1ull;
+        t15 = t20 < shape.terms;
+        if (t15) {
+            t22 = i + 1ull;
+            t23 = pair.other;
+            t21 = rows_noise_noise_binary_NoiseBinaryVectorsBinaryPair_with(vectors, shape, t22, t23, next);
+        } else {
+            t21 = next;
+        }
+        sums = t21;
+        t24 = i_end - i;
+        t25 = 2ull < t24;
+        if (!t25) {
+            break;
+        }
         i = i + 2ull;
     }
     result = sums;
     return result;
 }
 
-/* rows_noise, src/noise_prime.rt:23: Sums of field 2 at the noise end with term i added, by its block. */
-INLINE rows_row_PrimeSums rows_noise_noise_prime_noise_term_prime(code_Shape shape, uint64_t i, field_block_Block block, slice noise, slice
-    v, rows_row_PrimeSums sums)
+/* rows_noise, src/noise_binary.rt:42: Row x of u and v in field 1. */
+INLINE rows_row_BinaryPair rows_noise_noise_binary_noise_row_binary(aes_sbox_Tables tables, char *keys, code_Shape shape, uint64_t x, slice
+    noise, slice v)
+{
+    rows_row_BinaryPair result, none;
+    field_block_Block t8;
+    aes_sbox_Tables t9;
+    rows_noise_noise_binary_NoiseBinary t10;
+    t8 = field_block_Block_zero();
+    none = (rows_row_BinaryPair){0ull, t8, true};
+    t9 = tables;
+    t10 = (rows_noise_noise_binary_NoiseBinary){noise, v};
+    result = rows_walked_walk_rows_row_BinaryPair_rows_noise_noise(t9, keys, shape, x, t10, none);
+    return result;
+}
+
+/* rows_noise, src/noise_prime.rt:31 */
+INLINE rows_row_PrimeSums rows_noise_noise_prime_NoisePrimeVectorsPrimeSums_with_term(rows_noise_noise_prime_NoisePrime self, code_Shape
+    shape, uint64_t i, field_block_Block block, rows_row_PrimeSums sums)
 {
     rows_row_PrimeSums result;
-    uint64_t j, a, b, t13, t15, t17;
-    bool below, t16;
-    char *t12, *t14;
+    uint64_t j, a, b, t12, t14, t16;
+    bool below, t15;
+    char *t11, *t13;
     j = code_places_row_place_of(shape, i, block.low);
-    t12 = (char *)((uint64_t *)noise.at + j);
-    t13 = *(uint64_t *)t12;
-    a = t13;
-    t14 = (char *)((uint64_t *)v.at + j);
-    t13 = *(uint64_t *)t14;
-    b = t13;
-    t13 = prime_prime_Prime_modulus();
-    below = code_places_used_still_below(sums.admitted, a, t13);
-    t13 = prime_prime_Prime_add_product(sums.u, block.high, a);
-    t15 = prime_prime_Prime_add_product(sums.v, block.high, b);
-    t17 = prime_prime_Prime_modulus();
-    t16 = code_places_used_still_below(below, b, t17);
-    result = (rows_row_PrimeSums){t13, t15, t16};
+    t11 = (char *)((uint64_t *)self.noise.at + j);
+    t12 = *(uint64_t *)t11;
+    a = t12;
+    t13 = (char *)((uint64_t *)self.v.at + j);
+    t12 = *(uint64_t *)t13;
+    b = t12;
+    t12 = prime_prime_Prime_modulus();
+    below = code_places_used_still_below(sums.admitted, a, t12);
+    t12 = prime_prime_Prime_add_product(sums.u, block.high, a);
+    t14 = prime_prime_Prime_add_product(sums.v, block.high, b);
+    t16 = prime_prime_Prime_modulus();
+    t15 = code_places_used_still_below(below, b, t16);
+    result = (rows_row_PrimeSums){t12, t14, t15};
     return result;
 }
 
-/* rows_noise, src/noise_prime.rt:47: Two terms of a row at the noise end in field 2. */
-INLINE rows_row_PrimeSums rows_noise_noise_prime_noise_turn_prime(char *tables, char *keys, rows_row_CodeRow row, uint8_4_4_2 shared,
-    uint64_t i, slice noise, slice v, rows_row_PrimeSums sums)
+/* rows, src/walked.rt:27, at PrimeSums and NoisePrime: The sums of row x, from `start` on. Two terms' blocks are made at a time. */
+static rows_row_PrimeSums rows_walked_walk_rows_row_PrimeSums_rows_noise_noise_prime(aes_sbox_Tables tables, char *keys, code_Shape shape,
+    uint64_t x, rows_noise_noise_prime_NoisePrime vectors, rows_row_PrimeSums start)
 {
-    rows_row_PrimeSums result, next, t16;
-    code_Shape shape;
-    aes_blocks_TwoBlocks pair;
-    uint64_t t12, t14, t17;
-    field_block_Block t13, t18;
-    bool t15;
-    shape = row.shape;
-    t12 = i;
-    pair = aes_rows_two_blocks(tables, keys, row.x, shared, t12);
-    t13 = pair.one;
-    next = rows_noise_noise_prime_noise_term_prime(shape, i, t13, noise, v, sums);
-    t14 = i + 1ull;
-    t15 = t14 < shape.terms;
-    if (t15) {
-        t17 = i + 1ull;
-        t18 = pair.other;
-        t16 = rows_noise_noise_prime_noise_term_prime(shape, t17, t18, noise, v, next);
-    } else {
-        t16 = next;
+    rows_row_PrimeSums result, sums, next, t21;
+    uint8_4_4_2 shared;
+    uint64_t i, t13, i_end, t17, t18, t20, t22, t24;
+    aes_blocks_Two_field_block_Block pair;
+    aes_sbox_Tables t12, t16;
+    bool t15, t25;
+    field_block_Block t19, t23;
+    t12 = tables;
+    t13 = x;
+    shared = aes_rows_share(t12, keys, t13);
+    sums = start;
+    i = 0ull;
+    i_end = shape.terms;
+    for (;;) {
+        t15 = i < i_end;
+        if (!t15) {
+            break;
+        }
+        t16 = tables;
+        t17 = x;
+        t18 = i;
+        pair = aes_rows_two_blocks(t16, keys, t17, shared, t18);
+        t19 = pair.one;
+        next = rows_noise_noise_prime_NoisePrimeVectorsPrimeSums_with_term(vectors, shape, i, t19, sums);
+        t20 = i + 1ull;
+        t15 = t20 < shape.terms;
+        if (t15) {
+            t22 = i + 1ull;
+            t23 = pair.other;
+            t21 = rows_noise_noise_prime_NoisePrimeVectorsPrimeSums_with_term(vectors, shape, t22, t23, next);
+        } else {
+            t21 = next;
+        }
+        sums = t21;
+        t24 = i_end - i;
+        t25 = 2ull < t24;
+        if (!t25) {
+            break;
+        }
+        i = i + 2ull;
     }
-    result = t16;
+    result = sums;
     return result;
 }
 
-/* rows_noise, src/noise_prime.rt:74: Row x of u and v in field 2. */
-static rows_row_PrimePair rows_noise_noise_prime_noise_row_prime(char *tables, char *keys, code_Shape shape, uint64_t x, slice noise, slice
-    v)
+/* rows_noise, src/noise_prime.rt:45: Row x of u and v in field 2. */
+INLINE rows_row_PrimePair rows_noise_noise_prime_noise_row_prime(aes_sbox_Tables tables, char *keys, code_Shape shape, uint64_t x, slice
+    noise, slice v)
 {
     rows_row_PrimePair result;
-    rows_row_CodeRow row;
-    uint8_4_4_2 shared;
-    rows_row_PrimeSums sums, next;
-    uint64_t i, t12;
-    bool t13;
-    prime_prime_Prime t14, t15;
-    t12 = x;
-    row = (rows_row_CodeRow){shape, t12};
-    shared = aes_rows_share(tables, keys, row.x);
-    sums = (rows_row_PrimeSums){0ull, 0ull, true};
-    i = 0ull;
-    for (;;) {
-        t13 = i < shape.terms;
-        if (!t13) {
-            break;
-        }
-        next = rows_noise_noise_prime_noise_turn_prime(tables, keys, row, shared, i, noise, v, sums);
-        sums = next;
-        i = i + 2ull;
-    }
-    t14 = prime_prime_Prime_reduce(sums.u);
-    t15 = prime_prime_Prime_reduce(sums.v);
-    result = (rows_row_PrimePair){t14, t15, sums.admitted};
+    rows_row_PrimeSums none, sums;
+    aes_sbox_Tables t9;
+    rows_noise_noise_prime_NoisePrime t10;
+    prime_prime_Prime t11, t12;
+    none = (rows_row_PrimeSums){0ull, 0ull, true};
+    t9 = tables;
+    t10 = (rows_noise_noise_prime_NoisePrime){noise, v};
+    sums = rows_walked_walk_rows_row_PrimeSums_rows_noise_noise_prime(t9, keys, shape, x, t10, none);
+    t11 = prime_prime_Prime_reduce(sums.u);
+    t12 = prime_prime_Prime_reduce(sums.v);
+    result = (rows_row_PrimePair){t11, t12, sums.admitted};
     return result;
 }
 
-/* rows_scalar, src/scalar_binary.rt:19: A sum of field 1 at the scalar end with term i added. */
-INLINE field_block_Block rows_scalar_scalar_binary_scalar_term_binary(code_Shape shape, uint64_t i, uint64_t word, slice w,
-    field_block_Block total)
+/* rows_scalar, src/scalar_binary.rt:27 */
+INLINE field_block_Block rows_scalar_scalar_binary_ScalarBinaryVectorsBlock_with_term(rows_scalar_scalar_binary_ScalarBinary self,
+    code_Shape shape, uint64_t i, field_block_Block block, field_block_Block sums)
 {
     field_block_Block result, t6;
-    uint64_t t7;
-    t7 = code_places_row_place_of(shape, i, word);
-    t6 = rows_row_binary_at(w, t7);
-    result = field_block_Block_add(total, t6);
+    slice t7;
+    uint64_t t8;
+    t7 = self.w;
+    t8 = code_places_row_place_of(shape, i, block.low);
+    t6 = field_parts_BlockFieldElement_at(t7, t8);
+    result = field_block_Block_add(sums, t6);
     return result;
 }
 
-/* rows_scalar, src/scalar_binary.rt:27: Two terms of a row at the scalar end in field 1. */
-INLINE field_block_Block rows_scalar_scalar_binary_scalar_turn_binary(char *tables, char *keys, rows_row_CodeRow row, uint8_4_4_2 shared,
-    uint64_t i, slice w, field_block_Block total)
+/* rows, src/walked.rt:27, at Block and ScalarBinary: The sums of row x, from `start` on. Two terms' blocks are made at a time. */
+static field_block_Block rows_walked_walk_field_block_Block_rows_scalar_scalar(aes_sbox_Tables tables, char *keys, code_Shape shape,
+    uint64_t x, rows_scalar_scalar_binary_ScalarBinary vectors, field_block_Block start)
 {
-    field_block_Block result, next, t14;
-    code_Shape shape;
-    aes_rows_TwoWords words;
-    uint64_t t11, t12, t15;
-    bool t13;
-    shape = row.shape;
-    t11 = i;
-    words = aes_rows_two_words(tables, keys, row.x, shared, t11);
-    next = rows_scalar_scalar_binary_scalar_term_binary(shape, i, words.one, w, total);
-    t12 = i + 1ull;
-    t13 = t12 < shape.terms;
-    if (t13) {
-        t15 = i + 1ull;
-        t14 = rows_scalar_scalar_binary_scalar_term_binary(shape, t15, words.other, w, next);
-    } else {
-        t14 = next;
-    }
-    result = t14;
-    return result;
-}
-
-/* rows_scalar, src/scalar_binary.rt:52: Row x of w in field 1. */
-static field_block_Block rows_scalar_scalar_binary_scalar_row_binary(char *tables, char *keys, code_Shape shape, uint64_t x, slice w)
-{
-    field_block_Block result, total, next;
-    rows_row_CodeRow row;
+    field_block_Block result, sums, next, t19, t21, t23;
     uint8_4_4_2 shared;
-    uint64_t i, t11;
-    bool t12;
-    t11 = x;
-    row = (rows_row_CodeRow){shape, t11};
-    shared = aes_rows_share(tables, keys, row.x);
-    total = field_block_Block_zero();
+    uint64_t i, t13, i_end, t17, t18, t20, t22, t24;
+    aes_blocks_Two_field_block_Block pair;
+    aes_sbox_Tables t12, t16;
+    bool t15, t25;
+    t12 = tables;
+    t13 = x;
+    shared = aes_rows_share(t12, keys, t13);
+    sums = start;
     i = 0ull;
+    i_end = shape.terms;
     for (;;) {
-        t12 = i < shape.terms;
-        if (!t12) {
+        t15 = i < i_end;
+        if (!t15) {
             break;
         }
-        next = rows_scalar_scalar_binary_scalar_turn_binary(tables, keys, row, shared, i, w, total);
-        total = next;
+        t16 = tables;
+        t17 = x;
+        t18 = i;
+        pair = aes_rows_two_blocks(t16, keys, t17, shared, t18);
+        t19 = pair.one;
+        next = rows_scalar_scalar_binary_ScalarBinaryVectorsBlock_with_term(vectors, shape, i, t19, sums);
+        t20 = i + 1ull;
+        t15 = t20 < shape.terms;
+        if (t15) {
+            t22 = i + 1ull;
+            t23 = pair.other;
+            t21 = rows_scalar_scalar_binary_ScalarBinaryVectorsBlock_with_term(vectors, shape, t22, t23, next);
+        } else {
+            t21 = next;
+        }
+        sums = t21;
+        t24 = i_end - i;
+        t25 = 2ull < t24;
+        if (!t25) {
+            break;
+        }
         i = i + 2ull;
     }
-    result = total;
+    result = sums;
     return result;
 }
 
-/* rows_scalar, src/scalar_prime.rt:23: A sum of field 2 at the scalar end with term i added. */
-INLINE rows_row_PrimeSum rows_scalar_scalar_prime_scalar_term_prime(code_Shape shape, uint64_t i, field_block_Block block, slice w,
-    rows_row_PrimeSum sum)
+/* rows_scalar, src/scalar_binary.rt:33: Row x of w in field 1. */
+INLINE field_block_Block rows_scalar_scalar_binary_scalar_row_binary(aes_sbox_Tables tables, char *keys, code_Shape shape, uint64_t x, slice
+    w)
+{
+    field_block_Block result, t8;
+    aes_sbox_Tables t6;
+    rows_scalar_scalar_binary_ScalarBinary t7;
+    t6 = tables;
+    t7 = (rows_scalar_scalar_binary_ScalarBinary){w};
+    t8 = field_block_Block_zero();
+    result = rows_walked_walk_field_block_Block_rows_scalar_scalar(t6, keys, shape, x, t7, t8);
+    return result;
+}
+
+/* rows_scalar, src/scalar_prime.rt:30 */
+INLINE rows_row_PrimeSum rows_scalar_scalar_prime_ScalarPrimeVectorsPrimeSum_with(rows_scalar_scalar_prime_ScalarPrime self, code_Shape
+    shape, uint64_t i, field_block_Block block, rows_row_PrimeSum sums)
 {
     rows_row_PrimeSum result;
     uint64_t word, t7, t10, t12;
     char *t9;
     bool t11;
     t7 = code_places_row_place_of(shape, i, block.low);
-    t9 = (char *)((uint64_t *)w.at + t7);
+    t9 = (char *)((uint64_t *)self.w.at + t7);
     t10 = *(uint64_t *)t9;
     word = t10;
-    t10 = prime_prime_Prime_add_product(sum.total, block.high, word);
+    t10 = prime_prime_Prime_add_product(sums.total, block.high, word);
     t12 = prime_prime_Prime_modulus();
-    t11 = code_places_used_still_below(sum.admitted, word, t12);
+    t11 = code_places_used_still_below(sums.admitted, word, t12);
     result = (rows_row_PrimeSum){t10, t11};
     return result;
 }
 
-/* rows_scalar, src/scalar_prime.rt:35: Two terms of a row at the scalar end in field 2. */
-INLINE rows_row_PrimeSum rows_scalar_scalar_prime_scalar_turn_prime(char *tables, char *keys, rows_row_CodeRow row, uint8_4_4_2 shared,
-    uint64_t i, slice w, rows_row_PrimeSum sum)
+/* rows, src/walked.rt:27, at PrimeSum and ScalarPrime: The sums of row x, from `start` on. Two terms' blocks are made at a time. */
+static rows_row_PrimeSum rows_walked_walk_rows_row_PrimeSum_rows_scalar_scalar_prime(aes_sbox_Tables tables, char *keys, code_Shape shape,
+    uint64_t x, rows_scalar_scalar_prime_ScalarPrime vectors, rows_row_PrimeSum start)
 {
-    rows_row_PrimeSum result, next, t15;
-    code_Shape shape;
-    aes_blocks_TwoBlocks pair;
-    uint64_t t11, t13, t16;
-    field_block_Block t12, t17;
-    bool t14;
-    shape = row.shape;
-    t11 = i;
-    pair = aes_rows_two_blocks(tables, keys, row.x, shared, t11);
-    t12 = pair.one;
-    next = rows_scalar_scalar_prime_scalar_term_prime(shape, i, t12, w, sum);
-    t13 = i + 1ull;
-    t14 = t13 < shape.terms;
-    if (t14) {
-        t16 = i + 1ull;
-        t17 = pair.other;
-        t15 = rows_scalar_scalar_prime_scalar_term_prime(shape, t16, t17, w, next);
-    } else {
-        t15 = next;
+    rows_row_PrimeSum result, sums, next, t21;
+    uint8_4_4_2 shared;
+    uint64_t i, t13, i_end, t17, t18, t20, t22, t24;
+    aes_blocks_Two_field_block_Block pair;
+    aes_sbox_Tables t12, t16;
+    bool t15, t25;
+    field_block_Block t19, t23;
+    t12 = tables;
+    t13 = x;
+    shared = aes_rows_share(t12, keys, t13);
+    sums = start;
+    i = 0ull;
+    i_end = shape.terms;
+    for (;;) {
+        t15 = i < i_end;
+        if (!t15) {
+            break;
+        }
+        t16 = tables;
+        t17 = x;
+        t18 = i;
+        pair = aes_rows_two_blocks(t16, keys, t17, shared, t18);
+        t19 = pair.one;
+        next = rows_scalar_scalar_prime_ScalarPrimeVectorsPrimeSum_with(vectors, shape, i, t19, sums);
+        t20 = i + 1ull;
+        t15 = t20 < shape.terms;
+        if (t15) {
+            t22 = i + 1ull;
+            t23 = pair.other;
+            t21 = rows_scalar_scalar_prime_ScalarPrimeVectorsPrimeSum_with(vectors, shape, t22, t23, next);
+        } else {
+            t21 = next;
+        }
+        sums = t21;
+        t24 = i_end - i;
+        t25 = 2ull < t24;
+        if (!t25) {
+            break;
+        }
+        i = i + 2ull;
     }
-    result = t15;
+    result = sums;
     return result;
 }
 
-/* rows_scalar, src/scalar_prime.rt:60: Row x of w in field 2. */
-static rows_row_PrimeRow rows_scalar_scalar_prime_scalar_row_prime(char *tables, char *keys, code_Shape shape, uint64_t x, slice w)
+/* rows_scalar, src/scalar_prime.rt:40: Row x of w in field 2. */
+INLINE rows_row_PrimeRow rows_scalar_scalar_prime_scalar_row_prime(aes_sbox_Tables tables, char *keys, code_Shape shape, uint64_t x, slice
+    w)
 {
     rows_row_PrimeRow result;
-    rows_row_CodeRow row;
-    uint8_4_4_2 shared;
-    rows_row_PrimeSum sum, next;
-    uint64_t i, t11;
-    bool t12;
-    prime_prime_Prime t13;
-    t11 = x;
-    row = (rows_row_CodeRow){shape, t11};
-    shared = aes_rows_share(tables, keys, row.x);
-    sum = (rows_row_PrimeSum){0ull, true};
-    i = 0ull;
-    for (;;) {
-        t12 = i < shape.terms;
-        if (!t12) {
-            break;
-        }
-        next = rows_scalar_scalar_prime_scalar_turn_prime(tables, keys, row, shared, i, w, sum);
-        sum = next;
-        i = i + 2ull;
-    }
-    t13 = prime_prime_Prime_reduce(sum.total);
-    result = (rows_row_PrimeRow){t13, sum.admitted};
+    rows_row_PrimeSum none, sum;
+    aes_sbox_Tables t8;
+    rows_scalar_scalar_prime_ScalarPrime t9;
+    prime_prime_Prime t10;
+    none = (rows_row_PrimeSum){0ull, true};
+    t8 = tables;
+    t9 = (rows_scalar_scalar_prime_ScalarPrime){w};
+    sum = rows_walked_walk_rows_row_PrimeSum_rows_scalar_scalar_prime(t8, keys, shape, x, t9, none);
+    t10 = prime_prime_Prime_reduce(sum.total);
+    result = (rows_row_PrimeRow){t10, sum.admitted};
     return result;
 }
 
 /* window_rows, src/walk.rt:16: Writes output k of the window in field 1, with its word of u if rows give one; whether every word of the
- * noise that the row uses is a bit. */
-INLINE bool window_rows_walk_write_binary(char *tables, char *keys, window_WindowRows rows, uint64_t k, slice noise, slice v, slice u_out,
-    slice v_out)
+ * noise that the row uses is a bit. Field 2 has its own below: a trait over both fields' rows would be longer than the two. */
+INLINE bool window_rows_walk_write_binary(aes_sbox_Tables tables, char *keys, window_WindowRows rows, uint64_t k, slice noise, slice v,
+    slice u_out, slice v_out)
 {
     bool result, t12;
-    uint64_t x, t18;
+    uint64_t x, t20;
     field_block_Block element, t24;
     rows_row_BinaryPair pair;
-    code_Shape t13, t17;
-    char *t15, *t20, *t22;
-    slice t16, t23;
+    aes_sbox_Tables t13, t18;
+    code_Shape t14, t19;
+    char *t16, *t22, *t25;
+    slice t17, t26;
     x = rows.window.first + k;
     t12 = rows.u_words == 0ull;
     if (t12) {
-        t13 = rows.shape;
-        element = rows_scalar_scalar_binary_scalar_row_binary(tables, keys, t13, x, v);
-        t15 = v_out.at;
-        t16 = (slice){t15, v_out.count};
-        field_width_put_block(t16, k, element);
+        t13 = tables;
+        t14 = rows.shape;
+        element = rows_scalar_scalar_binary_scalar_row_binary(t13, keys, t14, x, v);
+        t16 = v_out.at;
+        t17 = (slice){t16, v_out.count};
+        field_parts_BlockFieldElement_put(element, t17, k);
         result = true;
         return result;
     }
-    t17 = rows.shape;
-    pair = rows_noise_noise_binary_noise_row_binary(tables, keys, t17, x, noise, v);
-    t18 = pair.u;
-    t20 = (char *)((uint64_t *)u_out.at + k);
-    *(uint64_t *)t20 = t18;
-    t22 = v_out.at;
-    t23 = (slice){t22, v_out.count};
+    t18 = tables;
+    t19 = rows.shape;
+    pair = rows_noise_noise_binary_noise_row_binary(t18, keys, t19, x, noise, v);
+    t20 = pair.u;
+    t22 = (char *)((uint64_t *)u_out.at + k);
+    *(uint64_t *)t22 = t20;
     t24 = pair.v;
-    field_width_put_block(t23, k, t24);
+    t25 = v_out.at;
+    t26 = (slice){t25, v_out.count};
+    field_parts_BlockFieldElement_put(t24, t26, k);
     result = pair.admitted;
     return result;
 }
 
 /* window_rows, src/walk.rt:44: Writes row k of a window in field 2, and says whether every word that the row uses is an element. */
-INLINE bool window_rows_walk_write_prime(char *tables, char *keys, window_WindowRows rows, uint64_t k, slice noise, slice v, slice u_out,
-    slice v_out)
+INLINE bool window_rows_walk_write_prime(aes_sbox_Tables tables, char *keys, window_WindowRows rows, uint64_t k, slice noise, slice v, slice
+    u_out, slice v_out)
 {
     bool result, t12;
-    uint64_t x, t14, t18, t21;
+    uint64_t x, t15, t20, t23;
     rows_row_PrimeRow row;
     rows_row_PrimePair pair;
-    code_Shape t13, t17;
-    char *t16, *t20, *t22;
+    aes_sbox_Tables t13, t18;
+    code_Shape t14, t19;
+    char *t17, *t22, *t24;
     x = rows.window.first + k;
     t12 = rows.u_words == 0ull;
     if (t12) {
-        t13 = rows.shape;
-        row = rows_scalar_scalar_prime_scalar_row_prime(tables, keys, t13, x, v);
-        t14 = row.w.word;
-        t16 = (char *)((uint64_t *)v_out.at + k);
-        *(uint64_t *)t16 = t14;
+        t13 = tables;
+        t14 = rows.shape;
+        row = rows_scalar_scalar_prime_scalar_row_prime(t13, keys, t14, x, v);
+        t15 = row.w.word;
+        t17 = (char *)((uint64_t *)v_out.at + k);
+        *(uint64_t *)t17 = t15;
         result = row.admitted;
         return result;
     }
-    t17 = rows.shape;
-    pair = rows_noise_noise_prime_noise_row_prime(tables, keys, t17, x, noise, v);
-    t18 = pair.u.word;
-    t20 = (char *)((uint64_t *)u_out.at + k);
-    *(uint64_t *)t20 = t18;
-    t21 = pair.v.word;
-    t22 = (char *)((uint64_t *)v_out.at + k);
-    *(uint64_t *)t22 = t21;
+    t18 = tables;
+    t19 = rows.shape;
+    pair = rows_noise_noise_prime_noise_row_prime(t18, keys, t19, x, noise, v);
+    t20 = pair.u.word;
+    t22 = (char *)((uint64_t *)u_out.at + k);
+    *(uint64_t *)t22 = t20;
+    t23 = pair.v.word;
+    t24 = (char *)((uint64_t *)v_out.at + k);
+    *(uint64_t *)t24 = t23;
     result = pair.admitted;
     return result;
 }
 
 /* window_rows, src/walk.rt:72: Writes row k of a window in the field of the rows, and says whether every word that the row uses is
  * admitted. */
-INLINE bool window_rows_walk_write_row(char *tables, char *keys, window_WindowRows rows, uint64_t k, slice noise, slice v, slice u_out,
-    slice v_out)
+INLINE bool window_rows_walk_write_row(aes_sbox_Tables tables, char *keys, window_WindowRows rows, uint64_t k, slice noise, slice v, slice
+    u_out, slice v_out)
 {
     bool result, t9;
-    char *t10, *t12, *t14, *t16;
-    slice t11, t13, t15, t17;
+    aes_sbox_Tables t10, t15;
+    char *t11, *t13, *t16, *t18;
+    slice t12, t14, t17, t19;
     t9 = rows.field == 1ull;
     if (t9) {
-        t10 = u_out.at;
-        t11 = (slice){t10, u_out.count};
-        t12 = v_out.at;
-        t13 = (slice){t12, v_out.count};
-        result = window_rows_walk_write_binary(tables, keys, rows, k, noise, v, t11, t13);
+        t10 = tables;
+        t11 = u_out.at;
+        t12 = (slice){t11, u_out.count};
+        t13 = v_out.at;
+        t14 = (slice){t13, v_out.count};
+        result = window_rows_walk_write_binary(t10, keys, rows, k, noise, v, t12, t14);
         return result;
     }
-    t14 = u_out.at;
-    t15 = (slice){t14, u_out.count};
-    t16 = v_out.at;
-    t17 = (slice){t16, v_out.count};
-    result = window_rows_walk_write_prime(tables, keys, rows, k, noise, v, t15, t17);
+    t15 = tables;
+    t16 = u_out.at;
+    t17 = (slice){t16, u_out.count};
+    t18 = v_out.at;
+    t19 = (slice){t18, v_out.count};
+    result = window_rows_walk_write_prime(t15, keys, rows, k, noise, v, t17, t19);
     return result;
 }
 
 /* window_rows, src/walk.rt:96: Writes the window's words of u, if any are asked for, and its elements; whether every word that its rows
  * use is a noise value or an element. */
-static bool window_rows_walk_walk_rows(char *tables, char *keys, window_WindowRows rows, slice noise, slice v, slice u_out, slice v_out)
+static bool window_rows_walk_walk_rows(aes_sbox_Tables tables, char *keys, window_WindowRows rows, slice noise, slice v, slice u_out, slice
+    v_out)
 {
-    bool result, passed, admitted, t11;
-    uint64_t k;
-    char *t12, *t14;
-    slice t13, t15;
+    bool result, passed, admitted, t12;
+    uint64_t k, k_end;
+    aes_sbox_Tables t13;
+    char *t14, *t16;
+    slice t15, t17;
     passed = true;
     k = 0ull;
+    k_end = rows.window.count;
     for (;;) {
-        t11 = k < rows.window.count;
-        if (!t11) {
+        t12 = k < k_end;
+        if (!t12) {
             break;
         }
-        t12 = u_out.at;
-        t13 = (slice){t12, u_out.count};
-        t14 = v_out.at;
-        t15 = (slice){t14, v_out.count};
-        admitted = window_rows_walk_write_row(tables, keys, rows, k, noise, v, t13, t15);
+        t13 = tables;
+        t14 = u_out.at;
+        t15 = (slice){t14, u_out.count};
+        t16 = v_out.at;
+        t17 = (slice){t16, v_out.count};
+        admitted = window_rows_walk_write_row(t13, keys, rows, k, noise, v, t15, t17);
         passed = passed & admitted;
         k = k + 1ull;
     }
@@ -7517,190 +9643,183 @@ static bool window_rows_walk_walk_rows(char *tables, char *keys, window_WindowRo
     return result;
 }
 
-/* window_write, src/writing.rt:21: Copies the first `count` words to the front of others. */
-static void window_write_writing_copy_front(slice words, uint64_t count, slice out)
-{
-    uint64_t i, t8;
-    bool t5;
-    char *t7, *t10;
-    i = 0ull;
-    for (;;) {
-        t5 = i < count;
-        if (!t5) {
-            break;
-        }
-        t7 = (char *)((uint64_t *)words.at + i);
-        t8 = *(uint64_t *)t7;
-        t10 = (char *)((uint64_t *)out.at + i);
-        *(uint64_t *)t10 = t8;
-        i = i + 1ull;
-    }
-}
-
-/* window_write, src/writing.rt:34: Writes a window of at most 32 outputs, if the words that its rows use are noise values and elements,
+/* window_write, src/writing.rt:22: Writes a window of at most 32 outputs, if the words that its rows use are noise values and elements,
  * and says whether they are: one walk of the rows tests and sums them in memory of its own, from where the window is copied. */
-INLINE bool window_write_writing_write_small(char *tables, char *keys, window_WindowRows rows, slice noise, slice v, slice u_out, slice
-    v_out)
+INLINE bool window_write_writing_write_small(aes_sbox_Tables tables, char *keys, window_WindowRows rows, slice noise, slice v, slice u_out,
+    slice v_out)
 {
-    bool result, t10, t15;
+    bool result, t11, t17;
     uint64_32 u_own;
     uint64_64 v_own;
-    char *t11, *t13, *t17, *t19, *t21, *t25;
-    slice t12, t14, t18, t20, t22, t26;
-    uint64_t t23, t24;
+    uint64_t v_words, t18;
+    aes_sbox_Tables t12;
+    char *t13, *t15, *t20, *t22, *t24, *t26;
+    slice t14, t16, t21, t23, t25, t27;
     for (int each = 0; each < 32; each++)
         u_own.a[each] = 0ull;
     for (int each = 0; each < 64; each++)
         v_own.a[each] = 0ull;
-    t11 = (char *)&u_own;
-    t12 = (slice){t11, 32ull};
-    t13 = (char *)&v_own;
-    t14 = (slice){t13, 64ull};
-    t10 = window_rows_walk_walk_rows(tables, keys, rows, noise, v, t12, t14);
-    t15 = !t10;
-    if (t15) {
+    t12 = tables;
+    t13 = (char *)&u_own;
+    t14 = (slice){t13, 32ull};
+    t15 = (char *)&v_own;
+    t16 = (slice){t15, 64ull};
+    t11 = window_rows_walk_walk_rows(t12, keys, rows, noise, v, t14, t16);
+    t17 = !t11;
+    if (t17) {
         result = false;
         return result;
     }
-    t17 = (char *)&u_own;
-    t18 = (slice){t17, 32ull};
-    t19 = u_out.at;
-    t20 = (slice){t19, u_out.count};
-    window_write_writing_copy_front(t18, rows.u_words, t20);
-    t21 = (char *)&v_own;
-    t22 = (slice){t21, 64ull};
-    t23 = field_width_element_width(rows.field);
-    t24 = rows.window.count * t23;
-    t25 = v_out.at;
-    t26 = (slice){t25, v_out.count};
-    window_write_writing_copy_front(t22, t24, t26);
+    t18 = field_width_element_width(rows.field);
+    v_words = rows.window.count * t18;
+    t20 = u_out.at;
+    t21 = (slice){t20, rows.u_words};
+    t22 = (char *)&u_own;
+    t23 = (slice){t22, rows.u_words};
+    core_slice_copy_from_slice_uint64(t21, t23);
+    t24 = v_out.at;
+    t25 = (slice){t24, v_words};
+    t26 = (char *)&v_own;
+    t27 = (slice){t26, v_words};
+    core_slice_copy_from_slice_uint64(t25, t27);
     result = true;
     return result;
 }
 
 /* window_write, src/used.rt:16: Whether every word that the rows use is an element. In field 1 every word is. */
-INLINE bool window_write_used_elements_used(char *tables, char *keys, window_WindowRows rows, slice words)
+INLINE bool window_write_used_elements_used(aes_sbox_Tables tables, char *keys, window_WindowRows rows, slice words)
 {
     bool result, t5;
-    code_Shape t6;
-    code_Window t7;
-    uint64_t t8;
+    aes_sbox_Tables t6;
+    code_Shape t7;
+    code_Window t8;
+    uint64_t t9;
     t5 = rows.field == 1ull;
     if (t5) {
         result = true;
         return result;
     }
-    t6 = rows.shape;
-    t7 = rows.window;
-    t8 = prime_prime_Prime_modulus();
-    result = code_places_used_used_below(tables, keys, t6, t7, words, t8);
+    t6 = tables;
+    t7 = rows.shape;
+    t8 = rows.window;
+    t9 = prime_prime_Prime_modulus();
+    result = code_places_used_used_below(t6, keys, t7, t8, words, t9);
     return result;
 }
 
-/* window_write, src/used.rt:40: Whether every word of the noise that the rows use is a noise value. In field 2 noise values are
+/* window_write, src/used.rt:34: Whether every word of the noise that the rows use is a noise value. In field 2 noise values are
  * elements. */
-INLINE bool window_write_used_all_noise_used(char *tables, char *keys, window_WindowRows rows, slice noise)
+INLINE bool window_write_used_all_noise_used(aes_sbox_Tables tables, char *keys, window_WindowRows rows, slice noise)
 {
     bool result, t5;
-    code_Shape t6;
-    code_Window t7;
+    aes_sbox_Tables t6, t9;
+    code_Shape t7;
+    code_Window t8;
     t5 = rows.field == 1ull;
     if (t5) {
-        t6 = rows.shape;
-        t7 = rows.window;
-        result = code_places_used_used_below(tables, keys, t6, t7, noise, 2ull);
+        t6 = tables;
+        t7 = rows.shape;
+        t8 = rows.window;
+        result = code_places_used_used_below(t6, keys, t7, t8, noise, 2ull);
         return result;
     }
-    result = window_write_used_elements_used(tables, keys, rows, noise);
+    t9 = tables;
+    result = window_write_used_elements_used(t9, keys, rows, noise);
     return result;
 }
 
-/* window_write, src/used.rt:52: Whether every word of the noise that the rows with a word of u use is a noise value. */
-INLINE bool window_write_used_noise_used(char *tables, char *keys, window_WindowRows rows, slice noise)
+/* window_write, src/used.rt:45: Whether every word of the noise that the rows with a word of u use is a noise value. */
+INLINE bool window_write_used_noise_used(aes_sbox_Tables tables, char *keys, window_WindowRows rows, slice noise)
 {
     bool result, t5;
+    aes_sbox_Tables t6;
     t5 = rows.u_words == 0ull;
     if (t5) {
         result = true;
         return result;
     }
-    result = window_write_used_all_noise_used(tables, keys, rows, noise);
+    t6 = tables;
+    result = window_write_used_all_noise_used(t6, keys, rows, noise);
     return result;
 }
 
-/* window_write, src/writing.rt:61: Writes any window, if the words that its rows use are noise values and elements, and says whether
+/* window_write, src/writing.rt:50: Writes any window, if the words that its rows use are noise values and elements, and says whether
  * they are: one of more than 32 outputs is tested before its rows are walked to write it. */
-INLINE bool window_write_writing_write_tested(char *tables, char *keys, window_WindowRows rows, slice noise, slice v, slice u_out, slice
-    v_out)
+INLINE bool window_write_writing_write_tested(aes_sbox_Tables tables, char *keys, window_WindowRows rows, slice noise, slice v, slice u_out,
+    slice v_out)
 {
-    bool result, t8, t13;
-    char *t9, *t11, *t14, *t16;
-    slice t10, t12, t15, t17;
+    bool result, t8, t15;
+    aes_sbox_Tables t9, t14, t16, t17;
+    char *t10, *t12, *t18, *t20;
+    slice t11, t13, t19, t21;
     t8 = rows.window.count <= 32ull;
     if (t8) {
-        t9 = u_out.at;
-        t10 = (slice){t9, u_out.count};
-        t11 = v_out.at;
-        t12 = (slice){t11, v_out.count};
-        result = window_write_writing_write_small(tables, keys, rows, noise, v, t10, t12);
+        t9 = tables;
+        t10 = u_out.at;
+        t11 = (slice){t10, u_out.count};
+        t12 = v_out.at;
+        t13 = (slice){t12, v_out.count};
+        result = window_write_writing_write_small(t9, keys, rows, noise, v, t11, t13);
         return result;
     }
-    t8 = window_write_used_noise_used(tables, keys, rows, noise);
-    t13 = !t8;
-    if (t13) {
+    t14 = tables;
+    t8 = window_write_used_noise_used(t14, keys, rows, noise);
+    t15 = !t8;
+    if (t15) {
         result = false;
         return result;
     }
-    t8 = window_write_used_elements_used(tables, keys, rows, v);
-    t13 = !t8;
-    if (t13) {
+    t16 = tables;
+    t8 = window_write_used_elements_used(t16, keys, rows, v);
+    t15 = !t8;
+    if (t15) {
         result = false;
         return result;
     }
-    t14 = u_out.at;
-    t15 = (slice){t14, u_out.count};
-    t16 = v_out.at;
-    t17 = (slice){t16, v_out.count};
-    t8 = window_rows_walk_walk_rows(tables, keys, rows, noise, v, t15, t17);
+    t17 = tables;
+    t18 = u_out.at;
+    t19 = (slice){t18, u_out.count};
+    t20 = v_out.at;
+    t21 = (slice){t20, v_out.count};
+    t8 = window_rows_walk_walk_rows(t17, keys, rows, noise, v, t19, t21);
     result = true;
     return result;
 }
 
-/* window_write, src/writing.rt:90: Writes a window of any size under a record's code key. `u_words` is the window's count at the noise
+/* window_write, src/writing.rt:78: Writes a window of any size under a record's code key. `u_words` is the window's count at the noise
  * end, 0 at the scalar end. */
-INLINE bool window_write_writing_write_rows(slice source, record_Layout layout, code_Window window, uint64_t u_words, slice noise, slice v,
-    slice u_out, slice v_out)
+static bool window_write_writing_write_rows(slice source, record_Layout layout, uint64_t window_first, uint64_t window_count, uint64_t
+    u_words, slice noise, slice v, slice u_out, slice v_out)
 {
     bool result;
-    uint8_256 sb, t13;
-    uint64_1536 tables;
-    uint64_40 keys, t16;
+    code_Window window;
+    uint64_1536 words;
+    aes_sbox_Tables tables, t16;
+    uint64_40 keys, t14;
     window_WindowRows rows;
-    char *t15, *t17, *t19, *t20, *t21, *t23;
-    code_Shape t18;
-    slice t22, t24;
-    t13 = aes_sbox_table();
-    sb = t13;
+    char *t13, *t17, *t18, *t20;
+    code_Shape t15;
+    slice t19, t21;
+    window = (code_Window){window_first, window_count};
     for (int each = 0; each < 1536; each++)
-        tables.a[each] = 0ull;
-    t15 = (char *)&tables;
-    aes_sbox_fill_tables(t15);
-    t17 = (char *)&sb;
-    t16 = window_tests_head_code_keys(t17, source, layout);
-    keys = t16;
-    t18 = window_tests_head_shape_of(layout);
-    rows = (window_WindowRows){layout.field, t18, window, u_words};
-    t19 = (char *)&tables;
-    t20 = (char *)&keys;
-    t21 = u_out.at;
-    t22 = (slice){t21, u_out.count};
-    t23 = v_out.at;
-    t24 = (slice){t23, v_out.count};
-    result = window_write_writing_write_tested(t19, t20, rows, noise, v, t22, t24);
+        words.a[each] = 0ull;
+    t13 = (char *)&words;
+    tables = aes_sbox_Tables_fill(t13);
+    t14 = window_tests_head_code_keys(source, layout);
+    keys = t14;
+    t15 = window_tests_head_shape_of(layout);
+    rows = (window_WindowRows){layout.field, t15, window, u_words};
+    t16 = tables;
+    t17 = (char *)&keys;
+    t18 = u_out.at;
+    t19 = (slice){t18, u_out.count};
+    t20 = v_out.at;
+    t21 = (slice){t20, v_out.count};
+    result = window_write_writing_write_tested(t16, t17, rows, noise, v, t19, t21);
     return result;
 }
 
-/* ends_calls, src/noise_trees.rt:22: The tree at a place of an accepted record, whose trees have `tree_siblings` siblings, after
+/* ends_calls, src/noise_trees.rt:23: The tree at a place of an accepted record, whose trees have `tree_siblings` siblings, after
  * positions below `base`: its position is a leaf's, and its siblings lie in the record. */
 INLINE record_Tree ends_calls_noise_trees_tree_at(slice source, record_Layout layout, uint64_t siblings, uint64_t at, uint64_t base)
 {
@@ -7709,66 +9828,64 @@ INLINE record_Tree ends_calls_noise_trees_tree_at(slice source, record_Layout la
     return result;
 }
 
-/* ends_calls, src/noise_trees.rt:32: Writes μ and v0: at each tree's position its noise value, and the leaves of all trees, of 2^g
+/* ends_calls, src/noise_trees.rt:33: Writes μ and v0: at each tree's position its noise value, and the leaves of all trees, of 2^g
  * children a node (document 02, 10), a tree's correction at its position. */
 static void ends_calls_noise_trees_write_trees(slice source, record_Layout layout, slice noise, slice v)
 {
-    uint8_256 sb, t16;
-    uint64_1536 tables;
-    uint64_40_8 keys, t19;
-    uint64_t siblings, at, base, i, position, t26, t27;
+    uint64_1536 words;
+    aes_sbox_Tables tables, t29;
+    uint64_40_8 keys, t16;
+    uint64_t siblings, at, base, position, counter, end, t25, t26;
     record_Tree tree;
     tree_punctured_Punctured punctured;
     uint64_2 correction;
-    char *t18, *t20, *t21, *t23, *t28, *t30, *t31, *t32;
-    slice t22, t24, t33;
-    bool t25;
-    t16 = aes_sbox_table();
-    sb = t16;
+    char *t15, *t18, *t20, *t27, *t30, *t31;
+    slice t19, t21, t32;
+    bool t24;
     for (int each = 0; each < 1536; each++)
-        tables.a[each] = 0ull;
-    t18 = (char *)&tables;
-    aes_sbox_fill_tables(t18);
-    t20 = (char *)&sb;
-    t19 = tree_walk_node_child_keys(t20, layout.branch_bits);
-    keys = t19;
-    t21 = noise.at;
-    t22 = (slice){t21, noise.count};
-    tree_sums_zero_zero_words(t22);
-    t23 = v.at;
-    t24 = (slice){t23, v.count};
-    tree_sums_zero_zero_words(t24);
+        words.a[each] = 0ull;
+    t15 = (char *)&words;
+    tables = aes_sbox_Tables_fill(t15);
+    t16 = tree_walk_node_child_keys(layout.branch_bits);
+    keys = t16;
+    t18 = noise.at;
+    t19 = (slice){t18, noise.count};
+    tree_sums_zero_zero_words(t19);
+    t20 = v.at;
+    t21 = (slice){t20, v.count};
+    tree_sums_zero_zero_words(t21);
     siblings = record_sizes_sibling_count(layout.depth, layout.branch_bits);
     at = layout.body;
     base = 0ull;
-    i = 0ull;
+    counter = 0ull;
+    end = layout.trees;
     for (;;) {
-        t25 = i < layout.trees;
-        if (!t25) {
+        t24 = counter < end;
+        if (!t24) {
             break;
         }
         tree = ends_calls_noise_trees_tree_at(source, layout, siblings, at, base);
         position = tree.position;
-        t26 = tree.value;
-        t27 = position * 8ull;
-        t28 = (char *)((uint64_t *)noise.at + position);
-        *(uint64_t *)t28 = t26;
-        t27 = layout.depth / layout.branch_bits;
-        punctured = (tree_punctured_Punctured){layout.branch_bits, t27, position, tree.siblings};
-        correction = (uint64_2){{tree.low, tree.high}};
-        t30 = (char *)&tables;
-        t31 = (char *)&keys;
-        t32 = v.at;
-        t33 = (slice){t32, v.count};
-        tree_fill_fill_add_punctured(t30, t31, layout.field, punctured, source, correction, t33);
-        t27 = 16ull * siblings;
-        at = tree.siblings + t27;
+        t25 = tree.value;
+        t26 = position * 8ull;
+        t27 = (char *)((uint64_t *)noise.at + position);
+        *(uint64_t *)t27 = t25;
+        t26 = layout.depth / layout.branch_bits;
+        punctured = (tree_punctured_Punctured){layout.branch_bits, t26, position, tree.siblings};
+        correction = (uint64_2){{tree.correction.low, tree.correction.high}};
+        t29 = tables;
+        t30 = (char *)&keys;
+        t31 = v.at;
+        t32 = (slice){t31, v.count};
+        tree_fill_fill_add_punctured(t29, t30, layout.field, punctured, source, correction, t32);
+        t26 = 16ull * siblings;
+        at = tree.siblings + t26;
         base = position + 1ull;
-        i = i + 1ull;
+        counter = counter + 1ull;
     }
 }
 
-/* ends_calls, src/noise_trees.rt:74: Writes the accumulated μ and v0. */
+/* ends_calls, src/noise_trees.rt:72: Writes the accumulated μ and v0. */
 INLINE void ends_calls_noise_trees_write_accumulated(slice source, record_Layout layout, slice noise, slice v)
 {
     char *t6, *t8, *t11, *t13;
@@ -7792,47 +9909,51 @@ INLINE void ends_calls_noise_trees_write_accumulated(slice source, record_Layout
 INLINE answer_TwoLengths ends_calls_noise_offline(slice source, slice noise, slice v)
 {
     answer_TwoLengths result;
-    record_RecordAnswer r;
-    record_Layout layout;
-    uint64_t size, words, t9;
-    uint32_t t8;
-    bool t10;
-    char *t12, *t14;
-    slice t13, t15;
-    r = record_reading_noise_read_noise(source);
-    switch (r.accepted.tag) {
+    record_Layout layout, layout_2, t10;
+    answer_Refusal refusal, t13, t14;
+    uint64_t size, words, t11;
+    Result_record_Layout_answer_Refusal t9;
+    bool t12;
+    char *t16, *t18;
+    slice t17, t19;
+    t9 = record_reading_noise_read_noise(source);
+    switch (t9.ok.tag) {
     case 0:
-        layout = r.accepted.m1;
+        layout_2 = t9.ok.m1;
+        t10 = layout_2;
         break;
     default:
-        t8 = record_record_fault(r);
-        result = answer_refused_two(t8);
+        refusal = t9.err.m1;
+        result = answer_TwoLengths_refused(refusal);
         return result;
     }
+    layout = t10;
     size = record_sizes_leaves(layout.depth);
-    t9 = noise.count;
-    t10 = t9 < size;
-    if (t10) {
-        result = answer_refused_two(13u);
+    t11 = noise.count;
+    t12 = t11 < size;
+    if (t12) {
+        t13 = (answer_Refusal){answer_Refusal_buffer_short};
+        result = answer_TwoLengths_refused(t13);
         return result;
     }
     words = window_tests_head_vector_words(layout);
-    t9 = v.count;
-    t10 = t9 < words;
-    if (t10) {
-        result = answer_refused_two(13u);
+    t11 = v.count;
+    t12 = t11 < words;
+    if (t12) {
+        t14 = (answer_Refusal){answer_Refusal_buffer_short};
+        result = answer_TwoLengths_refused(t14);
         return result;
     }
-    t12 = noise.at;
-    t13 = (slice){t12, size};
-    t14 = v.at;
-    t15 = (slice){t14, words};
-    ends_calls_noise_trees_write_accumulated(source, layout, t13, t15);
+    t16 = noise.at;
+    t17 = (slice){t16, size};
+    t18 = v.at;
+    t19 = (slice){t18, words};
+    ends_calls_noise_trees_write_accumulated(source, layout, t17, t19);
     result = (answer_TwoLengths){0u, size, words};
     return result;
 }
 
-/* ends_calls, src/scalar_trees.rt:18: Root i of an accepted record. */
+/* ends_calls, src/scalar_trees.rt:19: Root i of an accepted record. */
 INLINE uint8_4_4 ends_calls_scalar_trees_root_at(slice source, record_Layout layout, uint64_t i)
 {
     uint8_4_4 result;
@@ -7846,47 +9967,45 @@ INLINE uint8_4_4 ends_calls_scalar_trees_root_at(slice source, record_Layout lay
     return result;
 }
 
-/* ends_calls, src/scalar_trees.rt:29: Writes w0: the leaves of all trees, of 2^g children a node (document 02, 10). */
+/* ends_calls, src/scalar_trees.rt:30: Writes w0: the leaves of all trees, of 2^g children a node (document 02, 10). */
 static void ends_calls_scalar_trees_write_trees(slice source, record_Layout layout, slice w)
 {
-    uint8_256 sb, t10;
-    uint64_1536 tables;
-    uint64_40_8 keys, t13;
-    uint64_t i, levels;
+    uint64_1536 words;
+    aes_sbox_Tables tables, t18;
+    uint64_40_8 keys, t11;
+    uint64_t levels, i, i_end;
     uint8_4_4 root;
-    char *t12, *t14, *t15, *t19, *t20, *t21;
-    slice t16, t22;
-    bool t17;
-    t10 = aes_sbox_table();
-    sb = t10;
+    char *t10, *t13, *t19, *t20;
+    slice t14, t21;
+    bool t16;
     for (int each = 0; each < 1536; each++)
-        tables.a[each] = 0ull;
-    t12 = (char *)&tables;
-    aes_sbox_fill_tables(t12);
-    t14 = (char *)&sb;
-    t13 = tree_walk_node_child_keys(t14, layout.branch_bits);
-    keys = t13;
-    t15 = w.at;
-    t16 = (slice){t15, w.count};
-    tree_sums_zero_zero_words(t16);
+        words.a[each] = 0ull;
+    t10 = (char *)&words;
+    tables = aes_sbox_Tables_fill(t10);
+    t11 = tree_walk_node_child_keys(layout.branch_bits);
+    keys = t11;
+    t13 = w.at;
+    t14 = (slice){t13, w.count};
+    tree_sums_zero_zero_words(t14);
+    levels = layout.depth / layout.branch_bits;
     i = 0ull;
+    i_end = layout.trees;
     for (;;) {
-        t17 = i < layout.trees;
-        if (!t17) {
+        t16 = i < i_end;
+        if (!t16) {
             break;
         }
         root = ends_calls_scalar_trees_root_at(source, layout, i);
-        levels = layout.depth / layout.branch_bits;
-        t19 = (char *)&tables;
-        t20 = (char *)&keys;
-        t21 = w.at;
-        t22 = (slice){t21, w.count};
-        tree_fill_fill_add_leaves(t19, t20, layout.field, layout.branch_bits, levels, root, t22);
+        t18 = tables;
+        t19 = (char *)&keys;
+        t20 = w.at;
+        t21 = (slice){t20, w.count};
+        tree_fill_fill_add_leaves(t18, t19, layout.field, layout.branch_bits, levels, root, t21);
         i = i + 1ull;
     }
 }
 
-/* ends_calls, src/scalar_trees.rt:56: Writes the accumulated w0. */
+/* ends_calls, src/scalar_trees.rt:54: Writes the accumulated w0. */
 INLINE void ends_calls_scalar_trees_write_accumulated(slice source, record_Layout layout, slice w)
 {
     char *t5, *t8;
@@ -7901,7 +10020,7 @@ INLINE void ends_calls_scalar_trees_write_accumulated(slice source, record_Layou
     code_sums_accumulation_accumulate_elements(layout.field, t7, t9);
 }
 
-/* ends_calls, src/scalar_trees.rt:66: Writes the two words of Δ of an accepted record. */
+/* ends_calls, src/scalar_trees.rt:64: Writes the two words of Δ of an accepted record. */
 INLINE void ends_calls_scalar_trees_write_delta(slice source, record_Layout layout, slice delta)
 {
     uint64_t t4, t7, t8;
@@ -7923,45 +10042,49 @@ INLINE void ends_calls_scalar_trees_write_delta(slice source, record_Layout layo
 }
 
 /* ends_calls, src/scalar.rt:17: Writes the accumulated w0 to the front of w, and the two words of Δ. */
-static answer_TwoLengths ends_calls_scalar_offline(slice source, slice w, slice delta)
+INLINE answer_TwoLengths ends_calls_scalar_offline(slice source, slice w, slice delta)
 {
     answer_TwoLengths result;
-    record_RecordAnswer r;
-    record_Layout layout;
-    uint64_t words, t8;
-    uint32_t t7;
-    bool t9;
-    char *t11, *t13;
-    slice t12, t14;
-    r = record_reading_scalar_read_scalar(source);
-    switch (r.accepted.tag) {
+    record_Layout layout, layout_2, t9;
+    answer_Refusal refusal, t12, t13;
+    uint64_t words, t10;
+    Result_record_Layout_answer_Refusal t8;
+    bool t11;
+    char *t15, *t17;
+    slice t16, t18;
+    t8 = record_reading_scalar_read_scalar(source);
+    switch (t8.ok.tag) {
     case 0:
-        layout = r.accepted.m1;
+        layout_2 = t8.ok.m1;
+        t9 = layout_2;
         break;
     default:
-        t7 = record_record_fault(r);
-        result = answer_refused_two(t7);
+        refusal = t8.err.m1;
+        result = answer_TwoLengths_refused(refusal);
         return result;
     }
+    layout = t9;
     words = window_tests_head_vector_words(layout);
-    t8 = w.count;
-    t9 = t8 < words;
-    if (t9) {
-        result = answer_refused_two(13u);
+    t10 = w.count;
+    t11 = t10 < words;
+    if (t11) {
+        t12 = (answer_Refusal){answer_Refusal_buffer_short};
+        result = answer_TwoLengths_refused(t12);
         return result;
     }
-    t8 = delta.count;
-    t9 = t8 < 2ull;
-    if (t9) {
-        result = answer_refused_two(13u);
+    t10 = delta.count;
+    t11 = t10 < 2ull;
+    if (t11) {
+        t13 = (answer_Refusal){answer_Refusal_buffer_short};
+        result = answer_TwoLengths_refused(t13);
         return result;
     }
-    t11 = w.at;
-    t12 = (slice){t11, words};
-    ends_calls_scalar_trees_write_accumulated(source, layout, t12);
-    t13 = delta.at;
-    t14 = (slice){t13, delta.count};
-    ends_calls_scalar_trees_write_delta(source, layout, t14);
+    t15 = w.at;
+    t16 = (slice){t15, words};
+    ends_calls_scalar_trees_write_accumulated(source, layout, t16);
+    t17 = delta.at;
+    t18 = (slice){t17, delta.count};
+    ends_calls_scalar_trees_write_delta(source, layout, t18);
     result = (answer_TwoLengths){0u, words, 2ull};
     return result;
 }
@@ -7971,162 +10094,145 @@ INLINE answer_TwoLengths ends_calls_noise_online(slice source, slice noise, slic
     v_out)
 {
     answer_TwoLengths result;
-    record_RecordAnswer r;
-    record_Layout layout;
+    record_Layout layout, layout_2, t14;
+    answer_Refusal refusal, refusal_2, t26;
     code_Window window;
-    uint32_t number, t12;
-    uint64_t t13, t14, t15, t16;
-    bool t17, t22;
-    char *t18, *t20;
-    slice t19, t21;
-    r = record_reading_noise_read_noise(source);
-    switch (r.accepted.tag) {
+    Result_record_Layout_answer_Refusal t13;
+    Result_unit_answer_Refusal t15;
+    uint64_t t16, t17, t18, t19;
+    bool t20, t25;
+    char *t21, *t23;
+    slice t22, t24;
+    t13 = record_reading_noise_read_noise(source);
+    switch (t13.ok.tag) {
     case 0:
-        layout = r.accepted.m1;
+        layout_2 = t13.ok.m1;
+        t14 = layout_2;
         break;
     default:
-        t12 = record_record_fault(r);
-        result = answer_refused_two(t12);
+        refusal = t13.err.m1;
+        result = answer_TwoLengths_refused(refusal);
         return result;
     }
+    layout = t14;
     window = (code_Window){first, count};
-    t13 = noise.count;
-    t14 = v.count;
-    t15 = u_out.count;
-    t16 = v_out.count;
-    number = window_tests_lengths_window_number(layout, t13, t14, window, t15, t16);
-    t17 = number != 0u;
-    if (t17) {
-        result = answer_refused_two(number);
+    t16 = noise.count;
+    t17 = v.count;
+    t18 = u_out.count;
+    t19 = v_out.count;
+    t15 = window_tests_lengths_check_window(layout, t16, t17, window, t18, t19);
+    switch (t15.ok.tag) {
+    case 1:
+        refusal_2 = t15.err.m1;
+        result = answer_TwoLengths_refused(refusal_2);
+        return result;
+    default:
+        break;
+    }
+    t21 = u_out.at;
+    t22 = (slice){t21, u_out.count};
+    t23 = v_out.at;
+    t24 = (slice){t23, v_out.count};
+    t20 = window_write_writing_write_rows(source, layout, window.first, window.count, count, noise, v, t22, t24);
+    t25 = !t20;
+    if (t25) {
+        t26 = (answer_Refusal){answer_Refusal_not_element};
+        result = answer_TwoLengths_refused(t26);
         return result;
     }
-    t18 = u_out.at;
-    t19 = (slice){t18, u_out.count};
-    t20 = v_out.at;
-    t21 = (slice){t20, v_out.count};
-    t17 = window_write_writing_write_rows(source, layout, window, count, noise, v, t19, t21);
-    t22 = !t17;
-    if (t22) {
-        result = answer_refused_two(8u);
-        return result;
-    }
-    t13 = field_width_element_width(layout.field);
-    t14 = count * t13;
-    result = (answer_TwoLengths){0u, count, t14};
+    t16 = field_width_element_width(layout.field);
+    t17 = count * t16;
+    result = (answer_TwoLengths){0u, count, t17};
     return result;
 }
 
 /* ends_calls, src/scalar.rt:42: Writes the window's outputs of the accumulated vector w to the front of w_out. */
-static answer_OneLength ends_calls_scalar_online(slice source, slice w, uint64_t first, uint64_t count, slice w_out)
+INLINE answer_OneLength ends_calls_scalar_online(slice source, slice w, uint64_t first, uint64_t count, slice w_out)
 {
     answer_OneLength result;
-    record_RecordAnswer r;
-    record_Layout layout;
+    record_Layout layout, layout_2, t14;
+    answer_Refusal refusal, refusal_2, t25;
     code_Window window;
-    uint32_t number, t12;
-    uint64_t words, t13, t14, t15;
+    uint64_t words, t16, t17, t18;
     uint64_1 no_u;
-    bool t16, t21;
-    char *t17, *t19;
-    slice t18, t20;
-    r = record_reading_scalar_read_scalar(source);
-    switch (r.accepted.tag) {
+    Result_record_Layout_answer_Refusal t13;
+    Result_unit_answer_Refusal t15;
+    bool t19, t24;
+    char *t20, *t22;
+    slice t21, t23;
+    t13 = record_reading_scalar_read_scalar(source);
+    switch (t13.ok.tag) {
     case 0:
-        layout = r.accepted.m1;
+        layout_2 = t13.ok.m1;
+        t14 = layout_2;
         break;
     default:
-        t12 = record_record_fault(r);
-        result = (answer_OneLength){t12, 0ull};
+        refusal = t13.err.m1;
+        result = answer_OneLength_refused(refusal);
         return result;
     }
+    layout = t14;
     window = (code_Window){first, count};
-    t13 = record_sizes_leaves(layout.depth);
-    t14 = w.count;
-    t15 = w_out.count;
-    number = window_tests_lengths_window_number(layout, t13, t14, window, count, t15);
-    t16 = number != 0u;
-    if (t16) {
-        result = (answer_OneLength){number, 0ull};
+    t16 = record_sizes_leaves(layout.depth);
+    t17 = w.count;
+    t18 = w_out.count;
+    t15 = window_tests_lengths_check_window(layout, t16, t17, window, count, t18);
+    switch (t15.ok.tag) {
+    case 1:
+        refusal_2 = t15.err.m1;
+        result = answer_OneLength_refused(refusal_2);
         return result;
+    default:
+        break;
     }
-    t13 = field_width_element_width(layout.field);
-    words = count * t13;
+    t16 = field_width_element_width(layout.field);
+    words = count * t16;
     no_u = (uint64_1){{0ull}};
-    t17 = (char *)&no_u;
-    t18 = (slice){t17, 1ull};
-    t19 = w_out.at;
-    t20 = (slice){t19, w_out.count};
-    t16 = window_write_writing_write_rows(source, layout, window, 0ull, w, w, t18, t20);
-    t21 = !t16;
-    if (t21) {
-        result = (answer_OneLength){8u, 0ull};
+    t20 = (char *)&no_u;
+    t21 = (slice){t20, 1ull};
+    t22 = w_out.at;
+    t23 = (slice){t22, w_out.count};
+    t19 = window_write_writing_write_rows(source, layout, window.first, window.count, 0ull, w, w, t21, t23);
+    t24 = !t19;
+    if (t24) {
+        t25 = (answer_Refusal){answer_Refusal_not_element};
+        result = answer_OneLength_refused(t25);
         return result;
     }
     result = (answer_OneLength){0u, words};
     return result;
 }
 
-/* ends_bench_leaves, src/table.rt:26: Puts a tree into the table. */
-INLINE void ends_bench_leaves_table_put_tree(char *table, uint64_t i, record_Tree tree)
+/* ends_bench_leaves, src/table.rt:11: The trees of an accepted record; those past them are zero. */
+static record_Tree_64 ends_bench_leaves_table_tree_table(slice source, record_Layout layout)
 {
-    uint64_t at, t5, t6, t9, t10, t13, t16;
-    char *t7, *t8, *t11, *t12, *t14, *t15, *t17, *t18, *t19, *t20;
-    at = 5ull * i;
-    t5 = tree.position;
-    t6 = at * 8ull;
-    t7 = table;
-    t8 = (char *)((uint64_t *)t7 + at);
-    *(uint64_t *)t8 = t5;
-    t9 = tree.value;
-    t6 = at + 1ull;
-    t10 = t6 * 8ull;
-    t11 = table;
-    t12 = (char *)((uint64_t *)t11 + t6);
-    *(uint64_t *)t12 = t9;
-    t13 = tree.low;
-    t6 = at + 2ull;
-    t10 = t6 * 8ull;
-    t14 = table;
-    t15 = (char *)((uint64_t *)t14 + t6);
-    *(uint64_t *)t15 = t13;
-    t16 = tree.high;
-    t6 = at + 3ull;
-    t10 = t6 * 8ull;
-    t17 = table;
-    t18 = (char *)((uint64_t *)t17 + t6);
-    *(uint64_t *)t18 = t16;
-    t5 = tree.siblings;
-    t10 = at + 4ull;
-    t6 = t10 * 8ull;
-    t19 = table;
-    t20 = (char *)((uint64_t *)t19 + t10);
-    *(uint64_t *)t20 = t5;
-}
-
-/* ends_bench_leaves, src/table.rt:39: The table of an accepted record's trees. */
-static uint64_320 ends_bench_leaves_table_tree_table(slice source, record_Layout layout)
-{
-    uint64_320 result, table;
-    uint64_t siblings, at, base, i, t12;
-    record_Tree tree;
-    bool t9;
-    char *t11;
-    for (int each = 0; each < 320; each++)
-        table.a[each] = 0ull;
+    record_Tree_64 result, table;
+    record_Tree none, tree;
+    uint64_t siblings, at, base, i, i_end, t13;
+    field_element_Element t10;
+    bool t12;
+    char *t14, *t15;
+    t10 = (field_element_Element){0ull, 0ull};
+    none = (record_Tree){0ull, 0ull, t10, 0ull};
+    for (int each = 0; each < 64; each++)
+        table.a[each] = none;
     siblings = record_sizes_sibling_count(layout.depth, layout.branch_bits);
     at = layout.body;
     base = 0ull;
     i = 0ull;
+    i_end = layout.trees;
     for (;;) {
-        t9 = i < layout.trees;
-        if (!t9) {
+        t12 = i < i_end;
+        if (!t12) {
             break;
         }
         tree = ends_calls_noise_trees_tree_at(source, layout, siblings, at, base);
-        t11 = (char *)&table;
-        ends_bench_leaves_table_put_tree(t11, i, tree);
-        t12 = 16ull * siblings;
-        at = tree.siblings + t12;
+        t13 = i * 40ull;
+        t14 = (char *)&table;
+        t15 = t14 + t13;
+        *(record_Tree *)t15 = tree;
+        t13 = 16ull * siblings;
+        at = tree.siblings + t13;
         base = tree.position + 1ull;
         i = i + 1ull;
     }
@@ -8134,104 +10240,68 @@ static uint64_320 ends_bench_leaves_table_tree_table(slice source, record_Layout
     return result;
 }
 
-/* ends_bench_leaves, src/table.rt:11: Tree i of the table. */
-INLINE record_Tree ends_bench_leaves_table_tree_at(char *table, uint64_t i)
-{
-    record_Tree result;
-    uint64_t at, t7, t8, t9, t13, t14, t18, t19, t23, t24, t28, t29;
-    char *t5, *t6, *t11, *t12, *t16, *t17, *t21, *t22, *t26, *t27;
-    at = 5ull * i;
-    t5 = table;
-    t6 = (char *)((uint64_t *)t5 + at);
-    t7 = *(uint64_t *)t6;
-    t8 = t7;
-    t9 = at + 1ull;
-    t11 = table;
-    t12 = (char *)((uint64_t *)t11 + t9);
-    t13 = *(uint64_t *)t12;
-    t14 = at + 2ull;
-    t16 = table;
-    t17 = (char *)((uint64_t *)t16 + t14);
-    t18 = *(uint64_t *)t17;
-    t19 = at + 3ull;
-    t21 = table;
-    t22 = (char *)((uint64_t *)t21 + t19);
-    t23 = *(uint64_t *)t22;
-    t24 = at + 4ull;
-    t26 = table;
-    t27 = (char *)((uint64_t *)t26 + t24);
-    t28 = *(uint64_t *)t27;
-    t29 = t28;
-    result = (record_Tree){t8, t13, t18, t23, t29};
-    return result;
-}
-
-/* ends_bench_leaves, src/values.rt:142: The noise value of tree i if it is punctured at j, else the one given. */
-INLINE uint64_t ends_bench_leaves_values_noise_of(char *table, uint64_t i, uint64_t j, uint64_t noise)
-{
-    uint64_t result;
-    record_Tree tree;
-    bool t6;
-    tree = ends_bench_leaves_table_tree_at(table, i);
-    t6 = tree.position == j;
-    if (t6) {
-        result = tree.value;
-        return result;
-    }
-    result = noise;
-    return result;
-}
-
-/* ends_bench_leaves, src/values.rt:154: μ at place j. */
+/* ends_bench_leaves, src/values.rt:130: μ at place j. */
 static uint64_t ends_bench_leaves_values_noise_at(char *table, uint64_t trees, uint64_t j)
 {
-    uint64_t result, noise, i;
-    bool t6;
+    uint64_t result, noise, i, t8;
+    record_Tree tree, t11;
+    bool t7;
+    char *t9, *t10;
     noise = 0ull;
     i = 0ull;
     for (;;) {
-        t6 = i < trees;
-        if (!t6) {
+        t7 = i < trees;
+        if (!t7) {
             break;
         }
-        noise = ends_bench_leaves_values_noise_of(table, i, j, noise);
+        t8 = i * 40ull;
+        t9 = table;
+        t10 = t9 + t8;
+        t11 = *(record_Tree *)t10;
+        tree = t11;
+        t7 = tree.position == j;
+        if (t7) {
+            noise = tree.value;
+        }
         i = i + 1ull;
     }
     result = noise;
     return result;
 }
 
-/* ends_bench_leaves, src/trees.rt:20: Whether tree i is punctured at j, which at the scalar end none is. */
+/* ends_bench_leaves, src/trees.rt:19: Whether tree i is punctured at j, which at the scalar end none is. */
 INLINE bool ends_bench_leaves_trees_punctured_at(uint64_t vector, char *table, uint64_t i, uint64_t j)
 {
-    bool result, t6;
-    record_Tree tree;
-    t6 = vector == 3ull;
-    if (t6) {
-        result = false;
-        return result;
+    bool result, t5;
+    uint64_t t6, t9;
+    char *t7, *t8;
+    t5 = vector != 3ull;
+    if (t5) {
+        t6 = i * 40ull;
+        t7 = table;
+        t8 = t7 + t6;
+        t9 = ((record_Tree *)t8)->position;
+        t5 = t9 == j;
     }
-    tree = ends_bench_leaves_table_tree_at(table, i);
-    result = tree.position == j;
+    result = t5;
     return result;
 }
 
-/* ends_bench_leaves, src/trees.rt:32: Whether tree i or the next is punctured at j. */
+/* ends_bench_leaves, src/trees.rt:27: Whether tree i or the next is punctured at j. */
 INLINE bool ends_bench_leaves_trees_either_punctured(uint64_t vector, char *table, uint64_t i, uint64_t j)
 {
     bool result, t5;
     uint64_t t6;
     t5 = ends_bench_leaves_trees_punctured_at(vector, table, i, j);
-    if (t5) {
-        result = true;
-        return result;
+    if (!t5) {
+        t6 = i + 1ull;
+        t5 = ends_bench_leaves_trees_punctured_at(vector, table, t6, j);
     }
-    t6 = i + 1ull;
-    result = ends_bench_leaves_trees_punctured_at(vector, table, t6, j);
+    result = t5;
     return result;
 }
 
-/* ends_bench_leaves, src/trees.rt:12: The place of root i. */
+/* ends_bench_leaves, src/trees.rt:11: The place of root i. */
 INLINE uint64_t ends_bench_leaves_trees_root_place(slice source, record_Layout layout, uint64_t i)
 {
     uint64_t result, t4, t5, t6, t7;
@@ -8244,14 +10314,15 @@ INLINE uint64_t ends_bench_leaves_trees_root_place(slice source, record_Layout l
     return result;
 }
 
-/* ends_bench_leaves, src/trees.rt:43: Where the walk to leaf j of tree i starts, which is not punctured there. */
+/* ends_bench_leaves, src/trees.rt:35: Where the walk to leaf j of tree i starts, which is not punctured there. */
 INLINE tree_walk_down_Start ends_bench_leaves_trees_start_at(slice source, char *table, uint64_t vector, record_Layout layout, uint64_t i,
     uint64_t j)
 {
     tree_walk_down_Start result;
-    uint64_t levels, t10;
-    record_Tree tree;
+    uint64_t levels, t10, t11;
+    record_Tree tree, t14;
     bool t9;
+    char *t12, *t13;
     levels = layout.depth / layout.branch_bits;
     t9 = vector == 3ull;
     if (t9) {
@@ -8259,206 +10330,227 @@ INLINE tree_walk_down_Start ends_bench_leaves_trees_start_at(slice source, char 
         result = (tree_walk_down_Start){t10, levels};
         return result;
     }
-    tree = ends_bench_leaves_table_tree_at(table, i);
+    t11 = i * 40ull;
+    t12 = table;
+    t13 = t12 + t11;
+    t14 = *(record_Tree *)t13;
+    tree = t14;
     result = tree_walk_down_from_sibling(layout.branch_bits, levels, tree.position, j, tree.siblings);
     return result;
 }
 
-/* ends_bench_leaves, src/values.rt:25: The element of leaf j of tree i, walked alone; the correction stands in for a punctured leaf. */
-static field_element_Element ends_bench_leaves_values_leaf_of(char *tables, char *keys, slice source, char *table,
+/* ends_bench_leaves, src/values.rt:24: The element of leaf j of tree i, walked alone; the correction stands in for a punctured leaf. */
+static field_element_Element ends_bench_leaves_values_leaf_of(aes_sbox_Tables tables, char *keys, slice source, char *table,
     ends_bench_leaves_values_Vector vector, uint64_t i, uint64_t j)
 {
     field_element_Element result;
     record_Layout layout;
-    record_Tree tree;
     tree_walk_down_Start start;
     field_block_Block node, leaf;
-    bool t13;
-    uint8_4_4 t14;
+    bool t12;
+    uint64_t t13;
+    char *t14, *t15;
+    aes_sbox_Tables t16;
+    uint8_4_4 t17;
     layout = vector.layout;
-    t13 = ends_bench_leaves_trees_punctured_at(vector.number, table, i, j);
-    if (t13) {
-        tree = ends_bench_leaves_table_tree_at(table, i);
-        result = (field_element_Element){tree.low, tree.high};
+    t12 = ends_bench_leaves_trees_punctured_at(vector.number, table, i, j);
+    if (t12) {
+        t13 = i * 40ull;
+        t14 = table;
+        t15 = t14 + t13;
+        result = ((record_Tree *)t15)->correction;
         return result;
     }
     start = ends_bench_leaves_trees_start_at(source, table, vector.number, layout, i, j);
     node = tree_walk_columns_node_at(source, start.at);
-    leaf = tree_walk_down_walk_to(tables, keys, layout.branch_bits, start.left, 0ull, node, j);
-    t14 = field_block_Block_columns(leaf);
-    result = field_element_leaf_element(layout.field, t14);
+    t16 = tables;
+    leaf = tree_walk_down_walk_to(t16, keys, layout.branch_bits, start.left, 0ull, node, j);
+    t17 = field_block_Block_columns(leaf);
+    result = field_element_leaf_element(layout.field, t17);
     return result;
 }
 
-/* ends_bench_leaves, src/walk.rt:24: Leaf j below each of two nodes, walked in alternation from where both have the same number of
+/* ends_bench_leaves, src/walk.rt:23: Leaf j below each of two nodes, walked in alternation from where both have the same number of
  * levels left. */
-INLINE aes_blocks_TwoBlocks ends_bench_leaves_walk_walk_two(char *tables, char *keys, ends_bench_leaves_walk_Levels levels,
-    field_block_Block a, field_block_Block b, uint64_t j)
+INLINE aes_blocks_Two_field_block_Block ends_bench_leaves_walk_walk_two(aes_sbox_Tables tables, char *keys, ends_bench_leaves_walk_Levels
+    levels, field_block_Block a, field_block_Block b, uint64_t j)
 {
-    aes_blocks_TwoBlocks result;
+    aes_blocks_Two_field_block_Block result;
     uint64_t g, both;
     field_block_Block x, y;
+    aes_sbox_Tables t11, t12, t13;
     g = levels.branch_bits;
-    both = record_sizes_smaller(levels.one, levels.other);
-    x = tree_walk_down_walk_to(tables, keys, g, levels.one, both, a, j);
-    y = tree_walk_down_walk_to(tables, keys, g, levels.other, both, b, j);
-    result = tree_walk_down_walk_both(tables, keys, g, both, x, y, j);
+    both = core_usize_min(levels.one, levels.other);
+    t11 = tables;
+    x = tree_walk_down_walk_to(t11, keys, g, levels.one, both, a, j);
+    t12 = tables;
+    y = tree_walk_down_walk_to(t12, keys, g, levels.other, both, b, j);
+    t13 = tables;
+    result = tree_walk_down_walk_both(t13, keys, g, both, x, y, j);
     return result;
 }
 
-/* ends_bench_leaves, src/values.rt:54: The sum of the elements of leaf j below two blocks. */
-static field_element_Element ends_bench_leaves_values_two_walked(char *tables, char *keys, slice source, record_Layout layout, uint64_t
-    a_at, uint64_t a_left, uint64_t b_at, uint64_t b_left, uint64_t j)
+/* ends_bench_leaves, src/values.rt:48: The sum of the elements of leaf j below two blocks. */
+static field_element_Element ends_bench_leaves_values_two_walked(aes_sbox_Tables tables, char *keys, slice source, record_Layout layout,
+    uint64_t a_at, uint64_t a_left, uint64_t b_at, uint64_t b_left, uint64_t j)
 {
-    field_element_Element result, t12, t15;
+    field_element_Element result, t13, t16;
     tree_walk_down_Start a, b;
     ends_bench_leaves_walk_Levels levels;
-    field_block_Block one, other, t14, t17;
-    aes_blocks_TwoBlocks leaves;
-    uint8_4_4 t13, t16;
+    field_block_Block one, other, t15, t18;
+    aes_blocks_Two_field_block_Block leaves;
+    aes_sbox_Tables t12;
+    uint8_4_4 t14, t17;
     a = (tree_walk_down_Start){a_at, a_left};
     b = (tree_walk_down_Start){b_at, b_left};
     levels = (ends_bench_leaves_walk_Levels){layout.branch_bits, a.left, b.left};
     one = tree_walk_columns_node_at(source, a.at);
     other = tree_walk_columns_node_at(source, b.at);
-    leaves = ends_bench_leaves_walk_walk_two(tables, keys, levels, one, other, j);
-    t14 = leaves.one;
-    t13 = field_block_Block_columns(t14);
-    t12 = field_element_leaf_element(layout.field, t13);
-    t17 = leaves.other;
-    t16 = field_block_Block_columns(t17);
-    t15 = field_element_leaf_element(layout.field, t16);
-    result = field_element_element_sum(layout.field, t12, t15);
+    t12 = tables;
+    leaves = ends_bench_leaves_walk_walk_two(t12, keys, levels, one, other, j);
+    t15 = leaves.one;
+    t14 = field_block_Block_columns(t15);
+    t13 = field_element_leaf_element(layout.field, t14);
+    t18 = leaves.other;
+    t17 = field_block_Block_columns(t18);
+    t16 = field_element_leaf_element(layout.field, t17);
+    result = field_element_element_sum(layout.field, t13, t16);
     return result;
 }
 
-/* ends_bench_leaves, src/values.rt:83: The sum of the elements of leaf j of trees i and i + 1. */
-INLINE field_element_Element ends_bench_leaves_values_two_leaves(char *tables, char *keys, slice source, char *table,
+/* ends_bench_leaves, src/values.rt:76: The sum of the elements of leaf j of trees i and i + 1. */
+INLINE field_element_Element ends_bench_leaves_values_two_leaves(aes_sbox_Tables tables, char *keys, slice source, char *table,
     ends_bench_leaves_values_Vector vector, uint64_t i, uint64_t j)
 {
     field_element_Element result, a, b;
     record_Layout layout;
     tree_walk_down_Start a_2, b_2;
     bool t13;
-    uint64_t t14, t15;
+    aes_sbox_Tables t14, t15, t18;
+    uint64_t t16, t17;
     layout = vector.layout;
     t13 = ends_bench_leaves_trees_either_punctured(vector.number, table, i, j);
     if (t13) {
-        a = ends_bench_leaves_values_leaf_of(tables, keys, source, table, vector, i, j);
-        t14 = i + 1ull;
-        b = ends_bench_leaves_values_leaf_of(tables, keys, source, table, vector, t14, j);
+        t14 = tables;
+        a = ends_bench_leaves_values_leaf_of(t14, keys, source, table, vector, i, j);
+        t15 = tables;
+        t16 = i + 1ull;
+        b = ends_bench_leaves_values_leaf_of(t15, keys, source, table, vector, t16, j);
         result = field_element_element_sum(layout.field, a, b);
         return result;
     }
     a_2 = ends_bench_leaves_trees_start_at(source, table, vector.number, layout, i, j);
-    t15 = i + 1ull;
-    b_2 = ends_bench_leaves_trees_start_at(source, table, vector.number, layout, t15, j);
-    result = ends_bench_leaves_values_two_walked(tables, keys, source, layout, a_2.at, a_2.left, b_2.at, b_2.left, j);
+    t17 = i + 1ull;
+    b_2 = ends_bench_leaves_trees_start_at(source, table, vector.number, layout, t17, j);
+    t18 = tables;
+    result = ends_bench_leaves_values_two_walked(t18, keys, source, layout, a_2.at, a_2.left, b_2.at, b_2.left, j);
     return result;
 }
 
-/* ends_bench_leaves, src/values.rt:111: The sum of the elements of leaf j of all trees. */
-static field_element_Element ends_bench_leaves_values_leaves_sum(char *tables, char *keys, slice source, char *table,
+/* ends_bench_leaves, src/values.rt:103: The sum of the elements of leaf j of all trees. */
+static field_element_Element ends_bench_leaves_values_leaves_sum(aes_sbox_Tables tables, char *keys, slice source, char *table,
     ends_bench_leaves_values_Vector vector, uint64_t j)
 {
-    field_element_Element result, total, both, next, last;
-    uint64_t field, trees, i, t14;
-    bool t15, t16;
+    field_element_Element result, total, both, last;
+    uint64_t field, trees, pair, pair_end, t16, t17;
+    bool t14, t18;
+    aes_sbox_Tables t15, t19;
     field = vector.layout.field;
     trees = vector.layout.trees;
     total = (field_element_Element){0ull, 0ull};
-    i = 0ull;
+    pair = 0ull;
+    pair_end = trees / 2ull;
     for (;;) {
-        t14 = i + 1ull;
-        t15 = t14 < trees;
-        if (!t15) {
+        t14 = pair < pair_end;
+        if (!t14) {
             break;
         }
-        both = ends_bench_leaves_values_two_leaves(tables, keys, source, table, vector, i, j);
-        next = field_element_element_sum(field, total, both);
-        total = next;
-        i = i + 2ull;
+        t15 = tables;
+        t16 = 2ull * pair;
+        both = ends_bench_leaves_values_two_leaves(t15, keys, source, table, vector, t16, j);
+        total = field_element_element_sum(field, total, both);
+        pair = pair + 1ull;
     }
-    t16 = i < trees;
-    if (t16) {
-        last = ends_bench_leaves_values_leaf_of(tables, keys, source, table, vector, i, j);
-        result = field_element_element_sum(field, total, last);
+    t17 = trees % 2ull;
+    t18 = t17 == 0ull;
+    if (t18) {
+        result = total;
         return result;
     }
-    result = total;
+    t19 = tables;
+    t17 = trees - 1ull;
+    last = ends_bench_leaves_values_leaf_of(t19, keys, source, table, vector, t17, j);
+    result = field_element_element_sum(field, total, last);
     return result;
 }
 
-/* ends_bench_leaves, src/values.rt:168: The vector's value at place j. */
-INLINE field_element_Element ends_bench_leaves_values_value_at(char *tables, char *keys, slice source, char *table,
+/* ends_bench_leaves, src/values.rt:145: The vector's value at place j. */
+INLINE field_element_Element ends_bench_leaves_values_value_at(aes_sbox_Tables tables, char *keys, slice source, char *table,
     ends_bench_leaves_values_Vector vector, uint64_t j)
 {
     field_element_Element result;
     bool t7;
     uint64_t t8;
+    aes_sbox_Tables t9;
     t7 = vector.number == 1ull;
     if (t7) {
         t8 = ends_bench_leaves_values_noise_at(table, vector.layout.trees, j);
         result = (field_element_Element){t8, 0ull};
         return result;
     }
-    result = ends_bench_leaves_values_leaves_sum(tables, keys, source, table, vector, j);
+    t9 = tables;
+    result = ends_bench_leaves_values_leaves_sum(t9, keys, source, table, vector, j);
     return result;
 }
 
-/* ends_bench_leaves, src/elements.rt:42: Adds entry × element to element k of the outputs in field 2. */
+/* ends_bench_leaves, src/elements.rt:36: Adds entry × element to element k of the outputs in field 2. */
 INLINE void ends_bench_leaves_elements_add_prime(uint64_t k, uint64_t entry, uint64_t word, slice out)
 {
-    uint64_t total, t9, t10;
-    prime_prime_Prime sum;
-    char *t8, *t11;
+    prime_prime_Prime t5;
+    uint64_t t6, t9, t10;
+    char *t8, *t12;
     t8 = (char *)((uint64_t *)out.at + k);
     t9 = *(uint64_t *)t8;
-    total = prime_prime_Prime_add_product(t9, entry, word);
-    sum = prime_prime_Prime_reduce(total);
-    t10 = sum.word;
-    t11 = (char *)((uint64_t *)out.at + k);
-    *(uint64_t *)t11 = t10;
+    t6 = prime_prime_Prime_add_product(t9, entry, word);
+    t5 = prime_prime_Prime_reduce(t6);
+    t10 = t5.word;
+    t12 = (char *)((uint64_t *)out.at + k);
+    *(uint64_t *)t12 = t10;
 }
 
 /* ends_bench_leaves, src/elements.rt:14: Adds entry × bit to bit k of the outputs. */
 INLINE void ends_bench_leaves_elements_add_bit(uint64_t k, uint64_t entry, uint64_t bit, slice out)
 {
-    uint64_t product, t6, t7;
-    char *t9, *t11;
-    t6 = entry % 2ull;
-    t7 = bit % 2ull;
-    product = t6 * t7;
-    t9 = (char *)((uint64_t *)out.at + k);
-    t7 = *(uint64_t *)t9;
-    t6 = field_block_add_bits(t7, product);
-    t11 = (char *)((uint64_t *)out.at + k);
-    *(uint64_t *)t11 = t6;
+    uint64_t t5, t8, t9, t10, t11;
+    char *t7, *t13;
+    t7 = (char *)((uint64_t *)out.at + k);
+    t8 = *(uint64_t *)t7;
+    t9 = entry % 2ull;
+    t10 = bit % 2ull;
+    t11 = t9 * t10;
+    t5 = field_block_add_bits(t8, t11);
+    t13 = (char *)((uint64_t *)out.at + k);
+    *(uint64_t *)t13 = t5;
 }
 
-/* ends_bench_leaves, src/elements.rt:24: Adds entry × block to block k of the outputs. */
+/* ends_bench_leaves, src/elements.rt:23: Adds entry × block to block k of the outputs. */
 INLINE void ends_bench_leaves_elements_add_block(uint64_t k, uint64_t entry, field_element_Element element, slice out)
 {
-    uint64_t low, t10, t11, t14;
-    field_block_Block old, value, t18, t19;
-    char *t9, *t13, *t16;
-    slice t17;
-    low = k * 2ull;
-    t9 = (char *)((uint64_t *)out.at + low);
-    t10 = *(uint64_t *)t9;
-    t11 = low + 1ull;
-    t13 = (char *)((uint64_t *)out.at + t11);
-    t14 = *(uint64_t *)t13;
-    old = (field_block_Block){t10, t14};
+    field_block_Block value, t7, t8, t11;
+    char *t9, *t12;
+    slice t10, t13;
     value = (field_block_Block){element.low, element.high};
-    t16 = out.at;
-    t17 = (slice){t16, out.count};
-    t19 = field_block_Block_scale(value, entry);
-    t18 = field_block_Block_add(old, t19);
-    field_width_put_block(t17, k, t18);
+    t9 = out.at;
+    t10 = (slice){t9, out.count};
+    t8 = field_parts_BlockFieldElement_at(t10, k);
+    t11 = field_block_Block_scale(value, entry);
+    t7 = field_block_Block_add(t8, t11);
+    t12 = out.at;
+    t13 = (slice){t12, out.count};
+    field_parts_BlockFieldElement_put(t7, t13, k);
 }
 
-/* ends_bench_leaves, src/elements.rt:53: Adds entry × value to output k of a vector. */
+/* ends_bench_leaves, src/elements.rt:45: Adds entry × value to output k of a vector. */
 INLINE void ends_bench_leaves_elements_add_output(uint64_t vector, uint64_t field, uint64_t k, uint64_t entry, field_element_Element value,
     slice out)
 {
@@ -8484,7 +10576,7 @@ INLINE void ends_bench_leaves_elements_add_output(uint64_t vector, uint64_t fiel
     ends_bench_leaves_elements_add_block(k, entry, value, t16);
 }
 
-/* ends_bench, src/accepted.rt:32: The words of a window's elements. */
+/* ends_bench, src/accepted.rt:31: The words of a window's elements. */
 INLINE uint64_t ends_bench_accepted_words_for(record_Layout layout, code_Window window)
 {
     uint64_t result, t3;
@@ -8493,33 +10585,38 @@ INLINE uint64_t ends_bench_accepted_words_for(record_Layout layout, code_Window 
     return result;
 }
 
-/* ends_bench, src/accepted.rt:40: The number of the tests after a noise record, for buffers of these lengths. */
-INLINE uint32_t ends_bench_accepted_noise_number(record_Layout layout, code_Window window, uint64_t u_room, uint64_t v_room)
+/* ends_bench, src/accepted.rt:39: The tests after a noise record, for buffers of these lengths. */
+INLINE Result_unit_answer_Refusal ends_bench_accepted_check_noise(record_Layout layout, code_Window window, uint64_t u_room, uint64_t
+    v_room)
 {
-    uint32_t result;
-    bool t5, t6;
-    uint64_t t7;
+    Result_unit_answer_Refusal result;
+    bool t5, t7;
+    answer_Refusal t6, t8, t10;
+    uint64_t t9;
     t5 = answer_lengths_is_past(window.first, window.count, layout.outputs);
     if (t5) {
-        result = 7u;
+        t6 = (answer_Refusal){answer_Refusal_window_past_end};
+        result = (Result_unit_answer_Refusal){.err = {1u, t6}};
         return result;
     }
-    t6 = u_room < window.count;
-    if (t6) {
-        result = 13u;
+    t7 = u_room < window.count;
+    if (t7) {
+        t8 = (answer_Refusal){answer_Refusal_buffer_short};
+        result = (Result_unit_answer_Refusal){.err = {1u, t8}};
         return result;
     }
-    t7 = ends_bench_accepted_words_for(layout, window);
-    t6 = v_room < t7;
-    if (t6) {
-        result = 13u;
+    t9 = ends_bench_accepted_words_for(layout, window);
+    t7 = v_room < t9;
+    if (t7) {
+        t10 = (answer_Refusal){answer_Refusal_buffer_short};
+        result = (Result_unit_answer_Refusal){.err = {1u, t10}};
         return result;
     }
-    result = 0u;
+    result = (Result_unit_answer_Refusal){.ok = {0u}};
     return result;
 }
 
-/* ends_bench, src/batch.rt:88: The words of a vector's value. */
+/* ends_bench, src/batch.rt:81: The words of a vector's value. */
 INLINE uint64_t ends_bench_batch_value_width(uint64_t vector, uint64_t field)
 {
     uint64_t result, t4;
@@ -8534,67 +10631,58 @@ INLINE uint64_t ends_bench_batch_value_width(uint64_t vector, uint64_t field)
     return result;
 }
 
-/* ends_bench, src/batch.rt:99: How many of the rows left the next batch has. */
-INLINE uint64_t ends_bench_batch_batch_count(uint64_t left)
-{
-    uint64_t result, t3;
-    bool t2;
-    t2 = left <= 32ull;
-    if (t2) {
-        t3 = left;
-    } else {
-        t3 = 32ull;
-    }
-    result = t3;
-    return result;
-}
-
 /* ends_bench, src/entries.rt:32: Term i of row x. */
-INLINE ends_bench_entries_Pending ends_bench_entries_pending_term(char *tables, char *code, record_Layout layout, uint64_t x, uint64_t i)
+INLINE ends_bench_entries_Pending ends_bench_entries_pending_term(aes_sbox_Tables tables, char *code, record_Layout layout, uint64_t x,
+    uint64_t i)
 {
     ends_bench_entries_Pending result;
     code_places_row_Term term;
-    code_Shape t7;
-    uint64_t t8;
-    t7 = window_tests_head_shape_of(layout);
-    term = code_places_row_row_term(tables, code, t7, x, i);
-    t8 = field_noise_coefficient(layout.field, term.word);
-    result = (ends_bench_entries_Pending){term.place, t8};
+    aes_sbox_Tables t7;
+    code_Shape t8;
+    uint64_t t9;
+    t7 = tables;
+    t8 = window_tests_head_shape_of(layout);
+    term = code_places_row_row_term(t7, code, t8, x, i);
+    t9 = field_noise_coefficient(layout.field, term.word);
+    result = (ends_bench_entries_Pending){term.place, t9};
     return result;
 }
 
-/* ends_bench, src/entries.rt:52: Makes term i of each row. */
-static void ends_bench_entries_make_terms(char *tables, char *code, ends_bench_entries_Batch batch, uint64_t i, char *rows)
+/* ends_bench, src/entries.rt:45: Makes term i of each row. */
+static void ends_bench_entries_make_terms(aes_sbox_Tables tables, char *code, ends_bench_entries_Batch batch, uint64_t i, char *rows)
 {
     record_Layout layout;
-    uint64_t k, t10, t11, t15;
+    uint64_t k, k_end, t12, t13, t17;
     ends_bench_entries_Pending term;
-    bool t9;
-    char *t13, *t14, *t16, *t17;
+    bool t10;
+    aes_sbox_Tables t11;
+    char *t15, *t16, *t18, *t19;
     layout = batch.vector.layout;
     k = 0ull;
+    k_end = batch.count;
     for (;;) {
-        t9 = k < batch.count;
-        if (!t9) {
+        t10 = k < k_end;
+        if (!t10) {
             break;
         }
-        t10 = batch.first + k;
-        term = ends_bench_entries_pending_term(tables, code, layout, t10, i);
-        t11 = term.place;
-        t10 = 32ull + k;
-        t13 = rows;
-        t14 = (char *)((uint64_t *)t13 + t10);
-        *(uint64_t *)t14 = t11;
-        t15 = term.coefficient;
-        t10 = 64ull + k;
-        t16 = rows;
-        t17 = (char *)((uint64_t *)t16 + t10);
-        *(uint64_t *)t17 = t15;
+        t11 = tables;
+        t12 = batch.first + k;
+        term = ends_bench_entries_pending_term(t11, code, layout, t12, i);
+        t13 = term.place;
+        t12 = 32ull + k;
+        t15 = rows;
+        t16 = (char *)((uint64_t *)t15 + t12);
+        *(uint64_t *)t16 = t13;
+        t17 = term.coefficient;
+        t12 = 64ull + k;
+        t18 = rows;
+        t19 = (char *)((uint64_t *)t18 + t12);
+        *(uint64_t *)t19 = t17;
         k = k + 1ull;
     }
 }
 
-/* ends_bench, src/batch.rt:24: How many places a strip has. */
+/* ends_bench, src/batch.rt:23: How many places a strip has. */
 INLINE uint64_t ends_bench_batch_strip_size(record_Layout layout)
 {
     uint64_t result, t2;
@@ -8603,7 +10691,7 @@ INLINE uint64_t ends_bench_batch_strip_size(record_Layout layout)
     return result;
 }
 
-/* ends_bench, src/entries.rt:86: Row k's entry at place j. */
+/* ends_bench, src/entries.rt:68: Row k's entry at place j. */
 INLINE uint64_t ends_bench_entries_entry_at(uint64_t field, char *rows, uint64_t j, uint64_t k)
 {
     uint64_t result, t5, t6, t9, t10, t15, t20;
@@ -8636,41 +10724,43 @@ INLINE uint64_t ends_bench_entries_entry_at(uint64_t field, char *rows, uint64_t
     return result;
 }
 
-/* ends_bench, src/entries.rt:97: Adds to each output its row's entry at place j × the value there. */
+/* ends_bench, src/entries.rt:79: Adds to each output its row's entry at place j × the value there. */
 static void ends_bench_entries_add_place(ends_bench_entries_Batch batch, char *rows, uint64_t j, field_element_Element value, slice out)
 {
-    uint64_t vector, field, k, entry;
-    bool t10;
-    char *t12;
-    slice t13;
+    uint64_t vector, field, k, entry, k_end;
+    bool t11;
+    char *t13;
+    slice t14;
     vector = batch.vector.number;
     field = batch.vector.layout.field;
     k = 0ull;
+    k_end = batch.count;
     for (;;) {
-        t10 = k < batch.count;
-        if (!t10) {
+        t11 = k < k_end;
+        if (!t11) {
             break;
         }
         entry = ends_bench_entries_entry_at(field, rows, j, k);
-        t12 = out.at;
-        t13 = (slice){t12, out.count};
-        ends_bench_leaves_elements_add_output(vector, field, k, entry, value, t13);
+        t13 = out.at;
+        t14 = (slice){t13, out.count};
+        ends_bench_leaves_elements_add_output(vector, field, k, entry, value, t14);
         k = k + 1ull;
     }
 }
 
-/* ends_bench, src/batch.rt:32: Adds the places of strip i to the outputs, from the highest down. */
-static void ends_bench_batch_add_strip(char *tables, char *keys, slice source, char *table, ends_bench_batch_Strip strip, char *rows, slice
-    out)
+/* ends_bench, src/batch.rt:31: Adds the places of strip i to the outputs, from the highest down. */
+static void ends_bench_batch_add_strip(aes_sbox_Tables tables, char *keys, slice source, char *table, ends_bench_batch_Strip strip, char
+    *rows, slice out)
 {
     ends_bench_entries_Batch batch;
     uint64_t size, start, left, j;
     field_element_Element value;
     record_Layout t14;
     bool t15;
-    ends_bench_leaves_values_Vector t16;
-    char *t18;
-    slice t19;
+    aes_sbox_Tables t16;
+    ends_bench_leaves_values_Vector t17;
+    char *t19;
+    slice t20;
     batch = strip.batch;
     t14 = batch.vector.layout;
     size = ends_bench_batch_strip_size(t14);
@@ -8683,15 +10773,16 @@ static void ends_bench_batch_add_strip(char *tables, char *keys, slice source, c
         }
         left = left - 1ull;
         j = start + left;
-        t16 = batch.vector;
-        value = ends_bench_leaves_values_value_at(tables, keys, source, table, t16, j);
-        t18 = out.at;
-        t19 = (slice){t18, out.count};
-        ends_bench_entries_add_place(batch, rows, j, value, t19);
+        t16 = tables;
+        t17 = batch.vector;
+        value = ends_bench_leaves_values_value_at(t16, keys, source, table, t17, j);
+        t19 = out.at;
+        t20 = (slice){t19, out.count};
+        ends_bench_entries_add_place(batch, rows, j, value, t20);
     }
 }
 
-/* ends_bench, src/entries.rt:74: Adds each row's coefficient to its sum, at the end of a strip. */
+/* ends_bench, src/entries.rt:58: Adds each row's coefficient to its sum, at the end of a strip. */
 static void ends_bench_entries_pass_terms(uint64_t field, uint64_t count, char *rows)
 {
     uint64_t k, t6, t10, t11, t15;
@@ -8718,19 +10809,20 @@ static void ends_bench_entries_pass_terms(uint64_t field, uint64_t count, char *
     }
 }
 
-/* ends_bench, src/batch.rt:60: Writes the outputs of a batch. */
-static void ends_bench_batch_write_batch(char *tables, char *keys, char *code, slice source, char *table, ends_bench_entries_Batch batch,
-    slice out)
+/* ends_bench, src/batch.rt:56: Writes the outputs of a batch. */
+static void ends_bench_batch_write_batch(aes_sbox_Tables tables, char *keys, char *code, slice source, char *table, ends_bench_entries_Batch
+    batch, slice out)
 {
     uint64_96 rows;
     uint64_t i;
     ends_bench_batch_Strip strip;
-    char *t12, *t16, *t17, *t18, *t20;
-    slice t13, t19;
+    char *t12, *t17, *t19, *t20, *t22;
+    slice t13, t21;
     bool t14;
+    aes_sbox_Tables t16, t18;
     t12 = out.at;
     t13 = (slice){t12, out.count};
-    tree_sums_zero_zero_words(t13);
+    core_slice_fill_uint64(t13, 0ull);
     for (int each = 0; each < 96; each++)
         rows.a[each] = 0ull;
     i = batch.vector.layout.terms;
@@ -8740,318 +10832,345 @@ static void ends_bench_batch_write_batch(char *tables, char *keys, char *code, s
             break;
         }
         i = i - 1ull;
-        t16 = (char *)&rows;
-        ends_bench_entries_make_terms(tables, code, batch, i, t16);
-        strip = (ends_bench_batch_Strip){batch, i};
+        t16 = tables;
         t17 = (char *)&rows;
-        t18 = out.at;
-        t19 = (slice){t18, out.count};
-        ends_bench_batch_add_strip(tables, keys, source, table, strip, t17, t19);
-        t20 = (char *)&rows;
-        ends_bench_entries_pass_terms(batch.vector.layout.field, batch.count, t20);
+        ends_bench_entries_make_terms(t16, code, batch, i, t17);
+        strip = (ends_bench_batch_Strip){batch, i};
+        t18 = tables;
+        t19 = (char *)&rows;
+        t20 = out.at;
+        t21 = (slice){t20, out.count};
+        ends_bench_batch_add_strip(t18, keys, source, table, strip, t19, t21);
+        t22 = (char *)&rows;
+        ends_bench_entries_pass_terms(batch.vector.layout.field, batch.count, t22);
     }
 }
 
-/* ends_bench, src/batch.rt:107: Writes the outputs of a window over the front of a buffer. */
-static void ends_bench_batch_write_outputs(char *tables, char *keys, char *code, slice source, char *table, ends_bench_entries_Batch window,
-    slice out)
+/* ends_bench, src/batch.rt:92: Writes the outputs of a window over the front of a buffer. */
+static void ends_bench_batch_write_outputs(aes_sbox_Tables tables, char *keys, char *code, slice source, char *table,
+    ends_bench_entries_Batch window, slice out)
 {
     ends_bench_leaves_values_Vector vector;
-    uint64_t width, done, left, count, from, to, t17, t20;
+    uint64_t width, done, count, from, to, done_end, t17, t21, t24;
     ends_bench_entries_Batch batch;
-    bool t16;
-    char *t19, *t21;
-    slice t22;
+    bool t16, t25;
+    aes_sbox_Tables t19;
+    char *t20, *t22;
+    slice t23;
     vector = window.vector;
     width = ends_bench_batch_value_width(vector.number, vector.layout.field);
     done = 0ull;
+    done_end = window.count;
     for (;;) {
-        t16 = done < window.count;
+        t16 = done < done_end;
         if (!t16) {
             break;
         }
-        left = window.count - done;
-        count = ends_bench_batch_batch_count(left);
+        t17 = window.count - done;
+        count = core_usize_min(t17, 32ull);
         t17 = window.first + done;
         batch = (ends_bench_entries_Batch){vector, t17, count};
         from = done * width;
         t17 = count * width;
         to = from + t17;
+        t19 = tables;
         t17 = from * 8ull;
-        t19 = (char *)((uint64_t *)out.at + from);
-        t20 = to - from;
-        t21 = t19;
-        t22 = (slice){t21, t20};
-        ends_bench_batch_write_batch(tables, keys, code, source, table, batch, t22);
-        done = done + count;
+        t20 = (char *)((uint64_t *)out.at + from);
+        t21 = to - from;
+        t22 = t20;
+        t23 = (slice){t22, t21};
+        ends_bench_batch_write_batch(t19, keys, code, source, table, batch, t23);
+        t24 = done_end - done;
+        t25 = 32ull < t24;
+        if (!t25) {
+            break;
+        }
+        done = done + 32ull;
     }
 }
 
-/* ends_bench, src/accepted.rt:79: Writes u and v of a noise record's rows, under the round keys lent. */
-INLINE void ends_bench_accepted_write_tabled(char *tables, char *keys, char *code, slice source, char *table, ends_bench_accepted_Rows rows,
-    slice u_out, slice v_out)
+/* ends_bench, src/accepted.rt:78: Writes u and v of a noise record's rows, under the round keys lent. */
+INLINE void ends_bench_accepted_write_tabled(aes_sbox_Tables tables, char *keys, char *code, slice source, char *table,
+    ends_bench_accepted_Rows rows, slice u_out, slice v_out)
 {
     record_Layout layout;
     ends_bench_entries_Batch mu, v0;
     ends_bench_leaves_values_Vector t12;
-    char *t14, *t16;
-    slice t15, t17;
+    aes_sbox_Tables t14, t17;
+    char *t15, *t18;
+    slice t16, t19;
     layout = rows.layout;
     t12 = (ends_bench_leaves_values_Vector){1ull, layout};
     mu = (ends_bench_entries_Batch){t12, rows.first, rows.count};
-    t14 = u_out.at;
-    t15 = (slice){t14, u_out.count};
-    ends_bench_batch_write_outputs(tables, keys, code, source, table, mu, t15);
+    t14 = tables;
+    t15 = u_out.at;
+    t16 = (slice){t15, u_out.count};
+    ends_bench_batch_write_outputs(t14, keys, code, source, table, mu, t16);
     t12 = (ends_bench_leaves_values_Vector){2ull, layout};
     v0 = (ends_bench_entries_Batch){t12, rows.first, rows.count};
-    t16 = v_out.at;
-    t17 = (slice){t16, v_out.count};
-    ends_bench_batch_write_outputs(tables, keys, code, source, table, v0, t17);
+    t17 = tables;
+    t18 = v_out.at;
+    t19 = (slice){t18, v_out.count};
+    ends_bench_batch_write_outputs(t17, keys, code, source, table, v0, t19);
 }
 
-/* ends_bench, src/accepted.rt:112: Writes a noise record's window. */
+/* ends_bench, src/accepted.rt:110: Writes a noise record's window. */
 INLINE void ends_bench_accepted_write_both(slice source, record_Layout layout, code_Window window, slice u_out, slice v_out)
 {
-    uint8_256 sb, t12;
-    uint64_1536 tables;
-    uint64_40_8 keys, t15;
-    uint64_40 code, t17;
-    uint64_320 table, t19;
+    uint64_1536 words;
+    aes_sbox_Tables tables, t17;
+    uint64_40_8 keys, t13;
+    uint64_40 code, t14;
+    record_Tree_64 table, t15;
     ends_bench_accepted_Rows rows;
-    char *t14, *t16, *t18, *t20, *t21, *t22, *t23, *t24, *t26;
-    slice t25, t27;
-    t12 = aes_sbox_table();
-    sb = t12;
+    char *t12, *t18, *t19, *t20, *t21, *t23;
+    slice t22, t24;
     for (int each = 0; each < 1536; each++)
-        tables.a[each] = 0ull;
-    t14 = (char *)&tables;
-    aes_sbox_fill_tables(t14);
-    t16 = (char *)&sb;
-    t15 = tree_walk_node_child_keys(t16, layout.branch_bits);
-    keys = t15;
-    t18 = (char *)&sb;
-    t17 = window_tests_head_code_keys(t18, source, layout);
-    code = t17;
-    t19 = ends_bench_leaves_table_tree_table(source, layout);
-    table = t19;
+        words.a[each] = 0ull;
+    t12 = (char *)&words;
+    tables = aes_sbox_Tables_fill(t12);
+    t13 = tree_walk_node_child_keys(layout.branch_bits);
+    keys = t13;
+    t14 = window_tests_head_code_keys(source, layout);
+    code = t14;
+    t15 = ends_bench_leaves_table_tree_table(source, layout);
+    table = t15;
     rows = (ends_bench_accepted_Rows){layout, window.first, window.count};
-    t20 = (char *)&tables;
-    t21 = (char *)&keys;
-    t22 = (char *)&code;
-    t23 = (char *)&table;
-    t24 = u_out.at;
-    t25 = (slice){t24, u_out.count};
-    t26 = v_out.at;
-    t27 = (slice){t26, v_out.count};
-    ends_bench_accepted_write_tabled(t20, t21, t22, source, t23, rows, t25, t27);
+    t17 = tables;
+    t18 = (char *)&keys;
+    t19 = (char *)&code;
+    t20 = (char *)&table;
+    t21 = u_out.at;
+    t22 = (slice){t21, u_out.count};
+    t23 = v_out.at;
+    t24 = (slice){t23, v_out.count};
+    ends_bench_accepted_write_tabled(t17, t18, t19, source, t20, rows, t22, t24);
 }
 
-/* ends_bench, src/accepted.rt:134: The noise end's call on a record that was accepted. */
+/* ends_bench, src/accepted.rt:131: The noise end's call on a record that was accepted. */
 INLINE answer_TwoLengths ends_bench_accepted_write_noise(slice source, record_Layout layout, code_Window window, slice u_out, slice v_out)
 {
     answer_TwoLengths result;
-    uint32_t number;
-    uint64_t t7, t8;
-    bool t9;
+    answer_Refusal refusal;
+    Result_unit_answer_Refusal t7;
+    uint64_t t8, t9;
     char *t11, *t13;
     slice t12, t14;
-    t7 = u_out.count;
-    t8 = v_out.count;
-    number = ends_bench_accepted_noise_number(layout, window, t7, t8);
-    t9 = number != 0u;
-    if (t9) {
-        result = answer_refused_two(number);
+    t8 = u_out.count;
+    t9 = v_out.count;
+    t7 = ends_bench_accepted_check_noise(layout, window, t8, t9);
+    switch (t7.ok.tag) {
+    case 1:
+        refusal = t7.err.m1;
+        result = answer_TwoLengths_refused(refusal);
         return result;
+    default:
+        break;
     }
     t11 = u_out.at;
     t12 = (slice){t11, u_out.count};
     t13 = v_out.at;
     t14 = (slice){t13, v_out.count};
     ends_bench_accepted_write_both(source, layout, window, t12, t14);
-    t7 = ends_bench_accepted_words_for(layout, window);
-    result = (answer_TwoLengths){0u, window.count, t7};
+    t8 = ends_bench_accepted_words_for(layout, window);
+    result = (answer_TwoLengths){0u, window.count, t8};
     return result;
 }
 
-/* ends_bench, src/lib.rt:21: Writes the window's outputs: u to the front of u_out, v to the front of v_out. */
+/* ends_bench, src/lib.rt:20: Writes the window's outputs: u to the front of u_out, v to the front of v_out. */
 INLINE answer_TwoLengths ends_bench_noise_bench(slice source, uint64_t first, uint64_t count, slice u_out, slice v_out)
 {
-    answer_TwoLengths result;
-    record_RecordAnswer r;
+    answer_TwoLengths result, t9;
     record_Layout layout;
-    uint32_t t8;
-    code_Window t9;
-    char *t10, *t12;
-    slice t11, t13;
-    r = record_reading_noise_read_noise(source);
-    switch (r.accepted.tag) {
+    answer_Refusal refusal;
+    Result_record_Layout_answer_Refusal t8;
+    code_Window t10;
+    char *t11, *t13;
+    slice t12, t14;
+    t8 = record_reading_noise_read_noise(source);
+    switch (t8.ok.tag) {
     case 0:
-        layout = r.accepted.m1;
+        layout = t8.ok.m1;
+        t10 = (code_Window){first, count};
+        t11 = u_out.at;
+        t12 = (slice){t11, u_out.count};
+        t13 = v_out.at;
+        t14 = (slice){t13, v_out.count};
+        t9 = ends_bench_accepted_write_noise(source, layout, t10, t12, t14);
         break;
     default:
-        t8 = record_record_fault(r);
-        result = answer_refused_two(t8);
-        return result;
+        refusal = t8.err.m1;
+        t9 = answer_TwoLengths_refused(refusal);
+        break;
     }
-    t9 = (code_Window){first, count};
-    t10 = u_out.at;
-    t11 = (slice){t10, u_out.count};
-    t12 = v_out.at;
-    t13 = (slice){t12, v_out.count};
-    result = ends_bench_accepted_write_noise(source, layout, t9, t11, t13);
+    result = t9;
     return result;
 }
 
-/* ends_bench, src/accepted.rt:57: The number of the tests after a scalar record, for a buffer of this length. */
-INLINE uint32_t ends_bench_accepted_scalar_number(record_Layout layout, code_Window window, uint64_t room)
+/* ends_bench, src/accepted.rt:56: The tests after a scalar record, for a buffer of this length. */
+INLINE Result_unit_answer_Refusal ends_bench_accepted_check_scalar(record_Layout layout, code_Window window, uint64_t room)
 {
-    uint32_t result;
-    bool t4, t6;
-    uint64_t t5;
+    Result_unit_answer_Refusal result;
+    bool t4, t7;
+    answer_Refusal t5, t8;
+    uint64_t t6;
     t4 = answer_lengths_is_past(window.first, window.count, layout.outputs);
     if (t4) {
-        result = 7u;
+        t5 = (answer_Refusal){answer_Refusal_window_past_end};
+        result = (Result_unit_answer_Refusal){.err = {1u, t5}};
         return result;
     }
-    t5 = ends_bench_accepted_words_for(layout, window);
-    t6 = room < t5;
-    if (t6) {
-        result = 13u;
+    t6 = ends_bench_accepted_words_for(layout, window);
+    t7 = room < t6;
+    if (t7) {
+        t8 = (answer_Refusal){answer_Refusal_buffer_short};
+        result = (Result_unit_answer_Refusal){.err = {1u, t8}};
         return result;
     }
-    result = 0u;
+    result = (Result_unit_answer_Refusal){.ok = {0u}};
     return result;
 }
 
-/* ends_bench, src/accepted.rt:159: Writes a scalar record's window. */
+/* ends_bench, src/accepted.rt:155: Writes a scalar record's window. */
 INLINE void ends_bench_accepted_write_w(slice source, record_Layout layout, code_Window window, slice w_out)
 {
-    uint8_256 sb, t11;
-    uint64_1536 tables;
-    uint64_40_8 keys, t14;
-    uint64_40 code, t16;
-    uint64_320 table;
+    uint64_1536 words;
+    aes_sbox_Tables tables, t18;
+    uint64_40_8 keys, t13;
+    uint64_40 code, t14;
+    record_Tree none;
+    record_Tree_64 table;
     ends_bench_entries_Batch w0;
-    char *t13, *t15, *t17, *t19, *t20, *t21, *t22, *t23;
-    ends_bench_leaves_values_Vector t18;
-    slice t24;
-    t11 = aes_sbox_table();
-    sb = t11;
+    char *t12, *t19, *t20, *t21, *t22;
+    field_element_Element t15;
+    ends_bench_leaves_values_Vector t16;
+    slice t23;
     for (int each = 0; each < 1536; each++)
-        tables.a[each] = 0ull;
-    t13 = (char *)&tables;
-    aes_sbox_fill_tables(t13);
-    t15 = (char *)&sb;
-    t14 = tree_walk_node_child_keys(t15, layout.branch_bits);
-    keys = t14;
-    t17 = (char *)&sb;
-    t16 = window_tests_head_code_keys(t17, source, layout);
-    code = t16;
-    for (int each = 0; each < 320; each++)
-        table.a[each] = 0ull;
-    t18 = (ends_bench_leaves_values_Vector){3ull, layout};
-    w0 = (ends_bench_entries_Batch){t18, window.first, window.count};
-    t19 = (char *)&tables;
-    t20 = (char *)&keys;
-    t21 = (char *)&code;
-    t22 = (char *)&table;
-    t23 = w_out.at;
-    t24 = (slice){t23, w_out.count};
-    ends_bench_batch_write_outputs(t19, t20, t21, source, t22, w0, t24);
+        words.a[each] = 0ull;
+    t12 = (char *)&words;
+    tables = aes_sbox_Tables_fill(t12);
+    t13 = tree_walk_node_child_keys(layout.branch_bits);
+    keys = t13;
+    t14 = window_tests_head_code_keys(source, layout);
+    code = t14;
+    t15 = (field_element_Element){0ull, 0ull};
+    none = (record_Tree){0ull, 0ull, t15, 0ull};
+    for (int each = 0; each < 64; each++)
+        table.a[each] = none;
+    t16 = (ends_bench_leaves_values_Vector){3ull, layout};
+    w0 = (ends_bench_entries_Batch){t16, window.first, window.count};
+    t18 = tables;
+    t19 = (char *)&keys;
+    t20 = (char *)&code;
+    t21 = (char *)&table;
+    t22 = w_out.at;
+    t23 = (slice){t22, w_out.count};
+    ends_bench_batch_write_outputs(t18, t19, t20, source, t21, w0, t23);
 }
 
-/* ends_bench, src/accepted.rt:181: The scalar end's call on a record that was accepted. */
+/* ends_bench, src/accepted.rt:182: The scalar end's call on a record that was accepted. */
 INLINE answer_OneLength ends_bench_accepted_write_scalar(slice source, record_Layout layout, code_Window window, slice w_out)
 {
     answer_OneLength result;
-    uint32_t number;
-    uint64_t t6;
-    bool t7;
+    answer_Refusal refusal;
+    Result_unit_answer_Refusal t6;
+    uint64_t t7;
     char *t9;
     slice t10;
-    t6 = w_out.count;
-    number = ends_bench_accepted_scalar_number(layout, window, t6);
-    t7 = number != 0u;
-    if (t7) {
-        result = (answer_OneLength){number, 0ull};
+    t7 = w_out.count;
+    t6 = ends_bench_accepted_check_scalar(layout, window, t7);
+    switch (t6.ok.tag) {
+    case 1:
+        refusal = t6.err.m1;
+        result = answer_OneLength_refused(refusal);
         return result;
+    default:
+        break;
     }
     t9 = w_out.at;
     t10 = (slice){t9, w_out.count};
     ends_bench_accepted_write_w(source, layout, window, t10);
-    t6 = ends_bench_accepted_words_for(layout, window);
-    result = (answer_OneLength){0u, t6};
+    t7 = ends_bench_accepted_words_for(layout, window);
+    result = (answer_OneLength){0u, t7};
     return result;
 }
 
-/* ends_bench, src/lib.rt:39: Writes the window's outputs: w to the front of w_out. */
-static answer_OneLength ends_bench_scalar_bench(slice source, uint64_t first, uint64_t count, slice w_out)
+/* ends_bench, src/lib.rt:37: Writes the window's outputs: w to the front of w_out. */
+INLINE answer_OneLength ends_bench_scalar_bench(slice source, uint64_t first, uint64_t count, slice w_out)
 {
-    answer_OneLength result;
-    record_RecordAnswer r;
+    answer_OneLength result, t8;
     record_Layout layout;
-    uint32_t t7;
-    code_Window t8;
-    char *t9;
-    slice t10;
-    r = record_reading_scalar_read_scalar(source);
-    switch (r.accepted.tag) {
+    answer_Refusal refusal;
+    Result_record_Layout_answer_Refusal t7;
+    code_Window t9;
+    char *t10;
+    slice t11;
+    t7 = record_reading_scalar_read_scalar(source);
+    switch (t7.ok.tag) {
     case 0:
-        layout = r.accepted.m1;
+        layout = t7.ok.m1;
+        t9 = (code_Window){first, count};
+        t10 = w_out.at;
+        t11 = (slice){t10, w_out.count};
+        t8 = ends_bench_accepted_write_scalar(source, layout, t9, t11);
         break;
     default:
-        t7 = record_record_fault(r);
-        result = (answer_OneLength){t7, 0ull};
-        return result;
+        refusal = t7.err.m1;
+        t8 = answer_OneLength_refused(refusal);
+        break;
     }
-    t8 = (code_Window){first, count};
-    t9 = w_out.at;
-    t10 = (slice){t9, w_out.count};
-    result = ends_bench_accepted_write_scalar(source, layout, t8, t10);
+    result = t8;
     return result;
 }
 
-/* layer_add, src/number.rt:13: Whether some word is above a limit, two words a turn. The first that is ends the search: machines without
- * a comparison of 64 bits in vectors take longer for the largest of several words than for one after the other. */
-static bool layer_add_number_any_above(uint64_t limit, slice words)
+/* layer_add, src/number.rt:15: Whether every word is below p, two words a turn: `iter().all` by itself takes a third to twice as long,
+ * on x86-64 as LLVM compiles it. */
+static bool layer_add_number_are_elements(slice words)
 {
-    bool result, t5, t11;
-    uint64_t i, left, t6, t8, t14;
-    char *t7, *t10, *t13;
-    i = 0ull;
-    left = words.count;
+    bool result, t7, t14, t15;
+    slice rest, after;
+    char *first, *second, *last, *t8, *t9, *t10, *t12, *t16;
+    uint64_t t11, t13, t17;
+    rest = words;
     for (;;) {
-        t5 = 1ull < left;
-        if (!t5) {
-            break;
+        t7 = rest.count < 2ull;
+        if (t7) {
+            goto after1;
         }
-        t6 = i * 8ull;
-        t7 = (char *)((uint64_t *)words.at + i);
-        t8 = *(uint64_t *)t7;
-        t5 = limit < t8;
-        if (t5) {
-            result = true;
+        t8 = rest.at + 0ull;
+        t9 = rest.at + 8ull;
+        t10 = rest.at + 16ull;
+        t11 = rest.count - 2ull;
+        first = t8;
+        second = t9;
+        t12 = t10;
+        after = (slice){t12, t11};
+        t13 = *(uint64_t *)first;
+        t7 = 2305843009213693951ull <= t13;
+        if (t7) {
+            result = false;
             return result;
         }
-        t6 = i + 1ull;
-        t10 = (char *)((uint64_t *)words.at + t6);
-        t8 = *(uint64_t *)t10;
-        t5 = limit < t8;
-        if (t5) {
-            result = true;
+        t13 = *(uint64_t *)second;
+        t7 = 2305843009213693951ull <= t13;
+        if (t7) {
+            result = false;
             return result;
         }
-        i = i + 2ull;
-        left = left - 2ull;
+        rest = after;
     }
-    t11 = left == 0ull;
-    if (t11) {
-        result = false;
-        return result;
+after1:;
+    t15 = rest.count < 1ull;
+    if (t15) {
+        t14 = true;
+        goto after3;
     }
-    t13 = (char *)((uint64_t *)words.at + i);
-    t14 = *(uint64_t *)t13;
-    result = limit < t14;
+    t16 = rest.at + 0ull;
+    last = t16;
+    t17 = *(uint64_t *)last;
+    t14 = t17 < 2305843009213693951ull;
+after3:;
+    result = t14;
     return result;
 }
 
@@ -9059,75 +11178,75 @@ static bool layer_add_number_any_above(uint64_t limit, slice words)
 INLINE bool layer_add_number_are_words(uint64_t field, slice words)
 {
     bool result, t3;
-    uint64_t t4, t5;
     t3 = field == 1ull;
-    if (t3) {
-        result = true;
-        return result;
+    if (!t3) {
+        t3 = layer_add_number_are_elements(words);
     }
-    t4 = prime_prime_Prime_modulus();
-    t5 = t4 - 1ull;
-    t3 = layer_add_number_any_above(t5, words);
-    result = !t3;
+    result = t3;
     return result;
 }
 
-/* layer_add, src/number.rt:45: The number of the first test that is not met, or 0. */
-INLINE uint32_t layer_add_number_add_number(uint64_t field, slice from, slice into)
+/* layer_add, src/number.rt:42: The first test that is not met. */
+INLINE Result_unit_answer_Refusal layer_add_number_check(uint64_t field, slice from, slice into)
 {
-    uint32_t result;
+    Result_unit_answer_Refusal result;
     bool t4, t5;
-    uint64_t t6, t7;
+    answer_Refusal t6, t9, t10, t11;
+    uint64_t t7, t8;
     t4 = field_noise_is_field(field);
     t5 = !t4;
     if (t5) {
-        result = 1u;
+        t6 = (answer_Refusal){answer_Refusal_bad_field};
+        result = (Result_unit_answer_Refusal){.err = {1u, t6}};
         return result;
     }
-    t6 = from.count;
-    t7 = into.count;
-    t4 = t6 != t7;
+    t7 = from.count;
+    t8 = into.count;
+    t4 = t7 != t8;
     if (t4) {
-        result = 3u;
+        t9 = (answer_Refusal){answer_Refusal_bad_length};
+        result = (Result_unit_answer_Refusal){.err = {1u, t9}};
         return result;
     }
     t5 = layer_add_number_are_words(field, from);
     t4 = !t5;
     if (t4) {
-        result = 8u;
+        t10 = (answer_Refusal){answer_Refusal_not_element};
+        result = (Result_unit_answer_Refusal){.err = {1u, t10}};
         return result;
     }
     t5 = layer_add_number_are_words(field, into);
     t4 = !t5;
     if (t4) {
-        result = 8u;
+        t11 = (answer_Refusal){answer_Refusal_not_element};
+        result = (Result_unit_answer_Refusal){.err = {1u, t11}};
         return result;
     }
-    result = 0u;
+    result = (Result_unit_answer_Refusal){.ok = {0u}};
     return result;
 }
 
-/* layer_add, src/words.rt:9: In field 1, by exclusive or. */
+/* layer_add, src/words.rt:11: In field 1, by exclusive or. Two loops of one line each: one over a closure would have to ask of it what
+ * `prime_sum` asks of each pair. */
 static void layer_add_words_add_binary(slice from, slice into)
 {
-    uint64_t k, t4, t7, t10, t11;
+    uint64_t k, k_end, t8, t11, t12;
     bool t5;
-    char *t6, *t9, *t13;
+    char *t7, *t10, *t14;
     k = 0ull;
+    k_end = into.count;
     for (;;) {
-        t4 = into.count;
-        t5 = k < t4;
+        t5 = k < k_end;
         if (!t5) {
             break;
         }
-        t4 = k * 8ull;
-        t6 = (char *)((uint64_t *)from.at + k);
-        t7 = *(uint64_t *)t6;
-        t9 = (char *)((uint64_t *)into.at + k);
-        t10 = *(uint64_t *)t9;
-        t11 = t7 ^ t10;
-        t13 = (char *)((uint64_t *)into.at + k);
-        *(uint64_t *)t13 = t11;
+        t7 = (char *)((uint64_t *)from.at + k);
+        t8 = *(uint64_t *)t7;
+        t10 = (char *)((uint64_t *)into.at + k);
+        t11 = *(uint64_t *)t10;
+        t12 = t8 ^ t11;
+        t14 = (char *)((uint64_t *)into.at + k);
+        *(uint64_t *)t14 = t12;
         k = k + 1ull;
     }
 }
@@ -9148,29 +11267,28 @@ INLINE uint64_t layer_add_words_prime_sum(uint64_t a, uint64_t b)
 /* layer_add, src/words.rt:31: In field 2, modulo p. */
 static void layer_add_words_add_prime(slice from, slice into)
 {
-    uint64_t k, t4, t6, t8, t11;
+    uint64_t k, k_end, t6, t9, t12;
     bool t5;
-    char *t7, *t10, *t13;
+    char *t8, *t11, *t14;
     k = 0ull;
+    k_end = into.count;
     for (;;) {
-        t4 = into.count;
-        t5 = k < t4;
+        t5 = k < k_end;
         if (!t5) {
             break;
         }
-        t4 = k * 8ull;
-        t7 = (char *)((uint64_t *)from.at + k);
-        t8 = *(uint64_t *)t7;
-        t10 = (char *)((uint64_t *)into.at + k);
-        t11 = *(uint64_t *)t10;
-        t6 = layer_add_words_prime_sum(t8, t11);
-        t13 = (char *)((uint64_t *)into.at + k);
-        *(uint64_t *)t13 = t6;
+        t8 = (char *)((uint64_t *)from.at + k);
+        t9 = *(uint64_t *)t8;
+        t11 = (char *)((uint64_t *)into.at + k);
+        t12 = *(uint64_t *)t11;
+        t6 = layer_add_words_prime_sum(t9, t12);
+        t14 = (char *)((uint64_t *)into.at + k);
+        *(uint64_t *)t14 = t6;
         k = k + 1ull;
     }
 }
 
-/* layer_add, src/words.rt:43: In the field of a number. */
+/* layer_add, src/words.rt:41: In the field of a number. */
 INLINE void layer_add_words_add_words(uint64_t field, slice from, slice into)
 {
     bool t4;
@@ -9192,18 +11310,21 @@ INLINE void layer_add_words_add_words(uint64_t field, slice from, slice into)
 INLINE answer_OneLength layer_add_add(uint64_t field, slice from, slice into)
 {
     answer_OneLength result;
-    uint32_t number;
-    char *t5, *t9;
-    slice t6, t10;
-    bool t7;
+    answer_Refusal refusal;
+    Result_unit_answer_Refusal t5;
+    char *t6, *t9;
+    slice t7, t10;
     uint64_t t11;
-    t5 = into.at;
-    t6 = (slice){t5, into.count};
-    number = layer_add_number_add_number(field, from, t6);
-    t7 = number != 0u;
-    if (t7) {
-        result = (answer_OneLength){number, 0ull};
+    t6 = into.at;
+    t7 = (slice){t6, into.count};
+    t5 = layer_add_number_check(field, from, t7);
+    switch (t5.ok.tag) {
+    case 1:
+        refusal = t5.err.m1;
+        result = answer_OneLength_refused(refusal);
         return result;
+    default:
+        break;
     }
     t9 = into.at;
     t10 = (slice){t9, into.count};
@@ -9213,437 +11334,521 @@ INLINE answer_OneLength layer_add_add(uint64_t field, slice from, slice into)
     return result;
 }
 
-/* pads_rule, src/rule.rt:14: The round keys of the pads' key, 16 bytes FF. */
-INLINE uint64_40 pads_rule_rule_pad_keys(char *sbox)
+/* pads_rule, src/rule.rt:13: The round keys of the pads' key, 16 bytes FF. */
+INLINE uint64_40 pads_rule_rule_pad_keys(void)
 {
     uint64_40 result;
-    uint8_4 column;
-    uint8_4_4 t3;
-    column = (uint8_4){{255u, 255u, 255u, 255u}};
-    t3 = (uint8_4_4){{column, column, column, column}};
-    result = aes128_key_schedule(sbox, t3);
+    uint8_4 t1;
+    uint8_4_4 t2;
+    for (int each = 0; each < 4; each++)
+        t1.a[each] = 255u;
+    for (int each = 0; each < 4; each++)
+        t2.a[each] = t1;
+    result = aes128_key_schedule(t2);
     return result;
 }
 
-/* pads_rule, src/steps.rt:14: Writes the first steps of blocks a and b from a place on. */
-INLINE void pads_rule_steps_start_two(char *tables, char *keys, field_block_Block a, field_block_Block b, slice pads, uint64_t at)
+/* pads_rule, src/rule.rt:29: The cipher, of tables and of the round keys that `pad_keys` makes. */
+INLINE pads_rule_rule_PadCipher pads_rule_rule_PadCipher_new(aes_sbox_Tables tables, char *keys)
 {
-    aes_blocks_TwoBlocks s;
-    char *t9, *t12;
-    slice t10, t13;
-    field_block_Block t11, t15;
-    uint64_t t14;
-    s = aes_blocks_encrypt_two(tables, keys, keys, a.low, a.high, b.low, b.high);
-    t9 = pads.at;
-    t10 = (slice){t9, pads.count};
-    t11 = s.one;
-    pads_bytes_put_block(t10, at, t11);
-    t12 = pads.at;
-    t13 = (slice){t12, pads.count};
-    t14 = at + 16ull;
-    t15 = s.other;
-    pads_bytes_put_block(t13, t14, t15);
-}
-
-/* pads_rule, src/rule.rt:23: The pad of index x whose first step is s, and that of index y whose first step is t, in alternation. */
-INLINE aes_blocks_TwoBlocks pads_rule_rule_second_steps(char *tables, char *keys, uint64_t x, uint64_t y, field_block_Block s,
-    field_block_Block t)
-{
-    aes_blocks_TwoBlocks result, e;
-    field_block_Block p, q, t11, t12, t13, t14;
-    uint64_t t10;
-    t10 = x;
-    t11 = (field_block_Block){t10, 0ull};
-    p = field_block_Block_add(s, t11);
-    t10 = y;
-    t11 = (field_block_Block){t10, 0ull};
-    q = field_block_Block_add(t, t11);
-    e = aes_blocks_encrypt_two(tables, keys, keys, p.low, p.high, q.low, q.high);
-    t12 = e.one;
-    t11 = field_block_Block_add(t12, s);
-    t14 = e.other;
-    t13 = field_block_Block_add(t14, t);
-    result = (aes_blocks_TwoBlocks){t11, t13};
+    pads_rule_rule_PadCipher result;
+    aes_sbox_Tables t3;
+    t3 = tables;
+    result = (pads_rule_rule_PadCipher){t3, keys};
     return result;
 }
 
-/* pads_rule, src/steps.rt:32: Finishes the pads of indices x and y, whose first steps stand from a place on. */
-INLINE void pads_rule_steps_finish_two(char *tables, char *keys, uint64_t x, uint64_t y, slice pads, uint64_t at)
+/* pads_rule, src/steps.rt:15: Writes the first steps of blocks a and b from a place on. */
+INLINE void pads_rule_rule_PadCipher_start_two(pads_rule_rule_PadCipher self, field_block_Block a, field_block_Block b, slice pads, uint64_t
+    at)
+{
+    aes_blocks_Two_field_block_Block s;
+    aes_sbox_Tables t7;
+    char *t8, *t9, *t11, *t14;
+    slice t12, t15;
+    field_block_Block t13, t17;
+    uint64_t t16;
+    t7 = self.tables;
+    t8 = self.keys;
+    t9 = self.keys;
+    s = aes_blocks_encrypt_two(t7, t8, t9, a.low, a.high, b.low, b.high);
+    t11 = pads.at;
+    t12 = (slice){t11, pads.count};
+    t13 = s.one;
+    pads_bytes_put_block(t12, at, t13);
+    t14 = pads.at;
+    t15 = (slice){t14, pads.count};
+    t16 = at + 16ull;
+    t17 = s.other;
+    pads_bytes_put_block(t15, t16, t17);
+}
+
+/* pads_rule, src/rule.rt:36: The pad of index x whose first step is s, and that of index y whose first step is t, in alternation. */
+INLINE aes_blocks_Two_field_block_Block pads_rule_rule_PadCipher_second_steps(pads_rule_rule_PadCipher self, uint64_t x, uint64_t y,
+    field_block_Block s, field_block_Block t)
+{
+    aes_blocks_Two_field_block_Block result, e;
+    field_block_Block p, q, t10, t14, t15, t16;
+    uint64_t t9;
+    aes_sbox_Tables t11;
+    char *t12, *t13;
+    t9 = x;
+    t10 = (field_block_Block){t9, 0ull};
+    p = field_block_Block_add(s, t10);
+    t9 = y;
+    t10 = (field_block_Block){t9, 0ull};
+    q = field_block_Block_add(t, t10);
+    t11 = self.tables;
+    t12 = self.keys;
+    t13 = self.keys;
+    e = aes_blocks_encrypt_two(t11, t12, t13, p.low, p.high, q.low, q.high);
+    t14 = e.one;
+    t10 = field_block_Block_add(t14, s);
+    t16 = e.other;
+    t15 = field_block_Block_add(t16, t);
+    result = (aes_blocks_Two_field_block_Block){t10, t15};
+    return result;
+}
+
+/* pads_rule, src/steps.rt:26: Finishes the pads of indices x and y, whose first steps stand from a place on. */
+static void pads_rule_rule_PadCipher_finish_two(pads_rule_rule_PadCipher self, uint64_t x, uint64_t y, slice pads, uint64_t at)
 {
     field_block_Block s, t, t18, t21;
-    aes_blocks_TwoBlocks p;
-    char *t10, *t12, *t16, *t19;
-    slice t11, t13, t17, t20;
-    uint64_t t14;
-    t10 = pads.at;
-    t11 = (slice){t10, pads.count};
-    s = pads_bytes_block_at(t11, at);
-    t12 = pads.at;
-    t13 = (slice){t12, pads.count};
-    t14 = at + 16ull;
-    t = pads_bytes_block_at(t13, t14);
-    p = pads_rule_rule_second_steps(tables, keys, x, y, s, t);
+    aes_blocks_Two_field_block_Block p;
+    char *t9, *t11, *t16, *t19;
+    slice t10, t12, t17, t20;
+    uint64_t t13;
+    pads_rule_rule_PadCipher t14;
+    t9 = pads.at;
+    t10 = (slice){t9, pads.count};
+    s = pads_bytes_block_at(t10, at);
+    t11 = pads.at;
+    t12 = (slice){t11, pads.count};
+    t13 = at + 16ull;
+    t = pads_bytes_block_at(t12, t13);
+    t14 = self;
+    p = pads_rule_rule_PadCipher_second_steps(t14, x, y, s, t);
     t16 = pads.at;
     t17 = (slice){t16, pads.count};
     t18 = p.one;
     pads_bytes_put_block(t17, at, t18);
     t19 = pads.at;
     t20 = (slice){t19, pads.count};
-    t14 = at + 16ull;
+    t13 = at + 16ull;
     t21 = p.other;
-    pads_bytes_put_block(t20, t14, t21);
+    pads_bytes_put_block(t20, t13, t21);
 }
 
-/* pads_rule, src/rule.rt:50: The pad of index x and block a. */
-INLINE field_block_Block pads_rule_rule_one_pad(char *tables, char *keys, uint64_t x, field_block_Block a)
+/* pads_rule, src/rule.rt:55: The pad of index x and block a. */
+INLINE field_block_Block pads_rule_rule_PadCipher_one_pad(pads_rule_rule_PadCipher self, uint64_t x, field_block_Block a)
 {
     field_block_Block result, s;
-    aes_blocks_TwoBlocks p;
-    s = aes_blocks_encrypt(tables, keys, a.low, a.high);
-    p = pads_rule_rule_second_steps(tables, keys, x, x, s, s);
-    result = p.one;
+    aes_sbox_Tables t5;
+    char *t6;
+    aes_blocks_Two_field_block_Block t7;
+    pads_rule_rule_PadCipher t8;
+    t5 = self.tables;
+    t6 = self.keys;
+    s = aes_blocks_encrypt(t5, t6, a.low, a.high);
+    t8 = self;
+    t7 = pads_rule_rule_PadCipher_second_steps(t8, x, x, s, s);
+    result = t7.one;
     return result;
 }
 
-/* pads_write, src/write.rt:15: Writes the first steps of pairs of blocks of v. */
-static void pads_write_write_start_pairs(char *tables, char *keys, uint64_t pairs, slice v, slice pads)
+/* pads_write, src/write.rt:16: Writes the first steps of pairs of blocks of v. */
+static void pads_write_write_start_pairs(pads_rule_rule_PadCipher cipher, uint64_t pairs, slice v, slice pads)
 {
-    uint64_t k, at, t11;
+    uint64_t k, at, t10;
     field_block_Block a, b;
-    bool t10;
+    bool t9;
+    pads_rule_rule_PadCipher t12;
     char *t13;
     slice t14;
     k = 0ull;
     for (;;) {
-        t10 = k < pairs;
-        if (!t10) {
+        t9 = k < pairs;
+        if (!t9) {
             break;
         }
         at = 32ull * k;
         a = pads_bytes_block_at(v, at);
-        t11 = at + 16ull;
-        b = pads_bytes_block_at(v, t11);
+        t10 = at + 16ull;
+        b = pads_bytes_block_at(v, t10);
+        t12 = cipher;
         t13 = pads.at;
         t14 = (slice){t13, pads.count};
-        pads_rule_steps_start_two(tables, keys, a, b, t14, at);
+        pads_rule_rule_PadCipher_start_two(t12, a, b, t14, at);
         k = k + 1ull;
     }
 }
 
-/* pads_write, src/write.rt:30: Finishes the pads of pairs of blocks, whose first steps stand in the buffer. */
-static void pads_write_write_finish_pairs(char *tables, char *keys, uint64_t first, uint64_t pairs, slice pads)
+/* pads_write, src/write.rt:29: Finishes the pads of pairs of blocks, whose first steps stand in the buffer. */
+static void pads_write_write_finish_pairs(pads_rule_rule_PadCipher cipher, uint64_t first, uint64_t pairs, slice pads)
 {
-    uint64_t k, x, t9, t13;
-    bool t8;
+    uint64_t k, x, t8, t13;
+    bool t7;
+    pads_rule_rule_PadCipher t10;
     char *t11;
     slice t12;
     k = 0ull;
     for (;;) {
-        t8 = k < pairs;
-        if (!t8) {
+        t7 = k < pairs;
+        if (!t7) {
             break;
         }
-        t9 = 2ull * k;
-        x = first + t9;
-        t9 = x + 1ull;
+        t8 = 2ull * k;
+        x = first + t8;
+        t10 = cipher;
+        t8 = x + 1ull;
         t11 = pads.at;
         t12 = (slice){t11, pads.count};
         t13 = 32ull * k;
-        pads_rule_steps_finish_two(tables, keys, x, t9, t12, t13);
+        pads_rule_rule_PadCipher_finish_two(t10, x, t8, t12, t13);
         k = k + 1ull;
     }
 }
 
-/* pads_write, src/write.rt:43: Writes the pads of pairs of blocks of v. */
-INLINE void pads_write_write_write_pairs(char *tables, char *keys, uint64_t first, uint64_t pairs, slice v, slice pads)
+/* pads_write, src/write.rt:40: Writes the pads of pairs of blocks of v. */
+INLINE void pads_write_write_write_pairs(pads_rule_rule_PadCipher cipher, uint64_t first, uint64_t pairs, slice v, slice pads)
 {
-    char *t8, *t10;
-    slice t9, t11;
+    pads_rule_rule_PadCipher t7, t10;
+    char *t8, *t11;
+    slice t9, t12;
+    t7 = cipher;
     t8 = pads.at;
     t9 = (slice){t8, pads.count};
-    pads_write_write_start_pairs(tables, keys, pairs, v, t9);
-    t10 = pads.at;
-    t11 = (slice){t10, pads.count};
-    pads_write_write_finish_pairs(tables, keys, first, pairs, t11);
+    pads_write_write_start_pairs(t7, pairs, v, t9);
+    t10 = cipher;
+    t11 = pads.at;
+    t12 = (slice){t11, pads.count};
+    pads_write_write_finish_pairs(t10, first, pairs, t12);
 }
 
-/* pads_write, src/write.rt:59: Writes the pad of each block of v, two at a time; the last of an odd count alone. */
-INLINE void pads_write_write_write_pads(char *tables, char *keys, uint64_t first, uint64_t count, slice v, slice pads)
+/* pads_write, src/write.rt:49: Writes the pad of each block of v, two at a time; the last of an odd count alone. */
+INLINE void pads_write_write_write_pads(pads_rule_rule_PadCipher cipher, uint64_t first, uint64_t count, slice v, slice pads)
 {
-    uint64_t pairs, k, at, t16;
+    uint64_t pairs, k, at, t17;
     field_block_Block a, p;
-    char *t13, *t18;
-    slice t14, t19;
+    pads_rule_rule_PadCipher t12, t16;
+    char *t13, *t19;
+    slice t14, t20;
     bool t15;
     pairs = count / 2ull;
+    t12 = cipher;
     t13 = pads.at;
     t14 = (slice){t13, pads.count};
-    pads_write_write_write_pairs(tables, keys, first, pairs, v, t14);
+    pads_write_write_write_pairs(t12, first, pairs, v, t14);
     k = 2ull * pairs;
     t15 = k < count;
     if (t15) {
         at = 16ull * k;
         a = pads_bytes_block_at(v, at);
-        t16 = first + k;
-        p = pads_rule_rule_one_pad(tables, keys, t16, a);
-        t18 = pads.at;
-        t19 = (slice){t18, pads.count};
-        pads_bytes_put_block(t19, at, p);
+        t16 = cipher;
+        t17 = first + k;
+        p = pads_rule_rule_PadCipher_one_pad(t16, t17, a);
+        t19 = pads.at;
+        t20 = (slice){t19, pads.count};
+        pads_bytes_put_block(t20, at, p);
     }
 }
 
-/* pads_write, src/write.rt:82: Writes the first steps of pads 0 and 1 of each block of w. */
-static void pads_write_write_start_both_pads(char *tables, char *keys, uint64_t count, slice w, field_block_Block delta, slice pads)
+/* pads_write, src/write.rt:65: Writes the first steps of pads 0 and 1 of each block of w. */
+static void pads_write_write_start_both_pads(pads_rule_rule_PadCipher cipher, uint64_t count, slice w, field_block_Block delta, slice pads)
 {
-    uint64_t k, t10;
+    uint64_t k, t9;
     field_block_Block b, t12;
-    bool t9;
+    bool t8;
+    pads_rule_rule_PadCipher t11;
     char *t13;
     slice t14;
-    k = 0ull;
-    for (;;) {
-        t9 = k < count;
-        if (!t9) {
-            break;
-        }
-        t10 = 16ull * k;
-        b = pads_bytes_block_at(w, t10);
-        t12 = field_block_Block_add(b, delta);
-        t13 = pads.at;
-        t14 = (slice){t13, pads.count};
-        t10 = 32ull * k;
-        pads_rule_steps_start_two(tables, keys, b, t12, t14, t10);
-        k = k + 1ull;
-    }
-}
-
-/* pads_write, src/write.rt:102: Finishes pads 0 and 1 of each output, whose first steps stand in the buffer. */
-static void pads_write_write_finish_both_pads(char *tables, char *keys, uint64_t first, uint64_t count, slice pads)
-{
-    uint64_t k, x, t12;
-    bool t8;
-    char *t10;
-    slice t11;
     k = 0ull;
     for (;;) {
         t8 = k < count;
         if (!t8) {
             break;
         }
-        x = first + k;
-        t10 = pads.at;
-        t11 = (slice){t10, pads.count};
-        t12 = 32ull * k;
-        pads_rule_steps_finish_two(tables, keys, x, x, t11, t12);
+        t9 = 16ull * k;
+        b = pads_bytes_block_at(w, t9);
+        t11 = cipher;
+        t12 = field_block_Block_add(b, delta);
+        t13 = pads.at;
+        t14 = (slice){t13, pads.count};
+        t9 = 32ull * k;
+        pads_rule_rule_PadCipher_start_two(t11, b, t12, t14, t9);
         k = k + 1ull;
     }
 }
 
-/* pads_write, src/write.rt:122: Writes pads 0 and 1 of each block of w. */
-INLINE void pads_write_write_write_both_pads(char *tables, char *keys, uint64_t first, uint64_t count, slice w, field_block_Block delta,
-    slice pads)
+/* pads_write, src/write.rt:76: Finishes pads 0 and 1 of each output, whose first steps stand in the buffer. */
+static void pads_write_write_finish_both_pads(pads_rule_rule_PadCipher cipher, uint64_t first, uint64_t count, slice pads)
 {
-    char *t9, *t11;
-    slice t10, t12;
-    t9 = pads.at;
-    t10 = (slice){t9, pads.count};
-    pads_write_write_start_both_pads(tables, keys, count, w, delta, t10);
-    t11 = pads.at;
-    t12 = (slice){t11, pads.count};
-    pads_write_write_finish_both_pads(tables, keys, first, count, t12);
+    uint64_t k, x, t12;
+    bool t7;
+    pads_rule_rule_PadCipher t9;
+    char *t10;
+    slice t11;
+    k = 0ull;
+    for (;;) {
+        t7 = k < count;
+        if (!t7) {
+            break;
+        }
+        x = first + k;
+        t9 = cipher;
+        t10 = pads.at;
+        t11 = (slice){t10, pads.count};
+        t12 = 32ull * k;
+        pads_rule_rule_PadCipher_finish_two(t9, x, x, t11, t12);
+        k = k + 1ull;
+    }
 }
 
-/* pads_calls, src/number.rt:15: The noise end's number for a buffer of `room` bytes. */
-INLINE uint32_t pads_calls_number_noise_number(uint64_t first, uint64_t count, slice v, slice choices, uint64_t room)
+/* pads_write, src/write.rt:88: Writes pads 0 and 1 of each block of w. */
+INLINE void pads_write_write_write_both_pads(pads_rule_rule_PadCipher cipher, uint64_t first, uint64_t count, slice w, field_block_Block
+    delta, slice pads)
 {
-    uint32_t result;
-    bool t6, t8, t9, t10, t11;
+    pads_rule_rule_PadCipher t8, t11;
+    char *t9, *t12;
+    slice t10, t13;
+    t8 = cipher;
+    t9 = pads.at;
+    t10 = (slice){t9, pads.count};
+    pads_write_write_start_both_pads(t8, count, w, delta, t10);
+    t11 = cipher;
+    t12 = pads.at;
+    t13 = (slice){t12, pads.count};
+    pads_write_write_finish_both_pads(t11, first, count, t13);
+}
+
+/* pads_calls, src/tests.rt:14: What both ends test first: the lengths of the blocks and of the end's other slice, and the window. */
+INLINE Result_unit_answer_Refusal pads_calls_tests_check_window(uint64_t first, uint64_t count, slice blocks, slice other, uint64_t size)
+{
+    Result_unit_answer_Refusal result;
+    bool t6, t8, t11;
     uint64_t t7;
-    t7 = v.count;
+    answer_Refusal t9, t10, t12;
+    t7 = blocks.count;
     t6 = answer_lengths_is_times(t7, 16ull, count);
     t8 = !t6;
     if (t8) {
-        result = 3u;
+        t9 = (answer_Refusal){answer_Refusal_bad_length};
+        result = (Result_unit_answer_Refusal){.err = {1u, t9}};
         return result;
     }
-    t7 = choices.count;
-    t6 = t7 != count;
+    t7 = other.count;
+    t6 = t7 != size;
     if (t6) {
-        result = 3u;
+        t10 = (answer_Refusal){answer_Refusal_bad_length};
+        result = (Result_unit_answer_Refusal){.err = {1u, t10}};
         return result;
     }
-    t9 = answer_lengths_is_past(first, count, 32768ull);
-    if (t9) {
-        result = 7u;
+    t11 = answer_lengths_is_past(first, count, 32768ull);
+    if (t11) {
+        t12 = (answer_Refusal){answer_Refusal_window_past_end};
+        result = (Result_unit_answer_Refusal){.err = {1u, t12}};
+        return result;
+    }
+    result = (Result_unit_answer_Refusal){.ok = {0u}};
+    return result;
+}
+
+/* pads_calls, src/tests.rt:36: Tests the noise end's call with a buffer of `room` bytes. */
+INLINE Result_unit_answer_Refusal pads_calls_tests_check_noise(uint64_t first, uint64_t count, slice v, slice choices, uint64_t room)
+{
+    Result_unit_answer_Refusal result, t9;
+    ErrResidual_answer_Refusal t7;
+    ControlFlow_ErrResidual_answer_Refusal_unit t8;
+    bool t10, t12;
+    answer_Refusal t11, t13;
+    t9 = pads_calls_tests_check_window(first, count, v, choices, count);
+    t8 = core_ResultTry_branch_unit_answer_Refusal(t9);
+    switch (t8.continue_.tag) {
+    case 0:
+        break;
+    default:
+        t7 = t8.break_.m1;
+        result = core_ResultFromResidualErrResidual_from_residual_unit(t7);
         return result;
     }
     t10 = answer_lengths_is_short(room, 16ull, count);
     if (t10) {
-        result = 13u;
+        t11 = (answer_Refusal){answer_Refusal_buffer_short};
+        result = (Result_unit_answer_Refusal){.err = {1u, t11}};
         return result;
     }
-    t11 = answer_bytes_any_above(1u, choices);
-    if (t11) {
-        result = 8u;
+    t12 = answer_bytes_any_above(1u, choices);
+    if (t12) {
+        t13 = (answer_Refusal){answer_Refusal_not_element};
+        result = (Result_unit_answer_Refusal){.err = {1u, t13}};
         return result;
     }
-    result = 0u;
+    result = (Result_unit_answer_Refusal){.ok = {0u}};
     return result;
 }
 
-/* pads_calls, src/lib.rt:17: The noise end's pads: of each block of v, 16 bytes an output. The first output's index is `first`. */
+/* pads_calls, src/lib.rt:18: The noise end's pads: of each block of v, 16 bytes an output. The first output's index is `first`. */
 INLINE uint32_t pads_calls_noise_pads(uint64_t first, uint64_t count, slice v, slice choices, slice pads)
 {
-    uint32_t result, number;
-    uint8_256 sb, t12;
-    uint64_1536 tables;
-    uint64_40 keys, t15;
-    uint64_t t10;
-    bool t11;
-    char *t14, *t16, *t17, *t18, *t19;
-    slice t20;
-    t10 = pads.count;
-    number = pads_calls_number_noise_number(first, count, v, choices, t10);
-    t11 = number != 0u;
-    if (t11) {
-        result = number;
-        return result;
-    }
-    t12 = aes_sbox_table();
-    sb = t12;
-    for (int each = 0; each < 1536; each++)
-        tables.a[each] = 0ull;
-    t14 = (char *)&tables;
-    aes_sbox_fill_tables(t14);
-    t16 = (char *)&sb;
-    t15 = pads_rule_rule_pad_keys(t16);
-    keys = t15;
-    t17 = (char *)&tables;
-    t18 = (char *)&keys;
-    t19 = pads.at;
-    t20 = (slice){t19, pads.count};
-    pads_write_write_write_pads(t17, t18, first, count, v, t20);
-    result = 0u;
-    return result;
-}
-
-/* pads_calls, src/number.rt:37: The scalar end's number for a buffer of `room` bytes. */
-INLINE uint32_t pads_calls_number_scalar_number(uint64_t first, uint64_t count, slice w, slice delta, uint64_t room)
-{
     uint32_t result;
-    bool t6, t8, t9, t10;
-    uint64_t t7;
-    t7 = w.count;
-    t6 = answer_lengths_is_times(t7, 16ull, count);
-    t8 = !t6;
-    if (t8) {
-        result = 3u;
+    answer_Refusal refusal;
+    uint64_1536 words;
+    uint64_40 keys, t12;
+    pads_rule_rule_PadCipher cipher, t17;
+    Result_unit_answer_Refusal t10;
+    uint64_t t11;
+    aes_sbox_Tables t13;
+    char *t14, *t15, *t18;
+    slice t19;
+    t11 = pads.count;
+    t10 = pads_calls_tests_check_noise(first, count, v, choices, t11);
+    switch (t10.ok.tag) {
+    case 1:
+        refusal = t10.err.m1;
+        result = answer_Refusal_number(refusal);
         return result;
+    default:
+        break;
     }
-    t7 = delta.count;
-    t6 = t7 != 16ull;
-    if (t6) {
-        result = 3u;
-        return result;
-    }
-    t9 = answer_lengths_is_past(first, count, 32768ull);
-    if (t9) {
-        result = 7u;
-        return result;
-    }
-    t8 = answer_bytes_any_above(0u, delta);
-    t6 = !t8;
-    if (t6) {
-        result = 6u;
-        return result;
-    }
-    t10 = answer_lengths_is_short(room, 32ull, count);
-    if (t10) {
-        result = 13u;
-        return result;
-    }
+    for (int each = 0; each < 1536; each++)
+        words.a[each] = 0ull;
+    t12 = pads_rule_rule_pad_keys();
+    keys = t12;
+    t14 = (char *)&words;
+    t13 = aes_sbox_Tables_fill(t14);
+    t15 = (char *)&keys;
+    cipher = pads_rule_rule_PadCipher_new(t13, t15);
+    t17 = cipher;
+    t18 = pads.at;
+    t19 = (slice){t18, pads.count};
+    pads_write_write_write_pads(t17, first, count, v, t19);
     result = 0u;
     return result;
 }
 
-/* pads_calls, src/lib.rt:34: The scalar end's pads: of each block of w, then of its sum with Δ, 32 bytes an output. The first output's
+/* pads_calls, src/tests.rt:56: Tests the scalar end's call with a buffer of `room` bytes. */
+INLINE Result_unit_answer_Refusal pads_calls_tests_check_scalar(uint64_t first, uint64_t count, slice w, slice delta, uint64_t room)
+{
+    Result_unit_answer_Refusal result, t9;
+    ErrResidual_answer_Refusal t7;
+    ControlFlow_ErrResidual_answer_Refusal_unit t8;
+    bool t10, t11, t13;
+    answer_Refusal t12, t14;
+    t9 = pads_calls_tests_check_window(first, count, w, delta, 16ull);
+    t8 = core_ResultTry_branch_unit_answer_Refusal(t9);
+    switch (t8.continue_.tag) {
+    case 0:
+        break;
+    default:
+        t7 = t8.break_.m1;
+        result = core_ResultFromResidualErrResidual_from_residual_unit(t7);
+        return result;
+    }
+    t10 = answer_bytes_any_above(0u, delta);
+    t11 = !t10;
+    if (t11) {
+        t12 = (answer_Refusal){answer_Refusal_bad_delta};
+        result = (Result_unit_answer_Refusal){.err = {1u, t12}};
+        return result;
+    }
+    t13 = answer_lengths_is_short(room, 32ull, count);
+    if (t13) {
+        t14 = (answer_Refusal){answer_Refusal_buffer_short};
+        result = (Result_unit_answer_Refusal){.err = {1u, t14}};
+        return result;
+    }
+    result = (Result_unit_answer_Refusal){.ok = {0u}};
+    return result;
+}
+
+/* pads_calls, src/lib.rt:33: The scalar end's pads: of each block of w, then of its sum with Δ, 32 bytes an output. The first output's
  * index is `first`. */
 INLINE uint32_t pads_calls_scalar_pads(uint64_t first, uint64_t count, slice w, slice delta, slice pads)
 {
-    uint32_t result, number;
-    uint8_256 sb, t13;
-    uint64_1536 tables;
-    uint64_40 keys, t16;
+    uint32_t result;
+    answer_Refusal refusal;
+    uint64_1536 words;
+    uint64_40 keys, t13;
+    pads_rule_rule_PadCipher cipher, t18;
     field_block_Block d;
-    uint64_t t11;
-    bool t12;
-    char *t15, *t17, *t18, *t19, *t20;
-    slice t21;
-    t11 = pads.count;
-    number = pads_calls_number_scalar_number(first, count, w, delta, t11);
-    t12 = number != 0u;
-    if (t12) {
-        result = number;
+    Result_unit_answer_Refusal t11;
+    uint64_t t12;
+    aes_sbox_Tables t14;
+    char *t15, *t16, *t19;
+    slice t20;
+    t12 = pads.count;
+    t11 = pads_calls_tests_check_scalar(first, count, w, delta, t12);
+    switch (t11.ok.tag) {
+    case 1:
+        refusal = t11.err.m1;
+        result = answer_Refusal_number(refusal);
         return result;
+    default:
+        break;
     }
-    t13 = aes_sbox_table();
-    sb = t13;
     for (int each = 0; each < 1536; each++)
-        tables.a[each] = 0ull;
-    t15 = (char *)&tables;
-    aes_sbox_fill_tables(t15);
-    t17 = (char *)&sb;
-    t16 = pads_rule_rule_pad_keys(t17);
-    keys = t16;
+        words.a[each] = 0ull;
+    t13 = pads_rule_rule_pad_keys();
+    keys = t13;
+    t15 = (char *)&words;
+    t14 = aes_sbox_Tables_fill(t15);
+    t16 = (char *)&keys;
+    cipher = pads_rule_rule_PadCipher_new(t14, t16);
     d = pads_bytes_block_at(delta, 0ull);
-    t18 = (char *)&tables;
-    t19 = (char *)&keys;
-    t20 = pads.at;
-    t21 = (slice){t20, pads.count};
-    pads_write_write_write_both_pads(t18, t19, first, count, w, d, t21);
+    t18 = cipher;
+    t19 = pads.at;
+    t20 = (slice){t19, pads.count};
+    pads_write_write_write_both_pads(t18, first, count, w, d, t20);
     result = 0u;
     return result;
 }
 
-/* pads_messages, src/number.rt:12: The number of the correction bits for a buffer of `room` bytes. */
-INLINE uint32_t pads_messages_number_correction_number(uint64_t count, slice choices, slice wanted, uint64_t room)
+/* pads_messages, src/tests.rt:14: Tests the correction bits with a buffer of `room` bytes. */
+INLINE Result_unit_answer_Refusal pads_messages_tests_check_correction(uint64_t count, slice choices, slice wanted, uint64_t room)
 {
-    uint32_t result;
-    bool t5, t7, t8;
-    uint64_t t6;
+    Result_unit_answer_Refusal result;
+    bool t5, t10, t12;
+    answer_Refusal t6, t8, t9, t11, t13, t14;
+    uint64_t t7;
     t5 = 4096ull < count;
     if (t5) {
-        result = 3u;
+        t6 = (answer_Refusal){answer_Refusal_bad_length};
+        result = (Result_unit_answer_Refusal){.err = {1u, t6}};
         return result;
     }
-    t6 = choices.count;
-    t5 = t6 != count;
+    t7 = choices.count;
+    t5 = t7 != count;
     if (t5) {
-        result = 3u;
+        t8 = (answer_Refusal){answer_Refusal_bad_length};
+        result = (Result_unit_answer_Refusal){.err = {1u, t8}};
         return result;
     }
-    t6 = wanted.count;
-    t5 = t6 != count;
+    t7 = wanted.count;
+    t5 = t7 != count;
     if (t5) {
-        result = 3u;
+        t9 = (answer_Refusal){answer_Refusal_bad_length};
+        result = (Result_unit_answer_Refusal){.err = {1u, t9}};
         return result;
     }
-    t7 = answer_bytes_any_above(1u, choices);
-    if (t7) {
-        result = 8u;
+    t10 = answer_bytes_any_above(1u, choices);
+    if (t10) {
+        t11 = (answer_Refusal){answer_Refusal_not_element};
+        result = (Result_unit_answer_Refusal){.err = {1u, t11}};
         return result;
     }
-    t8 = answer_bytes_any_above(1u, wanted);
-    if (t8) {
-        result = 8u;
+    t12 = answer_bytes_any_above(1u, wanted);
+    if (t12) {
+        t13 = (answer_Refusal){answer_Refusal_not_element};
+        result = (Result_unit_answer_Refusal){.err = {1u, t13}};
         return result;
     }
     t5 = room < count;
     if (t5) {
-        result = 13u;
+        t14 = (answer_Refusal){answer_Refusal_buffer_short};
+        result = (Result_unit_answer_Refusal){.err = {1u, t14}};
         return result;
     }
-    result = 0u;
+    result = (Result_unit_answer_Refusal){.ok = {0u}};
     return result;
 }
 
@@ -9675,17 +11880,20 @@ static void pads_messages_mask_write_bits(uint64_t count, slice choices, slice w
 INLINE answer_OneLength pads_messages_correction_bits(uint64_t count, slice choices, slice wanted, slice bits_out)
 {
     answer_OneLength result;
-    uint32_t number;
-    uint64_t t6;
-    bool t7;
+    answer_Refusal refusal;
+    Result_unit_answer_Refusal t6;
+    uint64_t t7;
     char *t9;
     slice t10;
-    t6 = bits_out.count;
-    number = pads_messages_number_correction_number(count, choices, wanted, t6);
-    t7 = number != 0u;
-    if (t7) {
-        result = (answer_OneLength){number, 0ull};
+    t7 = bits_out.count;
+    t6 = pads_messages_tests_check_correction(count, choices, wanted, t7);
+    switch (t6.ok.tag) {
+    case 1:
+        refusal = t6.err.m1;
+        result = answer_OneLength_refused(refusal);
         return result;
+    default:
+        break;
     }
     t9 = bits_out.at;
     t10 = (slice){t9, bits_out.count};
@@ -9694,52 +11902,61 @@ INLINE answer_OneLength pads_messages_correction_bits(uint64_t count, slice choi
     return result;
 }
 
-/* pads_messages, src/number.rt:37: The number of the answers for a buffer of `room` bytes. */
-INLINE uint32_t pads_messages_number_mask_number(uint64_t count, slice bits, slice pads, slice messages, uint64_t room)
+/* pads_messages, src/tests.rt:44: Tests the answers, of 32 bytes of pads an output, or their opening, of 16, with a buffer of `room`
+ * bytes. */
+INLINE Result_unit_answer_Refusal pads_messages_tests_check_blocks(uint64_t width, uint64_t count, slice bits, slice pads, slice blocks,
+    uint64_t room)
 {
-    uint32_t result;
-    bool t6, t8, t9, t10;
-    uint64_t t7;
-    t6 = 4096ull < count;
-    if (t6) {
-        result = 3u;
+    Result_unit_answer_Refusal result;
+    bool t7, t11, t14, t16;
+    answer_Refusal t8, t10, t12, t13, t15, t17;
+    uint64_t t9;
+    t7 = 4096ull < count;
+    if (t7) {
+        t8 = (answer_Refusal){answer_Refusal_bad_length};
+        result = (Result_unit_answer_Refusal){.err = {1u, t8}};
         return result;
     }
-    t7 = bits.count;
-    t6 = t7 != count;
-    if (t6) {
-        result = 3u;
+    t9 = bits.count;
+    t7 = t9 != count;
+    if (t7) {
+        t10 = (answer_Refusal){answer_Refusal_bad_length};
+        result = (Result_unit_answer_Refusal){.err = {1u, t10}};
         return result;
     }
-    t7 = pads.count;
-    t6 = answer_lengths_is_times(t7, 32ull, count);
-    t8 = !t6;
-    if (t8) {
-        result = 3u;
+    t9 = pads.count;
+    t7 = answer_lengths_is_times(t9, width, count);
+    t11 = !t7;
+    if (t11) {
+        t12 = (answer_Refusal){answer_Refusal_bad_length};
+        result = (Result_unit_answer_Refusal){.err = {1u, t12}};
         return result;
     }
-    t7 = messages.count;
-    t6 = answer_lengths_is_times(t7, 32ull, count);
-    t8 = !t6;
-    if (t8) {
-        result = 3u;
+    t9 = blocks.count;
+    t7 = answer_lengths_is_times(t9, 32ull, count);
+    t11 = !t7;
+    if (t11) {
+        t13 = (answer_Refusal){answer_Refusal_bad_length};
+        result = (Result_unit_answer_Refusal){.err = {1u, t13}};
         return result;
     }
-    t9 = answer_bytes_any_above(1u, bits);
-    if (t9) {
-        result = 8u;
+    t14 = answer_bytes_any_above(1u, bits);
+    if (t14) {
+        t15 = (answer_Refusal){answer_Refusal_not_element};
+        result = (Result_unit_answer_Refusal){.err = {1u, t15}};
         return result;
     }
-    t10 = answer_lengths_is_short(room, 32ull, count);
-    if (t10) {
-        result = 13u;
+    t16 = answer_lengths_is_short(room, width, count);
+    if (t16) {
+        t17 = (answer_Refusal){answer_Refusal_buffer_short};
+        result = (Result_unit_answer_Refusal){.err = {1u, t17}};
         return result;
     }
-    result = 0u;
+    result = (Result_unit_answer_Refusal){.ok = {0u}};
     return result;
 }
 
-/* pads_messages, src/mask.rt:25: Writes from a place on the exclusive or of 16 bytes from a place of each of two slices, as blocks of
+/* pads_messages, src/mask.rt:23: Writes from a place on the exclusive or of 16 bytes from a place of each of two slices, as blocks of
  * two words. */
 INLINE void pads_messages_mask_mask_block(slice from, uint64_t at, slice by, uint64_t start, slice out, uint64_t to)
 {
@@ -9754,7 +11971,7 @@ INLINE void pads_messages_mask_mask_block(slice from, uint64_t at, slice by, uin
     pads_bytes_put_block(t11, to, t12);
 }
 
-/* pads_messages, src/mask.rt:36: Writes both masked messages of output k. */
+/* pads_messages, src/mask.rt:34: Writes both masked messages of output k. */
 static void pads_messages_mask_put_answer(uint64_t k, slice bits, slice pads, slice messages, slice answers)
 {
     uint64_t block0, block1, bit, named, other, t13, t14;
@@ -9779,7 +11996,7 @@ static void pads_messages_mask_put_answer(uint64_t k, slice bits, slice pads, sl
     pads_messages_mask_mask_block(messages, block1, pads, other, t19, block1);
 }
 
-/* pads_messages, src/mask.rt:52: Writes both masked messages of each output. */
+/* pads_messages, src/mask.rt:50: Writes both masked messages of each output. */
 static void pads_messages_mask_write_answers(uint64_t count, slice bits, slice pads, slice messages, slice answers_out)
 {
     uint64_t k;
@@ -9799,77 +12016,35 @@ static void pads_messages_mask_write_answers(uint64_t count, slice bits, slice p
     }
 }
 
-/* pads_messages, src/lib.rt:38: The scalar end's answers: message 0 masked by the pad that the bit names, message 1 by the other, 32
+/* pads_messages, src/lib.rt:37: The scalar end's answers: message 0 masked by the pad that the bit names, message 1 by the other, 32
  * bytes an output. */
 INLINE answer_OneLength pads_messages_mask_messages(uint64_t count, slice bits, slice pads, slice messages, slice answers_out)
 {
     answer_OneLength result;
-    uint32_t number;
-    uint64_t t7;
-    bool t8;
+    answer_Refusal refusal;
+    Result_unit_answer_Refusal t7;
+    uint64_t t8;
     char *t10;
     slice t11;
-    t7 = answers_out.count;
-    number = pads_messages_number_mask_number(count, bits, pads, messages, t7);
-    t8 = number != 0u;
-    if (t8) {
-        result = (answer_OneLength){number, 0ull};
+    t8 = answers_out.count;
+    t7 = pads_messages_tests_check_blocks(32ull, count, bits, pads, messages, t8);
+    switch (t7.ok.tag) {
+    case 1:
+        refusal = t7.err.m1;
+        result = answer_OneLength_refused(refusal);
         return result;
+    default:
+        break;
     }
     t10 = answers_out.at;
     t11 = (slice){t10, answers_out.count};
     pads_messages_mask_write_answers(count, bits, pads, messages, t11);
-    t7 = 32ull * count;
-    result = (answer_OneLength){0u, t7};
+    t8 = 32ull * count;
+    result = (answer_OneLength){0u, t8};
     return result;
 }
 
-/* pads_messages, src/number.rt:62: The number of the opening for a buffer of `room` bytes. */
-INLINE uint32_t pads_messages_number_unmask_number(uint64_t count, slice wanted, slice pads, slice answers, uint64_t room)
-{
-    uint32_t result;
-    bool t6, t8, t9, t10;
-    uint64_t t7;
-    t6 = 4096ull < count;
-    if (t6) {
-        result = 3u;
-        return result;
-    }
-    t7 = wanted.count;
-    t6 = t7 != count;
-    if (t6) {
-        result = 3u;
-        return result;
-    }
-    t7 = pads.count;
-    t6 = answer_lengths_is_times(t7, 16ull, count);
-    t8 = !t6;
-    if (t8) {
-        result = 3u;
-        return result;
-    }
-    t7 = answers.count;
-    t6 = answer_lengths_is_times(t7, 32ull, count);
-    t8 = !t6;
-    if (t8) {
-        result = 3u;
-        return result;
-    }
-    t9 = answer_bytes_any_above(1u, wanted);
-    if (t9) {
-        result = 8u;
-        return result;
-    }
-    t10 = answer_lengths_is_short(room, 16ull, count);
-    if (t10) {
-        result = 13u;
-        return result;
-    }
-    result = 0u;
-    return result;
-}
-
-/* pads_messages, src/mask.rt:71: Writes the wanted message of output k. */
+/* pads_messages, src/mask.rt:67: Writes the wanted message of output k. */
 INLINE void pads_messages_mask_put_opened(uint64_t k, slice wanted, slice pads, slice answers, slice messages)
 {
     uint64_t bit, place, t11, t12, t13;
@@ -9888,7 +12063,7 @@ INLINE void pads_messages_mask_put_opened(uint64_t k, slice wanted, slice pads, 
     pads_messages_mask_mask_block(answers, t13, pads, place, t15, place);
 }
 
-/* pads_messages, src/mask.rt:83: Writes the wanted message of each output. */
+/* pads_messages, src/mask.rt:79: Writes the wanted message of each output. */
 static void pads_messages_mask_write_opened(uint64_t count, slice wanted, slice pads, slice answers, slice messages_out)
 {
     uint64_t k;
@@ -9908,42 +12083,47 @@ static void pads_messages_mask_write_opened(uint64_t count, slice wanted, slice 
     }
 }
 
-/* pads_messages, src/lib.rt:60: The noise end's messages: the wanted block of each answer, masked again by its pad, 16 bytes an output. */
+/* pads_messages, src/lib.rt:58: The noise end's messages: the wanted block of each answer, masked again by its pad, 16 bytes an output. */
 INLINE answer_OneLength pads_messages_unmask_messages(uint64_t count, slice wanted, slice pads, slice answers, slice messages_out)
 {
     answer_OneLength result;
-    uint32_t number;
-    uint64_t t7;
-    bool t8;
+    answer_Refusal refusal;
+    Result_unit_answer_Refusal t7;
+    uint64_t t8;
     char *t10;
     slice t11;
-    t7 = messages_out.count;
-    number = pads_messages_number_unmask_number(count, wanted, pads, answers, t7);
-    t8 = number != 0u;
-    if (t8) {
-        result = (answer_OneLength){number, 0ull};
+    t8 = messages_out.count;
+    t7 = pads_messages_tests_check_blocks(16ull, count, wanted, pads, answers, t8);
+    switch (t7.ok.tag) {
+    case 1:
+        refusal = t7.err.m1;
+        result = answer_OneLength_refused(refusal);
         return result;
+    default:
+        break;
     }
     t10 = messages_out.at;
     t11 = (slice){t10, messages_out.count};
     pads_messages_mask_write_opened(count, wanted, pads, answers, t11);
-    t7 = 16ull * count;
-    result = (answer_OneLength){0u, t7};
+    t8 = 16ull * count;
+    result = (answer_OneLength){0u, t8};
     return result;
 }
 
-/* pads_triples, src/number.rt:9: The number for a buffer of `room` bytes. */
-INLINE uint32_t pads_triples_number_triples_number(slice choices, slice pads, slice pad_pairs, uint64_t room)
+/* pads_triples, src/tests.rt:10: Tests a call with a buffer of `room` bytes. */
+INLINE Result_unit_answer_Refusal pads_triples_tests_check(slice choices, slice pads, slice pad_pairs, uint64_t room)
 {
-    uint32_t result;
-    bool t5, t8, t9, t10;
+    Result_unit_answer_Refusal result;
+    bool t5, t8, t11, t13;
     uint64_t t6, t7;
+    answer_Refusal t9, t10, t12, t14;
     t6 = pads.count;
     t7 = choices.count;
     t5 = answer_lengths_is_times(t6, 16ull, t7);
     t8 = !t5;
     if (t8) {
-        result = 3u;
+        t9 = (answer_Refusal){answer_Refusal_bad_length};
+        result = (Result_unit_answer_Refusal){.err = {1u, t9}};
         return result;
     }
     t6 = pad_pairs.count;
@@ -9951,21 +12131,24 @@ INLINE uint32_t pads_triples_number_triples_number(slice choices, slice pads, sl
     t5 = answer_lengths_is_times(t6, 32ull, t7);
     t8 = !t5;
     if (t8) {
-        result = 3u;
+        t10 = (answer_Refusal){answer_Refusal_bad_length};
+        result = (Result_unit_answer_Refusal){.err = {1u, t10}};
         return result;
     }
     t6 = choices.count;
-    t9 = answer_lengths_is_short(room, 3ull, t6);
-    if (t9) {
-        result = 13u;
+    t11 = answer_lengths_is_short(room, 3ull, t6);
+    if (t11) {
+        t12 = (answer_Refusal){answer_Refusal_buffer_short};
+        result = (Result_unit_answer_Refusal){.err = {1u, t12}};
         return result;
     }
-    t10 = answer_bytes_any_above(1u, choices);
-    if (t10) {
-        result = 8u;
+    t13 = answer_bytes_any_above(1u, choices);
+    if (t13) {
+        t14 = (answer_Refusal){answer_Refusal_not_element};
+        result = (Result_unit_answer_Refusal){.err = {1u, t14}};
         return result;
     }
-    result = 0u;
+    result = (Result_unit_answer_Refusal){.ok = {0u}};
     return result;
 }
 
@@ -10010,14 +12193,14 @@ INLINE void pads_triples_form_put_triple(uint64_t k, slice choices, slice pads, 
 /* pads_triples, src/form.rt:27: Writes the triple of each output. */
 static void pads_triples_form_write_triples(slice choices, slice pads, slice pad_pairs, slice triples_out)
 {
-    uint64_t k, t6;
+    uint64_t k, k_end;
     bool t7;
     char *t9;
     slice t10;
     k = 0ull;
+    k_end = choices.count;
     for (;;) {
-        t6 = choices.count;
-        t7 = k < t6;
+        t7 = k < k_end;
         if (!t7) {
             break;
         }
@@ -10032,159 +12215,177 @@ static void pads_triples_form_write_triples(slice choices, slice pads, slice pad
 INLINE answer_OneLength pads_triples_triples(slice choices, slice pads, slice pad_pairs, slice triples_out)
 {
     answer_OneLength result;
-    uint32_t number;
-    uint64_t t6, t11;
-    bool t7;
+    answer_Refusal refusal;
+    Result_unit_answer_Refusal t6;
+    uint64_t t7, t11;
     char *t9;
     slice t10;
-    t6 = triples_out.count;
-    number = pads_triples_number_triples_number(choices, pads, pad_pairs, t6);
-    t7 = number != 0u;
-    if (t7) {
-        result = (answer_OneLength){number, 0ull};
+    t7 = triples_out.count;
+    t6 = pads_triples_tests_check(choices, pads, pad_pairs, t7);
+    switch (t6.ok.tag) {
+    case 1:
+        refusal = t6.err.m1;
+        result = answer_OneLength_refused(refusal);
         return result;
+    default:
+        break;
     }
     t9 = triples_out.at;
     t10 = (slice){t9, triples_out.count};
     pads_triples_form_write_triples(choices, pads, pad_pairs, t10);
-    t6 = choices.count;
-    t11 = 3ull * t6;
+    t7 = choices.count;
+    t11 = 3ull * t7;
     result = (answer_OneLength){0u, t11};
     return result;
 }
 
-/* record_describe, src/lib.rt:34: The answer for a refused record. */
-INLINE record_describe_Described record_describe_refusal(uint32_t number)
+/* record_describe, src/lib.rt:37: The answer for a refused record. */
+INLINE record_describe_Described record_describe_Described_refused(answer_Refusal refusal)
 {
     record_describe_Described result;
-    uint8_16 t2, t3;
-    for (int each = 0; each < 16; each++)
-        t2.a[each] = 0u;
+    uint32_t t2;
+    uint8_16 t3, t4;
+    t2 = answer_Refusal_number(refusal);
     for (int each = 0; each < 16; each++)
         t3.a[each] = 0u;
-    result = (record_describe_Described){number, 0u, 0u, 0ull, 0ull, 0ull, 0ull, 0ull, 0ull, 0ull, t2, t3};
+    for (int each = 0; each < 16; each++)
+        t4.a[each] = 0u;
+    result = (record_describe_Described){t2, 0u, 0u, 0ull, 0ull, 0ull, 0ull, 0ull, 0ull, 0ull, t3, t4};
     return result;
 }
 
-/* record_describe, src/lib.rt:54: The 16 bytes at a place. */
-static uint8_16 record_describe_sixteen_at(slice source, uint64_t at)
+/* record_describe, src/lib.rt:58: The 16 bytes at a place. */
+INLINE uint8_16 record_describe_sixteen_at(slice source, uint64_t at)
 {
     uint8_16 result, block;
-    uint64_t i, t6;
-    bool t5;
-    char *t7, *t9, *t10;
-    uint8_t t8;
+    char *t5, *t8, *t10;
+    slice t6, t11;
+    uint64_t t7, t9;
     for (int each = 0; each < 16; each++)
         block.a[each] = 0u;
-    i = 0ull;
-    for (;;) {
-        t5 = i < 16ull;
-        if (!t5) {
-            break;
-        }
-        t6 = at + i;
-        t7 = source.at + t6;
-        t8 = *(uint8_t *)t7;
-        t9 = (char *)&block;
-        t10 = t9 + i;
-        *(uint8_t *)t10 = t8;
-        i = i + 1ull;
-    }
+    t5 = (char *)&block;
+    t6 = (slice){t5, 16ull};
+    t7 = at + 16ull;
+    t8 = source.at + at;
+    t9 = t7 - at;
+    t10 = t8;
+    t11 = (slice){t10, t9};
+    core_slice_copy_from_slice_uint8(t6, t11);
     result = block;
     return result;
 }
 
 /* record_describe, src/lib.rt:68: The answer for an accepted record of an end. */
-INLINE record_describe_Described record_describe_accepted(uint8_t end, slice source, record_Layout layout)
+INLINE record_describe_Described record_describe_accepted(record_End end, slice source, record_Layout layout)
 {
     record_describe_Described result;
-    uint8_t t4;
-    uint64_t t5, t6, t8, t10;
-    uint8_16 t7, t9;
-    t4 = (uint8_t)layout.field;
-    t5 = record_sizes_leaves(layout.depth);
-    t6 = field_width_element_width(layout.field);
-    t8 = layout.body - 16ull;
-    t7 = record_describe_sixteen_at(source, t8);
-    t10 = layout.body - 32ull;
-    t9 = record_describe_sixteen_at(source, t10);
-    result = (record_describe_Described){0u, end, t4, layout.depth, layout.branch_bits, layout.trees, layout.terms, layout.outputs, t5, t6,
-        t7, t9};
+    uint8_t t4, t5;
+    uint64_t t6, t7, t9, t11;
+    uint8_16 t8, t10;
+    t4 = record_End_byte(end);
+    t5 = (uint8_t)layout.field;
+    t6 = record_sizes_leaves(layout.depth);
+    t7 = field_width_element_width(layout.field);
+    t9 = layout.body - 16ull;
+    t8 = record_describe_sixteen_at(source, t9);
+    t11 = layout.body - 32ull;
+    t10 = record_describe_sixteen_at(source, t11);
+    result = (record_describe_Described){0u, t4, t5, layout.depth, layout.branch_bits, layout.trees, layout.terms, layout.outputs, t6, t7,
+        t8, t10};
     return result;
 }
 
-/* record_describe, src/lib.rt:89: The answer for a noise record. */
+/* record_describe, src/lib.rt:89: The answer for a noise record. Each end has its reader and its definition, so one function would take
+ * both as parameters. */
 INLINE record_describe_Described record_describe_noise_head(slice source)
 {
-    record_describe_Described result;
-    record_RecordAnswer r;
+    record_describe_Described result, t5;
     record_Layout layout;
-    uint32_t t4;
-    r = record_reading_noise_read_noise(source);
-    switch (r.accepted.tag) {
+    answer_Refusal refusal;
+    Result_record_Layout_answer_Refusal t4;
+    record_End t6;
+    t4 = record_reading_noise_read_noise(source);
+    switch (t4.ok.tag) {
     case 0:
-        layout = r.accepted.m1;
+        layout = t4.ok.m1;
+        t6 = (record_End){record_End_noise};
+        t5 = record_describe_accepted(t6, source, layout);
         break;
     default:
-        t4 = record_record_fault(r);
-        result = record_describe_refusal(t4);
-        return result;
+        refusal = t4.err.m1;
+        t5 = record_describe_Described_refused(refusal);
+        break;
     }
-    result = record_describe_accepted(1u, source, layout);
+    result = t5;
     return result;
 }
 
-/* record_describe, src/lib.rt:100: The answer for a scalar record. */
+/* record_describe, src/lib.rt:99: The answer for a scalar record. */
 INLINE record_describe_Described record_describe_scalar_head(slice source)
 {
-    record_describe_Described result;
-    record_RecordAnswer r;
+    record_describe_Described result, t5;
     record_Layout layout;
-    uint32_t t4;
-    r = record_reading_scalar_read_scalar(source);
-    switch (r.accepted.tag) {
+    answer_Refusal refusal;
+    Result_record_Layout_answer_Refusal t4;
+    record_End t6;
+    t4 = record_reading_scalar_read_scalar(source);
+    switch (t4.ok.tag) {
     case 0:
-        layout = r.accepted.m1;
+        layout = t4.ok.m1;
+        t6 = (record_End){record_End_scalar};
+        t5 = record_describe_accepted(t6, source, layout);
         break;
     default:
-        t4 = record_record_fault(r);
-        result = record_describe_refusal(t4);
-        return result;
+        refusal = t4.err.m1;
+        t5 = record_describe_Described_refused(refusal);
+        break;
     }
-    result = record_describe_accepted(2u, source, layout);
+    result = t5;
     return result;
 }
 
-/* record_describe, src/lib.rt:111: The head of a record that its end would accept, or that record's number. The end byte says whose
+/* record_describe, src/lib.rt:109: The head of a record that its end would accept, or that record's number. The end byte says whose
  * tests apply. */
-static record_describe_Described record_describe_describe(slice source)
+INLINE record_describe_Described record_describe_describe(slice source)
 {
-    record_describe_Described result;
-    uint64_t t2;
-    bool t3;
-    char *t4, *t6;
-    uint8_t t5;
-    t2 = source.count;
-    t3 = t2 <= 0ull;
-    if (t3) {
-        result = record_describe_refusal(10u);
-        return result;
+    record_describe_Described result, t3;
+    Option_ref_uint8 t2;
+    answer_Refusal t4, t5;
+    t2 = core_slice_first_uint8(source);
+    switch (t2.none.tag) {
+    case 0:
+        t4 = (answer_Refusal){answer_Refusal_record_ends};
+        t3 = record_describe_Described_refused(t4);
+        break;
+    default:
+        switch (*(uint8_t *)t2.some.m1) {
+        case 1:
+            t3 = record_describe_noise_head(source);
+            break;
+        case 2:
+            t3 = record_describe_scalar_head(source);
+            break;
+        default:
+            t5 = (answer_Refusal){answer_Refusal_wrong_end};
+            t3 = record_describe_Described_refused(t5);
+            break;
+        }
+        break;
     }
-    t4 = source.at + 0ull;
-    t5 = *(uint8_t *)t4;
-    t3 = t5 == 1u;
-    if (t3) {
-        result = record_describe_noise_head(source);
-        return result;
-    }
-    t6 = source.at + 0ull;
-    t5 = *(uint8_t *)t6;
-    t3 = t5 == 2u;
-    if (t3) {
-        result = record_describe_scalar_head(source);
-        return result;
-    }
-    result = record_describe_refusal(9u);
+    result = t3;
+    return result;
+}
+
+/* stock::LabelPartialEq::eq, made by the kit */
+INLINE bool stock_LabelPartialEq_eq(char *self, char *other)
+{
+    bool result, t5, t6;
+    char *t3, *t4;
+    t3 = (char *)&((stock_Label *)self)->bytes;
+    t4 = (char *)&((stock_Label *)other)->bytes;
+    t6 = core_ArrayPartialEq_eq_uint8_16(t3, t4);
+    t5 = t6;
+    result = t5;
     return result;
 }
 
@@ -10192,116 +12393,108 @@ static record_describe_Described record_describe_describe(slice source)
 INLINE bool stock_calls_shares_is_count(uint64_t most, uint64_t n)
 {
     bool result, t3;
-    t3 = n < 1ull;
+    t3 = 1ull <= n;
     if (t3) {
-        result = false;
-        return result;
+        t3 = n <= most;
     }
-    result = n <= most;
+    result = t3;
     return result;
 }
 
-/* stock_calls, src/lib.rt:47: A refused opening: a stock without callers, under label 0. */
-INLINE stock_OpenedStock stock_calls_refused_opening(uint32_t number)
-{
-    stock_OpenedStock result;
-    stock_Stock stock;
-    uint8_16 t3;
-    stock_Label t4;
-    uint32_8 t5, t6;
-    for (int each = 0; each < 16; each++)
-        t3.a[each] = 0u;
-    t4 = (stock_Label){t3};
-    for (int each = 0; each < 8; each++)
-        t5.a[each] = 0u;
-    for (int each = 0; each < 8; each++)
-        t6.a[each] = 0u;
-    stock = (stock_Stock){0u, t4, t5, t6};
-    result = (stock_OpenedStock){number, stock};
-    return result;
-}
-
-/* stock_calls, src/shares.rt:19: The shares of a slice, with zeros past them. */
-static uint32_8 stock_calls_shares_padded(slice shares)
+/* stock_calls, src/shares.rt:16: The shares of a slice, with zeros past them. */
+INLINE uint32_8 stock_calls_shares_padded(slice shares)
 {
     uint32_8 result, each_2;
-    uint64_t k, t4;
-    bool t5;
-    char *t6, *t9, *t10;
-    uint32_t t7;
+    uint64_t t4;
+    char *t5;
+    slice t6;
     for (int each = 0; each < 8; each++)
         each_2.a[each] = 0u;
-    k = 0ull;
-    for (;;) {
-        t4 = shares.count;
-        t5 = k < t4;
-        if (!t5) {
-            break;
-        }
-        t4 = k * 4ull;
-        t6 = (char *)((uint32_t *)shares.at + k);
-        t7 = *(uint32_t *)t6;
-        t9 = (char *)&each_2;
-        t10 = (char *)((uint32_t *)t9 + k);
-        *(uint32_t *)t10 = t7;
-        k = k + 1ull;
-    }
+    t4 = shares.count;
+    t5 = (char *)&each_2;
+    t6 = (slice){t5, t4};
+    core_slice_copy_from_slice_uint32(t6, shares);
     result = each_2;
     return result;
 }
 
-/* stock_calls, src/shares.rt:33: The sum of eight shares. */
+/* stock_calls, src/shares.rt:26: The sum of eight shares. */
 static uint64_t stock_calls_shares_total(uint32_8 shares)
 {
-    uint64_t result, sum, k, t10;
+    uint64_t result, sum, share_index, t13;
     uint32_8 shares_slot;
-    bool t5;
-    char *t7, *t8;
-    uint32_t t9;
+    char *share_items, *share, *t7, *t10, *t11;
+    bool t8;
+    uint32_t t12;
     shares_slot = shares;
     sum = 0ull;
-    k = 0ull;
+    t7 = (char *)&shares_slot;
+    share_items = t7;
+    share_index = 0ull;
     for (;;) {
-        t5 = k < 8ull;
-        if (!t5) {
+        t8 = share_index < 8ull;
+        if (!t8) {
             break;
         }
-        t7 = (char *)&shares_slot;
-        t8 = (char *)((uint32_t *)t7 + k);
-        t9 = *(uint32_t *)t8;
-        t10 = (uint64_t)t9;
-        sum = sum + t10;
-        k = k + 1ull;
+        t10 = share_items;
+        t11 = (char *)((uint32_t *)t10 + share_index);
+        share = t11;
+        t12 = *(uint32_t *)share;
+        t13 = (uint64_t)t12;
+        sum = sum + t13;
+        share_index = share_index + 1ull;
     }
     result = sum;
     return result;
 }
 
-/* stock_calls, src/shares.rt:46: How many of the eight entries have a caller. */
-INLINE uint64_t stock_calls_shares_at_most_eight(uint32_t callers)
+/* stock_calls, src/lib.rt:26: The shares of an opening, padded to eight, once its tests are met. */
+INLINE Result_uint32_8_answer_Refusal stock_calls_opening_shares(uint64_t outputs, slice shares)
 {
-    uint64_t result;
-    bool t2;
-    t2 = callers < 8u;
-    if (t2) {
-        result = (uint64_t)callers;
+    Result_uint32_8_answer_Refusal result;
+    uint32_8 each_2;
+    bool t4, t6;
+    uint64_t t5;
+    answer_Refusal t7, t8, t9;
+    t5 = shares.count;
+    t4 = stock_calls_shares_is_count(8ull, t5);
+    t6 = !t4;
+    if (t6) {
+        t7 = (answer_Refusal){answer_Refusal_bad_size};
+        result = (Result_uint32_8_answer_Refusal){.err = {1u, t7}};
         return result;
     }
-    result = 8ull;
+    t4 = stock_calls_shares_is_count(32768ull, outputs);
+    t6 = !t4;
+    if (t6) {
+        t8 = (answer_Refusal){answer_Refusal_bad_size};
+        result = (Result_uint32_8_answer_Refusal){.err = {1u, t8}};
+        return result;
+    }
+    each_2 = stock_calls_shares_padded(shares);
+    t5 = stock_calls_shares_total(each_2);
+    t4 = outputs < t5;
+    if (t4) {
+        t9 = (answer_Refusal){answer_Refusal_shares_above};
+        result = (Result_uint32_8_answer_Refusal){.err = {1u, t9}};
+        return result;
+    }
+    result = (Result_uint32_8_answer_Refusal){.ok = {0u, each_2}};
     return result;
 }
 
-/* stock_calls, src/shares.rt:56: Consecutive blocks of the outputs, from index 0 in caller order. */
+/* stock_calls, src/shares.rt:37: Consecutive blocks of the outputs, from index 0 in caller order. */
 static stock_Stock stock_calls_shares_blocks_of(stock_Label label, uint32_t callers, uint32_8 shares)
 {
     stock_Stock result;
-    uint32_8 shares_slot, next, end, t19, t20;
+    uint32_8 shares_slot, next, end, t20, t21;
     uint64_t n, k;
-    uint32_t at, t16;
-    bool t10;
-    char *t12, *t13, *t14, *t15, *t17, *t18;
+    uint32_t at, t10, t17;
+    bool t11;
+    char *t13, *t14, *t15, *t16, *t18, *t19;
     shares_slot = shares;
-    n = stock_calls_shares_at_most_eight(callers);
+    t10 = core_u32_min(callers, 8u);
+    n = (uint64_t)t10;
     for (int each = 0; each < 8; each++)
         next.a[each] = 0u;
     for (int each = 0; each < 8; each++)
@@ -10309,170 +12502,178 @@ static stock_Stock stock_calls_shares_blocks_of(stock_Label label, uint32_t call
     at = 0u;
     k = 0ull;
     for (;;) {
-        t10 = k < n;
-        if (!t10) {
+        t11 = k < n;
+        if (!t11) {
             break;
         }
-        t12 = (char *)&next;
-        t13 = (char *)((uint32_t *)t12 + k);
-        *(uint32_t *)t13 = at;
-        t14 = (char *)&shares_slot;
-        t15 = (char *)((uint32_t *)t14 + k);
-        t16 = *(uint32_t *)t15;
-        at = (uint32_t)(at + t16);
-        t17 = (char *)&end;
-        t18 = (char *)((uint32_t *)t17 + k);
-        *(uint32_t *)t18 = at;
+        t13 = (char *)&next;
+        t14 = (char *)((uint32_t *)t13 + k);
+        *(uint32_t *)t14 = at;
+        t15 = (char *)&shares_slot;
+        t16 = (char *)((uint32_t *)t15 + k);
+        t17 = *(uint32_t *)t16;
+        at = (uint32_t)(at + t17);
+        t18 = (char *)&end;
+        t19 = (char *)((uint32_t *)t18 + k);
+        *(uint32_t *)t19 = at;
         k = k + 1ull;
     }
-    t19 = next;
-    t20 = end;
-    result = (stock_Stock){callers, label, t19, t20};
+    t20 = next;
+    t21 = end;
+    result = (stock_Stock){callers, label, t20, t21};
     return result;
 }
 
-/* stock_calls, src/lib.rt:26: Opens a stock under a label with a share for each caller, as consecutive blocks of the outputs. */
-INLINE stock_OpenedStock stock_calls_open(stock_Label label, uint64_t outputs, slice shares)
+/* stock_calls, src/lib.rt:57: A refused opening: a stock without callers, under label 0. */
+INLINE stock_OpenedStock stock_calls_refused_opening(answer_Refusal refusal)
 {
     stock_OpenedStock result;
-    uint32_8 each_2;
-    stock_Stock stock;
-    bool t6, t8;
-    uint64_t t7;
-    uint32_t t9;
-    t7 = shares.count;
-    t6 = stock_calls_shares_is_count(8ull, t7);
-    t8 = !t6;
-    if (t8) {
-        result = stock_calls_refused_opening(2u);
-        return result;
-    }
-    t6 = stock_calls_shares_is_count(32768ull, outputs);
-    t8 = !t6;
-    if (t8) {
-        result = stock_calls_refused_opening(2u);
-        return result;
-    }
-    each_2 = stock_calls_shares_padded(shares);
-    t7 = stock_calls_shares_total(each_2);
-    t8 = outputs < t7;
-    if (t8) {
-        result = stock_calls_refused_opening(16u);
-        return result;
-    }
-    t7 = shares.count;
-    t9 = (uint32_t)t7;
-    stock = stock_calls_shares_blocks_of(label, t9, each_2);
-    result = (stock_OpenedStock){0u, stock};
+    uint32_t t2;
+    uint8_16 t3;
+    stock_Label t4;
+    uint32_8 t5, t6;
+    stock_Stock t7;
+    t2 = answer_Refusal_number(refusal);
+    for (int each = 0; each < 16; each++)
+        t3.a[each] = 0u;
+    t4 = (stock_Label){t3};
+    for (int each = 0; each < 8; each++)
+        t5.a[each] = 0u;
+    for (int each = 0; each < 8; each++)
+        t6.a[each] = 0u;
+    t7 = (stock_Stock){0u, t4, t5, t6};
+    result = (stock_OpenedStock){t2, t7};
     return result;
 }
 
-/* stock_calls, src/labels.rt:8: Whether a label is above another one: the highest byte in which they differ decides. */
-static bool stock_calls_labels_is_above(stock_Label label, stock_Label other)
+/* stock_calls, src/lib.rt:44: Opens a stock under a label with a share for each caller, as consecutive blocks of the outputs. */
+INLINE stock_OpenedStock stock_calls_open(stock_Label label, uint64_t outputs, slice shares)
 {
-    bool result, t9;
-    stock_Label label_slot, other_slot;
-    uint64_t left, at;
-    uint8_t a, b, t12;
-    char *t10, *t11, *t13, *t14;
-    label_slot = label;
-    other_slot = other;
-    left = 16ull;
-    for (;;) {
-        t9 = 0ull < left;
-        if (!t9) {
-            break;
-        }
-        at = left - 1ull;
-        t10 = (char *)&label_slot.bytes;
-        t11 = t10 + at;
-        t12 = *(uint8_t *)t11;
-        a = t12;
-        t13 = (char *)&other_slot.bytes;
-        t14 = t13 + at;
-        t12 = *(uint8_t *)t14;
-        b = t12;
-        t9 = a != b;
-        if (t9) {
-            result = b < a;
-            return result;
-        }
-        left = at;
+    stock_OpenedStock result, t7;
+    uint32_8 each_2;
+    answer_Refusal refusal;
+    Result_uint32_8_answer_Refusal t6;
+    stock_Stock t8;
+    uint64_t t9;
+    uint32_t t10;
+    t6 = stock_calls_opening_shares(outputs, shares);
+    switch (t6.ok.tag) {
+    case 0:
+        each_2 = t6.ok.m1;
+        t9 = shares.count;
+        t10 = (uint32_t)t9;
+        t8 = stock_calls_shares_blocks_of(label, t10, each_2);
+        t7 = (stock_OpenedStock){0u, t8};
+        break;
+    default:
+        refusal = t6.err.m1;
+        t7 = stock_calls_refused_opening(refusal);
+        break;
     }
-    result = false;
+    result = t7;
     return result;
 }
 
-/* stock_calls, src/labels.rt:25: Whether two labels are the same. */
+/* stock_calls, src/labels.rt:22: Whether two labels are the same. */
 INLINE bool stock_calls_labels_is_same(stock_Label label, stock_Label other)
 {
-    bool result, t3, t4;
-    t3 = stock_calls_labels_is_above(label, other);
-    if (t3) {
-        result = false;
-        return result;
-    }
-    t4 = stock_calls_labels_is_above(other, label);
-    result = !t4;
+    bool result;
+    stock_Label label_slot, other_slot;
+    char *t5, *t6;
+    label_slot = label;
+    other_slot = other;
+    t5 = (char *)&label_slot;
+    t6 = (char *)&other_slot;
+    result = stock_LabelPartialEq_eq(t5, t6);
     return result;
 }
 
-/* stock_calls, src/lib.rt:93: A refused draw: no index, and the stock as it was. */
-INLINE stock_Drawn stock_calls_refused_draw(stock_Stock stock, uint32_t number)
-{
-    stock_Drawn result;
-    result = (stock_Drawn){number, 0ull, 0ull, stock};
-    return result;
-}
-
-/* stock_calls, src/shares.rt:80: Whether a stock has a caller. */
+/* stock_calls, src/shares.rt:59: Whether a stock has a caller. */
 INLINE bool stock_calls_shares_is_caller(stock_Stock stock, uint64_t caller)
 {
     bool result, t3;
     uint64_t t4;
-    t3 = 8ull <= caller;
+    t3 = caller < 8ull;
     if (t3) {
-        result = false;
-        return result;
+        t4 = (uint64_t)stock.callers;
+        t3 = caller < t4;
     }
-    t4 = (uint64_t)stock.callers;
-    result = caller < t4;
+    result = t3;
     return result;
 }
 
-/* stock_calls, src/shares.rt:90: A caller's remaining share. */
+/* stock_calls, src/shares.rt:66: A caller's remaining share. */
 INLINE uint32_t stock_calls_shares_holding(stock_Stock stock, uint64_t caller)
 {
-    uint32_t result, next, end, t12;
-    stock_Stock stock_slot, t7;
-    bool t6, t8;
-    char *t10, *t11, *t13, *t14;
+    uint32_t result, t10, t14;
+    stock_Stock stock_slot, t5;
+    bool t4, t6;
+    char *t8, *t9, *t12, *t13;
     stock_slot = stock;
-    t7 = stock_slot;
-    t6 = stock_calls_shares_is_caller(t7, caller);
-    t8 = !t6;
-    if (t8) {
-        result = 0u;
-        return result;
-    }
-    t10 = (char *)&stock_slot.next;
-    t11 = (char *)((uint32_t *)t10 + caller);
-    t12 = *(uint32_t *)t11;
-    next = t12;
-    t13 = (char *)&stock_slot.end;
-    t14 = (char *)((uint32_t *)t13 + caller);
-    t12 = *(uint32_t *)t14;
-    end = t12;
-    t6 = end < next;
+    t5 = stock_slot;
+    t4 = stock_calls_shares_is_caller(t5, caller);
+    t6 = !t4;
     if (t6) {
         result = 0u;
         return result;
     }
-    result = (uint32_t)(end - next);
+    t8 = (char *)&stock_slot.end;
+    t9 = (char *)((uint32_t *)t8 + caller);
+    t10 = *(uint32_t *)t9;
+    t12 = (char *)&stock_slot.next;
+    t13 = (char *)((uint32_t *)t12 + caller);
+    t14 = *(uint32_t *)t13;
+    result = core_u32_saturating_sub(t10, t14);
     return result;
 }
 
-/* stock_calls, src/lib.rt:77: An accepted draw: a window from the caller's next index on, which is raised by the count. */
+/* stock_calls, src/lib.rt:72: Tests a draw. */
+INLINE Result_unit_answer_Refusal stock_calls_check_draw(stock_Stock stock, stock_Label label, uint64_t caller, uint64_t count)
+{
+    Result_unit_answer_Refusal result;
+    bool t5, t7;
+    stock_Label t6;
+    answer_Refusal t8, t9, t12;
+    uint32_t t10;
+    uint64_t t11;
+    t6 = stock.label;
+    t5 = stock_calls_labels_is_same(label, t6);
+    t7 = !t5;
+    if (t7) {
+        t8 = (answer_Refusal){answer_Refusal_label_not_in_use};
+        result = (Result_unit_answer_Refusal){.err = {1u, t8}};
+        return result;
+    }
+    t5 = stock_calls_shares_is_caller(stock, caller);
+    t7 = !t5;
+    if (t7) {
+        t9 = (answer_Refusal){answer_Refusal_no_caller};
+        result = (Result_unit_answer_Refusal){.err = {1u, t9}};
+        return result;
+    }
+    t10 = stock_calls_shares_holding(stock, caller);
+    t11 = (uint64_t)t10;
+    t5 = t11 < count;
+    if (t5) {
+        t12 = (answer_Refusal){answer_Refusal_share_spent};
+        result = (Result_unit_answer_Refusal){.err = {1u, t12}};
+        return result;
+    }
+    result = (Result_unit_answer_Refusal){.ok = {0u}};
+    return result;
+}
+
+/* stock_calls, src/lib.rt:114: A refused draw: no index, and the stock as it was. */
+INLINE stock_Drawn stock_calls_refused_draw(stock_Stock stock, answer_Refusal refusal)
+{
+    stock_Drawn result;
+    uint32_t t3;
+    t3 = answer_Refusal_number(refusal);
+    result = (stock_Drawn){t3, 0ull, 0ull, stock};
+    return result;
+}
+
+/* stock_calls, src/lib.rt:98: An accepted draw: a window from the caller's next index on, which is raised by the count. */
 INLINE stock_Drawn stock_calls_accepted_draw(stock_Stock stock, uint64_t caller, uint64_t count)
 {
     stock_Drawn result;
@@ -10500,59 +12701,73 @@ INLINE stock_Drawn stock_calls_accepted_draw(stock_Stock stock, uint64_t caller,
     return result;
 }
 
-/* stock_calls, src/lib.rt:60: The caller's next `count` indices, as a window. */
+/* stock_calls, src/lib.rt:88: The caller's next `count` indices, as a window. */
 INLINE stock_Drawn stock_calls_draw(stock_Stock stock, stock_Label label, uint64_t caller, uint64_t count)
 {
     stock_Drawn result;
-    stock_Label used;
-    bool t6, t7;
-    uint32_t t8;
-    uint64_t t9;
-    used = stock.label;
-    t6 = stock_calls_labels_is_same(label, used);
-    t7 = !t6;
-    if (t7) {
-        result = stock_calls_refused_draw(stock, 21u);
+    answer_Refusal refusal;
+    Result_unit_answer_Refusal t6;
+    t6 = stock_calls_check_draw(stock, label, caller, count);
+    switch (t6.ok.tag) {
+    case 1:
+        refusal = t6.err.m1;
+        result = stock_calls_refused_draw(stock, refusal);
         return result;
-    }
-    t6 = stock_calls_shares_is_caller(stock, caller);
-    t7 = !t6;
-    if (t7) {
-        result = stock_calls_refused_draw(stock, 14u);
-        return result;
-    }
-    t8 = stock_calls_shares_holding(stock, caller);
-    t9 = (uint64_t)t8;
-    t6 = t9 < count;
-    if (t6) {
-        result = stock_calls_refused_draw(stock, 15u);
-        return result;
+    default:
+        break;
     }
     result = stock_calls_accepted_draw(stock, caller, count);
     return result;
 }
 
-/* stock_calls, src/lib.rt:105: What a draw would return, and the stock that it would leave. */
+/* stock_calls, src/lib.rt:126: What a draw would return, and the stock that it would leave. */
 INLINE stock_Previewed stock_calls_preview(stock_Stock stock, stock_Label label, uint64_t caller, uint64_t count)
 {
     stock_Previewed result;
     stock_Drawn drawn;
-    stock_Stock after;
+    stock_Stock t6;
     drawn = stock_calls_draw(stock, label, caller, count);
-    after = drawn.stock;
-    result = (stock_Previewed){drawn.number, drawn.first, drawn.count, after};
+    t6 = drawn.stock;
+    result = (stock_Previewed){drawn.number, drawn.first, drawn.count, t6};
     return result;
 }
 
-/* stock_calls, src/lib.rt:141: A refused passage: the stock as it was. */
-INLINE stock_OpenedStock stock_calls_refused_passage(stock_Stock stock, uint32_t number)
+/* stock_calls, src/labels.rt:8: Whether a label is above another one: the highest byte in which they differ decides. */
+static bool stock_calls_labels_is_above(stock_Label label, stock_Label other)
 {
-    stock_OpenedStock result;
-    result = (stock_OpenedStock){number, stock};
+    bool result, t8;
+    stock_Label label_slot, other_slot;
+    uint64_t at;
+    uint8_t a, b, t11;
+    char *t9, *t10, *t12, *t13;
+    label_slot = label;
+    other_slot = other;
+    at = 16ull;
+    for (;;) {
+        t8 = 0ull < at;
+        if (!t8) {
+            break;
+        }
+        at = at - 1ull;
+        t9 = (char *)&label_slot.bytes;
+        t10 = t9 + at;
+        t11 = *(uint8_t *)t10;
+        a = t11;
+        t12 = (char *)&other_slot.bytes;
+        t13 = t12 + at;
+        t11 = *(uint8_t *)t13;
+        b = t11;
+        t8 = a != b;
+        if (t8) {
+            result = b < a;
+            return result;
+        }
+    }
+    result = false;
     return result;
 }
 
-/* stock_calls, src/shares.rt:105: What each of the eight callers has not drawn. */
+/* stock_calls, src/shares.rt:76: What each of the eight callers has not drawn. */
 static uint32_8 stock_calls_shares_rest(stock_Stock stock)
 {
     uint32_8 result, each_2;
@@ -10578,38 +12793,66 @@ static uint32_8 stock_calls_shares_rest(stock_Stock stock)
     return result;
 }
 
-/* stock_calls, src/lib.rt:119: Passes a stock to a dealing with another label: each caller keeps its unspent share, as a block of the
- * fresh outputs. */
-INLINE stock_OpenedStock stock_calls_pass(stock_Stock stock, stock_Label label, uint64_t outputs)
+/* stock_calls, src/lib.rt:139: The unspent shares that pass to a dealing, once a passage's tests are met. */
+INLINE Result_uint32_8_answer_Refusal stock_calls_passing_shares(stock_Stock stock, stock_Label label, uint64_t outputs)
 {
-    stock_OpenedStock result;
-    stock_Label used;
+    Result_uint32_8_answer_Refusal result;
     uint32_8 each_2;
-    stock_Stock fresh;
-    bool t7, t8;
-    uint64_t t9;
-    t7 = stock_calls_shares_is_count(32768ull, outputs);
-    t8 = !t7;
-    if (t8) {
-        result = stock_calls_refused_passage(stock, 2u);
+    bool t5, t6;
+    answer_Refusal t7, t9, t11;
+    stock_Label t8;
+    uint64_t t10;
+    t5 = stock_calls_shares_is_count(32768ull, outputs);
+    t6 = !t5;
+    if (t6) {
+        t7 = (answer_Refusal){answer_Refusal_bad_size};
+        result = (Result_uint32_8_answer_Refusal){.err = {1u, t7}};
         return result;
     }
-    used = stock.label;
-    t7 = stock_calls_labels_is_above(label, used);
-    t8 = !t7;
-    if (t8) {
-        result = stock_calls_refused_passage(stock, 20u);
+    t8 = stock.label;
+    t5 = stock_calls_labels_is_above(label, t8);
+    t6 = !t5;
+    if (t6) {
+        t9 = (answer_Refusal){answer_Refusal_label_not_above};
+        result = (Result_uint32_8_answer_Refusal){.err = {1u, t9}};
         return result;
     }
     each_2 = stock_calls_shares_rest(stock);
-    t9 = stock_calls_shares_total(each_2);
-    t7 = outputs < t9;
-    if (t7) {
-        result = stock_calls_refused_passage(stock, 16u);
+    t10 = stock_calls_shares_total(each_2);
+    t5 = outputs < t10;
+    if (t5) {
+        t11 = (answer_Refusal){answer_Refusal_shares_above};
+        result = (Result_uint32_8_answer_Refusal){.err = {1u, t11}};
         return result;
     }
-    fresh = stock_calls_shares_blocks_of(label, stock.callers, each_2);
-    result = (stock_OpenedStock){0u, fresh};
+    result = (Result_uint32_8_answer_Refusal){.ok = {0u, each_2}};
+    return result;
+}
+
+/* stock_calls, src/lib.rt:158: Passes a stock to a dealing with another label: each caller keeps its unspent share, as a block of the
+ * fresh outputs. A refused passage leaves the stock as it was. */
+INLINE stock_OpenedStock stock_calls_pass(stock_Stock stock, stock_Label label, uint64_t outputs)
+{
+    stock_OpenedStock result, t7;
+    uint32_8 each_2;
+    answer_Refusal refusal;
+    Result_uint32_8_answer_Refusal t6;
+    stock_Stock t8;
+    uint32_t t9;
+    t6 = stock_calls_passing_shares(stock, label, outputs);
+    switch (t6.ok.tag) {
+    case 0:
+        each_2 = t6.ok.m1;
+        t8 = stock_calls_shares_blocks_of(label, stock.callers, each_2);
+        t7 = (stock_OpenedStock){0u, t8};
+        break;
+    default:
+        refusal = t6.err.m1;
+        t9 = answer_Refusal_number(refusal);
+        t7 = (stock_OpenedStock){t9, stock};
+        break;
+    }
+    result = t7;
     return result;
 }
 

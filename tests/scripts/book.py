@@ -8,7 +8,8 @@ the book of each document
 - has its contracts, whole: document 01's eight, and those of all other exported calls in document 02's;
 - shows under every statement one proof, which a file of proofs/ declares with that statement as its type;
 - has a sheet of notation of at most 60 lines of at most 140 characters, which explains every keyword, sign and name of the kit that the
-  files and contracts use (document 02's with document 01's sheet), ranks every operator as it binds, and has nothing that they do not use;
+  files, the contracts and what gives an enum's numbers use (document 02's with document 01's sheet), ranks every operator as it binds, and
+  has nothing that they do not use;
 - reads aloud a contract and a statement that the code and the file have (document 01's);
 - says on its first part what it is, has the evidence whole (document 01's), and a place to sign;
 - has a link to every defined name, a target for every link, every id once, and no script;
@@ -203,6 +204,7 @@ def check(volume):
     code = {path: re.sub(r"--[^\n]*", "", text_of(path)) for path in (volume.page, volume.statements)}
     kit = {name.strip("◌") or name for text in code.values() for module, found in re.findall(r"(?m)^use (\S+)\.\{([^}]*)\}$", text)
            if not OWN.match(module) for name in found.split(", ")}
+    kit |= {target[2].strip("◌") or target[2] for item in book.enum for kind, _, target in book.pieces(item) if kind == "kit"}
     own = {part for path in code for name in names[path] for part in [name, *name.strip("◌").split("◌")]}
     own |= set(re.findall(r"(?m)^  (?:pub )?([^\s:({]+) :", "".join(code.values()))) | {"otherwise", "◌otherwise◌"}
     own |= {name for text in code.values() for module, found in re.findall(r"(?m)^use (\S+)\.\{([^}]*)\}$", text)

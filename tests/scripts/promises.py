@@ -73,7 +73,7 @@ ALLOWED = {DOCUMENT: set(), SECOND: {DOCUMENT}, STATEMENTS: {DOCUMENT}, SECOND_S
            BEYOND: PAGES | {STATEMENTS, SECOND_STATEMENTS, ("market", "Bytes")}}
 DATA = ("market", "Bytes", "market_bytes")  # the demo's bytes: a list of numbers and no definition
 # the definitions that give an enum's numbers, and what stands in them: document 01's forms have promises go through them
-ENUM = {"use Rattle.prime.specs.Prime.{prime}", "use Rattle.prime.specs.declared.signed.FromSigned.TheVariants.{Element, OutOfRange}",
+ENUM = {"use Rattle.prime.specs.Prime.{prime}",
         "use Rattle.amounts.specs.declared.WrittenAmount.{WrittenAmount}", "use Rattle.amounts.specs.Calls.{written_as}"}
 ENUM_NUMBERS = ("amounts", "Calls", "written_as")
 OWN = re.compile(r"Rattle\.(?!(?:core|std)\.)")  # a module of this repository, and none of the kit's
@@ -189,7 +189,7 @@ def stands(path, name):
         field = re.escape(name.split(".", 1)[1])
         return bool(re.search(r"(?m)^  (?:pub )?" + field + r"(?=[\s:])", definitions.get(key, "")))
     if path.endswith(".rt"):
-        declared = r"(?:pub )?(?:extern \"C\" )?(?:fn|const|struct|enum) " + re.escape(name) + r"\b"
+        declared = r"(?:pub )?(?:extern \"C\" )?(?:fn|const|static|struct|enum|trait) " + re.escape(name) + r"\b"
     else:
         declared = r"(?:(?:unfoldable|abbrev|pub|record|data) )*" + re.escape(name) + r"(?: [^=\n]*)? :"
     return bool(re.search(r"(?m)^\s*" + declared, text_of(path)))
@@ -463,8 +463,22 @@ faults += [f"{show(key)} is reached by no promise and is no working: it belongs 
 # ---- nothing that a contract says lies in proofs/
 
 PROOFS = re.compile(r"Rattle\.(?!(?:core|std)\.)\w+\.proofs\b")
+OF_LAWS = re.compile(r"(?m)^ghost use (Rattle\.\w+\.proofs\.[\w.]+)\.\{([^}]*)\};\n")
+
+
+def without_proofs_of_laws(code):
+    """The code without the proofs that an impl gives of its trait's laws, which say nothing, and their imports, if nothing else names them."""
+    bare = re.sub(r"(?m)^ *ghost laws = \{[^;]*\};$", "", code)
+    for match in OF_LAWS.finditer(code):
+        rest = bare.replace(match[0], "")
+        if not any(re.search(rf"(?<![\w-]){re.escape(name.strip())}(?![\w-])", rest) for name in match[2].split(",")):
+            bare = rest
+    return bare
+
+
 for path in sorted(glob.glob("crates/*/src/**/*.rt", recursive=True) + glob.glob("crates/*/specs/**/*.antt", recursive=True)):
     code = re.sub(r"(?m)//.*$" if path.endswith(".rt") else r"(?m)--.*$", "", text_of(path))
+    code = without_proofs_of_laws(code) if path.endswith(".rt") else code
     faults += [f"{path} names {name}, and nothing that a contract says may lie in proofs/" for name in sorted(set(PROOFS.findall(code)))]
 
 

@@ -1,6 +1,6 @@
 -- Blocks of two words as columns of bytes. Assumes nothing.
 use mathlib.Core.Path.{◌≡◌, ◌∙◌, sym, ap}
-use mathlib.Core.List.{List, []}
+use mathlib.Core.List.{List, [], ◌∷◌}
 use Prim.Native.Nat.{ℕ, zero, suc, ◌+◌, ◌*◌, ◌/◌, ◌%◌, ◌^◌, ◌<◌}
 use native.Mathlib.Omega.{arith}
 use lib.Bits.{bit_xor, xor_shr, xor_mod}
@@ -71,27 +71,13 @@ columns_of_block s h =
     four_eq (first-four w0 w1) (last-four w0 w1) (first-four w2 w3) (last-four w2 w3) ∙ sym (is_four [] s h.size)
 
 -- the number of a column's four bytes
-pub half_made : {a b x y : ℕ} {l : List ℕ} → length l ≡ 4 → (a ≡ get_or l 0 0) × (a < 256) → (b ≡ get_or l 1 0) × (b < 256)
-    → (x ≡ get_or l 2 0) × (x < 256) → (y ≡ get_or l 3 0) × (y < 256)
-    → IsHalf (a + b * 256 + x * 65536 + y * 16777216) l
+pub half_made : (l : List ℕ) → length l ≡ 4 → get_or l 0 0 < 256 → get_or l 1 0 < 256 → get_or l 2 0 < 256 → get_or l 3 0 < 256
+    → IsHalf (get_or l 0 0 + get_or l 1 0 * 256 + get_or l 2 0 * 65536 + get_or l 3 0 * 16777216) l
 unfolding le_bytes
-half_made {a} {b} {x} {y} {l} e p q r s =
-    record {
-      bytes = four_eq (e0 ∙ p.0) (e1 ∙ q.0) (e2 ∙ r.0) (e3 ∙ s.0) ∙ sym (is_four 0 l e);
-      below = omega (arith, p.1, q.1, r.1, s.1);
-    }
+half_made l e p q r s = record { bytes = digits _ _ _ _ p q r s ∙ sym (is_four 0 l e); below = omega arith }
   where
-    e0 : (a + b * 256 + x * 65536 + y * 16777216) % 256 ≡ a
-    e0 = omega (arith, p.1)
-
-    e1 : (a + b * 256 + x * 65536 + y * 16777216) / 256 % 256 ≡ b
-    e1 = omega (arith, p.1, q.1)
-
-    e2 : (a + b * 256 + x * 65536 + y * 16777216) / 256 / 256 % 256 ≡ x
-    e2 = omega (arith, p.1, q.1, r.1)
-
-    e3 : (a + b * 256 + x * 65536 + y * 16777216) / 256 / 256 / 256 % 256 ≡ y
-    e3 = omega (arith, p.1, q.1, r.1, s.1)
+    digits : (a b x y : ℕ) → a < 256 → b < 256 → x < 256 → y < 256 → le_bytes 4 (a + b * 256 + x * 65536 + y * 16777216) ≡ a ∷ b ∷ x ∷ y ∷ []
+    digits a b x y p q r s = four_eq (omega arith) (omega arith) (omega arith) (omega arith)
 
 low_half : (x y : ℕ) → le_bytes 4 (x + y * 4294967296) ≡ le_bytes 4 x
 unfolding le_bytes

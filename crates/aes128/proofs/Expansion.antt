@@ -1,18 +1,27 @@
 -- The key schedule's schedule_words follow FIPS 197's recurrence, and four of them at a time are `next_key`. Assumes nothing.
-use mathlib.Core.Path.{◌≡◌, ◌∙◌, sym, ap}
+use mathlib.Core.Path.{◌≡◌, refl, ◌∙◌, sym, ap}
 use mathlib.Core.List.{List, [], ◌∷◌}
+use mathlib.Core.Logic.{⊎_elim}
 use Prim.Native.Nat.{ℕ, zero, suc, ◌+◌, ◌-◌, ◌*◌, ◌/◌, ◌%◌, ◌<◌, ◌≤◌}
-use native.Mathlib.Nat.{zero-add, suc-add}
+use native.Mathlib.Nat.{zero-add, suc-add, eq-or-lt_of_le}
 use native.Mathlib.Omega.{arith}
+use Rattle.std.proofs.Common.{add-one}
+use borrow.Author.Count.{below_more}
 use borrow.Author.Tests.{ne_eqb}
-use lib.Dec.{lit<}
-use lib.ListN.{length, get_or, length-append, get_or-append}
-use lib.Seq.{get_or_at}
+use lib.Dec.{eqb, eqb→eq}
+use lib.ListN.{length, get_or, set, length-set, length-append, get_or-append}
+use lib.Seq.{get_or_at, get_or-set_same, get_or-set_other, ext_get_or}
 use Rattle.aes_sbox.specs.Byte.{xtime}
+use Rattle.aes_sbox.proofs.Every.{at}
 use Rattle.aes128.specs.State.{xor_word}
 use Rattle.aes128.specs.Cipher.{rot_word, sub_word, power, temp, next_word, schedule_words, key_of, keys_of, key_expansion}
 use Rattle.aes128.specs.Inner.Steps.{next_key}
 use Rattle.aes128.proofs.Words.{is_four, four_eq}
+
+pub keys_size : (w : List (List ℕ)) (n : ℕ) → length (keys_of w n) ≡ n
+unfolding keys_of
+keys_size w zero = refl
+keys_size w (suc n) = simp length-append (omega (arith, keys_size w n))
 
 module _ (key : List (List ℕ)) (size : length key ≡ 4) where
   pub words_size : (n : ℕ) → length (schedule_words key n) ≡ n + 4
@@ -86,13 +95,49 @@ module _ (key : List (List ℕ)) (size : length key ≡ 4) where
       four_eq (was 40 0 0 (omega arith) (omega arith)) (was 40 0 1 (omega arith) (omega arith))
       (was 40 0 2 (omega arith) (omega arith)) (was 40 0 3 (omega arith) (omega arith)) ∙ sym (is_four [] key size)
 
--- the eleven round keys, each from the one before
-pub expanded : {key k1 k2 k3 k4 k5 k6 k7 k8 k9 k10 : List (List ℕ)} → length key ≡ 4
-    → k1 ≡ next_key 0x01 key → k2 ≡ next_key 0x02 k1 → k3 ≡ next_key 0x04 k2 → k4 ≡ next_key 0x08 k3 → k5 ≡ next_key 0x10 k4
-    → k6 ≡ next_key 0x20 k5 → k7 ≡ next_key 0x40 k6 → k8 ≡ next_key 0x80 k7 → k9 ≡ next_key 0x1b k8 → k10 ≡ next_key 0x36 k9
-    → key ∷ k1 ∷ k2 ∷ k3 ∷ k4 ∷ k5 ∷ k6 ∷ k7 ∷ k8 ∷ k9 ∷ k10 ∷ [] ≡ key_expansion key
-unfolding xtime power keys_of key_expansion
-expanded {key} size e1 e2 e3 e4 e5 e6 e7 e8 e9 e10 =
-    let first = zeroth key size in
-    let k = next key size in
-    cc (k 0 (lit< tt), k 1 (lit< tt), k 2 (lit< tt), k 3 (lit< tt), k 4 (lit< tt), k 5 (lit< tt), k 6 (lit< tt), k 7 (lit< tt), k 8 (lit< tt), k 9 (lit< tt))
+-- the first round keys, n and key 0, stand among eleven
+pub record Expanded (key : List (List ℕ)) (keys : List (List (List ℕ))) (n : ℕ) : Type 0 where
+  pub size : length keys ≡ 11
+  pub made : (j : ℕ) → j < n + 1 → get_or keys j [] ≡ key_of (schedule_words key 40) j
+
+pub expanded_none : {key : List (List ℕ)} {keys : List (List (List ℕ))} → length key ≡ 4 → length keys ≡ 11 → get_or keys 0 [] ≡ key
+    → Expanded key keys 0
+expanded_none {key} {keys} e size is = record { size = size; made = at }
+  where
+    at : (j : ℕ) → j < 1 → get_or keys j [] ≡ key_of (schedule_words key 40) j
+    at zero h = is ∙ sym (zeroth key e)
+    at (suc j) h = absurd (omega arith)
+
+-- one more round key
+pub expanded_next : {key : List (List ℕ)} {keys : List (List (List ℕ))} {i : ℕ} {k : List (List ℕ)} → length key ≡ 4 → i < 10 → Expanded key keys i
+    → k ≡ next_key (power i) (get_or keys i []) → Expanded key (set keys (i + 1) k) (i + 1)
+expanded_next {key} {keys} {i} {k} e hi h is =
+    record { size = length-set keys (i + 1) k ∙ h.size; made = below_more _ _ before here }
+  where
+    before : (j : ℕ) → j < i + 1 → get_or (set keys (i + 1) k) j [] ≡ key_of (schedule_words key 40) j
+    before j l = get_or-set_other keys (i + 1) j k [] (omega arith) ∙ h.made j l
+
+    here : get_or (set keys (i + 1) k) (i + 1) [] ≡ key_of (schedule_words key 40) (i + 1)
+    here =
+        get_or-set_same keys (i + 1) k [] (omega (arith, h.size))
+        ∙ is ∙ ap (next_key (power i)) (h.made i (omega arith)) ∙ sym (rw (← add-one i) at (next key e i hi))
+
+-- the round constants are the powers of x
+pub constant : (i : ℕ) → i < 10 → get_or (0x01 ∷ 0x02 ∷ 0x04 ∷ 0x08 ∷ 0x10 ∷ 0x20 ∷ 0x40 ∷ 0x80 ∷ 0x1b ∷ 0x36 ∷ []) i 0 ≡ power i
+unfolding xtime power
+constant i h = eqb→eq _ _ (at (λ i v. eqb v (power i)) 10 (0x01 ∷ 0x02 ∷ 0x04 ∷ 0x08 ∷ 0x10 ∷ 0x20 ∷ 0x40 ∷ 0x80 ∷ 0x1b ∷ 0x36 ∷ []) tt i h)
+
+keys_at : (w : List (List ℕ)) (n j : ℕ) → j < n → get_or (keys_of w n) j [] ≡ key_of w j
+unfolding keys_of
+keys_at w zero j h = absurd (omega arith)
+keys_at w (suc n) j h =
+    let below : j ≤ n = omega arith in
+    ⊎_elim (λ q. get_or_at (keys_of w n) (key_of w n) [] [] j (keys_size w n ∙ omega arith) ∙ ap (key_of w) (omega arith))
+    (λ q. get_or-append (keys_of w n) _ [] j (omega (arith, keys_size w n)) ∙ keys_at w n j q) (eq-or-lt_of_le below)
+
+-- all eleven
+pub expanded_all : {key : List (List ℕ)} {keys : List (List (List ℕ))} {n : ℕ} → Expanded key keys n → 10 ≤ n → keys ≡ key_expansion key
+unfolding key_expansion
+expanded_all {key} {keys} h all =
+    ext_get_or [] keys _ (h.size ∙ sym (keys_size _ 11))
+    (λ j l. h.made j (omega (arith, h.size)) ∙ sym (keys_at (schedule_words key 40) 11 j (omega (arith, h.size))))

@@ -20,9 +20,6 @@ pub record Held (k : List (List (List ℕ))) (words : List ℕ) (n : ℕ) : Type
   pub key_0 : block_key words 0 ≡ get_or k 0 []
   pub wide : (j : ℕ) → j < n → wide_key words (4 * j + 2) ≡ get_or k (j + 1) []
 
-pub held_none : {k : List (List (List ℕ))} {words : List ℕ} → length words ≡ 40 → block_key words 0 ≡ get_or k 0 [] → Held k words 0
-held_none e f = record { size = e; key_0 = f; wide = λ j h. absurd (omega arith) }
-
 -- four words written
 abbrev pub four_set : List ℕ → ℕ → ℕ → ℕ → ℕ → ℕ → List ℕ
 four_set words at a b x y = set (set (set (set words at a) (at + 1) b) (at + 2) x) (at + 3) y

@@ -6,10 +6,8 @@ use native.Mathlib.Omega.{arith}
 use lib.Bits.{bit_xor, xor_comm, xor_shifted, xor_shr, xor_zero_r}
 use Rattle.field.specs.Bytes.{le_bytes, columns_of}
 use Rattle.aes_sbox.specs.Byte.{s_box}
-use Rattle.aes_sbox.specs.Inner.Tables.{RoundTables}
 use Rattle.aes_sbox.proofs.Bounds.{sbox_lt}
 use Rattle.aes128.specs.State.{xor_word, xor_state}
-use Rattle.aes128.specs.Inner.Steps.{IsEntry}
 use Rattle.aes128.specs.Inner.Blocks.{IsHalf, LastWord}
 use Rattle.aes128.proofs.Words.{four_eq}
 use Rattle.aes128.proofs.Wide.{xor_swap}
@@ -29,15 +27,18 @@ four-placed p q r s hp hq hr =
     ∙ apart s 24 (r * 2 ^ 16 + (q * 2 ^ 8 + p)) (omega arith)
     ∙ omega arith
 
--- a column of the last round, from the tables' entries for its four bytes
-pub last-column : {t : List ℕ} → RoundTables t → {a b x y ta tb tx ty : ℕ} → IsEntry t 1024 a ta → IsEntry t 1024 b tb
-    → IsEntry t 1280 x tx → IsEntry t 1280 y ty
+-- a column of the last round, from the four bytes' places in the halves of words
+pub last-column : (a b x y : ℕ) {ta tb tx ty : ℕ} → ta ≡ s_box a + s_box a * 2 ^ 40 → tb ≡ s_box b + s_box b * 2 ^ 40
+    → tx ≡ s_box x * 2 ^ 16 + s_box x * 2 ^ 56 → ty ≡ s_box y * 2 ^ 16 + s_box y * 2 ^ 56
     → IsHalf (bit_xor (bit_xor (bit_xor (ta % 2 ^ 32) (ty / 2 ^ 32)) (tb / 2 ^ 32)) (tx % 2 ^ 32)) (s_box a ∷ s_box b ∷ s_box x ∷ s_box y ∷ [])
-last-column tables {a} {b} {x} {y} ea eb ex ey =
+last-column a b x y {ta} {tb} {tx} {ty} ea eb ex ey =
     let e = four-placed (s_box a) (s_box b) (s_box x) (s_box y) (sbox_lt a) (sbox_lt b) (sbox_lt x) in
-    let h = half_made {l = s_box a ∷ s_box b ∷ s_box x ∷ s_box y ∷ []} refl (refl, sbox_lt a) (refl, sbox_lt b) (refl, sbox_lt x) (refl, sbox_lt y) in
-    rw (ea.word, eb.word, ex.word, ey.word)
-    (rw (tables.last0 a ea.byte, tables.last1 b eb.byte, tables.last2 x ex.byte, tables.last3 y ey.byte, e) h)
+    let h = half_made (s_box a ∷ s_box b ∷ s_box x ∷ s_box y ∷ []) refl (sbox_lt a) (sbox_lt b) (sbox_lt x) (sbox_lt y) in
+    let pa : ta % 2 ^ 32 ≡ s_box a = omega (arith, sbox_lt a) in
+    let pb : tb / 2 ^ 32 ≡ s_box b * 2 ^ 8 = omega (arith, sbox_lt b) in
+    let px : tx % 2 ^ 32 ≡ s_box x * 2 ^ 16 = omega (arith, sbox_lt x) in
+    let py : ty / 2 ^ 32 ≡ s_box y * 2 ^ 24 = omega (arith, sbox_lt y) in
+    rw (pa, pb, px, py, e) h
 
 module _ (k : ℕ) {c0 c1 : ℕ} (h0 : c0 < 2 ^ 32) (h1 : c1 < 2 ^ 32) where
   abbrev sum : ℕ

@@ -8,7 +8,7 @@ use native.Mathlib.Nat.{eq-or-lt_of_le, mod-lt}
 use native.Mathlib.Omega.{arith}
 use lib.Bits.{bit_xor, xor_lt}
 use lib.Dec.{eqb, ltb, lit<}
-use lib.ListN.{length, get_or, length-append, get_or-append, get_or-eq_default}
+use lib.ListN.{length, get_or, get_or-append, get_or-eq_default}
 use borrow.Author.Tests.{ltb-true, ltb-false}
 use lib.Seq.{get_or_at}
 use Rattle.field.specs.Bytes.{le_bytes, columns_of}
@@ -22,7 +22,7 @@ use Rattle.aes128.specs.Inner.Sizes.{IsWord, IsState}
 use Rattle.algebra.specs.Choice.{choose}
 use Rattle.aes128.specs.Cipher.{sub_bytes, shift_rows, round_key, cipher, power, temp, schedule_words, keys_of, key_expansion, aes}
 use Rattle.aes128.proofs.Columns.{columns_of_block}
-use Rattle.aes128.proofs.Expansion.{words_size}
+use Rattle.aes128.proofs.Expansion.{words_size, keys_size}
 
 pub four_bytes : {a b x y : ℕ} → a < 256 → b < 256 → x < 256 → y < 256 → IsWord (a ∷ b ∷ x ∷ y ∷ [])
 four_bytes {a} {b} {x} {y} ha hb hx hy = record { size = refl; bytes = at }
@@ -118,11 +118,6 @@ with_last : {A : Type 0} (P : A → Type 0) (l : List A) (x d : A) (n : ℕ) →
     → (j : ℕ) → j ≤ n → P (get_or (l ++ (x ∷ [])) j d)
 with_last P l x d n e h p j b =
     ⊎_elim (λ q. rw (get_or_at l x [] d j (omega arith)) p) (λ q. rw (get_or-append l (x ∷ []) d j (omega arith)) (h j q)) (eq-or-lt_of_le b)
-
-keys_size : (w : List (List ℕ)) (n : ℕ) → length (keys_of w n) ≡ n
-unfolding keys_of
-keys_size w zero = refl
-keys_size w (suc n) = simp length-append (omega (arith, keys_size w n))
 
 module _ (key : List (List ℕ)) (is : IsState key) where
   words_are : (n j : ℕ) → j < n + 4 → IsWord (get_or (schedule_words key n) j [])

@@ -2,20 +2,16 @@
 use mathlib.Core.Path.{◌≡◌, ◌∙◌, sym, ap}
 use mathlib.Core.List.{List, [], ◌∷◌}
 use Prim.Native.Nat.{ℕ, ◌+◌, ◌*◌, ◌/◌, ◌%◌, ◌^◌, ◌<◌}
-use native.Mathlib.Nat.{zero-add}
 use native.Mathlib.Omega.{arith}
 use lib.Bits.{bit_xor, xor_shr, xor_mod, xor_comm}
-use lib.ListN.{length}
 use Rattle.field.proofs.Xor.{xor_assoc}
 use Rattle.aes_sbox.specs.Byte.{s_box}
 use Rattle.aes_sbox.specs.Inner.Wide.{wide_rows}
-use Rattle.aes_sbox.specs.Inner.Tables.{RoundTables, mixed0, mixed1, mixed2, mixed3}
+use Rattle.aes_sbox.specs.Inner.Tables.{mixed}
 use Rattle.aes_sbox.proofs.Columns.{rows_of_column}
-use Rattle.aes128.specs.State.{column, xor_word}
+use Rattle.aes128.specs.State.{xor_word}
 use Rattle.aes128.specs.Cipher.{mix_column}
-use Rattle.aes128.specs.Inner.Words.{wide_key}
-use Rattle.aes128.specs.Inner.Steps.{IsEntry}
-use Rattle.aes128.proofs.Words.{is_four, four_eq}
+use Rattle.aes128.proofs.Words.{four_eq}
 
 -- the rows of an exclusive or
 pub wide-xor : (a b : ℕ) → wide_rows (bit_xor a b) ≡ xor_word (wide_rows a) (wide_rows b)
@@ -40,27 +36,13 @@ ordered k a b x y =
     ∙ ap (λ v. bit_xor (bit_xor v x) k) (xor_swap a y b)
     ∙ ap (λ v. bit_xor v k) (xor_swap (bit_xor a b) y x)
 
--- the rows of the tables' entries for a byte
-module _ {t : List ℕ} (tables : RoundTables t) where
-  pub entry_0 : {x w : ℕ} → IsEntry t 0 x w → wide_rows w ≡ mixed0 x
-  entry_0 {x} e = rw (e.word, zero-add) (tables.mix0 x e.byte)
-
-  pub entry_1 : {x w : ℕ} → IsEntry t 256 x w → wide_rows w ≡ mixed1 x
-  entry_1 {x} e = rw e.word (tables.mix1 x e.byte)
-
-  pub entry_2 : {x w : ℕ} → IsEntry t 512 x w → wide_rows w ≡ mixed2 x
-  entry_2 {x} e = rw e.word (tables.mix2 x e.byte)
-
-  pub entry_3 : {x w : ℕ} → IsEntry t 768 x w → wide_rows w ≡ mixed3 x
-  entry_3 {x} e = rw e.word (tables.mix3 x e.byte)
-
-  -- a column of MixColumns and AddRoundKey, from the entries for its four bytes
-  pub mixed-column : (k : ℕ) {a b x y ta tb tx ty : ℕ} {r : List ℕ} → r ≡ wide_rows (bit_xor (bit_xor (bit_xor (bit_xor k ta) ty) tb) tx)
-      → IsEntry t 0 a ta → IsEntry t 256 b tb → IsEntry t 512 x tx → IsEntry t 768 y ty
-      → r ≡ xor_word (mix_column (s_box a ∷ s_box b ∷ s_box x ∷ s_box y ∷ [])) (wide_rows k)
-  unfolding xor_word mix_column
-  mixed-column k {ta = ta} {tb = tb} {tx = tx} {ty = ty} e ea eb ex ey =
-      e ∙ ap wide_rows (ordered k ta tb tx ty) ∙ simp (wide-xor, entry_0 ea, entry_1 eb, entry_2 ex, entry_3 ey)
+-- a column of MixColumns and AddRoundKey, from what its four bytes add
+pub mixed-column : (k a b x y ta tb tx ty : ℕ) {r : List ℕ} → r ≡ wide_rows (bit_xor (bit_xor (bit_xor (bit_xor k ta) ty) tb) tx)
+    → wide_rows ta ≡ mixed 0 a → wide_rows tb ≡ mixed 1 b → wide_rows tx ≡ mixed 2 x → wide_rows ty ≡ mixed 3 y
+    → r ≡ xor_word (mix_column (s_box a ∷ s_box b ∷ s_box x ∷ s_box y ∷ [])) (wide_rows k)
+unfolding xor_word mix_column
+mixed-column k a b x y ta tb tx ty e ea eb ex ey =
+    e ∙ ap wide_rows (ordered k ta tb tx ty) ∙ simp (wide-xor, ea, eb, ex, ey)
 
 -- a wide column that is made of four bytes
 pub wide-made : {a b x y : ℕ} → a < 256 → b < 256 → x < 256 → y < 256
@@ -68,8 +50,3 @@ pub wide-made : {a b x y : ℕ} → a < 256 → b < 256 → x < 256 → y < 256
 wide-made {a} {b} {x} {y} p q r s =
     let e : a + (b + x * 256) * 2 ^ 24 + y * 2 ^ 56 ≡ a + b * 2 ^ 24 + x * 2 ^ 32 + y * 2 ^ 56 = omega arith in
     ap wide_rows e ∙ rows_of_column a b x y p q r s
-
--- a round key of four wide columns
-pub wide_key_lem : (w0 w1 w2 w3 : ℕ) {k : List (List ℕ)} → length k ≡ 4 → wide_rows w0 ≡ column k 0 → wide_rows w1 ≡ column k 1
-    → wide_rows w2 ≡ column k 2 → wide_rows w3 ≡ column k 3 → wide_key (w0 ∷ w1 ∷ w2 ∷ w3 ∷ []) 0 ≡ k
-wide_key_lem w0 w1 w2 w3 {k} e e0 e1 e2 e3 = four_eq e0 e1 e2 e3 ∙ sym (is_four [] k e)

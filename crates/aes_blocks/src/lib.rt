@@ -2,25 +2,27 @@
 #![tactic(auto)]
 
 ghost use Rattle.std.specs.Prelude.{◌≡◌};
-ghost use Rattle.aes_sbox.specs.Inner.Tables.{RoundTables};
 ghost use Rattle.aes128.specs.Inner.Blocks.{cipher_of};
 
+use aes_sbox::Tables;
 use field::Block;
 
 mod round;
 
-pub use round::{entry, first_key, full_round, last_round, rows};
+pub use round::{first_key, full_round, last_round, rows};
 
-// Two blocks.
+// Two values: what is made of two blocks in alternation.
 #[derive(Clone, Copy)]
-pub struct TwoBlocks {
-    pub one: Block,
-    pub other: Block,
+pub struct Two<T> {
+    pub one: T,
+    pub other: T,
 }
 
+// Tables and round keys stay two parameters: trees lend eight lists of round keys beside one set of tables. The rounds are written out:
+// in a loop two ciphers take 1,793 instructions where they take 1,112.
+
 // The cipher of a block.
-pub fn encrypt(tables: &[u64; 1536], keys: &[u64; 40], s: Block) -> Block
-    requires { RoundTables tables.now }
+pub fn encrypt(tables: Tables, keys: &[u64; 40], s: Block) -> Block
     ensures { result ≡ cipher_of keys.now s }
 {
     let a0 = first_key(s, keys);
@@ -39,13 +41,12 @@ pub fn encrypt(tables: &[u64; 1536], keys: &[u64; 40], s: Block) -> Block
 
 // The ciphers of two blocks, each under round keys of its own, in alternation.
 pub fn encrypt_two(
-    tables: &[u64; 1536],
+    tables: Tables,
     one_keys: &[u64; 40],
     other_keys: &[u64; 40],
     one: Block,
     other: Block,
-) -> TwoBlocks
-    requires { RoundTables tables.now }
+) -> Two<Block>
     ensures { (result.one ≡ cipher_of one_keys.now one) × (result.other ≡ cipher_of other_keys.now other) }
 {
     let a0 = first_key(one, one_keys);
@@ -70,7 +71,7 @@ pub fn encrypt_two(
     let b9 = full_round(tables, b8, other_keys, 34);
     let a10 = last_round(tables, a9, one_keys);
     let b10 = last_round(tables, b9, other_keys);
-    TwoBlocks {
+    Two {
         one: Block::of_columns(a10),
         other: Block::of_columns(b10),
     }

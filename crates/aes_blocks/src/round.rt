@@ -2,13 +2,13 @@
 ghost use Rattle.std.specs.Prelude.{◌≡◌, ◌+◌, ◌^◌, ◌<◌, ◌≤◌};
 ghost use Rattle.field.specs.Bytes.{le_bytes, columns_of};
 ghost use Rattle.aes_sbox.specs.Inner.Wide.{wide_rows};
-ghost use Rattle.aes_sbox.specs.Inner.Tables.{RoundTables};
 ghost use Rattle.aes128.specs.State.{xor_word};
 ghost use Rattle.aes128.specs.Cipher.{sub_bytes, shift_rows, mix_column, add_round_key};
 ghost use Rattle.aes128.specs.Inner.Words.{wide_key, block_key};
-ghost use Rattle.aes128.specs.Inner.Steps.{IsEntry, sub_shifted, Rounded};
+ghost use Rattle.aes128.specs.Inner.Steps.{sub_shifted, full_round};
 ghost use Rattle.aes128.specs.Inner.Blocks.{IsHalf, LastWord};
 
+use aes_sbox::Tables;
 use field::Block;
 
 // The rows of a wide column.
@@ -23,36 +23,23 @@ pub fn rows(w: u64) -> [u8; 4]
     ]
 }
 
-// The entry for a byte of the table that begins at a place.
-pub fn entry(tables: &[u64; 1536], at: usize, x: u8) -> u64
-    requires { at + 256 ≤ 1536 }
-    ensures { IsEntry tables.now at x result }
-{
-    tables[at + (x as usize)]
-}
-
 // Column c of a round: SubBytes, ShiftRows and MixColumns of a state, and the round key's column.
-fn mix_column(tables: &[u64; 1536], s: &[[u8; 4]; 4], c: usize, k: u64) -> [u8; 4]
-    requires { RoundTables tables.now × (c < 4) }
+fn mix_column(tables: Tables, s: &[[u8; 4]; 4], c: usize, k: u64) -> [u8; 4]
+    requires { c < 4 }
     ensures { result ≡ xor_word (mix_column (sub_shifted s.now c)) (wide_rows k) }
 {
     rows(
-        k ^ entry(tables, 0, s[c][0])
-            ^ entry(tables, 768, s[(c + 3) % 4][3])
-            ^ entry(tables, 256, s[(c + 1) % 4][1])
-            ^ entry(tables, 512, s[(c + 2) % 4][2]),
+        k ^ tables.mixed(0, s[c][0])
+            ^ tables.mixed(3, s[(c + 3) % 4][3])
+            ^ tables.mixed(1, s[(c + 1) % 4][1])
+            ^ tables.mixed(2, s[(c + 2) % 4][2]),
     )
 }
 
 // A round with all four steps, whose round key's columns begin at a place.
-pub fn full_round(
-    tables: &[u64; 1536],
-    s: [[u8; 4]; 4],
-    keys: &[u64; 40],
-    at: usize,
-) -> [[u8; 4]; 4]
-    requires { RoundTables tables.now × (at + 4 ≤ 40) }
-    ensures { Rounded tables.now s (wide_key keys.now at) result }
+pub fn full_round(tables: Tables, s: [[u8; 4]; 4], keys: &[u64; 40], at: usize) -> [[u8; 4]; 4]
+    requires { at + 4 ≤ 40 }
+    ensures { result ≡ full_round s (wide_key keys.now at) }
 {
     let c0 = mix_column(tables, &s, 0, keys[at]);
     let c1 = mix_column(tables, &s, 1, keys[at + 1]);
@@ -62,14 +49,14 @@ pub fn full_round(
 }
 
 // Column c of the last round without its round key, as the four low bytes of a word.
-fn last_column(tables: &[u64; 1536], s: &[[u8; 4]; 4], c: usize) -> u64
-    requires { RoundTables tables.now × (c < 4) }
+fn last_column(tables: Tables, s: &[[u8; 4]; 4], c: usize) -> u64
+    requires { c < 4 }
     ensures { IsHalf result (sub_shifted s.now c) }
 {
-    entry(tables, 1024, s[c][0]) % 0x1_0000_0000
-        ^ entry(tables, 1280, s[(c + 3) % 4][3]) / 0x1_0000_0000
-        ^ entry(tables, 1024, s[(c + 1) % 4][1]) / 0x1_0000_0000
-        ^ entry(tables, 1280, s[(c + 2) % 4][2]) % 0x1_0000_0000
+    tables.low_rows(s[c][0]) % 0x1_0000_0000
+        ^ tables.high_rows(s[(c + 3) % 4][3]) / 0x1_0000_0000
+        ^ tables.low_rows(s[(c + 1) % 4][1]) / 0x1_0000_0000
+        ^ tables.high_rows(s[(c + 2) % 4][2]) % 0x1_0000_0000
 }
 
 // The exclusive or of a word and of the word whose halves are two columns.
@@ -81,8 +68,7 @@ fn last_word(k: u64, c0: u64, c1: u64) -> u64
 }
 
 // The last round, which has no MixColumns.
-pub fn last_round(tables: &[u64; 1536], s: [[u8; 4]; 4], keys: &[u64; 40]) -> [[u8; 4]; 4]
-    requires { RoundTables tables.now }
+pub fn last_round(tables: Tables, s: [[u8; 4]; 4], keys: &[u64; 40]) -> [[u8; 4]; 4]
     ensures { result ≡ add_round_key (shift_rows (sub_bytes s)) (block_key keys.now 38) }
 {
     let c0 = last_column(tables, &s, 0);

@@ -2,9 +2,7 @@
 use mathlib.Core.Path.{◌≡◌}
 use mathlib.Core.List.{[], ◌∷◌}
 use Prim.Native.Nat.{ℕ, ◌+◌, ◌*◌, ◌/◌, ◌%◌, ◌^◌, ◌<◌}
-use native.Mathlib.Nat.{mod-lt}
 use native.Mathlib.Omega.{arith}
-use lib.Dec.{lit<}
 use Rattle.aes_sbox.specs.Inner.Wide.{wide_rows}
 use Rattle.aes_sbox.specs.Inner.Tables.{wide_column, half_turned}
 
@@ -20,13 +18,6 @@ rows_of_column a b x y ha hb hx hy =
     let e2 : (x + y * 2 ^ 24) % 2 ^ 8 ≡ x = omega arith in
     let e3 : y % 2 ^ 8 ≡ y = omega arith in
     rw (e0, q1, e1, q2, e2, q3, e3)
-
-two_halves : (r q : ℕ) → r < 2 ^ 32 → q < 2 ^ 32 → r * 2 ^ 32 + q < 2 ^ 64
-two_halves r q h k = omega arith
-
--- the halves exchanged are a word's
-pub halves_fit : {w : ℕ} → w < 2 ^ 64 → w % 2 ^ 32 * 2 ^ 32 + w / 2 ^ 32 < 2 ^ 64
-halves_fit {w} h = two_halves (w % 2 ^ 32) (w / 2 ^ 32) (mod-lt w (lit< tt)) (omega arith)
 
 -- the halves of a wide column exchanged: its rows moved down by two
 pub half_turned_column : (a b x y : ℕ) → a < 256 → b < 256 → x < 256 → y < 256 → half_turned (wide_column a b x y) ≡ wide_column x y a b

@@ -2,16 +2,15 @@
 use mathlib.Core.Path.{◌≡◌, refl, ◌∙◌, ap}
 use mathlib.Core.Bool.{Bool, true, false}
 use mathlib.Core.List.{List, [], ◌∷◌}
-use Prim.Native.Nat.{ℕ, suc, ◌+◌, ◌*◌, ◌/◌, ◌%◌, ◌^◌, ◌<◌, ◌≤◌}
+use Prim.Native.Nat.{ℕ, zero, suc, ◌+◌, ◌*◌, ◌/◌, ◌%◌, ◌^◌, ◌<◌, ◌≤◌}
 use native.Mathlib.Omega.{arith}
 use borrow.Author.Tests.{eqb-true, eqb-false}
 use lib.Dec.{eqb, lit<}
 use lib.ListN.{length, get_or, set, length-set}
 use lib.Seq.{get_or-set_same, get_or-set_other}
 use Rattle.aes_sbox.specs.Byte.{mul_bytes, s_box}
-use Rattle.aes_sbox.specs.Table.{SBoxTable}
 use Rattle.aes_sbox.specs.Inner.Wide.{wide_rows}
-use Rattle.aes_sbox.specs.Inner.Tables.{wide_column, half_turned, RoundTables}
+use Rattle.aes_sbox.specs.Inner.Tables.{mixed, wide_column, half_turned, RoundTables}
 use Rattle.aes_sbox.proofs.Bounds.{sbox_lt}
 use Rattle.aes_sbox.proofs.Columns.{rows_of_column, half_turned_column}
 use Rattle.aes_sbox.proofs.Bytes.{twice_lt, thrice_lt}
@@ -55,28 +54,29 @@ filled_next {t} {p} {x} {k} {at} {v} f q hk hx e ev =
         let other : i ≡ at → ⊥ = eqb-false i at z in
         get_or-set_other t at i v 0 other ∙ f.entries i h (omega arith)
 
-module _ {t sb : List ℕ} {x s d e m0 m1 m2 m3 l0 l1 : ℕ} (f : Filled t (6 * x)) (hx : x < 256) (table : SBoxTable sb) (es : (s ≡ get_or sb x 0) × (s < 256))
+module _ {t : List ℕ} {x s d e m0 m1 m2 m3 : ℕ} (f : Filled t (6 * x)) (hx : x < 256) (es : s ≡ s_box x)
     (ed : (d ≡ mul_bytes 2 s) × (d < 256)) (ee : (e ≡ mul_bytes 3 s) × (e < 256)) (e0 : m0 ≡ wide_column d s s e) (e1 : m1 ≡ wide_column e d s s)
-    (e2 : m2 ≡ half_turned m0) (e3 : m3 ≡ half_turned m1) (e4 : l0 ≡ s + s * 2 ^ 40) (e5 : l1 ≡ s * 2 ^ 16 + s * 2 ^ 56) where
-  is-value : s ≡ s_box x
-  is-value = es.0 ∙ table.entry x hx
+    (e2 : m2 ≡ half_turned m0) (e3 : m3 ≡ half_turned m1) where
+  is-byte : s < 256
+  is-byte = rw es (sbox_lt x)
 
   entry_is : (k : ℕ) → get_or (entries_of s d e) k 0 ≡ entry_at k x
   unfolding entry_at
-  entry_is k = rw (ed.0, ee.0, is-value)
+  entry_is k = rw (ed.0, ee.0, es)
 
   -- the entries of one more byte
-  pub filled-byte : Filled (set (set (set (set (set (set t x m0) (256 + x) m1) (512 + x) m2) (768 + x) m3) (1024 + x) l0) (1280 + x) l1) (6 * (x + 1))
+  pub filled-byte : Filled (set (set (set (set (set (set t x m0) (256 + x) m1) (512 + x) m2) (768 + x) m3) (1024 + x) (s + s * 2 ^ 40)) (1280 + x) (s * 2 ^ 16 + s * 2 ^ 56))
+      (6 * (x + 1))
   unfolding entries_of
   filled-byte =
       let f0 = filled_next {x = x} {k = 0} {at = x} f (omega arith) (lit< tt) hx (omega arith) (e0 ∙ entry_is 0) in
       let f1 = filled_next {x = x} {k = 1} {at = 256 + x} f0 (omega arith) (lit< tt) hx (omega arith) (e1 ∙ entry_is 1) in
-      let v2 = e2 ∙ ap half_turned e0 ∙ half_turned_column d s s e ed.1 es.1 es.1 ee.1 in
-      let v3 = e3 ∙ ap half_turned e1 ∙ half_turned_column e d s s ee.1 ed.1 es.1 es.1 in
+      let v2 = e2 ∙ ap half_turned e0 ∙ half_turned_column d s s e ed.1 is-byte is-byte ee.1 in
+      let v3 = e3 ∙ ap half_turned e1 ∙ half_turned_column e d s s ee.1 ed.1 is-byte is-byte in
       let f2 = filled_next {x = x} {k = 2} {at = 512 + x} f1 (omega arith) (lit< tt) hx (omega arith) (v2 ∙ entry_is 2) in
       let f3 = filled_next {x = x} {k = 3} {at = 768 + x} f2 (omega arith) (lit< tt) hx (omega arith) (v3 ∙ entry_is 3) in
-      let f4 = filled_next {x = x} {k = 4} {at = 1024 + x} f3 (omega arith) (lit< tt) hx (omega arith) (e4 ∙ entry_is 4) in
-      let f5 = filled_next {x = x} {k = 5} {at = 1280 + x} f4 (omega arith) (lit< tt) hx (omega arith) (e5 ∙ entry_is 5) in
+      let f4 = filled_next {x = x} {k = 4} {at = 1024 + x} f3 (omega arith) (lit< tt) hx (omega arith) (entry_is 4) in
+      let f5 = filled_next {x = x} {k = 5} {at = 1280 + x} f4 (omega arith) (lit< tt) hx (omega arith) (entry_is 5) in
       let n : 6 * (x + 1) ≡ suc (suc (suc (suc (suc (suc (6 * x)))))) = omega arith in
       rw n f5
 
@@ -92,28 +92,11 @@ module _ {t : List ℕ} {n : ℕ} (f : Filled t (6 * n)) (all : 256 ≤ n) where
   unfolding entry_at entries_of
   filled-all =
       record {
-        mix0 = λ x h. ap wide_rows (entry 0 x x (lit< tt) h (omega arith)) ∙ rows_of_column _ _ _ _ (two x) (one x) (one x) (three x);
-        mix1 = λ x h. ap wide_rows (entry 1 (256 + x) x (lit< tt) h (omega arith)) ∙ rows_of_column _ _ _ _ (three x) (two x) (one x) (one x);
-        mix2 = λ x h. ap wide_rows (entry 2 (512 + x) x (lit< tt) h (omega arith)) ∙ rows_of_column _ _ _ _ (one x) (three x) (two x) (one x);
-        mix3 = λ x h. ap wide_rows (entry 3 (768 + x) x (lit< tt) h (omega arith)) ∙ rows_of_column _ _ _ _ (one x) (one x) (three x) (two x);
-        last0 = λ x h. ap (λ w. w % 2 ^ 32) (entry 4 (1024 + x) x (lit< tt) h (omega arith)) ∙ low_part (s_box x) (one x);
-        last1 = λ x h. ap (λ w. w / 2 ^ 32) (entry 4 (1024 + x) x (lit< tt) h (omega arith)) ∙ high_part (s_box x) (one x);
-        last2 = λ x h. ap (λ w. w % 2 ^ 32) (entry 5 (1280 + x) x (lit< tt) h (omega arith)) ∙ low-part_2 (s_box x) (one x);
-        last3 = λ x h. ap (λ w. w / 2 ^ 32) (entry 5 (1280 + x) x (lit< tt) h (omega arith)) ∙ high-part_2 (s_box x) (one x);
+        mix = rows;
+        low = λ x h. entry 4 (1024 + x) x (lit< tt) h (omega arith);
+        high = λ x h. entry 5 (1280 + x) x (lit< tt) h (omega arith);
       }
     where
-      low_part : (s : ℕ) → s < 256 → (s + s * 2 ^ 40) % 2 ^ 32 ≡ s
-      low_part s h = omega arith
-
-      high_part : (s : ℕ) → s < 256 → (s + s * 2 ^ 40) / 2 ^ 32 ≡ s * 2 ^ 8
-      high_part s h = omega arith
-
-      low-part_2 : (s : ℕ) → s < 256 → (s * 2 ^ 16 + s * 2 ^ 56) % 2 ^ 32 ≡ s * 2 ^ 16
-      low-part_2 s h = omega arith
-
-      high-part_2 : (s : ℕ) → s < 256 → (s * 2 ^ 16 + s * 2 ^ 56) / 2 ^ 32 ≡ s * 2 ^ 24
-      high-part_2 s h = omega arith
-
       one : (x : ℕ) → s_box x < 256
       one x = sbox_lt x
 
@@ -122,3 +105,12 @@ module _ {t : List ℕ} {n : ℕ} (f : Filled t (6 * n)) (all : 256 ≤ n) where
 
       three : (x : ℕ) → mul_bytes 3 (s_box x) < 256
       three x = thrice_lt (s_box x) (sbox_lt x)
+
+      rows : (row x : ℕ) → row < 4 → x < 256 → wide_rows (get_or t (256 * row + x) 0) ≡ mixed row x
+      rows zero x r h = ap wide_rows (entry 0 (0 + x) x (lit< tt) h (omega arith)) ∙ rows_of_column _ _ _ _ (two x) (one x) (one x) (three x)
+      rows (suc zero) x r h = ap wide_rows (entry 1 (256 + x) x (lit< tt) h (omega arith)) ∙ rows_of_column _ _ _ _ (three x) (two x) (one x) (one x)
+      rows (suc (suc zero)) x r h =
+          ap wide_rows (entry 2 (512 + x) x (lit< tt) h (omega arith)) ∙ rows_of_column _ _ _ _ (one x) (three x) (two x) (one x)
+      rows (suc (suc (suc zero))) x r h =
+          ap wide_rows (entry 3 (768 + x) x (lit< tt) h (omega arith)) ∙ rows_of_column _ _ _ _ (one x) (one x) (three x) (two x)
+      rows (suc (suc (suc (suc row)))) x r h = absurd (omega arith)

@@ -1,5 +1,5 @@
 -- The laws of `aes_sbox`.
-mod Every
+pub mod Every
 mod Rules
 pub mod Bounds
 mod Bytes

@@ -1,12 +1,14 @@
 // FIPS 197's S-box as a constant whose rule is proved by one computed test, and the tables of the rounds, which are filled from it.
 #![tactic(auto)]
 
-ghost use Rattle.std.specs.Prelude.{◌≡◌, ◌+◌, ◌*◌, ◌^◌, ◌<◌, length};
-ghost use Rattle.aes_sbox.specs.Byte.{mul_bytes};
-ghost use Rattle.aes_sbox.specs.Inner.Tables.{half_turned, wide_column, RoundTables};
+ghost use Rattle.std.specs.Prelude.{◌≡◌, ◌+◌, ◌*◌, ◌^◌, ◌<◌};
+ghost use Rattle.aes_sbox.specs.Byte.{mul_bytes, s_box};
+ghost use Rattle.aes_sbox.specs.Inner.Wide.{wide_rows};
+ghost use Rattle.aes_sbox.specs.Inner.Tables.{mixed, half_turned, wide_column, RoundTables};
 ghost use Rattle.aes_sbox.specs.Table.{SBoxTable};
+
 // 5.1.1: entry x is the S-box's value at x.
-pub const SBOX: [u8; 256] = [
+static SBOX: [u8; 256] = [
     0x63, 0x7c, 0x77, 0x7b, 0xf2, 0x6b, 0x6f, 0xc5, 0x30, 0x01, 0x67, 0x2b, 0xfe, 0xd7, 0xab, 0x76,
     0xca, 0x82, 0xc9, 0x7d, 0xfa, 0x59, 0x47, 0xf0, 0xad, 0xd4, 0xa2, 0xaf, 0x9c, 0xa4, 0x72, 0xc0,
     0xb7, 0xfd, 0x93, 0x26, 0x36, 0x3f, 0xf7, 0xcc, 0x34, 0xa5, 0xe5, 0xf1, 0x71, 0xd8, 0x31, 0x15,
@@ -25,18 +27,18 @@ pub const SBOX: [u8; 256] = [
     0x8c, 0xa1, 0x89, 0x0d, 0xbf, 0xe6, 0x42, 0x68, 0x41, 0x99, 0x2d, 0x0f, 0xb0, 0x54, 0xbb, 0x16,
 ];
 
-// The S-box by value, for a caller to lend on.
-pub fn table() -> [u8; 256]
-    ensures { SBoxTable result }
+// The S-box.
+pub fn table() -> &'static [u8; 256]
+    ensures { SBoxTable result.now }
 {
-    SBOX
+    &SBOX
 }
 
-// The number in a wider type.
-fn byte_word(x: u8) -> u64
-    ensures { (result ≡ x) × (result < 256) }
+// The S-box at a byte.
+pub fn sub(x: u8) -> u8
+    ensures { result ≡ s_box x }
 {
-    x as u64
+    table()[x as usize]
 }
 
 // Twice a byte in the field of FIPS 197.
@@ -70,52 +72,65 @@ fn half_turned(w: u64) -> u64
     w % 0x1_0000_0000 * 0x1_0000_0000 + w / 0x1_0000_0000
 }
 
-// A byte at the places of rows 0 and 1, each in a half of the word.
-fn low_rows(s: u64) -> u64
-    requires { s < 256 }
-    ensures { result ≡ s + s * 2 ^ 40 }
+// Fills the tables' words.
+pub fn fill_tables(words: &mut [u64; 1536])
+    ensures { RoundTables words.new }
 {
-    s + s * 0x100_0000_0000
-}
-
-// A byte at the places of rows 2 and 3, each in a half of the word.
-fn high_rows(s: u64) -> u64
-    requires { s < 256 }
-    ensures { result ≡ s * 2 ^ 16 + s * 2 ^ 56 }
-{
-    s * 0x1_0000 + s * 0x100_0000_0000_0000
-}
-
-// Fills the tables, lent as a slice, of which the proof knows the length.
-fn fill(tables: &mut [u64])
-    requires { length tables.old ≡ 1536 }
-    ensures { RoundTables tables.new }
-{
-    let sb = table();
-    let mut x: usize = 0;
-    while x < 256 {
-        let s = byte_word(sb[x]);
+    for x in 0..256 {
+        let s = u64::from(sub(x as u8));
         let d = twice(s);
         let e = thrice(s);
         let m0 = wide_column(d, s, s, e);
         let m1 = wide_column(e, d, s, s);
-        let m2 = half_turned(m0);
-        let m3 = half_turned(m1);
-        let l0 = low_rows(s);
-        let l1 = high_rows(s);
-        tables[x] = m0;
-        tables[256 + x] = m1;
-        tables[512 + x] = m2;
-        tables[768 + x] = m3;
-        tables[1024 + x] = l0;
-        tables[1280 + x] = l1;
-        x += 1;
+        words[x] = m0;
+        words[256 + x] = m1;
+        words[512 + x] = half_turned(m0);
+        words[768 + x] = half_turned(m1);
+        words[1024 + x] = s + s * 0x100_0000_0000;
+        words[1280 + x] = s * 0x1_0000 + s * 0x100_0000_0000_0000;
     }
 }
 
-// Fills the tables that the rounds read.
-pub fn fill_tables(tables: &mut [u64; 1536])
-    ensures { RoundTables tables.new }
-{
-    fill(tables);
+// The tables that the rounds read, in words that a caller lends: by value the words would be copied once more, on 12 KiB of stack.
+#[derive(Clone, Copy)]
+pub struct Tables<'a> {
+    words: &'a [u64; 1536],
+    ghost filled: { RoundTables words.now },
+}
+
+impl<'a> Tables<'a> {
+    // Fills words with the tables, and lends them.
+    pub fn fill(words: &'a mut [u64; 1536]) -> Self {
+        fill_tables(words);
+        Tables { words }
+    }
+
+    // Lends words that are filled.
+    pub fn of(words: &'a [u64; 1536]) -> Self
+        requires { RoundTables words.now }
+    {
+        Tables { words }
+    }
+
+    // What a byte in a row adds to its column under SubBytes and MixColumns, as a wide column.
+    pub fn mixed(self, row: usize, x: u8) -> u64
+        requires { row < 4 }
+        ensures { wide_rows result ≡ mixed row x }
+    {
+        self.words[256 * row + x as usize]
+    }
+
+    // The S-box's value at a byte at the places of rows 0 and 1, each in a half of the word.
+    pub fn low_rows(self, x: u8) -> u64
+        ensures { result ≡ s_box x + s_box x * 2 ^ 40 }
+    {
+        self.words[1024 + x as usize]
+    }
+
+    // The S-box's value at a byte at the places of rows 2 and 3, each in a half of the word.
+    pub fn high_rows(self, x: u8) -> u64
+        ensures { result ≡ s_box x * 2 ^ 16 + s_box x * 2 ^ 56 }
+    {
+        self.words[1280 + x as usize]
+    }
 }

@@ -11,8 +11,7 @@ use Rattle.algebra.specs.Choice.{choose}
 use Rattle.algebra.proofs.Tests.{or_none}
 use Rattle.answer.specs.Numbers.{accepted, not_element}
 use Rattle.prime.specs.declared.prime.Prime.{Prime}
-use Rattle.prime.specs.declared.signed.FromSigned.{FromSigned}
-use Rattle.prime.specs.declared.signed.FromSigned.TheVariants.{Element, OutOfRange}
+use Rattle.std.specs.Prelude.{Option, Some, None}
 use Rattle.prime.specs.Prime.{modulus}
 use Rattle.prime.specs.Signed.{greatest_amount, signed_of, signed_element, from_signed}
 use Rattle.prime.proofs.Around.{element-below, read-element, near_read, element-read, sum-element, negate_element, near_opposite}
@@ -37,17 +36,17 @@ unfolding write_amount from_signed
 written_near (pos n) h = rw (le-ltb greatest_amount n h)
 written_near (negsuc n) h = let k : n ≤ 1152921504606846974 = omega arith in rw (le-ltb 1152921504606846974 n k)
 
-far_by : (t : Bool) (a : FromSigned) → (written_as (choose t OutOfRange a)).number ≡ accepted → t ≡ false
+far_by : (t : Bool) (a : Option Prime) → (written_as (choose t None a)).number ≡ accepted → t ≡ false
 far_by true a e = absurd (omega arith)
 far_by false a e = refl
 
 far : (z : ℤ) → (write_amount z).number ≡ accepted → nat_abs z ≤ greatest_amount
 unfolding write_amount from_signed
 far (pos n) e =
-    let t = far_by (lt_z (pos n) (neg_ℤ (pos greatest_amount)) || lt_z (pos greatest_amount) (pos n)) (Element (signed_element (pos n))) e in
+    let t = far_by (lt_z (pos n) (neg_ℤ (pos greatest_amount)) || lt_z (pos greatest_amount) (pos n)) (Some (signed_element (pos n))) e in
     ltb-false greatest_amount n t
 far (negsuc n) e =
-    let t = far_by (lt_z (negsuc n) (neg_ℤ (pos greatest_amount)) || lt_z (pos greatest_amount) (negsuc n)) (Element (signed_element (negsuc n))) e in
+    let t = far_by (lt_z (negsuc n) (neg_ℤ (pos greatest_amount)) || lt_z (pos greatest_amount) (negsuc n)) (Some (signed_element (negsuc n))) e in
     let h : n ≤ 1152921504606846974 = ltb-false 1152921504606846974 n (or_none _ _ t).0 in
     omega arith
 

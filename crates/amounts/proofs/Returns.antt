@@ -1,5 +1,5 @@
 -- What both calls return.
-use mathlib.Core.Path.{◌≡◌, ap, sym, ◌∙◌}
+use mathlib.Core.Path.{◌≡◌, ap, ◌∙◌}
 use Prim.Native.Nat.{ℕ, ◌<◌, ◌≤◌}
 use native.Mathlib.Nat.{mod-eq_of_lt}
 use native.Mathlib.Omega.{arith}
@@ -8,14 +8,13 @@ use lib.IntN.{ℤ, pos, negsuc, nat_abs}
 use mir.Syntax.{w64}
 use mir.Val.{to_z, of_z, SFits}
 use mir.Facts.{to_z-of_z}
-use Rattle.answer.specs.Numbers.{accepted, not_element, amount_out_of_range}
+use Rattle.answer.specs.Numbers.{accepted, not_element}
 use Rattle.prime.specs.declared.prime.Prime.{Prime}
-use Rattle.prime.specs.declared.signed.FromSigned.{FromSigned}
-use Rattle.prime.specs.declared.signed.FromSigned.TheVariants.{Element, OutOfRange}
+use Rattle.std.specs.Prelude.{Option}
 use Rattle.prime.specs.Prime.{modulus, prime, prime_reduce}
 use Rattle.prime.specs.Signed.{greatest_amount, signed_of, to_signed, from_signed}
 use Rattle.prime.proofs.Around.{near_read}
-use Rattle.amounts.specs.Calls.{read, read_amount, written, written_as, write_amount}
+use Rattle.amounts.specs.Calls.{read, read_amount, written_as, write_amount}
 
 -- a number of the range fits 64 bits
 fits : (z : ℤ) → nat_abs z ≤ greatest_amount → SFits w64 z
@@ -35,11 +34,6 @@ unfolding read_amount
 no_elements x h = rw (le-ltb x modulus h)
 
 -- both cases of the way back, whose argument is read from its bits
-module _ {z : ℤ} (f : SFits w64 z) (r : FromSigned) (e : r ≡ from_signed (to_z w64 (of_z w64 z))) where
-  pub ranged : {a : Prime} → r ≡ Element a → written accepted a.word ≡ write_amount z
-  unfolding write_amount
-  ranged k = ap written_as (sym k ∙ e ∙ ap from_signed (to_z-of_z f))
-
-  pub unranged : r ≡ OutOfRange → written amount_out_of_range 0 ≡ write_amount z
-  unfolding write_amount
-  unranged k = ap written_as (sym k ∙ e ∙ ap from_signed (to_z-of_z f))
+pub as_written : {z : ℤ} → SFits w64 z → (r : Option Prime) → r ≡ from_signed (to_z w64 (of_z w64 z)) → written_as r ≡ write_amount z
+unfolding write_amount
+as_written f r e = ap written_as (e ∙ ap from_signed (to_z-of_z f))

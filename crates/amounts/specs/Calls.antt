@@ -1,10 +1,9 @@
 -- Both calls on signed amounts (document 02, 13). Nothing is lent, so a call's answer is all that stands on return; a refused
 -- call answers zero beside its number.
-use Rattle.std.specs.Prelude.{ℕ, ltb, ℤ, pos}
+use Rattle.std.specs.Prelude.{ℕ, ltb, ℤ, pos, Option, Some, None}
 use Rattle.algebra.specs.Choice.{choose}
 use Rattle.answer.specs.Numbers.{accepted, not_element, amount_out_of_range}
-use Rattle.prime.specs.declared.signed.FromSigned.{FromSigned}
-use Rattle.prime.specs.declared.signed.FromSigned.TheVariants.{Element, OutOfRange}
+use Rattle.prime.specs.declared.prime.Prime.{Prime}
 use Rattle.prime.specs.Prime.{modulus}
 use Rattle.prime.specs.Signed.{signed_of, from_signed}
 use Rattle.amounts.specs.declared.Amount.{Amount}
@@ -22,9 +21,9 @@ unfoldable pub read_amount : ℕ → Amount
 read_amount element = choose (ltb element modulus) (read accepted (signed_of element)) (read not_element (pos 0))
 
 -- the number and the element of each case of the way back: out of range gives 19
-abbrev pub written_as : FromSigned → WrittenAmount
-written_as (Element a) = written accepted a.word
-written_as OutOfRange = written amount_out_of_range 0
+abbrev pub written_as : Option Prime → WrittenAmount
+written_as (Some a) = written accepted a.word
+written_as None = written amount_out_of_range 0
 
 -- writing an amount: its element; below −(2^60 − 1) or above 2^60 − 1 gives 19
 unfoldable pub write_amount : ℤ → WrittenAmount

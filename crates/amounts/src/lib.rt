@@ -4,8 +4,8 @@
 ghost use Rattle.std.specs.Prelude.{◌≡◌};
 ghost use Rattle.amounts.specs.Calls.{read_amount, write_amount};
 
-use answer::{ACCEPTED, AMOUNT_OUT_OF_RANGE, NOT_ELEMENT};
-use prime::{FromSigned, Prime};
+use answer::{ACCEPTED, Refusal};
+use prime::Prime;
 
 // What reading answers: the number, and the amount, 0 where the call is refused.
 #[repr(C)]
@@ -35,7 +35,7 @@ pub fn read_amount(element: u64) -> Amount
         }
     } else {
         Amount {
-            number: NOT_ELEMENT,
+            number: Refusal::NotElement.number(),
             amount: 0,
         }
     }
@@ -45,15 +45,14 @@ pub fn read_amount(element: u64) -> Amount
 pub fn write_amount(amount: i64) -> WrittenAmount
     ensures { result ≡ write_amount amount }
 {
-    let answer = Prime::from_signed(amount);
-    let FromSigned::Element(element) = answer else {
-        return WrittenAmount {
-            number: AMOUNT_OUT_OF_RANGE,
+    match Prime::from_signed(amount) {
+        Some(element) => WrittenAmount {
+            number: ACCEPTED,
+            element: element.word,
+        },
+        None => WrittenAmount {
+            number: Refusal::AmountOutOfRange.number(),
             element: 0,
-        };
-    };
-    WrittenAmount {
-        number: ACCEPTED,
-        element: element.word,
+        },
     }
 }

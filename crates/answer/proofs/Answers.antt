@@ -11,6 +11,7 @@ use Rattle.answer.specs.declared.TwoLengths.{TwoLengths}
 use Rattle.answer.specs.Outcome.{by_number, answered, Outcome, TwoWritten, outcome_two, refused_none, refused_one, refused_two, wrote}
 use Rattle.answer.specs.Inner.Numbered.{numbered}
 use Rattle.answer.proofs.Faults.{all_met, admitted_by, no_fault}
+use Rattle.answer.proofs.Refusals.{refusal-counts}
 
 module _ {O : Type 0} (refusal : ℕ → O) (acceptance : O) where
   by_fault : (n : ℕ) → eqb n 0 ≡ false → refusal n ≡ by_number n refusal acceptance
@@ -87,7 +88,7 @@ module _ {Lent : Type 0} (lent : Lent) (tests : List Test) (n : ℕ) (e : n ≡ 
   refused-two acceptance = refused_is (record { first_written = 0; second_written = 0 }) lent tests acceptance n e h
 
 -- closes each refused return
-pub ruleset refused = (refused_none_lem, refused-one, refused-two, ne_eqb)
+pub ruleset refused = (refused_none_lem, refused-one, refused-two, refusal-counts, ne_eqb)
 
 -- ---- accepted exactly if all tests are met
 

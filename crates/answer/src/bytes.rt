@@ -7,12 +7,10 @@ pub fn any_above(limit: u8, bytes: &[u8]) -> bool
     ensures { result ≡ any_above limit bytes.now }
 {
     let mut most: u8 = 0;
-    let mut i: usize = 0;
-    while i < bytes.len() {
-        if bytes[i] > most {
-            most = bytes[i];
+    for byte in bytes {
+        if *byte > most {
+            most = *byte;
         }
-        i += 1;
     }
     most > limit
 }

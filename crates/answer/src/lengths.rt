@@ -6,11 +6,7 @@ pub fn is_times(len: usize, width: usize, count: usize) -> bool
     requires { 1 ≤ width }
     ensures { result ≡ eqb len (width * count) }
 {
-    if len % width == 0 {
-        len / width == count
-    } else {
-        false
-    }
+    len % width == 0 && len / width == count
 }
 
 // Whether a buffer is shorter than `width` bytes an output.
@@ -25,9 +21,5 @@ pub fn is_short(room: usize, width: usize, count: usize) -> bool
 pub fn is_past(first: usize, count: usize, end: usize) -> bool
     ensures { result ≡ ltb end (first + count) }
 {
-    if first <= end {
-        count > end - first
-    } else {
-        true
-    }
+    end < first || count > end - first
 }

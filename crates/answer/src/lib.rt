@@ -3,6 +3,7 @@
 #![tactic(auto)]
 
 ghost use Rattle.std.specs.Prelude.{◌≡◌};
+ghost use Rattle.answer.specs.Refused.{number_of};
 
 mod bytes;
 mod lengths;
@@ -10,50 +11,43 @@ mod lengths;
 pub use bytes::any_above;
 pub use lengths::{is_past, is_short, is_times};
 
-// The numbers, under the names of the C header. specs/Numbers.antt says what each means.
+// The number of an accepted call.
 pub const ACCEPTED: u32 = 0;
 
-pub const BAD_FIELD: u32 = 1;
+// Why a call is refused, each by its number, under the names of the C header. specs/Numbers.antt says what each means.
+#[derive(Clone, Copy, PartialEq, Eq)]
+pub enum Refusal {
+    BadField = 1,
+    BadSize = 2,
+    BadLength = 3,
+    BadPosition = 4,
+    BadNoise = 5,
+    BadDelta = 6,
+    WindowPastEnd = 7,
+    NotElement = 8,
+    WrongEnd = 9,
+    RecordEnds = 10,
+    BadNumber = 11,
+    BytesAfter = 12,
+    BufferShort = 13,
+    NoCaller = 14,
+    ShareSpent = 15,
+    SharesAbove = 16,
+    BadCircuit = 17,
+    TooFewTriples = 18,
+    AmountOutOfRange = 19,
+    LabelNotAbove = 20,
+    LabelNotInUse = 21,
+}
 
-pub const BAD_SIZE: u32 = 2;
-
-pub const BAD_LENGTH: u32 = 3;
-
-pub const BAD_POSITION: u32 = 4;
-
-pub const BAD_NOISE: u32 = 5;
-
-pub const BAD_DELTA: u32 = 6;
-
-pub const WINDOW_PAST_END: u32 = 7;
-
-pub const NOT_ELEMENT: u32 = 8;
-
-pub const WRONG_END: u32 = 9;
-
-pub const RECORD_ENDS: u32 = 10;
-
-pub const BAD_NUMBER: u32 = 11;
-
-pub const BYTES_AFTER: u32 = 12;
-
-pub const BUFFER_SHORT: u32 = 13;
-
-pub const NO_CALLER: u32 = 14;
-
-pub const SHARE_SPENT: u32 = 15;
-
-pub const SHARES_ABOVE: u32 = 16;
-
-pub const BAD_CIRCUIT: u32 = 17;
-
-pub const TOO_FEW_TRIPLES: u32 = 18;
-
-pub const AMOUNT_OUT_OF_RANGE: u32 = 19;
-
-pub const LABEL_NOT_ABOVE: u32 = 20;
-
-pub const LABEL_NOT_IN_USE: u32 = 21;
+impl Refusal {
+    // The number that the call returns.
+    pub fn number(self) -> u32
+        ensures { result ≡ number_of self }
+    {
+        self as u32
+    }
+}
 
 // The answer of a call with two output buffers.
 #[repr(C)]
@@ -64,14 +58,16 @@ pub struct TwoLengths {
     pub second_written: usize,
 }
 
-// The answer of a refused call with two output buffers.
-pub fn refused_two(number: u32) -> TwoLengths
-    ensures { result ≡ record { number = number; first_written = 0; second_written = 0 } }
-{
-    TwoLengths {
-        number: number,
-        first_written: 0,
-        second_written: 0,
+impl TwoLengths {
+    // The answer of a refused call.
+    pub fn refused(refusal: Refusal) -> TwoLengths
+        ensures { result ≡ record { number = number_of refusal; first_written = 0; second_written = 0 } }
+    {
+        TwoLengths {
+            number: refusal.number(),
+            first_written: 0,
+            second_written: 0,
+        }
     }
 }
 
@@ -81,4 +77,16 @@ pub fn refused_two(number: u32) -> TwoLengths
 pub struct OneLength {
     pub number: u32,
     pub written: usize,
+}
+
+impl OneLength {
+    // The answer of a refused call.
+    pub fn refused(refusal: Refusal) -> OneLength
+        ensures { result ≡ record { number = number_of refusal; written = 0 } }
+    {
+        OneLength {
+            number: refusal.number(),
+            written: 0,
+        }
+    }
 }

@@ -3,17 +3,15 @@
 #![tactic(auto)]
 
 mod calls;
+mod dealings;
 mod lines;
 
-// Where the lines are printed: standard output.
-const STDOUT: i32 = 1;
-
-fn main() {
-    calls::dealings();
-    calls::windows();
-    calls::records();
-    lines::refused();
-    lines::too_large();
-    lines::different();
-    lines::checked();
+fn main(rt: HostRuntime) {
+    calls::dealings(&rt);
+    calls::windows(&rt);
+    calls::records(&rt);
+    lines::refused(&rt);
+    lines::too_large(&rt);
+    lines::different(&rt);
+    lines::checked(&rt);
 }

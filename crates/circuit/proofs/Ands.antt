@@ -1,13 +1,32 @@
 -- Lists of gates: the gate at a place, and how many ANDs come before it. Assumes nothing.
 use Prim.Native.Nat.{ℕ, ◌+◌, ◌≤◌}
+use mathlib.Core.Bool.{Bool, true, false}
 use mathlib.Core.List.{List, [], ◌∷◌, ◌++◌}
-use mathlib.Core.Path.{◌≡◌, sym, ap, ◌∙◌}
+use mathlib.Core.Path.{◌≡◌, refl, sym, ap, ◌∙◌}
 use native.Mathlib.Nat.{add-zero, zero-add}
 use native.Mathlib.Omega.{arith}
 use lib.ListN.{length, get_or, take, drop, take-append-drop}
 use lib.Seq.{drop-drop, get_or-drop, take-add, length-take-le}
+use mir.Val.{bool_byte}
 use Rattle.algebra.specs.Choice.{choose}
 use Rattle.circuit.specs.Content.{Gate, Xor, And, Not, is_and, ands_in}
+use Rattle.circuit.specs.Inner.GateNumbers.{gate_of}
+use Rattle.circuit.specs.declared.Gate as code
+use Rattle.circuit.specs.declared.Gate.TheVariants as variant
+
+-- one for what is so, else none; of a gate for an AND
+pub byte_of : (b : Bool) → bool_byte b ≡ choose b 1 0
+byte_of true = refl
+byte_of false = refl
+
+pub one_for : (g : Gate) {t : Bool} {n : ℕ} → n ≡ bool_byte t → t ≡ is_and g → n ≡ choose (is_and g) 1 0
+one_for g {t} e h = e ∙ byte_of t ∙ ap (λ (b : Bool). choose b 1 0) h
+
+-- a gate of the code that is no AND
+pub no_and : (g : code.Gate) → ((a b : ℕ) → g ≡ variant.And a b → ⊥) → is_and (gate_of g) ≡ false
+no_and (variant.Xor a b) h = refl
+no_and (variant.And a b) h = absurd (h a b refl)
+no_and (variant.Not a) h = refl
 
 pub ands_append : (xs ys : List Gate) → ands_in (xs ++ ys) ≡ ands_in xs + ands_in ys
 unfolding ands_in

@@ -45,7 +45,7 @@ greatest-below (n ∷ ns) m all =
 -- ---- the levels of a circuit
 
 -- a gate's level depends on the wires below it alone
-level_below : (g : Gate) (n : ℕ) (xs ys : List ℕ) → GateBelow n g → ((w : ℕ) → w < n → get_or xs w 0 ≡ get_or ys w 0) → gate_level g xs ≡ gate_level g ys
+pub level_below : (g : Gate) (n : ℕ) (xs ys : List ℕ) → GateBelow n g → ((w : ℕ) → w < n → get_or xs w 0 ≡ get_or ys w 0) → gate_level g xs ≡ gate_level g ys
 unfolding GateBelow gate_level
 level_below (Xor a b) n xs ys ok same = rw (same a ok.0, same b ok.1)
 level_below (And a b) n xs ys ok same = rw (same a ok.0, same b ok.1)

@@ -5,8 +5,8 @@ pub mod Folds
 pub mod Levels
 pub mod Lists
 pub mod Refusals
-pub mod Second
 pub mod Values
-mod Circuits
 mod Fields
 pub mod Turns
+mod Circuits
+mod Second

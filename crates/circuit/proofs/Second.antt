@@ -4,20 +4,13 @@ use mathlib.Core.Bool.{true}
 use mathlib.Core.List.{List}
 use mathlib.Core.Path.{◌≡◌, sym, ap, ◌∙◌, subst}
 use borrow.Author.Tests.{ne_eqb}
-use native.Mathlib.Omega.{arith}
 use Rattle.number.proofs.Places.{whole_is, whole_of}
 use Rattle.number.specs.Number.{read_number}
 use Rattle.number.specs.Reading.{Whole}
 use Rattle.number.specs.Inner.Known.{is_whole}
-use Rattle.circuit.proofs.Fields.{GateParts, one, two, gate_parts, within_parts, wire_parts, two-kind}
-use Rattle.circuit.specs.Content.{Gate}
-use Rattle.circuit.specs.Inner.GateKinds.{kind_number}
-use Rattle.circuit.specs.Inner.GateNumbers.{gate_of}
+use Rattle.circuit.proofs.Fields.{GateParts, one, two, gate_parts, within_parts, wire_parts}
+use Rattle.circuit.specs.Content.{Gate, Xor, And, Not}
 use Rattle.circuit.specs.Reading.{read_within, read_wire, read_gate}
-use Rattle.circuit.specs.declared.GateRead.{GateRead}
-
-abbrev pub gate_with : ℕ → ℕ → ℕ → ℕ → GateRead
-gate_with kind first second next = record { kind = kind; first_wire = first; second_wire = second; next = next }
 
 -- a field whose number is known
 same-within : (least most : ℕ) (s : List ℕ) (at : ℕ) {y z : ℕ × ℕ} → read_within least most s at ≡ Whole z → Whole y ≡ read_number s at
@@ -83,10 +76,7 @@ module _ (wire : ℕ) (s : List ℕ) (at : ℕ) (known : is_whole (read_gate wir
       pub known-first-below : a < wire
       known-first-below = (wire_parts wire s at1 first_is).1
 
-      pub known-none-below : 0 < wire
-      known-none-below = omega (arith, known-first-below)
-
-      pub known-not : k ≡ 3 → Whole (gate_of (gate_with 3 a 0 at2), at2) ≡ read_gate wire s at
+      pub known-not : k ≡ 3 → Whole (Not a, at2) ≡ read_gate wire s at
       unfolding read_gate
       known-not e = simp (first_field.1, first_is, e)
 
@@ -105,11 +95,6 @@ module _ (wire : ℕ) (s : List ℕ) (at : ℕ) (known : is_whole (read_gate wir
         pub known-second : is_whole (read_number s at2) ≡ true
         known-second = ap is_whole (wire_parts wire s at2 second-field.1).0
 
-        pub known-kind-two : (b at3 : ℕ) → k ≡ kind_number (gate_of (gate_with k a b at3))
-        known-kind-two b at3 =
-            let p = within_parts 1 3 s at first_field.1 in
-            simp (ne_eqb _ _ n) (sym (two-kind k a b p.1 p.2 n))
-
         module _ {b at3 : ℕ} (second : Whole (b, at3) ≡ read_number s at2) where
           second_is : read_wire wire s at2 ≡ Whole (b, at3)
           second_is = same_wire wire s at2 second-field.1 second
@@ -117,6 +102,10 @@ module _ (wire : ℕ) (s : List ℕ) (at : ℕ) (known : is_whole (read_gate wir
           pub known-second-below : b < wire
           known-second-below = (wire_parts wire s at2 second_is).1
 
-          pub known_two : Whole (gate_of (gate_with k a b at3), at3) ≡ read_gate wire s at
+          pub known_xor : k ≡ 1 → Whole (Xor a b, at3) ≡ read_gate wire s at
           unfolding read_gate
-          known_two = simp (first_field.1, first_is, ne_eqb _ _ n, second_is)
+          known_xor e = simp (first_field.1, first_is, ne_eqb _ _ n, second_is, e)
+
+          pub known_and : (k ≡ 1 → ⊥) → Whole (And a b, at3) ≡ read_gate wire s at
+          unfolding read_gate
+          known_and m = simp (first_field.1, first_is, ne_eqb _ _ n, second_is, ne_eqb _ _ m)

@@ -4,42 +4,25 @@ use mathlib.Core.List.{List, ◌∷◌}
 use mathlib.Core.Path.{◌≡◌, refl, sym, ap, ◌∙◌}
 use native.Mathlib.Nat.{add-zero, sub-zero}
 use native.Mathlib.Omega.{arith}
-use borrow.Author.Tests.{eq-eqb, ne_eqb}
 use mir.Syntax.{w64}
 use mir.Val.{Fits}
-use Rattle.number.proofs.Places.{either, refused-whole, whole_is}
-use Rattle.number.specs.Answer.{number_read}
 use Rattle.number.specs.Reading.{Whole, Refused, Parsed, then, choose}
-use Rattle.number.specs.declared.Number.{Number}
-use Rattle.number.specs.declared.Number.TheVariants.{Value, Fault}
 use Rattle.circuit.specs.Content.{Gate, Xor, And, Not, is_and, ands_in}
-use Rattle.circuit.specs.Inner.GateKinds.{kind_number}
-use Rattle.circuit.specs.Inner.GateNumbers.{and_of, gate_kind, counted_ands, placed}
+use Rattle.circuit.specs.Inner.GateNumbers.{counted_ands, placed}
 use Rattle.circuit.specs.Reading.{read_wire, read_gate, read_gates, read_wires}
 
 -- ---- gates
 
--- a gate by its kind
-kind-refused : (x : Parsed Gate) {k : ℕ} → gate_kind x ≡ Refused k → x ≡ Refused k
-kind-refused (Whole r) e = absurd (refused-whole (sym e) refl)
-kind-refused (Refused n) e = cc
+-- one for an AND, else none
+pub and-small : (g : Gate) → choose {A = ℕ} (is_and g) 1 0 ≤ 1
+and-small (Xor a b) = omega arith
+and-small (And a b) = omega arith
+and-small (Not a) = omega arith
 
-kind-read : (x : Parsed Gate) {p next : ℕ} → gate_kind x ≡ Whole (p, next) → (g : Gate) × (x ≡ Whole (g, next)) × (kind_number g ≡ p)
-kind-read (Whole r) e = let z = whole_is e in (r.0, ap (λ (n : ℕ × ℕ). Whole (r.0, n.1)) z, ap (λ (n : ℕ × ℕ). n.0) z)
-kind-read (Refused n) e = absurd (refused-whole refl e)
-
-pub and-kind : (g : Gate) → and_of (kind_number g) ≡ choose (is_and g) 1 0
-and-kind (Xor a b) = refl
-and-kind (And a b) = refl
-and-kind (Not a) = refl
-
-counted_more : (n : ℕ) (g : Gate) (x : Parsed (List Gate)) → counted_ands n (then x λ gs end. Whole (g ∷ gs, end)) ≡ counted_ands (n + and_of (kind_number g)) x
+counted_more : (n : ℕ) (g : Gate) (x : Parsed (List Gate)) → counted_ands n (then x λ gs end. Whole (g ∷ gs, end)) ≡ counted_ands (n + choose (is_and g) 1 0) x
 unfolding ands_in
-counted_more n g (Whole r) = ap (λ (m : ℕ). Whole (m, r.1)) (omega (arith, and-kind g))
+counted_more n g (Whole r) = ap (λ (m : ℕ). Whole (m, r.1)) (omega arith)
 counted_more n g (Refused k) = refl
-
-and-small : (kind : ℕ) → and_of kind ≤ 1
-and-small kind = either kind 2 (λ e. simp (eq-eqb _ _ e) (omega arith)) (λ n. simp (ne_eqb _ _ n) (omega arith))
 
 -- the loop's invariant
 pub record GatesTurn (s : List ℕ) (body gates inputs at ands i : ℕ) : Type 0 where
@@ -62,27 +45,24 @@ module _ {s : List ℕ} {body gates inputs at ands i : ℕ} (turn : GatesTurn s 
         ∙ ap (λ (n : ℕ). counted_ands ands (read_gates n (inputs + i) s at)) {x = gates - i} {y = suc (gates - (i + 1))} (omega arith)
         ∙ ap (λ (y : Parsed Gate). counted_ands ands (then y λ g next. then (read_gates (gates - (i + 1)) (inputs + i + 1) s next) λ gs end. Whole (g ∷ gs, end))) e
 
-    pub gates-fits : (kind : ℕ) {n : ℕ} → n ≡ and_of kind → inputs + gates ≤ 4096 → Fits w64 (ands + n)
-    gates-fits kind w h = record { fits = omega (arith, turn.few, and-small kind, w) }
+    pub gates-fits : (g : Gate) {n : ℕ} → n ≡ choose (is_and g) 1 0 → inputs + gates ≤ 4096 → Fits w64 (ands + n)
+    gates-fits g w h = record { fits = omega (arith, turn.few, and-small g, w) }
 
-    module _ {r : Number} (read : number_read r ≡ gate_kind (read_gate (inputs + i) s at)) where
-      pub gates-fault : {k : ℕ} → r ≡ Fault k → number_read r ≡ counted_ands 0 (read_gates gates inputs s body)
-      gates-fault {k} e =
-          let x = kind-refused (read_gate (inputs + i) s at) (sym read ∙ ap number_read e) in
-          ap number_read e ∙ sym (step (Refused k) x)
+    pub gates-fault : {k : ℕ} → Refused k ≡ read_gate (inputs + i) s at → Refused k ≡ counted_ands 0 (read_gates gates inputs s body)
+    gates-fault {k} e = sym (step (Refused k) (sym e))
 
-      pub gates-next : {kind next n : ℕ} → r ≡ Value kind next → n ≡ and_of kind → GatesTurn s body gates inputs next (ands + n) (i + 1)
-      gates-next {kind} {next} {n} v w =
-          let x = kind-read (read_gate (inputs + i) s at) (sym read ∙ ap number_read v) in
-          record {
-            answer =
-                step (Whole (x.0, next)) x.1
-                ∙ counted_more ands x.0 (read_gates (gates - (i + 1)) (inputs + i + 1) s next)
-                ∙ ap (λ (m : ℕ). counted_ands (ands + m) (read_gates (gates - (i + 1)) (inputs + i + 1) s next)) (ap and_of x.2 ∙ sym w)
-                ∙ ap (λ (m : ℕ). counted_ands (ands + n) (read_gates (gates - (i + 1)) m s next)) {x = inputs + i + 1} {y = inputs + (i + 1)} (omega arith);
-            turns = omega arith;
-            few = omega (arith, turn.few, and-small kind, w);
-          }
+    pub gates-next : {g : Gate} {next n : ℕ} → Whole (g, next) ≡ read_gate (inputs + i) s at → n ≡ choose (is_and g) 1 0
+        → GatesTurn s body gates inputs next (ands + n) (i + 1)
+    gates-next {g} {next} {n} e w =
+        record {
+          answer =
+              step (Whole (g, next)) (sym e)
+              ∙ counted_more ands g (read_gates (gates - (i + 1)) (inputs + i + 1) s next)
+              ∙ ap (λ (m : ℕ). counted_ands (ands + m) (read_gates (gates - (i + 1)) (inputs + i + 1) s next)) (sym w)
+              ∙ ap (λ (m : ℕ). counted_ands (ands + n) (read_gates (gates - (i + 1)) m s next)) {x = inputs + i + 1} {y = inputs + (i + 1)} (omega arith);
+          turns = omega arith;
+          few = omega (arith, turn.few, and-small g, w);
+        }
 
   pub gates_done : gates ≤ i → Whole (ands, at) ≡ counted_ands 0 (read_gates gates inputs s body)
   unfolding read_gates ands_in
@@ -114,17 +94,17 @@ module _ {s : List ℕ} {tail count limit at i : ℕ} (turn : WiresTurn s tail c
         ∙ ap (λ (n : ℕ). placed (read_wires n limit s at)) {x = count - i} {y = suc (count - (i + 1))} (omega arith)
         ∙ ap (λ (y : Parsed ℕ). placed (then y λ w next. then (read_wires (count - (i + 1)) limit s next) λ ws end. Whole (w ∷ ws, end))) e
 
-    pub wires-fault : {r : Number} → number_read r ≡ read_wire limit s at → {k : ℕ} → r ≡ Fault k → number_read r ≡ placed (read_wires count limit s tail)
-    wires-fault read {k} e = ap number_read e ∙ sym (wires-step (Refused k) (sym read ∙ ap number_read e))
+    pub wires-fault : {k : ℕ} → Refused k ≡ read_wire limit s at → Refused k ≡ placed (read_wires count limit s tail)
+    wires-fault {k} e = sym (wires-step (Refused k) (sym e))
 
-    pub wires-next : {r : Number} → number_read r ≡ read_wire limit s at → {w next : ℕ} → r ≡ Value w next → WiresTurn s tail count limit next (i + 1)
-    wires-next read {w} {next} v =
+    pub wires-next : {w next : ℕ} → Whole (w, next) ≡ read_wire limit s at → WiresTurn s tail count limit next (i + 1)
+    wires-next {w} {next} e =
         record {
-          answer = wires-step (Whole (w, next)) (sym read ∙ ap number_read v) ∙ placed_more w (read_wires (count - (i + 1)) limit s next);
+          answer = wires-step (Whole (w, next)) (sym e) ∙ placed_more w (read_wires (count - (i + 1)) limit s next);
           turns = omega arith;
         }
 
-  pub wires_done : count ≤ i → Whole (0, at) ≡ placed (read_wires count limit s tail)
+  pub wires_done : count ≤ i → Whole at ≡ placed (read_wires count limit s tail)
   unfolding read_wires
   wires_done over =
       sym (turn.answer ∙ ap (λ (n : ℕ). placed (read_wires n limit s at)) {x = count - i} {y = 0} (omega arith))

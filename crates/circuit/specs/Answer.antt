@@ -1,13 +1,12 @@
--- What each case of the answer `Answer` stands for (document 02, 9): its number, and its values where the circuit is accepted.
-use Rattle.std.specs.Prelude.{ℕ, ◌+◌, ◌≤◌, List, [], ◌≡◌, length}
-use Rattle.answer.specs.Numbers.{accepted}
+-- What the result of reading a circuit stands for (document 02, 9): its values where the circuit is accepted, else the number of its refusal.
+use Rattle.std.specs.Prelude.{ℕ, ◌+◌, ◌≤◌, List, [], ◌≡◌, length, Result, Ok, Err}
+use Rattle.answer.specs.Refused.{number_of}
+use Rattle.answer.specs.declared.Refusal.{Refusal}
 use Rattle.number.specs.Reading.{Reading, Whole, Refused}
 use Rattle.circuit.specs.Admitted.{most_wires}
 use Rattle.circuit.specs.Content.{Circuit, ands_in}
 use Rattle.circuit.specs.Reading.{read_gates, read_wires, read_circuit}
 use Rattle.circuit.specs.declared.Layout.{Layout}
-use Rattle.circuit.specs.declared.Answer.{Answer}
-use Rattle.circuit.specs.declared.Answer.TheVariants.{Accepted, Fault}
 
 -- the circuit, where one was read
 abbrev pub circuit_of : Reading Circuit → Circuit
@@ -29,12 +28,7 @@ pub record HasLayout (s : List ℕ) (f : Layout) : Type 0 where
   pub some : 1 ≤ f.inputs
   pub most : f.inputs + f.gates ≤ most_wires
 
--- `Accepted` stands for a circuit that was read, and its numbers; `Fault` for a refusal with its number, without values
-abbrev pub CircuitRead : List ℕ → Answer → Type 0
-CircuitRead s (Accepted f) = HasLayout s f
-CircuitRead s (Fault k) = read_circuit s ≡ Refused k
-
--- the number of the answer: 0, or that of the refusal
-abbrev pub circuit_fault : Answer → ℕ
-circuit_fault (Accepted f) = accepted
-circuit_fault (Fault k) = k
+-- `Ok` stands for a circuit that was read, and its numbers; `Err` for a refusal with its number, without values
+abbrev pub CircuitRead : List ℕ → Result Layout Refusal → Type 0
+CircuitRead s (Ok f) = HasLayout s f
+CircuitRead s (Err refusal) = read_circuit s ≡ Refused (number_of refusal)

@@ -2,42 +2,37 @@
 ghost use Rattle.std.specs.Prelude.{true, ◌≡◌, ◌<◌};
 ghost use Rattle.number.specs.Reading.{Whole};
 ghost use Rattle.number.specs.Inner.Known.{is_whole};
-ghost use Rattle.circuit.specs.Inner.GateKinds.{kind_number};
-ghost use Rattle.circuit.specs.Inner.GateNumbers.{gate_of};
+ghost use Rattle.circuit.specs.Inner.GateNumbers.{gate_of, WiresOf};
 ghost use Rattle.circuit.specs.Reading.{read_wire, read_gate};
 
-use crate::GateRead;
-use number::{Known, known_number};
+use crate::Gate;
+use crate::gates::{NOT, XOR};
+use number::known_number;
 
-// The gate at a place of an accepted circuit, at a wire.
-pub fn known_gate(source: &[u8], at: usize, wire: usize) -> GateRead
+// The gate at a place of an accepted circuit, at a wire, and the place after it. It stays beside `read_gate`, since it tests no kind and
+// no wire again: by `read_gate` a round takes 7 % more instructions.
+pub fn known_gate(source: &[u8], at: usize, wire: usize) -> (Gate, usize)
     requires { is_whole (read_gate wire source.now at) ≡ true }
-    ensures { (Whole (gate_of result, result.next) ≡ read_gate wire source.now at) × (result.kind ≡ kind_number (gate_of result))
-        × (result.first_wire < wire) × (result.second_wire < wire) }
+    ensures gate { Whole (gate_of result.0, result.1) ≡ read_gate wire source.now at }
+    ensures below { WiresOf (λ w. w < wire) result.0 }
 {
-    let kind = known_number(source, at);
-    let first_wire = known_number(source, kind.next);
-    if kind.number == 3 {
-        return GateRead {
-            kind: 3,
-            first_wire: first_wire.number,
-            second_wire: 0,
-            next: first_wire.next,
-        };
+    let (kind, at) = known_number(source, at);
+    let (first, at) = known_number(source, at);
+    if kind == NOT {
+        return (Gate::Not(first), at);
     }
-    let second_wire = known_number(source, first_wire.next);
-    GateRead {
-        kind: kind.number,
-        first_wire: first_wire.number,
-        second_wire: second_wire.number,
-        next: second_wire.next,
+    let (second, at) = known_number(source, at);
+    if kind == XOR {
+        return (Gate::Xor(first, second), at);
     }
+    (Gate::And(first, second), at)
 }
 
-// The wire at a place of an accepted circuit, below a limit.
-pub fn known_wire(source: &[u8], at: usize, limit: usize) -> Known
+// The wire at a place of an accepted circuit, below a limit, and the place after it.
+pub fn known_wire(source: &[u8], at: usize, limit: usize) -> (usize, usize)
     requires { is_whole (read_wire limit source.now at) ≡ true }
-    ensures { (Whole (result.number, result.next) ≡ read_wire limit source.now at) × (result.number < limit) }
+    ensures wire { Whole result ≡ read_wire limit source.now at }
+    ensures below { result.0 < limit }
 {
     known_number(source, at)
 }

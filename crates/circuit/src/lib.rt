@@ -1,20 +1,16 @@
 // Circuits: reading a circuit with every test, and a second pass over what was accepted.
 #![tactic(auto)]
 
+ghost use Rattle.std.specs.Prelude.{◌≡◌};
+ghost use Rattle.circuit.specs.Content.{is_and};
+ghost use Rattle.circuit.specs.Inner.GateNumbers.{gate_of};
+
 mod again;
 mod gates;
 mod reading;
 
 pub use again::{known_gate, known_wire};
-pub use gates::and_of;
-pub use reading::{circuit_fault, read_circuit};
-
-// The kinds of gates.
-pub const GATE_XOR: usize = 1;
-
-pub const GATE_AND: usize = 2;
-
-pub const GATE_NOT: usize = 3;
+pub use reading::read_circuit;
 
 // The numbers of an accepted circuit: inputs, gates, outputs, ANDs, and the places of the first gate and the first output wire.
 #[derive(Clone, Copy)]
@@ -27,20 +23,22 @@ pub struct Layout {
     pub tail: usize,
 }
 
-// What reading a circuit gives.
+// A gate, with its two wires or its one wire.
 #[derive(Clone, Copy)]
-pub enum Answer {
-    // A circuit that passed every test.
-    Accepted(Layout),
-    // The number that the circuit is refused with.
-    Fault(u32),
+pub enum Gate {
+    Xor(usize, usize),
+    And(usize, usize),
+    Not(usize),
 }
 
-// A gate of an accepted circuit: kind, wires (the second of a NOT is 0), and the place after it.
-#[derive(Clone, Copy)]
-pub struct GateRead {
-    pub kind: usize,
-    pub first_wire: usize,
-    pub second_wire: usize,
-    pub next: usize,
+impl Gate {
+    // Whether the gate is an AND.
+    pub fn is_and(self) -> bool
+        ensures { result ≡ is_and (gate_of self) }
+    {
+        match self {
+            Gate::And(_, _) => true,
+            Gate::Xor(_, _) | Gate::Not(_) => false,
+        }
+    }
 }

@@ -1,31 +1,27 @@
 -- The levels of the wires, gate by gate, and the greatest of them. Assumes nothing.
-use Prim.Native.Nat.{ℕ, zero, suc, ◌+◌, ◌-◌, ◌*◌, ◌≤◌, ◌<◌}
+use Prim.Native.Nat.{ℕ, zero, suc, ◌+◌, ◌-◌, ◌≤◌, ◌<◌}
 use mathlib.Core.Bool.{true}
 use mathlib.Core.List.{List, [], ◌∷◌, ◌++◌, append_assoc}
 use mathlib.Core.Path.{◌≡◌, refl, sym, ap, ap₂, ◌∙◌, subst}
 use native.Mathlib.Nat.{add-zero}
 use native.Mathlib.Omega.{arith}
-use borrow.Author.Tests.{eq-eqb, ne_eqb}
 use lib.ListN.{length, get_or, set, take, drop, replicate, length-replicate, get_or-append}
 use lib.Seq.{take-add, take-length, set_at, length-take-le}
-use mir.Syntax.{w16, w64}
-use mir.Val.{Fits}
 use Rattle.circuit.proofs.Folds.{fold_length, fold_last}
-use Rattle.circuit.proofs.Levels.{greater_is, greater-below, greatest-below}
+use Rattle.circuit.proofs.Levels.{greater_is, greater-below, greatest-below, level_below}
+use Rattle.circuit.proofs.Lists.{gate-below}
 use Rattle.circuit.specs.Answer.{content, HasLayout}
-use Rattle.circuit.specs.Content.{Gate, Circuit}
-use Rattle.circuit.specs.Inner.GateNumbers.{gate_by}
-use Rattle.circuit.specs.Inner.GateKinds.{kind_number}
+use Rattle.circuit.specs.Content.{Gate, Xor, And, Not, Circuit}
 use Rattle.circuit.specs.Levels.{greater, gate_level, greatest, levels, depth}
 use Rattle.circuit.specs.Reading.{read_gate}
 use Rattle.circuit.specs.Value.{over_gates}
 use Rattle.circuit.specs.declared.Layout.{Layout}
-use Rattle.circuit_run.proofs.Gates.{gates_of, left-start, whole-gate, first, here, left-next, kind-range}
+use Rattle.circuit_run.proofs.Gates.{gates_of, left-start, whole-gate, first, here, left-next}
 use Rattle.circuit_run.specs.Inner.Places.{Left}
-use Rattle.number.proofs.Places.{either, split}
+use Rattle.number.proofs.Places.{split}
 use Rattle.number.specs.Inner.Known.{is_whole}
 use Rattle.number.specs.Reading.{Whole}
-use Rattle.circuit_describe.specs.Inner.Levels.{level_by, levels_to}
+use Rattle.circuit_describe.specs.Inner.Levels.{levels_to}
 
 -- ---- the greater of two
 
@@ -65,36 +61,11 @@ greatest-zero (suc n) = ap (greater 0) (greatest-zero n)
 
 -- ---- a gate's level
 
-level_by_lem : (kind a b : ℕ) (levels : List ℕ) → kind ≡ kind_number (gate_by kind a b)
-    → level_by kind (get_or levels a 0) (get_or levels b 0) ≡ gate_level (gate_by kind a b) levels
+level_most : (g : Gate) (levels : List ℕ) (limit : ℕ) → ((w : ℕ) → get_or levels w 0 ≤ limit) → gate_level g levels ≤ limit + 1
 unfolding gate_level
-level_by_lem kind a b levels known =
-    let r = kind-range (gate_by kind a b) in
-    either kind 3 (λ k. rw k) (λ m.
-    either kind 2 (λ k. rw k) (λ n.
-    let k : kind ≡ 1 = omega (arith, known) in rw k))
-
--- the returns of `level_of`
-module _ (kind a b : ℕ) where
-  pub level_not : kind ≡ 3 → a ≡ level_by kind a b
-  level_not e = rw e
-
-  module _ (n : kind ≡ 3 → ⊥) {most : ℕ} (e : most ≡ greater a b) where
-    pub level_and : kind ≡ 2 → 1 + most ≡ level_by kind a b
-    level_and k = rw (ne_eqb kind 3 n, eq-eqb kind 2 k, e)
-
-    pub level_other : (kind ≡ 2 → ⊥) → most ≡ level_by kind a b
-    level_other k = rw (ne_eqb kind 3 n, ne_eqb kind 2 k, e)
-
-pub level_fits : (a b : ℕ) {more most : ℕ} → more ≤ 1 → most ≡ greater a b → a ≤ 4096 → b ≤ 4096 → Fits w16 (more + most)
-level_fits a b h e p q = record { fits = omega (arith, e, greater-most a b 4096 p q) }
-
-level_most : (kind a b limit : ℕ) → a ≤ limit → b ≤ limit → level_by kind a b ≤ limit + 1
-level_most kind a b limit p q =
-    let m = greater-most a b limit p q in
-    either kind 3 (λ k. rw (eq-eqb kind 3 k) (omega arith)) (λ n.
-    either kind 2 (λ k. rw (ne_eqb kind 3 n, eq-eqb kind 2 k) (omega (arith, m)))
-    (λ k. rw (ne_eqb kind 3 n, ne_eqb kind 2 k) (omega (arith, m))))
+level_most (Xor a b) levels limit h = omega (arith, greater-most (get_or levels a 0) (get_or levels b 0) limit (h a) (h b))
+level_most (And a b) levels limit h = omega (arith, greater-most (get_or levels a 0) (get_or levels b 0) limit (h a) (h b))
+level_most (Not a) levels limit h = omega (arith, h a)
 
 -- ---- gate by gate
 
@@ -152,22 +123,6 @@ module _ {s : List ℕ} {f : Layout} (o : HasLayout s f) {array : List ℕ} {mos
     inside : i < length (gates_of s)
     inside = omega (arith, o.gates)
 
-    pub depth_wire : Fits w64 (f.inputs + i)
-    depth_wire = record { fits = omega (arith, o.most) }
-
-    pub depth-room : f.inputs + i < 4096
-    depth-room = omega (arith, o.most)
-
-    pub depth_below : {w : ℕ} → w < f.inputs + i → w < 4096
-    depth_below h = omega (arith, o.most)
-
-    -- the place of a level's two bytes
-    pub depth_offset : {w : ℕ} → w < f.inputs + i → Fits w64 (w * 2)
-    depth_offset h = record { fits = omega (arith, o.most) }
-
-    pub depth-own_offset : Fits w64 ((f.inputs + i) * 2)
-    depth-own_offset = record { fits = omega (arith, o.most) }
-
     pub depth-known : is_whole (read_gate (f.inputs + i) s at) ≡ true
     depth-known = whole-gate turn.left inside
 
@@ -176,9 +131,6 @@ module _ {s : List ℕ} {f : Layout} (o : HasLayout s f) {array : List ℕ} {mos
         ap (λ (l : List ℕ). get_or l w 0) turn.front
         ∙ get_or-append (levels_to c i) (replicate (4096 - (f.inputs + i)) 0) 0 w (omega (arith, upto))
 
-    pub depth_small : (w : ℕ) → w < f.inputs + i → get_or array w 0 ≤ 4096
-    depth_small w h = omega (arith, at_wire w h, turn.small w, o.most)
-
     one_more : (g : Gate) {later : List Gate} → drop i (gates_of s) ≡ g ∷ later → levels_to c (i + 1) ≡ levels_to c i ++ (gate_level g (levels_to c i) ∷ [])
     unfolding levels_to
     one_more g h =
@@ -186,17 +138,14 @@ module _ {s : List ℕ} {f : Layout} (o : HasLayout s f) {array : List ℕ} {mos
         (take-add i 1 c.gates ∙ ap (λ (l : List Gate). take i c.gates ++ take 1 l) h)
         ∙ fold_last gate_level (take i c.gates) g (replicate c.inputs 0)
 
-    pub depth-next : (kind a b : ℕ) {next level most' : ℕ} → Whole (gate_by kind a b, next) ≡ read_gate (f.inputs + i) s at → kind ≡ kind_number (gate_by kind a b)
-        → a < f.inputs + i → b < f.inputs + i → level ≡ level_by kind (get_or array a 0) (get_or array b 0) → most' ≡ greater most level
+    pub depth-next : (g : Gate) {next level most' : ℕ} → Whole (g, next) ≡ read_gate (f.inputs + i) s at
+        → level ≡ gate_level g array → most' ≡ greater most level
         → DepthTurn s f.inputs (set array (f.inputs + i) level) most' next (i + 1)
-    depth-next kind a b {next} {level} {most'} read known p q e m =
-        let g : Gate = gate_by kind a b in
-        let h : drop i (gates_of s) ≡ g ∷ (first turn.left inside).later = here turn.left inside kind a b read in
-        let v : level ≡ gate_level g (levels_to c i) =
-        e ∙ ap₂ (level_by kind) (at_wire a p) (at_wire b q) ∙ level_by_lem kind a b (levels_to c i) known in
+    depth-next g {next} {level} {most'} read e m =
+        let h : drop i (gates_of s) ≡ g ∷ (first turn.left inside).later = here turn.left inside g read in
         let longer : levels_to c (i + 1) ≡ levels_to c i ++ (level ∷ []) = one_more g h ∙ ap (λ (n : ℕ). levels_to c i ++ (n ∷ [])) (sym v) in
         record {
-          left = left-next turn.left inside kind a b read;
+          left = left-next turn.left inside g read;
           inputs_are = turn.inputs_are;
           room = turn.room;
           front =
@@ -209,21 +158,17 @@ module _ {s : List ℕ} {f : Layout} (o : HasLayout s f) {array : List ℕ} {mos
           small = λ w. subst (λ (l : List ℕ). get_or l w 0 ≤ i + 1) (sym longer) (last-small w);
         }
       where
+        v : level ≡ gate_level g (levels_to c i)
+        v = e ∙ level_below g (f.inputs + i) array (levels_to c i) (gate-below (f.inputs + i) s at (sym read)) at_wire
+
         bound : level ≤ i + 1
-        bound =
-            let a_small = turn.small a in
-            let b-small = turn.small b in
-            subst (λ (n : ℕ). n ≤ i + 1) (sym e)
-            (level_most kind (get_or array a 0) (get_or array b 0) i (omega (arith, at_wire a p, a_small)) (omega (arith, at_wire b q, b-small)))
+        bound = omega (arith, v, level_most g (levels_to c i) i turn.small)
 
         last-small : (w : ℕ) → get_or (levels_to c i ++ (level ∷ [])) w 0 ≤ i + 1
         last-small w = append_small (levels_to c i) level (i + 1) w (λ u. let h = turn.small u in omega arith) bound
 
   pub depth-most : most ≤ 4096
   depth-most = omega (arith, turn.greatest_is, greatest-below (levels_to c i) i (λ w _. turn.small w), turn.left.below, o.gates, o.most)
-
-  pub depth-fits : Fits w64 most
-  depth-fits = record { fits = omega (arith, depth-most) }
 
   pub depth_is : f.gates ≤ i → most ≡ depth c
   unfolding levels_to levels

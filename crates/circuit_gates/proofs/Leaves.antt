@@ -2,7 +2,6 @@
 use Prim.Native.Nat.{ℕ, ◌+◌, ◌*◌, ◌%◌, ◌≤◌}
 use mathlib.Core.List.{List}
 use mathlib.Core.Path.{◌≡◌, ap}
-use borrow.Author.Tests.{le-leb, eq-eqb}
 use native.Mathlib.Omega.{arith}
 use lib.Bits.{bit_xor}
 use lib.ListN.{get_or}
@@ -10,7 +9,7 @@ use mir.Syntax.{w8}
 use mir.Val.{Fits}
 use Rattle.circuit_run.proofs.Bits.{xor-bit, flipped-bit, share-bit}
 use Rattle.circuit_run.specs.Step.{flipped}
-use Rattle.circuit_run.specs.Inner.RoundGates.{AndHas, opened_by, local_byte_by}
+use Rattle.circuit_run.specs.Inner.RoundGates.{AndHas, opened_by}
 use Rattle.circuit_run.specs.Inner.Places.{opened_with}
 use Rattle.circuit_run.specs.Round.{known_as}
 
@@ -36,23 +35,10 @@ module _ (role x y : ℕ) (triples : List ℕ) (ands : ℕ) (far : List ℕ) (pa
       (t (ands * 3)) (t (ands * 3 + 1)) (t (ands * 3 + 2)) in
       record { fits = omega (arith, b, e) }
 
-pub and-has : {byte : ℕ} {triples : List ℕ} {ands : ℕ} {far : List ℕ} {passed : ℕ} → (byte ≡ 1 → AndHas triples ands far passed)
-    → byte ≡ 1 → AndHas triples ands far passed
-and-has h e = h e
-
-pub kind-has : {kind byte : ℕ} {triples : List ℕ} {ands : ℕ} {far : List ℕ} {passed : ℕ} → (kind ≡ 2 → byte ≡ 1 → AndHas triples ands far passed)
-    → kind ≡ 2 → byte ≡ 1 → AndHas triples ands far passed
-kind-has h e = h e
-
 -- ---- an exclusive or or NOT
 
-module _ (role kind x y : ℕ) where
-  pub not-fits : {r : ℕ} → r ≡ flipped role (x % 2) → Fits w8 (2 + r)
-  not-fits e = record { fits = omega (arith, e, flipped-bit role (share-small x)) }
+pub xor-fits : (x y : ℕ) → Fits w8 (2 + bit_xor (x % 2) (y % 2))
+xor-fits x y = record { fits = omega (arith, xor-bit (share-small x) (share-small y)) }
 
-  pub xor-fits : Fits w8 (2 + bit_xor (x % 2) (y % 2))
-  xor-fits = record { fits = omega (arith, xor-bit (share-small x) (share-small y)) }
-
-  pub local_not : 2 ≤ x → kind ≡ 3 → {r : ℕ} → r ≡ flipped role (x % 2) → 2 + r ≡ local_byte_by role kind x y
-  unfolding local_byte_by
-  local_not k e w = rw (le-leb 2 x k, eq-eqb kind 3 e, w)
+pub not-fits : (role x : ℕ) {r : ℕ} → r ≡ flipped role (x % 2) → Fits w8 (2 + r)
+not-fits role x e = record { fits = omega (arith, e, flipped-bit role (share-small x)) }

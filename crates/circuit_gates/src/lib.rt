@@ -5,5 +5,5 @@
 mod bytes;
 mod shares;
 
-pub use bytes::{GateBytes, gate_byte, input_byte};
-pub use shares::{give_and, is_role, local_share};
+pub use bytes::{Opening, byte_after, input_byte};
+pub use shares::{flip, give_and, is_role};

@@ -1,19 +1,15 @@
 // The share that a gate makes of its wires' shares, at one end.
 ghost use Rattle.std.specs.Prelude.{◌≡◌, ◌+◌, ◌*◌, ◌<◌, length};
-ghost use Rattle.circuit_run.specs.Inner.Places.{local_share, opened_with, given_and};
+ghost use Rattle.circuit_run.specs.Inner.Places.{opened_with, given_and};
 ghost use Rattle.circuit_run.specs.Step.{flipped, is_role};
 
-use circuit::GATE_XOR;
 use circuit_run::{Asked, ROLE_NOISE, ROLE_SCALAR, Spot};
 
 // Whether the role is 1 or 2.
 pub fn is_role(role: u8) -> bool
     ensures { result ≡ is_role role }
 {
-    if role == ROLE_NOISE {
-        return true;
-    }
-    role == ROLE_SCALAR
+    role == ROLE_NOISE || role == ROLE_SCALAR
 }
 
 // NOT at one end.
@@ -21,16 +17,6 @@ pub fn flip(role: u8, x: u8) -> u8
     ensures { result ≡ flipped role x }
 {
     if role == ROLE_NOISE { x ^ 1 } else { x }
-}
-
-// The share of a gate that is no AND.
-pub fn local_share(role: u8, kind: usize, x: u8, y: u8) -> u8
-    ensures { result ≡ local_share role kind x y }
-{
-    if kind == GATE_XOR {
-        return x ^ y;
-    }
-    flip(role, x)
 }
 
 // The share of an AND that waits, its wires' shares given: it takes the triple of its number and its two far bits.

@@ -1,28 +1,26 @@
 -- The pass over the gates: those passed have their bytes after the round, the rest is as it was, and the bits of those that wait stand
 -- in front of what was there. Assumes nothing.
 use Prim.Native.Nat.{ℕ, suc, ◌+◌, ◌*◌, ◌%◌, ◌≤◌, ◌<◌}
-use mathlib.Core.Bool.{Bool, true, true≢false}
+use mathlib.Core.Bool.{Bool, true, false, true≢false}
 use mathlib.Core.List.{List, [], ◌∷◌, ◌++◌, append-nil}
-use mathlib.Core.Path.{◌≡◌, refl, sym, ap, ◌∙◌}
+use mathlib.Core.Path.{◌≡◌, refl, sym, ap, ◌∙◌, subst}
 use borrow.Author.Tests.{eq-eqb, ne_eqb}
 use native.Mathlib.Nat.{add-zero}
 use native.Mathlib.Omega.{arith}
 use lib.Bits.{bit_xor}
 use lib.ListN.{length, get_or, set, take, drop, length-append, length-drop, length-set, drop_of_length-le, take-append-drop}
 use lib.Seq.{take_all, take-add, take-set-le, length-take-le, drop-set-lt, drop-set-add, take-suc-set, drop-drop, get_or-set_same}
-use mir.Syntax.{w64}
-use mir.Val.{Fits}
 use Rattle.algebra.specs.Choice.{choose}
 use Rattle.circuit.proofs.Ands.{tail_at, ands_split}
+use Rattle.circuit.proofs.Lists as lists
 use Rattle.circuit.proofs.Lists.{gates-below}
+use Rattle.circuit.specs.Admitted.{GateBelow}
 use Rattle.circuit.specs.Answer.{content, HasLayout}
 use Rattle.circuit.specs.Content.{Gate, And, Circuit, is_and, ands_in}
-use Rattle.circuit.specs.Inner.GateNumbers.{and_of, gate_by}
-use Rattle.circuit.specs.Inner.GateKinds.{kind_number}
 use Rattle.circuit.specs.Reading.{read_gate}
 use Rattle.circuit.specs.Value.{over_gates}
 use Rattle.circuit.specs.declared.Layout.{Layout}
-use Rattle.circuit_run.proofs.Gates.{gates_of, here, gate_here, by_2, PlaceTurn, place-start, place_wire, place-known, place-ands, place-next}
+use Rattle.circuit_run.proofs.Gates.{gates_of, here, gate_here, PlaceTurn, place-start, place-known, place-next}
 use Rattle.circuit_run.specs.Step.{gate_at, ands_before, triple_first, triple_second, masked_first, masked_second}
 use Rattle.number.proofs.Places.{either}
 use Rattle.number.specs.Inner.Known.{is_whole}
@@ -74,11 +72,13 @@ place_is : (x q : ℕ) → place_after x q ≡ q + 2 * wait_of x
 place_is x q = either x 1 (λ w. simp (eq-eqb x 1 w) (omega arith)) (λ m. simp (ne_eqb x 1 m) (omega arith))
 
 -- only an AND waits
-is_two : (x role kind byte y z : ℕ) (triples : List ℕ) (ands : ℕ) (far : List ℕ) (p : ℕ) → x ≡ byte_by role kind byte y z triples ands far p
-    → x ≡ 1 → kind ≡ 2
-is_two x role kind byte y z triples ands far p e w =
-    either kind 2 (λ k. k)
-    (λ m. absurd (true≢false (sym (eq-eqb x 1 w) ∙ ap waits e ∙ byte_no_wait role kind byte y z triples ands far p m)))
+is_two : (x role byte : ℕ) (wires triples : List ℕ) (ands : ℕ) (far : List ℕ) (p : ℕ) (g : Gate) → x ≡ byte_by role g byte wires triples ands far p
+    → x ≡ 1 → is_and g ≡ true
+is_two x role byte wires triples ands far p g e w = of (is_and g) refl
+  where
+    of : (b : Bool) → is_and g ≡ b → b ≡ true
+    of true h = refl
+    of false h = absurd (true≢false (sym (eq-eqb x 1 w) ∙ ap waits e ∙ byte_no_wait role byte wires triples ands far p g h))
 
 module _ {s : List ℕ} {f : Layout} (o : HasLayout s f) {role : ℕ} {triples far before bits₀ : List ℕ} (can : CanPass s f triples far (length bits₀) before)
     {wires bits : List ℕ} {at ands p q i : ℕ} (turn : PassTurn s f.inputs f.gates role triples far before bits₀ wires bits at ands p q i) where
@@ -107,179 +107,184 @@ module _ {s : List ℕ} {f : Layout} (o : HasLayout s f) {role : ℕ} {triples f
     was : get_or before n 0 ≡ get_or wires n 0
     was = same_at wires before n turn.rest
 
-    pub pass_wire : Fits w64 (f.inputs + i)
-    pass_wire = place_wire o all turn.stands more
-
     pub pass-known : is_whole (read_gate (f.inputs + i) s at) ≡ true
     pass-known = place-known o all turn.stands more
 
-    pub pass-room : f.inputs + i < 4096
-    pass-room = omega (arith, o.most)
+    module _ (g : Gate) {next : ℕ} (read : Whole (g, next) ≡ read_gate (f.inputs + i) s at) where
+      gate_is : gate_at c i ≡ g
+      gate_is = gate_here turn.stands.left inside g read
 
-    pub pass_below : {w : ℕ} → w < f.inputs + i → w < 4096
-    pass_below h = omega (arith, o.most)
-
-    pub pass_passed : (byte : ℕ) {m : ℕ} → m ≡ wait_of byte → Fits w64 (p + m)
-    pass_passed byte e = record { fits = omega (arith, turn.few, o.most, e, wait_small byte) }
-
-    module _ (kind a b : ℕ) {next : ℕ} (read : Whole (gate_by kind a b, next) ≡ read_gate (f.inputs + i) s at) where
-      gate_is : gate_at c i ≡ gate_by kind a b
-      gate_is = gate_here turn.stands.left inside kind a b read
-
-      first_is : drop i (gates_of s) ≡ gate_by kind a b ∷ drop (i + 1) (gates_of s)
+      first_is : drop i (gates_of s) ≡ g ∷ drop (i + 1) (gates_of s)
       first_is =
-          let h = here turn.stands.left inside kind a b read in
-          h ∙ ap (λ (gs : List Gate). gate_by kind a b ∷ gs) (sym (tail_at (gates_of s) i h))
+          let h = here turn.stands.left inside g read in
+          h ∙ ap (λ (gs : List Gate). g ∷ gs) (sym (tail_at (gates_of s) i h))
+
+      before_it : GateBelow n g
+      before_it = lists.gate-below n s at (sym read)
 
       -- an AND has its triple
-      and-few : kind ≡ 2 → ands + 1 ≤ f.ands
+      and-few : is_and g ≡ true → ands + 1 ≤ f.ands
       and-few e =
-          let g : choose {A = ℕ} (is_and (gate_by kind a b)) 1 0 ≡ 1 = ap (λ (x : Gate). choose {A = ℕ} (is_and x) 1 0) (by_2 kind a b e) in
-          omega (arith, turn.stands.counted, o.ands, ands_split (gates_of s) i first_is, g)
+          let h : choose {A = ℕ} (is_and g) 1 0 ≡ 1 = ap (λ (b : Bool). choose {A = ℕ} b 1 0) e in
+          omega (arith, turn.stands.counted, o.ands, ands_split (gates_of s) i first_is, h)
 
       -- and room for its bits
-      and-room : kind ≡ 2 → q + 1 < length bits₀
+      and-room : is_and g ≡ true → q + 1 < length bits₀
       and-room e = omega (arith, turn.below, and-few e, can.room)
 
-      and-bits : kind ≡ 2 → q + 1 < length bits
+      and-bits : is_and g ≡ true → q + 1 < length bits
       and-bits e = omega (arith, and-room e, length_is (omega (arith, and-room e)))
 
-    module _ (kind a b : ℕ) (known : kind ≡ kind_number (gate_by kind a b)) where
-      pub pass-ands : {m : ℕ} → m ≡ and_of kind → Fits w64 (ands + m)
-      pass-ands e = place-ands o all turn.stands more kind a b known e
+      pub pass-puts : (x : ℕ) → is_and g ≡ true → CanPut x triples ands bits q
+      pass-puts x e =
+          record {
+            few = omega (arith, turn.stands.few, more, o.most);
+            low = omega (arith, turn.below, turn.stands.few, more, o.most);
+            triple = λ w. omega (arith, and-few e, can.enough);
+            room = λ w. and-bits e;
+          }
 
-      module _ {next : ℕ} (read : Whole (gate_by kind a b, next) ≡ read_gate (f.inputs + i) s at) where
-        pub pass-has : kind ≡ 2 → get_or wires (f.inputs + i) 0 ≡ 1 → AndHas triples ands far p
-        pass-has e w =
-            let v : wait_of (get_or before n 0) ≡ 1 = ap wait_of (was ∙ w) in
-            let m : waiting_up_to f.inputs before f.gates ≡ waiting_in c before =
-            ap (λ (k : ℕ). waiting_up_to k before f.gates) o.inputs ∙ ap (waiting_up_to c.inputs before) o.gates in
-            record {
-              triple = omega (arith, and-few kind a b read e, can.enough);
-              place =
-                  omega (
-                    arith,
-                    turn.passed,
-                    waiting_more f.inputs before i (omega (arith, can.long, o.most)),
-                    waiting_upto f.inputs before (i + 1) f.gates (omega arith),
-                    v,
-                    m,
-                    can.places,
-                  );
-              triple_bits = can.triple_bits;
-              far_bits = can.far_bits;
-            }
+      pub pass-has : is_and g ≡ true → get_or wires (f.inputs + i) 0 ≡ 1 → AndHas triples ands far p
+      pass-has e w =
+          let v : wait_of (get_or before n 0) ≡ 1 = ap wait_of (was ∙ w) in
+          let m : waiting_up_to f.inputs before f.gates ≡ waiting_in c before =
+          ap (λ (k : ℕ). waiting_up_to k before f.gates) o.inputs ∙ ap (waiting_up_to c.inputs before) o.gates in
+          record {
+            triple = omega (arith, and-few e, can.enough);
+            place =
+                omega (
+                  arith,
+                  turn.passed,
+                  waiting_more f.inputs before i (omega (arith, can.long, o.most)),
+                  waiting_upto f.inputs before (i + 1) f.gates (omega arith),
+                  v,
+                  m,
+                  can.places,
+                );
+            triple_bits = can.triple_bits;
+            far_bits = can.far_bits;
+          }
 
-        module _ (above : a < f.inputs + i) (beside : b < f.inputs + i) {x : ℕ}
-            (e : x ≡ byte_by role kind (get_or wires (f.inputs + i) 0) (get_or wires a 0) (get_or wires b 0) triples ands far p) where
-          made : x ≡ make s role triples far before (gate_by kind a b) (take n wires)
-          made =
-              e
-              ∙ ap (λ (m : ℕ). byte_by role kind (get_or wires n 0) (get_or wires a 0) (get_or wires b 0) triples m far p) turn.stands.counted
-              ∙ ap (λ (m : ℕ). byte_by role kind (get_or wires n 0) (get_or wires a 0) (get_or wires b 0) triples (ands_before c i) far m)
-              (turn.passed ∙ ap (λ (k : ℕ). waiting_up_to k before i) o.inputs)
-              ∙ sym (byte_is c (passed_on role s triples far) before wires i o.inputs held turn.rest kind a b known (gate_is kind a b read) above beside)
+      module _ {x : ℕ} (e : x ≡ byte_by role g (get_or wires (f.inputs + i) 0) wires triples ands far p) where
+        made : x ≡ make s role triples far before g (take n wires)
+        made =
+            e
+            ∙ ap (λ (m : ℕ). byte_by role g (get_or wires n 0) wires triples m far p) turn.stands.counted
+            ∙ ap (λ (m : ℕ). byte_by role g (get_or wires n 0) wires triples (ands_before c i) far m)
+            (turn.passed ∙ ap (λ (k : ℕ). waiting_up_to k before i) o.inputs)
+            ∙ sym (byte_is c (passed_on role s triples far) before wires i o.inputs held turn.rest g gate_is before_it)
 
-          layout : take (f.inputs + (i + 1)) (set wires n x) ≡ take n wires ++ (x ∷ [])
-          layout = ap (λ (k : ℕ). take k (set wires n x)) {x = f.inputs + (i + 1)} {y = suc n} (omega arith) ∙ take-suc-set wires n x held
+        layout : take (f.inputs + (i + 1)) (set wires n x) ≡ take n wires ++ (x ∷ [])
+        layout = ap (λ (k : ℕ). take k (set wires n x)) {x = f.inputs + (i + 1)} {y = suc n} (omega arith) ∙ take-suc-set wires n x held
 
-          waits-after : waiting_up_to f.inputs (set wires n x) (i + 1) ≡ waiting_up_to f.inputs wires i + wait_of x
-          waits-after =
-              waiting_more f.inputs (set wires n x) i (omega (arith, length-set wires n x, held))
-              ∙ ap (λ (l : List ℕ). waiting l + wait_of (get_or (set wires n x) n 0))
-              (ap (take i) (drop-set-add f.inputs wires i x) ∙ take-set-le i (drop f.inputs wires) i x (omega arith))
-              ∙ ap (λ (v : ℕ). waiting_up_to f.inputs wires i + wait_of v) (get_or-set_same wires n x 0 held)
+        waits-after : waiting_up_to f.inputs (set wires n x) (i + 1) ≡ waiting_up_to f.inputs wires i + wait_of x
+        waits-after =
+            waiting_more f.inputs (set wires n x) i (omega (arith, length-set wires n x, held))
+            ∙ ap (λ (l : List ℕ). waiting l + wait_of (get_or (set wires n x) n 0))
+            (ap (take i) (drop-set-add f.inputs wires i x) ∙ take-set-le i (drop f.inputs wires) i x (omega arith))
+            ∙ ap (λ (v : ℕ). waiting_up_to f.inputs wires i + wait_of v) (get_or-set_same wires n x 0 held)
 
-          two : x ≡ 1 → kind ≡ 2
-          two = is_two x role kind (get_or wires n 0) (get_or wires a 0) (get_or wires b 0) triples ands far p e
+        two : x ≡ 1 → is_and g ≡ true
+        two = is_two x role (get_or wires n 0) wires triples ands far p g e
 
-          -- the bits of the gates passed stay, and those of this one follow
-          done_after : opened_bits c triples (set wires n x) 0 (take (i + 1) (gates_of s)) ≡ done ++ adds c triples (set wires n x) i
-          done_after =
-              let l : length (take i (gates_of s)) ≡ i = length-take-le i (gates_of s) (omega arith) in
-              let below = gate-below f.inputs (gates_of s) (gates-below f.gates f.inputs s f.body o.body) in
-              ap (opened_bits c triples (set wires n x) 0)
-              (take-add i 1 (gates_of s) ∙ ap (λ (gs : List Gate). take i (gates_of s) ++ take 1 gs) (first_is kind a b read))
-              ∙ opened_more c triples (set wires n x) (take i (gates_of s)) (gate_by kind a b) 0 i (omega (arith, l))
-              ∙ ap (λ (k : List ℕ). k ++ adds c triples (set wires n x) i)
-              (opened-kept wires n x c triples i (ap (λ (k : ℕ). k + i) o.inputs)
-              (λ j h. let b = below j (omega (arith, inside)) in (omega (arith, b.0), omega (arith, b.1))) (take i (gates_of s)) 0 (omega (arith, l)))
+        -- the bits of the gates passed stay, and those of this one follow
+        done_after : opened_bits c triples (set wires n x) 0 (take (i + 1) (gates_of s)) ≡ done ++ adds c triples (set wires n x) i
+        done_after =
+            let l : length (take i (gates_of s)) ≡ i = length-take-le i (gates_of s) (omega arith) in
+            let below = gate-below f.inputs (gates_of s) (gates-below f.gates f.inputs s f.body o.body) in
+            ap (opened_bits c triples (set wires n x) 0)
+            (take-add i 1 (gates_of s) ∙ ap (λ (gs : List Gate). take i (gates_of s) ++ take 1 gs) first_is)
+            ∙ opened_more c triples (set wires n x) (take i (gates_of s)) g 0 i (omega (arith, l))
+            ∙ ap (λ (k : List ℕ). k ++ adds c triples (set wires n x) i)
+            (opened-kept wires n x c triples i (ap (λ (k : ℕ). k + i) o.inputs)
+            (λ j h. let b = below j (omega (arith, inside)) in (omega (arith, b.0), omega (arith, b.1))) (take i (gates_of s)) 0 (omega (arith, l)))
 
-          byte-after : get_or (set wires n x) (c.inputs + i) 0 ≡ x
-          byte-after = ap (λ (k : ℕ). get_or (set wires n x) (k + i) 0) (sym o.inputs) ∙ get_or-set_same wires n x 0 held
+        byte-after : get_or (set wires n x) (c.inputs + i) 0 ≡ x
+        byte-after = ap (λ (k : ℕ). get_or (set wires n x) (k + i) 0) (sym o.inputs) ∙ get_or-set_same wires n x 0 held
 
-          masked : x ≡ 1
-              → adds c triples (set wires n x) i
-              ≡ bit_xor (get_or wires a 0 % 2) (triple_first triples ands) ∷ bit_xor (get_or wires b 0 % 2) (triple_second triples ands) ∷ []
-          unfolding masked_first masked_second
-          masked w =
-              let g : gate_at c i ≡ And a b = gate_is kind a b read ∙ by_2 kind a b (two w) in
-              rw (byte-after, eq-eqb x 1 w, g, share-kept wires n x a above, share-kept wires n x b beside, share-at wires a, share-at wires b, ← turn.stands.counted)
+        masked : (a b : ℕ) → g ≡ And a b → x ≡ 1
+            → adds c triples (set wires n x) i
+            ≡ bit_xor (get_or wires a 0 % 2) (triple_first triples ands) ∷ bit_xor (get_or wires b 0 % 2) (triple_second triples ands) ∷ []
+        unfolding masked_first masked_second GateBelow
+        masked a b is w =
+            let k : gate_at c i ≡ And a b = gate_is ∙ is in
+            let h : (a < n) × (b < n) = rw is at before_it in
+            rw (byte-after, eq-eqb x 1 w, k, share-kept wires n x a h.0, share-kept wires n x b h.1, share-at wires a, share-at wires b, ← turn.stands.counted)
 
-          none-added : (x ≡ 1 → ⊥) → adds c triples (set wires n x) i ≡ []
-          none-added m = rw (byte-after, ne_eqb x 1 m)
+        none-added : (x ≡ 1 → ⊥) → adds c triples (set wires n x) i ≡ []
+        none-added m = rw (byte-after, ne_eqb x 1 m)
 
-          module _ {m₁ m₂ : ℕ} (e₁ : m₁ ≡ and_of kind) (e₂ : m₂ ≡ wait_of (get_or wires (f.inputs + i) 0)) where
-            -- the turn but for the bits
-            next_with : {q' : ℕ} {bits' : List ℕ} → q' ≡ place_after x q → length (opened_bits c triples (set wires n x) 0 (take (i + 1) (gates_of s))) ≡ q'
-                → bits' ≡ opened_bits c triples (set wires n x) 0 (take (i + 1) (gates_of s)) ++ drop q' bits₀
-                → PassTurn s f.inputs f.gates role triples far before bits₀ (set wires (f.inputs + i) x) bits' next (ands + m₁) (p + m₂) q' (i + 1)
-            unfolding over_gates
-            next_with {q'} {bits'} e₃ size' sent' =
-                let mk = make s role triples far before in
-                let v : wait_of (get_or before n 0) ≡ wait_of (get_or wires n 0) = ap wait_of was in
-                let u : wait_of x ≤ and_of kind =
-                rw e (byte-few role kind (get_or wires n 0) (get_or wires a 0) (get_or wires b 0) triples ands far p) in
-                let t : q' ≡ q + 2 * wait_of x = e₃ ∙ place_is x q in
-                let k : drop (f.inputs + (i + 1)) wires ≡ drop (f.inputs + (i + 1)) before =
-                ap (λ (m : ℕ). drop m wires) {x = f.inputs + (i + 1)} {y = n + 1} (omega arith)
-                ∙ sym (drop-drop 1 n wires) ∙ ap (drop 1) turn.rest ∙ drop-drop 1 n before
-                ∙ ap (λ (m : ℕ). drop m before) {x = n + 1} {y = f.inputs + (i + 1)} (omega arith) in
-                record {
-                  stands = place-next o all turn.stands more kind a b known e₁ read;
-                  passed = omega (arith, turn.passed, e₂, v, waiting_more f.inputs before i (omega (arith, can.long, o.most)));
-                  few = omega (arith, turn.few, e₂, wait_small (get_or wires n 0));
-                  waited = omega (arith, turn.waited, t, waits-after);
-                  below = omega (arith, turn.below, e₁, t, u);
-                  size = size';
-                  sent = sent';
-                  long = length-set wires n x ∙ turn.long;
-                  run =
-                      turn.run
-                      ∙ ap (λ (gs : List Gate). over_gates mk gs (take n wires)) (first_is kind a b read)
-                      ∙ ap (λ (y : ℕ). over_gates mk (drop (i + 1) (gates_of s)) (take n wires ++ (y ∷ []))) (sym made)
-                      ∙ ap (over_gates mk (drop (i + 1) (gates_of s))) (sym layout);
-                  rest = drop-set-lt (f.inputs + (i + 1)) wires n x (omega arith) ∙ k;
-                }
+        module _ {m₂ : ℕ} (e₂ : m₂ ≡ wait_of (get_or wires (f.inputs + i) 0)) {ands' : ℕ} (e₁ : ands' ≡ ands + choose (is_and g) 1 0) where
+          -- the turn but for the bits
+          next_with : {q' : ℕ} {bits' : List ℕ} → q' ≡ place_after x q → length (opened_bits c triples (set wires n x) 0 (take (i + 1) (gates_of s))) ≡ q'
+              → bits' ≡ opened_bits c triples (set wires n x) 0 (take (i + 1) (gates_of s)) ++ drop q' bits₀
+              → PassTurn s f.inputs f.gates role triples far before bits₀ (set wires (f.inputs + i) x) bits' next ands' (p + m₂) q' (i + 1)
+          unfolding over_gates
+          next_with {q'} {bits'} e₃ size' sent' =
+              let mk = make s role triples far before in
+              let v : wait_of (get_or before n 0) ≡ wait_of (get_or wires n 0) = ap wait_of was in
+              let u : wait_of x ≤ choose (is_and g) 1 0 = rw e (byte-few role (get_or wires n 0) wires triples ands far p g) in
+              let t : q' ≡ q + 2 * wait_of x = e₃ ∙ place_is x q in
+              let k : drop (f.inputs + (i + 1)) wires ≡ drop (f.inputs + (i + 1)) before =
+              ap (λ (m : ℕ). drop m wires) {x = f.inputs + (i + 1)} {y = n + 1} (omega arith)
+              ∙ sym (drop-drop 1 n wires) ∙ ap (drop 1) turn.rest ∙ drop-drop 1 n before
+              ∙ ap (λ (m : ℕ). drop m before) {x = n + 1} {y = f.inputs + (i + 1)} (omega arith) in
+              record {
+                stands = subst (λ (m : ℕ). PlaceTurn s f.inputs f.gates next m (i + 1)) (sym e₁) (place-next o all turn.stands more g refl read);
+                passed = omega (arith, turn.passed, e₂, v, waiting_more f.inputs before i (omega (arith, can.long, o.most)));
+                few = omega (arith, turn.few, e₂, wait_small (get_or wires n 0));
+                waited = omega (arith, turn.waited, t, waits-after);
+                below = omega (arith, turn.below, e₁, t, u);
+                size = size';
+                sent = sent';
+                long = length-set wires n x ∙ turn.long;
+                run =
+                    turn.run
+                    ∙ ap (λ (gs : List Gate). over_gates mk gs (take n wires)) first_is
+                    ∙ ap (λ (y : ℕ). over_gates mk (drop (i + 1) (gates_of s)) (take n wires ++ (y ∷ []))) (sym made)
+                    ∙ ap (over_gates mk (drop (i + 1) (gates_of s))) (sym layout);
+                rest = drop-set-lt (f.inputs + (i + 1)) wires n x (omega arith) ∙ k;
+              }
 
-            pub pass-next : {q' : ℕ} {bits' : List ℕ} → q' ≡ place_after x q → bits' ≡ put_bits x (get_or wires a 0) (get_or wires b 0) triples ands q bits
-                → PassTurn s f.inputs f.gates role triples far before bits₀ (set wires (f.inputs + i) x) bits' next (ands + m₁) (p + m₂) q' (i + 1)
-            unfolding put_bits
-            pass-next {q'} {bits'} e₃ e₄ =
-                let y : ℕ = bit_xor (get_or wires a 0 % 2) (triple_first triples ands) in
-                let z : ℕ = bit_xor (get_or wires b 0 % 2) (triple_second triples ands) in
-                let put : List ℕ = set (set bits q y) (q + 1) z in
-                either x 1
-                (λ w.
-                let t = eq-eqb x 1 w in
-                let k : q' ≡ q + 2 = e₃ ∙ ap (λ (u : Bool). choose {A = ℕ} u (q + 2) q) t in
-                let d : opened_bits c triples (set wires n x) 0 (take (i + 1) (gates_of s)) ≡ done ++ (y ∷ z ∷ []) =
-                done_after ∙ ap (λ (l : List ℕ). done ++ l) (masked w) in
-                next_with e₃ (ap length d ∙ length-append done (y ∷ z ∷ []) ∙ omega (arith, turn.size, k))
-                (e₄ ∙ ap (λ (u : Bool). choose u put bits) t
-                ∙ ap (λ (l : List ℕ). set (set l q y) (q + 1) z) turn.sent
-                ∙ two_more done bits₀ q y z turn.size (and-room kind a b read (two w))
-                ∙ ap (λ (l : List ℕ). l ++ drop (q + 2) bits₀) (sym d)
-                ∙ ap (λ (m : ℕ). opened_bits c triples (set wires n x) 0 (take (i + 1) (gates_of s)) ++ drop m bits₀) (sym k)))
-                (λ m.
-                let t = ne_eqb x 1 m in
-                let k : q' ≡ q = e₃ ∙ ap (λ (u : Bool). choose {A = ℕ} u (q + 2) q) t in
-                let d : opened_bits c triples (set wires n x) 0 (take (i + 1) (gates_of s)) ≡ done =
-                done_after ∙ ap (λ (l : List ℕ). done ++ l) (none-added m) ∙ append-nil done in
-                next_with e₃ (ap length d ∙ turn.size ∙ sym k)
-                (e₄ ∙ ap (λ (u : Bool). choose u put bits) t ∙ turn.sent
-                ∙ ap (λ (l : List ℕ). l ++ drop q bits₀) (sym d)
-                ∙ ap (λ (j : ℕ). opened_bits c triples (set wires n x) 0 (take (i + 1) (gates_of s)) ++ drop j bits₀) (sym k)))
+          -- one that does not wait
+          next_none : (x ≡ 1 → ⊥) → {q' : ℕ} {bits' : List ℕ} → q' ≡ place_after x q → bits' ≡ bits
+              → PassTurn s f.inputs f.gates role triples far before bits₀ (set wires (f.inputs + i) x) bits' next ands' (p + m₂) q' (i + 1)
+          next_none m {q'} e₃ e₄ =
+              let k : q' ≡ q = e₃ ∙ ap (λ (u : Bool). choose {A = ℕ} u (q + 2) q) (ne_eqb x 1 m) in
+              let d : opened_bits c triples (set wires n x) 0 (take (i + 1) (gates_of s)) ≡ done =
+              done_after ∙ ap (λ (l : List ℕ). done ++ l) (none-added m) ∙ append-nil done in
+              next_with e₃ (ap length d ∙ turn.size ∙ sym k)
+              (e₄ ∙ turn.sent
+              ∙ ap (λ (l : List ℕ). l ++ drop q bits₀) (sym d)
+              ∙ ap (λ (j : ℕ). opened_bits c triples (set wires n x) 0 (take (i + 1) (gates_of s)) ++ drop j bits₀) (sym k))
+
+          pub pass_other : is_and g ≡ false → {q' : ℕ} {bits' : List ℕ} → q' ≡ q → bits' ≡ bits
+              → PassTurn s f.inputs f.gates role triples far before bits₀ (set wires (f.inputs + i) x) bits' next ands' (p + m₂) q' (i + 1)
+          pass_other other {q'} e₃ e₄ =
+              let m : x ≡ 1 → ⊥ = λ w. true≢false (sym (two w) ∙ other) in
+              next_none m (e₃ ∙ sym (ap (λ (u : Bool). choose {A = ℕ} u (q + 2) q) (ne_eqb x 1 m))) e₄
+
+          pub pass_and : (a b : ℕ) → g ≡ And a b → {q' : ℕ} {bits' : List ℕ} → q' ≡ place_after x q
+              → bits' ≡ put_bits x (get_or wires a 0) (get_or wires b 0) triples ands q bits
+              → PassTurn s f.inputs f.gates role triples far before bits₀ (set wires (f.inputs + i) x) bits' next ands' (p + m₂) q' (i + 1)
+          unfolding put_bits
+          pass_and a b is {q'} {bits'} e₃ e₄ =
+              let y : ℕ = bit_xor (get_or wires a 0 % 2) (triple_first triples ands) in
+              let z : ℕ = bit_xor (get_or wires b 0 % 2) (triple_second triples ands) in
+              let put : List ℕ = set (set bits q y) (q + 1) z in
+              either x 1
+              (λ w.
+              let t = eq-eqb x 1 w in
+              let k : q' ≡ q + 2 = e₃ ∙ ap (λ (u : Bool). choose {A = ℕ} u (q + 2) q) t in
+              let d : opened_bits c triples (set wires n x) 0 (take (i + 1) (gates_of s)) ≡ done ++ (y ∷ z ∷ []) =
+              done_after ∙ ap (λ (l : List ℕ). done ++ l) (masked a b is w) in
+              next_with e₃ (ap length d ∙ length-append done (y ∷ z ∷ []) ∙ omega (arith, turn.size, k))
+              (e₄ ∙ ap (λ (u : Bool). choose u put bits) t
+              ∙ ap (λ (l : List ℕ). set (set l q y) (q + 1) z) turn.sent
+              ∙ two_more done bits₀ q y z turn.size (and-room (two w))
+              ∙ ap (λ (l : List ℕ). l ++ drop (q + 2) bits₀) (sym d)
+              ∙ ap (λ (m : ℕ). opened_bits c triples (set wires n x) 0 (take (i + 1) (gates_of s)) ++ drop m bits₀) (sym k)))
+              (λ m. next_none m e₃ (e₄ ∙ ap (λ (u : Bool). choose u put bits) (ne_eqb x 1 m)))
 
   module _ (over : f.gates ≤ i) where
     e : i ≡ f.gates
@@ -312,17 +317,3 @@ module _ {s : List ℕ} {f : Layout} (o : HasLayout s f) {role : ℕ} {triples f
           counted = sym (ap length (sym d) ∙ turn.size);
           sent = turn.sent ∙ ap (λ (l : List ℕ). l ++ drop q bits₀) d;
         }
-
--- a gate that waits has its triple, and room for its bits
-pub pass_puts : (x role kind byte y z : ℕ) (triples : List ℕ) (ands : ℕ) (far : List ℕ) (p : ℕ) → x ≡ byte_by role kind byte y z triples ands far p
-    → {s : List ℕ} {f : Layout} → HasLayout s f → {before bits₀ wires bits : List ℕ} → CanPass s f triples far (length bits₀) before
-    → {at q i : ℕ} → PassTurn s f.inputs f.gates role triples far before bits₀ wires bits at ands p q i → i < f.gates
-    → (a b : ℕ) {next : ℕ} → Whole (gate_by kind a b, next) ≡ read_gate (f.inputs + i) s at → CanPut x triples ands bits q
-pass_puts x role kind byte y z triples ands far p e o can turn more a b read =
-    let two = is_two x role kind byte y z triples ands far p e in
-    record {
-      few = omega (arith, turn.stands.few, more, o.most);
-      low = omega (arith, turn.below, turn.stands.few, more, o.most);
-      triple = λ w. omega (arith, and-few o can turn more kind a b read (two w), can.enough);
-      room = λ w. and-bits o can turn more kind a b read (two w);
-    }

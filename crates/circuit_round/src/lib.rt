@@ -2,7 +2,6 @@
 #![tactic(auto)]
 
 ghost use Rattle.std.specs.Prelude.{◌≡◌};
-ghost use Rattle.circuit_run.specs.Inner.RoundPasses.{rounded_with};
 ghost use Rattle.circuit_run.specs.Round.{round_with, rounded, round};
 
 mod accepted;
@@ -12,21 +11,9 @@ mod writing;
 
 use accepted::accepted_round;
 use answer::ACCEPTED;
-use circuit::{Answer, circuit_fault, read_circuit};
+use circuit::read_circuit;
 use circuit_run::{RoundState, Rounded};
 use tests::{Frame, check};
-
-// A refused round: zeros, and the state as it was.
-fn refused(number: u32, state: RoundState) -> Rounded
-    ensures { result ≡ rounded_with number 0 0 state }
-{
-    Rounded {
-        number: number,
-        written: 0,
-        bits_written: 0,
-        state: state,
-    }
-}
 
 // One round of an end's run: opens every AND whose wires are known and gives its two bits to send, or writes the outputs of a run
 // where none waits.
@@ -46,24 +33,23 @@ pub fn round_run(
         (round_with role circuit.now shares.now triples.now
         output.old far_bits.now bits_out.old) state }
 {
-    let read = read_circuit(circuit);
-    let Answer::Accepted(layout) = read else {
-        return refused(circuit_fault(read), state);
+    let layout = match read_circuit(circuit) {
+        Ok(layout) => layout,
+        Err(refusal) => return Rounded::refused(refusal, state),
     };
-    let mut wires = state.wires;
     let frame = Frame { layout, role };
-    let number = check(
+    if let Err(refusal) = check(
         frame,
-        &wires,
+        &state.wires,
         shares,
         triples,
         far_bits,
         output.len(),
         bits_out.len(),
-    );
-    if number != ACCEPTED {
-        return refused(number, state);
+    ) {
+        return Rounded::refused(refusal, state);
     }
+    let mut wires = state.wires;
     let lengths = accepted_round(
         circuit, frame, shares, triples, output, far_bits, bits_out, &mut wires,
     );
@@ -71,6 +57,6 @@ pub fn round_run(
         number: ACCEPTED,
         written: lengths.written,
         bits_written: lengths.bits_written,
-        state: RoundState { wires: wires },
+        state: RoundState { wires },
     }
 }

@@ -4,20 +4,18 @@ ghost use Rattle.circuit.specs.Answer.{HasLayout};
 ghost use Rattle.circuit_run.specs.Inner.RoundPasses.{CanPass, Passes};
 ghost use Rattle.circuit_run.specs.Round.{input_bytes};
 
-use crate::tests::{Frame, wait_of};
+use crate::tests::Frame;
 use crate::writing::put_bits;
-use circuit::{and_of, known_gate};
-use circuit_gates::{GateBytes, gate_byte, input_byte};
+use circuit::{Gate, known_gate};
+use circuit_gates::{Opening, byte_after, input_byte};
 
 // Gives each input that is not known its share.
 pub fn take_inputs(shares: &[u8], wires: &mut [u8; 4096])
     requires { (length shares.now ≤ 4096) × (length wires.old ≡ 4096) × ((k : ℕ) → get_or shares.now k 0 ≤ 1) }
     ensures { wires.new ≡ input_bytes shares.now wires.old ++ drop (length shares.now) wires.old }
 {
-    let mut i: usize = 0;
-    while i < shares.len() {
-        wires[i] = input_byte(wires[i], shares[i]);
-        i += 1;
+    for (i, share) in shares.iter().enumerate() {
+        wires[i] = input_byte(wires[i], *share);
     }
 }
 
@@ -35,30 +33,30 @@ pub fn pass_gates(
     ensures { Passes source.now frame.layout frame.role triples.now far_bits.now
         bits_out.old wires.old result bits_out.new wires.new }
 {
-    let role = frame.role;
-    let inputs = frame.layout.inputs;
-    let gates = frame.layout.gates;
-    let mut at = frame.layout.body;
+    let Frame { layout, role } = frame;
+    let mut at = layout.body;
     let mut ands: usize = 0;
     let mut passed: usize = 0;
     let mut place: usize = 0;
-    let mut i: usize = 0;
-    while i < gates {
-        let wire = inputs + i;
-        let g = known_gate(source, at, wire);
-        let first_wire = g.first_wire;
-        let second_wire = g.second_wire;
+    for i in 0..layout.gates {
+        let wire = layout.inputs + i;
+        let (gate, next) = known_gate(source, at, wire);
+        let opening = Opening {
+            role,
+            triples,
+            ands,
+            far_bits,
+            passed,
+        };
         let before = wires[wire];
-        let x = wires[first_wire];
-        let y = wires[second_wire];
-        let bytes = GateBytes { own: before, x, y };
-        let after = gate_byte(role, g.kind, bytes, triples, ands, far_bits, passed);
+        let after = byte_after(gate, before, wires, opening);
+        if let Gate::And(a, b) = gate {
+            place = put_bits(after, wires[a], wires[b], triples, ands, bits_out, place);
+            ands += 1;
+        }
         wires[wire] = after;
-        place = put_bits(after, x, y, triples, ands, bits_out, place);
-        ands += and_of(g.kind);
-        passed += wait_of(before);
-        at = g.next;
-        i += 1;
+        passed += usize::from(before == 1);
+        at = next;
     }
     place
 }

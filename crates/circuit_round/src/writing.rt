@@ -35,15 +35,11 @@ pub fn write_shares(source: &[u8], layout: Layout, wires: &[u8; 4096], output: &
     ensures { output.new
         ≡ at_wires (shares_in wires.now) (content source.now).outputs ++ drop layout.outputs output.old }
 {
-    let outputs = layout.outputs;
     let limit = layout.inputs + layout.gates;
     let mut at = layout.tail;
-    let mut i: usize = 0;
-    while i < outputs {
-        let w = known_wire(source, at, limit);
-        let wire = w.number;
+    for i in 0..layout.outputs {
+        let (wire, next) = known_wire(source, at, limit);
         output[i] = wires[wire] % 2;
-        at = w.next;
-        i += 1;
+        at = next;
     }
 }

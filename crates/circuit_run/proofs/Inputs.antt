@@ -5,7 +5,7 @@ use mathlib.Core.Path.{◌≡◌, refl, sym, ap, ◌∙◌}
 use native.Mathlib.Numerals.{add-one}
 use native.Mathlib.Omega.{arith}
 use lib.ListN.{length, get_or, take, drop, set}
-use lib.Seq.{set_at, get_or_at, take-suc, take_all, drop-cons, get_or-drop, length-take-le}
+use lib.Seq.{set_at, get_or_at, take-suc, drop-cons, get_or-drop, length-take-le}
 use Rattle.circuit_run.specs.Inner.RoundGates.{input_byte}
 use Rattle.circuit_run.specs.Round.{input_bytes}
 
@@ -23,10 +23,6 @@ inputs_more (y ∷ shares) x bytes =
     (inputs_more shares x (drop 1 bytes)
     ∙ ap (λ (b : ℕ). input_bytes shares (drop 1 bytes) ++ (input_byte b x ∷ []))
     (get_or-drop 1 bytes (length shares) 0 ∙ ap (λ (n : ℕ). get_or bytes n 0) {x = 1 + length shares} {y = suc (length shares)} (omega arith)))
-
--- a share is a bit
-pub bit_at : (shares : List ℕ) → ((k : ℕ) → get_or shares k 0 ≤ 1) → (i : ℕ) → get_or shares i 0 ≤ 1
-bit_at shares all i = all i
 
 pub record InputTurn (shares before wires : List ℕ) (i : ℕ) : Type 0 where
   pub turns : i ≤ length shares
@@ -60,10 +56,3 @@ module _ {shares before wires : List ℕ} {i : ℕ} (few : length shares ≤ 409
             ∙ ap (λ (l : List ℕ). l ++ q) (sym v)
             ∙ ap (λ (k : ℕ). input_bytes (take (i + 1) shares) before ++ drop k before) (sym (add-one i));
       }
-
-  pub input_done : length shares ≤ i → wires ≡ input_bytes shares before ++ drop (length shares) before
-  input_done over =
-      let n : i ≡ length shares = omega (arith, turn.turns) in
-      turn.taken
-      ∙ ap (λ (l : List ℕ). input_bytes l before ++ drop i before) (take_all i shares (omega arith))
-      ∙ ap (λ (k : ℕ). input_bytes shares before ++ drop k before) n

@@ -7,10 +7,20 @@ use lib.Dec.{leb, eqb}
 use Rattle.algebra.proofs.Tests.{and_left, and_right, and_both}
 use Rattle.circuit.specs.Content.{Circuit, is_and}
 use Rattle.number.proofs.Places.{either}
+use Rattle.answer.specs.Tests.{holds, is_met}
 use Rattle.circuit_run.specs.Step.{far_admitted, gate_at, state_admitted}
 
 -- what a test says of its numbers
 pub ruleset tests = (eq-eqb, ne_eqb, le-leb, lt-leb)
+
+-- a test for what is known so, or not
+pub held-now : {t : Bool} → t ≡ true → is_met (holds t) ≡ true
+unfolding is_met
+held-now e = e
+
+pub broken-now : {t : Bool} → t ≡ false → is_met (holds t) ≡ false
+unfolding is_met
+broken-now e = e
 
 -- far bits that are admitted
 pub far-bits : (waits : Bool) (first second : ℕ) → far_admitted waits first second ≡ true → waits ≡ true → (first ≤ 1) × (second ≤ 1)

@@ -1,25 +1,22 @@
 -- The byte of one gate: what the definition says of it is what the code computes from its wires' bytes. Assumes nothing.
 use Prim.Native.Nat.{ℕ, ◌+◌, ◌-◌, ◌≤◌, ◌<◌}
-use mathlib.Core.Bool.{Bool, true, false, ◌&&◌}
+use mathlib.Core.Bool.{Bool, true, false, ◌&&◌, true≢false}
 use mathlib.Core.List.{List, [], ◌∷◌, ◌++◌}
 use mathlib.Core.Path.{◌≡◌, refl, sym, ap, ap₂, ◌∙◌}
-use borrow.Author.Tests.{le-leb, lt-leb, eq-eqb, ne_eqb}
+use borrow.Author.Tests.{le-leb, lt-leb, ne_eqb}
 use native.Mathlib.Nat.{add-zero}
 use native.Mathlib.Omega.{arith}
-use lib.Dec.{eqb}
 use lib.ListN.{length, get_or, take, drop, length-append, get_or-map}
 use lib.Seq.{get_or-take, get_or-drop, length-take-le}
 use Rattle.algebra.specs.Choice.{choose}
-use Rattle.circuit.specs.Content.{Gate, Xor, And, Not, Circuit}
-use Rattle.circuit.specs.Inner.GateNumbers.{gate_by, and_of}
-use Rattle.circuit.specs.Inner.GateKinds.{kind_number}
+use Rattle.circuit.specs.Admitted.{GateBelow}
+use Rattle.circuit.specs.Content.{Gate, Xor, And, Not, Circuit, is_and}
 use Rattle.circuit.specs.Value.{over_gates}
-use Rattle.circuit_run.proofs.Gates.{kind-range, by_1, by_2, by_3}
 use Rattle.circuit_run.specs.Step.{gate_at, ands_before, masked_first, masked_second}
-use Rattle.number.proofs.Places.{split, either, choose_yes, choose_no}
+use Rattle.number.proofs.Places.{split}
 use Rattle.circuit_run.proofs.Waiting.{wait_small}
 use Rattle.circuit_run.specs.Inner.Places.{opened_with}
-use Rattle.circuit_run.specs.Inner.RoundGates.{opened_by, and_byte_by, local_byte_by, byte_by}
+use Rattle.circuit_run.specs.Inner.RoundGates.{opened_by, and_byte_by, xor_byte_by, not_byte_by, unknown_by, byte_by}
 use Rattle.circuit_run.specs.Inner.RoundPasses.{passed_on}
 use Rattle.circuit_run.specs.Inner.RoundTests.{wait_of}
 use Rattle.circuit_run.specs.Round.{RoundLent, round_with, waiting, waits, is_known, share_of, known_as, shares_in, waiting_before, ready, opened_share, computed, gate_byte}
@@ -34,13 +31,13 @@ both false q v = refl
 -- ---- from the bytes of its wires
 
 module _ (c : Circuit) (l : RoundLent) (i p a : ℕ) (bytes : List ℕ) {x : ℕ} (first : get_or bytes a 0 ≡ x) where
-  not_is : (w : Bool) (y : ℕ) → computed c l i p w (Not a) bytes ≡ local_byte_by l.role 3 x y
-  unfolding computed ready local_byte_by
-  not_is w y = rw (share-at bytes a, first)
+  not_is : (w : Bool) → computed c l i p w (Not a) bytes ≡ not_byte_by l.role x
+  unfolding computed ready not_byte_by
+  not_is w = rw (share-at bytes a, first)
 
   module _ (b : ℕ) {y : ℕ} (second : get_or bytes b 0 ≡ y) where
-    xor_is : (w : Bool) → computed c l i p w (Xor a b) bytes ≡ local_byte_by l.role 1 x y
-    unfolding computed ready local_byte_by
+    xor_is : (w : Bool) → computed c l i p w (Xor a b) bytes ≡ xor_byte_by x y
+    unfolding computed ready xor_byte_by
     xor_is w = rw (share-at bytes a, share-at bytes b, first, second) (both (is_known x) (is_known y) _)
 
     share_is : gate_at c i ≡ And a b → opened_share c l i p bytes ≡ opened_by l.role x y l.triples (ands_before c i) l.far p
@@ -76,51 +73,30 @@ same_at wires before n rest =
     ∙ ap (λ (k : ℕ). get_or wires k 0) (add-zero n)
 
 module _ (c : Circuit) (l : RoundLent) (before wires : List ℕ) {inputs : ℕ} (i : ℕ) (start : inputs ≡ c.inputs) (held : inputs + i < length wires)
-    (rest : drop (inputs + i) wires ≡ drop (inputs + i) before) (kind a b : ℕ) where
+    (rest : drop (inputs + i) wires ≡ drop (inputs + i) before) where
   abbrev byte : ℕ
   byte = get_or wires (inputs + i) 0
 
-  abbrev x : ℕ
-  x = get_or wires a 0
-
-  abbrev y : ℕ
-  y = get_or wires b 0
-
-  abbrev bytes : List ℕ
-  bytes = take (inputs + i) wires
+  abbrev front : List ℕ
+  front = take (inputs + i) wires
 
   abbrev passed : ℕ
   passed = waiting_before c before i
 
-  pub byte_is : kind ≡ kind_number (gate_by kind a b) → gate_at c i ≡ gate_by kind a b → a < inputs + i → b < inputs + i
-      → gate_byte c l before (gate_by kind a b) (take (inputs + i) wires)
-      ≡ byte_by l.role kind (get_or wires (inputs + i) 0) (get_or wires a 0) (get_or wires b 0) l.triples (ands_before c i) l.far (waiting_before c before i)
+  unknown_is : (g : Gate) → gate_at c i ≡ g → GateBelow (inputs + i) g
+      → computed c l i passed (waits byte) g front ≡ unknown_by l.role g byte wires l.triples (ands_before c i) l.far passed
+  unfolding GateBelow
+  unknown_is (Xor a b) e h = xor_is c l i passed a front (get_or-take (inputs + i) wires a 0 h.0) b (get_or-take (inputs + i) wires b 0 h.1) (waits byte)
+  unknown_is (And a b) e h = and_is c l i passed a front (get_or-take (inputs + i) wires a 0 h.0) b (get_or-take (inputs + i) wires b 0 h.1) byte e
+  unknown_is (Not a) e h = not_is c l i passed a front (get_or-take (inputs + i) wires a 0 h) (waits byte)
+
+  pub byte_is : (g : Gate) → gate_at c i ≡ g → GateBelow (inputs + i) g
+      → gate_byte c l before g (take (inputs + i) wires)
+      ≡ byte_by l.role g (get_or wires (inputs + i) 0) wires l.triples (ands_before c i) l.far (waiting_before c before i)
   unfolding byte_by
-  byte_is known g p q =
-      let xs = get_or-take (inputs + i) wires a 0 p in
-      let ys = get_or-take (inputs + i) wires b 0 q in
-      let r = kind-range (gate_by kind a b) in
-      let and : ℕ = and_byte_by l.role byte x y l.triples (ands_before c i) l.far passed in
-      gate-at c l before (gate_by kind a b) bytes
-      (length-take-le (inputs + i) wires (omega arith)) (omega (arith, start)) (same_at wires before (inputs + i) rest)
-      ∙ ap (λ (v : ℕ). choose (is_known byte) byte v)
-      (either kind 2
-      (λ k.
-      ap (λ (h : Gate). computed c l i passed (waits byte) h bytes) (by_2 kind a b k)
-      ∙ and_is c l i passed a bytes xs b ys byte (g ∙ by_2 kind a b k)
-      ∙ sym (choose_yes and (local_byte_by l.role kind x y) (eq-eqb kind 2 k)))
-      (λ m.
-      either kind 1
-      (λ k.
-      ap (λ (h : Gate). computed c l i passed (waits byte) h bytes) (by_1 kind a b k)
-      ∙ xor_is c l i passed a bytes xs b ys (waits byte)
-      ∙ ap (λ (j : ℕ). local_byte_by l.role j x y) (sym k))
-      (λ n.
-      let k : kind ≡ 3 = omega (arith, known) in
-      ap (λ (h : Gate). computed c l i passed (waits byte) h bytes) (by_3 kind a b k)
-      ∙ not_is c l i passed a bytes xs (waits byte) y
-      ∙ ap (λ (j : ℕ). local_byte_by l.role j x y) (sym k))
-      ∙ sym (choose_no and (local_byte_by l.role kind x y) (ne_eqb kind 2 m))))
+  byte_is g e h =
+      gate-at c l before g front (length-take-le (inputs + i) wires (omega arith)) (omega (arith, start)) (same_at wires before (inputs + i) rest)
+      ∙ ap (λ (v : ℕ). choose (is_known byte) byte v) (unknown_is g e h)
 
 -- ---- of all that is lent it sees role, triples and far bits, and of the bytes before it those of the gates
 
@@ -162,26 +138,37 @@ module _ (c : Circuit) (role : ℕ) (s shares triples output far bits : List ℕ
 no_wait : (v : ℕ) → waits (2 + v) ≡ false
 no_wait v = ne_eqb (2 + v) 1 (λ e. omega arith)
 
-local_no_wait : (role kind x y : ℕ) → waits (local_byte_by role kind x y) ≡ false
-unfolding local_byte_by
-local_no_wait role kind x y = of (is_known x) (eqb kind 3) (is_known y) _ _
+xor_no_wait : (x y : ℕ) → waits (xor_byte_by x y) ≡ false
+unfolding xor_byte_by
+xor_no_wait x y = of (is_known x) (is_known y) _
   where
-    of : (p q r : Bool) (u v : ℕ) → waits (choose p (choose q (2 + u) (choose r (2 + v) 0)) 0) ≡ false
-    of true true r u v = no_wait u
-    of true false true u v = no_wait v
-    of true false false u v = refl
-    of false q r u v = refl
+    of : (p q : Bool) (v : ℕ) → waits (choose p (choose q (2 + v) 0) 0) ≡ false
+    of true true v = no_wait v
+    of true false v = refl
+    of false q v = refl
 
-module _ (role kind byte x y : ℕ) (triples : List ℕ) (ands : ℕ) (far : List ℕ) (passed : ℕ) where
-  pub byte_no_wait : (kind ≡ 2 → ⊥) → waits (byte_by role kind byte x y triples ands far passed) ≡ false
+not_no_wait : (role x : ℕ) → waits (not_byte_by role x) ≡ false
+unfolding not_byte_by
+not_no_wait role x = of (is_known x) _
+  where
+    of : (p : Bool) (v : ℕ) → waits (choose p (2 + v) 0) ≡ false
+    of true v = no_wait v
+    of false v = refl
+
+module _ (role byte : ℕ) (wires triples : List ℕ) (ands : ℕ) (far : List ℕ) (passed : ℕ) where
+  unknown_no_wait : (g : Gate) → is_and g ≡ false → waits (unknown_by role g byte wires triples ands far passed) ≡ false
+  unknown_no_wait (Xor a b) e = xor_no_wait (get_or wires a 0) (get_or wires b 0)
+  unknown_no_wait (And a b) e = absurd (true≢false e)
+  unknown_no_wait (Not a) e = not_no_wait role (get_or wires a 0)
+
+  pub byte_no_wait : (g : Gate) → is_and g ≡ false → waits (byte_by role g byte wires triples ands far passed) ≡ false
   unfolding byte_by
-  byte_no_wait m =
+  byte_no_wait g e =
       split byte 2
-      (λ h. rw (lt-leb 2 byte h, ne_eqb kind 2 m) (local_no_wait role kind x y))
+      (λ h. rw (lt-leb 2 byte h) (unknown_no_wait g e))
       (λ h. rw (le-leb 2 byte h) (ne_eqb byte 1 (λ e. omega arith)))
 
-  pub byte-few : wait_of (byte_by role kind byte x y triples ands far passed) ≤ and_of kind
-  byte-few =
-      either kind 2
-      (λ e. rw (eq-eqb kind 2 e) (wait_small (byte_by role kind byte x y triples ands far passed)))
-      (λ m. rw (ne_eqb kind 2 m, byte_no_wait m) (omega arith))
+  pub byte-few : (g : Gate) → wait_of (byte_by role g byte wires triples ands far passed) ≤ choose (is_and g) 1 0
+  byte-few (Xor a b) = rw (byte_no_wait (Xor a b) refl) (omega arith)
+  byte-few (And a b) = wait_small (byte_by role (And a b) byte wires triples ands far passed)
+  byte-few (Not a) = rw (byte_no_wait (Not a) refl) (omega arith)

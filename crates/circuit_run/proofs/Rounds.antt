@@ -1,28 +1,28 @@
 -- Each return of `round_run` gives what the definition says there. Assumes nothing.
-use Prim.Native.Nat.{ℕ, ◌+◌, ◌*◌, ◌≤◌}
+use Prim.Native.Nat.{ℕ, ◌+◌}
+use mathlib.Core.Bool.{false}
 use mathlib.Core.List.{List, [], ◌∷◌, ◌++◌}
 use mathlib.Core.Path.{◌≡◌, refl, sym, ap, ◌∙◌, subst}
 use borrow.Author.Tests.{eq-eqb, ne_eqb}
 use native.Mathlib.Omega.{arith}
-use lib.ListN.{length, take, drop, length-append, length-drop}
+use lib.Dec.{eqb}
+use lib.ListN.{length, take, drop}
 use lib.Seq.{take_at, drop_at, drop-drop}
 use Rattle.answer.proofs.Answers.{refused-with, accepted_with}
 use Rattle.answer.proofs.Faults.{admitted_by}
 use Rattle.answer.specs.Outcome.{answered}
 use Rattle.answer.specs.Tests.{first_fault}
-use Rattle.circuit.specs.Answer.{content, HasLayout, CircuitRead, circuit_fault}
+use Rattle.circuit.specs.Answer.{content, HasLayout}
 use Rattle.circuit.specs.Content.{Circuit}
 use Rattle.circuit.specs.Reading.{read_circuit}
 use Rattle.circuit.specs.Value.{over_gates, at_wires}
 use Rattle.circuit.specs.declared.Layout.{Layout}
-use Rattle.circuit.specs.declared.Answer.{Answer}
-use Rattle.circuit.specs.declared.Answer.TheVariants.{Accepted, Fault}
-use Rattle.circuit_run.proofs.Steps.{layout-read}
 use Rattle.number.proofs.Places.{choose_yes, choose_no}
 use Rattle.number.proofs.Records.{read-refused, read_whole}
+use Rattle.number.specs.Reading.{Refused}
 use Rattle.circuit_run.proofs.RoundGates.{gates-same}
 use Rattle.circuit_run.proofs.Inputs.{inputs-length}
-use Rattle.circuit_run.specs.Inner.RoundPasses.{CanPass, Passes, passed_on, waiting_by, Tested, Checks, accepted_on, rounded_with}
+use Rattle.circuit_run.specs.Inner.RoundPasses.{Passes, passed_on, waiting_by, Tested, accepted_on, rounded_with}
 use Rattle.circuit_run.specs.Inner.RoundTests.{asked_tests}
 use Rattle.circuit_run.specs.Round.{RoundLent, round_with, RoundOutcome, round_outcome, rounded, shares_in, state_with, waiting, waiting_in, round_tests, input_bytes, gate_byte, wires_after, bits_to_send, with_bits, with_outputs, accepted_round, refused_round, round}
 use Rattle.circuit_run.specs.declared.RoundState.{RoundState}
@@ -59,20 +59,6 @@ module _ {s : List ℕ} {f : Layout} {shares triples : List ℕ} (output : List 
 
     same : drop c.inputs taken ≡ drop c.inputs before
     same = subst (λ (n : ℕ). drop n taken ≡ drop n before) o.inputs back
-
-    pub can_pass : CanPass s f triples far (length bits) taken
-    can_pass =
-        record {
-          enough = t.enough;
-          places =
-              t.places ∙ ap (λ (n : ℕ). 2 * n) (counted_is o before refl) ∙ ap (λ (d : List ℕ). 2 * waiting (take (length c.gates) d)) (sym same);
-          triple_bits = t.triple_bits;
-          far_bits = t.far_bits;
-          room = t.bits;
-          long =
-              ap length e ∙ length-append (input_bytes shares before) (drop (length shares) before)
-              ∙ omega (arith, size, t.inputs, length-drop (length shares) before, t.long, o.most);
-        }
 
     module _ {role q : ℕ} {bits' wires : List ℕ} (p : Passes s f role triples far bits taken q bits' wires) where
       abbrev l : RoundLent
@@ -126,63 +112,49 @@ module _ {s : List ℕ} {f : Layout} {shares triples : List ℕ} (output : List 
 
 -- ---- the call
 
--- the answer's case first: it says of which answer the layout is
-pub layout-most : (s : List ℕ) {r : Answer} {f : Layout} → r ≡ Accepted f → CircuitRead s r → f.inputs + f.gates ≤ 4096
-layout-most s {r} e h = (layout-read {s = s} {r = r} h e).most
-
 -- a circuit that is refused
-pub circuit-refused : (role : ℕ) {s : List ℕ} (shares triples output far bits : List ℕ) {state : RoundState} {r : Answer} {j k : ℕ} {answer : Rounded}
-    → CircuitRead s r → r ≡ Fault j → k ≡ circuit_fault r → answer ≡ rounded_with k 0 0 state
+pub circuit-refused : (role : ℕ) {s : List ℕ} (shares triples output far bits : List ℕ) {state : RoundState} {k : ℕ} {answer : Rounded}
+    → read_circuit s ≡ Refused k → answer ≡ rounded_with k 0 0 state
     → rounded answer (round_with role s shares triples output far bits) ≡ round (round_with role s shares triples output far bits) state
 unfolding round
-circuit-refused role {s} shares triples output far bits {state} {r} {j} {k} {answer} h e n w =
+circuit-refused role {s} shares triples output far bits {state} {k} {answer} h w =
     let l : RoundLent = round_with role s shares triples output far bits in
-    read-refused (read_circuit s) (refused_round l state) _ (rounded answer l) j (subst (CircuitRead s) e h)
-    (ap (λ (x : Rounded). rounded x l) w ∙ ap (refused_round l state) (n ∙ ap circuit_fault e))
+    read-refused (read_circuit s) (refused_round l state) _ (rounded answer l) k h (ap (λ (x : Rounded). rounded x l) w)
 
 -- the tests together
-pub checks : (f : Layout) (role : ℕ) (shares triples : List ℕ) (room : ℕ) (far : List ℕ) (space : ℕ) (before : List ℕ) {waits n : ℕ}
-    → waits ≡ waiting_by f before → n ≡ first_fault (asked_tests f waits role shares triples far room space) → length before ≡ 4096
-    → Checks f role shares triples room far space before n
-checks f role shares triples room far space before {waits} {n} counted number long =
+pub tests_passed : (f : Layout) (role : ℕ) (shares triples : List ℕ) (room : ℕ) (far : List ℕ) (space : ℕ) (before : List ℕ) {waits : ℕ}
+    → waits ≡ waiting_by f before → 0 ≡ first_fault (asked_tests f waits role shares triples far room space) → length before ≡ 4096
+    → Tested f shares triples room far space before
+tests_passed f role shares triples room far space before {waits} counted number long =
+    let m = admitted_by (asked_tests f waits role shares triples far room space) 0 refl number refl in
     record {
-      number = number ∙ ap (λ (k : ℕ). first_fault (asked_tests f k role shares triples far room space)) counted;
-      tested =
-          λ none.
-          let m = admitted_by (asked_tests f waits role shares triples far room space) n refl number none in
-          record {
-            inputs = omega (arith, m.all);
-            places = omega (arith, m.all, counted);
-            outputs = omega (arith, m.all);
-            bits = omega (arith, m.all);
-            share_bits = search m.all;
-            triple_bits = search m.all;
-            far_bits = search m.all;
-            enough = omega (arith, m.all);
-            long = long;
-          };
+      inputs = omega (arith, m.all);
+      places = omega (arith, m.all, counted);
+      outputs = omega (arith, m.all);
+      bits = omega (arith, m.all);
+      share_bits = search m.all;
+      triple_bits = search m.all;
+      far_bits = search m.all;
+      enough = omega (arith, m.all);
+      long = long;
     }
 
-pub checked_tested : {f : Layout} {role : ℕ} {shares triples : List ℕ} {room : ℕ} {far : List ℕ} {space : ℕ} {before : List ℕ} {n : ℕ}
-    → Checks f role shares triples room far space before n → n ≡ 0 → Tested f shares triples room far space before
-checked_tested ch none = ch.tested none
-
 module _ (role : ℕ) {s : List ℕ} (shares triples output far bits : List ℕ) (state : RoundState) {f : Layout} (o : HasLayout s f) {n : ℕ}
-    (ch : Checks f role shares triples (length output) far (length bits) state.wires n) where
+    (number : n ≡ first_fault (asked_tests f (waiting_by f state.wires) role shares triples far (length output) (length bits))) where
   abbrev lent : RoundLent
   lent = round_with role s shares triples output far bits
 
   number_is : n ≡ first_fault (round_tests (content s) lent state.wires)
-  number_is = ch.number ∙ rw (counted_is o state.wires refl, o.inputs, o.outputs, o.ands)
+  number_is = number ∙ rw (counted_is o state.wires refl, o.inputs, o.outputs, o.ands)
 
   round_by_lem : (x : RoundOutcome)
       → x ≡ answered (round_tests (content s) lent state.wires) (refused_round lent state) (accepted_on (content s) lent state.wires) → x ≡ round lent state
   unfolding round accepted_on
   round_by_lem x e = read_whole (read_circuit s) (refused_round lent state) _ x (content s) o.whole e
 
-  pub round-refused : {answer : Rounded} → (n ≡ 0 → ⊥) → answer ≡ rounded_with n 0 0 state
+  pub round-refused : {answer : Rounded} → eqb n 0 ≡ false → answer ≡ rounded_with n 0 0 state
       → rounded answer (round_with role s shares triples output far bits) ≡ round (round_with role s shares triples output far bits) state
-  round-refused h w = round_by_lem _ (refused-with _ _ _ _ n number_is (ne_eqb n 0 h) (ap (λ (x : Rounded). rounded x lent) w))
+  round-refused h w = round_by_lem _ (refused-with _ _ _ _ n number_is h (ap (λ (x : Rounded). rounded x lent) w))
 
   pub round-accepted : n ≡ 0 → {written bits_written : ℕ} {wires : List ℕ} {after : RoundLent}
       → round_outcome 0 written bits_written (state_with wires) after ≡ accepted_on (content s) (round_with role s shares triples output far bits) state.wires

@@ -6,9 +6,7 @@ use native.Mathlib.Nat.{zero-add}
 use native.Mathlib.Numerals.{add-one}
 use native.Mathlib.Omega.{arith}
 use lib.ListN.{length, get_or, take, drop, length-drop}
-use lib.Seq.{take-suc, take-add, get_or-drop}
-use mir.Syntax.{w64}
-use mir.Val.{Fits}
+use lib.Seq.{take-suc, take-add, take_all, get_or-drop}
 use Rattle.number.proofs.Places.{either}
 use borrow.Author.Tests.{eq-eqb, ne_eqb}
 use Rattle.circuit_run.specs.Inner.RoundTests.{wait_of}
@@ -22,6 +20,14 @@ waiting_append (x ∷ xs) ys = omega (arith, waiting_append xs ys)
 pub wait_small : (byte : ℕ) → wait_of byte ≤ 1
 wait_small byte = either byte 1 (λ e. simp (eq-eqb _ _ e) (omega arith)) (λ n. simp (ne_eqb _ _ n) (omega arith))
 
+waiting_one : (bytes : List ℕ) (i : ℕ) → i < length bytes → waiting (take (i + 1) bytes) ≡ waiting (take i bytes) + wait_of (get_or bytes i 0)
+unfolding waiting
+waiting_one bytes i h =
+    ap (λ (n : ℕ). waiting (take n bytes)) (add-one i)
+    ∙ ap waiting (take-suc bytes i 0 h)
+    ∙ waiting_append (take i bytes) (get_or bytes i 0 ∷ [])
+    ∙ omega arith
+
 -- of the gates before a gate: none, one more, and no more than of all
 abbrev pub waiting_up_to : ℕ → List ℕ → ℕ → ℕ
 waiting_up_to inputs bytes i = waiting (take i (drop inputs bytes))
@@ -32,14 +38,10 @@ waiting_none inputs bytes = refl
 
 pub waiting_more : (inputs : ℕ) (bytes : List ℕ) (i : ℕ) → inputs + i < length bytes
     → waiting_up_to inputs bytes (i + 1) ≡ waiting_up_to inputs bytes i + wait_of (get_or bytes (inputs + i) 0)
-unfolding waiting
 waiting_more inputs bytes i h =
     let d : List ℕ = drop inputs bytes in
-    ap (λ (n : ℕ). waiting (take n d)) (add-one i)
-    ∙ ap waiting (take-suc d i 0 (omega (arith, length-drop inputs bytes)))
-    ∙ waiting_append (take i d) (get_or d i 0 ∷ [])
-    ∙ ap (λ (x : ℕ). waiting (take i d) + (wait_of x + 0)) (get_or-drop inputs bytes i 0)
-    ∙ omega arith
+    waiting_one d i (omega (arith, length-drop inputs bytes))
+    ∙ ap (λ (x : ℕ). waiting (take i d) + wait_of x) (get_or-drop inputs bytes i 0)
 
 pub waiting_upto : (inputs : ℕ) (bytes : List ℕ) (i n : ℕ) → i ≤ n → waiting_up_to inputs bytes i ≤ waiting_up_to inputs bytes n
 waiting_upto inputs bytes i n h =
@@ -51,26 +53,21 @@ waiting_upto inputs bytes i n h =
 
 -- ---- the loop that counts them
 
-pub record CountTurn (wires : List ℕ) (inputs gates count i : ℕ) : Type 0 where
-  pub turns : i ≤ gates
-  pub counted : count ≡ waiting_up_to inputs wires i
+pub record CountTurn (bytes : List ℕ) (count i : ℕ) : Type 0 where
+  pub counted : count ≡ waiting (take i bytes)
   pub few : count ≤ i
 
-pub count-start : (wires : List ℕ) (inputs gates : ℕ) → CountTurn wires inputs gates 0 0
-count-start wires inputs gates = record { turns = omega arith; counted = waiting_none inputs wires; few = omega arith }
+pub count-start : (bytes : List ℕ) → CountTurn bytes 0 0
+unfolding waiting
+count-start bytes = record { counted = refl; few = omega arith }
 
-module _ {wires : List ℕ} {inputs gates : ℕ} (most : inputs + gates ≤ 4096) {count i : ℕ} (turn : CountTurn wires inputs gates count i) where
-  module _ (more : i < gates) (byte : ℕ) {n : ℕ} (e : n ≡ wait_of byte) where
-    pub count_fits : Fits w64 (count + n)
-    count_fits = record { fits = omega (arith, turn.few, e, wait_small byte) }
-
-  pub count_next : length wires ≡ 4096 → i < gates → {n : ℕ} → n ≡ wait_of (get_or wires (inputs + i) 0) → CountTurn wires inputs gates (count + n) (i + 1)
-  count_next long more {n} e =
+module _ {bytes : List ℕ} {count i : ℕ} (turn : CountTurn bytes count i) where
+  pub count_next : i < length bytes → {n : ℕ} → n ≡ wait_of (get_or bytes i 0) → CountTurn bytes (count + n) (i + 1)
+  count_next more {n} e =
       record {
-        turns = omega arith;
-        counted = omega (arith, turn.counted, e, waiting_more inputs wires i (omega arith));
-        few = omega (arith, turn.few, e, wait_small (get_or wires (inputs + i) 0));
+        counted = omega (arith, turn.counted, e, waiting_one bytes i more);
+        few = omega (arith, turn.few, e, wait_small (get_or bytes i 0));
       }
 
-  pub count_done : gates ≤ i → count ≡ waiting (take gates (drop inputs wires))
-  count_done over = turn.counted ∙ ap (waiting_up_to inputs wires) {x = i} {y = gates} (omega (arith, turn.turns))
+  pub count_done : length bytes ≤ i → count ≡ waiting bytes
+  count_done over = turn.counted ∙ ap waiting (take_all i bytes over)

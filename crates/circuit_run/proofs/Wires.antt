@@ -3,13 +3,10 @@ use Prim.Native.Nat.{ℕ, suc, ◌+◌, ◌-◌, ◌≤◌, ◌<◌}
 use mathlib.Core.Bool.{true}
 use mathlib.Core.List.{List, [], ◌∷◌, ◌++◌, append_assoc}
 use mathlib.Core.Path.{◌≡◌, refl, sym, ap, ◌∙◌}
-use native.Mathlib.Nat.{sub-zero}
 use native.Mathlib.Numerals.{add-one}
 use native.Mathlib.Omega.{arith}
-use lib.ListN.{length, get_or, take, drop, set, replicate, length-append, length-drop, length-map}
-use lib.Seq.{set_at, take-suc, take-length, take_all, drop-cons, drop-drop, length-take-le, get_or-drop}
-use mir.Syntax.{w64}
-use mir.Val.{Fits}
+use lib.ListN.{length, get_or, take, drop, set, replicate, length-map}
+use lib.Seq.{set_at, take-suc, drop-cons, drop-drop, length-take-le, get_or-drop}
 use Rattle.circuit.proofs.Lists.{FirstWire, first-wire}
 use Rattle.circuit.specs.Answer.{content, HasLayout}
 use Rattle.circuit.specs.Reading.{read_wire, read_wires}
@@ -19,7 +16,6 @@ use Rattle.number.proofs.Places.{whole_is}
 use Rattle.number.specs.Reading.{Whole}
 use Rattle.number.specs.Inner.Known.{is_whole}
 use Rattle.circuit_run.specs.Inner.Places.{opened_with, given_and}
-use Rattle.circuit_run.specs.Step.{fresh_wires}
 use Rattle.circuit_run.specs.declared.places.Asked.{Asked}
 use Rattle.circuit_run.specs.declared.places.Spot.{Spot}
 
@@ -28,10 +24,6 @@ use Rattle.circuit_run.specs.declared.places.Spot.{Spot}
 -- the first shares, and zero past them
 unfoldable pub filled : List ℕ → ℕ → List ℕ
 filled shares i = take i shares ++ replicate (4096 - i) 0
-
-pub filled_none : (shares : List ℕ) → replicate 4096 0 ≡ filled shares 0
-unfolding filled
-filled_none shares = refl
 
 module _ (shares : List ℕ) (i : ℕ) (few : length shares ≤ 4096) where
   pub filled_more : (wires : List ℕ) → i < length shares → wires ≡ filled shares i → set wires i (get_or shares i 0) ≡ filled shares (i + 1)
@@ -44,12 +36,6 @@ module _ (shares : List ℕ) (i : ℕ) (few : length shares ≤ 4096) where
       ∙ set_at (take i shares) 0 r x i (length-take-le i shares (omega arith))
       ∙ sym (append_assoc (take i shares) (x ∷ []) r)
       ∙ ap (λ (l : List ℕ). l ++ r) (sym (ap (λ (n : ℕ). take n shares) (add-one i) ∙ take-suc shares i 0 h))
-
-  pub filled-all : (wires : List ℕ) → length shares ≤ i → i ≤ length shares → wires ≡ filled shares i → wires ≡ fresh_wires shares
-  unfolding filled fresh_wires
-  filled-all wires h g e =
-      let n : i ≡ length shares = omega arith in
-      e ∙ ap (λ (k : ℕ). take k shares ++ replicate (4096 - k) 0) n ∙ ap (λ (l : List ℕ). l ++ replicate (4096 - length shares) 0) (take-length shares)
 
 -- ---- the share of an AND
 
@@ -71,41 +57,13 @@ pub record OutputTurn (s : List ℕ) (wires output₀ : List ℕ) (outputs limit
   pub read : read_wires (outputs - i) limit s at ≡ Whole (drop i (outputs_of s), end)
   pub written : output ≡ at_wires wires (take i (outputs_of s)) ++ drop i output₀
 
-pub output-start : {s : List ℕ} {f : Layout} (wires output : List ℕ) → HasLayout s f
-    → OutputTurn s wires output f.outputs (f.inputs + f.gates) output f.tail 0
-output-start {s} {f} wires output o =
-    record {
-      turns = omega arith;
-      end = o.tail.0;
-      read = ap (λ (n : ℕ). read_wires n (f.inputs + f.gates) s f.tail) (sub-zero f.outputs) ∙ o.tail.1;
-      written = refl;
-    }
-
-pub limit_fits : {s : List ℕ} {f : Layout} → HasLayout s f → Fits w64 (f.inputs + f.gates)
-limit_fits o = record { fits = omega (arith, o.most) }
-
 map_append : (wires xs ys : List ℕ) → at_wires wires (xs ++ ys) ≡ at_wires wires xs ++ at_wires wires ys
 map_append wires [] ys = refl
 map_append wires (x ∷ xs) ys = ap (λ (l : List ℕ). get_or wires x 0 ∷ l) (map_append wires xs ys)
 
 module _ {s : List ℕ} {f : Layout} (o : HasLayout s f) {wires output₀ : List ℕ} (room : f.outputs ≤ length output₀) {output : List ℕ} {at i : ℕ}
     (turn : OutputTurn s wires output₀ f.outputs (f.inputs + f.gates) output at i) where
-  pub output-length : length output ≡ length output₀
-  output-length =
-      ap length turn.written
-      ∙ length-append (at_wires wires (take i (outputs_of s))) (drop i output₀)
-      ∙ omega (
-        arith,
-        length-map (take i (outputs_of s)) (λ (w : ℕ). get_or wires w 0),
-        length-take-le i (outputs_of s) (omega (arith, turn.turns, o.outputs)),
-        length-drop i output₀,
-        turn.turns,
-      )
-
   module _ (more : i < f.outputs) where
-    pub output-room : i < length output
-    output-room = omega (arith, output-length)
-
     first : FirstWire (f.outputs - (i + 1)) (f.inputs + f.gates) s at (drop i (outputs_of s)) turn.end
     first =
         first-wire (f.outputs - (i + 1)) (f.inputs + f.gates) s at
@@ -113,9 +71,6 @@ module _ {s : List ℕ} {f : Layout} (o : HasLayout s f) {wires output₀ : List
 
     pub output-known : is_whole (read_wire (f.inputs + f.gates) s at) ≡ true
     output-known = ap is_whole first.reads
-
-    pub output_wire : {w : ℕ} → w < f.inputs + f.gates → w < 4096
-    output_wire h = omega (arith, o.most)
 
     pub output-next : {w next : ℕ} → Whole (w, next) ≡ read_wire (f.inputs + f.gates) s at
         → OutputTurn s wires output₀ f.outputs (f.inputs + f.gates) (set output i (get_or wires w 0)) next (i + 1)
@@ -145,10 +100,3 @@ module _ {s : List ℕ} {f : Layout} (o : HasLayout s f) {wires output₀ : List
               ∙ ap (λ (l : List ℕ). l ++ drop (suc i) output₀) (sym (ap (at_wires wires) k ∙ map_append wires (take i (outputs_of s)) (w ∷ [])))
               ∙ ap (λ (n : ℕ). at_wires wires (take (i + 1) (outputs_of s)) ++ drop n output₀) (sym (add-one i));
         }
-
-  pub output_done : f.outputs ≤ i → output ≡ at_wires wires (outputs_of s) ++ drop f.outputs output₀
-  output_done over =
-      let n : i ≡ f.outputs = omega (arith, turn.turns) in
-      turn.written
-      ∙ ap (λ (l : List ℕ). at_wires wires l ++ drop i output₀) (take_all i (outputs_of s) (omega (arith, o.outputs)))
-      ∙ ap (λ (k : ℕ). at_wires wires (outputs_of s) ++ drop k output₀) n

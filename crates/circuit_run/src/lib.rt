@@ -2,9 +2,15 @@
 // whose wires are known. The code stands in crates `circuit_gates`, `circuit_step` and `circuit_round`.
 #![tactic(auto)]
 
+ghost use Rattle.std.specs.Prelude.{◌≡◌};
+ghost use Rattle.answer.specs.Refused.{number_of};
+ghost use Rattle.circuit_run.specs.Inner.Places.{stepped_with};
+ghost use Rattle.circuit_run.specs.Inner.RoundPasses.{rounded_with};
+
 mod places;
 
-pub use places::{Asked, Checked, Place, Reached, Spot};
+use answer::Refusal;
+pub use places::{Asked, Place, Run, Spot};
 
 // The end of a run by its role: the pairing's noise end makes each NOT and adds the product of what is opened.
 pub const ROLE_NOISE: u8 = 1;
@@ -36,6 +42,21 @@ pub struct Stepped {
     pub state: StepState,
 }
 
+impl Stepped {
+    // A refused step: zeros, and the state as it was.
+    pub fn refused(refusal: Refusal, state: StepState) -> Stepped
+        ensures { result ≡ stepped_with (number_of refusal) 0 0 0 state }
+    {
+        Stepped {
+            number: refusal.number(),
+            written: 0,
+            first_bit: 0,
+            second_bit: 0,
+            state,
+        }
+    }
+}
+
 // An end's run by rounds: a byte for each wire, 0 while its share is not known, 1 for an AND that waits for the far bits, 2 + share
 // once known.
 #[repr(C)]
@@ -52,4 +73,18 @@ pub struct Rounded {
     pub written: usize,
     pub bits_written: usize,
     pub state: RoundState,
+}
+
+impl Rounded {
+    // A refused round: zeros, and the state as it was.
+    pub fn refused(refusal: Refusal, state: RoundState) -> Rounded
+        ensures { result ≡ rounded_with (number_of refusal) 0 0 state }
+    {
+        Rounded {
+            number: refusal.number(),
+            written: 0,
+            bits_written: 0,
+            state,
+        }
+    }
 }

@@ -1,6 +1,7 @@
 // What the functions of a step tell each other: what it is asked, and where a run stands in its circuit.
 
-// The numbers that a step gets: the role, whether its state waits for the far bits, and these.
+// The numbers that a step gets: the role, whether its state waits for the far bits, and these. The role stays its number: it is tested
+// last (document 02, 9), and the specs of steps and rounds go by it. The far bits are lent whether or not a state waits, and then untested.
 #[derive(Clone, Copy)]
 pub struct Asked {
     pub role: u8,
@@ -17,10 +18,9 @@ pub struct Place {
     pub ands: usize,
 }
 
-// Whether a state is admitted; for one that waits, the AND's number and wires, how many ANDs come before it, the place after it.
+// The AND that a run waits at: its gate's number, its wires, how many ANDs come before it, and the place after it.
 #[derive(Clone, Copy)]
 pub struct Spot {
-    pub admitted: bool,
     pub gate: usize,
     pub first_wire: usize,
     pub second_wire: usize,
@@ -28,19 +28,11 @@ pub struct Spot {
     pub next: usize,
 }
 
-// A step's number, and where its state stands.
+// A run by its state.
 #[derive(Clone, Copy)]
-pub struct Checked {
-    pub number: u32,
-    pub spot: Spot,
-}
-
-// Where a run stops: at an AND that waits, with its wires and how many ANDs come before it, or at the end.
-#[derive(Clone, Copy)]
-pub struct Reached {
-    pub waits: bool,
-    pub gate: usize,
-    pub first_wire: usize,
-    pub second_wire: usize,
-    pub ands: usize,
+pub enum Run {
+    // It is fresh, or waits at an AND.
+    Going(Option<Spot>),
+    // Its outputs are written.
+    Finished,
 }

@@ -1,3 +1,2 @@
 -- The laws of `circuit_step`, which its functions' proofs use.
-mod Leaves
 mod Proceeds

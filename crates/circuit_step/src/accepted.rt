@@ -8,7 +8,7 @@ ghost use Rattle.circuit_run.specs.Step.{lent_with, stepped};
 use crate::running::{proceed, write_outputs};
 use answer::ACCEPTED;
 use circuit::Layout;
-use circuit_run::{Asked, RUN_FINISHED, RUN_WAITS, Spot, StepState, Stepped};
+use circuit_run::{Asked, RUN_FINISHED, RUN_WAITS, Run, StepState, Stepped};
 
 // A finished run: writes the outputs.
 fn finish(circuit: &[u8], layout: Layout, output: &mut [u8], state: StepState) -> Stepped
@@ -16,14 +16,13 @@ fn finish(circuit: &[u8], layout: Layout, output: &mut [u8], state: StepState) -
     ensures { (result ≡ stepped_with 0 layout.outputs 0 0 state)
         × (output.new ≡ at_wires state.wires (content circuit.now).outputs ++ drop layout.outputs output.old) }
 {
-    let wires = state.wires;
-    write_outputs(circuit, layout, &wires, output);
+    write_outputs(circuit, layout, &state.wires, output);
     Stepped {
         number: ACCEPTED,
         written: layout.outputs,
         first_bit: 0,
         second_bit: 0,
-        state: state,
+        state,
     }
 }
 
@@ -32,13 +31,13 @@ pub fn accepted_step(
     circuit: &[u8],
     layout: Layout,
     asked: Asked,
-    spot: Spot,
+    run: Run,
     shares: &[u8],
     triples: &[u8],
     output: &mut [u8],
     state: StepState,
 ) -> Stepped
-    requires { Tested circuit.now layout asked spot shares.now triples.now (length output.old) state.phase state.gate }
+    requires { Tested circuit.now layout run shares.now triples.now (length output.old) state.phase state.gate }
     ensures { stepped result
         (lent_with asked.role circuit.now shares.now triples.now output.new
         asked.far_first asked.far_second)
@@ -46,32 +45,29 @@ pub fn accepted_step(
         (lent_with asked.role circuit.now shares.now triples.now output.old
         asked.far_first asked.far_second) state }
 {
-    if state.phase == RUN_FINISHED {
+    let Run::Going(waiting) = run else {
         return finish(circuit, layout, output, state);
-    }
-    let mut wires = state.wires;
-    let reached = proceed(circuit, layout, asked, spot, shares, triples, &mut wires);
-    let gate = reached.gate as u32;
-    if reached.waits {
-        let first_wire = reached.first_wire;
-        let second_wire = reached.second_wire;
-        let at = reached.ands * 3;
-        return Stepped {
-            number: ACCEPTED,
-            written: 0,
-            first_bit: wires[first_wire] ^ triples[at],
-            second_bit: wires[second_wire] ^ triples[at + 1],
-            state: StepState {
-                phase: RUN_WAITS,
-                gate: gate,
-                wires: wires,
-            },
-        };
-    }
-    let last = StepState {
-        phase: RUN_FINISHED,
-        gate: gate,
-        wires: wires,
     };
-    finish(circuit, layout, output, last)
+    let mut wires = state.wires;
+    let reached = proceed(circuit, layout, asked, waiting, shares, triples, &mut wires);
+    let Some(spot) = reached else {
+        let last = StepState {
+            phase: RUN_FINISHED,
+            gate: layout.gates as u32,
+            wires,
+        };
+        return finish(circuit, layout, output, last);
+    };
+    let at = spot.ands * 3;
+    Stepped {
+        number: ACCEPTED,
+        written: 0,
+        first_bit: wires[spot.first_wire] ^ triples[at],
+        second_bit: wires[spot.second_wire] ^ triples[at + 1],
+        state: StepState {
+            phase: RUN_WAITS,
+            gate: spot.gate as u32,
+            wires,
+        },
+    }
 }

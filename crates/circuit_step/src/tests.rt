@@ -1,67 +1,66 @@
 // The tests of a step, once its circuit is read.
-ghost use Rattle.std.specs.Prelude.{◌≡◌};
+ghost use Rattle.std.specs.Prelude.{◌≡◌, IfOk};
+ghost use Rattle.answer.specs.Refused.{fault};
 ghost use Rattle.answer.specs.Tests.{first_fault};
+ghost use Rattle.circuit.specs.Answer.{content, HasLayout};
+ghost use Rattle.circuit_run.specs.Inner.Places.{Tested};
 ghost use Rattle.circuit_run.specs.Inner.StepTests.{asked_tests};
-ghost use Rattle.circuit_run.specs.Step.{far_admitted};
+ghost use Rattle.circuit_run.specs.Step.{far_admitted, state_admitted};
 
-use answer::{
-    ACCEPTED, BAD_CIRCUIT, BAD_LENGTH, BUFFER_SHORT, NOT_ELEMENT, TOO_FEW_TRIPLES, WRONG_END,
-    any_above, is_short,
-};
+use crate::waiting::run_of;
+use answer::{Refusal, any_above, is_short};
 use circuit::Layout;
 use circuit_gates::is_role;
-use circuit_run::Asked;
+use circuit_run::{Asked, Run, StepState};
 
 // Whether the far bits of a run that waits are bits.
 fn are_far_bits(waits: bool, far_first: u8, far_second: u8) -> bool
     ensures { result ≡ far_admitted waits far_first far_second }
 {
-    if !waits {
-        return true;
-    }
-    if 1 < far_first {
-        return false;
-    }
-    far_second <= 1
+    !waits || far_first <= 1 && far_second <= 1
 }
 
-// The number of a step, with room for an output of `room` bytes.
-pub fn step_number(
+// The run of a step on a state, with room for an output of `room` bytes.
+pub fn check(
+    source: &[u8],
     layout: Layout,
-    admitted: bool,
     asked: Asked,
+    state: &StepState,
     shares: &[u8],
     triples: &[u8],
     room: usize,
-) -> u32
-    ensures { result ≡ first_fault (asked_tests layout admitted asked shares.now triples.now room) }
+) -> Result<Run, Refusal>
+    requires { HasLayout source.now layout }
+    ensures number { fault result
+        ≡ first_fault (asked_tests layout (state_admitted (content source.now) state.now.phase state.now.gate) asked shares.now triples.now room) }
+    ensures tested { IfOk result (λ run. Tested source.now layout run shares.now triples.now room state.now.phase state.now.gate) }
 {
     if shares.len() != layout.inputs {
-        return BAD_LENGTH;
+        return Err(Refusal::BadLength);
     }
     if triples.len() % 3 != 0 {
-        return BAD_LENGTH;
+        return Err(Refusal::BadLength);
     }
     if room < layout.outputs {
-        return BUFFER_SHORT;
+        return Err(Refusal::BufferShort);
     }
     if any_above(1, shares) {
-        return NOT_ELEMENT;
+        return Err(Refusal::NotElement);
     }
     if any_above(1, triples) {
-        return NOT_ELEMENT;
+        return Err(Refusal::NotElement);
     }
     if !are_far_bits(asked.waits, asked.far_first, asked.far_second) {
-        return NOT_ELEMENT;
+        return Err(Refusal::NotElement);
     }
     if is_short(triples.len(), 3, layout.ands) {
-        return TOO_FEW_TRIPLES;
+        return Err(Refusal::TooFewTriples);
     }
-    if !admitted {
-        return BAD_CIRCUIT;
-    }
+    let Some(run) = run_of(source, layout, state.phase, state.gate as usize) else {
+        return Err(Refusal::BadCircuit);
+    };
     if !is_role(asked.role) {
-        return WRONG_END;
+        return Err(Refusal::WrongEnd);
     }
-    ACCEPTED
+    Ok(run)
 }

@@ -1,63 +1,61 @@
 // Where a run stands in its circuit.
 ghost use Rattle.std.specs.Prelude.{◌≡◌, ◌≤◌};
 ghost use Rattle.circuit.specs.Answer.{content, HasLayout};
-ghost use Rattle.circuit_run.specs.Inner.Places.{Left, Spots};
+ghost use Rattle.circuit_run.specs.Inner.Places.{Left, IsAnd, Admits};
 ghost use Rattle.circuit_run.specs.Step.{ands_before};
 
-use circuit::{GATE_AND, Layout, and_of, known_gate};
-use circuit_run::{Place, RUN_FINISHED, RUN_WAITS, Spot};
+use circuit::{Gate, Layout, known_gate};
+use circuit_run::{Place, RUN_FINISHED, RUN_WAITS, Run, Spot};
 
 // The place of a gate, or after the last.
 fn place_of(source: &[u8], layout: Layout, gate: usize) -> Place
     requires { HasLayout source.now layout × (gate ≤ layout.gates) }
     ensures { Left source.now layout.inputs gate result.at × (result.ands ≡ ands_before (content source.now) gate) }
 {
-    let inputs = layout.inputs;
     let mut at = layout.body;
     let mut ands: usize = 0;
-    let mut i: usize = 0;
-    while i < gate {
-        let g = known_gate(source, at, inputs + i);
-        ands += and_of(g.kind);
-        at = g.next;
-        i += 1;
+    for i in 0..gate {
+        let (passed, next) = known_gate(source, at, layout.inputs + i);
+        ands += usize::from(passed.is_and());
+        at = next;
     }
-    Place { gate: i, at, ands }
+    Place { gate, at, ands }
 }
 
-// A spot without an AND.
-fn no_spot(admitted: bool, gate: usize) -> Spot
-    ensures { (result.admitted ≡ admitted) × (result.gate ≡ gate) }
-{
-    Spot {
-        admitted: admitted,
-        gate: gate,
-        first_wire: 0,
-        second_wire: 0,
-        ands: 0,
-        next: 0,
-    }
-}
-
-// Where a state of a phase and a gate stands.
-pub fn spot_of(source: &[u8], layout: Layout, phase: u32, gate: usize) -> Spot
+// The AND at a gate, where there is one.
+fn and_at(source: &[u8], layout: Layout, gate: usize) -> Option<Spot>
     requires { HasLayout source.now layout }
-    ensures { Spots source.now layout phase gate result }
+    ensures { IsAnd source.now layout gate result }
 {
-    if phase != RUN_WAITS {
-        return no_spot(phase <= RUN_FINISHED, gate);
-    }
     if layout.gates <= gate {
-        return no_spot(false, gate);
+        return None;
     }
-    let place = place_of(source, layout, gate);
-    let g = known_gate(source, place.at, layout.inputs + gate);
-    Spot {
-        admitted: g.kind == GATE_AND,
-        gate: gate,
-        first_wire: g.first_wire,
-        second_wire: g.second_wire,
-        ands: place.ands,
-        next: g.next,
+    let Place { at, ands, .. } = place_of(source, layout, gate);
+    let (found, next) = known_gate(source, at, layout.inputs + gate);
+    let Gate::And(first_wire, second_wire) = found else {
+        return None;
+    };
+    Some(Spot {
+        gate,
+        first_wire,
+        second_wire,
+        ands,
+        next,
+    })
+}
+
+// The run of a state of a phase and a gate, where the state is admitted.
+pub fn run_of(source: &[u8], layout: Layout, phase: u32, gate: usize) -> Option<Run>
+    requires { HasLayout source.now layout }
+    ensures { Admits source.now layout phase gate result }
+{
+    match phase {
+        0 => Some(Run::Going(None)),
+        RUN_WAITS => {
+            let spot = and_at(source, layout, gate)?;
+            Some(Run::Going(Some(spot)))
+        }
+        RUN_FINISHED => Some(Run::Finished),
+        _ => None,
     }
 }

@@ -2,8 +2,6 @@
 use mathlib.Core.List.{List}
 use mathlib.Core.Path.{◌≡◌, refl, ap, ◌∙◌}
 use Prim.Native.Nat.{ℕ, ◌+◌, ◌*◌, ◌%◌, ◌≤◌, ◌<◌}
-use mir.Syntax.{w64}
-use mir.Val.{Fits}
 use native.Mathlib.Nat.{mod-lt}
 use native.Mathlib.Omega.{arith}
 use Rattle.aes128.specs.Inner.Blocks.{cipher_of}
@@ -48,12 +46,6 @@ module _ (s : Shape) (shaped : Shaped s) (i : ℕ) (h : i < s.terms) where
   strip-within =
       rw shaped.strip
       (omega (arith, strip-end s.places s.terms shaped.full i h, strips_within s.places s.terms shaped.full))
-
-  pub strip-fits : Fits w64 (i * s.strip)
-  strip-fits = record { fits = omega (arith, strip-within, shaped.most) }
-
-  pub place-fits : (word : ℕ) → Fits w64 (i * s.strip + word % s.strip)
-  place-fits word = let r = mod-lt word some-place in record { fits = omega (arith, strip-within, shaped.most) }
 
   pub place-below : (word : ℕ) → i * s.strip + word % s.strip < s.places
   place-below word = let r = mod-lt word some-place in omega (arith, strip-within)

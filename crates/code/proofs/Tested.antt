@@ -1,17 +1,13 @@
 -- Words tested one a turn: over a row's terms, over a window's rows, and over the whole vector; and the choice between the
 -- last two.
-use mathlib.Core.Bool.{Bool, true, false, ◌&&◌, and-true, and-false}
+use mathlib.Core.Bool.{Bool, true, false, ◌&&◌}
 use mathlib.Core.List.{List}
 use mathlib.Core.Path.{◌≡◌, sym, ap, ◌∙◌}
-use Prim.Native.Nat.{ℕ, ◌+◌, ◌*◌, ◌≤◌, ◌<◌}
-use native.Mathlib.Nat.{add-zero, le_antisymm, mul-le-mul}
+use Prim.Native.Nat.{ℕ, ◌+◌, ◌≤◌, ◌<◌}
+use native.Mathlib.Nat.{add-zero, le_antisymm}
 use native.Mathlib.Numerals.{add-one}
-use native.Mathlib.Omega.{arith}
 use borrow.Author.Tests.{lt-ltb, le-ltb}
-use lib.Dec.{ltb}
 use lib.ListN.{length, get_or}
-use mir.Syntax.{w64}
-use mir.Val.{Fits}
 use Rattle.code.specs.declared.Shape.{Shape}
 use Rattle.code.specs.declared.Window.{Window}
 use Rattle.code.specs.Inner.Rows.{place_in}
@@ -19,14 +15,6 @@ use Rattle.algebra.specs.Every.{every}
 use Rattle.code.specs.Inner.Used.{word_below, terms_below, row_below, used_below, four_below, all_below}
 use Rattle.algebra.proofs.Every.{every-none, every_more, every_done, every_stop, every-and, every-not}
 use Rattle.code.proofs.Laws.{used_all}
-
--- one word more
-module _ (others : Bool) (word bound : ℕ) where
-  pub still : word < bound → others ≡ (others && ltb word bound)
-  still h = sym (rw (lt-ltb word bound h) (and-true others))
-
-  pub no_more : bound ≤ word → false ≡ (others && ltb word bound)
-  no_more h = sym (rw (le-ltb word bound h) (and-false others))
 
 module _ (bound : ℕ) (words : List ℕ) (keys : List (List (List ℕ))) (s : Shape) where
   module _ (x : ℕ) where
@@ -69,11 +57,6 @@ module _ (bound : ℕ) (words : List ℕ) (keys : List (List (List ℕ))) (s : S
   unfolding used_below
   rows_none first = every-none (λ k. row_below bound words keys s (first + k))
 
-  pub rows_done : (w : Window) (k : ℕ) → used_below bound words keys s (record { first = w.first; count = k }) ≡ true → k ≤ w.count → w.count ≤ k
-      → true ≡ used_below bound words keys s w
-  unfolding used_below
-  rows_done w k = every_done (λ i. row_below bound words keys s (w.first + i)) k w.count
-
   module _ (w : Window) (k : ℕ) {r : Bool} (row : r ≡ row_below bound words keys s (w.first + k)) where
     pub row_more : r ≡ true → used_below bound words keys s (record { first = w.first; count = k }) ≡ true
         → used_below bound words keys s (record { first = w.first; count = k + 1 }) ≡ true
@@ -111,13 +94,6 @@ module _ (bound : ℕ) (words : List ℕ) where
   all_done j = every_done (word_below bound words) j (length words)
 
 -- ---- the choice between the two
-
--- as many terms as a window has fit a word
-pub terms_fit : (first count ℓ : ℕ) → first + count ≤ 32768 → ℓ ≤ 32 → Fits w64 (count * ℓ)
-terms_fit first count ℓ h k =
-    let c : count ≤ 32768 = omega arith in
-    let m : count * ℓ ≤ 32768 * 32 = mul-le-mul c k in
-    omega arith
 
 pub all-passes : (bound : ℕ) (words : List ℕ) (keys : List (List (List ℕ))) (s : Shape) (w : Window) {r : Bool} → r ≡ all_below bound words → r ≡ true
     → s.terms ≤ s.places → length words ≡ s.places → true ≡ used_below bound words keys s w

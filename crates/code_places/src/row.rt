@@ -1,11 +1,11 @@
 // The terms of a row and their places.
 ghost use Rattle.std.specs.Prelude.{◌≡◌, ◌<◌};
-ghost use Rattle.aes_sbox.specs.Inner.Tables.{RoundTables};
 ghost use Rattle.aes128.specs.Inner.Words.{round_keys};
 ghost use Rattle.field.specs.Bytes.{high_of};
 ghost use Rattle.code.specs.Inner.Rows.{Shaped, term_block_by, place_by, place_in};
 
 use aes_blocks::encrypt;
+use aes_sbox::Tables;
 use code::Shape;
 use field::Block;
 
@@ -26,9 +26,8 @@ pub struct Term {
 }
 
 // Term i of row x.
-pub fn row_term(tables: &[u64; 1536], keys: &[u64; 40], shape: Shape, x: usize, i: usize) -> Term
-    requires round_tables { RoundTables tables.now }
-    requires shaped { Shaped shape × (i < shape.terms) }
+pub fn row_term(tables: Tables, keys: &[u64; 40], shape: Shape, x: usize, i: usize) -> Term
+    requires { Shaped shape × (i < shape.terms) }
     ensures { (result.place ≡ place_in (round_keys keys.now) shape x i)
         × (result.place < shape.places) × (result.word ≡ high_of (term_block_by (round_keys keys.now) x i)) }
 {
@@ -47,11 +46,9 @@ pub fn row_term(tables: &[u64; 1536], keys: &[u64; 40], shape: Shape, x: usize, 
 }
 
 // The place of term i of row x.
-pub fn row_place(tables: &[u64; 1536], keys: &[u64; 40], shape: Shape, x: usize, i: usize) -> usize
-    requires round_tables { RoundTables tables.now }
-    requires shaped { Shaped shape × (i < shape.terms) }
+pub fn row_place(tables: Tables, keys: &[u64; 40], shape: Shape, x: usize, i: usize) -> usize
+    requires { Shaped shape × (i < shape.terms) }
     ensures { (result ≡ place_in (round_keys keys.now) shape x i) × (result < shape.places) }
 {
-    let term = row_term(tables, keys, shape, x, i);
-    term.place
+    row_term(tables, keys, shape, x, i).place
 }

@@ -1,64 +1,57 @@
 // Whether every word that a window's rows use is below a bound.
 ghost use Rattle.std.specs.Prelude.{◌&&◌, ◌≡◌, ◌+◌, ◌<◌, ◌≤◌, ltb, length};
-ghost use Rattle.aes_sbox.specs.Inner.Tables.{RoundTables};
 ghost use Rattle.aes128.specs.Inner.Words.{round_keys};
 ghost use Rattle.code.specs.Inner.Rows.{Shaped};
 ghost use Rattle.code.specs.Inner.Used.{row_below, used_below, four_below, all_below};
 
 use crate::row::row_place;
+use aes_sbox::Tables;
 use code::{Shape, Window};
 
 // Whether every word is below the bound, where that is known of all but one.
 pub fn still_below(others: bool, word: u64, bound: u64) -> bool
     ensures { result ≡ (others && ltb word bound) }
 {
-    if word < bound { others } else { false }
+    others && word < bound
 }
 
 // Whether every word at the places of row x is below the bound.
 fn row_below(
-    tables: &[u64; 1536],
+    tables: Tables,
     keys: &[u64; 40],
     shape: Shape,
     x: usize,
     words: &[u64],
     bound: u64,
 ) -> bool
-    requires round_tables { RoundTables tables.now }
-    requires shaped { Shaped shape × (length words.now ≡ shape.places) }
+    requires { Shaped shape × (length words.now ≡ shape.places) }
     ensures { result ≡ row_below bound words.now (round_keys keys.now) shape x }
 {
-    let mut i: usize = 0;
-    while i < shape.terms {
+    for i in 0..shape.terms {
         let j = row_place(tables, keys, shape, x, i);
         if bound <= words[j] {
             return false;
         }
-        i += 1;
     }
     true
 }
 
 // The test, row by row.
 pub fn rows_below(
-    tables: &[u64; 1536],
+    tables: Tables,
     keys: &[u64; 40],
     shape: Shape,
     window: Window,
     words: &[u64],
     bound: u64,
 ) -> bool
-    requires round_tables { RoundTables tables.now }
-    requires shaped { Shaped shape × (length words.now ≡ shape.places) × (window.first + window.count ≤ 32768) }
+    requires { Shaped shape × (length words.now ≡ shape.places) × (window.first + window.count ≤ 32768) }
     ensures { result ≡ used_below bound words.now (round_keys keys.now) shape window }
 {
-    let mut k: usize = 0;
-    while k < window.count {
-        let below = row_below(tables, keys, shape, window.first + k, words, bound);
-        if !below {
+    for k in 0..window.count {
+        if !row_below(tables, keys, shape, window.first + k, words, bound) {
             return false;
         }
-        k += 1;
     }
     true
 }
@@ -78,19 +71,16 @@ fn four_below(words: &[u64], i: usize, bound: u64) -> bool
 pub fn all_below(words: &[u64], bound: u64) -> bool
     ensures { result ≡ all_below bound words.now }
 {
-    let mut i: usize = 0;
-    while i + 3 < words.len() {
-        let four = four_below(words, i, bound);
-        if !four {
+    let turns = words.len() / 4;
+    for turn in 0..turns {
+        if !four_below(words, 4 * turn, bound) {
             return false;
         }
-        i += 4;
     }
-    while i < words.len() {
+    for i in 4 * turns..words.len() {
         if bound <= words[i] {
             return false;
         }
-        i += 1;
     }
     true
 }
@@ -98,22 +88,18 @@ pub fn all_below(words: &[u64], bound: u64) -> bool
 // The test, by a pass over all words where that is less work than the rows' ciphers; the rows are walked only if that
 // pass finds a word at the bound or above, or is not made. A term takes about as long as 100 words of the pass.
 pub fn used_below(
-    tables: &[u64; 1536],
+    tables: Tables,
     keys: &[u64; 40],
     shape: Shape,
     window: Window,
     words: &[u64],
     bound: u64,
 ) -> bool
-    requires round_tables { RoundTables tables.now }
-    requires shaped { Shaped shape × (length words.now ≡ shape.places) × (window.first + window.count ≤ 32768) }
+    requires { Shaped shape × (length words.now ≡ shape.places) × (window.first + window.count ≤ 32768) }
     ensures { result ≡ used_below bound words.now (round_keys keys.now) shape window }
 {
-    if shape.places / 100 <= window.count * shape.terms {
-        let all = all_below(words, bound);
-        if all {
-            return true;
-        }
+    if shape.places / 100 <= window.count * shape.terms && all_below(words, bound) {
+        return true;
     }
     rows_below(tables, keys, shape, window, words, bound)
 }

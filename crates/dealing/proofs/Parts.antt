@@ -38,7 +38,7 @@ use Rattle.tree.specs.Tree.{listed, siblings, leaf_at}
 use Rattle.dealing.specs.Admitted.{InMemory, Admitted}
 use Rattle.dealing.specs.Input.{Input, delta_admitted, position}
 use Rattle.dealing.specs.Parts.{noise_tree, noise_part, scalar_part}
-use Rattle.dealing.specs.Vectors.{head, field, root, leaf, delta, value}
+use Rattle.dealing.specs.Vectors.{head, root, value}
 use Rattle.dealing.proofs.Faults.{size_is, branch_is, field_is, noise_is, delta_is}
 
 -- ---- blocks

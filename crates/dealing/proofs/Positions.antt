@@ -2,10 +2,8 @@
 use mathlib.Core.Path.{◌≡◌, refl, sym, ap}
 use mathlib.Core.Bool.{Bool, true, false}
 use mathlib.Core.List.{List, [], ◌∷◌}
-use mathlib.Core.Logic.{⊎_elim}
 use Prim.Native.Nat.{ℕ, zero, suc, ◌+◌, ◌≤◌, ◌<◌}
 use native.Mathlib.Omega.{arith}
-use native.Mathlib.Nat.{eq-or-lt_of_le}
 use borrow.Author.Tests.{ltb-true, lt-ltb}
 use lib.Dec.{ltb}
 use lib.ListN.{length, get_or}
@@ -46,16 +44,6 @@ module _ (N t : ℕ) (l : List ℕ) where
     pub first : i ≡ 0 → base ≡ 0
     pub next : (k : ℕ) → i ≡ suc k → base ≡ get_or l k 0 + 1
 
-  pub rising-start : Risen 0 0
-  rising-start =
-      record {
-        turns = omega arith;
-        below = λ k h. absurd (omega arith);
-        rising = λ k h. absurd (omega arith);
-        first = λ e. refl;
-        next = λ k e. absurd (omega arith);
-      }
-
   pub rising_done : (base i : ℕ) → Risen base i → t ≤ i → true ≡ positions_admitted N t l
   rising_done base i T h = sym (positions_are N t l (rising_is t _ (λ k g. T.rising k (omega arith))) (λ k g. T.below k (omega arith)))
 
@@ -70,18 +58,6 @@ module _ (N t : ℕ) (l : List ℕ) where
 
     pub rising-high : all ≤ p → false ≡ positions_admitted N t l
     rising-high b = refuted _ (λ a. omega (arith, positions-below N t l a i h))
-
-    pub rising-next : base ≤ p → p < all → Risen (p + 1) (i + 1)
-    rising-next b c =
-        record {
-          turns = omega arith;
-          below = λ k g. ⊎_elim (λ (e : k ≡ i). omega (arith, ap (λ (n : ℕ). get_or l n 0) e)) (λ j. T.below k j) (eq-or-lt_of_le {n = k} {m = i} (omega arith));
-          rising = λ k g.
-              ⊎_elim (λ (e : suc k ≡ i). omega (arith, T.next k (sym e), ap (λ (n : ℕ). get_or l n 0) e)) (λ j. T.rising k j)
-              (eq-or-lt_of_le {n = suc k} {m = i} (omega arith));
-          first = λ e. absurd (omega arith);
-          next = λ k e. omega (arith, ap (λ (n : ℕ). get_or l n 0) {x = k} {y = i} (omega arith));
-        }
 
 -- positions in a list that rise from a base
 pub rise_from : (N base : ℕ) (l : List ℕ) → ((i : ℕ) → i < length l → get_or l i 0 < N)

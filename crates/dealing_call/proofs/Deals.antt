@@ -6,7 +6,7 @@ use native.Mathlib.Nat.{zero-add}
 use native.Mathlib.Omega.{arith}
 use lib.ListN.{length}
 use Rattle.answer.specs.Outcome.{TwoWritten, wrote}
-use Rattle.answer.proofs.Answers.{accepted_with}
+use Rattle.answer.proofs.Answers.{accepted_now}
 use Rattle.answer.proofs.Faults.{admitted_by}
 use Rattle.field.specs.ByNumber.{element_of}
 use Rattle.field.specs.Inner.Elements.{element_length, element_at}
@@ -22,7 +22,6 @@ use Rattle.dealing.specs.Deal.{lent_deal, deal}
 use Rattle.dealing.specs.Input.{Input, words_of, delta_words}
 use Rattle.dealing.specs.Inner.Steps.{deal_number, input_from, layout_for}
 use Rattle.dealing_call.specs.Inner.Steps.{NoisePlaced, ScalarPlaced}
-use Rattle.dealing.proofs.Faults.{admitted}
 use Rattle.dealing.proofs.Laws.{noise_writing, scalar_writing, tests-accepted, tests_say}
 use Rattle.dealing.proofs.Lengths.{roots-blocks}
 use Rattle.dealing.proofs.Tests.{delta-room}
@@ -37,14 +36,14 @@ scalar-same : (I : Input) → Admitted I → scalar_bytes I ≡ scalar_writing I
 scalar-same I A = rw (roots-blocks I A)
 
 -- both records written
-pub deal_done : (I : Input) (a b : List ℕ) {n x y : ℕ} {a₁ b₁ : List ℕ} → n ≡ deal_number I (length a) (length b) → n ≡ 0
+pub deal_done : (I : Input) (a b : List ℕ) {x y : ℕ} {a₁ b₁ : List ℕ} → 0 ≡ deal_number I (length a) (length b)
     → Wrote a 0 (noise_writing I) x a₁ → Wrote b 0 (scalar_bytes I) y b₁
     → wrote {Written = TwoWritten} (record { first_written = x; second_written = y }) (lent_deal I a₁ b₁) ≡ deal I a b
 unfolding deal deal_number
-deal_done I a b {n} tested none w v =
-    let A = tests-accepted I a b (admitted_by _ n refl tested none) in
+deal_done I a b tested w v =
+    let A = tests-accepted I a b (admitted_by _ 0 refl tested refl) in
     let v' : Wrote b 0 (scalar_writing I) _ _ = rw (scalar-same I A.admitted) at v in
-    accepted_with _ _ _ _ n tested none
+    accepted_now _ _ _ _ tested
     (wrote-same (w.place ∙ zero-add _) (v'.place ∙ zero-add _) (w.stored ∙ sets-front (noise_writing I) a A.noise-room)
     (v'.stored ∙ sets-front (scalar_writing I) b A.scalar-room))
   where
@@ -61,10 +60,10 @@ module _ (f : Layout) (roots positions values delta key label : List ℕ) where
   abbrev Begins : Type 0
   Begins = f.body ≡ head_length f.depth f.branch_bits f.trees f.terms f.outputs
 
-  module _ (noise_room scalar_room : ℕ) {n : ℕ} (none : n ≡ 0) (tested : n ≡ deal_number I noise_room scalar_room) where
+  module _ (noise_room scalar_room : ℕ) (tested : 0 ≡ deal_number I noise_room scalar_room) where
     dealt : Admitted I × (length (noise_writing I) ≤ noise_room) × (length (scalar_writing I) ≤ scalar_room)
     unfolding deal_number
-    dealt = tests_say I noise_room scalar_room (admitted_by _ n refl tested none)
+    dealt = tests_say I noise_room scalar_room (admitted_by _ 0 refl tested refl)
 
     whole : Begins → Writable f
     whole = writable f roots positions values delta key label dealt.0

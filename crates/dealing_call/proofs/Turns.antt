@@ -4,8 +4,6 @@ use mathlib.Core.List.{List, [], ◌++◌}
 use Prim.Native.Nat.{ℕ, zero, suc, ◌+◌, ◌-◌, ◌*◌, ◌^◌, ◌≤◌, ◌<◌}
 use native.Mathlib.Nat.{add-zero, zero-add}
 use native.Mathlib.Omega.{arith}
-use mir.Syntax.{w64}
-use mir.Val.{Fits}
 use lib.ListN.{length, get_or, length-append}
 use lib.Pow.{pow_mono}
 use lib.Seq.{length-sets}
@@ -18,10 +16,12 @@ use Rattle.record.proofs.Lengths.{length-head}
 use Rattle.record.specs.Inner.Heads.{head_from}
 use Rattle.record.specs.declared.Layout.{Layout}
 use Rattle.tree.specs.Columns.{columns_at}
+use Rattle.tree.specs.Inner.Keys.{keys_for}
+use Rattle.tree.specs.KeySchedules.{OfChildKeys}
 use Rattle.dealing.specs.Input.{Input, position}
 use Rattle.dealing.specs.Parts.{noise_tree, noise_part}
 use Rattle.dealing.specs.Inner.Steps.{input_from}
-use Rattle.dealing_call.specs.Inner.Steps.{TablesAndKeys, planned, planned_tree, trees_bytes, Placed, TreesPlaced, NoisePlaced}
+use Rattle.dealing_call.specs.Inner.Steps.{planned, planned_tree, trees_bytes, Placed, TreesPlaced, NoisePlaced}
 use Rattle.dealing_call.specs.declared.noise.Planned.{Planned}
 use Rattle.dealing_call.proofs.Written.{first, base_at, first-none, first_more, base_none, base_next, first-length, own-tree}
 
@@ -29,30 +29,25 @@ tree-position : (I : Input) (i : ℕ) → (noise_tree I i).position ≡ position
 unfolding noise_tree
 tree-position I i = refl
 
-pub plan_is : (f : Layout) (positions values : List ℕ) (i base at : ℕ) {p : ℕ} → p ≡ get_or positions i 0
-    → record { field = f.field; depth = f.depth; branch_bits = f.branch_bits; position = p; value = get_or values i 0; base = base; at = at }
-    ≡ planned f positions values i base at
-plan_is f positions values i base at read = rw read
-
 module _ (f : Layout) (roots positions values delta b : List ℕ) where
   -- tree i
   abbrev tree : ℕ → NoiseTree
   tree i = noise_tree (input_from f roots positions values delta [] []) i
 
   -- i trees have been written after the head
-  pub record Turn (tb : List ℕ) (keys : List (List ℕ)) (out : List ℕ) (at base i : ℕ) : Type 0 where
+  pub record Turn (keys : List (List ℕ)) (out : List ℕ) (at base i : ℕ) : Type 0 where
     pub ready : TreesPlaced f roots positions values delta b
-    pub tables : TablesAndKeys f.branch_bits tb keys
+    pub child-keys : OfChildKeys (2 ^ f.branch_bits) (keys_for keys)
     pub turns : i ≤ f.trees
     pub next : base ≡ base_at f.field tree i
     pub wrote : Wrote b f.body (first f.field tree i) at out
 
-  pub turn_start : {tb : List ℕ} {keys : List (List ℕ)} → TreesPlaced f roots positions values delta b → TablesAndKeys f.branch_bits tb keys
-      → Turn tb keys b f.body 0 0
+  pub turn_start : {keys : List (List ℕ)} → TreesPlaced f roots positions values delta b → OfChildKeys (2 ^ f.branch_bits) (keys_for keys)
+      → Turn keys b f.body 0 0
   turn_start R L =
       record {
         ready = R;
-        tables = L;
+        child-keys = L;
         turns = omega arith;
         next = sym (base_none f.field tree);
         wrote = rw (first-none f.field tree) (record { place = sym (add-zero f.body); stored = refl });
@@ -77,39 +72,12 @@ module _ (f : Layout) (roots positions values delta b : List ℕ) where
         ∙ ap (λ n. n + 1) (tree-position (input_from f roots positions values delta [] []) i) in
         omega (arith, e, rises f.trees (λ i. get_or positions i 0) R.rising i h)
 
-  module _ {tb : List ℕ} {keys : List (List ℕ)} {out : List ℕ} {at base i : ℕ} (T : Turn tb keys out at base i) where
+  module _ {keys : List (List ℕ)} {out : List ℕ} {at base i : ℕ} (T : Turn keys out at base i) where
     pub turn_long : length out ≡ length b
     turn_long = ap length T.wrote.stored ∙ length-sets b f.body (first f.field tree i)
 
-    pub turn_done : f.trees ≤ i → Wrote b f.body (trees_bytes f roots positions values delta) at out
-    turn_done h = rw (same T.turns) at T.wrote
-      where
-        same : i ≤ f.trees → first f.field tree i ≡ first f.field tree f.trees
-        same g = ap (first f.field tree) (omega arith)
-
     module _ (h : i < f.trees) where
-      pub turn_position : i < length positions
-      turn_position = omega (arith, T.ready.position-count)
-
-      pub turn_value : i < length values
-      turn_value = omega (arith, T.ready.value-count)
-
-      pub turn_root : 16 * i + 16 ≤ length roots
-      turn_root = omega (arith, T.ready.root-bytes)
-
-      pub turn_fits : Fits w64 (16 * i)
-      turn_fits = record { fits = omega (arith, T.ready.trees) }
-
-      pub turn_count : Fits w64 (i + 1)
-      turn_count = record { fits = omega (arith, T.ready.trees) }
-
       module _ {t : Planned} (made : t ≡ planned f positions values i base at) where
-        pub turn_base : Fits w64 (t.position + 1)
-        turn_base = record { fits = omega (arith, ap (λ x. x.position) made, T.ready.below i h, small-leaves T.ready) }
-
-        pub turn_tables : TablesAndKeys t.branch_bits tb keys
-        turn_tables = rw made T.tables
-
         module _ {root : List (List ℕ)} (node : root ≡ columns_at roots (16 * i)) where
           own : planned_tree t root delta ≡ tree i
           own = rw (made, node) (own-tree (input_from f roots positions values delta [] []) i base at)
@@ -142,11 +110,11 @@ module _ (f : Layout) (roots positions values delta b : List ℕ) where
               }
 
           pub turn_next : {after : ℕ} {out₁ : List ℕ} → Wrote out t.at (write_tree t.field t.base (planned_tree t root delta)) after out₁
-              → Turn tb keys out₁ after (t.position + 1) (i + 1)
+              → Turn keys out₁ after (t.position + 1) (i + 1)
           turn_next {after} {out₁} w =
               record {
                 ready = T.ready;
-                tables = T.tables;
+                child-keys = T.child-keys;
                 turns = omega arith;
                 next =
                     ap (λ x. x.position + 1) made ∙ ap (λ n. n + 1) (sym (tree-position (input_from f roots positions values delta [] []) i))

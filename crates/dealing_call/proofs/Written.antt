@@ -35,7 +35,8 @@ use Rattle.dealing.specs.Parts.{noise_tree}
 use Rattle.dealing.specs.Vectors.{field, delta, root, leaf}
 use Rattle.dealing.specs.Inner.Steps.{layout_for}
 use Rattle.dealing.proofs.Lengths.{blocks-bytes, siblings-long}
-use Rattle.dealing_call.specs.Inner.Steps.{TablesAndKeys, correction_words, planned, planned_bytes, planned_tree, Placed}
+use Rattle.tree.specs.KeySchedules.{OfChildKeys}
+use Rattle.dealing_call.specs.Inner.Steps.{correction_words, planned, planned_bytes, planned_tree, Placed}
 use Rattle.dealing_call.specs.declared.noise.Planned.{Planned}
 
 -- ---- stores
@@ -198,11 +199,11 @@ module _ (t : Planned) (root : List (List ℕ)) (delta : List ℕ) {out : List �
         room = tree-end;
       }
 
-  module _ {tables : List ℕ} {keys : List (List ℕ)} (L : TablesAndKeys t.branch_bits tables keys) {s : List (List ℕ)} {out₁ : List ℕ}
+  module _ (keys : List (List ℕ)) (L : OfChildKeys (2 ^ t.branch_bits) (keys_for keys)) {s : List (List ℕ)} {out₁ : List ℕ}
       (went : walk s out₁ ≡ walked (2 ^ t.branch_bits) (child_by (keys_for keys)) root place out) where
     -- the round keys that are lent give the tree's own walk
     own : walk s out₁ ≡ walked (2 ^ t.branch_bits) child root place out
-    own = went ∙ key_schedules.walks (2 ^ t.branch_bits) (keys_for keys) (pow_pos t.branch_bits) L.child-keys root place out
+    own = went ∙ key_schedules.walks (2 ^ t.branch_bits) (keys_for keys) (pow_pos t.branch_bits) L root place out
 
     stored : out₁ ≡ sets out (t.at + f) (beside t root delta)
     unfolding walked

@@ -9,13 +9,13 @@ ghost use Rattle.dealing.specs.Input.{input_with};
 mod noise;
 mod scalar;
 
-use answer::{ACCEPTED, TwoLengths, refused_two};
-use dealing_tests::{Rooms, deal_number};
+use answer::{ACCEPTED, TwoLengths};
+use dealing_tests::{Input, Rooms, check};
 use noise::write_noise;
 use record::{Layout, head_length};
 use scalar::write_scalar_part;
 
-// Writes the noise record and the scalar record of a dealing, each to its own buffer.
+// Writes the noise record and the scalar record of a dealing, each to its own buffer. The parameters are those of the C interface.
 pub fn deal(
     field: u8,
     depth: usize,
@@ -41,36 +41,32 @@ pub fn deal(
         delta.now code_key.now label.now)
         noise_record.old scalar_record.old }
 {
-    let layout = Layout {
-        field: field as usize,
-        depth: depth,
-        branch_bits: branch_bits,
-        trees: trees,
-        terms: terms,
-        outputs: outputs,
-        body: head_length(depth, branch_bits, trees, terms, outputs),
+    let input = Input {
+        layout: Layout {
+            field: field as usize,
+            depth,
+            branch_bits,
+            trees,
+            terms,
+            outputs,
+            body: head_length(depth, branch_bits, trees, terms, outputs),
+        },
+        roots,
+        positions,
+        values,
+        delta,
+        code_key,
+        label,
     };
     let rooms = Rooms {
         noise: noise_record.len(),
         scalar: scalar_record.len(),
     };
-    let number = deal_number(
-        layout, rooms, roots, positions, values, delta, code_key, label,
-    );
-    if number != ACCEPTED {
-        return refused_two(number);
+    if let Err(refusal) = check(&input, rooms) {
+        return TwoLengths::refused(refusal);
     }
-    let noise_bytes = write_noise(
-        noise_record,
-        layout,
-        code_key,
-        label,
-        roots,
-        positions,
-        values,
-        delta,
-    );
-    let scalar_bytes = write_scalar_part(scalar_record, layout, code_key, label, delta, roots);
+    let noise_bytes = write_noise(noise_record, &input);
+    let scalar_bytes = write_scalar_part(scalar_record, &input);
     TwoLengths {
         number: ACCEPTED,
         first_written: noise_bytes,

@@ -1,17 +1,19 @@
 // The noise record: the head, then tree by tree.
-ghost use Rattle.std.specs.Prelude.{◌≡◌, ◌+◌, ◌≤◌, ◌<◌, length};
+ghost use Rattle.std.specs.Prelude.{◌≡◌, ◌+◌, ◌^◌, ◌≤◌, ◌<◌, length};
 ghost use Rattle.field.specs.ByNumber.{element_of};
 ghost use Rattle.number.specs.Inner.Written.{Room, Wrote};
 ghost use Rattle.record.specs.Writing.{write_tree, write_noise};
 ghost use Rattle.dealing.specs.Parts.{noise_part};
-ghost use Rattle.dealing.specs.Inner.Steps.{input_from};
-ghost use Rattle.dealing_call.specs.Inner.Steps.{TablesAndKeys, Placed, TreesPlaced, NoisePlaced};
+ghost use Rattle.tree.specs.Inner.Keys.{keys_for};
+ghost use Rattle.tree.specs.KeySchedules.{OfChildKeys};
+ghost use Rattle.dealing_tests.specs.Inner.Lent.{input_of};
+ghost use Rattle.dealing_call.specs.Inner.Steps.{Placed, TreesPlaced, NoisePlaced};
 ghost use Rattle.dealing_call.specs.Inner.Steps.{correction_words, planned, planned_bytes, planned_tree, trees_bytes};
 
-use aes_sbox::{fill_tables, table};
-use dealing_tests::wide;
+use aes_sbox::Tables;
+use dealing_tests::Input;
 use field::{Element, element_at, element_difference, element_scaled, leaf_element};
-use record::{Layout, NOISE_END, sibling_count, tree_start_length, write_head, write_tree_start};
+use record::{End, sibling_count, tree_start_length, write_head, write_tree_start};
 use tree::Punctured;
 use tree_walk::{child_keys, columns_at, walk};
 
@@ -39,25 +41,18 @@ pub struct Planned {
 }
 
 // Tree i, after positions below `base`, at a place.
-fn plan(
-    layout: Layout,
-    positions: &[u32],
-    values: &[u64],
-    i: usize,
-    base: usize,
-    at: usize,
-) -> Planned
-    requires { (i < length positions.now) × (i < length values.now) }
-    ensures { result ≡ planned layout positions.now values.now i base at }
+fn plan(input: &Input, i: usize, base: usize, at: usize) -> Planned
+    requires { (i < length input.now.positions.now) × (i < length input.now.values.now) }
+    ensures { result ≡ planned input.now.layout input.now.positions.now input.now.values.now i base at }
 {
     Planned {
-        field: layout.field,
-        depth: layout.depth,
-        branch_bits: layout.branch_bits,
-        position: wide(positions[i]),
-        value: values[i],
-        base: base,
-        at: at,
+        field: input.layout.field,
+        depth: input.layout.depth,
+        branch_bits: input.layout.branch_bits,
+        position: input.positions[i] as usize,
+        value: input.values[i],
+        base,
+        at,
     }
 }
 
@@ -74,14 +69,14 @@ fn write_planned(leaf: [[u8; 4]; 4], tree: Planned, delta: &[u8], out: &mut [u8]
 
 // Writes a tree at its place; the place after it. The walk to the leaf writes the siblings.
 fn write_tree(
-    tables: &[u64; 1536],
+    tables: Tables,
     keys: &[[u64; 40]; 8],
     root: [[u8; 4]; 4],
     tree: Planned,
     delta: &[u8],
     out: &mut [u8],
 ) -> usize
-    requires tables_and_keys { TablesAndKeys tree.branch_bits tables.now keys.now }
+    requires child_keys { OfChildKeys (2 ^ tree.branch_bits) (keys_for keys.now) }
     requires placed { Placed tree root delta.now out.old }
     ensures { Wrote out.old tree.at
         (write_tree tree.field tree.base (planned_tree tree root delta.now)) result out.new }
@@ -100,52 +95,32 @@ fn write_tree(
 }
 
 // Writes the trees after the head; the place after them.
-fn write_trees(
-    out: &mut [u8],
-    layout: Layout,
-    roots: &[u8],
-    positions: &[u32],
-    values: &[u64],
-    delta: &[u8],
-) -> usize
-    requires { TreesPlaced layout roots.now positions.now values.now delta.now out.old }
-    ensures { Wrote out.old layout.body
-        (trees_bytes layout roots.now positions.now values.now delta.now) result out.new }
+fn write_trees(out: &mut [u8], input: &Input) -> usize
+    requires { TreesPlaced input.now.layout input.now.roots.now input.now.positions.now input.now.values.now
+        input.now.delta.now out.old }
+    ensures { Wrote out.old input.now.layout.body
+        (trees_bytes input.now.layout input.now.roots.now input.now.positions.now input.now.values.now
+        input.now.delta.now) result out.new }
 {
-    let sb = table();
-    let mut tables = [0u64; 1536];
-    fill_tables(&mut tables);
-    let keys = child_keys(&sb, layout.branch_bits);
-    let mut at = layout.body;
+    let mut words = [0u64; 1536];
+    let tables = Tables::fill(&mut words);
+    let keys = child_keys(input.layout.branch_bits);
+    let mut at = input.layout.body;
     let mut base: usize = 0;
-    let mut i: usize = 0;
-    while i < layout.trees {
-        let tree = plan(layout, positions, values, i, base, at);
-        let root = columns_at(roots, 16 * i);
-        at = write_tree(&tables, &keys, root, tree, delta, out);
+    for i in 0..input.layout.trees {
+        let tree = plan(input, i, base, at);
+        let root = columns_at(input.roots, 16 * i);
+        at = write_tree(tables, &keys, root, tree, input.delta, out);
         base = tree.position + 1;
-        i += 1;
     }
     at
 }
 
 // Writes the noise record at the buffer's front; its length.
-pub fn write_noise(
-    out: &mut [u8],
-    layout: Layout,
-    code_key: &[u8],
-    label: &[u8],
-    roots: &[u8],
-    positions: &[u32],
-    values: &[u64],
-    delta: &[u8],
-) -> usize
-    requires { NoisePlaced layout (input_from layout roots.now positions.now values.now delta.now code_key.now label.now)
-        (length out.old) }
-    ensures { Wrote out.old 0
-        (write_noise (noise_part (input_from layout roots.now positions.now values.now delta.now
-        code_key.now label.now))) result out.new }
+pub fn write_noise(out: &mut [u8], input: &Input) -> usize
+    requires { NoisePlaced input.now.layout (input_of input.now) (length out.old) }
+    ensures { Wrote out.old 0 (write_noise (noise_part (input_of input.now))) result out.new }
 {
-    write_head(out, NOISE_END, layout, code_key, label);
-    write_trees(out, layout, roots, positions, values, delta)
+    write_head(out, End::Noise, input.layout, input.code_key, input.label);
+    write_trees(out, input)
 }

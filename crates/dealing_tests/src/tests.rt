@@ -1,15 +1,16 @@
 // The tests of a dealing's input, in document 01's order: 1, 2, 3, 4, 5, 6.
 ghost use Rattle.std.specs.Prelude.{◌≡◌, ◌^◌, ◌≤◌, min, length, []};
+ghost use Rattle.answer.specs.Refused.{fault};
 ghost use Rattle.answer.specs.Tests.{first_fault};
 ghost use Rattle.record.specs.Admitted.{is_size, is_branch, most_outputs};
 ghost use Rattle.dealing.specs.Inner.Steps.{input_from, Lengths};
 ghost use Rattle.dealing.specs.Input.{positions_admitted, every_noise, delta_admitted, size_tests, length_tests, content_tests};
+ghost use Rattle.dealing_tests.specs.Inner.Lent.{input_of};
 
-use answer::{
-    ACCEPTED, BAD_DELTA, BAD_FIELD, BAD_LENGTH, BAD_NOISE, BAD_POSITION, BAD_SIZE, is_times,
-};
+use crate::input::Input;
+use answer::{Refusal, is_times};
 use field::{element_at, is_field, is_noise, is_scalar, rest_zero, word_at};
-use record::{Layout, leaves, smaller};
+use record::{Layout, leaves};
 
 // Whether a size is 1 to `top`.
 fn is_size(top: usize, size: usize) -> bool
@@ -22,10 +23,7 @@ fn is_size(top: usize, size: usize) -> bool
 fn is_branch(depth: usize, branch_bits: usize) -> bool
     ensures { result ≡ is_branch depth branch_bits }
 {
-    if !is_size(3, branch_bits) {
-        return false;
-    }
-    depth % branch_bits == 0
+    is_size(3, branch_bits) && depth % branch_bits == 0
 }
 
 // Whether a count is 1 to the smaller of a limit and N.
@@ -33,7 +31,7 @@ fn is_count(limit: usize, depth: usize, count: usize) -> bool
     requires { depth ≤ 16 }
     ensures { result ≡ is_size (min limit (2 ^ depth)) count }
 {
-    is_size(smaller(limit, leaves(depth)), count)
+    is_size(limit.min(leaves(depth)), count)
 }
 
 // Whether n is 1 to N / 2.
@@ -44,107 +42,87 @@ fn is_outputs(depth: usize, outputs: usize) -> bool
     is_size(leaves(depth) / 2, outputs)
 }
 
-// The number of the first fault of field, d, g, t, ℓ and n, or 0 where there is none.
-pub fn sizes_number(layout: Layout) -> u32
-    ensures { result ≡ first_fault (size_tests (input_from layout [] [] [] [] [] [])) }
+// Tests field, d, g, t, ℓ and n.
+pub fn check_sizes(layout: Layout) -> Result<(), Refusal>
+    ensures { fault result ≡ first_fault (size_tests (input_from layout [] [] [] [] [] [])) }
 {
     if !is_field(layout.field) {
-        return BAD_FIELD;
+        return Err(Refusal::BadField);
     }
     if !is_size(16, layout.depth) {
-        return BAD_SIZE;
+        return Err(Refusal::BadSize);
     }
     if !is_branch(layout.depth, layout.branch_bits) {
-        return BAD_SIZE;
+        return Err(Refusal::BadSize);
     }
     if !is_count(64, layout.depth, layout.trees) {
-        return BAD_SIZE;
+        return Err(Refusal::BadSize);
     }
     if !is_count(32, layout.depth, layout.terms) {
-        return BAD_SIZE;
+        return Err(Refusal::BadSize);
     }
     if !is_outputs(layout.depth, layout.outputs) {
-        return BAD_SIZE;
+        return Err(Refusal::BadSize);
     }
-    ACCEPTED
+    Ok(())
 }
 
-// The number of the first slice that has not the length that the sizes call for, or 0 where there is none.
-pub fn lengths_number(
-    layout: Layout,
-    roots: &[u8],
-    positions: &[u32],
-    values: &[u64],
-    delta: &[u8],
-    code_key: &[u8],
-    label: &[u8],
-) -> u32
-    ensures { result ≡ first_fault (length_tests (input_from layout roots.now positions.now values.now
-        delta.now code_key.now label.now)) }
+// Tests that each slice has the length that the sizes call for.
+pub fn check_lengths(input: &Input) -> Result<(), Refusal>
+    ensures { fault result ≡ first_fault (length_tests (input_of input.now)) }
 {
+    let Input {
+        layout,
+        roots,
+        positions,
+        values,
+        delta,
+        code_key,
+        label,
+    } = *input;
     if !is_times(roots.len(), 16, layout.trees) {
-        return BAD_LENGTH;
+        return Err(Refusal::BadLength);
     }
     if positions.len() != layout.trees {
-        return BAD_LENGTH;
+        return Err(Refusal::BadLength);
     }
     if values.len() != layout.trees {
-        return BAD_LENGTH;
+        return Err(Refusal::BadLength);
     }
     if delta.len() != 16 {
-        return BAD_LENGTH;
+        return Err(Refusal::BadLength);
     }
     if code_key.len() != 16 {
-        return BAD_LENGTH;
+        return Err(Refusal::BadLength);
     }
     if label.len() != 16 {
-        return BAD_LENGTH;
+        return Err(Refusal::BadLength);
     }
-    ACCEPTED
-}
-
-// The number in a wider type.
-pub fn wide(x: u32) -> usize
-    ensures { result ≡ x }
-{
-    x as usize
+    Ok(())
 }
 
 // Whether the positions are strictly rising and below N.
-fn rising(depth: usize, trees: usize, positions: &[u32]) -> bool
-    requires { (depth ≤ 16) × (length positions.now ≡ trees) }
-    ensures { result ≡ positions_admitted (2 ^ depth) trees positions.now }
+fn rising(depth: usize, positions: &[u32]) -> bool
+    requires { depth ≤ 16 }
+    ensures { result ≡ positions_admitted (2 ^ depth) (length positions.now) positions.now }
 {
     let all = leaves(depth);
     let mut base: usize = 0;
-    let mut i: usize = 0;
-    while i < trees {
-        let position = wide(positions[i]);
-        if position < base {
-            return false;
-        }
-        if all <= position {
+    for position in positions {
+        let position = *position as usize;
+        if position < base || all <= position {
             return false;
         }
         base = position + 1;
-        i += 1;
     }
     true
 }
 
 // Whether every noise value is admitted.
-fn every_noise(field: usize, trees: usize, values: &[u64]) -> bool
-    requires { length values.now ≡ trees }
-    ensures { result ≡ every_noise field trees values.now }
+fn every_noise(field: usize, values: &[u64]) -> bool
+    ensures { result ≡ every_noise field (length values.now) values.now }
 {
-    let mut i: usize = 0;
-    while i < trees {
-        if !is_noise(field, values[i]) {
-            return false;
-        }
-        i += 1;
-    }
-    true
+    values.iter().all(|value| is_noise(field, *value))
 }
 
 // Whether Δ is admitted.
@@ -152,26 +130,24 @@ fn delta_admitted(field: usize, delta: &[u8]) -> bool
     requires { length delta.now ≡ 16 }
     ensures { result ≡ delta_admitted field delta.now }
 {
-    let scalar = element_at(field, delta, 0);
-    if !is_scalar(field, scalar) {
-        return false;
-    }
-    rest_zero(field, word_at(delta, 8))
+    is_scalar(field, element_at(field, delta, 0)) && rest_zero(field, word_at(delta, 8))
 }
 
-// The number of the first fault of positions, noise values and Δ, or 0 where there is none.
-pub fn content_number(layout: Layout, positions: &[u32], values: &[u64], delta: &[u8]) -> u32
-    requires { Lengths layout (length positions.now) (length values.now) (length delta.now) }
-    ensures { result ≡ first_fault (content_tests (input_from layout [] positions.now values.now delta.now [] [])) }
+// Tests positions, noise values and Δ.
+pub fn check_content(input: &Input) -> Result<(), Refusal>
+    requires { Lengths input.now.layout (length input.now.positions.now) (length input.now.values.now)
+        (length input.now.delta.now) }
+    ensures { fault result ≡ first_fault (content_tests (input_of input.now)) }
 {
-    if !rising(layout.depth, layout.trees, positions) {
-        return BAD_POSITION;
+    let layout = input.layout;
+    if !rising(layout.depth, input.positions) {
+        return Err(Refusal::BadPosition);
     }
-    if !every_noise(layout.field, layout.trees, values) {
-        return BAD_NOISE;
+    if !every_noise(layout.field, input.values) {
+        return Err(Refusal::BadNoise);
     }
-    if !delta_admitted(layout.field, delta) {
-        return BAD_DELTA;
+    if !delta_admitted(layout.field, input.delta) {
+        return Err(Refusal::BadDelta);
     }
-    ACCEPTED
+    Ok(())
 }

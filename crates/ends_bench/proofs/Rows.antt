@@ -3,8 +3,8 @@
 use mathlib.Core.Path.{◌≡◌, refl, sym, ap, ap₂, ◌∙◌}
 use mathlib.Core.Bool.{Bool, true, false}
 use mathlib.Core.List.{List}
-use Prim.Native.Nat.{ℕ, suc, ◌+◌, ◌-◌, ◌*◌, ◌≤◌, ◌<◌}
-use native.Mathlib.Nat.{le_antisymm, mul-one, mul-le-mul_right, suc-mul}
+use Prim.Native.Nat.{ℕ, suc, ◌+◌, ◌*◌, ◌≤◌, ◌<◌}
+use native.Mathlib.Nat.{mul-one, mul-le-mul_right, suc-mul}
 use native.Mathlib.Omega.{arith}
 use lib.Dec.{eqb, leb}
 use lib.ListN.{length, get_or, set, length-set}
@@ -127,9 +127,6 @@ module _ (code : List (List (List ℕ))) (b : Batch) (i : ℕ) (before : List �
           (get_or-set_other (set rows (32 + k) p) (64 + k) (64 + m) c 0 (λ q. omega (arith, small.few))
           ∙ get_or-set_other rows (32 + k) (64 + m) p 0 (λ q. omega (arith, small.few)))
           ∙ t.coefficients m n
-
-  pub terms-all : {k n : ℕ} {rows : List ℕ} → HasTerms code b i k before rows → k ≤ n → n ≤ k → HasTerms code b i n before rows
-  terms-all {k} {n} {rows} t h g = rw (← le_antisymm {n = k} {m = n} h g) t
 
 -- ---- the sums carried on
 

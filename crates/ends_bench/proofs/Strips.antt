@@ -2,23 +2,21 @@
 use mathlib.Core.Path.{◌≡◌, refl, sym, ap, ap₂, ◌∙◌}
 use mathlib.Core.Bool.{Bool, true, false}
 use mathlib.Core.List.{List, ◌++◌, append_assoc}
-use Prim.Native.Nat.{ℕ, zero, suc, ◌+◌, ◌-◌, ◌*◌, ◌/◌, ◌^◌, ◌≤◌, ◌<◌}
-use native.Mathlib.Nat.{mul-one, mul-le-mul, mul-le-mul_right, add-mul, zero-mul}
+use Prim.Native.Nat.{ℕ, zero, suc, ◌+◌, ◌-◌, ◌*◌, ◌^◌, ◌≤◌, ◌<◌, min}
+use native.Mathlib.Nat.{mul-one, mul-le-mul_right, add-mul, zero-mul}
 use native.Mathlib.Omega.{arith}
 use lib.Dec.{eqb, leb}
-use lib.ListN.{length, get_or, take, drop, length-drop, replicate, get_or-replicate, length-replicate}
+use lib.ListN.{length, get_or, take, drop, replicate, get_or-replicate, length-replicate}
 use lib.Pow.{pow_mono}
-use lib.Seq.{drop-drop, length-take-le}
+use lib.Seq.{drop-drop}
 use borrow.Author.Tests.{eq-eqb, ne_eqb}
-use borrow.Rule.Slice.PartMut.{mid_of, put_mid}
-use mir.Syntax.{w64}
-use mir.Val.{Fits}
+use borrow.Rule.Slice.PartMut.{put_mid}
 use Rattle.algebra.specs.Choice.{choose}
 use Rattle.algebra.specs.Coding.{CodingLaws, at, flat, over}
 use Rattle.algebra.specs.Field.{Field, FieldLaws, NoiseValue, Value}
 use Rattle.algebra.specs.Row.{Row, entry}
 use Rattle.algebra.proofs.Coding.{flat_cong, length-flat, at_flat, at_over, flat-add, take-over, drop-over-add, length_over}
-use Rattle.algebra.proofs.Written.{front-none, front-all}
+use Rattle.algebra.proofs.Written.{front-none}
 use Rattle.algebra.proofs.Falling.{from_top, top-none, top_more}
 use Rattle.algebra.proofs.Sum.{sum-none}
 use Rattle.code.specs.Strips.{ReadsStrips}
@@ -29,9 +27,9 @@ use Rattle.field.specs.Kind.{Kind, kind_of, element_words}
 use Rattle.field.proofs.BinaryField.{binary_laws}
 use Rattle.field.proofs.BothKinds.{kind_laws}
 use Rattle.record.specs.declared.Layout.{Layout}
+use Rattle.record.specs.declared.Tree.{Tree}
 use Rattle.field.proofs.KindOf.{zero-elements, zero-noise}
 use Rattle.tree.proofs.Sums.{trees-none, trees_sum}
-use Rattle.field.proofs.Widths.{width-most}
 use Rattle.tree.specs.Added.{added}
 use Rattle.tree.proofs.PowerLaws.{level_less}
 use Rattle.field.specs.Inner.Elements.{noise_in, noise_sum}
@@ -77,17 +75,6 @@ module _ (vector field count : ℕ) (rows : List ℕ) (value : ℕ → Value (fi
               ∙ ap (λ (n : ℕ). strip_added vector field count rows value (start + size) n b) {x = suc (size - left)} {y = size - (left - 1)} (omega arith);
         }
 
-    pub stripped_all : left ≤ 0 → (number strip : ℕ) → size ≡ strip → start ≡ number * size
-        → v ≡ strip_added vector field count rows value ((number + 1) * strip) strip b
-    stripped_all h number strip se ne =
-        e.words
-        ∙ ap (λ (j : ℕ). strip_added vector field count rows value j (size - left) b) {x = start + size} {y = (number + 1) * strip}
-        (rw (ne, se) (one_more number strip))
-        ∙ ap (λ (n : ℕ). strip_added vector field count rows value ((number + 1) * strip) n b) {x = size - left} {y = strip} (omega arith)
-      where
-        one_more : (n m : ℕ) → n * m + m ≡ (n + 1) * m
-        one_more n m = omega arith
-
 -- ---- a batch, one strip a turn
 
 -- words of zero are values of zero
@@ -122,7 +109,7 @@ pub record Down (s : List ℕ) (code : List (List (List ℕ))) (b : Batch) (i : 
   pub outputs : out ≡ flat (batch_field b).elements b.count (summed_to s code b (i * strip_of b.vector.layout))
   pub whole : length out ≡ b.count * (batch_field b).elements.width
 
-pub batch-code : (s : List ℕ) (b : Batch) {table : List ℕ} {keys : List (List ℕ)} → Walking b.vector.number s b.vector.layout table keys
+pub batch-code : (s : List ℕ) (b : Batch) {table : List Tree} {keys : List (List ℕ)} → Walking b.vector.number s b.vector.layout table keys
     → IsCode b.vector.layout
 batch-code s b w = let z = w.standing.sizes in record { depth = z.depth; some = z.some; full = z.full; few = z.terms }
 
@@ -146,7 +133,7 @@ module _ (s : List ℕ) (code : List (List (List ℕ))) (b : Batch) where
   summed-size : (j : ℕ) {out : List ℕ} → out ≡ flat F.elements b.count (summed_to s code b j) → length out ≡ b.count * F.elements.width
   summed-size j e = ap length e ∙ length-flat F.elements laws.elements b.count (summed_to s code b j)
 
-  pub batch-none : {table : List ℕ} {keys : List (List ℕ)} → Walking b.vector.number s b.vector.layout table keys → IsBatch b
+  pub batch-none : {table : List Tree} {keys : List (List ℕ)} → Walking b.vector.number s b.vector.layout table keys → IsBatch b
       → {n : ℕ} → n ≡ b.count * (field_for b.vector.number b.vector.layout.field).elements.width → {rows out : List ℕ}
       → rows ≡ replicate 96 0 → out ≡ replicate n 0 → Down s code b b.vector.layout.terms rows out
   unfolding trees_sum
@@ -262,17 +249,9 @@ module _ (s : List ℕ) (code : List (List (List ℕ))) (b : Batch) where
         ∙ strips_times (kind_laws f.field).field.ring.group (2 ^ f.depth) f.terms (row_of code b k) (reads d.shape k)
         F.scaled laws.scaled (strips_within (2 ^ f.depth) f.terms d.shape.full) (values_of b.vector.number s f))
 
-    pub batch-strip : {table : List ℕ} {keys : List (List ℕ)} → Walking b.vector.number s b.vector.layout table keys → IsBatch b → 0 < i
-        → (n : ℕ) → n ≡ b.count * (field_for b.vector.number b.vector.layout.field).elements.width
-        → IsStrip s table keys (record { batch = b; number = i - 1 }) n
-    batch-strip w small h n e = record { walking = w; few = small.few; below = batch-below h; whole = e }
-
 -- ---- a strip's places
 
-pub strip_is : (f : Layout) {n : ℕ} → n ≡ 2 ^ f.depth → n / f.terms ≡ strip_of f
-strip_is f e = ap (λ (n : ℕ). n / f.terms) e
-
-module _ (s table : List ℕ) (keys : List (List ℕ)) (t : Strip) (n : ℕ) (ok : IsStrip s table keys t n) {size : ℕ}
+module _ (s : List ℕ) (table : List Tree) (keys : List (List ℕ)) (t : Strip) (n : ℕ) (ok : IsStrip s table keys t n) {size : ℕ}
     (e : size ≡ strip_of t.batch.vector.layout) where
   pub strip-top : t.number * size + size ≤ 2 ^ t.batch.vector.layout.depth
   strip-top =
@@ -283,9 +262,6 @@ module _ (s table : List ℕ) (keys : List (List ℕ)) (t : Strip) (n : ℕ) (ok
   pub strip-most : t.number * size + size ≤ 65536
   strip-most = omega (arith, strip-top, pow_mono {i = t.batch.vector.layout.depth} {j = 16} ok.walking.standing.sizes.depth)
 
-  pub strip-fits : Fits w64 (t.number * size)
-  strip-fits = record { fits = omega (arith, strip-most) }
-
 -- ---- the words of a value
 
 module _ (vector field : ℕ) where
@@ -295,24 +271,16 @@ module _ (vector field : ℕ) where
   pub element-width : (vector ≡ 1 → ⊥) → {n : ℕ} → n ≡ element_words field → n ≡ (field_for vector field).elements.width
   element-width h e = e ∙ sym (ap (λ (t : Bool). (field_by t field).elements.width) (ne_eqb vector 1 h))
 
-  pub width_few : (field_for vector field).elements.width ≤ 2
-  width_few = of (eqb vector 1)
-    where
-      of : (t : Bool) → (field_by t field).elements.width ≤ 2
-      of true = rw (kind_laws field).noise-width (omega arith)
-      of false = width-most field
-
 -- ---- a window, one batch a turn
 
 -- output k of a batch
 abbrev batch_output : List ℕ → List (List (List ℕ)) → (b : Batch) → ℕ → Value (batch_field b)
 batch_output s code b k = output_of b.vector.number s code b.vector.layout (b.first + k)
 
--- the window's first `done` outputs are written
+-- the window's first `done` outputs are written, or all of them
 pub record Windowed (s : List ℕ) (code : List (List (List ℕ))) (b : Batch) (before : List ℕ) (done : ℕ) (v : List ℕ) : Type 0 where
   pub room : b.count * (batch_field b).elements.width ≤ length before
-  pub within : done ≤ b.count
-  pub words : v ≡ over (batch_field b).elements done (batch_output s code b) before
+  pub words : v ≡ over (batch_field b).elements (min done b.count) (batch_output s code b) before
   pub size : length v ≡ length before
 
 module _ (s : List ℕ) (code : List (List (List ℕ))) (b : Batch) (before : List ℕ) where
@@ -323,12 +291,22 @@ module _ (s : List ℕ) (code : List (List (List ℕ))) (b : Batch) (before : Li
   out_at = batch_output s code b
 
   pub windowed_none : b.count * (batch_field b).elements.width ≤ length before → Windowed s code b before 0 before
-  windowed_none room = record { room = room; within = omega arith; words = front-none (batch_field b).elements out_at before; size = refl }
+  windowed_none room =
+      record {
+        room = room;
+        words =
+            front-none (batch_field b).elements out_at before
+            ∙ ap (λ (n : ℕ). over (batch_field b).elements n out_at before) {x = 0} {y = min 0 b.count} (omega arith);
+        size = refl;
+      }
 
-  module _ {done : ℕ} {v : List ℕ} (d : Windowed s code b before done v) {width : ℕ} (we : width ≡ (batch_field b).elements.width)
-      (count : ℕ) (some : 1 ≤ count) (fits : count ≤ b.count - done) where
+  module _ {done : ℕ} {v : List ℕ} (d : Windowed s code b before done v) (more : done < b.count)
+      {width : ℕ} (we : width ≡ (batch_field b).elements.width) (count : ℕ) (part : count ≡ min (b.count - done) 32) where
     few : done + count ≤ b.count
-    few = omega (arith, d.within)
+    few = omega arith
+
+    words_here : v ≡ over (batch_field b).elements done out_at before
+    words_here = d.words ∙ ap (λ (n : ℕ). over (batch_field b).elements n out_at before) {x = min done b.count} {y = done} (omega arith)
 
     all_words : (done + count) * width ≡ done * width + count * width
     all_words = add-mul done count width
@@ -339,39 +317,9 @@ module _ (s : List ℕ) (code : List (List (List ℕ))) (b : Batch) (before : Li
         let r : b.count * width ≤ length before = rw we d.room in
         omega (arith, d.size, all_words)
 
-    module _ (within : b.first + b.count ≤ 32768) where
-      from-most : done * width + count * width ≤ 32768 * 2
-      from-most =
-          let n : done + count ≤ 32768 = omega (arith, few) in
-          let k : width ≤ 2 = rw we (width_few b.vector.number b.vector.layout.field) in
-          let m : (done + count) * width ≤ 32768 * 2 = mul-le-mul n k in
-          omega (arith, all_words)
-
-      pub from-fits : Fits w64 (done * width)
-      from-fits = record { fits = omega (arith, from-most) }
-
-      pub bytes_fit : Fits w64 (done * width * 8)
-      bytes_fit = record { fits = omega (arith, from-most) }
-
-      pub part-fits : Fits w64 (count * width)
-      part-fits = record { fits = omega (arith, from-most) }
-
-      pub to_fits : Fits w64 (done * width + count * width)
-      to_fits = record { fits = omega (arith, from-most) }
-
-      pub part-batch : count ≤ 32 → IsBatch (record { vector = b.vector; first = b.first + done; count = count })
-      part-batch h = record { few = h; within = omega (arith, few) }
-
-    -- the part that is lent has the batch's words
-    pub part-whole : length (mid_of (done * width) (done * width + count * width - done * width) v)
-        ≡ count * (batch_field b).elements.width
-    part-whole =
-        length-take-le (done * width + count * width - done * width) (drop (done * width) v) (rw length-drop (omega (arith, part_room)))
-        ∙ rw (← we) (omega arith)
-
     pub windowed_more : {ys : List ℕ}
         → ys ≡ flat (batch_field b).elements count (λ k. output_of b.vector.number s code b.vector.layout (b.first + done + k))
-        → Windowed s code b before (done + count) (put_mid (done * width) (done * width + count * width - done * width) v ys)
+        → Windowed s code b before (done + 32) (put_mid (done * width) (done * width + count * width - done * width) v ys)
     unfolding over
     windowed_more {ys} e =
         let W = batch_field b in
@@ -380,17 +328,16 @@ module _ (s : List ℕ) (code : List (List (List ℕ))) (b : Batch) (before : Li
         e ∙ flat_cong W.elements coding count _ _
         (λ k h. ap (output_of b.vector.number s code b.vector.layout) {x = b.first + done + k} {y = b.first + (done + k)} (omega arith)) in
         let layout : take (done * width) v ≡ flat W.elements done out_at =
-        rw we (ap (take (done * W.elements.width)) d.words ∙ take-over W.elements coding done out_at before) in
+        rw we (ap (take (done * W.elements.width)) words_here ∙ take-over W.elements coding done out_at before) in
         let past : drop (count * width) (drop (done * width) v) ≡ drop ((done + count) * width) before =
         drop-drop (count * width) (done * width) v ∙ ap (λ (i : ℕ). drop i v) (sym all_words)
-        ∙ rw we (ap (drop ((done + count) * W.elements.width)) d.words ∙ after-over) in
+        ∙ rw we (ap (drop ((done + count) * W.elements.width)) words_here ∙ after-over) in
         let words : put_mid (done * width) (done * width + count * width - done * width) v ys ≡ over W.elements (done + count) out_at before =
         rw n (ap₂ (λ (x z : List ℕ). x ++ z) layout (ap₂ (λ (x z : List ℕ). x ++ z) y past)
         ∙ written) in
         record {
           room = d.room;
-          within = few;
-          words = words;
+          words = words ∙ ap (λ (n : ℕ). over W.elements n out_at before) {x = done + count} {y = min (done + 32) b.count} (omega arith);
           size = ap length words ∙ length_over W.elements coding (done + count) out_at before
               (let m : (done + count) * W.elements.width ≤ b.count * W.elements.width = mul-le-mul_right W.elements.width few in
               omega (arith, d.room));
@@ -413,4 +360,5 @@ module _ (s : List ℕ) (code : List (List (List ℕ))) (b : Batch) (before : Li
 
   pub windowed_all : {done : ℕ} {v : List ℕ} → Windowed s code b before done v → b.count ≤ done
       → v ≡ over (batch_field b).elements b.count out_at before
-  windowed_all {done} {v} d h = front-all (batch_field b).elements out_at before done b.count v d.within h d.words
+  windowed_all {done} {v} d h =
+      d.words ∙ ap (λ (n : ℕ). over (batch_field b).elements n out_at before) {x = min done b.count} {y = b.count} (omega arith)

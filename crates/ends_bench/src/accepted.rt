@@ -1,11 +1,11 @@
 // A call on an accepted record: the tests 7 and 13, and the outputs written.
 ghost use Rattle.std.specs.Prelude.{◌≡◌, [], ◌+◌, ◌*◌, ◌≤◌, length};
 ghost use Rattle.answer.specs.Outcome.{outcome_one, outcome_two};
+ghost use Rattle.answer.specs.Refused.{fault};
 ghost use Rattle.answer.specs.Tests.{first_fault};
 ghost use Rattle.field.specs.Kind.{element_words};
 ghost use Rattle.record.specs.Inner.Heads.{head_from};
 ghost use Rattle.algebra.specs.Coding.{over};
-ghost use Rattle.aes_sbox.specs.Inner.Tables.{RoundTables};
 ghost use Rattle.aes128.specs.Inner.Words.{round_keys};
 ghost use Rattle.ends_bench_leaves.specs.Inner.Vectors.{field_for};
 ghost use Rattle.ends_bench.specs.Inner.Rows.{output_of};
@@ -18,13 +18,12 @@ ghost use Rattle.ends_bench.specs.Inner.Calls.{NoiseFits, ScalarFits};
 
 use crate::batch::write_outputs;
 use crate::entries::Batch;
-use answer::{
-    ACCEPTED, BUFFER_SHORT, OneLength, TwoLengths, WINDOW_PAST_END, is_past, refused_two,
-};
+use aes_sbox::Tables;
+use answer::{ACCEPTED, OneLength, Refusal, TwoLengths, is_past};
 use code::Window;
 use ends_bench_leaves::{Vector, tree_table};
-use field::element_width;
-use record::Layout;
+use field::{Element, element_width};
+use record::{Layout, Tree};
 use tree_walk::child_keys;
 use window_tests::code_keys;
 
@@ -36,35 +35,35 @@ fn words_for(layout: Layout, window: Window) -> usize
     window.count * element_width(layout.field)
 }
 
-// The number of the tests after a noise record, for buffers of these lengths.
-fn noise_number(layout: Layout, window: Window, u_room: usize, v_room: usize) -> u32
+// The tests after a noise record, for buffers of these lengths.
+fn check_noise(layout: Layout, window: Window, u_room: usize, v_room: usize) -> Result<(), Refusal>
     requires { layout.outputs ≤ 32768 }
-    ensures { result ≡ first_fault (noise.bench_tests (head_from layout [] []) window.first window.count u_room v_room) }
+    ensures { fault result ≡ first_fault (noise.bench_tests (head_from layout [] []) window.first window.count u_room v_room) }
 {
     if is_past(window.first, window.count, layout.outputs) {
-        return WINDOW_PAST_END;
+        return Err(Refusal::WindowPastEnd);
     }
     if u_room < window.count {
-        return BUFFER_SHORT;
+        return Err(Refusal::BufferShort);
     }
     if v_room < words_for(layout, window) {
-        return BUFFER_SHORT;
+        return Err(Refusal::BufferShort);
     }
-    ACCEPTED
+    Ok(())
 }
 
-// The number of the tests after a scalar record, for a buffer of this length.
-fn scalar_number(layout: Layout, window: Window, room: usize) -> u32
+// The tests after a scalar record, for a buffer of this length.
+fn check_scalar(layout: Layout, window: Window, room: usize) -> Result<(), Refusal>
     requires { layout.outputs ≤ 32768 }
-    ensures { result ≡ first_fault (scalar.bench_tests (head_from layout [] []) window.first window.count room) }
+    ensures { fault result ≡ first_fault (scalar.bench_tests (head_from layout [] []) window.first window.count room) }
 {
     if is_past(window.first, window.count, layout.outputs) {
-        return WINDOW_PAST_END;
+        return Err(Refusal::WindowPastEnd);
     }
     if room < words_for(layout, window) {
-        return BUFFER_SHORT;
+        return Err(Refusal::BufferShort);
     }
-    ACCEPTED
+    Ok(())
 }
 
 // So many rows of a record's code from an index on.
@@ -77,17 +76,16 @@ pub struct Rows {
 
 // Writes u and v of a noise record's rows, under the round keys lent.
 fn write_tabled(
-    tables: &[u64; 1536],
+    tables: Tables,
     keys: &[[u64; 40]; 8],
     code: &[u64; 40],
     source: &[u8],
-    table: &[u64; 320],
+    table: &[Tree; 64],
     rows: Rows,
     u_out: &mut [u64],
     v_out: &mut [u64],
 )
-    requires round_tables { RoundTables tables.now }
-    requires both_fit { BothFit source.now rows table.now keys.now (length u_out.old) (length v_out.old) }
+    requires { BothFit source.now rows table.now keys.now (length u_out.old) (length v_out.old) }
     ensures { (u_out.new ≡ over (field_for 1 rows.layout.field).elements rows.count
         (λ k. output_of 1 source.now (round_keys code.now) rows.layout (rows.first + k)) u_out.old)
         × (v_out.new ≡ over (field_for 2 rows.layout.field).elements rows.count
@@ -116,18 +114,17 @@ fn write_both(source: &[u8], layout: Layout, window: Window, u_out: &mut [u64], 
         ≡ noise.filled (noise_ready.content_of source.now layout)
         (noise.lent_with source.now u_out.old v_out.old) window.first window.count }
 {
-    let sb = aes_sbox::table();
-    let mut tables = [0u64; 1536];
-    aes_sbox::fill_tables(&mut tables);
-    let keys = child_keys(&sb, layout.branch_bits);
-    let code = code_keys(&sb, source, layout);
+    let mut words = [0u64; 1536];
+    let tables = Tables::fill(&mut words);
+    let keys = child_keys(layout.branch_bits);
+    let code = code_keys(source, layout);
     let table = tree_table(source, layout);
     let rows = Rows {
         layout,
         first: window.first,
         count: window.count,
     };
-    write_tabled(&tables, &keys, &code, source, &table, rows, u_out, v_out);
+    write_tabled(tables, &keys, &code, source, &table, rows, u_out, v_out);
 }
 
 // The noise end's call on a record that was accepted.
@@ -143,9 +140,8 @@ pub fn write_noise(
         ≡ noise.bench_window (noise_ready.content_of source.now layout)
         (noise.lent_with source.now u_out.old v_out.old) window.first window.count }
 {
-    let number = noise_number(layout, window, u_out.len(), v_out.len());
-    if number != ACCEPTED {
-        return refused_two(number);
+    if let Err(refusal) = check_noise(layout, window, u_out.len(), v_out.len()) {
+        return TwoLengths::refused(refusal);
     }
     write_both(source, layout, window, u_out, v_out);
     TwoLengths {
@@ -163,18 +159,23 @@ fn write_w(source: &[u8], layout: Layout, window: Window, w_out: &mut [u64])
         ≡ scalar.filled (scalar_ready.content_of source.now layout)
         (scalar.lent_with source.now w_out.old) window.first window.count }
 {
-    let sb = aes_sbox::table();
-    let mut tables = [0u64; 1536];
-    aes_sbox::fill_tables(&mut tables);
-    let keys = child_keys(&sb, layout.branch_bits);
-    let code = code_keys(&sb, source, layout);
-    let table = [0u64; 320];
+    let mut words = [0u64; 1536];
+    let tables = Tables::fill(&mut words);
+    let keys = child_keys(layout.branch_bits);
+    let code = code_keys(source, layout);
+    let none = Tree {
+        position: 0,
+        value: 0,
+        correction: Element { low: 0, high: 0 },
+        siblings: 0,
+    };
+    let table = [none; 64];
     let w0 = Batch {
         vector: Vector { number: 3, layout },
         first: window.first,
         count: window.count,
     };
-    write_outputs(&tables, &keys, &code, source, &table, w0, w_out);
+    write_outputs(tables, &keys, &code, source, &table, w0, w_out);
 }
 
 // The scalar end's call on a record that was accepted.
@@ -184,9 +185,8 @@ pub fn write_scalar(source: &[u8], layout: Layout, window: Window, w_out: &mut [
         ≡ scalar.bench_window (scalar_ready.content_of source.now layout)
         (scalar.lent_with source.now w_out.old) window.first window.count }
 {
-    let number = scalar_number(layout, window, w_out.len());
-    if number != ACCEPTED {
-        return OneLength { number, written: 0 };
+    if let Err(refusal) = check_scalar(layout, window, w_out.len()) {
+        return OneLength::refused(refusal);
     }
     write_w(source, layout, window, w_out);
     OneLength {

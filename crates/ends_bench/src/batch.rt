@@ -1,6 +1,5 @@
 // A window's outputs on a vector, in batches of up to 32 rows: for a batch each leaf is walked once.
-ghost use Rattle.std.specs.Prelude.{◌≡◌, ◌+◌, ◌*◌, ◌≤◌, ◌<◌, length};
-ghost use Rattle.aes_sbox.specs.Inner.Tables.{RoundTables};
+ghost use Rattle.std.specs.Prelude.{◌≡◌, ◌+◌, ◌*◌, ◌≤◌, length};
 ghost use Rattle.aes128.specs.Inner.Words.{round_keys};
 ghost use Rattle.algebra.specs.Coding.{flat, over};
 ghost use Rattle.ends_bench_leaves.specs.Inner.Vectors.{field_for, values_of};
@@ -9,9 +8,9 @@ ghost use Rattle.ends_bench_leaves.specs.Inner.Trees.{Walking};
 ghost use Rattle.ends_bench.specs.Inner.Strips.{IsStrip};
 
 use crate::entries::{Batch, add_place, make_terms, pass_terms};
+use aes_sbox::Tables;
 use ends_bench_leaves::value_at;
-use record::{Layout, leaves};
-use tree_sums::zero_words;
+use record::{Layout, Tree, leaves};
 
 // Strip i of the places, for a batch.
 #[derive(Clone, Copy)]
@@ -30,16 +29,15 @@ fn strip_size(layout: Layout) -> usize
 
 // Adds the places of strip i to the outputs, from the highest down.
 fn add_strip(
-    tables: &[u64; 1536],
+    tables: Tables,
     keys: &[[u64; 40]; 8],
     source: &[u8],
-    table: &[u64; 320],
+    table: &[Tree; 64],
     strip: Strip,
     rows: &[u64; 96],
     out: &mut [u64],
 )
-    requires round_tables { RoundTables tables.now }
-    requires strip { IsStrip source.now table.now keys.now strip (length out.old) }
+    requires { IsStrip source.now table.now keys.now strip (length out.old) }
     ensures { out.new ≡ strip_added strip.batch.vector.number strip.batch.vector.layout.field strip.batch.count rows.now
         (values_of strip.batch.vector.number source.now strip.batch.vector.layout)
         ((strip.number + 1) * strip_of strip.batch.vector.layout) (strip_of strip.batch.vector.layout) out.old }
@@ -47,9 +45,7 @@ fn add_strip(
     let batch = strip.batch;
     let size = strip_size(batch.vector.layout);
     let start = strip.number * size;
-    let mut left = size;
-    while 0 < left {
-        left -= 1;
+    for left in (0..size).rev() {
         let j = start + left;
         let value = value_at(tables, keys, source, table, batch.vector, j);
         add_place(batch, rows, j, value, out);
@@ -58,25 +54,22 @@ fn add_strip(
 
 // Writes the outputs of a batch.
 fn write_batch(
-    tables: &[u64; 1536],
+    tables: Tables,
     keys: &[[u64; 40]; 8],
     code: &[u64; 40],
     source: &[u8],
-    table: &[u64; 320],
+    table: &[Tree; 64],
     batch: Batch,
     out: &mut [u64],
 )
-    requires round_tables { RoundTables tables.now }
-    requires walking { Walking batch.vector.number source.now batch.vector.layout table.now keys.now × IsBatch batch
+    requires { Walking batch.vector.number source.now batch.vector.layout table.now keys.now × IsBatch batch
         × (length out.old ≡ batch.count * (field_for batch.vector.number batch.vector.layout.field).elements.width) }
     ensures { out.new ≡ flat (field_for batch.vector.number batch.vector.layout.field).elements batch.count
         (λ k. output_of batch.vector.number source.now (round_keys code.now) batch.vector.layout (batch.first + k)) }
 {
-    zero_words(out);
+    out.fill(0);
     let mut rows = [0u64; 96];
-    let mut i = batch.vector.layout.terms;
-    while 0 < i {
-        i -= 1;
+    for i in (0..batch.vector.layout.terms).rev() {
         make_terms(tables, code, batch, i, &mut rows);
         let strip = Strip { batch, number: i };
         add_strip(tables, keys, source, table, strip, &rows, out);
@@ -95,26 +88,17 @@ fn value_width(vector: usize, field: usize) -> usize
     }
 }
 
-// How many of the rows left the next batch has.
-fn batch_count(left: usize) -> usize
-    requires { 1 ≤ left }
-    ensures { (1 ≤ result) × (result ≤ left) × (result ≤ 32) }
-{
-    if left <= 32 { left } else { 32 }
-}
-
 // Writes the outputs of a window over the front of a buffer.
 pub fn write_outputs(
-    tables: &[u64; 1536],
+    tables: Tables,
     keys: &[[u64; 40]; 8],
     code: &[u64; 40],
     source: &[u8],
-    table: &[u64; 320],
+    table: &[Tree; 64],
     window: Batch,
     out: &mut [u64],
 )
-    requires round_tables { RoundTables tables.now }
-    requires walking { Walking window.vector.number source.now window.vector.layout table.now keys.now × (window.first + window.count ≤ 32768)
+    requires { Walking window.vector.number source.now window.vector.layout table.now keys.now × (window.first + window.count ≤ 32768)
         × (window.count * (field_for window.vector.number window.vector.layout.field).elements.width ≤ length out.old) }
     ensures { out.new ≡ over (field_for window.vector.number window.vector.layout.field).elements window.count
         (λ k. output_of window.vector.number source.now (round_keys code.now) window.vector.layout (window.first + k))
@@ -122,10 +106,8 @@ pub fn write_outputs(
 {
     let vector = window.vector;
     let width = value_width(vector.number, vector.layout.field);
-    let mut done: usize = 0;
-    while done < window.count {
-        let left = window.count - done;
-        let count = batch_count(left);
+    for done in (0..window.count).step_by(32) {
+        let count = (window.count - done).min(32);
         let batch = Batch {
             vector,
             first: window.first + done,
@@ -134,6 +116,5 @@ pub fn write_outputs(
         let from = done * width;
         let to = from + count * width;
         write_batch(tables, keys, code, source, table, batch, &mut out[from..to]);
-        done += count;
     }
 }

@@ -1,12 +1,12 @@
 // The rows of a batch, a strip at a time: going down from the top strip, a row's entry at a place of strip i is the sum of the
 // coefficients of its terms above i, and that of term i where its place is not below.
 ghost use Rattle.std.specs.Prelude.{◌≡◌, ◌*◌, ◌≤◌, ◌<◌, length};
-ghost use Rattle.aes_sbox.specs.Inner.Tables.{RoundTables};
 ghost use Rattle.aes128.specs.Inner.Words.{round_keys};
 ghost use Rattle.field.specs.Inner.Elements.{noise_in};
 ghost use Rattle.ends_bench_leaves.specs.Inner.Vectors.{field_for, element_value};
 ghost use Rattle.ends_bench.specs.Inner.Rows.{row_in, IsBatch, IsCode, HasTerms, entry_in, sums_more, place_added};
 
+use aes_sbox::Tables;
 use code_places::row_term;
 use ends_bench_leaves::{Vector, add_output};
 use field::{Element, coefficient, noise_sum};
@@ -29,15 +29,8 @@ pub struct Pending {
 }
 
 // Term i of row x.
-fn pending_term(
-    tables: &[u64; 1536],
-    code: &[u64; 40],
-    layout: Layout,
-    x: usize,
-    i: usize,
-) -> Pending
-    requires round_tables { RoundTables tables.now }
-    requires code { IsCode layout × (i < layout.terms) }
+fn pending_term(tables: Tables, code: &[u64; 40], layout: Layout, x: usize, i: usize) -> Pending
+    requires { IsCode layout × (i < layout.terms) }
     ensures { (result.place ≡ (row_in (round_keys code.now) layout x).place i)
         × (noise_in layout.field result.coefficient ≡ (row_in (round_keys code.now) layout x).coefficient i) }
 {
@@ -49,24 +42,15 @@ fn pending_term(
 }
 
 // Makes term i of each row.
-pub fn make_terms(
-    tables: &[u64; 1536],
-    code: &[u64; 40],
-    batch: Batch,
-    i: usize,
-    rows: &mut [u64; 96],
-)
-    requires round_tables { RoundTables tables.now }
-    requires batch { IsBatch batch × IsCode batch.vector.layout × (i < batch.vector.layout.terms) × (length rows.old ≡ 96) }
+pub fn make_terms(tables: Tables, code: &[u64; 40], batch: Batch, i: usize, rows: &mut [u64; 96])
+    requires { IsBatch batch × IsCode batch.vector.layout × (i < batch.vector.layout.terms) × (length rows.old ≡ 96) }
     ensures { HasTerms (round_keys code.now) batch i batch.count rows.old rows.new }
 {
     let layout = batch.vector.layout;
-    let mut k: usize = 0;
-    while k < batch.count {
+    for k in 0..batch.count {
         let term = pending_term(tables, code, layout, batch.first + k, i);
         rows[32 + k] = term.place as u64;
         rows[64 + k] = term.coefficient;
-        k += 1;
     }
 }
 
@@ -75,10 +59,8 @@ pub fn pass_terms(field: usize, count: usize, rows: &mut [u64; 96])
     requires { (count ≤ 32) × (length rows.old ≡ 96) }
     ensures { rows.new ≡ sums_more field count rows.old }
 {
-    let mut k: usize = 0;
-    while k < count {
+    for k in 0..count {
         rows[k] = noise_sum(field, rows[k], rows[64 + k]);
-        k += 1;
     }
 }
 
@@ -101,10 +83,8 @@ pub fn add_place(batch: Batch, rows: &[u64; 96], j: usize, value: Element, out: 
 {
     let vector = batch.vector.number;
     let field = batch.vector.layout.field;
-    let mut k: usize = 0;
-    while k < batch.count {
+    for k in 0..batch.count {
         let entry = entry_at(field, rows, j, k);
         add_output(vector, field, k, entry, value, out);
-        k += 1;
     }
 }

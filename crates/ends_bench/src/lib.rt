@@ -12,9 +12,8 @@ mod batch;
 mod entries;
 
 use accepted::{write_noise, write_scalar};
-use answer::{OneLength, TwoLengths, refused_two};
+use answer::{OneLength, TwoLengths};
 use code::Window;
-use record::{RecordAnswer, record_fault};
 use record_reading::{read_noise, read_scalar};
 
 // Writes the window's outputs: u to the front of u_out, v to the front of v_out.
@@ -28,11 +27,10 @@ pub fn noise_bench(
     ensures { outcome_two result (noise.lent_with source.now u_out.new v_out.new)
         ≡ noise.bench_expansion (noise.lent_with source.now u_out.old v_out.old) first count }
 {
-    let r = read_noise(source);
-    let RecordAnswer::Accepted(layout) = r else {
-        return refused_two(record_fault(r));
-    };
-    write_noise(source, layout, Window { first, count }, u_out, v_out)
+    match read_noise(source) {
+        Ok(layout) => write_noise(source, layout, Window { first, count }, u_out, v_out),
+        Err(refusal) => TwoLengths::refused(refusal),
+    }
 }
 
 // Writes the window's outputs: w to the front of w_out.
@@ -40,12 +38,8 @@ pub fn scalar_bench(source: &[u8], first: usize, count: usize, w_out: &mut [u64]
     ensures { outcome_one result (scalar.lent_with source.now w_out.new)
         ≡ scalar.bench_expansion (scalar.lent_with source.now w_out.old) first count }
 {
-    let r = read_scalar(source);
-    let RecordAnswer::Accepted(layout) = r else {
-        return OneLength {
-            number: record_fault(r),
-            written: 0,
-        };
-    };
-    write_scalar(source, layout, Window { first, count }, w_out)
+    match read_scalar(source) {
+        Ok(layout) => write_scalar(source, layout, Window { first, count }, w_out),
+        Err(refusal) => OneLength::refused(refusal),
+    }
 }

@@ -54,7 +54,7 @@ down s f keys own r j n q =
     q ∙ ap (λ (x : List (List ℕ)). leaf_at (2 ^ f.branch_bits) (child_by (keys_for keys)) r.left x j) n
     ∙ walked-leaf f.branch_bits keys own r.left (columns_at s r.at) j
 
-module _ (vector : ℕ) (s : List ℕ) (f : Layout) (table : List ℕ) (keys : List (List ℕ)) (walking : Walking vector s f table keys) where
+module _ (vector : ℕ) (s : List ℕ) (f : Layout) (table : List Tree) (keys : List (List ℕ)) (walking : Walking vector s f table keys) where
   pub start-way : {i j : ℕ} {r : Start} → StartsAt vector s f i j r → IsWay f.branch_bits r.left
   start-way {r = r} start =
       let sizes = walking.standing.sizes in
@@ -97,7 +97,7 @@ two-walked_are s f keys a b j both me ne xe ye pe qe c d e ee ce de =
     ee
 
 -- neither tree is punctured there
-module _ (vector : ℕ) (table : List ℕ) (i j : ℕ) {t : Bool} (e : t ≡ (punctured_at vector table i j || punctured_at vector table (i + 1) j)) (h : t ≡ false) where
+module _ (vector : ℕ) (table : List Tree) (i j : ℕ) {t : Bool} (e : t ≡ (punctured_at vector table i j || punctured_at vector table (i + 1) j)) (h : t ≡ false) where
   neither : (punctured_at vector table i j ≡ false) × (punctured_at vector table (i + 1) j ≡ false)
   neither = or_none (punctured_at vector table i j) (punctured_at vector table (i + 1) j) (sym e ∙ h)
 
@@ -107,7 +107,7 @@ module _ (vector : ℕ) (table : List ℕ) (i j : ℕ) {t : Bool} (e : t ≡ (pu
   pub second-apart : punctured_at vector table (i + 1) j ≡ false
   second-apart = neither.1
 
-module _ (vector : ℕ) (table : List ℕ) (i j : ℕ) {t : Bool} (e : t ≡ punctured_at vector table i j) where
+module _ (vector : ℕ) (table : List Tree) (i j : ℕ) {t : Bool} (e : t ≡ punctured_at vector table i j) where
   pub either_first : t ≡ true → true ≡ (punctured_at vector table i j || punctured_at vector table (i + 1) j)
   either_first h = sym (rw (← e, h))
 
@@ -159,7 +159,7 @@ module _ (vector : ℕ) (s : List ℕ) (f : Layout) (j : ℕ) where
 
 -- ---- μ
 
-module _ (table : List ℕ) (i j noise : ℕ) {t : Tree} (te : t ≡ tree_at table i) where
+module _ (table : List Tree) (i j noise : ℕ) {t : Tree} (te : t ≡ tree_at table i) where
   pub noise_hit : t.position ≡ j → t.value ≡ choose (eqb (tree_at table i).position j) (tree_at table i).value noise
   noise_hit h =
       ap (λ (u : Tree). u.value) te
@@ -169,7 +169,7 @@ module _ (table : List ℕ) (i j noise : ℕ) {t : Tree} (te : t ≡ tree_at tab
   noise_miss h =
       sym (choose-false (eqb (tree_at table i).position j) (tree_at table i).value noise (ne_eqb _ _ (λ e. h (ap (λ (u : Tree). u.position) te ∙ e))))
 
-module _ (table : List ℕ) (j : ℕ) where
+module _ (table : List Tree) (j : ℕ) where
   pub word_none : 0 ≡ noise_word table 0 j
   unfolding noise_word
   word_none = refl
@@ -183,7 +183,7 @@ module _ (table : List ℕ) (j : ℕ) where
     pub word-all : (n : ℕ) → i ≤ n → n ≤ i → w ≡ noise_word table n j
     word-all n h k = e ∙ ap (λ (m : ℕ). noise_word table m j) (le_antisymm {n = i} {m = n} h k)
 
-module _ (s : List ℕ) (f : Layout) (table : List ℕ) where
+module _ (s : List ℕ) (f : Layout) (table : List Tree) where
   noise-words : (n : ℕ) → TreesIn s f table n → (j : ℕ)
       → noise_in f.field (noise_word table n j)
       ≡ noise (kind_of f.field).field.ring n (λ i. (noise_end.tree (content_of s f) i).position) (noise_end.value (content_of s f)) j

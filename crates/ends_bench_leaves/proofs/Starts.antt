@@ -34,7 +34,7 @@ use Rattle.tree_walk.proofs.Ways.{is_beside}
 
 -- ---- punctured, or not
 
-module _ (vector : ℕ) (table : List ℕ) (i j : ℕ) where
+module _ (vector : ℕ) (table : List Tree) (i j : ℕ) where
   pub never_punctured : vector ≡ 3 → false ≡ punctured_at vector table i j
   never_punctured e = sym (choose-true (eqb vector 3) false (eqb (tree_at table i).position j) (eq-eqb vector 3 e))
 
@@ -57,13 +57,13 @@ module _ (vector : ℕ) (table : List ℕ) (i j : ℕ) where
 
 -- ---- the leaf of a tree
 
-module _ (vector : ℕ) (s : List ℕ) (f : Layout) (table : List ℕ) (stands : Standing vector s f table) (i j : ℕ) (more : i < f.trees) where
+module _ (vector : ℕ) (s : List ℕ) (f : Layout) (table : List Tree) (stands : Standing vector s f table) (i j : ℕ) (more : i < f.trees) where
   tree_of : (vector ≡ 3 → ⊥) → IsTree s f i (tree_at table i)
   tree_of h = stands.trees h i more
 
   -- a punctured leaf is the correction
   pub punctured-leaf : {b : Bool} → b ≡ punctured_at vector table i j → b ≡ true → {t : Tree} → t ≡ tree_at table i
-      → element_in f.field (record { low = t.low; high = t.high }) ≡ leaf_of vector s f i j
+      → element_in f.field t.correction ≡ leaf_of vector s f i j
   unfolding leaf_of element_in
   punctured-leaf p e {t} te =
       let a = at_noise vector table i j (sym p ∙ e) in
@@ -73,8 +73,8 @@ module _ (vector : ℕ) (s : List ℕ) (f : Layout) (table : List ℕ) (stands :
       let y : Value K.field = noise.correction (content_of s f) i in
       let z : Value K.field = noise.leaf (content_of s f) i j in
       let hit : eqb (tree_in (trees_at s f) i).position j ≡ true = ap (λ (n : NoiseTree). eqb n.position j) same ∙ a.1 in
-      ap (λ (u : Tree). element_in f.field (record { low = u.low; high = u.high })) te
-      ∙ correction-words f.field (tree_at table i).low (tree_at table i).high
+      ap (λ (u : Tree). element_in f.field u.correction) te
+      ∙ correction-words f.field (tree_at table i).correction.low (tree_at table i).correction.high
       ∙ ap (λ (n : NoiseTree). K.field.elements.read n.correction 0) (sym same)
       ∙ sym (choose-true (eqb (tree_in (trees_at s f) i).position j) y z hit)
       ∙ sym (choose-false (eqb vector 3) x (choose (eqb (tree_in (trees_at s f) i).position j) y z) (ne_eqb vector 3 a.0))

@@ -7,7 +7,7 @@ ghost use Rattle.prime.specs.Prime.{primes, prime, prime_add, prime_mul};
 ghost use Rattle.field.specs.Inner.Elements.{noise_in};
 ghost use Rattle.ends_bench_leaves.specs.Inner.Vectors.{field_for, element_value};
 
-use field::{BINARY, Block, Element, add_bits, put_block};
+use field::{BINARY, Block, Element, FieldElement, add_bits};
 use prime::Prime;
 
 // Adds entry × bit to bit k of the outputs.
@@ -16,8 +16,7 @@ fn add_bit(k: usize, entry: u64, bit: u64, out: &mut [u64])
     ensures { out.new ≡ put binary.noise_values out.old k
         (bit_add (at binary.noise_values out.old k) (bit_mul entry bit)) }
 {
-    let product = (entry % 2) * (bit % 2);
-    out[k] = add_bits(out[k], product);
+    out[k] = add_bits(out[k], (entry % 2) * (bit % 2));
 }
 
 // Adds entry × block to block k of the outputs.
@@ -26,16 +25,11 @@ fn add_block(k: usize, entry: u64, element: Element, out: &mut [u64])
     ensures { out.new ≡ put binary.elements out.old k
         (block_add (at binary.elements out.old k) (block_scale entry (block element.low element.high))) }
 {
-    let low = k * 2;
-    let old = Block {
-        low: out[low],
-        high: out[low + 1],
-    };
     let value = Block {
         low: element.low,
         high: element.high,
     };
-    put_block(out, k, old.add(value.scale(entry)));
+    Block::at(out, k).add(value.scale(entry)).put(out, k);
 }
 
 // Adds entry × element to element k of the outputs in field 2.
@@ -44,9 +38,7 @@ fn add_prime(k: usize, entry: u64, word: u64, out: &mut [u64])
     ensures { out.new ≡ put primes.elements out.old k
         (prime_add (at primes.elements out.old k) (prime_mul (prime entry) (prime word))) }
 {
-    let total = Prime::add_product(out[k], entry, word);
-    let sum = Prime::reduce(total);
-    out[k] = sum.word;
+    out[k] = Prime::reduce(Prime::add_product(out[k], entry, word)).word;
 }
 
 // Adds entry × value to output k of a vector.

@@ -3,9 +3,8 @@ ghost use Rattle.std.specs.Prelude.{false, ◌||◌, ◌≡◌, ◌+◌, ◌*◌
 ghost use Rattle.ends.specs.Inner.Scalar.{roots_at};
 ghost use Rattle.ends_bench_leaves.specs.Inner.Trees.{Standing, StartsAt, punctured_at};
 
-use crate::table::tree_at;
 use field::element_width;
-use record::Layout;
+use record::{Layout, Tree};
 use tree_walk::{Start, from_sibling};
 
 // The place of root i.
@@ -17,32 +16,25 @@ fn root_place(source: &[u8], layout: Layout, i: usize) -> usize
 }
 
 // Whether tree i is punctured at j, which at the scalar end none is.
-pub fn punctured_at(vector: usize, table: &[u64; 320], i: usize, j: usize) -> bool
+pub fn punctured_at(vector: usize, table: &[Tree; 64], i: usize, j: usize) -> bool
     requires { i < 64 }
     ensures { result ≡ punctured_at vector table.now i j }
 {
-    if vector == 3 {
-        return false;
-    }
-    let tree = tree_at(table, i);
-    tree.position == j
+    vector != 3 && table[i].position == j
 }
 
 // Whether tree i or the next is punctured at j.
-pub fn either_punctured(vector: usize, table: &[u64; 320], i: usize, j: usize) -> bool
+pub fn either_punctured(vector: usize, table: &[Tree; 64], i: usize, j: usize) -> bool
     requires { i + 1 < 64 }
     ensures { result ≡ (punctured_at vector table.now i j || punctured_at vector table.now (i + 1) j) }
 {
-    if punctured_at(vector, table, i, j) {
-        return true;
-    }
-    punctured_at(vector, table, i + 1, j)
+    punctured_at(vector, table, i, j) || punctured_at(vector, table, i + 1, j)
 }
 
 // Where the walk to leaf j of tree i starts, which is not punctured there.
 pub fn start_at(
     source: &[u8],
-    table: &[u64; 320],
+    table: &[Tree; 64],
     vector: usize,
     layout: Layout,
     i: usize,
@@ -59,6 +51,6 @@ pub fn start_at(
             left: levels,
         };
     }
-    let tree = tree_at(table, i);
+    let tree = table[i];
     from_sibling(layout.branch_bits, levels, tree.position, j, tree.siblings)
 }

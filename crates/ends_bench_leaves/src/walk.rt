@@ -1,15 +1,14 @@
 // Walks to the same leaf in two trees.
 ghost use Rattle.std.specs.Prelude.{◌≡◌, ◌^◌};
-ghost use Rattle.aes_sbox.specs.Inner.Tables.{RoundTables};
 ghost use Rattle.tree.specs.Child.{child_by};
 ghost use Rattle.tree.specs.Inner.Keys.{keys_for};
 ghost use Rattle.tree.specs.Inner.Nodes.{node_of};
 ghost use Rattle.tree.specs.Tree.{leaf_at};
 ghost use Rattle.tree_walk.specs.Inner.Ways.{IsWay};
 
-use aes_blocks::TwoBlocks;
+use aes_blocks::Two;
+use aes_sbox::Tables;
 use field::Block;
-use record::smaller;
 use tree_walk::{walk_both, walk_to};
 
 // How many bits name a child, and how many levels are left below each of two nodes.
@@ -22,20 +21,19 @@ pub struct Levels {
 
 // Leaf j below each of two nodes, walked in alternation from where both have the same number of levels left.
 pub fn walk_two(
-    tables: &[u64; 1536],
+    tables: Tables,
     keys: &[[u64; 40]; 8],
     levels: Levels,
     a: Block,
     b: Block,
     j: usize,
-) -> TwoBlocks
-    requires round_tables { RoundTables tables.now }
-    requires way { IsWay levels.branch_bits levels.one × IsWay levels.branch_bits levels.other }
+) -> Two<Block>
+    requires { IsWay levels.branch_bits levels.one × IsWay levels.branch_bits levels.other }
     ensures { (node_of result.one ≡ leaf_at (2 ^ levels.branch_bits) (child_by (keys_for keys.now)) levels.one (node_of a) j)
         × (node_of result.other ≡ leaf_at (2 ^ levels.branch_bits) (child_by (keys_for keys.now)) levels.other (node_of b) j) }
 {
     let g = levels.branch_bits;
-    let both = smaller(levels.one, levels.other);
+    let both = levels.one.min(levels.other);
     let x = walk_to(tables, keys, g, levels.one, both, a, j);
     let y = walk_to(tables, keys, g, levels.other, both, b, j);
     walk_both(tables, keys, g, both, x, y, j)

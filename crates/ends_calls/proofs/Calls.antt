@@ -2,7 +2,7 @@
 use mathlib.Core.Path.{◌≡◌, refl, sym, ◌∙◌}
 use mathlib.Core.Bool.{Bool, true, false, not}
 use mathlib.Core.List.{List, ◌++◌}
-use Prim.Native.Nat.{ℕ, ◌+◌, ◌*◌, ◌^◌, ◌≤◌, ◌<◌}
+use Prim.Native.Nat.{ℕ, ◌*◌, ◌^◌, ◌≤◌, ◌<◌}
 use native.Mathlib.Omega.{arith}
 use lib.ListN.{length, take, drop}
 use lib.Seq.{length-take-le}
@@ -16,11 +16,11 @@ use Rattle.algebra.specs.Coding.{Coding, flat, over}
 use Rattle.algebra.specs.Sum.{accumulate}
 use Rattle.field.specs.Kind.{kind_of, element_words}
 use Rattle.number.proofs.Records.{read-refused}
+use Rattle.number.specs.Reading.{Whole, Refused}
 use Rattle.record.specs.Reading.{read_head, read_noise, read_scalar}
-use Rattle.record.specs.Answer.{head_of, record_read, head_if_whole, record_fault}
+use Rattle.record.proofs.Callers as callers
+use Rattle.record.specs.Answer.{head_of, head_if_whole}
 use Rattle.record.specs.declared.Layout.{Layout}
-use Rattle.record.specs.declared.RecordAnswer.{RecordAnswer}
-use Rattle.record.specs.declared.RecordAnswer.TheVariants.{Accepted, Fault}
 use Rattle.aes128.specs.Cipher.{aes}
 use Rattle.algebra.specs.Every.{every}
 use Rattle.algebra.proofs.Every.{every-both}
@@ -64,25 +64,32 @@ front-written C N f l p e = rw (p, e)
 
 -- ---- the noise end
 
-module _ (s : List ℕ) {r : RecordAnswer} (opens : record_read s r ≡ head_if_whole (read_noise s) (read_head 1 s)) where
-  pub noise-depth : {f : Layout} → r ≡ Accepted f → f.depth ≤ 16
-  noise-depth e = (noise_content.ready s opens e).sizes.depth
+-- a record that is refused
+module _ (s : List ℕ) {k : ℕ} (opens : Refused k ≡ head_if_whole (read_noise s) (read_head 1 s)) where
+  pub noise-fault : (noise v : List ℕ) → refused_two (noise_offline.offline_with s noise v) k ≡ noise_offline.offline s noise v
+  unfolding noise_offline.offline
+  noise-fault noise v = read-refused _ _ _ _ k (callers.noise-refused s (sym opens)) refl
 
-  pub noise-sizes : {f : Layout} → r ≡ Accepted f → Sizes s (head_of s f) f.body
-  noise-sizes e = (noise_content.ready s opens e).sizes
+  pub noise-online-fault : (noise v u_out v_out : List ℕ) (first count : ℕ)
+      → refused_two (noise_online.lent_with s noise v u_out v_out) k ≡ noise_online.online (noise_online.lent_with s noise v u_out v_out) first count
+  unfolding noise_online.online
+  noise-online-fault noise v u_out v_out first count = read-refused _ _ _ _ k (callers.noise-refused s (sym opens)) refl
+
+module _ (s : List ℕ) {f : Layout} (opens : Whole (head_of s f, f.body) ≡ head_if_whole (read_noise s) (read_head 1 s)) where
+  pub noise-depth : f.depth ≤ 16
+  noise-depth = (noise_content.ready s opens).sizes.depth
+
+  pub noise-sizes : Sizes s (head_of s f) f.body
+  noise-sizes = (noise_content.ready s opens).sizes
 
   module _ (noise v : List ℕ) where
-    pub noise-fault : {j k : ℕ} → r ≡ Fault j → k ≡ record_fault r → refused_two (noise_offline.offline_with s noise v) k ≡ noise_offline.offline s noise v
-    unfolding noise_offline.offline
-    noise-fault {j} {k} e q = read-refused _ _ _ _ k (noise_content.refused_is s opens e q) refl
-
-    module _ {f : Layout} (e : r ≡ Accepted f) {size : ℕ} (se : size ≡ 2 ^ f.depth) where
+    module _ {size : ℕ} (se : size ≡ 2 ^ f.depth) where
       pub noise-short : length noise < size → refused_two (noise_offline.offline_with s noise v) 13 ≡ noise_offline.offline s noise v
-      noise-short h = first_short _ _ _ _ (length noise) (length v) se h ∙ sym (noise_laws.offline-whole s noise v (noise_content.ready s opens e).read)
+      noise-short h = first_short _ _ _ _ (length noise) (length v) se h ∙ sym (noise_laws.offline-whole s noise v (noise_content.ready s opens).read)
 
       module _ (h : size ≤ length noise) {words : ℕ} (we : words ≡ 2 ^ f.depth * element_words f.field) where
         pub v_short : length v < words → refused_two (noise_offline.offline_with s noise v) 13 ≡ noise_offline.offline s noise v
-        v_short k = second_short _ _ _ _ (length noise) (length v) se h we k ∙ sym (noise_laws.offline-whole s noise v (noise_content.ready s opens e).read)
+        v_short k = second_short _ _ _ _ (length noise) (length v) se h we k ∙ sym (noise_laws.offline-whole s noise v (noise_content.ready s opens).read)
 
         pub noise-expanded : words ≤ length v → {a b : List ℕ}
             → a ≡ flat (kind_of f.field).field.noise_values (2 ^ f.depth)
@@ -96,16 +103,11 @@ module _ (s : List ℕ) {r : RecordAnswer} (opens : record_read s r ≡ head_if_
             let x = front-written _ _ _ noise p (se ∙ sym (one_word (head_of s f) (2 ^ f.depth))) in
             let y = front-written _ _ _ v q we in
             both-written _ _ _ _ (length noise) (length v) se h we k (λ i. record { source = s; noise = x i; v = y i })
-            ∙ sym (noise_laws.offline-whole s noise v (noise_content.ready s opens e).read)
+            ∙ sym (noise_laws.offline-whole s noise v (noise_content.ready s opens).read)
 
 -- a window of the accumulated vectors
-module _ (s noise v u_out v_out : List ℕ) (first count : ℕ) {r : RecordAnswer} (opens : record_read s r ≡ head_if_whole (read_noise s) (read_head 1 s)) where
-  pub noise-online-fault : {j k : ℕ} → r ≡ Fault j → k ≡ record_fault r
-      → refused_two (noise_online.lent_with s noise v u_out v_out) k ≡ noise_online.online (noise_online.lent_with s noise v u_out v_out) first count
-  unfolding noise_online.online
-  noise-online-fault {j} {k} e q = read-refused _ _ _ _ k (noise_content.refused_is s opens e q) refl
-
-  module _ {f : Layout} (e : r ≡ Accepted f) {n : ℕ}
+module _ (s noise v u_out v_out : List ℕ) (first count : ℕ) {f : Layout} (opens : Whole (head_of s f, f.body) ≡ head_if_whole (read_noise s) (read_head 1 s)) where
+  module _ {n : ℕ}
       (number : n ≡ first_fault (length_tests f (length noise) (length v) (record { first = first; count = count }) (length u_out) (length v_out))) where
     abbrev a : Window
     a = record { first = first; count = count }
@@ -114,7 +116,7 @@ module _ (s noise v u_out v_out : List ℕ) (first count : ℕ) {r : RecordAnswe
     l = noise_online.lent_with s noise v u_out v_out
 
     accepted : noise_ready.Ready s f
-    accepted = noise_content.ready s opens e
+    accepted = noise_content.ready s opens
 
     pub noise-refused : (n ≡ 0 → ⊥)
         → refused_two (noise_online.lent_with s noise v u_out v_out) n ≡ noise_online.online (noise_online.lent_with s noise v u_out v_out) first count
@@ -165,25 +167,32 @@ module _ (s noise v u_out v_out : List ℕ) (first count : ℕ) {r : RecordAnswe
 
 -- ---- the scalar end
 
-module _ (s : List ℕ) {r : RecordAnswer} (opens : record_read s r ≡ head_if_whole (read_scalar s) (read_head 2 s)) where
-  pub scalar-depth : {f : Layout} → r ≡ Accepted f → f.depth ≤ 16
-  scalar-depth e = (scalar_content.ready s opens e).sizes.depth
+-- a record that is refused
+module _ (s : List ℕ) {k : ℕ} (opens : Refused k ≡ head_if_whole (read_scalar s) (read_head 2 s)) where
+  pub scalar-fault : (w d : List ℕ) → refused_two (scalar_offline.offline_with s w d) k ≡ scalar_offline.offline s w d
+  unfolding scalar_offline.offline
+  scalar-fault w d = read-refused _ _ _ _ k (callers.scalar-refused s (sym opens)) refl
 
-  pub scalar-sizes : {f : Layout} → r ≡ Accepted f → Sizes s (head_of s f) f.body
-  scalar-sizes e = (scalar_content.ready s opens e).sizes
+  pub scalar-online-fault : (w out : List ℕ) (first count : ℕ)
+      → refused_one (scalar_online.lent_with s w out) k ≡ scalar_online.online (scalar_online.lent_with s w out) first count
+  unfolding scalar_online.online
+  scalar-online-fault w out first count = read-refused _ _ _ _ k (callers.scalar-refused s (sym opens)) refl
+
+module _ (s : List ℕ) {f : Layout} (opens : Whole (head_of s f, f.body) ≡ head_if_whole (read_scalar s) (read_head 2 s)) where
+  pub scalar-depth : f.depth ≤ 16
+  scalar-depth = (scalar_content.ready s opens).sizes.depth
+
+  pub scalar-sizes : Sizes s (head_of s f) f.body
+  scalar-sizes = (scalar_content.ready s opens).sizes
 
   module _ (w d : List ℕ) where
-    pub scalar-fault : {j k : ℕ} → r ≡ Fault j → k ≡ record_fault r → refused_two (scalar_offline.offline_with s w d) k ≡ scalar_offline.offline s w d
-    unfolding scalar_offline.offline
-    scalar-fault {j} {k} e q = read-refused _ _ _ _ k (scalar_content.refused_is s opens e q) refl
-
-    module _ {f : Layout} (e : r ≡ Accepted f) {words : ℕ} (we : words ≡ 2 ^ f.depth * element_words f.field) where
+    module _ {words : ℕ} (we : words ≡ 2 ^ f.depth * element_words f.field) where
       pub w_short : length w < words → refused_two (scalar_offline.offline_with s w d) 13 ≡ scalar_offline.offline s w d
-      w_short h = first_short _ _ _ _ (length w) (length d) we h ∙ sym (scalar_laws.offline-whole s w d (scalar_content.ready s opens e).read)
+      w_short h = first_short _ _ _ _ (length w) (length d) we h ∙ sym (scalar_laws.offline-whole s w d (scalar_content.ready s opens).read)
 
       module _ (h : words ≤ length w) where
         pub delta-short : length d < 2 → refused_two (scalar_offline.offline_with s w d) 13 ≡ scalar_offline.offline s w d
-        delta-short k = second_short _ _ _ _ (length w) (length d) we h refl k ∙ sym (scalar_laws.offline-whole s w d (scalar_content.ready s opens e).read)
+        delta-short k = second_short _ _ _ _ (length w) (length d) we h refl k ∙ sym (scalar_laws.offline-whole s w d (scalar_content.ready s opens).read)
 
         pub scalar-expanded : 2 ≤ length d → {a b : List ℕ}
             → a ≡ flat (kind_of f.field).field.elements (2 ^ f.depth)
@@ -195,16 +204,11 @@ module _ (s : List ℕ) {r : RecordAnswer} (opens : record_read s r ≡ head_if_
         scalar-expanded k {a} {b} p q =
             let x = front-written _ _ _ w p we in
             both-written _ _ _ _ (length w) (length d) we h refl k (λ i. record { source = s; w = x i; delta = q i })
-            ∙ sym (scalar_laws.offline-whole s w d (scalar_content.ready s opens e).read)
+            ∙ sym (scalar_laws.offline-whole s w d (scalar_content.ready s opens).read)
 
 -- a window of the accumulated vector; the code has the tests of the noise too, which it meets
-module _ (s w out : List ℕ) (first count : ℕ) {r : RecordAnswer} (opens : record_read s r ≡ head_if_whole (read_scalar s) (read_head 2 s)) where
-  pub scalar-online-fault : {j k : ℕ} → r ≡ Fault j → k ≡ record_fault r
-      → refused_one (scalar_online.lent_with s w out) k ≡ scalar_online.online (scalar_online.lent_with s w out) first count
-  unfolding scalar_online.online
-  scalar-online-fault {j} {k} e q = read-refused _ _ _ _ k (scalar_content.refused_is s opens e q) refl
-
-  module _ {f : Layout} (e : r ≡ Accepted f) {size : ℕ} (se : size ≡ 2 ^ f.depth) {n : ℕ}
+module _ (s w out : List ℕ) (first count : ℕ) {f : Layout} (opens : Whole (head_of s f, f.body) ≡ head_if_whole (read_scalar s) (read_head 2 s)) where
+  module _ {size : ℕ} (se : size ≡ 2 ^ f.depth) {n : ℕ}
       (number : n ≡ first_fault (length_tests f size (length w) (record { first = first; count = count }) count (length out))) where
     abbrev a' : Window
     a' = record { first = first; count = count }
@@ -213,7 +217,7 @@ module _ (s w out : List ℕ) (first count : ℕ) {r : RecordAnswer} (opens : re
     l' = scalar_online.lent_with s w out
 
     accepted' : scalar_ready.Ready s f
-    accepted' = scalar_content.ready s opens e
+    accepted' = scalar_content.ready s opens
 
     number' : n ≡ first_fault (element_tests f (length w) a' (length out))
     number' = number ∙ elements-alone f (length w) a' (length out) se

@@ -3,7 +3,7 @@
 use mathlib.Core.Path.{◌≡◌, sym, ap, ap₂, ◌∙◌}
 use mathlib.Core.Bool.{Bool, true, false}
 use mathlib.Core.List.{List, [], ◌∷◌, map}
-use Prim.Native.Nat.{ℕ, zero, ◌+◌, ◌-◌, ◌*◌, ◌/◌, ◌%◌, ◌^◌, ◌≤◌, ◌<◌}
+use Prim.Native.Nat.{ℕ, ◌+◌, ◌-◌, ◌*◌, ◌/◌, ◌%◌, ◌^◌, ◌≤◌, ◌<◌}
 use native.Mathlib.Nat.{le_antisymm, mul-one}
 use native.Mathlib.Numerals.{add-one}
 use native.Mathlib.Omega.{arith}
@@ -231,7 +231,7 @@ module _ (s : List ℕ) (f : Layout) where
 
     pub grown_more : i < f.trees → {t : Tree} → TreeRead s f n place base t → {next : List ℕ}
         → next ≡ punctured_added (kind_of f.field) (2 ^ f.branch_bits) (child_by (keys_for keys)) (punctured_of f t) s
-        ((kind_of f.field).field.elements.read (t.low ∷ t.high ∷ []) 0) v
+        ((kind_of f.field).field.elements.read (t.correction.low ∷ t.correction.high ∷ []) 0) v
         → Grown s f keys n (t.siblings + 16 * n) (t.position + 1) (i + 1) (set w t.position t.value) next
     unfolding punctured_element sibling_count
     grown_more more {t} known q =
@@ -240,7 +240,7 @@ module _ (s : List ℕ) (f : Layout) where
         let K = kind_of f.field in
         let k = 2 ^ f.branch_bits in
         let d = f.depth / f.branch_bits in
-        let c = K.field.elements.read (t.low ∷ t.high ∷ []) 0 in
+        let c = K.field.elements.read (t.correction.low ∷ t.correction.high ∷ []) 0 in
         record {
           ready = g.ready;
           own = g.own;
@@ -256,7 +256,7 @@ module _ (s : List ℕ) (f : Layout) where
               (λ j b.
               ap₂ (λ (x : Value K.field) (xs : List (List (List ℕ))).
               choose (eqb t.position j) x (K.leaf (from_siblings k child [] xs d t.position j)))
-              (correction-words f.field t.low t.high)
+              (correction-words f.field t.correction.low t.correction.high)
               (ap (siblings_at s t.siblings) (sym g.siblings) ∙ sym (siblings-columns s t.siblings n))
               ∙ ap (λ (x : NoiseTree). choose (eqb x.position j) (K.field.elements.read x.correction 0)
               (K.leaf (from_siblings k child [] (map (λ b. columns_at b 0) x.siblings) d x.position j))) (sym a.0));

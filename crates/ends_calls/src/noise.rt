@@ -6,12 +6,12 @@ ghost use Rattle.ends.specs.Noise.Online.{lent_with, online};
 
 pub use crate::noise_trees::tree_at;
 use crate::noise_trees::write_accumulated;
-use answer::{ACCEPTED, BUFFER_SHORT, NOT_ELEMENT, TwoLengths, refused_two};
+use answer::{ACCEPTED, Refusal, TwoLengths};
 use code::Window;
 use field::element_width;
-use record::{RecordAnswer, leaves, record_fault};
+use record::leaves;
 use record_reading::read_noise;
-use window_tests::{vector_words, window_number};
+use window_tests::{check_window, vector_words};
 use window_write::write_rows;
 
 // Writes the accumulated μ to the front of noise, and the accumulated v0 to the front of v.
@@ -19,17 +19,17 @@ pub fn offline(source: &[u8], noise: &mut [u64], v: &mut [u64]) -> TwoLengths
     ensures { outcome_two result (offline_with source.now noise.new v.new)
         ≡ offline source.now noise.old v.old }
 {
-    let r = read_noise(source);
-    let RecordAnswer::Accepted(layout) = r else {
-        return refused_two(record_fault(r));
+    let layout = match read_noise(source) {
+        Ok(layout) => layout,
+        Err(refusal) => return TwoLengths::refused(refusal),
     };
     let size = leaves(layout.depth);
     if noise.len() < size {
-        return refused_two(BUFFER_SHORT);
+        return TwoLengths::refused(Refusal::BufferShort);
     }
     let words = vector_words(layout);
     if v.len() < words {
-        return refused_two(BUFFER_SHORT);
+        return TwoLengths::refused(Refusal::BufferShort);
     }
     write_accumulated(source, layout, &mut noise[..size], &mut v[..words]);
     TwoLengths {
@@ -52,24 +52,23 @@ pub fn online(
     ensures { outcome_two result (lent_with source.now noise.now v.now u_out.new v_out.new)
         ≡ online (lent_with source.now noise.now v.now u_out.old v_out.old) first count }
 {
-    let r = read_noise(source);
-    let RecordAnswer::Accepted(layout) = r else {
-        return refused_two(record_fault(r));
+    let layout = match read_noise(source) {
+        Ok(layout) => layout,
+        Err(refusal) => return TwoLengths::refused(refusal),
     };
     let window = Window { first, count };
-    let number = window_number(
+    if let Err(refusal) = check_window(
         layout,
         noise.len(),
         v.len(),
         window,
         u_out.len(),
         v_out.len(),
-    );
-    if number != ACCEPTED {
-        return refused_two(number);
+    ) {
+        return TwoLengths::refused(refusal);
     }
     if !write_rows(source, layout, window, count, noise, v, u_out, v_out) {
-        return refused_two(NOT_ELEMENT);
+        return TwoLengths::refused(Refusal::NotElement);
     }
     TwoLengths {
         number: ACCEPTED,

@@ -9,6 +9,7 @@ ghost use Rattle.record.specs.Reading.{read_tree};
 ghost use Rattle.ends.specs.Noise.Vectors.{mu, v0};
 ghost use Rattle.ends.specs.Inner.Noise.{Ready, TreeRead, content_of};
 
+use aes_sbox::Tables;
 use code_sums::{accumulate_elements, accumulate_noise};
 use record::{Layout, Tree, leaves, sibling_count};
 use record_reading::known_tree;
@@ -34,17 +35,15 @@ fn write_trees(source: &[u8], layout: Layout, noise: &mut [u64], v: &mut [u64])
     ensures { (noise.new ≡ flat (kind_of layout.field).field.noise_values (2 ^ layout.depth) (mu (content_of source.now layout)))
         × (v.new ≡ flat (kind_of layout.field).field.elements (2 ^ layout.depth) (v0 (content_of source.now layout))) }
 {
-    let sb = aes_sbox::table();
-    let mut tables = [0u64; 1536];
-    aes_sbox::fill_tables(&mut tables);
-    let keys = child_keys(&sb, layout.branch_bits);
+    let mut words = [0u64; 1536];
+    let tables = Tables::fill(&mut words);
+    let keys = child_keys(layout.branch_bits);
     zero_words(noise);
     zero_words(v);
     let siblings = sibling_count(layout.depth, layout.branch_bits);
     let mut at = layout.body;
     let mut base: usize = 0;
-    let mut i: usize = 0;
-    while i < layout.trees {
+    for _ in 0..layout.trees {
         let tree = tree_at(source, layout, siblings, at, base);
         let position = tree.position;
         noise[position] = tree.value;
@@ -54,9 +53,9 @@ fn write_trees(source: &[u8], layout: Layout, noise: &mut [u64], v: &mut [u64])
             position,
             at: tree.siblings,
         };
-        let correction = [tree.low, tree.high];
+        let correction = [tree.correction.low, tree.correction.high];
         add_punctured(
-            &tables,
+            tables,
             &keys,
             layout.field,
             punctured,
@@ -66,7 +65,6 @@ fn write_trees(source: &[u8], layout: Layout, noise: &mut [u64], v: &mut [u64])
         );
         at = tree.siblings + 16 * siblings;
         base = position + 1;
-        i += 1;
     }
 }
 

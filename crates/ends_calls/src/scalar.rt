@@ -5,12 +5,12 @@ ghost use Rattle.ends.specs.Scalar.Offline.{offline_with, offline};
 ghost use Rattle.ends.specs.Scalar.Online.{lent_with, online};
 
 use crate::scalar_trees::{write_accumulated, write_delta};
-use answer::{ACCEPTED, BUFFER_SHORT, NOT_ELEMENT, OneLength, TwoLengths, refused_two};
+use answer::{ACCEPTED, OneLength, Refusal, TwoLengths};
 use code::Window;
 use field::element_width;
-use record::{RecordAnswer, leaves, record_fault};
+use record::leaves;
 use record_reading::read_scalar;
-use window_tests::{vector_words, window_number};
+use window_tests::{check_window, vector_words};
 use window_write::write_rows;
 
 // Writes the accumulated w0 to the front of w, and the two words of Δ.
@@ -18,16 +18,16 @@ pub fn offline(source: &[u8], w: &mut [u64], delta: &mut [u64]) -> TwoLengths
     ensures { outcome_two result (offline_with source.now w.new delta.new)
         ≡ offline source.now w.old delta.old }
 {
-    let r = read_scalar(source);
-    let RecordAnswer::Accepted(layout) = r else {
-        return refused_two(record_fault(r));
+    let layout = match read_scalar(source) {
+        Ok(layout) => layout,
+        Err(refusal) => return TwoLengths::refused(refusal),
     };
     let words = vector_words(layout);
     if w.len() < words {
-        return refused_two(BUFFER_SHORT);
+        return TwoLengths::refused(Refusal::BufferShort);
     }
     if delta.len() < 2 {
-        return refused_two(BUFFER_SHORT);
+        return TwoLengths::refused(Refusal::BufferShort);
     }
     write_accumulated(source, layout, &mut w[..words]);
     write_delta(source, layout, delta);
@@ -43,33 +43,26 @@ pub fn online(source: &[u8], w: &[u64], first: usize, count: usize, w_out: &mut 
     ensures { outcome_one result (lent_with source.now w.now w_out.new)
         ≡ online (lent_with source.now w.now w_out.old) first count }
 {
-    let r = read_scalar(source);
-    let RecordAnswer::Accepted(layout) = r else {
-        return OneLength {
-            number: record_fault(r),
-            written: 0,
-        };
+    let layout = match read_scalar(source) {
+        Ok(layout) => layout,
+        Err(refusal) => return OneLength::refused(refusal),
     };
     let window = Window { first, count };
-    let number = window_number(
+    if let Err(refusal) = check_window(
         layout,
         leaves(layout.depth),
         w.len(),
         window,
         count,
         w_out.len(),
-    );
-    if number != ACCEPTED {
-        return OneLength { number, written: 0 };
+    ) {
+        return OneLength::refused(refusal);
     }
     let words = count * element_width(layout.field);
     let mut no_u = [0u64; 1];
     // No word of u is asked for, so that neither the noise, for which w stands, nor a buffer for u is touched.
     if !write_rows(source, layout, window, 0, w, w, &mut no_u, w_out) {
-        return OneLength {
-            number: NOT_ELEMENT,
-            written: 0,
-        };
+        return OneLength::refused(Refusal::NotElement);
     }
     OneLength {
         number: ACCEPTED,

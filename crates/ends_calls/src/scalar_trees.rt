@@ -7,6 +7,7 @@ ghost use Rattle.tree.specs.Columns.{columns_at};
 ghost use Rattle.ends.specs.Scalar.Vectors.{w0, delta_out};
 ghost use Rattle.ends.specs.Inner.Scalar.{Ready, content_of};
 
+use aes_sbox::Tables;
 use code_sums::accumulate_elements;
 use field::{BINARY, element_width, word_at};
 use record::{Layout, leaves};
@@ -30,17 +31,15 @@ fn write_trees(source: &[u8], layout: Layout, w: &mut [u64])
     requires { Ready source.now layout × (length w.old ≡ 2 ^ layout.depth * element_words layout.field) }
     ensures { w.new ≡ flat (kind_of layout.field).field.elements (2 ^ layout.depth) (w0 (content_of source.now layout)) }
 {
-    let sb = aes_sbox::table();
-    let mut tables = [0u64; 1536];
-    aes_sbox::fill_tables(&mut tables);
-    let keys = child_keys(&sb, layout.branch_bits);
+    let mut words = [0u64; 1536];
+    let tables = Tables::fill(&mut words);
+    let keys = child_keys(layout.branch_bits);
     zero_words(w);
-    let mut i: usize = 0;
-    while i < layout.trees {
+    let levels = layout.depth / layout.branch_bits;
+    for i in 0..layout.trees {
         let root = root_at(source, layout, i);
-        let levels = layout.depth / layout.branch_bits;
         add_leaves(
-            &tables,
+            tables,
             &keys,
             layout.field,
             layout.branch_bits,
@@ -48,7 +47,6 @@ fn write_trees(source: &[u8], layout: Layout, w: &mut [u64])
             root,
             w,
         );
-        i += 1;
     }
 }
 

@@ -9,14 +9,11 @@ use Rattle.algebra.specs.Field.{NoiseValue, Value}
 use Rattle.algebra.specs.Sum.{accumulate}
 use Rattle.algebra.proofs.Coding.{length-flat}
 use Rattle.algebra.proofs.Flats.{flat-accumulated}
-use Rattle.field.specs.Kind.{kind_of, element_words}
+use Rattle.field.specs.Kind.{kind_of}
 use Rattle.field.proofs.BothKinds.{kind_laws}
 
 -- the words of N elements of a field, accumulated as many as N is told to be
 module _ (field N : ℕ) (f : ℕ → Value (kind_of field).field) {w : List ℕ} (e : w ≡ flat (kind_of field).field.elements N f) {n : ℕ} (same : n ≡ N) where
-  pub all_words : length w ≡ n * element_words field
-  all_words = rw same (ap length e ∙ length-flat (kind_of field).field.elements (kind_laws field).field.elements N f)
-
   pub accumulated : {next : List ℕ}
       → next ≡ flat (kind_of field).field.elements n (accumulate (kind_of field).field.scaled.group (at (kind_of field).field.elements w))
       → next ≡ flat (kind_of field).field.elements N (accumulate (kind_of field).field.scaled.group f)

@@ -1,15 +1,20 @@
 -- Laws of words in bytes: a number and its bytes determine each other, and the words of columns are words.
 use mathlib.Core.Path.{◌≡◌, refl, sym, ap, ◌∙◌}
 use mathlib.Core.List.{List, [], ◌∷◌}
-use Prim.Native.Nat.{ℕ, zero, suc, ◌+◌, ◌*◌, ◌/◌, ◌%◌, ◌^◌, ◌<◌, ◌≤◌}
+use Prim.Native.Nat.{ℕ, zero, suc, ◌+◌, ◌-◌, ◌*◌, ◌/◌, ◌%◌, ◌^◌, ◌<◌, ◌≤◌}
 use native.Mathlib.Omega.{arith}
-use native.Mathlib.Nat.{mod-one, mod-eq_of_lt, pow-suc, one-le-pow}
+use native.Mathlib.Nat.{div-div-eq-div-mul, mod-one, mod-eq_of_lt, pow-suc, one-le-pow}
 use native.Mathlib.Numerals.{towards_suc}
 use lib.Arith.{mod-mul}
 use lib.Bits.{bit_xor, xor_mod, xor_shr}
 use lib.ListN.{length, get_or, take, drop, length-drop}
 use lib.Seq.{drop-cons, get_or-drop, get_or-take, length-take-le}
-use Rattle.field.specs.Bytes.{le_number, le_bytes, word_at, low_of, high_of}
+use borrow.Rule.Slice.PartMut.{put_mid, Post-is}
+use Rattle.std.proofs.Common.{w64, append_assoc}
+use Rattle.std.proofs.lemmas.List.Edits.{sets-eq}
+use Rattle.std.specs.Int.{to_le_bytes}
+use Rattle.field.specs.Bytes.{le_number, le_bytes, word_at, columns_of, low_of, high_of}
+use Rattle.field.specs.Inner.Written.{with_word}
 
 pub length-le_bytes : (n x : ℕ) → length (le_bytes n x) ≡ n
 unfolding le_bytes
@@ -89,6 +94,20 @@ word_byte l at bytes room k h =
     rw size at (le_bytes-le_number (take 8 (drop at l)) (λ k j. rw (byte k (omega arith)) (bytes (at + k)))) in
     rw (word_at-take l at room, all) (byte k h)
 
+-- what `u64::to_le_bytes` computes
+pub bytes_of_number : (x : ℕ) → to_le_bytes w64 x ≡ le_bytes 8 x
+unfolding le_bytes
+bytes_of_number x = simp div-div-eq-div-mul
+
+-- a word's bytes put over the part of them
+pub word_put : (l bytes : List ℕ) (at x : ℕ) → at + 8 ≤ length l → bytes ≡ to_le_bytes w64 x → put_mid at (at + 8 - at) l bytes ≡ with_word l at x
+unfolding with_word
+word_put l bytes at x room e =
+    let b : bytes ≡ le_bytes 8 x = e ∙ bytes_of_number x in
+    let n : length (le_bytes 8 x) ≡ 8 = length-le_bytes 8 x in
+    rw (b, Post-is at (at + 8) l (omega arith))
+    (sym (append_assoc (take at l) (le_bytes 8 x) (drop (at + 8) l)) ∙ sym (rw n at (sets-eq (le_bytes 8 x) l at (rw n room))))
+
 -- ---- exclusive or
 -- the bytes of an exclusive or are the exclusive ors of the bytes
 pub le_bytes-xor : (n x y k : ℕ) → get_or (le_bytes n (bit_xor x y)) k 0 ≡ bit_xor (get_or (le_bytes n x) k 0) (get_or (le_bytes n y) k 0)
@@ -104,6 +123,14 @@ word-xor l r i j left right lroom rroom k h =
     le_bytes-xor 8 (word_at l i) (word_at r j) k ∙ rw (word_byte l i left lroom k h, word_byte r j right rroom k h)
 
 -- ---- words and columns
+-- the columns of two words' bytes
+pub columns_of_bytes : (low high : ℕ) → (let l = to_le_bytes w64 low in let h = to_le_bytes w64 high in
+    (get_or l 0 0 ∷ get_or l 1 0 ∷ get_or l 2 0 ∷ get_or l 3 0 ∷ []) ∷ (get_or l 4 0 ∷ get_or l 5 0 ∷ get_or l 6 0 ∷ get_or l 7 0 ∷ [])
+    ∷ (get_or h 0 0 ∷ get_or h 1 0 ∷ get_or h 2 0 ∷ get_or h 3 0 ∷ []) ∷ (get_or h 4 0 ∷ get_or h 5 0 ∷ get_or h 6 0 ∷ get_or h 7 0 ∷ []) ∷ [])
+    ≡ columns_of low high
+unfolding columns_of le_bytes
+columns_of_bytes low high = simp div-div-eq-div-mul
+
 -- the words of columns are words
 pub low_of-below : (s : List (List ℕ)) → ((c r : ℕ) → get_or (get_or s c []) r 0 < 256) → low_of s < 18446744073709551616
 unfolding low_of le_number

@@ -1,53 +1,34 @@
 -- Noise values and elements of either field by the field's number: laws shaped like what the functions of `noise` and `element` are
 -- asked, and what their callers know in either field. Assumes nothing.
 use mathlib.Core.Path.{◌≡◌, refl, sym, ap, subst, ◌∙◌}
-use mathlib.Core.Bool.{Bool, true, false, not, ◌&&◌, true≢false}
+use mathlib.Core.Bool.{Bool, true, false, true≢false}
 use mathlib.Core.List.{List, [], ◌∷◌}
-use Prim.Native.Nat.{ℕ, ◌+◌, ◌*◌, ◌≤◌, ◌<◌}
-use native.Mathlib.Nat.{mul-one}
-use native.Mathlib.Omega.{arith}
-use lib.Bits.{bit_xor}
-use lib.Dec.{eqb, leb, ltb}
-use lib.ListN.{length, get_or}
-use lib.Seq.{length-sets}
-use borrow.Author.Tests.{eq-eqb, ne_eqb, eqb-true, le-leb, lt-leb}
+use Prim.Native.Nat.{ℕ, ◌+◌}
+use lib.Dec.{eqb, ltb}
+use lib.ListN.{get_or}
+use borrow.Author.Tests.{eq-eqb, ne_eqb, eqb-true}
 use Rattle.algebra.specs.Choice.{choose}
 use Rattle.algebra.specs.Coding.{at}
 use Rattle.field.specs.declared.block.Block.{Block}
 use Rattle.field.specs.declared.element.Element.{Element}
 use Rattle.prime.specs.declared.prime.Prime.{Prime}
-use Rattle.field.specs.Binary.{bit_add, block, block_leaf, block_scale}
-use Rattle.field.specs.Bytes.{le_bytes, word_at, low_of}
-use Rattle.field.specs.ByNumber.{is_field, is_noise, element_of, rest_zero, is_element, is_zero, is_scalar}
-use Rattle.field.specs.Kind.{kind_of, element_words}
-use Rattle.prime.specs.Prime.{modulus, prime, prime_add, prime_sub, prime_mul, prime_reduce}
-use Rattle.field.specs.Inner.Elements.{element_length, noise_in, element_in, noise_sum, element_at, Compared}
+use Rattle.field.specs.Binary.{bit_add, block, block_leaf, block_scale, binary, block_add, block_sub}
+use Rattle.field.specs.Bytes.{word_at, low_of}
+use Rattle.field.specs.ByNumber.{is_noise, element_of, is_element}
+use Rattle.field.specs.Kind.{kind_of}
+use Rattle.prime.specs.Prime.{modulus, prime, prime_add, prime_sub, prime_mul, prime_reduce, primes}
+use Rattle.field.specs.Inner.Elements.{noise_in, element_in, noise_sum, element_at, Compared}
 use Rattle.field.specs.Inner.Written.{with_word, with_words}
-use Rattle.field.proofs.KindOf.{by_field, kind_by, words_1, words_2}
+use Rattle.field.proofs.KindOf.{by_field, kind_by}
 
 -- ---- fields and noise values
-
-pub field-one : (f : ℕ) → f ≡ 1 → eqb f 1 ≡ is_field f
-field-one f e = rw e
-
-pub field-other : (f : ℕ) → (f ≡ 1 → ⊥) → eqb f 2 ≡ is_field f
-field-other f e = rw (ne_eqb f 1 e)
 
 pub noise-one : (f y : ℕ) → f ≡ 1 → eqb y 1 ≡ is_noise f y
 noise-one f y e = rw e
 
-pub noise_upper : (f y : ℕ) → (f ≡ 1 → ⊥) → 1 ≤ y → leb y 2305843009213693950 ≡ is_noise f y
-noise_upper f y e h = rw (ne_eqb f 1 e, le-leb 1 y h)
-
-pub noise_lower : (f y : ℕ) → (f ≡ 1 → ⊥) → y < 1 → leb 1 y ≡ is_noise f y
-noise_lower f y e h = rw (ne_eqb f 1 e, lt-leb 1 y h)
-
 -- ---- in field 1
 
 module _ (field : ℕ) (e : field ≡ 1) where
-  pub length_1 : 16 ≡ element_length field
-  length_1 = ap (λ (n : ℕ). 8 * n) (sym (words_1 field e))
-
   pub leaf_1 : (leaf : List (List ℕ)) {b : Block} → b ≡ block_leaf leaf
       → element_in field (record { low = b.low; high = b.high }) ≡ (kind_of field).leaf leaf
   unfolding element_in
@@ -58,21 +39,20 @@ module _ (field : ℕ) (e : field ≡ 1) where
   unfolding element_at
   at_1 s place p q = rw (e, p, q)
 
-  pub of_1 : (l : List ℕ) (i : ℕ) → element_in field (record { low = get_or l (i * 2) 0; high = get_or l (i * 2 + 1) 0 }) ≡ at (kind_of field).field.elements l i
+  pub of_1 : (l : List ℕ) (i : ℕ) {b : Block} → b ≡ at binary.elements l i
+      → element_in field (record { low = b.low; high = b.high }) ≡ at (kind_of field).field.elements l i
   unfolding element_in
-  of_1 l i = rw e
+  of_1 l i q = rw e q
 
-  pub sum_1 : (a b : Element)
-      → element_in field (record { low = bit_xor a.low b.low; high = bit_xor a.high b.high })
-      ≡ (kind_of field).field.scaled.group.add (element_in field a) (element_in field b)
+  pub sum_1 : (a b : Element) {r : Block} → r ≡ block_add (block a.low a.high) (block b.low b.high)
+      → element_in field (record { low = r.low; high = r.high }) ≡ (kind_of field).field.scaled.group.add (element_in field a) (element_in field b)
   unfolding element_in
-  sum_1 a b = rw e
+  sum_1 a b q = rw e q
 
-  pub difference_1 : (a b : Element)
-      → element_in field (record { low = bit_xor a.low b.low; high = bit_xor a.high b.high })
-      ≡ (kind_of field).field.scaled.group.sub (element_in field a) (element_in field b)
+  pub difference_1 : (a b : Element) {r : Block} → r ≡ block_sub (block a.low a.high) (block b.low b.high)
+      → element_in field (record { low = r.low; high = r.high }) ≡ (kind_of field).field.scaled.group.sub (element_in field a) (element_in field b)
   unfolding element_in
-  difference_1 a b = rw e
+  difference_1 a b q = rw e q
 
   pub scaled_1 : (value : ℕ) (a : Element) {b : Block} → b ≡ block_scale value (block a.low a.high)
       → element_in field (record { low = b.low; high = b.high }) ≡ (kind_of field).field.scaled.scale (noise_in field value) (element_in field a)
@@ -81,9 +61,6 @@ module _ (field : ℕ) (e : field ≡ 1) where
 
   pub element_1 : (a : Element) → true ≡ is_element field (element_of field a.low a.high)
   element_1 a = rw e
-
-  pub zero_1 : (a : Element) → a.low ≡ 0 → eqb a.high 0 ≡ is_zero field (element_of field a.low a.high)
-  zero_1 a z = rw (e, z)
 
   pub coefficient_1 : (word : ℕ) → noise_in field 1 ≡ (kind_of field).coefficient word
   coefficient_1 word = rw e
@@ -99,9 +76,6 @@ module _ (field : ℕ) (h : field ≡ 1 → ⊥) where
   pub other : (P : Bool → Type 0) → P false → P (eqb field 1)
   other P x = subst P (sym (ne_eqb field 1 h)) x
 
-  pub length_2 : 8 ≡ element_length field
-  length_2 = ap (λ (n : ℕ). 8 * n) (sym (words_2 field h))
-
   pub leaf_2 : (leaf : List (List ℕ)) {w : ℕ} {p : Prime} → w ≡ low_of leaf → p ≡ prime_reduce w
       → element_in field (record { low = p.word; high = 0 }) ≡ (kind_of field).leaf leaf
   unfolding element_in
@@ -111,11 +85,10 @@ module _ (field : ℕ) (h : field ≡ 1 → ⊥) where
   unfolding element_at
   at_2 s place p = rw (ne_eqb field 1 h, p)
 
-  pub of_2 : (l : List ℕ) (i : ℕ) → element_in field (record { low = get_or l i 0; high = 0 }) ≡ at (kind_of field).field.elements l i
+  pub of_2 : (l : List ℕ) (i : ℕ) {p : Prime} → p ≡ at primes.elements l i
+      → element_in field (record { low = p.word; high = 0 }) ≡ at (kind_of field).field.elements l i
   unfolding element_in
-  of_2 l i =
-      other (λ t. (kind_by t).field.elements.read (get_or l i 0 ∷ 0 ∷ []) 0 ≡ at (kind_by t).field.elements l i)
-      (ap (λ (k : ℕ). prime (get_or l k 0)) (sym (mul-one i)))
+  of_2 l i {p} q = other (λ t. (kind_by t).field.elements.read (p.word ∷ 0 ∷ []) 0 ≡ at (kind_by t).field.elements l i) q
 
   module _ (a b : Element) {p : Prime} where
     pub sum_2 : p ≡ prime_add (prime a.low) (prime b.low)
@@ -146,9 +119,6 @@ module _ (field : ℕ) (h : field ≡ 1 → ⊥) where
       other (λ t. ltb a.low modulus
       ≡ (kind_by t).field.scaled.group.is_element ((kind_by t).field.elements.read (choose t (a.low ∷ a.high ∷ []) (a.low ∷ [])) 0)) refl
 
-  pub zero_2 : (a : Element) → a.low ≡ 0 → true ≡ is_zero field (element_of field a.low a.high)
-  zero_2 a z = rw (ne_eqb field 1 h, z)
-
   pub coefficient_2 : (word : ℕ) {p : Prime} → p ≡ prime_reduce word → noise_in field p.word ≡ (kind_of field).coefficient word
   coefficient_2 word {p} q = other (λ t. (kind_by t).field.noise_values.read (p.word ∷ []) 0 ≡ (kind_by t).coefficient word) q
 
@@ -157,10 +127,6 @@ module _ (field : ℕ) (h : field ≡ 1 → ⊥) where
   noise-sum_2 a b q = rw (ne_eqb field 1 h) (ap (λ (x : Prime). x.word) q)
 
 -- ---- in either field
-
--- an element takes one word at least, and two at most
-pub words_least : (field : ℕ) → 1 ≤ element_words field
-words_least field = by_field (λ t. 1 ≤ (kind_by t).field.elements.width) (omega arith) (omega arith) field
 
 pub noise-sum_is : (field a b : ℕ) → noise_in field (noise_sum field a b) ≡ (kind_of field).field.ring.group.add (noise_in field a) (noise_in field b)
 unfolding noise_sum
@@ -181,9 +147,6 @@ unfolding element_in
 element-words field low high =
     by_field (λ t. choose t (low ∷ high ∷ []) (low ∷ [])
     ≡ (kind_by t).field.elements.words ((kind_by t).field.elements.read (low ∷ high ∷ []) 0)) refl refl field
-
-pub element-first : (field low high : ℕ) → get_or (element_of field low high) 0 0 ≡ low
-element-first field low high = by_field (λ t. get_or (choose t (low ∷ high ∷ []) (low ∷ [])) 0 0 ≡ low) refl refl field
 
 -- what is read of its words is the element
 pub element-again : (field low high : ℕ)
@@ -206,15 +169,6 @@ module _ (field : ℕ) (s : List ℕ) (place : ℕ) where
   at_second q =
       rw q (by_field (λ t. choose t (word_at s (place + 8)) 0
       ≡ get_or (choose t (word_at s place ∷ choose t (word_at s (place + 8)) 0 ∷ []) (word_at s place ∷ [])) 1 0) refl refl field)
-
--- ---- places of elements
-
-module _ (field place : ℕ) {n : ℕ} (room : place + element_length field ≤ n) where
-  pub first-room : place + 8 ≤ n
-  first-room = omega (arith, room, words_least field)
-
-  pub second-room : field ≡ 1 → place + 8 + 8 ≤ n
-  second-room e = omega (arith, room, words_1 field e)
 
 -- ---- comparison and tests
 
@@ -251,36 +205,9 @@ module _ (field : ℕ) (a b : Element) where
           other = λ q. absurd (true≢false q);
         }
 
-pub rest-one : (field high : ℕ) → field ≡ 1 → eqb field 1 ≡ rest_zero field high
-rest-one field high e = rw e
-
-pub rest-other : (field high : ℕ) → (field ≡ 1 → ⊥) → eqb high 0 ≡ rest_zero field high
-rest-other field high h = rw (ne_eqb field 1 h)
-
-pub not-zero : (field : ℕ) (a : Element) → (a.low ≡ 0 → ⊥) → false ≡ is_zero field (element_of field a.low a.high)
-not-zero field a n =
-    by_field (λ t. false
-    ≡ choose t (eqb (get_or (choose t (a.low ∷ a.high ∷ []) (a.low ∷ [])) 0 0) 0 && eqb (get_or (choose t (a.low ∷ a.high ∷ []) (a.low ∷ [])) 1 0) 0)
-    (eqb (get_or (choose t (a.low ∷ a.high ∷ []) (a.low ∷ [])) 0 0) 0))
-    (rw (ne_eqb a.low 0 n)) (rw (ne_eqb a.low 0 n)) field
-
-module _ (field : ℕ) (a : Element) {x : Bool} (first : x ≡ is_element field (element_of field a.low a.high)) where
-  pub scalar_no : x ≡ false → false ≡ is_scalar field (element_of field a.low a.high)
-  scalar_no q = rw (← first, q)
-
-  pub scalar-last : x ≡ true → {y : Bool} → y ≡ is_zero field (element_of field a.low a.high) → not y ≡ is_scalar field (element_of field a.low a.high)
-  scalar-last q z = rw (← first, q, z)
-
 -- ---- an element stored
 
-pub length-word : {c : List ℕ} (b : List ℕ) (place x : ℕ) → c ≡ with_word b place x → length c ≡ length b
-unfolding with_word
-length-word b place x q = ap length q ∙ length-sets b place (le_bytes 8 x)
-
 module _ (field : ℕ) (b : List ℕ) (place : ℕ) (a : Element) {c : List ℕ} (w : c ≡ with_word b place a.low) where
-  pub stored-room : place + element_length field ≤ length b → field ≡ 1 → place + 8 + 8 ≤ length c
-  stored-room room e = omega (arith, second-room field place room e, length-word b place a.low w)
-
   pub stored_1 : field ≡ 1 → {d : List ℕ} → d ≡ with_word c (place + 8) a.high → d ≡ with_words b place (element_of field a.low a.high)
   unfolding with_words
   stored_1 e q = rw (q, w, e)

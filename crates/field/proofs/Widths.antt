@@ -1,9 +1,8 @@
 -- How many words an element takes, by the field's number, and an element of field 1 stored in its two.
 use mathlib.Core.Bool.{Bool, true, false}
 use mathlib.Core.List.{List}
-use mathlib.Core.Path.{◌≡◌, sym, ◌∙◌}
+use mathlib.Core.Path.{◌≡◌, sym}
 use Prim.Native.Nat.{ℕ, ◌+◌, ◌*◌, ◌≤◌}
-use native.Mathlib.Nat.{mul-one}
 use native.Mathlib.Omega.{arith}
 use lib.Dec.{eqb}
 use lib.ListN.{length, set}
@@ -12,11 +11,7 @@ use Rattle.algebra.specs.Inner.Put.{put}
 use Rattle.field.specs.declared.block.Block.{Block}
 use Rattle.field.specs.Binary.{binary, block}
 use Rattle.field.specs.Kind.{binary_kind, prime_kind, element_words}
-use Rattle.field.proofs.KindOf.{words_2}
 use Rattle.algebra.proofs.Words.{put_two}
-
-pub whole-prime : (field : ℕ) → (field ≡ 1 → ⊥) → (n size : ℕ) → n ≡ size * element_words field → n ≡ size
-whole-prime field e n size h = h ∙ rw (words_2 field e) (mul-one size)
 
 between : (field : ℕ) → (1 ≤ element_words field) × (element_words field ≤ 2)
 between field = of (eqb field 1)
@@ -24,9 +19,6 @@ between field = of (eqb field 1)
     of : (b : Bool) → (1 ≤ (choose b binary_kind prime_kind).field.elements.width) × ((choose b binary_kind prime_kind).field.elements.width ≤ 2)
     of true = (omega arith, omega arith)
     of false = (omega arith, omega arith)
-
-pub width_least : (field : ℕ) {width : ℕ} → width ≡ element_words field → 1 ≤ width
-width_least field e = rw e (between field).0
 
 pub width-most : (field : ℕ) → element_words field ≤ 2
 width-most field = (between field).1

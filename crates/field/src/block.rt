@@ -1,9 +1,10 @@
 // Field 1: blocks of two words, and the bits that scale them.
-ghost use Rattle.std.specs.Prelude.{◌≡◌};
-ghost use Rattle.field.specs.Bytes.{columns_of};
-ghost use Rattle.field.specs.Binary.{block_zero, block_add, block_sub, block_scale, block_leaf, bit_add};
+ghost use Rattle.std.specs.Prelude.{◌≡◌, ◌+◌, ◌≤◌, length};
+ghost use Rattle.field.specs.Bytes.{columns_of, word_at};
+ghost use Rattle.field.specs.Inner.Written.{with_word};
+ghost use Rattle.field.specs.Binary.{block, block_zero, block_add, block_sub, block_scale, block_leaf, bit_add};
 
-use crate::bytes::{high_word, low_word, word_columns};
+use crate::bytes::{high_word, low_word, put_word, word_at, word_columns};
 
 // An element of field 1: 16 bytes as two words, each least byte first.
 #[derive(Clone, Copy)]
@@ -37,10 +38,7 @@ impl Block {
     pub fn sub(self, other: Block) -> Block
         ensures { result ≡ block_sub self other }
     {
-        Block {
-            low: self.low ^ other.low,
-            high: self.high ^ other.high,
-        }
+        self.add(other)
     }
 
     // The block if the noise value is 1, else zero.
@@ -58,6 +56,26 @@ impl Block {
             low: low_word(columns),
             high: high_word(columns),
         }
+    }
+
+    // The block whose 16 bytes begin at a place.
+    pub fn read(bytes: &[u8], at: usize) -> Block
+        requires { at + 16 ≤ length bytes.now }
+        ensures { result ≡ block (word_at bytes.now at) (word_at bytes.now (at + 8)) }
+    {
+        Block {
+            low: word_at(bytes, at),
+            high: word_at(bytes, at + 8),
+        }
+    }
+
+    // Writes the block's 16 bytes from a place on.
+    pub fn write(self, bytes: &mut [u8], at: usize)
+        requires { at + 16 ≤ length bytes.old }
+        ensures { bytes.new ≡ with_word (with_word bytes.old at self.low) (at + 8) self.high }
+    {
+        put_word(bytes, at, self.low);
+        put_word(bytes, at + 8, self.high);
     }
 
     // The 16 bytes of the two words as four columns.

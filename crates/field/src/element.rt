@@ -1,6 +1,8 @@
 // Elements of either field by the field's number: made of leaves, words and bytes, added, scaled, compared, tested and written.
 ghost use Rattle.std.specs.Prelude.{◌≡◌, ◌+◌, ◌*◌, ◌≤◌, length};
 ghost use Rattle.algebra.specs.Coding.{at};
+ghost use Rattle.field.specs.Binary.{block};
+ghost use Rattle.prime.specs.Prime.{prime};
 ghost use Rattle.field.specs.ByNumber.{element_of, rest_zero, is_element, is_zero, is_scalar};
 ghost use Rattle.field.specs.Kind.{kind_of};
 ghost use Rattle.field.specs.Inner.Elements.{element_length, noise_in, element_in, element_at, Compared};
@@ -9,6 +11,8 @@ ghost use Rattle.field.specs.Inner.Written.{with_words};
 use crate::BINARY;
 use crate::block::Block;
 use crate::bytes::{low_word, put_word, word_at};
+use crate::parts::FieldElement;
+use crate::width::element_width;
 use prime::Prime;
 
 // An element: in field 1 its two words, in field 2 its word and any second one. A noise value is one word and any second one.
@@ -18,11 +22,52 @@ pub struct Element {
     pub high: u64,
 }
 
+impl Element {
+    // As an element of field 1.
+    fn block(self) -> Block
+        ensures { result ≡ block self.low self.high }
+    {
+        Block {
+            low: self.low,
+            high: self.high,
+        }
+    }
+
+    // As an element of field 2, which its first word is.
+    fn prime(self) -> Prime
+        ensures { result ≡ prime self.low }
+    {
+        Prime { word: self.low }
+    }
+}
+
+impl From<Block> for Element {
+    ghost from_gives = { λ block e. e ≡ record { low = block.low; high = block.high } };
+
+    fn from(block: Block) -> Element {
+        Element {
+            low: block.low,
+            high: block.high,
+        }
+    }
+}
+
+impl From<Prime> for Element {
+    ghost from_gives = { λ prime e. e ≡ record { low = prime.word; high = 0 } };
+
+    fn from(prime: Prime) -> Element {
+        Element {
+            low: prime.word,
+            high: 0,
+        }
+    }
+}
+
 // How many bytes an element takes.
 pub fn element_length(field: usize) -> usize
     ensures { result ≡ element_length field }
 {
-    if field == BINARY { 16 } else { 8 }
+    8 * element_width(field)
 }
 
 // The element of a leaf.
@@ -30,16 +75,9 @@ pub fn leaf_element(field: usize, leaf: [[u8; 4]; 4]) -> Element
     ensures { element_in field result ≡ (kind_of field).leaf leaf }
 {
     if field == BINARY {
-        let block = Block::of_columns(leaf);
-        return Element {
-            low: block.low,
-            high: block.high,
-        };
-    }
-    let prime = Prime::reduce(low_word(leaf));
-    Element {
-        low: prime.word,
-        high: 0,
+        Element::from(Block::of_columns(leaf))
+    } else {
+        Element::from(Prime::reduce(low_word(leaf)))
     }
 }
 
@@ -50,12 +88,10 @@ pub fn element_at(field: usize, bytes: &[u8], at: usize) -> Element
 {
     let low = word_at(bytes, at);
     if field == BINARY {
-        return Element {
-            low: low,
-            high: word_at(bytes, at + 8),
-        };
+        let high = word_at(bytes, at + 8);
+        return Element { low, high };
     }
-    Element { low: low, high: 0 }
+    Element { low, high: 0 }
 }
 
 // Element i of a vector, which has room for two words an element in either field.
@@ -64,34 +100,20 @@ pub fn element_of(field: usize, words: &[u64], i: usize) -> Element
     ensures { element_in field result ≡ at (kind_of field).field.elements words.now i }
 {
     if field == BINARY {
-        let low = i * 2;
-        return Element {
-            low: words[low],
-            high: words[low + 1],
-        };
-    }
-    Element {
-        low: words[i],
-        high: 0,
+        Element::from(Block::at(words, i))
+    } else {
+        Element::from(Prime::at(words, i))
     }
 }
 
-// The sum of two elements.
+// The sum of two elements. It and the difference are a line a field: one function of both would take the operations as two closures.
 pub fn element_sum(field: usize, a: Element, b: Element) -> Element
     ensures { element_in field result ≡ (kind_of field).field.scaled.group.add (element_in field a) (element_in field b) }
 {
     if field == BINARY {
-        return Element {
-            low: a.low ^ b.low,
-            high: a.high ^ b.high,
-        };
-    }
-    let first = Prime { word: a.low };
-    let second = Prime { word: b.low };
-    let sum = first.add(second);
-    Element {
-        low: sum.word,
-        high: 0,
+        Element::from(a.block().add(b.block()))
+    } else {
+        Element::from(a.prime().add(b.prime()))
     }
 }
 
@@ -100,17 +122,9 @@ pub fn element_difference(field: usize, a: Element, b: Element) -> Element
     ensures { element_in field result ≡ (kind_of field).field.scaled.group.sub (element_in field a) (element_in field b) }
 {
     if field == BINARY {
-        return Element {
-            low: a.low ^ b.low,
-            high: a.high ^ b.high,
-        };
-    }
-    let first = Prime { word: a.low };
-    let second = Prime { word: b.low };
-    let difference = first.sub(second);
-    Element {
-        low: difference.word,
-        high: 0,
+        Element::from(a.block().sub(b.block()))
+    } else {
+        Element::from(a.prime().sub(b.prime()))
     }
 }
 
@@ -119,22 +133,9 @@ pub fn element_scaled(field: usize, value: u64, a: Element) -> Element
     ensures { element_in field result ≡ (kind_of field).field.scaled.scale (noise_in field value) (element_in field a) }
 {
     if field == BINARY {
-        let block = Block {
-            low: a.low,
-            high: a.high,
-        };
-        let multiple = block.scale(value);
-        return Element {
-            low: multiple.low,
-            high: multiple.high,
-        };
-    }
-    let noise = Prime { word: value };
-    let element = Prime { word: a.low };
-    let multiple = noise.mul(element);
-    Element {
-        low: multiple.word,
-        high: 0,
+        Element::from(a.block().scale(value))
+    } else {
+        Element::from(Prime { word: value }.mul(a.prime()))
     }
 }
 
@@ -142,46 +143,28 @@ pub fn element_scaled(field: usize, value: u64, a: Element) -> Element
 pub fn same_element(field: usize, a: Element, b: Element) -> bool
     ensures { Compared field a b result }
 {
-    if a.low != b.low {
-        return false;
-    }
-    if field == BINARY {
-        return a.high == b.high;
-    }
-    true
+    a.low == b.low && (field != BINARY || a.high == b.high)
 }
 
 // Whether the words are an element.
 pub fn is_element(field: usize, a: Element) -> bool
     ensures { result ≡ is_element field (element_of field a.low a.high) }
 {
-    if field == BINARY {
-        return true;
-    }
-    a.low < Prime::MODULUS
+    field == BINARY || a.low < Prime::MODULUS
 }
 
 // Whether the words are those of zero.
 fn is_zero(field: usize, a: Element) -> bool
     ensures { result ≡ is_zero field (element_of field a.low a.high) }
 {
-    if a.low != 0 {
-        return false;
-    }
-    if field == BINARY {
-        return a.high == 0;
-    }
-    true
+    a.low == 0 && (field != BINARY || a.high == 0)
 }
 
 // Whether the words are an element other than zero.
 pub fn is_scalar(field: usize, a: Element) -> bool
     ensures { result ≡ is_scalar field (element_of field a.low a.high) }
 {
-    if !is_element(field, a) {
-        return false;
-    }
-    !is_zero(field, a)
+    is_element(field, a) && !is_zero(field, a)
 }
 
 // Whether a second word that no element of the field has is 0.

@@ -6,6 +6,7 @@ mod block;
 mod bytes;
 mod element;
 mod noise;
+mod parts;
 mod width;
 
 pub use block::{Block, add_bits};
@@ -15,9 +16,10 @@ pub use element::{
     element_sum, is_element, is_scalar, leaf_element, put_element, rest_zero, same_element,
 };
 pub use noise::{coefficient, is_field, is_noise, noise_sum, one_noise};
-pub use width::{element_width, put_block};
+pub use parts::FieldElement;
+pub use width::element_width;
 
-// The fields' numbers.
+// The fields' numbers. No enum, since a record's field byte may be any, and the functions here promise their answer for every number.
 pub const BINARY: usize = 1;
 
 pub const PRIME: usize = 2;

@@ -27,9 +27,10 @@ pub fn is_noise(field: usize, value: u64) -> bool
     ensures { result ≡ is_noise field value }
 {
     if field == BINARY {
-        return value == 1;
+        value == 1
+    } else {
+        1 <= value && value <= Prime::MODULUS - 1
     }
-    1 <= value && value <= Prime::MODULUS - 1
 }
 
 // The coefficient of a term's word.
@@ -37,10 +38,10 @@ pub fn coefficient(field: usize, word: u64) -> u64
     ensures { noise_in field result ≡ (kind_of field).coefficient word }
 {
     if field == BINARY {
-        return 1;
+        1
+    } else {
+        Prime::reduce(word).word
     }
-    let reduced = Prime::reduce(word);
-    reduced.word
 }
 
 // The sum of two noise values.
@@ -48,10 +49,8 @@ pub fn noise_sum(field: usize, a: u64, b: u64) -> u64
     ensures { result ≡ noise_sum field a b }
 {
     if field == BINARY {
-        return add_bits(a, b);
+        add_bits(a, b)
+    } else {
+        Prime { word: a }.add(Prime { word: b }).word
     }
-    let first = Prime { word: a };
-    let second = Prime { word: b };
-    let sum = first.add(second);
-    sum.word
 }

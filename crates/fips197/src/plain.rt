@@ -1,5 +1,5 @@
 // A plain AES-128, byte by byte on blocks of sixteen, that shares no code and no table with the proved one.
-ghost use Rattle.std.specs.Prelude.{◌<◌, ◌≤◌};
+use std::array;
 
 // Twice x in the field.
 fn double(x: u8) -> u8 {
@@ -20,114 +20,72 @@ fn third(x: u8) -> u8 {
 
 // x plus its four rotations, plus 63.
 fn spread(x: u8) -> u8 {
-    let one = (x << 1) | (x >> 7);
-    let two = (x << 2) | (x >> 6);
-    let three = (x << 3) | (x >> 5);
-    let four = (x << 4) | (x >> 4);
-    x ^ one ^ two ^ three ^ four ^ 0x63
-}
-
-fn put(t: &mut [u8; 256], at: u8, x: u8) {
-    t[at as usize] = x;
-}
-
-fn get(t: &[u8; 256], at: u8) -> u8 {
-    t[at as usize]
+    x ^ x.rotate_left(1) ^ x.rotate_left(2) ^ x.rotate_left(3) ^ x.rotate_left(4) ^ 0x63
 }
 
 // The S-box: the powers of three pass through every byte but zero, and those of a third through their inverses.
 pub fn sub_table() -> [u8; 256] {
     let mut t = [0u8; 256];
-    put(&mut t, 0, 0x63);
+    t[0] = 0x63;
     let mut p: u8 = 1;
     let mut q: u8 = 1;
-    let mut n: u32 = 0;
-    while n < 255 {
-        p = double(p) ^ p;
+    for _ in 0..255 {
+        p ^= double(p);
         q = third(q);
-        put(&mut t, p, spread(q));
-        n += 1;
+        t[p as usize] = spread(q);
     }
     t
 }
 
-// The byte of the column before from which byte `at` of a key schedule is made, where its column is a round key's first: the next
-// in its column, the first after the last.
-fn turned(w: &[u8; 176], at: usize) -> u8
-    requires { (16 ≤ at) × (at < 176) }
-{
-    if at % 4 == 3 { w[at - 7] } else { w[at - 3] }
+// The round key after one, with the round's constant: its first column from the last one's bytes, turned by one and substituted,
+// each other column from the one before it.
+fn next_key(t: &[u8; 256], key: &[u8; 16], constant: u8) -> [u8; 16] {
+    let mut next = *key;
+    next[0] ^= constant;
+    for i in 0..4 {
+        next[i] ^= t[key[12 + (i + 1) % 4] as usize];
+    }
+    for i in 4..16 {
+        next[i] ^= next[i - 4];
+    }
+    next
 }
 
-// The key schedule, 16 bytes a round key.
-pub fn expand(t: &[u8; 256], key: [u8; 16]) -> [u8; 176] {
-    let mut w = [0u8; 176];
-    let mut i: usize = 0;
-    while i < 16 {
-        w[i] = key[i];
-        i += 1;
+// The key schedule: eleven round keys.
+pub fn expand(t: &[u8; 256], key: [u8; 16]) -> [[u8; 16]; 11] {
+    let mut keys = [key; 11];
+    let mut constant: u8 = 1;
+    for r in 1..11 {
+        keys[r] = next_key(t, &keys[r - 1], constant);
+        constant = double(constant);
     }
-    let mut c: u8 = 1;
-    let mut at: usize = 16;
-    while at < 176 {
-        let mut x = w[at - 4];
-        if at % 16 < 4 {
-            x = get(t, turned(&w, at));
-        }
-        if at % 16 == 0 {
-            x = x ^ c;
-            c = double(c);
-        }
-        w[at] = w[at - 16] ^ x;
-        at += 1;
-    }
-    w
+    keys
 }
 
-// A block plus round key r.
-fn add_key(s: [u8; 16], w: &[u8; 176], r: usize) -> [u8; 16]
-    requires { r < 11 }
-{
-    let mut sum = s;
-    let mut i: usize = 0;
-    while i < 16 {
-        sum[i] = s[i] ^ w[16 * r + i];
-        i += 1;
-    }
-    sum
+// A block plus a round key.
+fn add_key(s: [u8; 16], key: &[u8; 16]) -> [u8; 16] {
+    array::from_fn(|i| s[i] ^ key[i])
 }
 
 // The bytes substituted, and their rows shifted: a byte of row k comes from k columns on.
 fn sub_shift(t: &[u8; 256], s: [u8; 16]) -> [u8; 16] {
-    let mut r = s;
-    let mut i: usize = 0;
-    while i < 16 {
-        r[i] = get(t, s[5 * i % 16]);
-        i += 1;
-    }
-    r
+    array::from_fn(|i| t[s[5 * i % 16] as usize])
 }
 
 // The columns mixed, byte by byte.
 fn mix(s: [u8; 16]) -> [u8; 16] {
-    let mut r = s;
-    let mut i: usize = 0;
-    while i < 16 {
+    array::from_fn(|i| {
         let top = i / 4 * 4;
         let all = s[top] ^ s[top + 1] ^ s[top + 2] ^ s[top + 3];
-        r[i] = s[i] ^ all ^ double(s[i] ^ s[top + (i + 1) % 4]);
-        i += 1;
-    }
-    r
+        s[i] ^ all ^ double(s[i] ^ s[top + (i + 1) % 4])
+    })
 }
 
-// The block under the key schedule w.
-pub fn encrypt(t: &[u8; 256], w: &[u8; 176], block: [u8; 16]) -> [u8; 16] {
-    let mut s = add_key(block, w, 0);
-    let mut r: usize = 1;
-    while r < 10 {
-        s = add_key(mix(sub_shift(t, s)), w, r);
-        r += 1;
+// The block under a key schedule.
+pub fn encrypt(t: &[u8; 256], keys: &[[u8; 16]; 11], block: [u8; 16]) -> [u8; 16] {
+    let mut s = add_key(block, &keys[0]);
+    for key in &keys[1..10] {
+        s = add_key(mix(sub_shift(t, s)), key);
     }
-    add_key(sub_shift(t, s), w, 10)
+    add_key(sub_shift(t, s), &keys[10])
 }

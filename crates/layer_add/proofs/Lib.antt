@@ -1,4 +1,3 @@
 -- The laws of `layer_add`.
 pub mod Turns
 pub mod Sums
-pub mod Search

@@ -1,16 +1,15 @@
 -- What a turn of the loops leaves, and the words of either field.
 use mathlib.Core.Path.{◌≡◌, refl, sym, ap, ◌∙◌, subst}
-use mathlib.Core.Bool.{Bool, true, false, not}
-use mathlib.Core.List.{List}
+use mathlib.Core.Bool.{Bool, true, false, not, ◌&&◌, ◌||◌}
+use mathlib.Core.List.{List, [], ◌∷◌}
 use Prim.Native.Nat.{ℕ, ◌+◌, ◌-◌, ◌*◌, ◌/◌, ◌%◌, ◌≤◌, ◌<◌}
 use native.Mathlib.Nat.{mul-one, mod-eq_of_lt, mod-eq-sub-mod}
 use native.Mathlib.Omega.{arith}
-use lib.Bits.{bit_xor}
 use lib.Dec.{eqb, ltb}
 use lib.ListN.{length, get_or, set}
 use lib.Seq.{get_or-drop}
-use borrow.Author.Tests.{ne_eqb, ltb-true, ltb-false}
-use Rattle.algebra.specs.Choice.{choose}
+use borrow.Author.Tests.{ne_eqb, ltb-true, ltb-false, lt-ltb, le-ltb}
+use Rattle.std.specs.List.{list_all}
 use Rattle.algebra.specs.Coding.{over}
 use Rattle.algebra.specs.Inner.Put.{with_value}
 use Rattle.algebra.proofs.Written.{Wide, Placed, front_more, front-all, read_past}
@@ -78,19 +77,21 @@ prime-word a b h = of (a + b) (omega (arith, h.0, h.1)) (ltb (a + b) modulus) re
 
 -- ---- by the field's number
 
-pub summed_1 : (field : ℕ) (from b l : List ℕ) → field ≡ 1 → l ≡ summed bit_xor from b → l ≡ summed (word_sum field) from b
-summed_1 field from b l f e = e ∙ ap (λ (t : Bool). summed (λ x y. choose t (bit_xor x y) (prime_sum x y)) from b) (sym (ap (λ n. eqb n 1) f))
+-- field 2 asks that every word is below p: that none is above p − 1
+below-none : (w : ℕ) (a b : Bool) → a ≡ not b → ltb w modulus && a ≡ not (ltb (modulus - 1) w || b)
+below-none w a b e = of (ltb w modulus) refl
+  where
+    of : (t : Bool) → ltb w modulus ≡ t → t && a ≡ not (ltb (modulus - 1) w || b)
+    of true t = let h : w ≤ modulus - 1 = omega (arith, ltb-true w modulus t) in rw (le-ltb (modulus - 1) w h) e
+    of false t = let h : modulus - 1 < w = omega (arith, ltb-false w modulus t) in rw (lt-ltb (modulus - 1) w h)
 
-pub summed_2 : (field : ℕ) (from b l : List ℕ) → (field ≡ 1 → ⊥) → l ≡ summed prime_sum from b → l ≡ summed (word_sum field) from b
-summed_2 field from b l f e = e ∙ ap (λ (t : Bool). summed (λ x y. choose t (bit_xor x y) (prime_sum x y)) from b) (sym (ne_eqb field 1 f))
+elements-none : (l : List ℕ) → list_all (λ word. ltb word modulus) l ≡ not (any_above (modulus - 1) l)
+unfolding any_above
+elements-none [] = refl
+elements-none (w ∷ l) = below-none w _ _ (elements-none l)
 
--- the words that field 1 and field 2 ask for
-pub words_1 : (field : ℕ) (l : List ℕ) → field ≡ 1 → true ≡ are_words field l
-words_1 field l f = rw f
-
-pub words_2 : (field limit m : ℕ) (l : List ℕ) (t : Bool) → (field ≡ 1 → ⊥) → m ≡ modulus → limit ≡ m - 1 → t ≡ any_above limit l
-    → not t ≡ are_words field l
-words_2 field limit m l t f p q e = rw (ne_eqb field 1 f, e, q, p)
+pub words_2 : (field : ℕ) (l : List ℕ) (t : Bool) → (field ≡ 1 → ⊥) → t ≡ list_all (λ word. ltb word modulus) l → t ≡ are_words field l
+words_2 field l t f e = rw (ne_eqb field 1 f) (e ∙ elements-none l)
 
 pub are_below : (field : ℕ) (l : List ℕ) → (field ≡ 1 → ⊥) → are_words field l ≡ true → AreBelow l
 are_below field l f e =

@@ -8,8 +8,8 @@ ghost use Rattle.layer_add.specs.Add.{lent_add, add};
 mod number;
 mod words;
 
-use answer::OneLength;
-use number::add_number;
+use answer::{ACCEPTED, OneLength};
+use number::check;
 use words::add_words;
 
 // Adds words to others, word for word.
@@ -17,13 +17,12 @@ pub fn add(field: usize, from: &[u64], into: &mut [u64]) -> OneLength
     ensures { outcome_one result (lent_add from.now into.new)
         ≡ add field (lent_add from.now into.old) }
 {
-    let number = add_number(field, from, into);
-    if number != 0 {
-        return OneLength { number, written: 0 };
+    if let Err(refusal) = check(field, from, into) {
+        return OneLength::refused(refusal);
     }
     add_words(field, from, into);
     OneLength {
-        number: 0,
+        number: ACCEPTED,
         written: into.len(),
     }
 }

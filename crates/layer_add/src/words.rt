@@ -5,15 +5,15 @@ ghost use Rattle.prime.specs.Prime.{modulus};
 ghost use Rattle.layer_add.specs.Add.{prime_sum, word_sum, summed};
 ghost use Rattle.layer_add.specs.Inner.{Addable, AreBelow};
 
-// In field 1, by exclusive or.
+use field::BINARY;
+
+// In field 1, by exclusive or. Two loops of one line each: one over a closure would have to ask of it what `prime_sum` asks of each pair.
 fn add_binary(from: &[u64], into: &mut [u64])
     requires { length from.now ≡ length into.old }
     ensures { into.new ≡ summed bit_xor from.now into.old }
 {
-    let mut k: usize = 0;
-    while k < into.len() {
+    for k in 0..into.len() {
         into[k] = from[k] ^ into[k];
-        k += 1;
     }
 }
 
@@ -32,10 +32,8 @@ fn add_prime(from: &[u64], into: &mut [u64])
     requires { (length from.now ≡ length into.old) × AreBelow from.now × AreBelow into.old }
     ensures { into.new ≡ summed prime_sum from.now into.old }
 {
-    let mut k: usize = 0;
-    while k < into.len() {
+    for k in 0..into.len() {
         into[k] = prime_sum(from[k], into[k]);
-        k += 1;
     }
 }
 
@@ -44,7 +42,7 @@ pub fn add_words(field: usize, from: &[u64], into: &mut [u64])
     requires { Addable field from.now into.old }
     ensures { into.new ≡ summed (word_sum field) from.now into.old }
 {
-    if field == 1 {
+    if field == BINARY {
         add_binary(from, into);
     } else {
         add_prime(from, into);

@@ -1,20 +1,15 @@
--- Each return of `read_number`, `known_number`, `number_length` and `write_number` gives what the definitions say there: one law a way,
+-- What the definitions of reading, length and writing of a number say, one law a way,
 -- from the tests that lead to it. Assumes nothing.
 use Prim.Native.Nat.{ℕ, ◌+◌, ◌-◌, ◌*◌, ◌/◌, ◌%◌, ◌≤◌, ◌<◌}
-use mathlib.Core.Bool.{true}
 use mathlib.Core.List.{List}
 use mathlib.Core.Path.{◌≡◌}
 use borrow.Author.Tests.{lt-ltb, le-ltb, eq-eqb, ne_eqb}
-use Rattle.number.proofs.Places.{split, refused-known}
+use Rattle.number.proofs.Places.{split}
 use native.Mathlib.Numerals.{add-one}
 use native.Mathlib.Omega.{arith}
 use lib.ListN.{length, get_or, set}
 use Rattle.number.specs.Number.{write_number, last_group, read_number, number_length}
-use Rattle.number.specs.Answer.{number_read}
-use Rattle.number.specs.Inner.Known.{is_whole}
 use Rattle.number.specs.Inner.Written.{Room, Wrote}
-use Rattle.number.specs.declared.Number.{Number}
-use Rattle.number.specs.declared.Number.TheVariants.{Value, Fault}
 use Rattle.number.specs.Reading.{Whole, Refused, read_byte}
 
 module _ (s : List ℕ) (at : ℕ) where
@@ -61,14 +56,6 @@ module _ (s : List ℕ) (at : ℕ) where
             unfolding read_number read_byte
             top_bit l =
                 simp (lt-ltb _ _ h, ← read, le-ltb _ _ g, lt-ltb _ _ h₁, ← read₁, le-ltb _ _ k, lt-ltb _ _ h₂, ← read₂, le-ltb _ _ l)
-
--- where a number is known to stand the answer is no fault
-module _ (s : List ℕ) (at : ℕ) {r : Number} (read : number_read r ≡ read_number s at) where
-  pub known-value : {n next : ℕ} → r ≡ Value n next → Whole (n, next) ≡ read_number s at
-  known-value e = rw e at read
-
-  pub known-fault : {k : ℕ} → r ≡ Fault k → is_whole (read_number s at) ≡ true → ⊥
-  known-fault e known = refused-known (rw e at read) known
 
 module _ (n : ℕ) where
   pub one : n < 128 → 1 ≡ number_length n

@@ -1,98 +1,57 @@
 // The number code of records: reading and writing a number of at most three bytes.
 #![tactic(auto)]
 
-ghost use Rattle.std.specs.Prelude.{true, ◌≡◌, ◌<◌};
-ghost use Rattle.number.specs.Reading.{Whole};
+ghost use Rattle.std.specs.Prelude.{true, ◌≡◌, ◌<◌, IfOk};
+ghost use Rattle.number.specs.Reading.{Whole, read_byte};
 ghost use Rattle.number.specs.Inner.Known.{is_whole};
 ghost use Rattle.number.specs.Number.{write_number, read_number, number_length};
 ghost use Rattle.number.specs.Inner.Written.{Room, Wrote, numbers};
-ghost use Rattle.number.specs.Answer.{number_read, number_fault};
+ghost use Rattle.number.specs.Answer.{number_read};
 
-use answer::{BAD_NUMBER, RECORD_ENDS};
+use answer::Refusal;
 
-// What reading a number gives.
-#[derive(Clone, Copy)]
-pub enum Number {
-    // The number, and the place after its last byte.
-    Value(usize, usize),
-    // The number that the record is refused with.
-    Fault(u32),
-}
-
-// The number that a reading is refused with; 0 for a value.
-pub fn number_fault(r: Number) -> u32
-    ensures { result ≡ number_fault r }
+// The byte at a place, and the place after it.
+fn read_byte(source: &[u8], at: usize) -> Result<(usize, usize), Refusal>
+    ensures value { number_read result ≡ read_byte source.now at }
+    ensures byte { IfOk result (λ read. read.0 < 256) }
 {
-    match r {
-        Number::Value(_, _) => 0,
-        Number::Fault(k) => k,
+    if source.len() <= at {
+        return Err(Refusal::RecordEnds);
     }
-}
-
-// The number in a wider type.
-fn byte_number(x: u8) -> usize
-    ensures { (result ≡ x) × (result < 256) }
-{
-    x as usize
+    Ok((source[at] as usize, at + 1))
 }
 
 // The number at a place, and the place after it.
-pub fn read_number(source: &[u8], at: usize) -> Number
+pub fn read_number(source: &[u8], at: usize) -> Result<(usize, usize), Refusal>
     ensures { number_read result ≡ read_number source.now at }
 {
-    let end = source.len();
-    if end <= at {
-        return Number::Fault(RECORD_ENDS);
-    }
-    let a = byte_number(source[at]);
-    let at1 = at + 1;
+    let (a, at) = read_byte(source, at)?;
     if a < 128 {
-        return Number::Value(a, at1);
+        return Ok((a, at));
     }
-    if end <= at1 {
-        return Number::Fault(RECORD_ENDS);
+    let (b, at) = read_byte(source, at)?;
+    if b == 0 {
+        return Err(Refusal::BadNumber);
     }
-    let b = byte_number(source[at1]);
-    let at2 = at1 + 1;
     if b < 128 {
-        if b == 0 {
-            return Number::Fault(BAD_NUMBER);
-        }
-        return Number::Value(a - 128 + b * 128, at2);
+        return Ok((a - 128 + b * 128, at));
     }
-    if end <= at2 {
-        return Number::Fault(RECORD_ENDS);
+    let (c, at) = read_byte(source, at)?;
+    if c == 0 || 128 <= c {
+        return Err(Refusal::BadNumber);
     }
-    let c = byte_number(source[at2]);
-    let at3 = at2 + 1;
-    if c < 128 {
-        if c == 0 {
-            return Number::Fault(BAD_NUMBER);
-        }
-        return Number::Value(a - 128 + (b - 128) * 128 + c * 16384, at3);
-    }
-    Number::Fault(BAD_NUMBER)
+    Ok((a - 128 + (b - 128) * 128 + c * 16384, at))
 }
 
-// A number that has been read before, and the place after it.
-#[derive(Clone, Copy)]
-pub struct Known {
-    pub number: usize,
-    pub next: usize,
-}
-
-// The number at a place where a number is known to stand.
-pub fn known_number(source: &[u8], at: usize) -> Known
+// The number at a place where a number is known to stand, and the place after it.
+pub fn known_number(source: &[u8], at: usize) -> (usize, usize)
     requires { is_whole (read_number source.now at) ≡ true }
-    ensures { Whole (result.number, result.next) ≡ read_number source.now at }
+    ensures { Whole result ≡ read_number source.now at }
 {
-    match read_number(source, at) {
-        Number::Value(number, next) => Known { number, next },
-        Number::Fault(_) => Known {
-            number: 0,
-            next: at,
-        },
-    }
+    let Ok(known) = read_number(source, at) else {
+        unreachable!()
+    };
+    known
 }
 
 // How many bytes the number takes.

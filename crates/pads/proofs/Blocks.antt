@@ -38,10 +38,6 @@ pub two-words : (l : List ℕ) (at : ℕ) (b : Block) → with_word (with_word l
 unfolding with_word with_value le_bytes
 two-words l at b = sym (sets_append l at (le_bytes 8 b.low) (le_bytes 8 b.high))
 
--- both words of a block written
-pub put-words : (l l' l'' : List ℕ) (at : ℕ) (b : Block) → l' ≡ with_word l at b.low → l'' ≡ with_word l' (at + 8) b.high → l'' ≡ with_value block_bytes l at b
-put-words l l' l'' at b e g = g ∙ rw e (two-words l at b)
-
 -- a pair of pads is written as two blocks
 pub two_blocks : (l : List ℕ) (at : ℕ) (m : PadPair)
     → with_value block_bytes (with_value block_bytes l at m.pad0) (at + 16) m.pad1 ≡ with_value pad_pair_bytes l at m

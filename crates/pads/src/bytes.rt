@@ -5,15 +5,12 @@ ghost use Rattle.pads.specs.Bytes.{block_bytes};
 
 use field::Block;
 
-// The block whose 16 bytes begin at a place.
+// The block whose 16 bytes begin at a place, as the definitions of pads say it.
 pub fn block_at(bytes: &[u8], at: usize) -> Block
     requires { at + 16 ≤ length bytes.now }
     ensures { result ≡ block_bytes.read bytes.now at }
 {
-    Block {
-        low: field::word_at(bytes, at),
-        high: field::word_at(bytes, at + 8),
-    }
+    Block::read(bytes, at)
 }
 
 // Writes the 16 bytes of a block from a place on.
@@ -21,6 +18,5 @@ pub fn put_block(bytes: &mut [u8], at: usize, b: Block)
     requires { at + 16 ≤ length bytes.old }
     ensures { bytes.new ≡ with_value block_bytes bytes.old at b }
 {
-    field::put_word(bytes, at, b.low);
-    field::put_word(bytes, at + 8, b.high);
+    b.write(bytes, at);
 }

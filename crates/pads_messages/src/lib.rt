@@ -7,11 +7,11 @@ ghost use Rattle.answer.specs.Outcome.{outcome_one};
 ghost use Rattle.pads.specs.Messages.Calls.{lent_correction, lent_mask, lent_unmask, correction_bits, mask_messages, unmask_messages};
 
 mod mask;
-mod number;
+mod tests;
 
 use answer::{ACCEPTED, OneLength};
 use mask::{write_answers, write_bits, write_opened};
-use number::{correction_number, mask_number, unmask_number};
+use tests::{check_blocks, check_correction};
 
 // The noise end's bits to send: choice exclusive-or wanted bit, a byte an output.
 pub fn correction_bits(
@@ -23,9 +23,8 @@ pub fn correction_bits(
     ensures { outcome_one result (lent_correction choices.now wanted.now bits_out.new)
         ≡ correction_bits count (lent_correction choices.now wanted.now bits_out.old) }
 {
-    let number = correction_number(count, choices, wanted, bits_out.len());
-    if number != ACCEPTED {
-        return OneLength { number, written: 0 };
+    if let Err(refusal) = check_correction(count, choices, wanted, bits_out.len()) {
+        return OneLength::refused(refusal);
     }
     write_bits(count, choices, wanted, bits_out);
     OneLength {
@@ -45,9 +44,8 @@ pub fn mask_messages(
     ensures { outcome_one result (lent_mask bits.now pads.now messages.now answers_out.new)
         ≡ mask_messages count (lent_mask bits.now pads.now messages.now answers_out.old) }
 {
-    let number = mask_number(count, bits, pads, messages, answers_out.len());
-    if number != ACCEPTED {
-        return OneLength { number, written: 0 };
+    if let Err(refusal) = check_blocks(32, count, bits, pads, messages, answers_out.len()) {
+        return OneLength::refused(refusal);
     }
     write_answers(count, bits, pads, messages, answers_out);
     OneLength {
@@ -67,9 +65,8 @@ pub fn unmask_messages(
     ensures { outcome_one result (lent_unmask wanted.now pads.now answers.now messages_out.new)
         ≡ unmask_messages count (lent_unmask wanted.now pads.now answers.now messages_out.old) }
 {
-    let number = unmask_number(count, wanted, pads, answers, messages_out.len());
-    if number != ACCEPTED {
-        return OneLength { number, written: 0 };
+    if let Err(refusal) = check_blocks(16, count, wanted, pads, answers, messages_out.len()) {
+        return OneLength::refused(refusal);
     }
     write_opened(count, wanted, pads, answers, messages_out);
     OneLength {

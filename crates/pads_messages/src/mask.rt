@@ -14,10 +14,8 @@ pub fn write_bits(count: usize, choices: &[u8], wanted: &[u8], bits_out: &mut [u
     ensures { bits_out.new
         ≡ over byte count (correction_bit choices.now wanted.now) bits_out.old }
 {
-    let mut k: usize = 0;
-    while k < count {
+    for k in 0..count {
         bits_out[k] = choices[k] ^ wanted[k];
-        k += 1;
     }
 }
 
@@ -60,10 +58,8 @@ pub fn write_answers(
     ensures { answers_out.new
         ≡ over thirty_two count (answer_of bits.now pads.now messages.now) answers_out.old }
 {
-    let mut k: usize = 0;
-    while k < count {
+    for k in 0..count {
         put_answer(k, bits, pads, messages, answers_out);
-        k += 1;
     }
 }
 
@@ -91,9 +87,7 @@ pub fn write_opened(
     ensures { messages_out.new
         ≡ over sixteen count (opened_of wanted.now pads.now answers.now) messages_out.old }
 {
-    let mut k: usize = 0;
-    while k < count {
+    for k in 0..count {
         put_opened(k, wanted, pads, answers, messages_out);
-        k += 1;
     }
 }

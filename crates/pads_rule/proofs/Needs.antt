@@ -1,5 +1,5 @@
 -- Laws shaped like what the functions of `pads_calls` are asked: premises as the code has them, conclusions as contracts have them.
-use mathlib.Core.Path.{◌≡◌, ap, ◌∙◌}
+use mathlib.Core.Path.{◌≡◌}
 use mathlib.Core.List.{List}
 use Prim.Native.Nat.{ℕ, ◌+◌}
 use Rattle.algebra.specs.Inner.Put.{with_value}
@@ -16,13 +16,6 @@ use Rattle.pads.specs.Pad.{pad_key, index_block, under_pad_key}
 pub put_both : (l l' l'' : List ℕ) (at : ℕ) (p q p' q' : Block) → p ≡ p' → q ≡ q'
     → l' ≡ with_value block_bytes l at p → l'' ≡ with_value block_bytes l' (at + 16) q → l'' ≡ with_value block_bytes (with_value block_bytes l at p') (at + 16) q'
 put_both l l' l'' at p q p' q' pe qe e g = rw (g, e, pe, qe)
-
--- both pads written where their first steps were read
-pub put-finished : (l l' l'' : List ℕ) (at x y : ℕ) (s t p q : Block) → s ≡ block_bytes.read l at → t ≡ block_bytes.read l (at + 16)
-    → p ≡ second_step x s → q ≡ second_step y t → l' ≡ with_value block_bytes l at p → l'' ≡ with_value block_bytes l' (at + 16) q
-    → l'' ≡ with_value block_bytes (with_value block_bytes l at (second_step x (block_bytes.read l at))) (at + 16) (second_step y (block_bytes.read l (at + 16)))
-put-finished l l' l'' at x y s t p q se te pe qe =
-    put_both l l' l'' at p q _ _ (pe ∙ ap (second_step x) se) (qe ∙ ap (second_step y) te)
 
 -- the first step, and the second
 pub first_is : (keys : List ℕ) (w r : Block) → round_keys keys ≡ key_expansion pad_key → r ≡ cipher_of keys w → r ≡ under_pad_key w

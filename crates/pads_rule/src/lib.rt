@@ -4,5 +4,4 @@
 mod rule;
 mod steps;
 
-pub use rule::{one_pad, pad_keys};
-pub use steps::{finish_two, start_two};
+pub use rule::{PadCipher, pad_keys};

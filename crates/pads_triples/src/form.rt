@@ -30,9 +30,7 @@ pub fn write_triples(choices: &[u8], pads: &[u8], pad_pairs: &[u8], triples_out:
         ≡ over triple_bytes (length choices.now) (triple_of choices.now pads.now pad_pairs.now)
         triples_out.old }
 {
-    let mut k: usize = 0;
-    while k < choices.len() {
+    for k in 0..choices.len() {
         put_triple(k, choices, pads, pad_pairs, triples_out);
-        k += 1;
     }
 }

@@ -7,20 +7,19 @@ ghost use Rattle.answer.specs.Outcome.{outcome_one};
 ghost use Rattle.pads.specs.Triples.Call.{lent_triples, triples};
 
 mod form;
-mod number;
+mod tests;
 
 use answer::{ACCEPTED, OneLength};
 use form::write_triples;
-use number::triples_number;
+use tests::check;
 
 // Forms the triple of each output, three bytes.
 pub fn triples(choices: &[u8], pads: &[u8], pad_pairs: &[u8], triples_out: &mut [u8]) -> OneLength
     ensures { outcome_one result (lent_triples choices.now pads.now pad_pairs.now triples_out.new)
         ≡ triples (lent_triples choices.now pads.now pad_pairs.now triples_out.old) }
 {
-    let number = triples_number(choices, pads, pad_pairs, triples_out.len());
-    if number != ACCEPTED {
-        return OneLength { number, written: 0 };
+    if let Err(refusal) = check(choices, pads, pad_pairs, triples_out.len()) {
+        return OneLength::refused(refusal);
     }
     write_triples(choices, pads, pad_pairs, triples_out);
     OneLength {

@@ -10,7 +10,7 @@ use Rattle.amounts.specs.declared.Amount.{Amount}
 use Rattle.amounts.specs.declared.WrittenAmount.{WrittenAmount}
 use Rattle.prime.specs.Prime.{prime}
 use Rattle.prime.specs.declared.prime.Prime.{Prime}
-use Rattle.prime.specs.declared.signed.FromSigned.TheVariants.{Element, OutOfRange}
+use Rattle.std.specs.Prelude.{Some, None}
 use Rattle.prime.specs.Signed.{signed_of, from_signed, signed_element}
 use Rattle.page.specs.Document01 as page
 use Rattle.page.proofs.Basics.{if_both}
@@ -26,7 +26,7 @@ read_is x =
     (ap (λ (z : ℤ). (0, z)) (if_both (λ a b. a ≡ b) (leb x page2.greatest) _ _ _ _ refl refl)) refl
 
 -- an amount that a test refuses, or its element
-by_test : (t : Bool) (a : Prime) → written_as (page.when◌then◌else◌ t OutOfRange (Element a)) ≡ written_as (choose t OutOfRange (Element a))
+by_test : (t : Bool) (a : Prime) → written_as (page.when◌then◌else◌ t None (Some a)) ≡ written_as (choose t None (Some a))
 unfolding page.when◌then◌else◌
 by_test t a = refl
 
@@ -39,7 +39,7 @@ unfolding page2.write_amount write_amount from_signed signed_element
 write_is (pos n) = by_test (ltb page2.greatest n) (prime n)
 write_is (negsuc n) =
     let low = leb-suc-suc page2.greatest n ∙ or-false (leb page2.greatest n) in
-    ap (λ (t : Bool). written_as (page.when◌then◌else◌ t OutOfRange (Element (prime (page.p - suc n))))) low
+    ap (λ (t : Bool). written_as (page.when◌then◌else◌ t None (Some (prime (page.p - suc n))))) low
     ∙ by_test (leb page2.greatest n || false) (prime (page.p - suc n))
 
 pub read-returned : (r : Amount) (x : ℕ) → r ≡ read_amount x → (r.number, r.amount) ≡ page2.read_amount x

@@ -1,14 +1,13 @@
 -- Document 02 on one page: what its calls return and leave, for every input, request by request; after them the calls that no request asks
 -- for, and the words in which the statements speak of lists of calls and runs. The contracts of `expander` cite it. It stands on document
--- 01's page, into which requests 4, 7, 8 and 10 are worked, and on the one definition by which `FromSigned`'s cases have their numbers;
+-- 01's page, into which requests 4, 7, 8 and 10 are worked, and on the one definition by which an element, or none, has its number;
 -- request 3 is about how the library computes, request 12 is a statement. A list of bits has a byte for each, 0 or 1.
-use Rattle.std.specs.Prelude.{ℕ, zero, suc, ◌+◌, ◌-◌, ◌*◌, ◌%◌, ◌^◌, ◌≤◌, ◌<◌, max, ◌≡◌, Bool, true, false, not, ◌&&◌, ◌||◌, List, [], ◌∷◌, ◌++◌, map, eqb, leb, ltb, ℤ, pos, negsuc, ◌-ℤ◌, length, take, drop, get_or, set, replicate}
+use Rattle.std.specs.Prelude.{ℕ, zero, suc, ◌+◌, ◌-◌, ◌*◌, ◌%◌, ◌^◌, ◌≤◌, ◌<◌, max, ◌≡◌, Bool, true, false, not, ◌&&◌, ◌||◌, List, [], ◌∷◌, ◌++◌, map, eqb, leb, ltb, ℤ, pos, negsuc, ◌-ℤ◌, length, take, drop, get_or, set, replicate, Some, None}
 use Rattle.std.proofs.Math.Option.{some}
 use Rattle.std.specs.Int.Bits.{bit_and, bit_xor}
 use Rattle.std.proofs.Math.ListN.{get_elem?}
 use Rattle.page.specs.Document01.{when◌then◌else◌, ◌!◌, ◌otherwise◌, list, joined, every, each, xor, from_bytes, word, Space, p, is_field, within, Head, F, N, write_number, Read, got, fault, Reader, and_then, ◌>>=◌, give, test, read_byte, read_number, ended, read_noise, read_scalar, sum, μ, v0, w0, term, place, Return, returned, refused, on_record, Output, Test, room, answer, count_of}
 use Rattle.prime.specs.Prime.{prime}
-use Rattle.prime.specs.declared.signed.FromSigned.TheVariants.{Element, OutOfRange}
 use Rattle.amounts.specs.declared.WrittenAmount.{WrittenAmount}
 use Rattle.amounts.specs.Calls.{written_as}
 
@@ -371,10 +370,10 @@ amount number z = (number, z)
 unfoldable pub read_amount : ℕ → ℕ × ℤ
 read_amount x = when ltb x p then amount 0 (when leb x greatest then pos x else (pos x -ℤ pos p)) else amount 8 (pos 0)
 
--- `negsuc n` is −(n + 1); `written_as` gives the number and the element: 19 and 0 of `OutOfRange`, as the statement `Amounts` says
+-- `negsuc n` is −(n + 1); `written_as` gives the number and the element: 19 and 0 of `None`, as the statement `Amounts` says
 unfoldable pub write_amount : ℤ → WrittenAmount
-write_amount (pos n) = written_as (when ltb greatest n then OutOfRange else Element (prime n))
-write_amount (negsuc n) = written_as (when ltb greatest (suc n) then OutOfRange else Element (prime (p - suc n)))
+write_amount (pos n) = written_as (when ltb greatest n then None else Some (prime n))
+write_amount (negsuc n) = written_as (when ltb greatest (suc n) then None else Some (prime (p - suc n)))
 
 -- ==== 14. A fresh dealing under a live stock
 -- a passage to another label and n tests 2, 20, 16; each caller keeps what it has not drawn

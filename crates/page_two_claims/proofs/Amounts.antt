@@ -9,8 +9,8 @@ use Rattle.amounts.specs.declared.WrittenAmount.{WrittenAmount}
 use Rattle.amounts.proofs.Agreeing.{agree}
 use Rattle.prime.specs.Prime.{prime_add, prime_sub}
 use Rattle.prime.specs.Signed.{from_signed, prime_negate}
-use Rattle.prime.specs.declared.signed.FromSigned.{FromSigned}
-use Rattle.prime.specs.declared.signed.FromSigned.TheVariants.{Element, OutOfRange}
+use Rattle.prime.specs.declared.prime.Prime.{Prime}
+use Rattle.std.specs.Prelude.{Option, Some, None}
 use Rattle.page.specs.Document01 as page
 use Rattle.page_two.specs.Document02 as page2
 use Rattle.page_two.proofs.Amounts.{amount_of, read_is, write_is}
@@ -30,10 +30,10 @@ amount_is : (x : ℕ) → (page2.read_amount x).1 ≡ (library.read_amount x).am
 amount_is x = ap (λ (r : ℕ × ℤ). r.1) (read_is x)
 
 -- an answer that is not accepted is that of an amount out of range
-not_written : (a : FromSigned) → ((library.written_as a).number ≡ 0 → ⊥)
+not_written : (a : Option Prime) → ((library.written_as a).number ≡ 0 → ⊥)
     → ((library.written_as a).number ≡ 19) × ((library.written_as a).element ≡ 0)
-not_written (Element a) refused = absurd (refused refl)
-not_written OutOfRange refused = (refl, refl)
+not_written (Some a) refused = absurd (refused refl)
+not_written None refused = (refl, refl)
 
 pub amounts : says.Amounts
 unfolding prime_add prime_sub prime_negate library.write_amount

@@ -9,15 +9,13 @@ use std::io::Read;
 use std::rt::{Env, Files};
 
 // Reads to the front of `bytes` until they are full, the file ends or a read fails, and returns how many bytes were read.
+// A loop: of `Read`'s own methods `read_exact` loses that count where the file is shorter, and `read_to_end` needs a heap.
 fn read_front<F: Read>(file: &mut F, bytes: &mut [u8]) -> usize
     ensures { IsPrefixLen result bytes.new }
 {
     let mut done = 0;
-    while done < bytes.len() {
-        match file.read(&mut bytes[done..]) {
-            Ok(0) | Err(_) => break,
-            Ok(n) => done += n,
-        }
+    while let Ok(n @ 1..) = file.read(&mut bytes[done..]) {
+        done += n;
     }
     done
 }

@@ -1,16 +1,14 @@
 -- Decimal digits as they are written: the last one after those before it, with room for all of them. Assumes nothing.
-use mathlib.Core.Path.{◌≡◌, refl, sym, ap, ◌∙◌}
+use mathlib.Core.Path.{◌≡◌, refl, ap, ◌∙◌}
 use mathlib.Core.List.{List, [], ◌∷◌, ◌++◌}
-use Prim.Native.Nat.{ℕ, zero, suc, ◌+◌, ◌-◌, ◌/◌, ◌%◌, ◌^◌, ◌≤◌, ◌<◌}
+use Prim.Native.Nat.{ℕ, zero, suc, ◌+◌, ◌-◌, ◌/◌, ◌%◌, ◌≤◌, ◌<◌}
 use native.Mathlib.Omega.{arith}
 use lib.Dec.{ltb}
-use lib.ListN.{length, set, length-append, length-set}
-use mir.Syntax.{w64}
-use mir.Val.{Fits}
-use lib.Seq.{sets, length-sets}
+use lib.ListN.{length, set, length-append}
 use borrow.Author.Tests.{le-ltb, lt-ltb}
 use Rattle.algebra.proofs.Choice.{choose-true, choose-false, choose_either}
-use Rattle.record.proofs.Writes.{after}
+use Rattle.number.proofs.Places.{wrote_then, room-front, room_back}
+use Rattle.number.specs.Inner.Written.{Room, Wrote}
 use Rattle.pairing.specs.Line.{digits}
 
 -- one digit
@@ -35,41 +33,41 @@ digits-most (suc n) x =
     choose_either (λ (l : List ℕ). length l ≤ suc n + 1) (ltb x 10) _ _ (omega arith)
     (let h = digits-most n (x / 10) in simp length-append (omega arith))
 
--- ---- what is written: the place after the digits, and the bytes
+-- ---- one digit alone, in the last place that is left or of a number below 10
 
 module _ (out : List ℕ) (at left x : ℕ) where
-  pub none_end : left ≡ 0 → at + 1 ≡ at + length (digits left x)
+  none_digits : left ≡ 0 → digits left x ≡ (48 + x % 10) ∷ []
   unfolding digits
-  none_end e = rw e
+  none_digits e = rw e
 
-  pub none-bytes : left ≡ 0 → set out at (48 + x % 10) ≡ sets out at (digits left x)
-  unfolding digits
-  none-bytes e = rw e
+  module _ (room : Room out at (digits left x)) where
+    pub none-room : left ≡ 0 → at < length out
+    none-room e = omega (arith, room.fits, ap length (none_digits e))
 
-  pub one_end : x < 10 → at + 1 ≡ at + length (digits left x)
-  one_end h = rw (digits_last left x h)
+    pub one-room : x < 10 → at < length out
+    one-room h = omega (arith, room.fits, ap length (digits_last left x h))
 
-  pub one-bytes : x < 10 → set out at (48 + x) ≡ sets out at (digits left x)
-  one-bytes h = rw (digits_last left x h)
+  pub none-wrote : left ≡ 0 → Wrote out at (digits left x) (at + 1) (set out at (48 + x % 10))
+  none-wrote e = rw (none_digits e) (record { place = refl; stored = refl })
 
-  module _ {b : List ℕ} {r : ℕ} (end : r ≡ at + length (digits (left - 1) (x / 10))) (bytes : b ≡ sets out at (digits (left - 1) (x / 10)))
-      (more : left ≡ 0 → ⊥) where
-    pub more_room : at + left < length out → r < length b
-    more_room h =
-        let e = ap length bytes ∙ length-sets out at (digits (left - 1) (x / 10)) in
-        let m = digits-most (left - 1) (x / 10) in
-        omega arith
+  pub one-wrote : x < 10 → Wrote out at (digits left x) (at + 1) (set out at (48 + x))
+  one-wrote h = rw (digits_last left x h) (record { place = refl; stored = refl })
 
-    pub more_fits : at + left < length out → length out < 2 ^ 64 → Fits w64 (r + 1)
-    more_fits h small = let m = digits-most (left - 1) (x / 10) in record { fits = omega arith }
+  -- ---- the last digit after the others
 
-    pub more_length : length (set b r (48 + x % 10)) ≡ length out
-    more_length = length-set b r (48 + x % 10) ∙ ap length bytes ∙ length-sets out at (digits (left - 1) (x / 10))
+  module _ (more : left ≡ 0 → ⊥) (h : 10 ≤ x) where
+    abbrev others : List ℕ
+    others = digits (left - 1) (x / 10)
 
-    pub more_end : 10 ≤ x → r + 1 ≡ at + length (digits left x)
-    more_end h = rw (digits_more left x more h, length-append) (omega arith)
+    abbrev last : List ℕ
+    last = (48 + x % 10) ∷ []
 
-    pub more_bytes : 10 ≤ x → set b r (48 + x % 10) ≡ sets out at (digits left x)
-    more_bytes h =
-        after out at (digits (left - 1) (x / 10)) ((48 + x % 10) ∷ []) bytes end refl
-        ∙ ap (sets out at) (sym (digits_more left x more h))
+    pub others-room : Room out at (digits left x) → Room out at others
+    others-room room = room-front others last (rw (digits_more left x more h) at room)
+
+    module _ {r : ℕ} {b : List ℕ} (w : Wrote out at others r b) where
+      pub last-room : Room out at (digits left x) → r < length b
+      last-room room = omega (arith, (room_back others last w (rw (digits_more left x more h) at room)).fits)
+
+      pub more-wrote : Wrote out at (digits left x) (r + 1) (set b r (48 + x % 10))
+      more-wrote = rw (digits_more left x more h) (wrote_then {v = last} w (record { place = refl; stored = refl }))

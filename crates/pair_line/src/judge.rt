@@ -6,9 +6,10 @@ ghost use Rattle.pairing.specs.Answer.{verdict_of};
 ghost use Rattle.pairing_tests.specs.Inner.Steps.{Paired, NoiseOutputs, ScalarOutputs};
 ghost use Rattle.pairing.specs.Verdict.{Checked, verdict};
 
+use answer::Refusal;
 use pairing::Finding;
 use pairing_tests::{count_held, same_dealing};
-use record::{Layout, RecordAnswer, leaves, record_fault};
+use record::{Layout, leaves};
 use record_reading::{read_noise, read_scalar};
 
 // The leaves that there is memory for.
@@ -64,12 +65,9 @@ fn held_outputs(noise_record: &[u8], p: Layout, scalar_record: &[u8], q: Layout)
 // Two accepted records are too large, of different dealings, or checked, in that order.
 fn compare(noise_record: &[u8], p: Layout, scalar_record: &[u8], q: Layout) -> Finding
     requires { noise.Ready noise_record.now p × scalar.Ready scalar_record.now q }
-    ensures { verdict_of result ≡ verdict noise_record.now scalar_record.now }
+    ensures { verdict_of (Ok result) ≡ verdict noise_record.now scalar_record.now }
 {
-    if MOST_LEAVES < leaves(p.depth) {
-        return Finding::TooLarge;
-    }
-    if MOST_LEAVES < leaves(q.depth) {
+    if MOST_LEAVES < leaves(p.depth) || MOST_LEAVES < leaves(q.depth) {
         return Finding::TooLarge;
     }
     if !same_dealing(noise_record, p, scalar_record, q) {
@@ -79,16 +77,10 @@ fn compare(noise_record: &[u8], p: Layout, scalar_record: &[u8], q: Layout) -> F
 }
 
 // A record is refused, or both are compared.
-pub fn judge(noise_record: &[u8], scalar_record: &[u8]) -> Finding
+pub fn judge(noise_record: &[u8], scalar_record: &[u8]) -> Result<Finding, Refusal>
     ensures { verdict_of result ≡ verdict noise_record.now scalar_record.now }
 {
-    let a = read_noise(noise_record);
-    let RecordAnswer::Accepted(p) = a else {
-        return Finding::Refused(record_fault(a));
-    };
-    let b = read_scalar(scalar_record);
-    let RecordAnswer::Accepted(q) = b else {
-        return Finding::Refused(record_fault(b));
-    };
-    compare(noise_record, p, scalar_record, q)
+    let p = read_noise(noise_record)?;
+    let q = read_scalar(scalar_record)?;
+    Ok(compare(noise_record, p, scalar_record, q))
 }

@@ -1,17 +1,18 @@
 // The line of a finding, written over the front of a buffer.
-ghost use Rattle.std.specs.Prelude.{◌≡◌, ◌+◌, ◌≤◌, ◌<◌, length};
-ghost use Rattle.std.proofs.lemmas.List.Edits.{sets};
+ghost use Rattle.std.specs.Prelude.{◌≡◌, ◌≤◌, length};
+ghost use Rattle.number.specs.Inner.Written.{Room, Wrote};
 ghost use Rattle.pairing.specs.Line.{digits, printed};
 ghost use Rattle.pairing.specs.Answer.{verdict_of};
-ghost use Rattle.pairing.specs.Verdict.{Checked};
 
+use answer::Refusal;
 use pairing::Finding;
 use record::write_bytes;
 
 // Writes the decimal digits of a number, at most `left` + 1 of them, and returns the place after them.
+// By hand: `write!` says what it wrote only where it succeeds, and `printed` of `write_finding` is to hold in every case.
 fn write_digits(out: &mut [u8], at: usize, left: usize, x: usize) -> usize
-    requires { at + left < length out.old }
-    ensures { (result ≡ at + length (digits left x)) × (out.new ≡ sets out.old at (digits left x)) }
+    requires { Room out.old at (digits left x) }
+    ensures { Wrote out.old at (digits left x) result out.new }
 {
     if left == 0 {
         out[at] = (48 + x % 10) as u8;
@@ -26,35 +27,23 @@ fn write_digits(out: &mut [u8], at: usize, left: usize, x: usize) -> usize
     end + 1
 }
 
-// Writes the line of the outputs tried and those that hold, and returns its length.
-fn write_checked(tried: usize, held: usize, out: &mut [u8]) -> usize
+// Writes the line of what is found, and returns its length.
+pub fn write_finding(found: Result<Finding, Refusal>, out: &mut [u8]) -> usize
     requires { 64 ≤ length out.old }
-    ensures { (out.new, result) ≡ printed (Checked tried held) out.old }
+    ensures { (out.new, result) ≡ printed (verdict_of found) out.old }
 {
-    write_bytes(out, 0, b"checked ", 0, 8);
-    let middle = write_digits(out, 8, 9, tried);
-    write_bytes(out, middle, b" held ", 0, 6);
-    write_digits(out, middle + 6, 9, held)
-}
-
-// Writes the line of a finding, and returns its length.
-pub fn write_finding(finding: Finding, out: &mut [u8]) -> usize
-    requires { 64 ≤ length out.old }
-    ensures { (out.new, result) ≡ printed (verdict_of finding) out.old }
-{
-    match finding {
-        Finding::Refused(number) => {
-            write_bytes(out, 0, b"refused ", 0, 8);
-            write_digits(out, 8, 9, number as usize)
+    match found {
+        Err(refusal) => {
+            let at = write_bytes(out, 0, b"refused ");
+            write_digits(out, at, 9, refusal.number() as usize)
         }
-        Finding::TooLarge => {
-            write_bytes(out, 0, b"too large", 0, 9);
-            9
+        Ok(Finding::TooLarge) => write_bytes(out, 0, b"too large"),
+        Ok(Finding::Different) => write_bytes(out, 0, b"different dealing"),
+        Ok(Finding::Checked(tried, held)) => {
+            let at = write_bytes(out, 0, b"checked ");
+            let at = write_digits(out, at, 9, tried);
+            let at = write_bytes(out, at, b" held ");
+            write_digits(out, at, 9, held)
         }
-        Finding::Different => {
-            write_bytes(out, 0, b"different dealing", 0, 17);
-            17
-        }
-        Finding::Checked(tried, held) => write_checked(tried, held, out),
     }
 }

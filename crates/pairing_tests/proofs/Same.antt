@@ -1,15 +1,15 @@
 -- Lists and heads that are found equal are equal, and two heads are found of one dealing exactly if field, sizes, code key and label are
 -- equal. Assumes nothing.
 use mathlib.Core.Path.{◌≡◌, refl, sym, ap, ap₂, ◌∙◌}
-use mathlib.Core.Bool.{Bool, true, false, ◌&&◌, not, false≢true}
+use mathlib.Core.Bool.{Bool, true, false, ◌&&◌, false≢true}
 use mathlib.Core.List.{List, [], ◌∷◌}
-use Prim.Native.Nat.{ℕ, ◌+◌, ◌-◌, ◌≤◌, ◌<◌}
-use borrow.Author.Count.{below_none, below_more}
+use Prim.Native.Nat.{ℕ, ◌+◌, ◌-◌}
 use native.Mathlib.Omega.{arith}
 use lib.Dec.{eqb}
-use lib.ListN.{length, get_or, drop, length-drop}
-use lib.Seq.{get_or-take, get_or-drop, length-take-le, ext_get_or}
-use borrow.Author.Tests.{eqb-true, eq-eqb, ne_eqb, not-true, not-false}
+use lib.ListN.{take, drop}
+use Rattle.std.specs.Cmp.Lexicographic.{pointwise}
+use Rattle.std.proofs.Common.{nat_eq}
+use borrow.Author.Tests.{eqb-true}
 use Rattle.algebra.proofs.Tests.{and_left, and_right}
 use Rattle.number.specs.Reading.{part}
 use Rattle.record.specs.Content.{Head}
@@ -17,7 +17,6 @@ use Rattle.record.specs.declared.Layout.{Layout}
 use Rattle.record.specs.Answer.{head_of}
 use Rattle.record.specs.Inner.Heads.{head_with}
 use Rattle.pairing.specs.Verdict.{same_list, same_dealing}
-use Rattle.pairing.proofs.Same.{same_refl}
 use Rattle.pairing_tests.specs.Inner.Steps.{same_sizes}
 
 pub same-equal : (l m : List ℕ) → same_list l m ≡ true → l ≡ m
@@ -38,38 +37,20 @@ same_not l m n = never (same_list l m) (λ e. n (same-equal l m e))
 
 -- ---- the code key and the label
 
--- the bytes from a place on, one by one
-part_at : (s : List ℕ) (at n i : ℕ) → i < n → get_or (part s at n) i 0 ≡ get_or s (at + i) 0
-part_at s at n i h = rw (get_or-take, get_or-drop)
+-- `==` on two slices takes a list's ends and its equality as `pointwise` says it
+pub same-pointwise : (l m : List ℕ) → pointwise nat_eq l m ≡ same_list l m
+unfolding same_list
+same-pointwise [] [] = refl
+same-pointwise [] (b ∷ m) = refl
+same-pointwise (a ∷ l) [] = refl
+same-pointwise (a ∷ l) (b ∷ m) = ap (λ t. eqb a b && t) (same-pointwise l m)
 
-part_length : (s : List ℕ) (at n : ℕ) → at + n ≤ length s → length (part s at n) ≡ n
-part_length s at n h = length-take-le n (drop at s) (omega (arith, length-drop at s))
-
--- the first i bytes of both are equal
-pub record Passed (a : List ℕ) (x : ℕ) (b : List ℕ) (y i : ℕ) : Type 0 where
-  pub within : i ≤ 16
-  pub equal : (k : ℕ) → k < i → get_or a (x + k) 0 ≡ get_or b (y + k) 0
-
-module _ (a : List ℕ) (x : ℕ) (b : List ℕ) (y : ℕ) where
-  pub passed_none : Passed a x b y 0
-  passed_none = record { within = omega arith; equal = below_none _ }
-
-  module _ {i : ℕ} (p : Passed a x b y i) where
-    pub passed_more : i < 16 → get_or a (x + i) 0 ≡ get_or b (y + i) 0 → Passed a x b y (i + 1)
-    passed_more h e = record { within = omega arith; equal = below_more _ _ p.equal e }
-
-    pub passed_all : 16 ≤ i → x + 16 ≤ length a → y + 16 ≤ length b → true ≡ same_list (part a x 16) (part b y 16)
-    passed_all h ra rb =
-        let same : part a x 16 ≡ part b y 16 =
-        ext_get_or 0 (part a x 16) (part b y 16) (part_length a x 16 ra ∙ sym (part_length b y 16 rb))
-        (λ k below.
-        let small : k < 16 = omega (arith, part_length a x 16 ra) in
-        part_at a x 16 k small ∙ p.equal k (omega arith) ∙ sym (part_at b y 16 k small)) in
-        sym (ap (same_list (part a x 16)) (sym same) ∙ same_refl (part a x 16))
-
-  pub byte_differs : {i : ℕ} → i < 16 → (get_or a (x + i) 0 ≡ get_or b (y + i) 0 → ⊥) → false ≡ same_list (part a x 16) (part b y 16)
-  byte_differs {i} h n =
-      sym (same_not (part a x 16) (part b y 16) (λ e. n (sym (part_at a x 16 i h) ∙ ap (λ (l : List ℕ). get_or l i 0) e ∙ part_at b y 16 i h)))
+pub same_block : (a : List ℕ) (x : ℕ) (b : List ℕ) (y : ℕ) {r : Bool}
+    → r ≡ pointwise nat_eq (take (x + 16 - x) (drop x a)) (take (y + 16 - y) (drop y b)) → r ≡ same_list (part a x 16) (part b y 16)
+same_block a x b y e =
+    let i : x + 16 - x ≡ 16 = omega arith in
+    let j : y + 16 - y ≡ 16 = omega arith in
+    (rw (i, j) at e) ∙ same-pointwise (part a x 16) (part b y 16)
 
 -- ---- the head
 
@@ -100,52 +81,22 @@ dealing-equal h k e =
     ≡ head_with k.field k.depth k.branch_bits k.trees k.terms k.outputs k.code_key k.label = cc in
     all
 
--- the sizes, one after the other
-module _ (p q : Layout) where
-  pub field_differs : (p.field ≡ q.field → ⊥) → false ≡ same_sizes p q
-  field_differs n = sym (rw (ne_eqb p.field q.field n))
-
-  module _ (field : p.field ≡ q.field) where
-    pub depth_differs : (p.depth ≡ q.depth → ⊥) → false ≡ same_sizes p q
-    depth_differs n = sym (rw (eq-eqb p.field q.field field, ne_eqb p.depth q.depth n))
-
-    module _ (depth : p.depth ≡ q.depth) where
-      pub branches_differ : (p.branch_bits ≡ q.branch_bits → ⊥) → false ≡ same_sizes p q
-      branches_differ n = sym (rw (eq-eqb p.field q.field field, eq-eqb p.depth q.depth depth, ne_eqb p.branch_bits q.branch_bits n))
-
-      module _ (branch : p.branch_bits ≡ q.branch_bits) where
-        three : same_sizes p q ≡ (eqb p.trees q.trees && eqb p.terms q.terms && eqb p.outputs q.outputs)
-        three = rw (eq-eqb p.field q.field field, eq-eqb p.depth q.depth depth, eq-eqb p.branch_bits q.branch_bits branch)
-
-        pub trees-differ : (p.trees ≡ q.trees → ⊥) → false ≡ same_sizes p q
-        trees-differ n = sym (three ∙ rw (ne_eqb p.trees q.trees n))
-
-        module _ (trees : p.trees ≡ q.trees) where
-          pub terms-differ : (p.terms ≡ q.terms → ⊥) → false ≡ same_sizes p q
-          terms-differ n = sym (three ∙ rw (eq-eqb p.trees q.trees trees, ne_eqb p.terms q.terms n))
-
-          pub outputs-differ : p.terms ≡ q.terms → (p.outputs ≡ q.outputs → ⊥) → false ≡ same_sizes p q
-          outputs-differ e n = sym (three ∙ rw (eq-eqb p.trees q.trees trees, eq-eqb p.terms q.terms e, ne_eqb p.outputs q.outputs n))
-
-          pub sizes-same : p.terms ≡ q.terms → p.outputs ≡ q.outputs → true ≡ same_sizes p q
-          sizes-same e n = sym (three ∙ rw (eq-eqb p.trees q.trees trees, eq-eqb p.terms q.terms e, eq-eqb p.outputs q.outputs n))
-
 -- the sizes, then the code key, then the label
 module _ (s : List ℕ) (p : Layout) (t : List ℕ) (q : Layout) {sizes : Bool} (se : sizes ≡ same_sizes p q) where
-  pub sizes-differ : not sizes ≡ true → false ≡ same_dealing (head_of s p) (head_of t q)
+  pub sizes-differ : sizes ≡ false → false ≡ same_dealing (head_of s p) (head_of t q)
   unfolding same_dealing
-  sizes-differ e = sym (rw (← se, not-true sizes e))
+  sizes-differ e = sym (rw (← se, e))
 
-  module _ (right : not sizes ≡ false) {x : ℕ} (xe : x ≡ p.body - 32) {y : ℕ} (ye : y ≡ q.body - 32)
+  module _ (right : sizes ≡ true) {x : ℕ} (xe : x ≡ p.body - 32) {y : ℕ} (ye : y ≡ q.body - 32)
       {key : Bool} (ke : key ≡ same_list (part s x 16) (part t y 16)) where
     keys : same_list (part s (p.body - 32) 16) (part t (q.body - 32) 16) ≡ key
     keys = sym (ke ∙ rw (xe, ye))
 
-    pub key_differs : not key ≡ true → false ≡ same_dealing (head_of s p) (head_of t q)
+    pub key_differs : key ≡ false → false ≡ same_dealing (head_of s p) (head_of t q)
     unfolding same_dealing
-    key_differs e = sym (rw (← se, not-false sizes right, keys, not-true key e))
+    key_differs e = sym (rw (← se, right, keys, e))
 
-    pub label-left : not key ≡ false → {r : Bool} → r ≡ same_list (part s (p.body - 16) 16) (part t (q.body - 16) 16)
+    pub label-left : key ≡ true → {r : Bool} → r ≡ same_list (part s (p.body - 16) 16) (part t (q.body - 16) 16)
         → r ≡ same_dealing (head_of s p) (head_of t q)
     unfolding same_dealing
-    label-left e re = re ∙ sym (rw (← se, not-false sizes right, keys, not-false key e))
+    label-left e re = re ∙ sym (rw (← se, right, keys, e))

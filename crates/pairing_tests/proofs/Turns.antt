@@ -2,20 +2,18 @@
 use mathlib.Core.Path.{◌≡◌, refl, sym, ap, ap₂, ◌∙◌}
 use mathlib.Core.Bool.{Bool, true, false}
 use mathlib.Core.List.{List, [], ◌++◌}
-use Prim.Native.Nat.{ℕ, zero, suc, ◌+◌, ◌*◌, ◌^◌, ◌≤◌, ◌<◌}
+use Prim.Native.Nat.{ℕ, ◌+◌, ◌*◌}
 use native.Mathlib.Omega.{arith}
 use native.Mathlib.Nat.{mul-one, zero-mul}
 use native.Mathlib.Numerals.{add-one}
 use lib.ListN.{get_or}
-use mir.Syntax.{w64}
-use mir.Val.{Fits}
 use Rattle.algebra.specs.Coding.{at}
 use Rattle.algebra.specs.Field.{Field, Value}
 use Rattle.field.proofs.BothKinds.{kind_laws}
 use Rattle.field.specs.Kind.{kind_of}
 use Rattle.field.specs.Inner.Elements.{noise_in, element_in, Compared}
 use Rattle.field.specs.declared.element.Element.{Element}
-use Rattle.pairing_tests.specs.Inner.Steps.{counted, holds_at, held_words}
+use Rattle.pairing_tests.specs.Inner.Steps.{holds_at, held_words}
 use Rattle.pairing.specs.Verdict.{same_list, holds}
 use Rattle.pairing.proofs.Same.{same_refl}
 use Rattle.pairing_tests.proofs.Same.{same_not}
@@ -50,43 +48,27 @@ module _ (field : ℕ) where
         let Δ : element_in field d ≡ F.elements.read delta 0 = scalar ∙ ap (F.elements.read delta) (zero-mul F.elements.width) in
         sum ∙ ap₂ F.scaled.group.add (multiple ∙ ap₂ F.scaled.scale (sym (noise-at field u x)) Δ) first
 
-    pub at_held : t ≡ true → 1 ≡ counted (holds_at F delta u v w x)
+    pub at_output : t ≡ holds_at F delta u v w x
     unfolding holds_at holds
-    at_held e =
-        sym (ap counted (ap (λ (y : Value F). same_list (F.elements.words y) (F.elements.words both)) (sym left ∙ compared.same e ∙ right)
-        ∙ same_refl (F.elements.words both)))
-
-    pub at_lost : t ≡ false → 0 ≡ counted (holds_at F delta u v w x)
-    unfolding holds_at holds
-    at_lost e =
-        sym (ap counted (same_not (F.elements.words (at F.elements w x)) (F.elements.words both)
-        (λ q. compared.other e (left ∙ same-value (at F.elements w x) both q ∙ sym right))))
+    at_output = elim t as (λ t. Compared field b r t → t ≡ same_list (F.elements.words (at F.elements w x)) (F.elements.words both)) [
+      | true ↦ λ c. sym (ap (λ (y : Value F). same_list (F.elements.words y) (F.elements.words both)) (sym left ∙ c.same refl ∙ right)
+          ∙ same_refl (F.elements.words both))
+      | false ↦ λ c. sym (same_not (F.elements.words (at F.elements w x)) (F.elements.words both)
+          (λ q. c.other refl (left ∙ same-value (at F.elements w x) both q ∙ sym right)))
+    ] compared
 
 -- ---- all outputs
-
-counted-most : (t : Bool) → counted t ≤ 1
-counted-most true = omega arith
-counted-most false = omega arith
 
 module _ (F : Field) (delta u v w : List ℕ) where
   pub held_none : 0 ≡ held_words F delta u v w 0
   unfolding held_words
   held_none = refl
 
-  -- as many at most as were tried
-  held-most : (n : ℕ) → held_words F delta u v w n ≤ n
-  unfolding held_words
-  held-most zero = omega arith
-  held-most (suc n) = let h = held-most n in let t = counted-most (holds_at F delta u v w n) in omega arith
-
-  module _ (x : ℕ) {held r : ℕ} (before : held ≡ held_words F delta u v w x) (one : r ≡ counted (holds_at F delta u v w x)) where
-    pub held_next : held + r ≡ held_words F delta u v w (x + 1)
+  module _ (x : ℕ) {held : ℕ} (before : held ≡ held_words F delta u v w x) where
+    pub held_more : true ≡ holds_at F delta u v w x → held + 1 ≡ held_words F delta u v w (x + 1)
     unfolding held_words
-    held_next = rw (add-one x, before, one)
+    held_more e = rw (add-one x, before, ← e)
 
-    pub held_fits : {outputs : ℕ} → x < outputs → outputs < 2 ^ 64 → Fits w64 (held + r)
-    held_fits h small = record { fits = rw held_next (let m = held-most (x + 1) in omega arith) }
-
-  pub held_all : (x outputs : ℕ) {held : ℕ} → held ≡ held_words F delta u v w x → x ≤ outputs → outputs ≤ x
-      → held ≡ held_words F delta u v w outputs
-  held_all x outputs e h n = e ∙ ap (held_words F delta u v w) {x = x} {y = outputs} (omega arith)
+    pub held_same : false ≡ holds_at F delta u v w x → held ≡ held_words F delta u v w (x + 1)
+    unfolding held_words
+    held_same e = rw (add-one x, before, ← e) (omega arith)

@@ -13,39 +13,19 @@ fn same_block(a: &[u8], x: usize, b: &[u8], y: usize) -> bool
     requires { (x + 16 ≤ length a.now) × (y + 16 ≤ length b.now) }
     ensures { result ≡ same_list (block_at a.now x) (block_at b.now y) }
 {
-    let mut i: usize = 0;
-    while i < 16 {
-        if a[x + i] != b[y + i] {
-            return false;
-        }
-        i += 1;
-    }
-    true
+    a[x..x + 16] == b[y..y + 16]
 }
 
 // Whether field and sizes are all equal.
 fn same_sizes(p: Layout, q: Layout) -> bool
     ensures { result ≡ same_sizes p q }
 {
-    if p.field != q.field {
-        return false;
-    }
-    if p.depth != q.depth {
-        return false;
-    }
-    if p.branch_bits != q.branch_bits {
-        return false;
-    }
-    if p.trees != q.trees {
-        return false;
-    }
-    if p.terms != q.terms {
-        return false;
-    }
-    if p.outputs != q.outputs {
-        return false;
-    }
-    true
+    p.field == q.field
+        && p.depth == q.depth
+        && p.branch_bits == q.branch_bits
+        && p.trees == q.trees
+        && p.terms == q.terms
+        && p.outputs == q.outputs
 }
 
 // Whether field, sizes, code key and label are all equal (document 02, 8).
@@ -53,11 +33,7 @@ pub fn same_dealing(noise_record: &[u8], p: Layout, scalar_record: &[u8], q: Lay
     requires { KeyIn noise_record.now p × KeyIn scalar_record.now q }
     ensures { result ≡ same_dealing (head_of noise_record.now p) (head_of scalar_record.now q) }
 {
-    if !same_sizes(p, q) {
-        return false;
-    }
-    if !same_block(noise_record, code_key_at(p), scalar_record, code_key_at(q)) {
-        return false;
-    }
-    same_block(noise_record, p.body - 16, scalar_record, q.body - 16)
+    same_sizes(p, q)
+        && same_block(noise_record, code_key_at(p), scalar_record, code_key_at(q))
+        && same_block(noise_record, p.body - 16, scalar_record, q.body - 16)
 }

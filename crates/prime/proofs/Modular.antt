@@ -69,10 +69,6 @@ pub reduced_word : (x : ℕ) (t : Prime) → t ≡ prime_reduce x → t.word < m
 unfolding prime_reduce
 reduced_word x t e = rw e (omega arith)
 
--- a folded word is at most p + 7
-pub folded_most : (x f : ℕ) → f ≡ folded x → x < 18446744073709551616 → f ≤ modulus + 7
-folded_most x f e w = omega arith
-
 -- a product of folded factors
 folded_product : (x y f g : ℕ) → f ≡ folded x → g ≡ folded y → (f * g) % modulus ≡ (x * y) % modulus
 folded_product x y f g e₁ e₂ =

@@ -2,17 +2,17 @@
 -- `to_z w64 (of_z w64 z)`, which is z since z fits.
 use mathlib.Core.Path.{◌≡◌, refl, sym, ap, ◌∙◌}
 use mathlib.Core.Bool.{Bool, true, false, ◌||◌, true≢false}
-use Prim.Native.Nat.{◌≤◌, ◌<◌}
+use Prim.Native.Nat.{ℕ, ◌≤◌, ◌<◌}
 use native.Mathlib.Omega.{arith}
 use borrow.Author.Tests.{ltb-true, ltb-false}
-use lib.Dec.{T, leb}
+use lib.Dec.{leb}
 use lib.IntN.{ℤ, pos, negsuc, nat_abs, ◌-ℤ◌}
-use lib.Signed.{lt_z, le_z, non_neg}
+use lib.Signed.{lt_z, le_z}
 use mir.Syntax.{w64}
-use mir.Val.{SFits, Fits, to_z, of_z}
+use mir.Val.{SFits, to_z, of_z}
 use mir.Facts.{to_z-of_z, to_z_pos}
 use Rattle.prime.specs.declared.prime.Prime.{Prime}
-use Rattle.prime.specs.declared.signed.FromSigned.TheVariants.{Element, OutOfRange}
+use Rattle.std.proofs.Common.{Some, None}
 use Rattle.prime.specs.Prime.{modulus, prime, prime_reduce}
 use Rattle.prime.specs.Signed.{greatest_amount, signed_of, to_signed, prime_negate, signed_element, from_signed}
 use Rattle.prime.proofs.Around.{less, negate_suc}
@@ -27,11 +27,11 @@ least = negsuc 1152921504606846974
 
 -- what `from_signed` refuses, z being what it is given
 module _ {z : ℤ} (fits : SFits w64 z) where
-  pub too_low : lt_z (to_z w64 (of_z w64 z)) least ≡ true → OutOfRange ≡ from_signed z
+  pub too_low : lt_z (to_z w64 (of_z w64 z)) least ≡ true → None ≡ from_signed z
   unfolding from_signed
   too_low t = let e : lt_z z least ≡ true = rw (to_z-of_z fits) at t in rw e
 
-  pub too_high : lt_z (pos greatest_amount) (to_z w64 (of_z w64 z)) ≡ true → OutOfRange ≡ from_signed z
+  pub too_high : lt_z (pos greatest_amount) (to_z w64 (of_z w64 z)) ≡ true → None ≡ from_signed z
   unfolding from_signed
   too_high t =
       let e : lt_z (pos greatest_amount) z ≡ true = rw (to_z-of_z fits) at t in
@@ -44,15 +44,11 @@ near (pos n) low high = ltb-false greatest_amount n high
 near (negsuc n) low high = let h : n ≤ 1152921504606846974 = ltb-false 1152921504606846974 n low in omega arith
 
 -- a number of the range has its element
-ranged : (z : ℤ) → lt_z z least ≡ false → lt_z (pos greatest_amount) z ≡ false → Element (signed_element z) ≡ from_signed z
+ranged : (z : ℤ) → lt_z z least ≡ false → lt_z (pos greatest_amount) z ≡ false → Some (signed_element z) ≡ from_signed z
 unfolding from_signed
 ranged z low high = rw (low, high)
 
--- a number below zero is negated without loss, and its element is the negation of its opposite
-opposite : (z : ℤ) → lt_z z (pos 0) ≡ true → pos 0 -ℤ z ≡ pos (nat_abs z)
-opposite (pos n) t = let h : n < 0 = ltb-true n 0 t in absurd (omega arith)
-opposite (negsuc n) t = ap pos (omega arith)
-
+-- the element of a number below zero is the negation of its opposite
 opposite_element : (z : ℤ) → lt_z z (pos 0) ≡ true → nat_abs z ≤ greatest_amount → prime_negate (prime (nat_abs z)) ≡ signed_element z
 unfolding signed_element
 opposite_element (pos n) t h = let k : n < 0 = ltb-true n 0 t in absurd (omega arith)
@@ -63,43 +59,28 @@ unfolding signed_element
 itself-element (pos n) t = refl
 itself-element (negsuc n) t = absurd (true≢false t)
 
-not-below : (z : ℤ) → lt_z z (pos 0) ≡ false → T (non_neg z)
-not-below (pos n) t = tt
-not-below (negsuc n) t = absurd (true≢false t)
-
--- what `from_signed` asks and returns of a number of the range
+-- what `from_signed` returns of a number of the range, m being its distance from zero
 module _ {z : ℤ} (fits : SFits w64 z)
-    (low : lt_z (to_z w64 (of_z w64 z)) least ≡ false) (high : lt_z (pos greatest_amount) (to_z w64 (of_z w64 z)) ≡ false) where
+    (low : lt_z (to_z w64 (of_z w64 z)) least ≡ false) (high : lt_z (pos greatest_amount) (to_z w64 (of_z w64 z)) ≡ false)
+    {m : ℕ} (size : m ≡ nat_abs (to_z w64 (of_z w64 z))) where
+  its_size : m ≡ nat_abs z
+  its_size = rw (to_z-of_z fits) at size
+
   in_range : nat_abs z ≤ greatest_amount
   in_range = near z (rw (to_z-of_z fits) at low) (rw (to_z-of_z fits) at high)
 
-  its_element : Element (signed_element z) ≡ from_signed z
+  its_element : Some (signed_element z) ≡ from_signed z
   its_element = ranged z (rw (to_z-of_z fits) at low) (rw (to_z-of_z fits) at high)
 
-  module _ (below : lt_z (to_z w64 (of_z w64 z)) (pos 0) ≡ true) where
-    negated : pos 0 -ℤ to_z w64 (of_z w64 z) ≡ pos (nat_abs z)
-    negated = rw (to_z-of_z fits) (opposite z (rw (to_z-of_z fits) at below))
+  pub opposite_written : lt_z (to_z w64 (of_z w64 z)) (pos 0) ≡ true → {r : Prime} → r ≡ prime_negate (prime m) → Some r ≡ from_signed z
+  opposite_written below e =
+      let o = opposite_element z (rw (to_z-of_z fits) at below) in_range in
+      ap Some (e ∙ rw its_size o) ∙ its_element
 
-    pub opposite_fits : SFits w64 (pos 0 -ℤ to_z w64 (of_z w64 z))
-    opposite_fits = rw negated (record { sfits = omega (arith, in_range) })
-
-    back : to_z w64 (of_z w64 (pos 0 -ℤ to_z w64 (of_z w64 z))) ≡ pos (nat_abs z)
-    back = to_z-of_z opposite_fits ∙ negated
-
-    pub opposite_cast : T (non_neg (to_z w64 (of_z w64 (pos 0 -ℤ to_z w64 (of_z w64 z)))))
-        × Fits w64 (nat_abs (to_z w64 (of_z w64 (pos 0 -ℤ to_z w64 (of_z w64 z)))))
-    opposite_cast = rw back (tt, record { fits = omega (arith, in_range) })
-
-    pub opposite_written : {r : Prime} → r ≡ prime_negate (prime (nat_abs (to_z w64 (of_z w64 (pos 0 -ℤ to_z w64 (of_z w64 z)))))) → Element r ≡ from_signed z
-    opposite_written {r} e =
-        ap Element (e ∙ rw back (opposite_element z (rw (to_z-of_z fits) at below) in_range)) ∙ its_element
-
-  module _ (above : lt_z (to_z w64 (of_z w64 z)) (pos 0) ≡ false) where
-    pub itself_cast : T (non_neg (to_z w64 (of_z w64 z))) × Fits w64 (nat_abs (to_z w64 (of_z w64 z)))
-    itself_cast = rw (to_z-of_z fits) (not-below z (rw (to_z-of_z fits) at above), record { fits = omega (arith, in_range) })
-
-    pub itself-written : Element (prime (nat_abs (to_z w64 (of_z w64 z)))) ≡ from_signed z
-    itself-written = rw (to_z-of_z fits) (ap Element (itself-element z (rw (to_z-of_z fits) at above)) ∙ its_element)
+  pub itself-written : lt_z (to_z w64 (of_z w64 z)) (pos 0) ≡ false → Some (prime m) ≡ from_signed z
+  itself-written above =
+      let i = itself-element z (rw (to_z-of_z fits) at above) in
+      rw its_size (ap Some i ∙ its_element)
 
 -- what `to_signed` asks and returns, r being the word reduced
 module _ (a r : Prime) (reduced : r ≡ prime_reduce a.word) where

@@ -1,10 +1,8 @@
 -- Elements of field 2 as signed numbers (document 02, 13), and the way back.
-use Rattle.std.specs.Prelude.{◌||◌, ℕ, suc, ◌-◌, ◌^◌, leb, ℤ, pos, negsuc, neg_ℤ, ◌-ℤ◌}
+use Rattle.std.specs.Prelude.{◌||◌, ℕ, suc, ◌-◌, ◌^◌, leb, ℤ, pos, negsuc, neg_ℤ, ◌-ℤ◌, Option, Some, None}
 use Rattle.std.specs.Int.Signed.{lt_z}
 use Rattle.algebra.specs.Choice.{choose}
 use Rattle.prime.specs.declared.prime.Prime.{Prime}
-use Rattle.prime.specs.declared.signed.FromSigned.{FromSigned}
-use Rattle.prime.specs.declared.signed.FromSigned.TheVariants.{Element, OutOfRange}
 use Rattle.prime.specs.Prime.{modulus, prime, prime_zero, prime_reduce, prime_sub}
 
 -- 2^60 − 1, the greatest amount
@@ -29,6 +27,6 @@ signed_element (pos n) = prime n
 signed_element (negsuc n) = prime (modulus - suc n)
 
 -- the way back: no element for a number below −(2^60 − 1) or above 2^60 − 1
-unfoldable pub from_signed : ℤ → FromSigned
+unfoldable pub from_signed : ℤ → Option Prime
 from_signed amount =
-    choose (lt_z amount (neg_ℤ (pos greatest_amount)) || lt_z (pos greatest_amount) amount) OutOfRange (Element (signed_element amount))
+    choose (lt_z amount (neg_ℤ (pos greatest_amount)) || lt_z (pos greatest_amount) amount) None (Some (signed_element amount))

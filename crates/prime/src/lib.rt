@@ -6,4 +6,3 @@ mod prime;
 mod signed;
 
 pub use prime::Prime;
-pub use signed::FromSigned;

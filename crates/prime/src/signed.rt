@@ -4,13 +4,6 @@ ghost use Rattle.prime.specs.Signed.{to_signed, from_signed, prime_negate};
 
 use crate::prime::Prime;
 
-// What a signed number is written as: its element, or none for a number out of range.
-#[derive(Clone, Copy)]
-pub enum FromSigned {
-    Element(Prime),
-    OutOfRange,
-}
-
 impl Prime {
     // The least and the greatest number that an element is read as, −(2^60 − 1) and 2^60 − 1.
     pub const LEAST: i64 = -1152921504606846975;
@@ -37,25 +30,16 @@ impl Prime {
         Prime::ZERO.sub(self)
     }
 
-    // The element that is read as a signed number.
-    pub fn from_signed(amount: i64) -> FromSigned
+    // The element that is read as a signed number, none for a number out of range.
+    pub fn from_signed(amount: i64) -> Option<Prime>
         ensures { result ≡ from_signed amount }
     {
-        if amount < Prime::LEAST {
-            return FromSigned::OutOfRange;
+        if amount < Prime::LEAST || amount > Prime::GREATEST {
+            return None;
         }
-        if amount > Prime::GREATEST {
-            return FromSigned::OutOfRange;
-        }
-        if amount < 0 {
-            let opposite = Prime {
-                word: (-amount) as u64,
-            };
-            FromSigned::Element(opposite.negate())
-        } else {
-            FromSigned::Element(Prime {
-                word: amount as u64,
-            })
-        }
+        let size = Prime {
+            word: amount.unsigned_abs(),
+        };
+        Some(if amount < 0 { size.negate() } else { size })
     }
 }

@@ -8,7 +8,7 @@ use native.Mathlib.Numerals.{add-one}
 use native.Mathlib.Omega.{arith}
 use lib.ListN.{length, get_or, take, drop, length-append, drop_of_length-le}
 use lib.Seq.{drop-cons, drop-drop, take-add}
-use lib.Pow.{pow_pos, pow_mono}
+use lib.Pow.{pow_mono}
 use mir.Syntax.{w64}
 use mir.Val.{Fits}
 use Rattle.field.proofs.KindOf.{words_1, words_2}
@@ -66,9 +66,6 @@ module _ (depth bits : ℕ) (few : depth ≤ 16) (least : 1 ≤ bits) (most : bi
 
   children-few : {k : ℕ} → k ≡ 2 ^ bits → k ≤ 8
   children-few e = let h : 2 ^ bits ≤ 2 ^ 3 = pow_mono most in omega (arith, e, h)
-
-  pub children-some : {k : ℕ} → k ≡ 2 ^ bits → 1 ≤ k
-  children-some e = omega (arith, e, pow_pos bits)
 
   most-siblings : {k : ℕ} → k ≡ 2 ^ bits → depth / bits * (k - 1) ≤ 112
   most-siblings {k} e =
@@ -128,9 +125,6 @@ element-most : (field : ℕ) → element_length field ≤ 16
 element-most field = either field 1 (λ f. omega (arith, words_1 field f)) (λ f. omega (arith, words_2 field f))
 
 module _ (f : Layout) (ok : Writable f) {e : ℕ} (element : e ≡ element_length f.field) where
-  pub scalar-sum-fits_1 : Fits w64 (e + 16 * f.trees)
-  scalar-sum-fits_1 = record { fits = omega (arith, element-most f.field, ok.trees) }
-
   pub scalar-sum-fits_2 : Fits w64 (f.body + (e + 16 * f.trees))
   scalar-sum-fits_2 = record { fits = omega (arith, element-most f.field, ok.trees, body-most f ok) }
 
@@ -172,14 +166,7 @@ module _ (f : Layout) (ok : Writable f) (ps : List ℕ) where
       unfolding RisesFrom
       sum-asks = next.0
 
-      pub sum-position : Fits w64 (get_or ps i 0 + 1)
-      unfolding RisesFrom
-      sum-position = record { fits = omega (arith, next.1, pow_mono ok.depth) }
-
       module _ {n : ℕ} (tree : (n ≡ tree_length f base (get_or ps i 0)) × (n ≤ 1811)) where
-        pub sum-fits-total : length ps ≤ 64 → Fits w64 (total + n)
-        sum-fits-total h = record { fits = omega (arith, s.small, tree.1) }
-
         pub sum-next : Sum f ps (total + n) (get_or ps i 0 + 1) (i + 1)
         unfolding trees_length RisesFrom
         sum-next =

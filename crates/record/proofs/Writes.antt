@@ -1,15 +1,12 @@
 -- The writing functions: each part is stored after the one before it, so the buffer holds the definition's bytes. Assumes nothing.
-use Prim.Native.Nat.{ℕ, ◌+◌, ◌*◌, ◌^◌, ◌≤◌, ◌<◌}
-use mathlib.Core.Bool.{Bool, true, false}
+use Prim.Native.Nat.{ℕ, ◌+◌, ◌*◌, ◌≤◌, ◌<◌}
+use mathlib.Core.Bool.{Bool, false}
 use mathlib.Core.List.{List, [], ◌∷◌, ◌++◌, append_assoc}
 use mathlib.Core.Path.{◌≡◌, refl, sym, ap, ◌∙◌}
-use native.Mathlib.Nat.{add-zero}
 use native.Mathlib.Numerals.{add-one}
 use native.Mathlib.Omega.{arith}
-use lib.ListN.{length, get_or, drop, set, length-set, length-drop}
-use lib.Seq.{sets, length-sets, take-suc, take_all, get_or-drop, length-take-le}
-use mir.Syntax.{w64}
-use mir.Val.{Fits}
+use lib.ListN.{length, get_or, take, set, length-set}
+use lib.Seq.{sets, take-suc, take_all, length-take-le}
 use Rattle.algebra.proofs.Written.{sets_append}
 use Rattle.field.proofs.ByteWords.{length-le_bytes}
 use Rattle.field.specs.Bytes.{le_bytes}
@@ -18,7 +15,6 @@ use Rattle.field.specs.Inner.Elements.{element_length}
 use Rattle.field.specs.Inner.Written.{with_word, with_words}
 use Rattle.number.proofs.Places.{choose_no, wrote_then, room-front, room_back}
 use Rattle.number.specs.Inner.Written.{Room, Wrote}
-use Rattle.number.specs.Reading.{part}
 use Rattle.record.proofs.Lengths.{length-element, blocks-part}
 use Rattle.record.specs.Inner.Heads.{head_from, scalar_with}
 use Rattle.record.specs.declared.Layout.{Layout}
@@ -30,49 +26,25 @@ use Rattle.record.specs.Inner.Lengths.{sizes_bytes}
 pub after : {b c : List ℕ} (b₀ : List ℕ) (at : ℕ) {next : ℕ} (u v : List ℕ) → b ≡ sets b₀ at u → next ≡ at + length u → c ≡ sets b next v → c ≡ sets b₀ at (u ++ v)
 after {b} b₀ at u v e p f = f ∙ ap (λ (n : ℕ). sets b n v) p ∙ ap (λ (x : List ℕ). sets x (at + length u) v) e ∙ sym (sets_append b₀ at u v)
 
-pub as_long : {b : List ℕ} (b₀ : List ℕ) (at : ℕ) (u : List ℕ) → b ≡ sets b₀ at u → length b ≡ length b₀
-as_long b₀ at u e = ap length e ∙ length-sets b₀ at u
-
 -- ---- a run of bytes
 
-module _ (b₀ : List ℕ) (at : ℕ) (s : List ℕ) (start count : ℕ) (room : Room b₀ at (part s start count)) (there : start + count ≤ length s) where
-  run_long : (i : ℕ) → i ≤ count → length (part s start i) ≡ i
-  run_long i h = length-take-le i (drop start s) (omega (arith, length-drop start s))
+-- one byte more is stored
+pub byte-stored : {b : List ℕ} (b₀ : List ℕ) (at : ℕ) (u : List ℕ) (i : ℕ) → b ≡ sets b₀ at (take i u) → i < length u → set b (at + i) (get_or u i 0) ≡ sets b₀ at (take (i + 1) u)
+byte-stored b₀ at u i e h =
+    after b₀ at (take i u) (get_or u i 0 ∷ []) e (ap (λ (n : ℕ). at + n) (sym (length-take-le i u (omega arith)))) refl
+    ∙ ap (sets b₀ at) (sym (take-suc u i 0 h) ∙ ap (λ (n : ℕ). take n u) (sym (add-one i)))
 
-  run_end : at + count ≤ length b₀
-  run_end = omega (arith, room.fits, run_long count (omega arith))
-
-  pub run_fits : length b₀ < 2 ^ 64 → Fits w64 (at + count)
-  run_fits h = record { fits = omega (arith, run_end) }
-
-  module _ {b : List ℕ} {i : ℕ} (done : b ≡ sets b₀ at (part s start i)) where
-    pub run_room : i < count → at + i < length b
-    run_room h = omega (arith, run_end, as_long b₀ at (part s start i) done)
-
-    pub run-place : i < count → length b₀ < 2 ^ 64 → Fits w64 (at + i)
-    run-place h l = record { fits = omega (arith, run_end) }
-
-    pub run-next : i < count → set b (at + i) (get_or s (start + i) 0) ≡ sets b₀ at (part s start (i + 1))
-    run-next h =
-        after b₀ at (part s start i) (get_or s (start + i) 0 ∷ []) done (ap (λ (n : ℕ). at + n) (sym (run_long i (omega arith)))) refl
-        ∙ ap (sets b₀ at)
-        (ap (λ (x : ℕ). part s start i ++ (x ∷ [])) (sym (get_or-drop start s i 0))
-        ∙ sym (take-suc (drop start s) i 0 (omega (arith, length-drop start s)))
-        ∙ ap (part s start) (sym (add-one i)))
-
-    pub run_done : count ≤ i → i ≤ count → Wrote b₀ at (part s start count) (at + count) b
-    run_done h g =
-        record {
-          place = ap (λ n. at + n) (sym (run_long count (omega arith)));
-          stored = done ∙ ap (λ (n : ℕ). sets b₀ at (part s start n)) {x = i} {y = count} (omega arith);
-        }
+-- every byte is stored
+pub bytes-wrote : {b : List ℕ} (b₀ : List ℕ) (at : ℕ) (u : List ℕ) (i : ℕ) → b ≡ sets b₀ at (take i u) → i ≡ length u → Wrote b₀ at u (at + length u) b
+bytes-wrote b₀ at u i e h =
+    record {
+      place = refl;
+      stored = e ∙ ap (sets b₀ at) (take_all i u (omega arith));
+    }
 
 -- ---- noise values and elements
 
 module _ (b₀ : List ℕ) (at field value : ℕ) {o : Bool} (one : o ≡ one_noise field) where
-  pub value_none : o ≡ true → Wrote b₀ at (write_value field value) at b₀
-  value_none e = rw (sym one ∙ e) (record { place = sym (add-zero at); stored = refl })
-
   module _ (many : o ≡ false) where
     word : write_value field value ≡ le_bytes 8 value
     word = choose_no [] (le_bytes 8 value) (sym one ∙ many)
@@ -97,9 +69,6 @@ module _ (b₀ : List ℕ) (at field low high : ℕ) where
   element-room r = omega (arith, r.fits, length-element field low high)
 
   module _ {n : ℕ} (long : n ≡ element_length field) where
-    pub element-fits : Room b₀ at (write_words (element_of field low high)) → length b₀ < 2 ^ 64 → Fits w64 (at + n)
-    element-fits r h = record { fits = omega (arith, element-room r, long) }
-
     pub element-wrote : {b : List ℕ} → b ≡ with_words b₀ at (element_of field low high) → Wrote b₀ at (write_words (element_of field low high)) (at + n) b
     element-wrote w =
         record {
@@ -137,57 +106,42 @@ head_bytes : (end : ℕ) (f : Layout) (key label : List ℕ) → write_head end 
 unfolding write_head
 head_bytes end f key label = simp append_assoc
 
-module _ (b₀ : List ℕ) (end : ℕ) (f : Layout) (key label : List ℕ) (room : Room b₀ 0 (write_head end (head_from f key label))) where
+module _ (b₀ : List ℕ) (end : ℕ) (f : Layout) (key label : List ℕ) (room : Room b₀ 0 (write_head end (head_from f key label))) {first : ℕ} (is : first ≡ end) where
   whole-head : length (sizes_bytes f ++ (key ++ label)) + 2 ≤ length b₀
   whole-head = omega (arith, room.fits, ap length (head_bytes end f key label))
 
   pub head-room_0 : 0 < length b₀
   head-room_0 = omega (arith, whole-head)
 
-  pub head-room_1 : 1 < length (set b₀ 0 end)
-  head-room_1 = omega (arith, whole-head, length-set b₀ 0 end)
+  pub head-room_1 : 1 < length (set b₀ 0 first)
+  head-room_1 = omega (arith, whole-head, length-set b₀ 0 first)
 
-  head-rest : Room (begun b₀ end f.field) 2 (sizes_bytes f ++ (key ++ label))
-  head-rest = record { fits = omega (arith, whole-head, length-set b₀ 0 end, length-set (set b₀ 0 end) 1 f.field) }
+  head-rest : Room (begun b₀ first f.field) 2 (sizes_bytes f ++ (key ++ label))
+  head-rest = record { fits = omega (arith, whole-head, length-set b₀ 0 first, length-set (set b₀ 0 first) 1 f.field) }
 
-  pub head-sizes : Room (begun b₀ end f.field) 2 (sizes_bytes f)
+  pub head-sizes : Room (begun b₀ first f.field) 2 (sizes_bytes f)
   head-sizes = room-front (sizes_bytes f) (key ++ label) head-rest
 
-  module _ (long : length key ≡ 16) (long-label : length label ≡ 16) {at : ℕ} {b₁ : List ℕ} (w₁ : Wrote (begun b₀ end f.field) 2 (sizes_bytes f) at b₁) where
-    whole-key : part key 0 16 ≡ key
-    whole-key = take_all 16 key (omega arith)
-
-    whole-label : part label 0 16 ≡ label
-    whole-label = take_all 16 label (omega arith)
-
+  module _ {at : ℕ} {b₁ : List ℕ} (w₁ : Wrote (begun b₀ first f.field) 2 (sizes_bytes f) at b₁) where
     keys_rest : Room b₁ at (key ++ label)
     keys_rest = room_back (sizes_bytes f) (key ++ label) w₁ head-rest
 
-    pub head-key : Room b₁ at (part key 0 16)
-    head-key = rw whole-key (room-front key label keys_rest)
+    pub head-key : Room b₁ at key
+    head-key = room-front key label keys_rest
 
-    module _ {next : ℕ} {b₂ : List ℕ} (w₂ : Wrote b₁ at (part key 0 16) next b₂) where
-      pub head-label : Room b₂ next (part label 0 16)
-      head-label = rw whole-label (room_back key label (rw whole-key at w₂) keys_rest)
+    module _ {next : ℕ} {b₂ : List ℕ} (w₂ : Wrote b₁ at key next b₂) where
+      pub head-label : Room b₂ next label
+      head-label = room_back key label w₂ keys_rest
 
-      pub head-wrote : {last : ℕ} {b₃ : List ℕ} → Wrote b₂ next (part label 0 16) last b₃ → Wrote b₀ 0 (write_head end (head_from f key label)) last b₃
+      pub head-wrote : {last : ℕ} {b₃ : List ℕ} → Wrote b₂ next label last b₃ → Wrote b₀ 0 (write_head end (head_from f key label)) last b₃
       head-wrote w₃ =
-          let all = wrote_then w₁ (wrote_then (rw whole-key at w₂) (rw whole-label at w₃)) in
-          rw head_bytes (record { place = omega (arith, all.place); stored = all.stored })
-
-      pub head-same : {last : ℕ} {b₃ : List ℕ} → Wrote b₂ next (part label 0 16) last b₃ → length b₃ ≡ length b₀
-      head-same w₃ = as_long b₀ 0 (write_head end (head_from f key label)) (head-wrote w₃).stored
+          let all = wrote_then w₁ (wrote_then w₂ w₃) in
+          rw (head_bytes, ← is) (record { place = omega (arith, all.place); stored = all.stored })
 
 -- ---- a tree up to its siblings
 
 module _ (b₀ : List ℕ) (at : ℕ) (u v w : List ℕ) (room : Room b₀ at (u ++ (v ++ w))) {next : ℕ} {b₁ : List ℕ} (w₁ : Wrote b₀ at u next b₁) where
-  pub front-value : Room b₁ next v
-  front-value = room-front v w (room_back u (v ++ w) w₁ room)
-
   module _ {middle : ℕ} {b₂ : List ℕ} (w₂ : Wrote b₁ next v middle b₂) where
-    pub front-element : Room b₂ middle w
-    front-element = room_back v w w₂ (room_back u (v ++ w) w₁ room)
-
     pub front-wrote : {end : ℕ} {b₃ : List ℕ} → Wrote b₂ middle w end b₃ → Wrote b₀ at (u ++ (v ++ w)) end b₃
     front-wrote w₃ = wrote_then w₁ (wrote_then w₂ w₃)
 
@@ -204,14 +158,14 @@ module _ (b₀ : List ℕ) (f : Layout) (key label words roots : List ℕ) (room
     scalar-delta = room-front (write_words words) _ (room_back (write_head 2 (head_from f key label)) _ w₁ room)
 
     module _ (many : length roots ≡ 16 * f.trees) {next : ℕ} {b₂ : List ℕ} (w₂ : Wrote b₁ at (write_words words) next b₂) where
-      same : write_blocks (items block_at 16 roots 0 f.trees) ≡ part roots 0 (16 * f.trees)
-      same = blocks-part roots f.trees 0 (omega arith)
+      same : write_blocks (items block_at 16 roots 0 f.trees) ≡ roots
+      same = blocks-part roots f.trees 0 (omega arith) ∙ take_all (16 * f.trees) roots (omega arith)
 
-      pub scalar-roots : Room b₂ next (part roots 0 (16 * f.trees))
+      pub scalar-roots : Room b₂ next roots
       unfolding write_scalar
       scalar-roots = rw same at (room_back (write_words words) _ w₂ (room_back (write_head 2 (head_from f key label)) _ w₁ room))
 
-      pub scalar-wrote : {end : ℕ} {b₃ : List ℕ} → Wrote b₂ next (part roots 0 (16 * f.trees)) end b₃
+      pub scalar-wrote : {end : ℕ} {b₃ : List ℕ} → Wrote b₂ next roots end b₃
           → Wrote b₀ 0 (write_scalar (scalar_with f key label words roots)) end b₃
       unfolding write_scalar
       scalar-wrote w₃ = rw same (wrote_then w₁ (wrote_then w₂ w₃))

@@ -1,12 +1,11 @@
--- What each case of the answer `RecordAnswer` stands for (document 01, 'Numbers of the calls'): its number, and its values where the
--- record is accepted.
-use Rattle.std.specs.Prelude.{ℕ, ◌-◌, List}
-use Rattle.answer.specs.Numbers.{accepted}
+-- What the result of reading a record stands for (document 01, 'Numbers of the calls'): its values where the record is accepted, else the
+-- number of its refusal.
+use Rattle.std.specs.Prelude.{ℕ, ◌-◌, List, Result, Ok, Err}
+use Rattle.answer.specs.declared.Refusal.{Refusal}
+use Rattle.answer.specs.Refused.{number_of}
 use Rattle.number.specs.Reading.{Reading, Whole, Refused, Parsed, part}
 use Rattle.record.specs.Content.{Head}
 use Rattle.record.specs.declared.Layout.{Layout}
-use Rattle.record.specs.declared.RecordAnswer.{RecordAnswer}
-use Rattle.record.specs.declared.RecordAnswer.TheVariants.{Accepted, Fault}
 
 -- the head that a layout's numbers give: before the body stand the 16 bytes of the label, and before those the 16 of the code key
 abbrev pub head_of : List ℕ → Layout → Head
@@ -22,15 +21,10 @@ head_of s f =
       label = part s (f.body - 16) 16;
     }
 
--- `Accepted` stands for the head and the place after it, where the body begins; `Fault` for a refusal with its number, without values
-abbrev pub record_read : List ℕ → RecordAnswer → Parsed Head
-record_read s (Accepted f) = Whole (head_of s f, f.body)
-record_read s (Fault k) = Refused k
-
--- the number of the answer: 0, or that of the refusal
-abbrev pub record_fault : RecordAnswer → ℕ
-record_fault (Accepted f) = accepted
-record_fault (Fault k) = k
+-- `Ok` is accepted, with the head and the place after it, where the body begins; `Err` is refused with its number
+abbrev pub record_read : List ℕ → Result Layout Refusal → Parsed Head
+record_read s (Ok f) = Whole (head_of s f, f.body)
+record_read s (Err refusal) = Refused (number_of refusal)
 
 -- the answer to a whole record: what was read of its head, unless the record is refused
 abbrev pub head_if_whole : {A : Type 0} → Reading A → Parsed Head → Parsed Head

@@ -3,3 +3,4 @@ pub mod Rising
 pub mod Heads
 pub mod Answers
 pub mod Lengths
+pub mod Ends

@@ -1,22 +1,35 @@
-// Key records: the head and a tree in numbers, what reading gives, sizes that follow, and writing. Reading is crate `record_reading`.
+// Key records: the head and a tree in numbers, sizes that follow, and writing. Reading is crate `record_reading`.
 #![tactic(auto)]
 
 ghost use Rattle.std.specs.Prelude.{◌≡◌};
-ghost use Rattle.record.specs.Answer.{record_fault};
+ghost use Rattle.record.specs.Inner.Ends.{end_byte};
+
+use field::Element;
 
 mod sizes;
 mod writing;
 
-pub use sizes::{leaves, sibling_count, smaller};
+pub use sizes::{leaves, sibling_count};
 pub use writing::{
     head_length, noise_length, scalar_length, tree_start_length, write_bytes, write_head,
     write_scalar, write_tree_start,
 };
 
-// The end byte of a record.
-pub const NOISE_END: u8 = 1;
+// The end that a record is for, by its end byte.
+#[derive(Clone, Copy)]
+pub enum End {
+    Noise = 1,
+    Scalar = 2,
+}
 
-pub const SCALAR_END: u8 = 2;
+impl End {
+    // The end byte.
+    pub fn byte(self) -> u8
+        ensures { result ≡ end_byte self }
+    {
+        self as u8
+    }
+}
 
 // The head of a record in numbers: field, d, g, t, ℓ, n, and the place after it, where the body begins.
 #[derive(Clone, Copy)]
@@ -30,31 +43,11 @@ pub struct Layout {
     pub body: usize,
 }
 
-// What reading a record gives.
-#[derive(Clone, Copy)]
-pub enum RecordAnswer {
-    // A record that passed every test.
-    Accepted(Layout),
-    // The number that the record is refused with.
-    Fault(u32),
-}
-
-// A tree of a noise record: the correction's first and second word (0 where it has one), the siblings' place.
+// A tree of a noise record: its position, noise value and correction, and the place of its siblings.
 #[derive(Clone, Copy)]
 pub struct Tree {
     pub position: usize,
     pub value: u64,
-    pub low: u64,
-    pub high: u64,
+    pub correction: Element,
     pub siblings: usize,
-}
-
-// The number that a record is refused with.
-pub fn record_fault(r: RecordAnswer) -> u32
-    ensures { result ≡ record_fault r }
-{
-    match r {
-        RecordAnswer::Accepted(_) => 0,
-        RecordAnswer::Fault(k) => k,
-    }
 }

@@ -1,5 +1,5 @@
 // Sizes that follow from those of a head.
-ghost use Rattle.std.specs.Prelude.{◌≡◌, ◌^◌, ◌≤◌, min};
+ghost use Rattle.std.specs.Prelude.{◌≡◌, ◌^◌, ◌≤◌};
 ghost use Rattle.record.specs.Content.{sibling_count};
 
 // The number of leaves of a tree.
@@ -16,11 +16,4 @@ pub fn sibling_count(depth: usize, branch_bits: usize) -> usize
     ensures { (result ≡ sibling_count depth branch_bits) × (result ≤ 112) }
 {
     depth / branch_bits * (leaves(branch_bits) - 1)
-}
-
-// The smaller of two numbers.
-pub fn smaller(a: usize, b: usize) -> usize
-    ensures { (result ≡ min a b) × (result ≤ a) × (result ≤ b) }
-{
-    if a <= b { a } else { b }
 }

@@ -2,7 +2,7 @@
 ghost use Rattle.std.specs.Prelude.{◌≡◌, ◌+◌, ◌*◌, ◌^◌, ◌≤◌, ◌<◌, length};
 ghost use Rattle.field.specs.ByNumber.{element_of};
 ghost use Rattle.number.specs.Inner.Written.{numbers, Room, Wrote};
-ghost use Rattle.number.specs.Reading.{part};
+ghost use Rattle.record.specs.Inner.Ends.{end_byte};
 ghost use Rattle.record.specs.Inner.Rising.{RisesFrom};
 ghost use Rattle.record.specs.Inner.Heads.{head_from, scalar_with};
 ghost use Rattle.record.specs.Writing.{write_head, write_value, write_words, write_scalar};
@@ -10,21 +10,19 @@ ghost use Rattle.record.specs.Inner.Lengths.{Writable, after_depth_bytes, sizes_
 ghost use Rattle.record.specs.Inner.Lengths.{head_length, tree_start_length, tree_length, noise_length, scalar_length};
 
 use crate::sizes::sibling_count;
-use crate::{Layout, SCALAR_END};
+use crate::{End, Layout};
 use field::{Element, element_length, one_noise, put_element, put_word};
 use number::{number_length, write_number};
 
-// Writes a count of bytes of `from`, which begin at `start`, from a place on; the place after them.
-pub fn write_bytes(buffer: &mut [u8], at: usize, from: &[u8], start: usize, count: usize) -> usize
-    requires { (Room buffer.old at (part from.now start count)) × (start + count ≤ length from.now) }
-    ensures { Wrote buffer.old at (part from.now start count) result buffer.new }
+// Writes bytes from a place on; the place after them. Byte by byte: `copy_from_slice` here makes the archive ask for `memmove`.
+pub fn write_bytes(buffer: &mut [u8], at: usize, bytes: &[u8]) -> usize
+    requires { Room buffer.old at bytes.now }
+    ensures { Wrote buffer.old at bytes.now result buffer.new }
 {
-    let mut i: usize = 0;
-    while i < count {
-        buffer[at + i] = from[start + i];
-        i += 1;
+    for i in 0..bytes.len() {
+        buffer[at + i] = bytes[i];
     }
-    at + count
+    at + bytes.len()
 }
 
 // Writes a noise value from a place on, none where it is always 1; the place after it.
@@ -71,20 +69,20 @@ fn write_sizes(buffer: &mut [u8], layout: Layout) -> usize
 // Writes the head of a record at the buffer's front; the place after it.
 pub fn write_head(
     buffer: &mut [u8],
-    end: u8,
+    end: End,
     layout: Layout,
     code_key: &[u8],
     label: &[u8],
 ) -> usize
     requires { (Writable layout) × (length code_key.now ≡ 16) × (length label.now ≡ 16)
-        × (Room buffer.old 0 (write_head end (head_from layout code_key.now label.now))) }
-    ensures { Wrote buffer.old 0 (write_head end (head_from layout code_key.now label.now)) result buffer.new }
+        × (Room buffer.old 0 (write_head (end_byte end) (head_from layout code_key.now label.now))) }
+    ensures { Wrote buffer.old 0 (write_head (end_byte end) (head_from layout code_key.now label.now)) result buffer.new }
 {
-    buffer[0] = end;
+    buffer[0] = end.byte();
     buffer[1] = layout.field as u8;
     let at = write_sizes(buffer, layout);
-    let next = write_bytes(buffer, at, code_key, 0, 16);
-    write_bytes(buffer, next, label, 0, 16)
+    let next = write_bytes(buffer, at, code_key);
+    write_bytes(buffer, next, label)
 }
 
 // Writes a tree up to its siblings from a place on, its position as the number `back`; the place of the siblings.
@@ -121,9 +119,9 @@ pub fn write_scalar(
         (write_scalar (scalar_with layout code_key.now label.now
         (element_of layout.field delta.low delta.high) roots.now)) result buffer.new }
 {
-    let at = write_head(buffer, SCALAR_END, layout, code_key, label);
+    let at = write_head(buffer, End::Scalar, layout, code_key, label);
     let next = write_element(buffer, at, layout.field, delta);
-    write_bytes(buffer, next, roots, 0, 16 * layout.trees)
+    write_bytes(buffer, next, roots)
 }
 
 // How many bytes a head takes.
@@ -172,12 +170,10 @@ pub fn noise_length(layout: Layout, positions: &[u32]) -> usize
 {
     let mut total = layout.body;
     let mut base: usize = 0;
-    let mut i: usize = 0;
-    while i < positions.len() {
-        let position = positions[i] as usize;
-        total = total + tree_length(layout, base, position);
+    for position in positions {
+        let position = *position as usize;
+        total += tree_length(layout, base, position);
         base = position + 1;
-        i += 1;
     }
     total
 }

@@ -1,4 +1,3 @@
 -- What the call returns, and that its sizes are those that the ends' calls use.
-mod Blocks
 mod Returns
 pub mod Sizing

@@ -2,13 +2,15 @@
 #![tactic(auto)]
 
 ghost use Rattle.std.specs.Prelude.{◌≡◌, ◌+◌, ◌≤◌, ◌<◌, length};
+ghost use Rattle.answer.specs.Refused.{number_of};
 ghost use Rattle.record.specs.Answer.{head_of};
+ghost use Rattle.record.specs.Inner.Ends.{end_byte};
 ghost use Rattle.record.specs.Reading.{block_at, read_noise, read_scalar};
 ghost use Rattle.record_describe.specs.Describe.{described_head, refused, said, description, describe};
 
-use answer::{ACCEPTED, RECORD_ENDS, WRONG_END};
+use answer::{ACCEPTED, Refusal};
 use field::element_width;
-use record::{Layout, NOISE_END, RecordAnswer, SCALAR_END, leaves, record_fault};
+use record::{End, Layout, leaves};
 use record_reading::{read_noise, read_scalar};
 
 // The answer: the number; the end, the field and the sizes of the record; N, and the words of an element; the label and the code
@@ -30,23 +32,25 @@ pub struct Described {
     pub code_key: [u8; 16],
 }
 
-// The answer for a refused record.
-fn refusal(number: u32) -> Described
-    ensures { result ≡ refused number }
-{
-    Described {
-        number: number,
-        end: 0,
-        field: 0,
-        depth: 0,
-        branch_bits: 0,
-        trees: 0,
-        terms: 0,
-        outputs: 0,
-        leaves: 0,
-        element_words: 0,
-        label: [0u8; 16],
-        code_key: [0u8; 16],
+impl Described {
+    // The answer for a refused record.
+    fn refused(refusal: Refusal) -> Described
+        ensures { result ≡ refused (number_of refusal) }
+    {
+        Described {
+            number: refusal.number(),
+            end: 0,
+            field: 0,
+            depth: 0,
+            branch_bits: 0,
+            trees: 0,
+            terms: 0,
+            outputs: 0,
+            leaves: 0,
+            element_words: 0,
+            label: [0u8; 16],
+            code_key: [0u8; 16],
+        }
     }
 }
 
@@ -56,22 +60,18 @@ fn sixteen_at(source: &[u8], at: usize) -> [u8; 16]
     ensures { result ≡ block_at source.now at }
 {
     let mut block = [0u8; 16];
-    let mut i: usize = 0;
-    while i < 16 {
-        block[i] = source[at + i];
-        i += 1;
-    }
+    block.copy_from_slice(&source[at..at + 16]);
     block
 }
 
 // The answer for an accepted record of an end.
-fn accepted(end: u8, source: &[u8], layout: Layout) -> Described
+fn accepted(end: End, source: &[u8], layout: Layout) -> Described
     requires { (layout.depth ≤ 16) × (layout.field < 256) × (32 ≤ layout.body) × (layout.body ≤ length source.now) }
-    ensures { result ≡ described_head end (head_of source.now layout) }
+    ensures { result ≡ described_head (end_byte end) (head_of source.now layout) }
 {
     Described {
         number: ACCEPTED,
-        end: end,
+        end: end.byte(),
         field: layout.field as u8,
         depth: layout.depth,
         branch_bits: layout.branch_bits,
@@ -85,40 +85,34 @@ fn accepted(end: u8, source: &[u8], layout: Layout) -> Described
     }
 }
 
-// The answer for a noise record.
+// The answer for a noise record. Each end has its reader and its definition, so one function would take both as parameters.
 fn noise_head(source: &[u8]) -> Described
     ensures { result ≡ said 1 (λ P. P.head) (read_noise source.now) }
 {
-    let r = read_noise(source);
-    let RecordAnswer::Accepted(layout) = r else {
-        return refusal(record_fault(r));
-    };
-    accepted(NOISE_END, source, layout)
+    match read_noise(source) {
+        Ok(layout) => accepted(End::Noise, source, layout),
+        Err(refusal) => Described::refused(refusal),
+    }
 }
 
 // The answer for a scalar record.
 fn scalar_head(source: &[u8]) -> Described
     ensures { result ≡ said 2 (λ P. P.head) (read_scalar source.now) }
 {
-    let r = read_scalar(source);
-    let RecordAnswer::Accepted(layout) = r else {
-        return refusal(record_fault(r));
-    };
-    accepted(SCALAR_END, source, layout)
+    match read_scalar(source) {
+        Ok(layout) => accepted(End::Scalar, source, layout),
+        Err(refusal) => Described::refused(refusal),
+    }
 }
 
 // The head of a record that its end would accept, or that record's number. The end byte says whose tests apply.
 pub fn describe(source: &[u8]) -> Described
     ensures { description result source.now ≡ describe source.now }
 {
-    if source.len() <= 0 {
-        return refusal(RECORD_ENDS);
+    match source.first() {
+        None => Described::refused(Refusal::RecordEnds),
+        Some(1) => noise_head(source),
+        Some(2) => scalar_head(source),
+        Some(_) => Described::refused(Refusal::WrongEnd),
     }
-    if source[0] == 1 {
-        return noise_head(source);
-    }
-    if source[0] == 2 {
-        return scalar_head(source);
-    }
-    refusal(WRONG_END)
 }

@@ -2,140 +2,107 @@
 ghost use Rattle.std.specs.Prelude.{◌≡◌, ◌+◌, ◌≤◌, ◌<◌, leb, length};
 ghost use Rattle.number.specs.Answer.{number_read};
 ghost use Rattle.record.specs.Reading.{read_size, read_branch, read_field, read_after_depth, read_sizes, read_head};
-ghost use Rattle.record.specs.Inner.Answers.{skipped};
+ghost use Rattle.record.specs.Inner.Answers.{reading_of, skipped};
 ghost use Rattle.record.specs.Answer.{record_read};
 
-use answer::{BAD_FIELD, BAD_SIZE, RECORD_ENDS, WRONG_END};
+use answer::Refusal;
 use field::is_field;
-use number::{Number, number_fault, read_number};
-use record::{Layout, RecordAnswer, leaves, smaller};
+use number::read_number;
+use record::{Layout, leaves};
 
 // Whether a record has a count of bytes from a place on.
 pub fn has_bytes(source: &[u8], at: usize, count: usize) -> bool
     ensures { result ≡ leb (at + count) (length source.now) }
 {
-    if source.len() < count {
-        return false;
-    }
-    at <= source.len() - count
+    count <= source.len() && at <= source.len() - count
 }
 
-// A field of a count of bytes; the value is its place.
-pub fn skip(source: &[u8], at: usize, count: usize) -> Number
-    ensures { number_read result ≡ skipped count source.now at }
+// The place after a field of a count of bytes.
+pub fn skip(source: &[u8], at: usize, count: usize) -> Result<usize, Refusal>
+    ensures { reading_of result ≡ skipped count source.now at }
 {
-    if has_bytes(source, at, count) {
-        return Number::Value(at, at + count);
+    if !has_bytes(source, at, count) {
+        return Err(Refusal::RecordEnds);
     }
-    Number::Fault(RECORD_ENDS)
+    Ok(at + count)
 }
 
-// A size of 1 to `top`.
-pub fn read_size(source: &[u8], at: usize, top: usize) -> Number
+// A size of 1 to `top`, and the place after it.
+fn read_size(source: &[u8], at: usize, top: usize) -> Result<(usize, usize), Refusal>
     ensures { number_read result ≡ read_size top source.now at }
 {
-    let r = read_number(source, at);
-    let Number::Value(n, next) = r else {
-        return r;
-    };
-    if n < 1 {
-        return Number::Fault(BAD_SIZE);
+    let (size, at) = read_number(source, at)?;
+    if size < 1 || top < size {
+        return Err(Refusal::BadSize);
     }
-    if top < n {
-        return Number::Fault(BAD_SIZE);
-    }
-    Number::Value(n, next)
+    Ok((size, at))
 }
 
-// g: 1, 2 or 3, and a divisor of d.
-pub fn read_branch(source: &[u8], at: usize, depth: usize) -> Number
+// g: 1, 2 or 3, and a divisor of d; and the place after it.
+fn read_branch(source: &[u8], at: usize, depth: usize) -> Result<(usize, usize), Refusal>
     ensures { number_read result ≡ read_branch depth source.now at }
 {
-    let r = read_size(source, at, 3);
-    let Number::Value(g, next) = r else {
-        return r;
-    };
-    if depth % g != 0 {
-        return Number::Fault(BAD_SIZE);
+    let (branch_bits, at) = read_size(source, at, 3)?;
+    if depth % branch_bits != 0 {
+        return Err(Refusal::BadSize);
     }
-    Number::Value(g, next)
+    Ok((branch_bits, at))
 }
 
-// The end byte and the field byte; the value is the field.
-pub fn read_field(source: &[u8], end: u8) -> Number
+// The field, from the end byte and the field byte, and the place after them.
+fn read_field(source: &[u8], end: u8) -> Result<(usize, usize), Refusal>
     ensures { number_read result ≡ read_field end source.now }
 {
     if source.len() <= 0 {
-        return Number::Fault(RECORD_ENDS);
+        return Err(Refusal::RecordEnds);
     }
     if source[0] != end {
-        return Number::Fault(WRONG_END);
+        return Err(Refusal::WrongEnd);
     }
     if source.len() <= 1 {
-        return Number::Fault(RECORD_ENDS);
+        return Err(Refusal::RecordEnds);
     }
     let field = source[1] as usize;
-    if is_field(field) {
-        return Number::Value(field, 2);
+    if !is_field(field) {
+        return Err(Refusal::BadField);
     }
-    Number::Fault(BAD_FIELD)
+    Ok((field, 2))
 }
 
 // g, t, ℓ, n, the code key and the label, after d.
-fn read_after_depth(source: &[u8], at2: usize, field: usize, depth: usize) -> RecordAnswer
+fn read_after_depth(source: &[u8], at: usize, field: usize, depth: usize) -> Result<Layout, Refusal>
     requires { depth ≤ 16 }
-    ensures { record_read source.now result ≡ read_after_depth field depth source.now at2 }
+    ensures { record_read source.now result ≡ read_after_depth field depth source.now at }
 {
-    let r2 = read_branch(source, at2, depth);
-    let Number::Value(branch_bits, at3) = r2 else {
-        return RecordAnswer::Fault(number_fault(r2));
-    };
     let all = leaves(depth);
-    let r3 = read_size(source, at3, smaller(64, all));
-    let Number::Value(trees, at4) = r3 else {
-        return RecordAnswer::Fault(number_fault(r3));
-    };
-    let r4 = read_size(source, at4, smaller(32, all));
-    let Number::Value(terms, at5) = r4 else {
-        return RecordAnswer::Fault(number_fault(r4));
-    };
-    let r5 = read_size(source, at5, all / 2);
-    let Number::Value(outputs, at6) = r5 else {
-        return RecordAnswer::Fault(number_fault(r5));
-    };
-    let r6 = skip(source, at6, 32);
-    let Number::Value(_, body) = r6 else {
-        return RecordAnswer::Fault(number_fault(r6));
-    };
-    RecordAnswer::Accepted(Layout {
-        field: field,
-        depth: depth,
-        branch_bits: branch_bits,
-        trees: trees,
-        terms: terms,
-        outputs: outputs,
-        body: body,
+    let (branch_bits, at) = read_branch(source, at, depth)?;
+    let (trees, at) = read_size(source, at, all.min(64))?;
+    let (terms, at) = read_size(source, at, all.min(32))?;
+    let (outputs, at) = read_size(source, at, all / 2)?;
+    let body = skip(source, at, 32)?;
+    Ok(Layout {
+        field,
+        depth,
+        branch_bits,
+        trees,
+        terms,
+        outputs,
+        body,
     })
 }
 
 // d, then the rest of the head.
-fn read_sizes(source: &[u8], at1: usize, field: usize) -> RecordAnswer
-    ensures { record_read source.now result ≡ read_sizes field source.now at1 }
+fn read_sizes(source: &[u8], at: usize, field: usize) -> Result<Layout, Refusal>
+    ensures { record_read source.now result ≡ read_sizes field source.now at }
 {
-    let r = read_size(source, at1, 16);
-    let Number::Value(depth, at2) = r else {
-        return RecordAnswer::Fault(number_fault(r));
-    };
-    read_after_depth(source, at2, field, depth)
+    let (depth, at) = read_size(source, at, 16)?;
+    read_after_depth(source, at, field, depth)
 }
 
-// The head of a record of this end.
-pub fn read_head(source: &[u8], end: u8) -> RecordAnswer
+// The head of a record of the end with this byte.
+pub fn read_head(source: &[u8], end: u8) -> Result<Layout, Refusal>
     ensures { record_read source.now result ≡ read_head end source.now }
 {
-    let r = read_field(source, end);
-    let Number::Value(field, at) = r else {
-        return RecordAnswer::Fault(number_fault(r));
-    };
+    let (field, at) = read_field(source, end)?;
     read_sizes(source, at, field)
 }

@@ -1,3 +1,2 @@
 -- The laws of `record_reading`.
 pub mod Records
-pub mod Trees

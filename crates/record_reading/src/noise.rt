@@ -1,36 +1,38 @@
 // The noise record.
-ghost use Rattle.std.specs.Prelude.{true, ◌≡◌, ◌+◌, ◌*◌, ◌^◌, ◌≤◌, ◌<◌, get_or};
+ghost use Rattle.std.specs.Prelude.{true, ◌≡◌, ◌+◌, ◌*◌, ◌^◌, ◌≤◌, get_or};
 ghost use Rattle.field.specs.ByNumber.{element_of};
 ghost use Rattle.number.specs.Answer.{number_read};
 ghost use Rattle.number.specs.Reading.{Whole};
 ghost use Rattle.number.specs.Inner.Known.{is_whole};
 ghost use Rattle.record.specs.Reading.{read_position, read_tree, read_head, read_noise};
-ghost use Rattle.record.specs.Inner.Answers.{tree_position, tree_of};
+ghost use Rattle.record.specs.Inner.Answers.{tree_read, tree_of};
 ghost use Rattle.record.specs.Answer.{head_if_whole, record_read};
 
 use crate::element::{read_correction, read_value};
-use answer::{BAD_POSITION, BYTES_AFTER};
+use answer::Refusal;
 use field::{element_at, one_noise, word_at};
-use number::{Number, known_number, number_fault, read_number};
-use record::{NOISE_END, RecordAnswer, Tree, leaves, sibling_count};
+use number::{known_number, read_number};
+use record::{End, Layout, Tree, leaves, sibling_count};
 use record_head::{read_head, skip};
 
-// A position below `all`, after positions below `base`.
-fn read_position(source: &[u8], at: usize, base: usize, all: usize) -> Number
+// A position below `all`, after positions below `base`, and the place after it.
+fn read_position(
+    source: &[u8],
+    at: usize,
+    base: usize,
+    all: usize,
+) -> Result<(usize, usize), Refusal>
     requires { base ≤ all }
     ensures { number_read result ≡ read_position base all source.now at }
 {
-    let r = read_number(source, at);
-    let Number::Value(x, next) = r else {
-        return r;
-    };
-    if all - base <= x {
-        return Number::Fault(BAD_POSITION);
+    let (back, at) = read_number(source, at)?;
+    if all - base <= back {
+        return Err(Refusal::BadPosition);
     }
-    Number::Value(base + x, next)
+    Ok((base + back, at))
 }
 
-// A tree with so many siblings, after positions below `base`; the value is its position.
+// A tree with so many siblings, after positions below `base`, and the place after it.
 fn read_tree(
     source: &[u8],
     at: usize,
@@ -38,57 +40,40 @@ fn read_tree(
     field: usize,
     depth: usize,
     siblings: usize,
-) -> Number
+) -> Result<(Tree, usize), Refusal>
     requires { (base ≤ 2 ^ depth) × (depth ≤ 16) × (siblings ≤ 112) }
-    ensures { number_read result ≡ tree_position (read_tree field depth siblings base source.now at) }
+    ensures { tree_read source.now field siblings result ≡ read_tree field depth siblings base source.now at }
 {
-    let r0 = read_position(source, at, base, leaves(depth));
-    let Number::Value(position, at1) = r0 else {
-        return r0;
+    let (position, at) = read_position(source, at, base, leaves(depth))?;
+    let (value, at) = read_value(source, at, field)?;
+    let (correction, at) = read_correction(source, at, field)?;
+    let end = skip(source, at, 16 * siblings)?;
+    let tree = Tree {
+        position,
+        value,
+        correction,
+        siblings: at,
     };
-    let r1 = read_value(source, at1, field);
-    let Number::Value(_, at2) = r1 else {
-        return r1;
-    };
-    let r2 = read_correction(source, at2, field);
-    let Number::Value(_, at3) = r2 else {
-        return r2;
-    };
-    let r3 = skip(source, at3, 16 * siblings);
-    let Number::Value(_, at4) = r3 else {
-        return r3;
-    };
-    Number::Value(position, at4)
+    Ok((tree, end))
 }
 
 // The noise record, whole and tested.
-pub fn read_noise(source: &[u8]) -> RecordAnswer
+pub fn read_noise(source: &[u8]) -> Result<Layout, Refusal>
     ensures { record_read source.now result ≡ head_if_whole (read_noise source.now) (read_head 1 source.now) }
 {
-    let r = read_head(source, NOISE_END);
-    let RecordAnswer::Accepted(layout) = r else {
-        return r;
-    };
-    let field = layout.field;
-    let depth = layout.depth;
-    let siblings = sibling_count(depth, layout.branch_bits);
-    let trees = layout.trees;
+    let layout = read_head(source, End::Noise as u8)?;
+    let siblings = sibling_count(layout.depth, layout.branch_bits);
     let mut at = layout.body;
     let mut base: usize = 0;
-    let mut i: usize = 0;
-    while i < trees {
-        let t = read_tree(source, at, base, field, depth, siblings);
-        let Number::Value(position, next) = t else {
-            return RecordAnswer::Fault(number_fault(t));
-        };
-        base = position + 1;
+    for _ in 0..layout.trees {
+        let (tree, next) = read_tree(source, at, base, layout.field, layout.depth, siblings)?;
+        base = tree.position + 1;
         at = next;
-        i += 1;
     }
     if at < source.len() {
-        return RecordAnswer::Fault(BYTES_AFTER);
+        return Err(Refusal::BytesAfter);
     }
-    RecordAnswer::Accepted(layout)
+    Ok(layout)
 }
 
 // The tree at a place of an accepted noise record, after positions below `base`. The next tree follows its siblings.
@@ -103,28 +88,23 @@ pub fn known_tree(
     requires { (is_whole (read_tree field depth siblings base source.now at) ≡ true) × (depth ≤ 16) }
     ensures { (Whole (tree_of source.now field siblings result, result.siblings + 16 * siblings)
         ≡ read_tree field depth siblings base source.now at)
-        × (result.high ≡ get_or (element_of field result.low result.high) 1 0) }
+        × (result.correction.high ≡ get_or (element_of field result.correction.low result.correction.high) 1 0) }
 {
-    let number = known_number(source, at);
-    let next = number.next;
-    let position = base + number.number;
+    let (back, at) = known_number(source, at);
+    let position = base + back;
+    let siblings = at + 16;
     if one_noise(field) {
-        let correction = element_at(field, source, next);
         return Tree {
-            position: position,
+            position,
             value: 1,
-            low: correction.low,
-            high: correction.high,
-            siblings: next + 16,
+            correction: element_at(field, source, at),
+            siblings,
         };
     }
-    let value = word_at(source, next);
-    let correction = element_at(field, source, next + 8);
     Tree {
-        position: position,
-        value: value,
-        low: correction.low,
-        high: correction.high,
-        siblings: next + 16,
+        position,
+        value: word_at(source, at),
+        correction: element_at(field, source, at + 8),
+        siblings,
     }
 }

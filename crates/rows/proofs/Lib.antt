@@ -1,3 +1,4 @@
 -- The laws of a row's sums. Callers use Sums.
 mod Turns
+pub mod Walks
 pub mod Sums

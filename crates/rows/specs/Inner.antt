@@ -1,2 +1,3 @@
 -- Inner: no promise cites this folder. The sums of a row so far.
 pub mod Sums
+pub mod Walked

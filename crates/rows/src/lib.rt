@@ -1,7 +1,9 @@
-// The sums of a row of the code in definitions and laws, and what a row's functions take and return. These stand in crates `rows_noise`
-// and `rows_scalar`.
+// The sums of a row of the code in definitions and laws, the walk of a row for any sums, and what a row gives. The sums of either end in
+// either field stand in crates `rows_noise` and `rows_scalar`.
 #![tactic(auto)]
 
 mod row;
+mod walked;
 
-pub use row::{BinaryPair, CodeRow, PrimePair, PrimeRow, PrimeSum, PrimeSums, binary_at};
+pub use row::{BinaryPair, PrimePair, PrimeRow, PrimeSum, PrimeSums};
+pub use walked::{Vectors, walk};

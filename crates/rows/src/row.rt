@@ -1,18 +1,8 @@
-// A row's outputs with the test of the words that it uses, and an element of field 1.
-ghost use Rattle.std.specs.Prelude.{◌≡◌, ◌+◌, ◌*◌, ◌<◌, length};
-ghost use Rattle.algebra.specs.Coding.{at};
-ghost use Rattle.field.specs.Binary.{binary};
+// A row's outputs with the test of the words that it uses. The test stands beside the outputs, and an Option does not take its place: rows
+// promise their outputs also where a word is not admitted.
 
-use code::Shape;
 use field::Block;
 use prime::Prime;
-
-// A row of the code: the code's shape, and the row's number.
-#[derive(Clone, Copy)]
-pub struct CodeRow {
-    pub shape: Shape,
-    pub x: u64,
-}
 
 // A row's outputs at the noise end in field 1, and whether every noise word that it uses is a bit; before the row's end, those
 // of its terms so far.
@@ -51,16 +41,4 @@ pub struct PrimeSums {
 pub struct PrimeSum {
     pub total: u64,
     pub admitted: bool,
-}
-
-// The element of field 1 at place j.
-pub fn binary_at(v: &[u64], j: usize) -> Block
-    requires { j * 2 + 1 < length v.now }
-    ensures { result ≡ at binary.elements v.now j }
-{
-    let low = j * 2;
-    Block {
-        low: v[low],
-        high: v[low + 1],
-    }
 }

@@ -1,4 +1,4 @@
-// A row's outputs at the noise end in each field, two terms at a time, with the test of the words that the row uses.
+// A row's outputs at the noise end in each field, with the test of the words that the row uses.
 #![tactic(auto)]
 
 mod noise_binary;

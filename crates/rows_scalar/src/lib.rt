@@ -1,4 +1,4 @@
-// A row's output at the scalar end in each field, two terms at a time, in field 2 with the test of the words that the row uses.
+// A row's output at the scalar end in each field, in field 2 with the test of the words that the row uses.
 #![tactic(auto)]
 
 mod scalar_binary;

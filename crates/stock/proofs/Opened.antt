@@ -23,16 +23,6 @@ use Rattle.stock.proofs.Entries.{entries_in, entries_past, sum_stays}
 pub up_to_most : (most n : ℕ) → is_count most n ≡ true → n ≤ most
 up_to_most most n e = leb-true n most (and_right (leb 1 n) (leb n most) e)
 
--- shares that sum to no more than n sum to no more than the largest n
-pub most-outputs : (outputs : ℕ) (u : Bool) → u ≡ is_count 32768 outputs → not u ≡ false → outputs ≤ 32768
-most-outputs outputs u sized within = up_to_most 32768 outputs (sym sized ∙ not-false u within)
-
-pub below-most : (x sum outputs : ℕ) → sum ≡ x → sum ≤ outputs → outputs ≤ 32768 → x ≤ 32768
-below-most x sum outputs e enough most = omega arith
-
-pub open_below : (outputs x sum : ℕ) (u : Bool) → u ≡ is_count 32768 outputs → not u ≡ false → sum ≡ x → sum ≤ outputs → x ≤ 32768
-open_below outputs x sum u sized within e enough = below-most x sum outputs e enough (most-outputs outputs u sized within)
-
 -- the padded shares are the shares
 padded-shares : (shares : List ℕ) → length shares ≤ 8 → opening_share (entries (length shares) (opening_share shares)) ≡ opening_share shares
 padded-shares shares most =
@@ -63,6 +53,9 @@ module _ (shares : List ℕ) (t : Bool) (callers : t ≡ is_count 8 (length shar
       sum_of_shares =
           summed ∙ ap (sum_of 8) same-shares
           ∙ sum_stays (length shares) 8 (opening_share shares) open_most (λ k h. get_or-eq_default shares 0 h)
+
+      pub open_within : is_count 32768 outputs ≡ true → sum_of (length shares) (opening_share shares) ≤ outputs → sum_of 8 (opening_share each) ≤ 32768
+      open_within most enough = let m = up_to_most 32768 outputs most in let h = sum_of_shares in omega arith
 
       pub open_above : outputs < sum → is_met (sum_of (length shares) (opening_share shares) at_most outputs) ≡ false
       open_above h = rw (← sum_of_shares) (above sum outputs h)

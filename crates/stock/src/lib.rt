@@ -4,7 +4,7 @@
 
 // A dealing's label.
 #[repr(C)]
-#[derive(Clone, Copy)]
+#[derive(Clone, Copy, PartialEq, Eq)]
 pub struct Label {
     pub bytes: [u8; 16],
 }
@@ -19,7 +19,7 @@ pub struct Stock {
     pub end: [u32; 8],
 }
 
-// The answer of an opening or a passage: its number, and the stock.
+// The answer of an opening or a passage: its number, and the stock. The answers here are the C interface, so no Result.
 #[repr(C)]
 #[derive(Clone, Copy)]
 pub struct OpenedStock {

@@ -1,19 +1,20 @@
 -- Labels as LE numbers: the highest byte in which two differ decides.
-use mathlib.Core.Path.{◌≡◌, sym, ap, ◌∙◌}
-use mathlib.Core.Bool.{Bool, true, false, not}
+use mathlib.Core.Path.{◌≡◌, refl, sym, ap, ◌∙◌}
+use mathlib.Core.Bool.{false}
 use mathlib.Core.List.{List, [], ◌∷◌}
-use Prim.Native.Nat.{ℕ, zero, suc, ◌-◌, ◌≤◌, ◌<◌}
+use Prim.Native.Nat.{ℕ, zero, suc, ◌+◌, ◌*◌, ◌-◌, ◌≤◌, ◌<◌}
 use native.Mathlib.Omega.{arith}
 use lib.Dec.{ltb, eqb}
+use lib.Pointwise.{pointwise}
 use lib.ListN.{length, get_or, drop, drop_of_length-le}
 use lib.Seq.{drop-cons}
 use mir.Syntax.{w8}
 use mir.Val.{Fits}
-use borrow.Author.Tests.{ltb-true, ltb-false, lt-ltb, le-ltb, eq-eqb, ne_eqb}
+use borrow.Author.Tests.{lt-ltb, le-ltb, eq-eqb, ne_eqb}
 use Rattle.stock.specs.declared.Label.{Label}
 use Rattle.field.specs.Bytes.{le_number}
 use Rattle.stock.specs.Label.{number_of}
-use Rattle.stock.proofs.Cases.{by_test, by_order}
+use Rattle.stock.proofs.Cases.{by_order, by_equality}
 
 -- two lists of bytes are equal as numbers from a place on
 abbrev pub SameFrom : ℕ → List ℕ → List ℕ → Type 0
@@ -70,15 +71,24 @@ label-equal l o left none same =
 
 -- ---- is_same
 
-module _ (l o : Label) (t : Bool) (above : t ≡ ltb (number_of o) (number_of l)) where
-  pub label-above : t ≡ true → false ≡ eqb (number_of l) (number_of o)
-  label-above e =
-      let h = ltb-true (number_of o) (number_of l) (sym above ∙ e) in
-      sym (ne_eqb (number_of l) (number_of o) (λ q. omega arith))
+-- as many bytes are the same exactly if their numbers are
+pub same_numbers : (xs ys : List ℕ) → length xs ≡ length ys → ((k : ℕ) → Fits w8 (get_or xs k 0)) → ((k : ℕ) → Fits w8 (get_or ys k 0))
+    → pointwise eqb xs ys ≡ eqb (le_number xs) (le_number ys)
+unfolding le_number
+same_numbers [] [] e f g = refl
+same_numbers [] (y ∷ ys) e f g = absurd (omega arith)
+same_numbers (x ∷ xs) [] e f g = absurd (omega arith)
+same_numbers (x ∷ xs) (y ∷ ys) e f g =
+    let rest = same_numbers xs ys (omega arith) (λ k. f (suc k)) (λ k. g (suc k)) in
+    let a = f 0 in
+    let b = g 0 in
+    by_equality x y
+    (λ p. rw (eq-eqb x y p, rest) (by_equality (le_number xs) (le_number ys)
+    (λ q. rw (eq-eqb _ _ q, eq-eqb (x + 256 * le_number xs) (y + 256 * le_number ys) (omega arith)))
+    (λ q. rw (ne_eqb _ _ q, ne_eqb (x + 256 * le_number xs) (y + 256 * le_number ys) (λ z. q (omega arith))))))
+    (λ p. rw (ne_eqb x y p, ne_eqb (x + 256 * le_number xs) (y + 256 * le_number ys) (λ z. p (omega arith))))
 
-  pub label_same : (u : Bool) → u ≡ ltb (number_of l) (number_of o) → t ≡ false → not u ≡ eqb (number_of l) (number_of o)
-  label_same u below e =
-      let h = ltb-false (number_of o) (number_of l) (sym above ∙ e) in
-      by_test u
-      (λ y. let w = ltb-true (number_of l) (number_of o) (sym below ∙ y) in rw y (sym (ne_eqb (number_of l) (number_of o) (λ q. omega arith))))
-      (λ n. let w = ltb-false (number_of l) (number_of o) (sym below ∙ n) in rw n (sym (eq-eqb (number_of l) (number_of o) (omega arith))))
+pub label-same : (l o : Label) → length l.bytes ≡ 16 → length o.bytes ≡ 16 → ((k : ℕ) → Fits w8 (get_or l.bytes k 0)) → ((k : ℕ) → Fits w8 (get_or o.bytes k 0))
+    → pointwise eqb l.bytes o.bytes ≡ eqb (number_of l) (number_of o)
+unfolding number_of
+label-same l o long-l long-o f g = same_numbers l.bytes o.bytes (omega arith) f g

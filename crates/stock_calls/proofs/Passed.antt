@@ -3,15 +3,17 @@ use mathlib.Core.Path.{◌≡◌, sym, ap, fun_ext, ◌∙◌}
 use mathlib.Core.Bool.{true, false}
 use mathlib.Core.List.{List}
 use Prim.Native.Nat.{ℕ, ◌≤◌, ◌<◌}
+use native.Mathlib.Omega.{arith}
 use borrow.Author.Tests.{le-ltb}
 use Rattle.answer.specs.Tests.{◌at_most◌, is_met}
 use Rattle.answer.proofs.Faults.{at-most, above}
 use Rattle.stock.specs.declared.Label.{Label}
 use Rattle.stock.specs.declared.Stock.{Stock}
 use Rattle.stock.specs.Stock.{is_caller, remaining, sum_of, held, entries, share_blocks}
-use Rattle.stock.specs.Calls.{with_stock, opening_share}
+use Rattle.stock.specs.Calls.{is_count, with_stock, opening_share}
 use Rattle.stock.proofs.Cases.{by_order}
 use Rattle.stock.proofs.Entries.{entries_in, entries_past}
+use Rattle.stock.proofs.Opened.{up_to_most}
 
 -- past the eight entries nothing is held
 holds-none_past : (s : Stock) (k : ℕ) → 8 ≤ k → remaining s k ≡ 0
@@ -38,6 +40,9 @@ module _ (s : Stock) (each : List ℕ) (kept : each ≡ entries 8 (remaining s))
     sum-held : sum ≡ held s
     unfolding held
     sum-held = summed ∙ ap (sum_of 8) same_rest
+
+    pub pass_within : is_count 32768 outputs ≡ true → held s ≤ outputs → sum_of 8 (opening_share each) ≤ 32768
+    pass_within most enough = let m = up_to_most 32768 outputs most in let h = sum-held in omega arith
 
     pub pass-above : outputs < sum → is_met (held s at_most outputs) ≡ false
     pass-above h = rw (← sum-held) (above sum outputs h)

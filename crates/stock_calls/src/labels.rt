@@ -8,15 +8,12 @@ use stock::Label;
 pub fn is_above(label: Label, other: Label) -> bool
     ensures { result ≡ ltb (number_of other) (number_of label) }
 {
-    let mut left: usize = 16;
-    while left > 0 {
-        let at = left - 1;
+    for at in (0..16).rev() {
         let a = label.bytes[at];
         let b = other.bytes[at];
         if a != b {
             return b < a;
         }
-        left = at;
     }
     false
 }
@@ -25,8 +22,5 @@ pub fn is_above(label: Label, other: Label) -> bool
 pub fn is_same(label: Label, other: Label) -> bool
     ensures { result ≡ eqb (number_of label) (number_of other) }
 {
-    if is_above(label, other) {
-        return false;
-    }
-    !is_above(other, label)
+    label == other
 }

@@ -1,5 +1,5 @@
 // Shares of eight callers, and their blocks.
-ghost use Rattle.std.specs.Prelude.{◌≡◌, ◌≤◌, min, length};
+ghost use Rattle.std.specs.Prelude.{◌≡◌, ◌≤◌, length};
 ghost use Rattle.stock.specs.Stock.{is_caller, remaining, sum_of, entries, share_blocks};
 ghost use Rattle.stock.specs.Calls.{is_count, opening_share};
 
@@ -9,10 +9,7 @@ use stock::{Label, Stock};
 pub fn is_count(most: usize, n: usize) -> bool
     ensures { result ≡ is_count most n }
 {
-    if n < 1 {
-        return false;
-    }
-    n <= most
+    1 <= n && n <= most
 }
 
 // The shares of a slice, with zeros past them.
@@ -21,11 +18,7 @@ pub fn padded(shares: &[u32]) -> [u32; 8]
     ensures { result ≡ entries (length shares.now) (opening_share shares.now) }
 {
     let mut each = [0u32; 8];
-    let mut k: usize = 0;
-    while k < shares.len() {
-        each[k] = shares[k];
-        k += 1;
-    }
+    each[..shares.len()].copy_from_slice(shares);
     each
 }
 
@@ -34,22 +27,10 @@ pub fn total(shares: [u32; 8]) -> usize
     ensures { result ≡ sum_of 8 (opening_share shares) }
 {
     let mut sum: usize = 0;
-    let mut k: usize = 0;
-    while k < 8 {
-        sum += shares[k] as usize;
-        k += 1;
+    for share in &shares {
+        sum += *share as usize;
     }
     sum
-}
-
-// How many of the eight entries have a caller.
-fn at_most_eight(callers: u32) -> usize
-    ensures { result ≡ min 8 callers }
-{
-    if callers < 8 {
-        return callers as usize;
-    }
-    8
 }
 
 // Consecutive blocks of the outputs, from index 0 in caller order.
@@ -57,16 +38,14 @@ pub fn blocks_of(label: Label, callers: u32, shares: [u32; 8]) -> Stock
     requires { sum_of 8 (opening_share shares) ≤ 32768 }
     ensures { result ≡ share_blocks label callers (opening_share shares) }
 {
-    let n = at_most_eight(callers);
+    let n = callers.min(8) as usize;
     let mut next = [0u32; 8];
     let mut end = [0u32; 8];
     let mut at: u32 = 0;
-    let mut k: usize = 0;
-    while k < n {
+    for k in 0..n {
         next[k] = at;
         at += shares[k];
         end[k] = at;
-        k += 1;
     }
     Stock {
         callers,
@@ -80,10 +59,7 @@ pub fn blocks_of(label: Label, callers: u32, shares: [u32; 8]) -> Stock
 pub fn is_caller(stock: Stock, caller: usize) -> bool
     ensures { result ≡ is_caller stock caller }
 {
-    if caller >= 8 {
-        return false;
-    }
-    caller < stock.callers as usize
+    caller < 8 && caller < stock.callers as usize
 }
 
 // A caller's remaining share.
@@ -93,12 +69,7 @@ pub fn holding(stock: Stock, caller: usize) -> u32
     if !is_caller(stock, caller) {
         return 0;
     }
-    let next = stock.next[caller];
-    let end = stock.end[caller];
-    if end < next {
-        return 0;
-    }
-    end - next
+    stock.end[caller].saturating_sub(stock.next[caller])
 }
 
 // What each of the eight callers has not drawn.
@@ -106,10 +77,8 @@ pub fn rest(stock: Stock) -> [u32; 8]
     ensures { result ≡ entries 8 (remaining stock) }
 {
     let mut each = [0u32; 8];
-    let mut caller: usize = 0;
-    while caller < 8 {
+    for caller in 0..8 {
         each[caller] = holding(stock, caller);
-        caller += 1;
     }
     each
 }

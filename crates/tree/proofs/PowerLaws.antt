@@ -1,15 +1,11 @@
--- Powers of two: as shifts, by levels, by halves, and as the number of a node's children.
+-- Powers of two: by levels, by halves, and as the number of a node's children.
 use mathlib.Core.Path.{◌≡◌, ap, sym, ◌∙◌}
 use mathlib.Core.Logic.{◌≢◌}
-use Prim.Native.Nat.{ℕ, zero, suc, ◌+◌, ◌-◌, ◌*◌, ◌%◌, ◌^◌, ◌≤◌, ◌<◌}
-use native.Mathlib.Nat.{one-mul, zero-mul, pow-zero, pow-suc, two-pow-succ, mod-eq_of_lt}
+use Prim.Native.Nat.{ℕ, zero, suc, ◌+◌, ◌-◌, ◌*◌, ◌^◌, ◌≤◌}
+use native.Mathlib.Nat.{zero-mul, pow-zero, pow-suc, two-pow-succ}
 use native.Mathlib.Omega.{arith}
-use lib.Pow.{pow-add, pow-lt, pow_pos, pow_mono}
+use lib.Pow.{pow-add, pow_mono}
 use Rattle.tree.specs.Inner.Branches.{IsBranch}
-
--- a shift is the power of two
-pub shifted : (d : ℕ) → d < 64 → (1 * 2 ^ d) % 2 ^ 64 ≡ 2 ^ d
-shifted d h = rw one-mul (mod-eq_of_lt (pow-lt {i = d} {j = 64} h))
 
 -- the leaves of m levels with 2 ^ g children are those of m * g levels with two
 pub power_of_power : (g m : ℕ) → (2 ^ g) ^ m ≡ 2 ^ (m * g)
@@ -27,10 +23,6 @@ level_less levels g h = let e = ap (λ n. n * g) (down levels h) in omega arith
 
 pub halved : (r : ℕ) → 1 ≤ r → 2 ^ r ≡ 2 ^ (r - 1) + 2 ^ (r - 1)
 halved r h = ap (λ n. 2 ^ n) (down r (λ e. omega arith)) ∙ two-pow-succ (r - 1)
-
--- a power of two is not zero
-pub power_positive : (g : ℕ) {r : ℕ} → r ≡ 2 ^ g → 1 ≤ r
-power_positive g e = omega (arith, pow_pos g)
 
 -- the most children
 pub eight : (g : ℕ) → IsBranch g → 2 ^ g ≤ 8

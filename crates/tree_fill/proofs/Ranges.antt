@@ -4,8 +4,6 @@ use mathlib.Core.Bool.{Bool, true, false}
 use mathlib.Core.Logic.{◌≢◌}
 use Prim.Native.Nat.{ℕ, suc, ◌+◌, ◌-◌, ◌*◌, ◌^◌, ◌≤◌, ◌<◌}
 use native.Mathlib.Omega.{arith}
-use mir.Syntax.{w64}
-use mir.Val.{Fits}
 use lib.Dec.{eqb}
 use lib.Pow.{pow-add, pow_pos}
 use borrow.Author.Tests.{eq-eqb, ne_eqb, eqb-true, eqb-false}
@@ -87,23 +85,8 @@ module _ (ρ : Range) (ok : IsRange ρ) where
   pub pair_keys : ρ.bits ≡ 1 → ρ.from + 1 < 8
   pair_keys e = omega (arith, ok.within, ap (λ n. 2 ^ n) e, eight ρ.branch_bits ok.branch)
 
-  pub bits-few : ρ.bits - 1 < 64
-  bits-few = omega (arith, ok.most, ok.branch.eight)
-
-  pub back_fits : {p : ℕ} → p ≡ 2 ^ (ρ.bits - 1) → Fits w64 (ρ.from + p)
-  back_fits q = record { fits = omega (arith, ok.within, halved ρ.bits ok.two, eight ρ.branch_bits ok.branch) }
-
 -- half of a range, by its exponent
 module _ (ρ : Range) (ok : IsRange ρ) (h : ρ.levels ≢ 0) (short : ρ.levels * ρ.branch_bits ≤ 64) where
-  pub exponent_few : (ρ.levels - 1) * ρ.branch_bits + (ρ.bits - 1) < 64
-  exponent_few = omega (arith, ok.most, ok.two, level_less ρ.levels ρ.branch_bits h)
-
-  pub levels_fit : Fits w64 ((ρ.levels - 1) * ρ.branch_bits)
-  levels_fit = record { fits = omega (arith, exponent_few) }
-
-  pub exponent_fits : Fits w64 ((ρ.levels - 1) * ρ.branch_bits + (ρ.bits - 1))
-  exponent_fits = record { fits = omega (arith, exponent_few) }
-
   pub half_power : {r : ℕ} → r ≡ 2 ^ ((ρ.levels - 1) * ρ.branch_bits + (ρ.bits - 1)) → r ≡ size_of (first_half ρ)
   half_power e =
       e
@@ -113,9 +96,6 @@ module _ (ρ : Range) (ok : IsRange ρ) (h : ρ.levels ≢ 0) (short : ρ.levels
 
 module _ (ρ : Range) (at n : ℕ) (ok : IsRun ρ at n) where
   module _ (e : ρ.bits ≡ 0) where
-    pub sibling_room : at + 16 * ρ.from + 16 ≤ n
-    sibling_room = omega (arith, ok.room, ap (λ m. 2 ^ m) e)
-
     pub sibling_range : IsRange (of_child ρ)
     sibling_range = all-range ρ.branch_bits (ρ.levels - 1) ok.branch
 
@@ -123,9 +103,6 @@ module _ (ρ : Range) (at n : ℕ) (ok : IsRun ρ at n) where
     sibling_size =
         ap (λ m. 2 ^ m) {x = left_of ρ} {y = left_of (of_child ρ)}
         (omega (arith, left_is ρ ok.some, left-all ρ.branch_bits (ρ.levels - 1)))
-
-  pub run-few : ρ.bits - 1 < 64
-  run-few = omega (arith, ok.bits)
 
   module _ (b : ρ.bits ≢ 0) where
     halves_run : 2 ^ ρ.bits ≡ 2 ^ (ρ.bits - 1) + 2 ^ (ρ.bits - 1)
@@ -142,9 +119,6 @@ module _ (ρ : Range) (at n : ℕ) (ok : IsRun ρ at n) where
         }
 
     module _ {p : ℕ} (q : p ≡ 2 ^ (ρ.bits - 1)) where
-      pub run_fits : Fits w64 (ρ.from + p)
-      run_fits = record { fits = omega (arith, ok.few, halves_run) }
-
       pub back-run : IsRun (half_from ρ (ρ.from + p)) at n
       back-run =
           record {
@@ -203,18 +177,8 @@ module _ (path : Path) (n : ℕ) (ok : IsPath path n) (h : path.range.levels ≢
       ≡ (path.range.levels - 1) * (child_count path.range - 1) + (child_count path.range - 1)
   levels-room = level_less path.range.levels (child_count path.range - 1) h
 
-  pub next_fits : path.at + 16 * (child_count path.range - 1) < 2 ^ 64
-  next_fits = omega (arith, ok.room, ok.fits, levels-room)
-
   pairs_twice : 2 ^ path.range.bits ≡ 2 ^ (path.range.bits - 1) + 2 ^ (path.range.bits - 1)
   pairs_twice = halved path.range.bits ok.range.two
-
-  module _ {p : ℕ} (q : p ≡ 2 ^ (path.range.bits - 1)) where
-    pub count-some : 1 ≤ p
-    count-some = omega (arith, pow_pos (path.range.bits - 1))
-
-    pub above-fits : Fits w64 (path.range.from + (p - 1))
-    above-fits = record { fits = omega (arith, ok.range.within, pairs_twice, eight path.range.branch_bits ok.range.branch) }
 
   -- the other half as a run
   run_of : (c : ℕ) → c + 2 ^ (path.range.bits - 1) + 1 ≤ path.range.from + 2 ^ path.range.bits → IsRun (half_from path.range c) path.at n
@@ -276,9 +240,6 @@ module _ (path : Path) (n : ℕ) (ok : IsPath path n) (h : path.range.levels ≢
           }))
 
   -- the halves as the code finds them
-  pub wide-path : IsPath path (2 ^ 64 - 1)
-  wide-path = record { range = ok.range; inside = ok.inside; short = ok.short; room = omega (arith, ok.room, ok.fits); fits = omega arith }
-
   module _ (r : Halves) (parts : AreHalves path r) (e : r.lower ≡ true) where
     a : FirstHolds path r.below r.beside
     a = holds-first path parts e

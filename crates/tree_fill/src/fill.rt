@@ -1,6 +1,5 @@
 // Leaves added into words, in either field: a tree by the two halves of its words, each from the middle on.
 ghost use Rattle.std.specs.Prelude.{◌≡◌, ◌*◌, ◌^◌, ◌<◌, length};
-ghost use Rattle.aes_sbox.specs.Inner.Tables.{RoundTables};
 ghost use Rattle.field.specs.Kind.{kind_of, element_words};
 ghost use Rattle.tree.specs.Child.{child_by};
 ghost use Rattle.tree.specs.Inner.Keys.{keys_for};
@@ -11,6 +10,7 @@ ghost use Rattle.tree_sums.specs.Inner.Ranges.{child_under, size_of, IsRange, ra
 ghost use Rattle.tree_fill.specs.Inner.Ranges.{IsRun, IsPath, run_added, path_added};
 
 use crate::range::{Path, parted};
+use aes_sbox::Tables;
 use field::Block;
 use tree::Punctured;
 use tree_sums::{Range, add_both, add_bottom, add_leaf, add_words};
@@ -18,14 +18,14 @@ use tree_walk::{children, node_at, power};
 
 // Adds the leaves below a range of the children of s to the elements of acc.
 fn add_range(
-    tables: &[u64; 1536],
+    tables: Tables,
     keys: &[[u64; 40]; 8],
     field: usize,
     range: Range,
     s: Block,
     acc: &mut [u64],
 )
-    requires { RoundTables tables.now × IsRange range × (length acc.old ≡ size_of range * element_words field) }
+    requires { IsRange range × (length acc.old ≡ size_of range * element_words field) }
     ensures { acc.new ≡ range_added field (child_under keys.now) range (node_of s) acc.old }
 {
     let branch_bits = range.branch_bits;
@@ -70,7 +70,7 @@ fn add_range(
 
 // Adds the leaves below a run of siblings, of those whose bytes begin at a place, to the elements of acc.
 fn add_run(
-    tables: &[u64; 1536],
+    tables: Tables,
     keys: &[[u64; 40]; 8],
     field: usize,
     run: Range,
@@ -78,7 +78,7 @@ fn add_run(
     bytes: &[u8],
     acc: &mut [u64],
 )
-    requires { RoundTables tables.now × IsRun run at (length bytes.now) × (length acc.old ≡ size_of run * element_words field) }
+    requires { IsRun run at (length bytes.now) × (length acc.old ≡ size_of run * element_words field) }
     ensures { acc.new ≡ run_added field (child_under keys.now) run bytes.now at acc.old }
 {
     let branch_bits = run.branch_bits;
@@ -112,7 +112,7 @@ fn add_run(
 // Adds the leaves below a range that holds the position of a punctured tree to the elements of acc: the correction at the
 // position, the others from the siblings among the bytes.
 fn add_path(
-    tables: &[u64; 1536],
+    tables: Tables,
     keys: &[[u64; 40]; 8],
     field: usize,
     path: Path,
@@ -120,7 +120,7 @@ fn add_path(
     correction: [u64; 2],
     acc: &mut [u64],
 )
-    requires { RoundTables tables.now × IsPath path (length bytes.now) × (length acc.old ≡ size_of path.range * element_words field) }
+    requires { IsPath path (length bytes.now) × (length acc.old ≡ size_of path.range * element_words field) }
     ensures { acc.new ≡ path_added field (child_under keys.now) path bytes.now correction acc.old }
 {
     let at = path.at;
@@ -173,7 +173,7 @@ fn add_path(
 
 // Adds the leaves of the tree below s to the elements of acc.
 pub fn add_leaves(
-    tables: &[u64; 1536],
+    tables: Tables,
     keys: &[[u64; 40]; 8],
     field: usize,
     branch_bits: usize,
@@ -181,7 +181,7 @@ pub fn add_leaves(
     s: [[u8; 4]; 4],
     acc: &mut [u64],
 )
-    requires { RoundTables tables.now × IsBranch branch_bits × (length acc.old ≡ (2 ^ branch_bits) ^ levels * element_words field) }
+    requires { IsBranch branch_bits × (length acc.old ≡ (2 ^ branch_bits) ^ levels * element_words field) }
     ensures { acc.new ≡ leaves_added (kind_of field) (2 ^ branch_bits) (child_by (keys_for keys.now)) levels s acc.old }
 {
     let all = Range {
@@ -196,7 +196,7 @@ pub fn add_leaves(
 // Adds the leaves of a punctured tree to the elements of acc: at its position the correction, whose words are lent by value,
 // the others from the siblings among the bytes.
 pub fn add_punctured(
-    tables: &[u64; 1536],
+    tables: Tables,
     keys: &[[u64; 40]; 8],
     field: usize,
     tree: Punctured,
@@ -204,7 +204,7 @@ pub fn add_punctured(
     correction: [u64; 2],
     acc: &mut [u64],
 )
-    requires { RoundTables tables.now × IsPunctured tree (length bytes.now) × (tree.position < (2 ^ tree.branch_bits) ^ tree.levels)
+    requires { IsPunctured tree (length bytes.now) × (tree.position < (2 ^ tree.branch_bits) ^ tree.levels)
         × (length acc.old ≡ (2 ^ tree.branch_bits) ^ tree.levels * element_words field) }
     ensures { acc.new
         ≡ punctured_added (kind_of field) (2 ^ tree.branch_bits) (child_by (keys_for keys.now)) tree bytes.now

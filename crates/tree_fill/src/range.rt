@@ -15,7 +15,7 @@ pub struct Path {
 }
 
 // The halves of a range that holds a path: the one that holds it, the other as a run of siblings, and whether it is the first
-// that holds it.
+// that holds it; both halves are there either way, so no Option.
 #[derive(Clone, Copy)]
 pub struct Halves {
     pub below: Path,

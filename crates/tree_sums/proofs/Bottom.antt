@@ -7,7 +7,7 @@ use native.Mathlib.Nat.{add_assoc, pow-zero}
 use native.Mathlib.Omega.{arith}
 use lib.ListN.{length, take, drop}
 use lib.Pow.{pow_pos}
-use borrow.Rule.Slice.PartMut.{mid_of, put_mid}
+use borrow.Rule.Slice.PartMut.{put_mid}
 use Rattle.algebra.specs.Field.{Value}
 use Rattle.field.specs.Kind.{kind_of, element_words}
 use Rattle.field.proofs.BothKinds.{kind_laws}
@@ -18,47 +18,12 @@ use Rattle.tree_sums.specs.Inner.Ranges.{IsRange, child_count, left_of, size_of,
 use Rattle.tree_sums.specs.declared.range.Range.{Range}
 use Rattle.tree.proofs.Laws.{leaf-none, leaf-child}
 use Rattle.tree.proofs.PowerLaws.{eight}
-use Rattle.tree_sums.proofs.Halves.{front_length, second, second-length, filled, added-same}
+use Rattle.tree_sums.proofs.Halves.{second, filled, added-same}
 
 three : (bits : ℕ) → IsBranch bits → bits ≢ 1 → bits ≢ 2 → bits ≡ 3
 three bits ok n₁ n₂ = omega (arith, ok.two, ok.eight)
 
 -- ---- four children, and two, four or eight
-
-module _ {X : Type 0} (xs : List X) (w : ℕ) where
-  pub four-front : length xs ≡ 4 * w → length (take (length xs / 2) xs) ≡ 2 * w
-  four-front e = front_length xs 4 2 w e refl
-
-  pub four-back : length xs ≡ 4 * w → (l : List X) → length l ≡ length xs → length (mid_of (length xs / 2) (length l - length xs / 2) l) ≡ 2 * w
-  four-back e = second-length xs 4 2 w e refl
-
-  module _ (bits : ℕ) (e : length xs ≡ 2 ^ bits * w) where
-    pub two-length : bits ≡ 1 → length xs ≡ 2 * w
-    two-length b = e ∙ ap (λ n. 2 ^ n * w) b
-
-    pub four-length : bits ≡ 2 → length xs ≡ 4 * w
-    four-length b = e ∙ ap (λ n. 2 ^ n * w) b
-
-    module _ (ok : IsBranch bits) (n₁ : bits ≢ 1) (n₂ : bits ≢ 2) where
-      pub eight-front : length (take (length xs / 2) xs) ≡ 4 * w
-      eight-front = front_length xs (2 ^ bits) 4 w e (ap (λ n. 2 ^ n) (three bits ok n₁ n₂))
-
-      pub eight-back : (l : List X) → length l ≡ length xs → length (mid_of (length xs / 2) (length l - length xs / 2) l) ≡ 4 * w
-      eight-back = second-length xs (2 ^ bits) 4 w e (ap (λ n. 2 ^ n) (three bits ok n₁ n₂))
-
-module _ (bits c : ℕ) (l : c + 2 ^ bits ≤ 8) where
-  pub two_keys : bits ≡ 1 → c + 2 ≤ 8
-  two_keys b = omega (arith, ap (λ n. 2 ^ n) b)
-
-  pub four_keys : bits ≡ 2 → c + 4 ≤ 8
-  four_keys b = omega (arith, ap (λ n. 2 ^ n) b)
-
-  module _ (ok : IsBranch bits) (n₁ : bits ≢ 1) (n₂ : bits ≢ 2) where
-    pub eight-back_keys : c + 4 + 4 ≤ 8
-    eight-back_keys = omega (arith, ap (λ n. 2 ^ n) (three bits ok n₁ n₂))
-
-    pub eight-front_keys : c + 4 ≤ 8
-    eight-front_keys = omega (arith, eight-back_keys)
 
 module _ (field : ℕ) (child : ℕ → List (List ℕ) → List (List ℕ)) (c : ℕ) (s : List (List ℕ)) (xs : List ℕ) where
   -- n children from two halves of h
@@ -84,12 +49,6 @@ module _ (field : ℕ) (child : ℕ → List (List ℕ) → List (List ℕ)) (c 
   four-added e ey ez = halves 4 2 refl e ey ez
 
   module _ (bits : ℕ) where
-    pub bottom_two : {ys : List ℕ} → bits ≡ 1 → ys ≡ children_added field child c 2 s xs → ys ≡ children_added field child c (2 ^ bits) s xs
-    bottom_two b ey = ey ∙ ap (λ n. children_added field child c (2 ^ n) s xs) (sym b)
-
-    pub bottom_four : {ys : List ℕ} → bits ≡ 2 → ys ≡ children_added field child c 4 s xs → ys ≡ children_added field child c (2 ^ bits) s xs
-    bottom_four b ey = ey ∙ ap (λ n. children_added field child c (2 ^ n) s xs) (sym b)
-
     pub bottom_eight : {ys zs : List ℕ} → IsBranch bits → bits ≢ 1 → bits ≢ 2 → length xs ≡ 2 ^ bits * element_words field
         → ys ≡ children_added field child c 4 s (take (length xs / 2) xs)
         → zs ≡ children_added field child (c + 4) 4 s (second (length xs / 2) xs ys)

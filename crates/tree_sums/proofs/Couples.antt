@@ -8,7 +8,7 @@ use native.Mathlib.Omega.{arith}
 use lib.Dec.{ltb}
 use lib.ListN.{length, take, drop}
 use borrow.Author.Tests.{lt-ltb, le-ltb, ltb-true, ltb-false}
-use borrow.Rule.Slice.PartMut.{mid_of, put_mid}
+use borrow.Rule.Slice.PartMut.{put_mid}
 use Rattle.algebra.specs.Choice.{choose}
 use Rattle.algebra.proofs.Choice.{choose-true, choose-false}
 use Rattle.algebra.specs.Field.{Field, Value}
@@ -16,7 +16,7 @@ use Rattle.field.specs.Kind.{kind_of, element_words}
 use Rattle.field.proofs.BothKinds.{kind_laws}
 use Rattle.tree_sums.specs.Inner.Ranges.{children_added, below, left_of, size_of, IsRange, all_children, of_child, range_element, range_added, both_added}
 use Rattle.tree_sums.specs.declared.range.Range.{Range}
-use Rattle.tree_sums.proofs.Halves.{second, filled, added-same, front_length, second-length}
+use Rattle.tree_sums.proofs.Halves.{second, filled, added-same}
 use Rattle.tree_sums.proofs.Ranges.{size-all, one_twice}
 use Rattle.tree_sums.proofs.Elements.{first-child, second-child}
 use Rattle.tree_sums.proofs.Bottom.{filled_bottom}
@@ -31,15 +31,6 @@ size-one = size-all 1 1
 
 size-two : size_of (all_children 1 2) ≡ 4
 size-two = size-all 1 2
-
--- ---- lengths
-
-module _ {X : Type 0} (w : ℕ) (xs : List X) where
-  pub both-front : length xs ≡ 8 * w → length (take (length xs / 2) xs) ≡ 4 * w
-  both-front e = front_length xs 8 4 w e refl
-
-  pub both-back : length xs ≡ 8 * w → (l : List X) → length l ≡ length xs → length (mid_of (length xs / 2) (length l - length xs / 2) l) ≡ 4 * w
-  both-back e = second-length xs 8 4 w e refl
 
 -- ---- words
 

@@ -3,13 +3,11 @@
 use mathlib.Core.Path.{◌≡◌, refl, ap, ap₂, sym, ◌∙◌}
 use mathlib.Core.Logic.{◌≢◌}
 use mathlib.Core.List.{List, [], ◌∷◌, ◌++◌, append-nil}
-use Prim.Native.Nat.{ℕ, zero, suc, ◌+◌, ◌-◌, ◌*◌, ◌/◌, ◌^◌, ◌<◌}
+use Prim.Native.Nat.{ℕ, zero, suc, ◌+◌, ◌-◌, ◌*◌, ◌/◌, ◌<◌}
 use native.Mathlib.Nat.{add-zero}
 use native.Mathlib.Omega.{arith}
 use lib.ListN.{length, take, drop, get_or, set, length-append, length-drop, drop_of_length-le}
 use lib.Bits.{bit_xor}
-use mir.Syntax.{w64}
-use mir.Val.{Fits}
 use lib.Seq.{take_at, drop_at, take_all, length-take-le}
 use borrow.Rule.Slice.PartMut.{mid_of, put_mid}
 use Rattle.algebra.specs.Field.{Field, FieldLaws, Value}
@@ -18,10 +16,10 @@ use Rattle.field.specs.declared.block.Block.{Block}
 use Rattle.prime.specs.declared.prime.Prime.{Prime}
 use Rattle.field.specs.Binary.{binary, block, block_add, block_leaf}
 use Rattle.prime.specs.Prime.{primes, prime, prime_reduce, prime_add}
-use Rattle.field.specs.Kind.{element_words, prime_leaf}
+use Rattle.field.specs.Kind.{prime_leaf}
 use Rattle.field.proofs.BinaryField.{binary_laws}
 use Rattle.prime.proofs.PrimeField.{prime_laws}
-use Rattle.field.proofs.KindOf.{kind_1, kind_2, words_1, words_2}
+use Rattle.field.proofs.KindOf.{kind_1, kind_2}
 use Rattle.tree.specs.Added.{added}
 use Rattle.tree.specs.Inner.Nodes.{node_of}
 use Rattle.tree_sums.specs.Inner.Ranges.{first_or_second, leaf_added, element_added, children_added}
@@ -58,10 +56,6 @@ middle length n h w e f = omega (arith, e ∙ ap (λ m. m * w) f)
 module _ {X : Type 0} (xs : List X) where
   pub front-count : length xs / 2 ≡ length (take (length xs / 2) xs)
   front-count = sym (length-take-le (length xs / 2) xs (omega arith))
-
-  -- the place of the second half in bytes
-  pub middle_fits : length xs * 8 < 2 ^ 63 → Fits w64 (length xs / 2 * 8)
-  middle_fits l = record { fits = omega arith }
 
   module _ (n h w : ℕ) (e : length xs ≡ n * w) (f : n ≡ h + h) where
     pub front_length : length (take (length xs / 2) xs) ≡ h * w
@@ -148,12 +142,6 @@ added-primes (x ∷ y ∷ z ∷ xs) a b e ex ey er et = absurd (omega arith)
 
 -- two leaves, in either field
 module _ (field : ℕ) (xs : List ℕ) where
-  pub widths_1 : length xs ≡ 2 * element_words field → field ≡ 1 → length xs ≡ 4
-  widths_1 l e = l ∙ ap (λ n. 2 * n) (words_1 field e)
-
-  pub widths_2 : length xs ≡ 2 * element_words field → field ≢ 1 → length xs ≡ 2
-  widths_2 l e = l ∙ ap (λ n. 2 * n) (words_2 field e)
-
   module _ (child : ℕ → List (List ℕ) → List (List ℕ)) (c : ℕ) (s : List (List ℕ)) {a b : Block} (ha : IsBlock a) (hb : IsBlock b)
       (ea : node_of a ≡ child c s) (eb : node_of b ≡ child (c + 1) s) where
     here : child c s ≡ child (c + 0) s
@@ -201,9 +189,3 @@ module _ (field : ℕ) (xs : List ℕ) where
     pub element_2 : {ys : List ℕ} → field ≢ 1 → ys ≡ added primes 1 (λ j. prime (get_or words 0 0)) xs → ys ≡ element_added field words xs
     unfolding element_added
     element_2 e ey = rw (kind_2 field e) ey
-
-  pub width_1 : length xs ≡ element_words field → field ≡ 1 → length xs ≡ 2
-  width_1 l e = l ∙ words_1 field e
-
-  pub width_2 : length xs ≡ element_words field → field ≢ 1 → length xs ≡ 1
-  width_2 l e = l ∙ words_2 field e

@@ -4,4 +4,3 @@ pub mod Halves
 pub mod Elements
 pub mod Bottom
 pub mod Couples
-mod Zeroes

@@ -1,6 +1,5 @@
 // Elements of leaves added into words, in either field: one element, those of the last level's children, and those below two nodes.
 ghost use Rattle.std.specs.Prelude.{◌≡◌, ◌+◌, ◌*◌, ◌^◌, ◌≤◌, length};
-ghost use Rattle.aes_sbox.specs.Inner.Tables.{RoundTables};
 ghost use Rattle.field.specs.Binary.{binary};
 ghost use Rattle.prime.specs.Prime.{primes, prime_reduce};
 ghost use Rattle.field.specs.Kind.{element_words};
@@ -9,7 +8,8 @@ ghost use Rattle.tree.specs.Inner.Nodes.{node_of};
 ghost use Rattle.tree.specs.Inner.Branches.{IsBranch};
 ghost use Rattle.tree_sums.specs.Inner.Ranges.{first_or_second, leaf_added, children_added, element_added, child_under, all_children, both_added};
 
-use aes_blocks::TwoBlocks;
+use aes_blocks::Two;
+use aes_sbox::Tables;
 use field::{BINARY, Block};
 use prime::Prime;
 use tree_walk::children;
@@ -62,13 +62,12 @@ pub fn add_words(field: usize, words: [u64; 2], acc: &mut [u64])
         };
         add_block(element, acc);
     } else {
-        let element = Prime { word: words[0] };
-        add_prime(element, acc);
+        add_prime(Prime { word: words[0] }, acc);
     }
 }
 
 // Adds two elements of field 1 to those that four words hold.
-fn add_blocks(both: TwoBlocks, acc: &mut [u64])
+fn add_blocks(both: Two<Block>, acc: &mut [u64])
     requires { length acc.old ≡ 4 }
     ensures { acc.new ≡ added binary 2 (first_or_second both.one both.other) acc.old }
 {
@@ -79,7 +78,7 @@ fn add_blocks(both: TwoBlocks, acc: &mut [u64])
 }
 
 // Adds the elements of field 2 of two leaves to those that two words hold.
-fn add_primes(both: TwoBlocks, acc: &mut [u64])
+fn add_primes(both: Two<Block>, acc: &mut [u64])
     requires { length acc.old ≡ 2 }
     ensures { acc.new ≡ added primes 2 (first_or_second (prime_reduce both.one.low) (prime_reduce both.other.low)) acc.old }
 {
@@ -93,21 +92,17 @@ fn add_primes(both: TwoBlocks, acc: &mut [u64])
 
 // Adds children c and c + 1 of s, which are leaves, to the elements of acc.
 fn add_pair(
-    tables: &[u64; 1536],
+    tables: Tables,
     keys: &[[u64; 40]; 8],
     field: usize,
     c: usize,
     s: Block,
     acc: &mut [u64],
 )
-    requires { RoundTables tables.now × (c + 2 ≤ 8) × (length acc.old ≡ 2 * element_words field) }
+    requires { (c + 2 ≤ 8) × (length acc.old ≡ 2 * element_words field) }
     ensures { acc.new ≡ children_added field (child_under keys.now) c 2 (node_of s) acc.old }
 {
-    let ciphers = aes_blocks::encrypt_two(tables, &keys[c], &keys[c + 1], s, s);
-    let both = TwoBlocks {
-        one: ciphers.one.add(s),
-        other: ciphers.other.add(s),
-    };
+    let both = children(tables, keys, c, s);
     if field == BINARY {
         add_blocks(both, acc);
     } else {
@@ -117,14 +112,14 @@ fn add_pair(
 
 // Adds four children of s from c on, which are leaves, to the elements of acc.
 fn add_four(
-    tables: &[u64; 1536],
+    tables: Tables,
     keys: &[[u64; 40]; 8],
     field: usize,
     c: usize,
     s: Block,
     acc: &mut [u64],
 )
-    requires { RoundTables tables.now × (c + 4 ≤ 8) × (length acc.old ≡ 4 * element_words field) }
+    requires { (c + 4 ≤ 8) × (length acc.old ≡ 4 * element_words field) }
     ensures { acc.new ≡ children_added field (child_under keys.now) c 4 (node_of s) acc.old }
 {
     let mid = acc.len() / 2;
@@ -134,7 +129,7 @@ fn add_four(
 
 // Adds all two, four or eight children of s, which are leaves, to the elements of acc.
 pub fn add_bottom(
-    tables: &[u64; 1536],
+    tables: Tables,
     keys: &[[u64; 40]; 8],
     field: usize,
     bits: usize,
@@ -142,7 +137,7 @@ pub fn add_bottom(
     s: Block,
     acc: &mut [u64],
 )
-    requires { RoundTables tables.now × IsBranch bits × (c + 2 ^ bits ≤ 8) × (length acc.old ≡ 2 ^ bits * element_words field) }
+    requires { IsBranch bits × (c + 2 ^ bits ≤ 8) × (length acc.old ≡ 2 ^ bits * element_words field) }
     ensures { acc.new ≡ children_added field (child_under keys.now) c (2 ^ bits) (node_of s) acc.old }
 {
     if bits == 1 {
@@ -156,15 +151,16 @@ pub fn add_bottom(
     }
 }
 
-// Adds the two children of each of two nodes, which are leaves, to the elements of acc.
+// Adds the two children of each of two nodes, which are leaves, to the elements of acc. Two nodes here, two pairs of one node's in
+// `add_four`: with both as parameters one function has more of them than lines.
 fn add_couple(
-    tables: &[u64; 1536],
+    tables: Tables,
     keys: &[[u64; 40]; 8],
     field: usize,
-    both: TwoBlocks,
+    both: Two<Block>,
     acc: &mut [u64],
 )
-    requires { RoundTables tables.now × (length acc.old ≡ 4 * element_words field) }
+    requires { length acc.old ≡ 4 * element_words field }
     ensures { acc.new
         ≡ both_added field (child_under keys.now) (all_children 1 1) (node_of both.one) (node_of both.other) acc.old }
 {
@@ -176,13 +172,13 @@ fn add_couple(
 // Adds the leaves two levels below each of two nodes with two children a node: the children of both nodes are made before any
 // leaf, so that no leaf waits for the cipher right before it.
 pub fn add_both(
-    tables: &[u64; 1536],
+    tables: Tables,
     keys: &[[u64; 40]; 8],
     field: usize,
-    both: TwoBlocks,
+    both: Two<Block>,
     acc: &mut [u64],
 )
-    requires { RoundTables tables.now × (length acc.old ≡ 8 * element_words field) }
+    requires { length acc.old ≡ 8 * element_words field }
     ensures { acc.new
         ≡ both_added field (child_under keys.now) (all_children 1 2) (node_of both.one) (node_of both.other) acc.old }
 {

@@ -2,10 +2,8 @@
 use mathlib.Core.Path.{◌≡◌, refl, ap, sym, ◌∙◌}
 use mathlib.Core.Bool.{Bool, true, false}
 use mathlib.Core.List.{List, []}
-use Prim.Native.Nat.{ℕ, ◌+◌, ◌*◌, ◌^◌, ◌≤◌, ◌<◌}
+use Prim.Native.Nat.{ℕ, ◌+◌, ◌^◌, ◌≤◌, ◌<◌}
 use native.Mathlib.Omega.{arith}
-use mir.Syntax.{w8, w64}
-use mir.Val.{Fits}
 use lib.Dec.{eqb}
 use lib.ListN.{length, set, length-set}
 use lib.Pow.{pow_mono}
@@ -22,22 +20,10 @@ module _ (g c : ℕ) {count : ℕ} (e : count ≡ 2 ^ g) (b : g ≤ 3) (l : c < 
   pub key_below : c < 8
   key_below = omega (arith, pow_mono {i = g} {j = 3} b)
 
-  pub key-byte : Fits w8 c
-  key-byte = record { fits = omega (arith, key_below) }
-
-  pub key-place : Fits w64 (c * 320)
-  key-place = record { fits = omega (arith, key_below) }
-
-  pub key-next : Fits w64 (c + 1)
-  key-next = record { fits = omega (arith, key_below) }
-
 -- those of child c stored at place c, after those before
 pub record Made (keys : List (List ℕ)) (c : ℕ) : Type 0 where
   pub own : OfChildKeys c (keys_for keys)
   pub size : length keys ≡ 8
-
-pub made_none : (keys : List (List ℕ)) → length keys ≡ 8 → Made keys 0
-made_none keys e = record { own = λ c h. absurd (omega arith); size = e }
 
 pub made-next : (keys : List (List ℕ)) (c : ℕ) (r : List ℕ) → Made keys c → c < 8 → round_keys r ≡ key_expansion (child_key c)
     → Made (set keys c r) (c + 1)
@@ -51,6 +37,3 @@ made-next keys c r m l e = record { own = λ b h. decide b h (eqb b c) refl; siz
         ∙ e
         ∙ ap (λ i. key_expansion (child_key i)) (sym same)
     decide b h false q = ap round_keys (get_or-set_other keys c b r [] (eqb-false b c q)) ∙ m.own b (omega (arith, eqb-false b c q))
-
-pub made_all : (g : ℕ) {count : ℕ} (keys : List (List ℕ)) (c : ℕ) → Made keys c → count ≤ c → count ≡ 2 ^ g → OfChildKeys (2 ^ g) (keys_for keys)
-made_all g keys c m l e b h = m.own b (omega arith)

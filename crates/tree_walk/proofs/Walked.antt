@@ -5,15 +5,13 @@ use mathlib.Core.List.{List, [], ◌∷◌, ◌++◌, append-nil, append_assoc}
 use Prim.Native.Nat.{ℕ, zero, suc, ◌+◌, ◌-◌, ◌*◌, ◌/◌, ◌%◌, ◌^◌, ◌≤◌, ◌<◌}
 use native.Mathlib.Nat.{mod-lt, add-zero, zero-add}
 use native.Mathlib.Omega.{arith}
-use mir.Syntax.{w64}
-use mir.Val.{Fits}
 use lib.ListN.{length, take, drop, length-append}
 use lib.Pow.{pow_pos}
 use lib.Seq.{sets, take_at, drop_at}
 use Rattle.tree.specs.Tree.{leaf_at, listed, others, siblings}
 use Rattle.tree.specs.Columns.{columns_bytes, blocks_bytes}
 use Rattle.tree.specs.Expanded.{Walk, walk, walked}
-use Rattle.tree.specs.Inner.Branches.{IsBranch, IsPunctured}
+use Rattle.tree.specs.Inner.Branches.{IsPunctured}
 use Rattle.tree_walk.specs.Inner.Levels.{IsLevel, children_from, children_put, twin, twin_put, before_put, level_passed}
 use Rattle.tree.specs.declared.punctured.Punctured.{Punctured}
 use Rattle.tree.proofs.Paths.{digit, digit-below}
@@ -232,17 +230,6 @@ module _ (child : ℕ → List (List ℕ) → List (List ℕ)) (s : List (List �
 pub other-room : (g digit at n m : ℕ) → IsLevel g digit at n → m ≡ n → at + 32 * (digit / 2) + 16 ≤ m
 other-room g digit at n m ok same = omega (arith, ok.named, ok.room, halved g ok.branch.two)
 
--- the pairs after that of the child named
-module _ (g digit : ℕ) {pairs : ℕ} (e : pairs ≡ 2 ^ (g - 1)) (ok : IsBranch g) (l : digit < 2 ^ g) where
-  pub pair_within : digit / 2 ≤ pairs
-  pair_within = omega (arith, halved g ok.two)
-
-  pub pair_one : 1 ≤ pairs - digit / 2
-  pair_one = omega (arith, halved g ok.two)
-
-  pub pairs_left : 2 ^ g ≡ 2 * (digit / 2) + (2 + 2 * (pairs - digit / 2 - 1))
-  pairs_left = omega (arith, halved g ok.two)
-
 -- ---- the walk by levels
 
 module _ (child : ℕ → List (List ℕ) → List (List ℕ)) (s : List (List ℕ)) (t : Punctured) (l : List ℕ) where
@@ -298,9 +285,6 @@ module _ (child : ℕ → List (List ℕ) → List (List ℕ)) (s : List (List �
 
 -- ---- the walk as a loop
 
-pub branch-few : (t : Punctured) (n : ℕ) → IsPunctured t n → t.branch_bits < 64
-branch-few t n ok = omega (arith, ok.branch.eight)
-
 module _ (child : ℕ → List (List ℕ) → List (List ℕ)) (root : List (List ℕ)) (g levels₀ position at₀ : ℕ) (l₀ : List ℕ) where
   -- the tree below a node with so many levels left
   abbrev rest_of : ℕ → ℕ → Punctured
@@ -312,9 +296,6 @@ module _ (child : ℕ → List (List ℕ) → List (List ℕ)) (root : List (Lis
     pub room : IsPunctured (rest_of levels at) (length l)
     pub left : walked (2 ^ g) child node (rest_of levels at) l ≡ walked (2 ^ g) child root (rest_of levels₀ at₀) l₀
     pub long : length l ≡ length l₀
-
-  pub going_start : {count : ℕ} → count ≡ 2 ^ g → IsPunctured (rest_of levels₀ at₀) (length l₀) → Going count root levels₀ at₀ l₀
-  going_start e ok = record { counted = e; room = ok; left = refl; long = refl }
 
   module _ {count : ℕ} {node : List (List ℕ)} {levels at : ℕ} {l : List ℕ} (G : Going count node levels at l) where
     pub going_done : levels ≤ 0 → walk node l ≡ walked (2 ^ g) child root (rest_of levels₀ at₀) l₀
@@ -330,12 +311,6 @@ module _ (child : ℕ → List (List ℕ) → List (List ℕ)) (root : List (Lis
       less-room : levels * (2 ^ g - 1) ≡ (levels - 1) * (2 ^ g - 1) + (2 ^ g - 1)
       less-room = level_less levels (2 ^ g - 1) some
 
-      pub going_few : (levels - 1) * g < 64
-      going_few = omega (arith, G.room.short, G.room.branch.two, less-levels)
-
-      pub going_shift : Fits w64 ((levels - 1) * g)
-      going_shift = record { fits = omega (arith, going_few) }
-
       pub going_level : (n : ℕ) → IsLevel g (n % count) at (length l)
       going_level n =
           record {
@@ -344,15 +319,6 @@ module _ (child : ℕ → List (List ℕ) → List (List ℕ)) (root : List (Lis
             named = omega (arith, G.counted, mod-lt n {m = count} (omega (arith, G.counted, pow_pos g)));
             room = omega (arith, G.room.room, less-room);
           }
-
-      pub going_others : Fits w64 (16 * (count - 1))
-      going_others = record { fits = omega (arith, G.counted, eight g G.room.branch) }
-
-      pub going_count : 1 ≤ count
-      going_count = omega (arith, G.counted, pow_pos g)
-
-      pub going_at : length l₀ * 1 < 2 ^ 63 → Fits w64 (at + 16 * (count - 1))
-      going_at f = record { fits = omega (arith, G.counted, G.room.room, less-room, G.long) }
 
       -- one level on, past the other children
       pub going_next : {x : List (List ℕ)} {l₁ : List ℕ}

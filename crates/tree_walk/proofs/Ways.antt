@@ -9,8 +9,6 @@ use native.Mathlib.Omega.{arith}
 use lib.Dec.{eqb}
 use lib.ListN.{get_or, drop}
 use lib.Pow.{pow_mono, pow_pos}
-use mir.Syntax.{w64}
-use mir.Val.{Fits}
 use borrow.Author.Tests.{eq-eqb, ne_eqb}
 use Rattle.algebra.specs.Choice.{choose}
 use Rattle.tree.specs.Child.{child, child_by}
@@ -32,9 +30,6 @@ pub way-less : {g left : ℕ} → IsWay g left → (levels : ℕ) → levels ≤
 way-less {g} w levels h =
     let m = mul-le-mul_right g h in
     record { branch = w.branch; short = omega (arith, w.short) }
-
-pub way-below : {g left levels : ℕ} → IsWay g left → levels ≤ left → IsWay g (levels - 1)
-way-below {levels = levels} w h = way-less w (levels - 1) (omega arith)
 
 module _ (g left j : ℕ) (w : IsWay g left) {count : ℕ} (e : count ≡ 2 ^ g) where
   few : 2 ^ g ≤ 8
@@ -84,9 +79,6 @@ apart_some g (suc n) position j h = omega arith
 pub is_beside : {g levels position j at : ℕ} → IsWay g levels → position % (2 ^ g) ^ levels ≢ j % (2 ^ g) ^ levels → at + 16 * (levels * (2 ^ g - 1)) < 2 ^ 64
     → IsBeside g levels position j at
 is_beside {g} {levels} {position} {j} way h fits = record { way = way; some = apart_some g levels position j h; apart = h; fits = fits }
-
-pub beside-way : (g levels position j at : ℕ) → IsBeside g levels position j at → IsWay g (levels - 1)
-beside-way g levels position j at b = way-less b.way (levels - 1) (omega arith)
 
 module _ (g levels position j at : ℕ) (b : IsBeside g levels position j at) where
   abbrev k : ℕ
@@ -153,16 +145,3 @@ module _ (g levels position j at : ℕ) (b : IsBeside g levels position j at) wh
             fewer = omega (arith, f'.fewer);
             room = omega (arith, f'.room, more);
           }
-
-  -- what the numbers need
-  pub low_fits : {own c : ℕ} → own < 2 ^ g → c < own → Fits w64 (at + 16 * c)
-  low_fits h l = record { fits = omega (arith, b.fits, more) }
-
-  pub high_fits : {c : ℕ} → c < 2 ^ g → Fits w64 (at + 16 * (c - 1))
-  high_fits h = record { fits = omega (arith, b.fits, more) }
-
-  pub others_fit : {count : ℕ} → count ≡ 2 ^ g → Fits w64 (16 * (count - 1))
-  others_fit e = record { fits = omega (arith, pow_mono {i = g} {j = 3} b.way.branch.eight) }
-
-  pub next_fits : {count : ℕ} → count ≡ 2 ^ g → Fits w64 (at + 16 * (count - 1))
-  next_fits e = record { fits = omega (arith, b.fits, more) }

@@ -4,17 +4,14 @@ ghost use Rattle.std.proofs.lemmas.List.Edits.{sets};
 ghost use Rattle.tree.specs.Columns.{columns_at, columns_bytes};
 ghost use Rattle.tree.specs.Inner.Nodes.{node_of};
 
-use field::{Block, put_word, word_at};
+use field::Block;
 
-// The node whose 16 bytes begin at a place.
+// The node whose 16 bytes begin at a place: a block, as the definitions of trees say it.
 pub fn node_at(bytes: &[u8], at: usize) -> Block
     requires { at + 16 ≤ length bytes.now }
     ensures { node_of result ≡ columns_at bytes.now at }
 {
-    Block {
-        low: word_at(bytes, at),
-        high: word_at(bytes, at + 8),
-    }
+    Block::read(bytes, at)
 }
 
 // The block whose 16 bytes begin at a place, in columns.
@@ -22,8 +19,7 @@ pub fn columns_at(bytes: &[u8], at: usize) -> [[u8; 4]; 4]
     requires { at + 16 ≤ length bytes.now }
     ensures { result ≡ columns_at bytes.now at }
 {
-    let node = node_at(bytes, at);
-    node.columns()
+    node_at(bytes, at).columns()
 }
 
 // Writes the 16 bytes of a node from a place on.
@@ -31,6 +27,5 @@ pub fn put_node(bytes: &mut [u8], at: usize, s: Block)
     requires { at + 16 ≤ length bytes.old }
     ensures { bytes.new ≡ sets bytes.old at (columns_bytes (node_of s)) }
 {
-    put_word(bytes, at, s.low);
-    put_word(bytes, at + 8, s.high);
+    s.write(bytes, at);
 }

@@ -1,7 +1,6 @@
 // The way down to a leaf: from a node, from two nodes under the same children in alternation, and from the sibling that the leaf of a
 // punctured tree follows from.
 ghost use Rattle.std.specs.Prelude.{◌≡◌, ◌/◌, ◌%◌, ◌^◌, ◌≤◌, ◌<◌};
-ghost use Rattle.aes_sbox.specs.Inner.Tables.{RoundTables};
 ghost use Rattle.tree.specs.Child.{child_by};
 ghost use Rattle.tree.specs.Inner.Keys.{keys_for};
 ghost use Rattle.tree.specs.Inner.Nodes.{node_of};
@@ -10,7 +9,8 @@ ghost use Rattle.tree_walk.specs.Inner.Ways.{IsWay, IsBeside, FromSibling};
 
 use crate::node::{child, child_of_both};
 use crate::powers::power;
-use aes_blocks::TwoBlocks;
+use aes_blocks::Two;
+use aes_sbox::Tables;
 use field::Block;
 
 // The place of a block's bytes, and how many levels are left below it.
@@ -31,7 +31,7 @@ fn digit(branch_bits: usize, left: usize, j: usize) -> usize
 
 // The node above leaf j with `stop` levels below it, from the one with `left` levels below it.
 pub fn walk_to(
-    tables: &[u64; 1536],
+    tables: Tables,
     keys: &[[u64; 40]; 8],
     branch_bits: usize,
     left: usize,
@@ -39,48 +39,37 @@ pub fn walk_to(
     s: Block,
     j: usize,
 ) -> Block
-    requires round_tables { RoundTables tables.now }
     requires way { IsWay branch_bits left × (stop ≤ left) }
     ensures { leaf_at (2 ^ branch_bits) (child_by (keys_for keys.now)) stop (node_of result) j
         ≡ leaf_at (2 ^ branch_bits) (child_by (keys_for keys.now)) left (node_of s) j }
 {
     let mut node = s;
-    let mut levels = left;
-    while stop < levels {
-        levels -= 1;
-        let c = digit(branch_bits, levels, j);
-        let next = child(tables, keys, c, node);
-        node = next;
+    for level in (stop..left).rev() {
+        node = child(tables, keys, digit(branch_bits, level, j), node);
     }
     node
 }
 
 // Leaf j below each of two nodes with `left` levels below them.
 pub fn walk_both(
-    tables: &[u64; 1536],
+    tables: Tables,
     keys: &[[u64; 40]; 8],
     branch_bits: usize,
     left: usize,
     a: Block,
     b: Block,
     j: usize,
-) -> TwoBlocks
-    requires round_tables { RoundTables tables.now }
+) -> Two<Block>
     requires way { IsWay branch_bits left }
     ensures { (node_of result.one ≡ leaf_at (2 ^ branch_bits) (child_by (keys_for keys.now)) left (node_of a) j)
         × (node_of result.other ≡ leaf_at (2 ^ branch_bits) (child_by (keys_for keys.now)) left (node_of b) j) }
 {
-    let mut x = a;
-    let mut y = b;
-    let mut levels = left;
-    while 0 < levels {
-        levels -= 1;
-        let c = digit(branch_bits, levels, j);
-        let next = child_of_both(tables, keys, c, x, y);
-        x = next.one;
-        y = next.other;
+    let mut nodes = Two { one: a, other: b };
+    for level in (0..left).rev() {
+        let c = digit(branch_bits, level, j);
+        nodes = child_of_both(tables, keys, c, nodes.one, nodes.other);
     }
-    TwoBlocks { one: x, other: y }
+    nodes
 }
 
 // The sibling that leaf j follows from, of a tree punctured elsewhere whose siblings begin at a place.

@@ -1,6 +1,5 @@
 // The walk from a root to a leaf.
 ghost use Rattle.std.specs.Prelude.{◌≡◌, ◌+◌, ◌*◌, ◌/◌, ◌^◌, ◌≤◌, ◌<◌, length};
-ghost use Rattle.aes_sbox.specs.Inner.Tables.{RoundTables};
 ghost use Rattle.tree.specs.Child.{child_by};
 ghost use Rattle.tree.specs.Inner.Keys.{keys_for};
 ghost use Rattle.tree.specs.Expanded.{walk, walked};
@@ -11,12 +10,13 @@ ghost use Rattle.tree.specs.Inner.Nodes.{node_of};
 use crate::columns::put_node;
 use crate::node::children;
 use crate::powers::power;
+use aes_sbox::Tables;
 use field::Block;
 use tree::Punctured;
 
 // Writes so many pairs of children of s, from child `from` on, from a place on.
 fn put_children(
-    tables: &[u64; 1536],
+    tables: Tables,
     keys: &[[u64; 40]; 8],
     s: Block,
     from: usize,
@@ -24,7 +24,7 @@ fn put_children(
     at: usize,
     out: &mut [u8],
 )
-    requires { RoundTables tables.now × (from + 2 * pairs ≤ 8) × (at + 32 * pairs ≤ length out.old) }
+    requires { (from + 2 * pairs ≤ 8) × (at + 32 * pairs ≤ length out.old) }
     ensures { out.new ≡ children_put (child_by (keys_for keys.now)) (node_of s) from (2 * pairs) at out.old }
 {
     if pairs == 0 {
@@ -38,14 +38,14 @@ fn put_children(
 
 // The child of s that a digit names; writes the other of its pair from a place on.
 fn put_twin(
-    tables: &[u64; 1536],
+    tables: Tables,
     keys: &[[u64; 40]; 8],
     s: Block,
     digit: usize,
     at: usize,
     out: &mut [u8],
 ) -> Block
-    requires { RoundTables tables.now × (digit < 8) × (at + 16 ≤ length out.old) }
+    requires { (digit < 8) × (at + 16 ≤ length out.old) }
     ensures { walk (node_of result) out.new ≡ twin_put (child_by (keys_for keys.now)) (node_of s) digit at out.old }
 {
     let both = children(tables, keys, 2 * (digit / 2), s);
@@ -60,14 +60,14 @@ fn put_twin(
 
 // The child of s that a digit names; writes the children before its pair and the other of its pair from a place on.
 fn put_before(
-    tables: &[u64; 1536],
+    tables: Tables,
     keys: &[[u64; 40]; 8],
     s: Block,
     digit: usize,
     at: usize,
     out: &mut [u8],
 ) -> Block
-    requires { RoundTables tables.now × (digit < 8) × (at + 32 * (digit / 2) + 16 ≤ length out.old) }
+    requires { (digit < 8) × (at + 32 * (digit / 2) + 16 ≤ length out.old) }
     ensures { walk (node_of result) out.new ≡ before_put (child_by (keys_for keys.now)) (node_of s) digit at out.old }
 {
     put_children(tables, keys, s, 0, digit / 2, at, out);
@@ -85,7 +85,7 @@ fn pairs_after(branch_bits: usize, digit: usize) -> usize
 
 // The child of s that a digit names; writes the others, in rising order, from a place on.
 fn pass_level(
-    tables: &[u64; 1536],
+    tables: Tables,
     keys: &[[u64; 40]; 8],
     branch_bits: usize,
     s: Block,
@@ -93,7 +93,7 @@ fn pass_level(
     at: usize,
     out: &mut [u8],
 ) -> Block
-    requires { RoundTables tables.now × IsLevel branch_bits digit at (length out.old) }
+    requires { IsLevel branch_bits digit at (length out.old) }
     ensures { walk (node_of result) out.new
         ≡ level_passed (2 ^ branch_bits) (child_by (keys_for keys.now)) (node_of s) digit at out.old }
 {
@@ -114,13 +114,13 @@ fn pass_level(
 
 // The leaf below a node at the position; writes the siblings beside the path to it, top first, from their place on.
 fn walk_from(
-    tables: &[u64; 1536],
+    tables: Tables,
     keys: &[[u64; 40]; 8],
     root: Block,
     tree: Punctured,
     out: &mut [u8],
 ) -> Block
-    requires { RoundTables tables.now × IsPunctured tree (length out.old) }
+    requires { IsPunctured tree (length out.old) }
     ensures { walk (node_of result) out.new
         ≡ walked (2 ^ tree.branch_bits) (child_by (keys_for keys.now)) (node_of root) tree out.old }
 {
@@ -128,13 +128,10 @@ fn walk_from(
     let position = tree.position;
     let count = power(branch_bits);
     let mut node = root;
-    let mut levels = tree.levels;
     let mut at = tree.at;
-    while levels > 0 {
-        levels -= 1;
-        let digit = (position >> (levels * branch_bits)) % count;
-        let next = pass_level(tables, keys, branch_bits, node, digit, at, out);
-        node = next;
+    for level in (0..tree.levels).rev() {
+        let digit = (position >> (level * branch_bits)) % count;
+        node = pass_level(tables, keys, branch_bits, node, digit, at, out);
         at += 16 * (count - 1);
     }
     node
@@ -142,13 +139,13 @@ fn walk_from(
 
 // The leaf at the position; writes the siblings beside the path to it, top first, from their place on.
 pub fn walk(
-    tables: &[u64; 1536],
+    tables: Tables,
     keys: &[[u64; 40]; 8],
     root: [[u8; 4]; 4],
     tree: Punctured,
     out: &mut [u8],
 ) -> [[u8; 4]; 4]
-    requires { RoundTables tables.now × IsPunctured tree (length out.old) }
+    requires { IsPunctured tree (length out.old) }
     ensures { walk result out.new ≡ walked (2 ^ tree.branch_bits) (child_by (keys_for keys.now)) root tree out.old }
 {
     let leaf = walk_from(tables, keys, Block::of_columns(root), tree, out);

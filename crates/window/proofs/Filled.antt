@@ -1,16 +1,14 @@
--- A window filled one row a turn: what a row's sums write and tell, end by end and field by field, and the loop's start, turn and end.
+-- A window filled one row a turn: what a row's sums write and tell, end by end and field by field, and the loop's start and turn.
 use mathlib.Core.Bool.{Bool, true, false, ◌&&◌, and-true}
 use mathlib.Core.List.{List}
-use mathlib.Core.Path.{◌≡◌, refl, sym, ap, ap₂, subst, ◌∙◌}
-use Prim.Native.Nat.{ℕ, suc, ◌+◌, ◌*◌, ◌≤◌, ◌<◌}
-use native.Mathlib.Nat.{mul-one, le_antisymm}
+use mathlib.Core.Path.{◌≡◌, refl, sym, ap, ap₂, ◌∙◌}
+use Prim.Native.Nat.{ℕ, suc, ◌+◌, ◌<◌}
+use native.Mathlib.Nat.{mul-one}
 use native.Mathlib.Numerals.{add-one}
 use native.Mathlib.Omega.{arith}
 use lib.Dec.{eqb}
 use lib.ListN.{length, set}
-use borrow.Author.Tests.{eqb-true, eqb-false, ne_eqb}
-use mir.Syntax.{w64}
-use mir.Val.{Fits}
+use borrow.Author.Tests.{ne_eqb}
 use Rattle.algebra.specs.Choice.{choose}
 use Rattle.algebra.specs.Coding.{Coding, CodingLaws, at, over}
 use Rattle.algebra.specs.Every.{every}
@@ -25,44 +23,25 @@ use Rattle.code.specs.Inner.Used.{row_below}
 use Rattle.field.specs.declared.block.Block.{Block}
 use Rattle.prime.specs.declared.prime.Prime.{Prime}
 use Rattle.field.specs.Binary.{binary, bit_ring, blocks}
-use Rattle.field.specs.Kind.{kind_of, binary_kind, prime_kind, element_words}
+use Rattle.field.specs.Kind.{kind_of, binary_kind, prime_kind}
 use Rattle.prime.specs.Prime.{primes, prime_ring, prime, modulus}
 use Rattle.field.proofs.BothKinds.{kind_laws}
-use Rattle.field.proofs.KindOf.{kind_1, kind_2, words_1, words_2}
+use Rattle.field.proofs.KindOf.{kind_1, kind_2}
 use Rattle.algebra.proofs.Words.{put_one}
 use Rattle.window.specs.declared.WindowRows.{WindowRows}
 use Rattle.window.specs.Head.{of_noise}
-use Rattle.window.specs.Inner.Testing.{Fitting, NoiseTesting, NoiseFitting, row_used, elements_used}
+use Rattle.window.specs.Inner.Testing.{Fitting, NoiseFitting, row_used, elements_used}
 use Rattle.window.specs.Inner.Written.{RowWritten, Filled}
 
 -- ---- lengths: row k has its place in the buffers
 
-module _ {r : WindowRows} {vector room : ℕ} (fits : Fitting (element_words r.field) r vector room) where
-  pub fits_now : {b : ℕ} → b ≡ room → Fitting (element_words r.field) r vector b
-  fits_now e = rw e fits
-
-  pub fits-binary : r.field ≡ 1 → Fitting 2 r vector room
-  fits-binary f = rw (words_1 r.field f) at fits
-
-  pub fits-prime : (r.field ≡ 1 → ⊥) → Fitting 1 r vector room
-  fits-prime f = rw (words_2 r.field f) at fits
-
 module _ {r : WindowRows} {noise room : ℕ} (fits : NoiseFitting r noise room) where
-  pub noise_now : {b : ℕ} → b ≡ room → NoiseFitting r noise b
-  noise_now e = rw e fits
-
   module _ (some : r.u_words ≡ 0 → ⊥) where
-    pub whole-noise : noise ≡ r.shape.places
-    whole-noise = (fits.testing.all some).1.whole ∙ mul-one r.shape.places
-
     pub room-noise : (k : ℕ) → k < r.window.count → k < room
     room-noise k h = let a = fits.testing.all some in omega (arith, a.0, fits.enough)
 
 pub room-one : {r : WindowRows} {vector room : ℕ} → Fitting 1 r vector room → (k : ℕ) → k < r.window.count → k < room
 room-one fits k h = omega (arith, fits.enough)
-
-pub turn_fits : {width : ℕ} {r : WindowRows} {vector room : ℕ} → Fitting width r vector room → (k : ℕ) → k < r.window.count → Fits w64 (k * 8)
-turn_fits fits k h = record { fits = omega (arith, fits.testing.within) }
 
 -- ---- the test of the words that a row uses
 
@@ -171,15 +150,3 @@ module _ (keys : List (List (List ℕ))) (r : WindowRows) (noise v u_out v_out :
           u_is = turn_put _ L.noise_values _ u_out k (eqb r.u_words 0) f.u_is w.u_is;
           v_is = value-put _ L.elements _ v_out k f.v_is w.v_is refl;
         }
-
-    pub filled-all : {n : ℕ} → NoiseTesting r n → k ≤ r.window.count → r.window.count ≤ k → Filled keys r noise v u_out v_out t a b
-    filled-all fits h g = subst (λ (s : WindowRows). Filled keys s noise v u_out v_out t a b) same f
-      where
-        words : (alone : Bool) → eqb r.u_words 0 ≡ alone → choose alone 0 r.window.count ≡ r.u_words
-        words true e = sym (eqb-true r.u_words 0 e)
-        words false e = sym (fits.all (eqb-false r.u_words 0 e)).0
-
-        same : rows_to r k ≡ r
-        same =
-            ap (rows_to r) (le_antisymm {n = k} {m = r.window.count} h g)
-            ∙ ap (λ (p : ℕ). record { field = r.field; shape = r.shape; window = r.window; u_words = p }) (words (eqb r.u_words 0) refl)

@@ -3,8 +3,6 @@ pub mod Rows
 pub mod Sizes
 pub mod Blocks
 pub mod Numbers
-pub mod Windows
-pub mod Fronts
 pub mod Passed
 pub mod Filled
 pub mod Tested

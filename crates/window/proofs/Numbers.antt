@@ -1,11 +1,9 @@
 -- Numbers of words that fit a word, and what the tests 3, 7 and 13 of an online call say of a vector, a window and a buffer.
-use mathlib.Core.Path.{◌≡◌, refl, ◌∙◌}
-use mathlib.Core.Bool.{Bool}
+use mathlib.Core.Path.{◌≡◌, refl}
 use mathlib.Core.List.{List}
 use Prim.Native.Nat.{ℕ, ◌+◌, ◌*◌, ◌^◌, ◌≤◌}
-use native.Mathlib.Nat.{mul_comm, mul-le-mul}
+use native.Mathlib.Nat.{mul-le-mul}
 use native.Mathlib.Omega.{arith}
-use lib.Dec.{ltb}
 use lib.Pow.{pow_mono}
 use mir.Syntax.{w64}
 use mir.Val.{Fits}
@@ -27,18 +25,6 @@ count_fits field {width} we first count within =
     let c : count ≤ 32768 = omega arith in
     let m : count * width ≤ 32768 * 2 = rw we (mul-le-mul c (width-most field)) in
     record { fits = omega arith }
-
--- so do N elements
-pub vector_fits : (f : Layout) {width : ℕ} → width ≡ element_words f.field → f.depth ≤ 16 → {size : ℕ} → size ≡ 2 ^ f.depth → Fits w64 (size * width)
-vector_fits f {width} we depth {size} se =
-    let z : 2 ^ f.depth ≤ 65536 = pow_mono depth in
-    let m : size * width ≤ 65536 * 2 = rw (se, we) (mul-le-mul z (width-most f.field)) in
-    record { fits = omega arith }
-
--- room for elements, by how many words an element takes
-pub room_lacks : (field count room : ℕ) {width : ℕ} → width ≡ element_words field → {t : Bool} → t ≡ ltb room (width * count)
-    → t ≡ ltb room (count * element_words field)
-room_lacks field count room {width} we q = q ∙ rw (mul_comm width count, we)
 
 -- a vector, a window and a buffer that pass all three tests fit each other
 pub passed_fits : (width : ℕ) (s : List ℕ) (f : Layout) (vector : ℕ) (w : Window) (room words : ℕ) → Sizes s (head_of s f) f.body

@@ -9,13 +9,13 @@ use Rattle.algebra.specs.Field.{Field}
 use Rattle.algebra.proofs.Every.{every-all, passed_none}
 use Rattle.code.specs.Inner.Used.{row_below, used_below}
 use Rattle.field.specs.Binary.{binary}
-use Rattle.field.specs.Kind.{kind_of, element_words}
+use Rattle.field.specs.Kind.{kind_of}
 use Rattle.prime.specs.Prime.{primes, modulus}
-use Rattle.field.proofs.KindOf.{kind_2, words_2}
+use Rattle.field.proofs.KindOf.{kind_2}
 use Rattle.window.specs.declared.WindowRows.{WindowRows}
 use Rattle.window.specs.Head.{of_noise}
 use Rattle.window.specs.Inner.Outputs.{u_rows}
-use Rattle.window.specs.Inner.Testing.{Testing, NoiseTesting, elements_used}
+use Rattle.window.specs.Inner.Testing.{elements_used}
 
 module _ (keys : List (List (List ℕ))) (r : WindowRows) (words : List ℕ) where
   -- the words that row k of the window uses are below a bound
@@ -57,14 +57,3 @@ module _ (keys : List (List (List ℕ))) (r : WindowRows) (words : List ℕ) whe
   pub noise-none : (F : Field) → r.u_words ≡ 0 → true ≡ elements_used F keys (u_rows r) words
   unfolding elements_used
   noise-none F e = rw e (passed_none _)
-
-  pub noise-all : (F : Field) {n : ℕ} → NoiseTesting r n → (r.u_words ≡ 0 → ⊥) → {t : Bool} → t ≡ elements_used F keys r words
-      → t ≡ elements_used F keys (u_rows r) words
-  unfolding elements_used
-  noise-all F fits some q = rw (fits.all some).0 q
-
-pub testing-prime : (field : ℕ) (r : WindowRows) (n : ℕ) → (field ≡ 1 → ⊥) → Testing 1 r n → Testing (element_words field) r n
-testing-prime field r n h fits = rw (words_2 field h) fits
-
-pub u_testing : (r : WindowRows) (n : ℕ) → NoiseTesting r n → (r.u_words ≡ 0 → ⊥) → Testing 1 r n
-u_testing r n fits some = (fits.all some).1

@@ -1,47 +1,24 @@
--- A window under round keys, written if the words that its rows use pass their test, which comes before the rows are walked to
--- write it, or with it, in memory of its own.
+-- A window under round keys, tested as its rows are summed in memory of its own, and written if the words that they use pass.
 use mathlib.Core.Bool.{Bool, true, false, not}
 use mathlib.Core.List.{List, ◌++◌}
-use mathlib.Core.Path.{◌≡◌, refl, sym, ap, ◌∙◌}
+use mathlib.Core.Path.{◌≡◌, sym, ap, ◌∙◌}
 use Prim.Native.Nat.{ℕ, ◌*◌}
 use native.Mathlib.Nat.{mul-one}
 use lib.ListN.{take, drop}
-use borrow.Author.Tests.{not-true, not-false}
+use borrow.Author.Tests.{not-false}
 use Rattle.algebra.proofs.Flats.{front-over}
 use Rattle.field.specs.Kind.{kind_of, element_words}
 use Rattle.field.proofs.BothKinds.{kind_laws}
 use Rattle.window.specs.declared.WindowRows.{WindowRows}
-use Rattle.window.specs.Head.{of_noise}
-use Rattle.window.specs.Inner.Outputs.{u_rows}
-use Rattle.window.specs.Inner.Testing.{elements_used}
 use Rattle.window.specs.Inner.Written.{both_used, u_over, v_over, Filled, WindowWritten}
 
 module _ (keys : List (List (List ℕ))) (r : WindowRows) (noise v u_out v_out : List ℕ) where
-  none_written : both_used keys r noise v ≡ false → WindowWritten keys r noise v u_out v_out false u_out v_out
-  none_written e = record { told = sym e; u_is = refl; v_is = refl }
-
   all-written : both_used keys r noise v ≡ true → {a b : List ℕ} → a ≡ u_over keys r noise u_out → b ≡ v_over keys r v v_out
       → WindowWritten keys r noise v u_out v_out true a b
   all-written e p q = record { told = sym e; u_is = p; v_is = q }
 
-  -- tested before they are written, the noise and then v
-  module _ {x : Bool} (xe : x ≡ elements_used (of_noise (kind_of r.field).field) keys (u_rows r) noise) where
-    pub noise-not-usable : not x ≡ true → WindowWritten keys r noise v u_out v_out false u_out v_out
-    noise-not-usable e = none_written (rw (← xe, not-true x e))
-
-    module _ (right : not x ≡ false) {y : Bool} (ye : y ≡ elements_used (kind_of r.field).field keys r v) where
-      pub not-usable : not y ≡ true → WindowWritten keys r noise v u_out v_out false u_out v_out
-      not-usable e = none_written (rw (← xe, ← ye, not-false x right, not-true y e))
-
-      pub large_written : not y ≡ false → {t : Bool} {a b : List ℕ} → Filled keys r noise v u_out v_out t a b
-          → WindowWritten keys r noise v u_out v_out true a b
-      large_written e f = all-written (rw (← xe, ← ye, not-false x right, not-false y e)) f.u_is f.v_is
-
   -- tested as they are summed, in memory of its own
   module _ {t : Bool} {u_own v_own x y : List ℕ} (f : Filled keys r noise v u_own v_own t x y) where
-    pub small-refused : not t ≡ true → WindowWritten keys r noise v u_out v_out false u_out v_out
-    small-refused e = none_written (sym f.told ∙ not-true t e)
-
     pub small-written : not t ≡ false → {width : ℕ} → width ≡ element_words r.field
         → {a : List ℕ} → a ≡ take r.u_words x ++ drop r.u_words u_out
         → {b : List ℕ} → b ≡ take (r.window.count * width) y ++ drop (r.window.count * width) v_out

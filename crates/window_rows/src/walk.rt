@@ -1,20 +1,20 @@
 // A window's outputs written and its words tested in one walk of its rows.
 ghost use Rattle.std.specs.Prelude.{◌<◌, eqb, length};
-ghost use Rattle.aes_sbox.specs.Inner.Tables.{RoundTables};
 ghost use Rattle.aes128.specs.Inner.Words.{round_keys};
 ghost use Rattle.field.specs.Kind.{kind_of, binary_kind, prime_kind, element_words};
 ghost use Rattle.window.specs.Inner.Testing.{Fitting, NoiseFitting};
 ghost use Rattle.window.specs.Inner.Written.{RowWritten, Filled};
 
-use field::{BINARY, put_block};
+use aes_sbox::Tables;
+use field::{BINARY, FieldElement};
 use rows_noise::{noise_row_binary, noise_row_prime};
 use rows_scalar::{scalar_row_binary, scalar_row_prime};
 use window::WindowRows;
 
 // Writes output k of the window in field 1, with its word of u if rows give one; whether every word of the noise that the row uses
-// is a bit.
+// is a bit. Field 2 has its own below: a trait over both fields' rows would be longer than the two.
 fn write_binary(
-    tables: &[u64; 1536],
+    tables: Tables,
     keys: &[u64; 40],
     rows: WindowRows,
     k: usize,
@@ -23,7 +23,7 @@ fn write_binary(
     u_out: &mut [u64],
     v_out: &mut [u64],
 ) -> bool
-    requires round_tables { RoundTables tables.now × (k < rows.window.count) }
+    requires row { k < rows.window.count }
     requires noise_fitting { NoiseFitting rows (length noise.now) (length u_out.old) × Fitting 2 rows (length v.now) (length v_out.old) }
     ensures { RowWritten binary_kind (eqb rows.u_words 0) (round_keys keys.now) rows k noise.now v.now
         u_out.old v_out.old result u_out.new v_out.new }
@@ -31,18 +31,18 @@ fn write_binary(
     let x = rows.window.first + k;
     if rows.u_words == 0 {
         let element = scalar_row_binary(tables, keys, rows.shape, x, v);
-        put_block(v_out, k, element);
+        element.put(v_out, k);
         return true;
     }
     let pair = noise_row_binary(tables, keys, rows.shape, x, noise, v);
     u_out[k] = pair.u;
-    put_block(v_out, k, pair.v);
+    pair.v.put(v_out, k);
     pair.admitted
 }
 
 // Writes row k of a window in field 2, and says whether every word that the row uses is an element.
 fn write_prime(
-    tables: &[u64; 1536],
+    tables: Tables,
     keys: &[u64; 40],
     rows: WindowRows,
     k: usize,
@@ -51,7 +51,7 @@ fn write_prime(
     u_out: &mut [u64],
     v_out: &mut [u64],
 ) -> bool
-    requires round_tables { RoundTables tables.now × (k < rows.window.count) }
+    requires row { k < rows.window.count }
     requires noise_fitting { NoiseFitting rows (length noise.now) (length u_out.old) × Fitting 1 rows (length v.now) (length v_out.old) }
     ensures { RowWritten prime_kind (eqb rows.u_words 0) (round_keys keys.now) rows k noise.now v.now
         u_out.old v_out.old result u_out.new v_out.new }
@@ -70,7 +70,7 @@ fn write_prime(
 
 // Writes row k of a window in the field of the rows, and says whether every word that the row uses is admitted.
 fn write_row(
-    tables: &[u64; 1536],
+    tables: Tables,
     keys: &[u64; 40],
     rows: WindowRows,
     k: usize,
@@ -79,7 +79,7 @@ fn write_row(
     u_out: &mut [u64],
     v_out: &mut [u64],
 ) -> bool
-    requires round_tables { RoundTables tables.now × (k < rows.window.count) }
+    requires row { k < rows.window.count }
     requires noise_fitting { NoiseFitting rows (length noise.now) (length u_out.old)
         × Fitting (element_words rows.field) rows (length v.now) (length v_out.old) }
     ensures { RowWritten (kind_of rows.field) (eqb rows.u_words 0) (round_keys keys.now) rows k noise.now v.now
@@ -94,7 +94,7 @@ fn write_row(
 // Writes the window's words of u, if any are asked for, and its elements; whether every word that its rows use is a noise value or
 // an element.
 pub fn walk_rows(
-    tables: &[u64; 1536],
+    tables: Tables,
     keys: &[u64; 40],
     rows: WindowRows,
     noise: &[u64],
@@ -102,18 +102,15 @@ pub fn walk_rows(
     u_out: &mut [u64],
     v_out: &mut [u64],
 ) -> bool
-    requires round_tables { RoundTables tables.now }
     requires noise_fitting { NoiseFitting rows (length noise.now) (length u_out.old)
         × Fitting (element_words rows.field) rows (length v.now) (length v_out.old) }
     ensures { Filled (round_keys keys.now) rows noise.now v.now
         u_out.old v_out.old result u_out.new v_out.new }
 {
     let mut passed = true;
-    let mut k: usize = 0;
-    while k < rows.window.count {
+    for k in 0..rows.window.count {
         let admitted = write_row(tables, keys, rows, k, noise, v, u_out, v_out);
         passed = passed & admitted;
-        k += 1;
     }
     passed
 }

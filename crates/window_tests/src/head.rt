@@ -1,6 +1,5 @@
 // What a record's head gives its windows: the code's shape, the words of a vector, and the code key.
 ghost use Rattle.std.specs.Prelude.{◌≡◌, ◌-◌, ◌*◌, ◌^◌, ◌≤◌, length};
-ghost use Rattle.aes_sbox.specs.Table.{SBoxTable};
 ghost use Rattle.aes128.specs.Inner.Words.{round_keys};
 ghost use Rattle.field.specs.Kind.{element_words};
 ghost use Rattle.record.specs.Answer.{head_of};
@@ -42,9 +41,9 @@ pub fn code_key_at(layout: Layout) -> usize
 }
 
 // The round keys of the code key.
-pub fn code_keys(sbox: &[u8; 256], source: &[u8], layout: Layout) -> [u64; 40]
-    requires { SBoxTable sbox.now × (32 ≤ layout.body) × (layout.body ≤ length source.now) }
+pub fn code_keys(source: &[u8], layout: Layout) -> [u64; 40]
+    requires { (32 ≤ layout.body) × (layout.body ≤ length source.now) }
     ensures { round_keys result ≡ code_keys (head_of source.now layout) }
 {
-    schedule(sbox, columns_at(source, code_key_at(layout)))
+    schedule(columns_at(source, code_key_at(layout)))
 }

@@ -1,11 +1,12 @@
 // The tests of a window by lengths alone: 3, 7 and 13.
 ghost use Rattle.std.specs.Prelude.{◌≡◌, ◌*◌, ◌≤◌, ltb};
 ghost use Rattle.field.specs.Kind.{element_words};
+ghost use Rattle.answer.specs.Refused.{fault};
 ghost use Rattle.answer.specs.Tests.{first_fault};
 ghost use Rattle.window.specs.Inner.Numbers.{length_tests};
 
 use crate::head::vector_words;
-use answer::{ACCEPTED, BAD_LENGTH, BUFFER_SHORT, WINDOW_PAST_END, is_past, is_short};
+use answer::{Refusal, is_past, is_short};
 use code::Window;
 use field::element_width;
 use record::{Layout, leaves};
@@ -17,33 +18,33 @@ fn lacks_room(field: usize, count: usize, room: usize) -> bool
     is_short(room, element_width(field), count)
 }
 
-// The number of the tests 3, 7 and 13, from the lengths of the noise and of a vector of elements, and of the buffers for a window
-// of them. The scalar end, which has no noise, gives N for its length and the window's count for the room of u.
-pub fn window_number(
+// The tests 3, 7 and 13, from the lengths of the noise and of a vector of elements, and of the buffers for a window of them. The
+// scalar end, which has no noise, gives N for its length and the window's count for the room of u.
+pub fn check_window(
     layout: Layout,
     noise: usize,
     vector: usize,
     window: Window,
     u_room: usize,
     room: usize,
-) -> u32
+) -> Result<(), Refusal>
     requires { layout.depth ≤ 16 }
-    ensures { result ≡ first_fault (length_tests layout noise vector window u_room room) }
+    ensures { fault result ≡ first_fault (length_tests layout noise vector window u_room room) }
 {
     if noise != leaves(layout.depth) {
-        return BAD_LENGTH;
+        return Err(Refusal::BadLength);
     }
     if vector != vector_words(layout) {
-        return BAD_LENGTH;
+        return Err(Refusal::BadLength);
     }
     if is_past(window.first, window.count, layout.outputs) {
-        return WINDOW_PAST_END;
+        return Err(Refusal::WindowPastEnd);
     }
     if u_room < window.count {
-        return BUFFER_SHORT;
+        return Err(Refusal::BufferShort);
     }
     if lacks_room(layout.field, window.count, room) {
-        return BUFFER_SHORT;
+        return Err(Refusal::BufferShort);
     }
-    ACCEPTED
+    Ok(())
 }

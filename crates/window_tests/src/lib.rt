@@ -5,4 +5,4 @@ mod head;
 mod lengths;
 
 pub use head::{code_key_at, code_keys, shape_of, vector_words};
-pub use lengths::window_number;
+pub use lengths::check_window;

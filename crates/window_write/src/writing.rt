@@ -1,6 +1,5 @@
 // A window written if its words pass their test, else nothing: a small one from memory of its own, a larger one after its test.
 ghost use Rattle.std.specs.Prelude.{◌++◌, ◌≡◌, ◌≤◌, length, take, drop};
-ghost use Rattle.aes_sbox.specs.Inner.Tables.{RoundTables};
 ghost use Rattle.aes128.specs.Inner.Words.{round_keys};
 ghost use Rattle.field.specs.Kind.{element_words};
 ghost use Rattle.record.specs.Answer.{head_of};
@@ -10,6 +9,7 @@ ghost use Rattle.window.specs.Inner.Testing.{Fitting, NoiseFitting};
 ghost use Rattle.window.specs.Inner.Written.{WindowWritten};
 
 use crate::used::{elements_used, noise_used};
+use aes_sbox::Tables;
 use code::Window;
 use field::element_width;
 use record::Layout;
@@ -17,22 +17,10 @@ use window::WindowRows;
 use window_rows::walk_rows;
 use window_tests::{code_keys, shape_of};
 
-// Copies the first `count` words to the front of others.
-fn copy_front(words: &[u64], count: usize, out: &mut [u64])
-    requires { (count ≤ length words.now) × (count ≤ length out.old) }
-    ensures { out.new ≡ take count words.now ++ drop count out.old }
-{
-    let mut i: usize = 0;
-    while i < count {
-        out[i] = words[i];
-        i += 1;
-    }
-}
-
 // Writes a window of at most 32 outputs, if the words that its rows use are noise values and elements, and says whether they
 // are: one walk of the rows tests and sums them in memory of its own, from where the window is copied.
 fn write_small(
-    tables: &[u64; 1536],
+    tables: Tables,
     keys: &[u64; 40],
     rows: WindowRows,
     noise: &[u64],
@@ -40,7 +28,7 @@ fn write_small(
     u_out: &mut [u64],
     v_out: &mut [u64],
 ) -> bool
-    requires round_tables { RoundTables tables.now × (rows.window.count ≤ 32) }
+    requires small { rows.window.count ≤ 32 }
     requires noise_fitting { NoiseFitting rows (length noise.now) (length u_out.old)
         × Fitting (element_words rows.field) rows (length v.now) (length v_out.old) }
     ensures { WindowWritten (round_keys keys.now) rows noise.now v.now
@@ -51,15 +39,16 @@ fn write_small(
     if !walk_rows(tables, keys, rows, noise, v, &mut u_own, &mut v_own) {
         return false;
     }
-    copy_front(&u_own, rows.u_words, u_out);
-    copy_front(&v_own, rows.window.count * element_width(rows.field), v_out);
+    let v_words = rows.window.count * element_width(rows.field);
+    u_out[..rows.u_words].copy_from_slice(&u_own[..rows.u_words]);
+    v_out[..v_words].copy_from_slice(&v_own[..v_words]);
     true
 }
 
 // Writes any window, if the words that its rows use are noise values and elements, and says whether they are: one of more than 32
 // outputs is tested before its rows are walked to write it.
 fn write_tested(
-    tables: &[u64; 1536],
+    tables: Tables,
     keys: &[u64; 40],
     rows: WindowRows,
     noise: &[u64],
@@ -67,7 +56,6 @@ fn write_tested(
     u_out: &mut [u64],
     v_out: &mut [u64],
 ) -> bool
-    requires round_tables { RoundTables tables.now }
     requires noise_fitting { NoiseFitting rows (length noise.now) (length u_out.old)
         × Fitting (element_words rows.field) rows (length v.now) (length v_out.old) }
     ensures { WindowWritten (round_keys keys.now) rows noise.now v.now
@@ -103,15 +91,14 @@ pub fn write_rows(
     ensures { WindowWritten (code_keys (head_of source.now layout)) (rows_of layout window u_words) noise.now v.now
         u_out.old v_out.old result u_out.new v_out.new }
 {
-    let sb = aes_sbox::table();
-    let mut tables = [0u64; 1536];
-    aes_sbox::fill_tables(&mut tables);
-    let keys = code_keys(&sb, source, layout);
+    let mut words = [0u64; 1536];
+    let tables = Tables::fill(&mut words);
+    let keys = code_keys(source, layout);
     let rows = WindowRows {
         field: layout.field,
         shape: shape_of(layout),
         window,
         u_words,
     };
-    write_tested(&tables, &keys, rows, noise, v, u_out, v_out)
+    write_tested(tables, &keys, rows, noise, v, u_out, v_out)
 }

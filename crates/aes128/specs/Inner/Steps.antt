@@ -1,14 +1,8 @@
 -- Inner: no promise cites this file. What the inner functions compute.
-use Rattle.std.specs.Prelude.{◌≡◌, List, [], ◌∷◌, ℕ, ◌+◌, ◌%◌, ◌<◌, get_or}
+use Rattle.std.specs.Prelude.{List, [], ◌∷◌, ℕ, ◌+◌, ◌%◌}
 use Rattle.aes_sbox.specs.Byte.{s_box}
-use Rattle.aes_sbox.specs.Inner.Tables.{RoundTables}
 use Rattle.aes128.specs.State.{column, byte_at, xor_word}
 use Rattle.aes128.specs.Cipher.{sub_bytes, shift_rows, mix_columns, add_round_key, rot_word, sub_word}
-
--- w is the entry for the byte x of the table that begins at a place of t
-pub record IsEntry (t : List ℕ) (at x w : ℕ) : Type 0 where
-  pub byte : x < 256
-  pub word : w ≡ get_or t (at + x) 0
 
 -- column c of a state after SubBytes and ShiftRows
 abbrev pub sub_shifted : List (List ℕ) → ℕ → List ℕ
@@ -19,10 +13,9 @@ sub_shifted s c =
     ∷ s_box (byte_at s 3 ((c + 3) % 4))
     ∷ []
 
--- r is the state s after a round with all four steps, under the round key k; the rule of the tables t goes with it to the next round
-pub record Rounded (t : List ℕ) (s k r : List (List ℕ)) : Type 0 where
-  pub tables : RoundTables t
-  pub state : r ≡ add_round_key (mix_columns (shift_rows (sub_bytes s))) k
+-- the state s after a round with all four steps, under the round key k
+abbrev pub full_round : List (List ℕ) → List (List ℕ) → List (List ℕ)
+full_round s k = add_round_key (mix_columns (shift_rows (sub_bytes s))) k
 
 -- the round key after k, whose round constant has the first byte x
 unfoldable pub next_key : ℕ → List (List ℕ) → List (List ℕ)

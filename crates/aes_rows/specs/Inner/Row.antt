@@ -1,11 +1,11 @@
 -- Inner: no promise cites this file. What the blocks of x and i have in common in the first two rounds, for one x and every i
 -- below 256: after the first AddRoundKey they differ in row 0 of column 2 alone, so after round 1 in column 2 alone, whose rows
 -- go to one output column of round 2 each.
-use Rattle.std.specs.Prelude.{◌≡◌, List, [], ◌∷◌, ℕ, ◌+◌, ◌<◌, get_or}
+use Rattle.std.specs.Prelude.{◌≡◌, List, [], ◌∷◌, ℕ, zero, suc, ◌<◌, get_or}
 use Rattle.field.specs.Bytes.{columns_of}
 use Rattle.aes_sbox.specs.Byte.{s_box}
 use Rattle.aes_sbox.specs.Inner.Wide.{wide_rows}
-use Rattle.aes_sbox.specs.Inner.Tables.{mixed0, mixed1, mixed2, mixed3}
+use Rattle.aes_sbox.specs.Inner.Tables.{mixed}
 use Rattle.aes128.specs.State.{column, byte_at, xor_word}
 use Rattle.aes128.specs.Cipher.{mix_column, rounds}
 use Rattle.aes128.specs.Inner.Words.{round_keys}
@@ -14,27 +14,16 @@ use Rattle.aes128.specs.Inner.Words.{round_keys}
 abbrev pub mixed_column : ℕ → ℕ → ℕ → ℕ → ℕ → List ℕ
 mixed_column a b c d k = xor_word (mix_column (s_box a ∷ s_box b ∷ s_box c ∷ s_box d ∷ [])) (wide_rows k)
 
--- column 0, 1, 2 or 3 of a round of a state, with the round key's column k and with x for the byte that comes of column 2
-abbrev pub column0_of : List (List ℕ) → ℕ → ℕ → List ℕ
-column0_of s k x = mixed_column (byte_at s 0 0) (byte_at s 1 1) x (byte_at s 3 3) k
-
-abbrev pub column1_of : List (List ℕ) → ℕ → ℕ → List ℕ
-column1_of s k x = mixed_column (byte_at s 0 1) x (byte_at s 2 3) (byte_at s 3 0) k
-
-abbrev pub column2_of : List (List ℕ) → ℕ → ℕ → List ℕ
-column2_of s k x = mixed_column x (byte_at s 1 3) (byte_at s 2 0) (byte_at s 3 1) k
-
-abbrev pub column3_of : List (List ℕ) → ℕ → ℕ → List ℕ
-column3_of s k x = mixed_column (byte_at s 0 3) (byte_at s 1 0) (byte_at s 2 1) x k
+-- the column of a round of a state to which the byte of column 2 in a row goes, with the round key's column k and with x for that byte
+abbrev pub column_of : ℕ → List (List ℕ) → ℕ → ℕ → List ℕ
+column_of zero s k x = mixed_column x (byte_at s 1 3) (byte_at s 2 0) (byte_at s 3 1) k
+column_of (suc zero) s k x = mixed_column (byte_at s 0 1) x (byte_at s 2 3) (byte_at s 3 0) k
+column_of (suc (suc zero)) s k x = mixed_column (byte_at s 0 0) (byte_at s 1 1) x (byte_at s 3 3) k
+column_of (suc (suc (suc row))) s k x = mixed_column (byte_at s 0 3) (byte_at s 1 0) (byte_at s 2 1) x k
 
 -- a column lacks only what a byte adds: with that, for any byte, it is the column
 unfoldable pub Lacks : (ℕ → List ℕ) → (ℕ → List ℕ) → List ℕ → Type 0
 Lacks mixed column w = (x : ℕ) → xor_word w (mixed x) ≡ column x
-
--- r is column c of a state, exclusive or the entry for the byte x of the table that begins at a place of t
-pub record Entered (t : List ℕ) (s : List (List ℕ)) (c at x : ℕ) (r : List ℕ) : Type 0 where
-  pub byte : x < 256
-  pub sum : r ≡ xor_word (column s c) (wide_rows (get_or t (at + x) 0))
 
 -- the state of the block of x and i after the first AddRoundKey and n rounds
 abbrev pub row_state : List ℕ → ℕ → ℕ → ℕ → List (List ℕ)
@@ -42,15 +31,15 @@ row_state keys n x i = rounds (round_keys keys) n (columns_of x i)
 
 -- a state with what the byte b in row 0 of column 2 adds in round 1
 unfoldable pub first_of : List (List ℕ) → ℕ → List (List ℕ)
-first_of s b = column s 0 ∷ column s 1 ∷ xor_word (column s 2) (mixed0 b) ∷ column s 3 ∷ []
+first_of s b = column s 0 ∷ column s 1 ∷ xor_word (column s 2) (mixed 0 b) ∷ column s 3 ∷ []
 
 -- a state with what the bytes of column 2, w, add in round 2
 unfoldable pub second_of : List (List ℕ) → List ℕ → List (List ℕ)
 second_of s w =
-    xor_word (column s 0) (mixed2 (get_or w 2 0))
-    ∷ xor_word (column s 1) (mixed1 (get_or w 1 0))
-    ∷ xor_word (column s 2) (mixed0 (get_or w 0 0))
-    ∷ xor_word (column s 3) (mixed3 (get_or w 3 0))
+    xor_word (column s 0) (mixed 2 (get_or w 2 0))
+    ∷ xor_word (column s 1) (mixed 1 (get_or w 1 0))
+    ∷ xor_word (column s 2) (mixed 0 (get_or w 0 0))
+    ∷ xor_word (column s 3) (mixed 3 (get_or w 3 0))
     ∷ []
 
 -- two shared states: with what the bytes that differ add, each is the state after its round

@@ -1,7 +1,8 @@
 -- Inner: no promise cites this file. The byte of one wire, from the bytes that the code has.
-use Rattle.std.specs.Prelude.{ℕ, ◌+◌, ◌*◌, ◌≤◌, ◌<◌, List, ◌≡◌, eqb, length, get_or, set}
+use Rattle.std.specs.Prelude.{ℕ, ◌+◌, ◌*◌, ◌≤◌, ◌<◌, List, ◌≡◌, length, get_or, set}
 use Rattle.std.specs.Int.Bits.{bit_xor}
 use Rattle.algebra.specs.Choice.{choose}
+use Rattle.circuit.specs.Content.{Gate, Xor, And, Not}
 use Rattle.circuit_run.specs.Inner.Places.{opened_with}
 use Rattle.circuit_run.specs.Step.{flipped, triple_first, triple_second}
 use Rattle.circuit_run.specs.Round.{waits, is_known, share_of, known_as}
@@ -27,17 +28,22 @@ unfoldable pub and_byte_by : ℕ → ℕ → ℕ → ℕ → List ℕ → ℕ �
 and_byte_by role byte x y triples ands far passed =
     choose (waits byte) (known_as (opened_by role x y triples ands far passed)) (choose (is_known x) (choose (is_known y) 1 0) 0)
 
--- of an exclusive or or NOT that is not known
-unfoldable pub local_byte_by : ℕ → ℕ → ℕ → ℕ → ℕ
-local_byte_by role kind x y =
-    choose (is_known x)
-    (choose (eqb kind 3) (known_as (flipped role (share_of x))) (choose (is_known y) (known_as (bit_xor (share_of x) (share_of y))) 0))
-    0
+-- of an exclusive or, and of a NOT, that is not known
+unfoldable pub xor_byte_by : ℕ → ℕ → ℕ
+xor_byte_by x y = choose (is_known x) (choose (is_known y) (known_as (bit_xor (share_of x) (share_of y))) 0) 0
 
--- of a gate of a kind, whose byte was given
-unfoldable pub byte_by : ℕ → ℕ → ℕ → ℕ → ℕ → List ℕ → ℕ → List ℕ → ℕ → ℕ
-byte_by role kind byte x y triples ands far passed =
-    choose (is_known byte) byte (choose (eqb kind 2) (and_byte_by role byte x y triples ands far passed) (local_byte_by role kind x y))
+unfoldable pub not_byte_by : ℕ → ℕ → ℕ
+not_byte_by role x = choose (is_known x) (known_as (flipped role (share_of x))) 0
+
+-- of a gate that is not known, whose byte was given, from those of all wires
+abbrev pub unknown_by : ℕ → Gate → ℕ → List ℕ → List ℕ → ℕ → List ℕ → ℕ → ℕ
+unknown_by role (Xor a b) byte wires triples ands far passed = xor_byte_by (get_or wires a 0) (get_or wires b 0)
+unknown_by role (And a b) byte wires triples ands far passed = and_byte_by role byte (get_or wires a 0) (get_or wires b 0) triples ands far passed
+unknown_by role (Not a) byte wires triples ands far passed = not_byte_by role (get_or wires a 0)
+
+-- of a gate, whose byte was given
+unfoldable pub byte_by : ℕ → Gate → ℕ → List ℕ → List ℕ → ℕ → List ℕ → ℕ → ℕ
+byte_by role g byte wires triples ands far passed = choose (is_known byte) byte (unknown_by role g byte wires triples ands far passed)
 
 -- what the bits of a gate rest on: if it waits, the first two bits of its triple and room for two; that its numbers are small
 pub record CanPut (byte : ℕ) (triples : List ℕ) (ands : ℕ) (bits : List ℕ) (place : ℕ) : Type 0 where

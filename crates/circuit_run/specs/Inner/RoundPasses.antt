@@ -1,11 +1,9 @@
 -- Inner: no promise cites this file. The passes of a round over the gates of a circuit that was read.
 use Rattle.std.specs.Prelude.{ℕ, ◌+◌, ◌*◌, ◌≤◌, List, [], ◌++◌, ◌≡◌, length, get_or, take, drop}
-use Rattle.answer.specs.Tests.{first_fault}
 use Rattle.circuit.specs.Content.{Circuit}
 use Rattle.circuit.specs.Answer.{content}
 use Rattle.circuit.specs.Value.{over_gates}
 use Rattle.circuit.specs.declared.Layout.{Layout}
-use Rattle.circuit_run.specs.Inner.RoundTests.{asked_tests}
 use Rattle.circuit_run.specs.Round.{RoundLent, round_with, RoundOutcome, waiting, waiting_in, gate_byte, wires_after, bits_to_send, accepted_round}
 use Rattle.circuit_run.specs.declared.RoundState.{RoundState}
 use Rattle.circuit_run.specs.declared.Rounded.{Rounded}
@@ -47,11 +45,6 @@ pub record Tested (f : Layout) (shares triples : List ℕ) (room : ℕ) (far : L
   pub far_bits : (k : ℕ) → get_or far k 0 ≤ 1
   pub enough : 3 * f.ands ≤ length triples
   pub long : length wires ≡ 4096
-
--- a round's number, and what it has where that is 0
-pub record Checks (f : Layout) (role : ℕ) (shares triples : List ℕ) (room : ℕ) (far : List ℕ) (bits_room : ℕ) (wires : List ℕ) (n : ℕ) : Type 0 where
-  pub number : n ≡ first_fault (asked_tests f (waiting_by f wires) role shares triples far room bits_room)
-  pub tested : n ≡ 0 → Tested f shares triples room far bits_room wires
 
 -- an accepted round on the bytes that the round before left
 unfoldable pub accepted_on : Circuit → RoundLent → List ℕ → RoundOutcome

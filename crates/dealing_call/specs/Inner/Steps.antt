@@ -1,7 +1,6 @@
 -- Inner: no promise cites this file. What is written of a dealing's trees, and when it can be written at a place.
 use Rattle.std.specs.Prelude.{◌≡◌, List, [], ◌∷◌, map, ℕ, ◌-◌, ◌*◌, ◌/◌, ◌^◌, ◌≤◌, ◌<◌, length, get_or}
 use Rattle.algebra.specs.Expansion.{Rising, correction}
-use Rattle.answer.specs.Tests.{◌or◌}
 use Rattle.field.specs.Kind.{kind_of}
 use Rattle.number.specs.Inner.Written.{Room}
 use Rattle.record.specs.Content.{NoiseTree}
@@ -9,22 +8,14 @@ use Rattle.record.specs.Writing.{write_tree, write_trees, write_noise, write_sca
 use Rattle.record.specs.Inner.Heads.{scalar_with}
 use Rattle.record.specs.Inner.Lengths.{Writable, tree_start_bytes}
 use Rattle.record.specs.declared.Layout.{Layout}
-use Rattle.aes_sbox.specs.Inner.Tables.{RoundTables}
 use Rattle.tree.specs.Child.{child}
-use Rattle.tree.specs.Inner.Keys.{keys_for}
 use Rattle.tree.specs.Columns.{columns_bytes}
-use Rattle.tree.specs.KeySchedules.{OfChildKeys}
 use Rattle.tree.specs.Tree.{siblings, listed, leaf_at}
 use Rattle.dealing.specs.Admitted.{Admitted}
 use Rattle.dealing.specs.Input.{Input, words_of}
 use Rattle.dealing.specs.Parts.{noise_tree, noise_part}
 use Rattle.dealing_call.specs.declared.noise.Planned.{Planned}
 use Rattle.dealing.specs.Inner.Steps.{input_from}
-
--- the tables and the round keys of the child keys of 2^g children
-pub record TablesAndKeys (g : ℕ) (tables : List ℕ) (keys : List (List ℕ)) : Type 0 where
-  pub rounds : RoundTables tables
-  pub child-keys : OfChildKeys (2 ^ g) (keys_for keys)
 
 -- the noise record of an admitted input can be written at the front of a buffer of this length
 pub record NoisePlaced (f : Layout) (I : Input) (n : ℕ) : Type 0 where

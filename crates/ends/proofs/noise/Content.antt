@@ -8,14 +8,12 @@ use lib.Dec.{eqb}
 use Rattle.algebra.specs.Choice.{choose}
 use Rattle.field.specs.ByNumber.{element_of}
 use Rattle.field.specs.Kind.{kind_of, binary_kind, prime_kind}
-use Rattle.number.specs.Reading.{Whole, Refused}
+use Rattle.number.specs.Reading.{Whole}
 use Rattle.record.specs.Content.{NoiseTree, NoisePart}
 use Rattle.record.specs.Reading.{items, block_at, read_head, read_trees, read_noise}
-use Rattle.record.specs.Answer.{head_of, record_read, head_if_whole, record_fault}
+use Rattle.record.specs.Answer.{head_of, head_if_whole}
 use Rattle.record.specs.declared.Layout.{Layout}
-use Rattle.record.specs.declared.RecordAnswer.{RecordAnswer}
-use Rattle.record.specs.declared.RecordAnswer.TheVariants.{Accepted, Fault}
-use Rattle.record.proofs.Callers.{noise-refused, noise-content}
+use Rattle.record.proofs.Callers.{noise-content}
 use Rattle.tree.specs.Columns.{columns_at, siblings_at}
 use Rattle.tree.proofs.Blocks.{columns-part}
 use Rattle.window.proofs.Sizes.{head-sizes}
@@ -31,10 +29,9 @@ part_is : {p q : NoisePart} → p.head ≡ q.head → p.trees ≡ q.trees → p 
 part_is h t = λ i. record { head = h i; trees = t i }
 
 -- what an accepted record is ready for
-pub ready : (s : List ℕ) {r : RecordAnswer} {f : Layout} → record_read s r ≡ head_if_whole (read_noise s) (read_head 1 s) → r ≡ Accepted f → Ready s f
-ready s {r} {f} e q =
-    let y : Whole (head_of s f, f.body) ≡ head_if_whole (read_noise s) (read_head 1 s) = rw q at e in
-    let o = noise-content s (sym y) in
+pub ready : (s : List ℕ) {f : Layout} → Whole (head_of s f, f.body) ≡ head_if_whole (read_noise s) (read_head 1 s) → Ready s f
+ready s {f} e =
+    let o = noise-content s (sym e) in
     let t = trees-at s f o.2.trees in
     record {
       read = o.2.whole ∙ ap Whole (part_is {p = o.0} {q = content_of s f} o.2.same (sym t));
@@ -44,13 +41,6 @@ ready s {r} {f} e q =
           ap (λ (n : ℕ). read_trees f.field f.depth (tree_siblings f) n 0 s f.body) {x = f.trees - 0} {y = f.trees} (omega arith)
           ∙ o.2.trees ∙ ap (λ (l : List NoiseTree). Whole (l, o.1)) (sym t);
     }
-
--- the number of a refused record
-pub refused_is : (s : List ℕ) {r : RecordAnswer} {j k : ℕ} → record_read s r ≡ head_if_whole (read_noise s) (read_head 1 s) → r ≡ Fault j → k ≡ record_fault r
-    → read_noise s ≡ Refused k
-refused_is s {r} {j} {k} e q w =
-    let y : Refused j ≡ head_if_whole (read_noise s) (read_head 1 s) = rw q at e in
-    noise-refused s (sym y) ∙ ap (λ (n : ℕ). Refused n) (sym (w ∙ ap record_fault q))
 
 -- the correction of a first and a second word
 pub correction-words : (field low high : ℕ)

@@ -1,6 +1,6 @@
--- Inner: no promise cites this file. The trees of a noise record in a table of five words each, what the functions of a walk are
+-- Inner: no promise cites this file. The trees of a noise record in a table, what the functions of a walk are
 -- asked, and where the walk to a leaf starts.
-use Rattle.std.specs.Prelude.{Bool, false, ◌≡◌, List, ℕ, zero, suc, ◌+◌, ◌*◌, ◌/◌, ◌^◌, ◌≤◌, ◌<◌, eqb, length, get_or, set}
+use Rattle.std.specs.Prelude.{Bool, false, ◌≡◌, List, ℕ, zero, suc, ◌+◌, ◌*◌, ◌/◌, ◌^◌, ◌≤◌, ◌<◌, eqb, length, get_or}
 use Rattle.algebra.specs.Choice.{choose}
 use Rattle.algebra.specs.Field.{Value}
 use Rattle.field.specs.Kind.{kind_of}
@@ -22,20 +22,8 @@ use Rattle.tree_walk.specs.Inner.Ways.{IsWay}
 use Rattle.tree_walk.specs.declared.down.Start.{Start}
 
 -- tree i of a table
-abbrev pub tree_at : List ℕ → ℕ → Tree
-tree_at table i =
-    record {
-      position = get_or table (5 * i) 0;
-      value = get_or table (5 * i + 1) 0;
-      low = get_or table (5 * i + 2) 0;
-      high = get_or table (5 * i + 3) 0;
-      siblings = get_or table (5 * i + 4) 0;
-    }
-
--- the table with a tree put at its place
-unfoldable pub tree_put : List ℕ → ℕ → Tree → List ℕ
-tree_put table i t =
-    set (set (set (set (set table (5 * i) t.position) (5 * i + 1) t.value) (5 * i + 2) t.low) (5 * i + 3) t.high) (5 * i + 4) t.siblings
+abbrev pub tree_at : List Tree → ℕ → Tree
+tree_at table i = get_or table i (record { position = 0; value = 0; correction = record { low = 0; high = 0 }; siblings = 0 })
 
 -- it is tree i of the record: its position is a leaf's and its siblings lie in the record
 pub record IsTree (s : List ℕ) (f : Layout) (i : ℕ) (t : Tree) : Type 0 where
@@ -43,23 +31,23 @@ pub record IsTree (s : List ℕ) (f : Layout) (i : ℕ) (t : Tree) : Type 0 wher
   pub below : t.position < 2 ^ f.depth
   pub room : t.siblings + 16 * tree_siblings f ≤ length s
 
-abbrev pub TreesIn : List ℕ → Layout → List ℕ → ℕ → Type 0
+abbrev pub TreesIn : List ℕ → Layout → List Tree → ℕ → Type 0
 TreesIn s f table n = (i : ℕ) → i < n → IsTree s f i (tree_at table i)
 
 -- an accepted record by its layout, with the table of its trees, or its roots
-pub record Standing (vector : ℕ) (s : List ℕ) (f : Layout) (table : List ℕ) : Type 0 where
+pub record Standing (vector : ℕ) (s : List ℕ) (f : Layout) (table : List Tree) : Type 0 where
   pub sizes : Sizes s (head_of s f) f.body
   pub few : f.trees ≤ 64
   pub trees : (vector ≡ 3 → ⊥) → TreesIn s f table f.trees
   pub roots : vector ≡ 3 → roots_at f + 16 * f.trees ≤ length s
 
 -- and the round keys of the child keys
-pub record Walking (vector : ℕ) (s : List ℕ) (f : Layout) (table : List ℕ) (keys : List (List ℕ)) : Type 0 where
+pub record Walking (vector : ℕ) (s : List ℕ) (f : Layout) (table : List Tree) (keys : List (List ℕ)) : Type 0 where
   pub standing : Standing vector s f table
   pub own : OfChildKeys (2 ^ f.branch_bits) (keys_for keys)
 
 -- at the noise end tree i is punctured at j
-abbrev pub punctured_at : ℕ → List ℕ → ℕ → ℕ → Bool
+abbrev pub punctured_at : ℕ → List Tree → ℕ → ℕ → Bool
 punctured_at vector table i j = choose (eqb vector 3) false (eqb (tree_at table i).position j)
 
 -- where the walk to leaf j of tree i starts: the place of a block's bytes, and the levels left below it
@@ -84,6 +72,6 @@ two_leaves s f a b j =
     ((kind_of f.field).leaf (leaf_at (2 ^ f.branch_bits) child b.left (columns_at s b.at) j))
 
 -- the noise value that a table's first n trees give place j, zero where none is punctured there
-unfoldable pub noise_word : List ℕ → ℕ → ℕ → ℕ
+unfoldable pub noise_word : List Tree → ℕ → ℕ → ℕ
 noise_word table zero j = 0
 noise_word table (suc n) j = choose (eqb (tree_at table n).position j) (tree_at table n).value (noise_word table n j)

@@ -1,24 +1,27 @@
--- Inner: no promise cites this file. What the numbers that the code reads say of a record's fields.
-use Rattle.std.specs.Prelude.{ℕ, ◌+◌, List, leb, length, get_or}
+-- Inner: no promise cites this file. What the code reads stands for a record's fields.
+use Rattle.std.specs.Prelude.{ℕ, ◌+◌, List, leb, length, Result, Ok, Err}
+use Rattle.answer.specs.declared.Refusal.{Refusal}
+use Rattle.answer.specs.Refused.{number_of}
 use Rattle.field.specs.ByNumber.{element_of}
-use Rattle.number.specs.Reading.{Whole, Refused, Parsed, choose}
+use Rattle.field.specs.declared.element.Element.{Element}
+use Rattle.number.specs.Reading.{Reading, Whole, Refused, Parsed, choose}
 use Rattle.record.specs.Content.{NoiseTree}
 use Rattle.record.specs.declared.Tree.{Tree}
 use Rattle.record.specs.Reading.{items, block_at}
 
--- a field of a count of bytes that are not looked at; 10: record ends inside it
-unfoldable pub skipped : ℕ → List ℕ → ℕ → Parsed ℕ
-skipped count s at = choose (leb (at + count) (length s)) (Whole (at, at + count)) (Refused 10)
+-- a result as it is
+abbrev pub reading_of : {A : Type 0} → Result A Refusal → Reading A
+reading_of (Ok x) = Whole x
+reading_of (Err refusal) = Refused (number_of refusal)
 
--- a tree's position and the place after it
-abbrev pub tree_position : Parsed NoiseTree → Parsed ℕ
-tree_position (Whole r) = Whole (r.0.position, r.1)
-tree_position (Refused k) = Refused k
+-- the place after a count of bytes that are not looked at; 10: record ends inside them
+unfoldable pub skipped : ℕ → List ℕ → ℕ → Reading ℕ
+skipped count s at = choose (leb (at + count) (length s)) (Whole (at + count)) (Refused 10)
 
--- an element's first word and the place after it
-abbrev pub first_word : Parsed (List ℕ) → Parsed ℕ
-first_word (Whole r) = Whole (get_or r.0 0 0, r.1)
-first_word (Refused k) = Refused k
+-- an element, and the place after it
+abbrev pub element_read : ℕ → Result (Element × ℕ) Refusal → Parsed (List ℕ)
+element_read field (Ok read) = Whole (element_of field read.0.low read.0.high, read.1)
+element_read field (Err refusal) = Refused (number_of refusal)
 
 -- the tree that its numbers give
 abbrev pub tree_of : List ℕ → ℕ → ℕ → Tree → NoiseTree
@@ -26,6 +29,11 @@ tree_of s field beside k =
     record {
       position = k.position;
       value = k.value;
-      correction = element_of field k.low k.high;
+      correction = element_of field k.correction.low k.correction.high;
       siblings = items block_at 16 s k.siblings beside;
     }
+
+-- a tree with so many siblings, and the place after it
+abbrev pub tree_read : List ℕ → ℕ → ℕ → Result (Tree × ℕ) Refusal → Parsed NoiseTree
+tree_read s field beside (Ok read) = Whole (tree_of s field beside read.0, read.1)
+tree_read s field beside (Err refusal) = Refused (number_of refusal)

@@ -22,6 +22,10 @@ pub record BinaryAdded (noise values : List ℕ) (j : ℕ) (sums r : BinaryPair)
   pub v : r.v ≡ block_add sums.v (at binary.elements values j)
   pub admitted : r.admitted ≡ (sums.admitted && word_below 2 noise j)
 
+-- r is the sum with the element at place j added; a coefficient, whatever its word, is 1
+abbrev pub BlockAdded : List ℕ → ℕ → ℕ → Block → Block → Type 0
+BlockAdded words j coefficient sum r = r ≡ block_add sum (at binary.elements words j)
+
 -- r is the sum, or the sums, with the product of a coefficient and the element at place j added
 pub record PrimeAdded (words : List ℕ) (j coefficient : ℕ) (sum r : PrimeSum) : Type 0 where
   pub total : prime_reduce r.total ≡ prime_add (prime sum.total) (prime_mul (prime coefficient) (prime (get_or words j 0)))

@@ -3,7 +3,7 @@ use Rattle.page.proofs.Returned.{line_in, line-front}
 use Rattle.cases.proofs.lines.show.Goals as goal
 
 pub slice_bounds-out-end : goal.slice_bounds-out-end
-slice_bounds-out-end c = line_in _ _ _ c.line-length.ensures
+slice_bounds-out-end g c = line_in _ _ _ c.line-length.ensures
 
 pub slice_bounds-write_all-end : goal.slice_bounds-write_all-end
-slice_bounds-write_all-end c = line-front _ _ _ c.line-length.ensures
+slice_bounds-write_all-end g c = line-front _ _ _ c.line-length.ensures

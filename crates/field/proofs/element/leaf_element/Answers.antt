@@ -1,0 +1,9 @@
+-- `field::element::leaf_element` meets its contract, field by field. Assumes nothing.
+use Rattle.field.proofs.Elements.{leaf_1, leaf_2}
+use Rattle.field.proofs.element.leaf_element.Goals as goal
+
+pub returns-then-field-eq-BINARY : goal.returns-then-field-eq-BINARY
+returns-then-field-eq-BINARY c = rw c.from.ensures (search leaf_1)
+
+pub returns-else-field-eq-BINARY : goal.returns-else-field-eq-BINARY
+returns-else-field-eq-BINARY c = rw c.from-else-field-eq-BINARY.ensures (search leaf_2)
