@@ -20,7 +20,6 @@
  */
 #include "expander.h"
 #include <stdbool.h>
-#include <string.h>
 
 #if !(defined __BYTE_ORDER__ && __BYTE_ORDER__ == __ORDER_LITTLE_ENDIAN__) && !defined _WIN32
 #error "expander.c is for machines that keep words least byte first"
@@ -49,6 +48,9 @@ INLINE int64_t as_signed(uint64_t bits)
 {
     return bits <= INT64_MAX ? (int64_t)bits : -1 - (int64_t)(UINT64_MAX - bits);
 }
+
+/* Of the C library, as <string.h> declares it, which a bare machine need not have: every compiler asks for it in any case. */
+void *memcpy(void *to, const void *from, size_t count);
 
 /* Layout: sizes and offsets of the header's structs, as the crates have them where addresses have 64 bits. */
 #if SIZE_MAX > 0xffffffff
