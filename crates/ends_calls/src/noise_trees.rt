@@ -16,7 +16,7 @@ use record_reading::known_tree;
 use tree::Punctured;
 use tree_fill::add_punctured;
 use tree_sums::zero_words;
-use tree_walk::child_keys;
+use tree_walk::{TreeCipher, child_keys};
 
 // The tree at a place of an accepted record, whose trees have `tree_siblings` siblings, after positions below `base`: its position is
 // a leaf's, and its siblings lie in the record.
@@ -38,6 +38,10 @@ fn write_trees(source: &[u8], layout: Layout, noise: &mut [u64], v: &mut [u64])
     let mut words = [0u64; 1536];
     let tables = Tables::fill(&mut words);
     let keys = child_keys(layout.branch_bits);
+    let cipher = TreeCipher {
+        tables,
+        keys: &keys,
+    };
     zero_words(noise);
     zero_words(v);
     let siblings = sibling_count(layout.depth, layout.branch_bits);
@@ -54,15 +58,7 @@ fn write_trees(source: &[u8], layout: Layout, noise: &mut [u64], v: &mut [u64])
             at: tree.siblings,
         };
         let correction = [tree.correction.low, tree.correction.high];
-        add_punctured(
-            tables,
-            &keys,
-            layout.field,
-            punctured,
-            source,
-            correction,
-            v,
-        );
+        add_punctured(cipher, layout.field, punctured, source, correction, v);
         at = tree.siblings + 16 * siblings;
         base = position + 1;
     }

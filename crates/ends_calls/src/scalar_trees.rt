@@ -13,7 +13,7 @@ use field::{BINARY, element_width, word_at};
 use record::{Layout, leaves};
 use tree_fill::add_leaves;
 use tree_sums::zero_words;
-use tree_walk::{child_keys, columns_at};
+use tree_walk::{TreeCipher, child_keys, columns_at};
 
 // Root i of an accepted record.
 fn root_at(source: &[u8], layout: Layout, i: usize) -> [[u8; 4]; 4]
@@ -34,19 +34,15 @@ fn write_trees(source: &[u8], layout: Layout, w: &mut [u64])
     let mut words = [0u64; 1536];
     let tables = Tables::fill(&mut words);
     let keys = child_keys(layout.branch_bits);
+    let cipher = TreeCipher {
+        tables,
+        keys: &keys,
+    };
     zero_words(w);
     let levels = layout.depth / layout.branch_bits;
     for i in 0..layout.trees {
         let root = root_at(source, layout, i);
-        add_leaves(
-            tables,
-            &keys,
-            layout.field,
-            layout.branch_bits,
-            levels,
-            root,
-            w,
-        );
+        add_leaves(cipher, layout.field, layout.branch_bits, levels, root, w);
     }
 }
 

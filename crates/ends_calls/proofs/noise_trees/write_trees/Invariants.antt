@@ -4,4 +4,4 @@ use Rattle.ends_calls.proofs.Trees.{Grown}
 use Rattle.ends_calls.proofs.noise_trees.write_trees.Given as goal
 
 abbrev pub invariant-loop : goal.invariant-loop
-invariant-loop l = Grown l.source l.layout l.keys l.siblings l.at l.base l.counter l.noise l.v
+invariant-loop l = Grown l.source l.layout l.cipher.keys.now l.siblings l.at l.base l.counter l.noise l.v

@@ -3,4 +3,4 @@ use Rattle.ends_calls.proofs.Trees.{Rooted}
 use Rattle.ends_calls.proofs.scalar_trees.write_trees.Given as goal
 
 abbrev pub invariant-loop-i : goal.invariant-loop-i
-invariant-loop-i l = Rooted l.source l.layout l.keys l.i l.w
+invariant-loop-i l = Rooted l.source l.layout l.cipher.keys.now l.i l.w
