@@ -1,40 +1,24 @@
 // Elements of leaves added into words, in either field: one element, those of the last level's children, and those below two nodes.
 ghost use Rattle.std.specs.Prelude.{◌≡◌, ◌+◌, ◌*◌, ◌^◌, ◌≤◌, length};
-ghost use Rattle.field.specs.Binary.{binary};
-ghost use Rattle.prime.specs.Prime.{primes, prime_reduce};
+ghost use Rattle.algebra.specs.Coding.{at};
+ghost use Rattle.algebra.specs.Inner.Put.{put};
 ghost use Rattle.field.specs.Kind.{element_words};
-ghost use Rattle.tree.specs.Added.{added};
 ghost use Rattle.tree.specs.Inner.Nodes.{node_of};
 ghost use Rattle.tree.specs.Inner.Branches.{IsBranch};
-ghost use Rattle.tree_sums.specs.Inner.Ranges.{first_or_second, leaf_added, children_added, element_added, child_under, all_children, both_added};
+ghost use Rattle.tree_sums.specs.Inner.Ranges.{leaf_added, children_added, element_added, child_under, all_children, both_added};
 
 use aes_blocks::Two;
-use field::{BINARY, Block};
+use field::{BINARY, Block, FieldElement};
 use prime::Prime;
 use tree_walk::TreeCipher;
 
-// Adds an element of field 1 to the one that two words hold.
-fn add_block(element: Block, acc: &mut [u64])
-    requires { length acc.old ≡ 2 }
-    ensures { acc.new ≡ added binary 1 (λ j. element) acc.old }
+// Adds an element to element i of those that the words hold. Inlined, so that sums of leaves make no call more.
+#[inline(always)]
+fn add_at<E: FieldElement>(element: E, i: usize, acc: &mut [u64])
+    requires { i * E.parts.coding.width + E.parts.coding.width ≤ length acc.old }
+    ensures { acc.new ≡ put E.parts.coding acc.old i (E.parts.add (at E.parts.coding acc.old i) element) }
 {
-    let old = Block {
-        low: acc[0],
-        high: acc[1],
-    };
-    let sum = old.add(element);
-    acc[0] = sum.low;
-    acc[1] = sum.high;
-}
-
-// Adds an element of field 2 to the one that a word holds.
-fn add_prime(element: Prime, acc: &mut [u64])
-    requires { length acc.old ≡ 1 }
-    ensures { acc.new ≡ added primes 1 (λ j. element) acc.old }
-{
-    let old = Prime { word: acc[0] };
-    let sum = old.add(element);
-    acc[0] = sum.word;
+    E::at(acc, i).add(element).put(acc, i);
 }
 
 // Adds the element of a leaf to the one that the words hold.
@@ -43,9 +27,9 @@ pub fn add_leaf(field: usize, s: Block, acc: &mut [u64])
     ensures { acc.new ≡ leaf_added field (node_of s) acc.old }
 {
     if field == BINARY {
-        add_block(s, acc);
+        add_at(s, 0, acc);
     } else {
-        add_prime(Prime::reduce(s.low), acc);
+        add_at(Prime::reduce(s.low), 0, acc);
     }
 }
 
@@ -55,38 +39,10 @@ pub fn add_words(field: usize, words: [u64; 2], acc: &mut [u64])
     ensures { acc.new ≡ element_added field words acc.old }
 {
     if field == BINARY {
-        let element = Block {
-            low: words[0],
-            high: words[1],
-        };
-        add_block(element, acc);
+        add_at(Block::at(&words, 0), 0, acc);
     } else {
-        add_prime(Prime { word: words[0] }, acc);
+        add_at(Prime::at(&words, 0), 0, acc);
     }
-}
-
-// Adds two elements of field 1 to those that four words hold.
-fn add_blocks(both: Two<Block>, acc: &mut [u64])
-    requires { length acc.old ≡ 4 }
-    ensures { acc.new ≡ added binary 2 (first_or_second both.one both.other) acc.old }
-{
-    acc[0] = acc[0] ^ both.one.low;
-    acc[1] = acc[1] ^ both.one.high;
-    acc[2] = acc[2] ^ both.other.low;
-    acc[3] = acc[3] ^ both.other.high;
-}
-
-// Adds the elements of field 2 of two leaves to those that two words hold.
-fn add_primes(both: Two<Block>, acc: &mut [u64])
-    requires { length acc.old ≡ 2 }
-    ensures { acc.new ≡ added primes 2 (first_or_second (prime_reduce both.one.low) (prime_reduce both.other.low)) acc.old }
-{
-    let word0 = Prime { word: acc[0] };
-    let word1 = Prime { word: acc[1] };
-    let a = word0.add(Prime::reduce(both.one.low));
-    let b = word1.add(Prime::reduce(both.other.low));
-    acc[0] = a.word;
-    acc[1] = b.word;
 }
 
 // Adds children c and c + 1 of s, which are leaves, to the elements of acc.
@@ -96,9 +52,11 @@ fn add_pair(cipher: TreeCipher, field: usize, c: usize, s: Block, acc: &mut [u64
 {
     let both = cipher.children(c, s);
     if field == BINARY {
-        add_blocks(both, acc);
+        add_at(both.one, 0, acc);
+        add_at(both.other, 1, acc);
     } else {
-        add_primes(both, acc);
+        add_at(Prime::reduce(both.one.low), 0, acc);
+        add_at(Prime::reduce(both.other.low), 1, acc);
     }
 }
 
