@@ -1,14 +1,12 @@
--- A fill by halves: the parts of the buffer that are lent one after the other, and what stands in it when both are back. The
--- laws are stated as the functions need them: n elements are two halves of h, the middle is half the buffer's length.
+-- A fill by halves: how long both parts of the buffer are, and what stands in it when both are back. The laws are stated as the functions
+-- need them: n elements are two halves of h, the middle is half the buffer's length.
 use mathlib.Core.Path.{◌≡◌, refl, ap, ap₂, sym, ◌∙◌}
 use mathlib.Core.Logic.{◌≢◌}
-use mathlib.Core.List.{List, ◌++◌, append-nil}
-use Prim.Native.Nat.{ℕ, zero, suc, ◌+◌, ◌-◌, ◌*◌, ◌/◌, ◌<◌}
+use mathlib.Core.List.{List, ◌++◌}
+use Prim.Native.Nat.{ℕ, zero, suc, ◌+◌, ◌*◌, ◌/◌, ◌<◌}
 use native.Mathlib.Nat.{add-zero, one-mul}
 use native.Mathlib.Omega.{arith}
-use lib.ListN.{length, take, drop, length-append, length-drop, drop_of_length-le}
-use lib.Seq.{take_at, drop_at, take_all, length-take-le}
-use borrow.Rule.Slice.PartMut.{mid_of, put_mid}
+use lib.ListN.{length, take, drop}
 use Rattle.algebra.specs.Field.{Field, FieldLaws, Value}
 use Rattle.algebra.specs.Coding.{at, over}
 use Rattle.algebra.specs.Inner.Put.{put}
@@ -25,71 +23,39 @@ use Rattle.tree.specs.Added.{added}
 use Rattle.tree.specs.Inner.Nodes.{node_of}
 use Rattle.tree_sums.specs.Inner.Ranges.{first_or_second, leaf_added, element_added, children_added}
 use Rattle.tree.proofs.Nodes.{IsBlock, leaf-block, leaf-prime}
-use Rattle.tree.proofs.Added.{added_cong, added_parts, length-added}
-
--- ---- the parts lent
-
-module _ {X : Type 0} (mid : ℕ) (xs ys : List X) where
-  -- the part that is lent after the front half came back as ys
-  abbrev pub second : List X
-  second = mid_of mid (length (ys ++ drop mid xs) - mid) (ys ++ drop mid xs)
-
-  module _ (h : length ys ≡ mid) where
-    left_over : length (ys ++ drop mid xs) - mid ≡ length (drop mid xs)
-    left_over = rw length-append (omega arith)
-
-    pub second_is : second ≡ drop mid xs
-    second_is = rw (drop_at ys (drop mid xs) mid h) (take_all (length (ys ++ drop mid xs) - mid) (drop mid xs) (omega (arith, left_over)))
-
-    -- when the second half is back as zs
-    pub both-back : (zs : List X) → put_mid mid (length (ys ++ drop mid xs) - mid) (ys ++ drop mid xs) zs ≡ ys ++ zs
-    both-back zs =
-        rw (take_at ys (drop mid xs) mid h, drop_at ys (drop mid xs) mid h)
-        (rw (drop_of_length-le (drop mid xs) {i = length (ys ++ drop mid xs) - mid} (omega (arith, left_over)))
-        (ap (λ l. ys ++ l) (append-nil zs)))
+use Rattle.tree.proofs.Added.{added_cong, added_parts}
 
 -- ---- lengths
 
--- half of a buffer of two halves of h elements
-middle : (length n h w : ℕ) → length ≡ n * w → n ≡ h + h → length / 2 ≡ h * w
-middle length n h w e f = omega (arith, e ∙ ap (λ m. m * w) f)
+-- each half of a buffer of two halves of h elements
+module _ (m n h w : ℕ) (e : m ≡ n * w) (f : n ≡ h + h) where
+  middle : m / 2 ≡ h * w
+  middle = omega (arith, e ∙ ap (λ k. k * w) f)
 
-module _ {X : Type 0} (xs : List X) where
-  pub front-count : length xs / 2 ≡ length (take (length xs / 2) xs)
-  front-count = sym (length-take-le (length xs / 2) xs (omega arith))
+  pub front_length : {k : ℕ} → k ≡ m / 2 → k ≡ h * w
+  front_length q = q ∙ middle
 
-  module _ (n h w : ℕ) (e : length xs ≡ n * w) (f : n ≡ h + h) where
-    pub front_length : length (take (length xs / 2) xs) ≡ h * w
-    front_length = sym front-count ∙ middle (length xs) n h w e f
-
-    -- the second half's, in the buffer as it is when the front half is back
-    pub second-length : (l : List X) → length l ≡ length xs
-        → length (mid_of (length xs / 2) (length l - length xs / 2) l) ≡ h * w
-    second-length l k =
-        length-take-le (length l - length xs / 2) (drop (length xs / 2) l) (rw length-drop (omega arith))
-        ∙ omega (arith, e ∙ ap (λ m. m * w) f)
+  pub back_length : {k : ℕ} → k + m / 2 ≡ m → k ≡ h * w
+  back_length q = omega (arith, q, e ∙ ap (λ k. k * w) f)
 
 -- ---- the results
 
 module _ (F : Field) (laws : FieldLaws F) where
-  -- a function's words from those of its two halves, with the buffer as the borrow checker has it
+  -- a function's words from those of its two halves
   pub filled : (n h : ℕ) (f low high : ℕ → Value F) (xs : List ℕ) {ys zs : List ℕ}
       → length xs ≡ n * F.elements.width → n ≡ h + h
       → ((j : ℕ) → j < h → f j ≡ low j) → ((j : ℕ) → j < h → f (h + j) ≡ high j)
       → ys ≡ added F h low (take (length xs / 2) xs)
-      → zs ≡ added F h high (second (length xs / 2) xs ys)
-      → put_mid (length xs / 2) (length (ys ++ drop (length xs / 2) xs) - length xs / 2) (ys ++ drop (length xs / 2) xs) zs
-      ≡ added F n f xs
-  filled n h f low high xs {ys} {zs} e half hl hh ey ez =
+      → zs ≡ added F h high (drop (length xs / 2) xs)
+      → ys ++ zs ≡ added F n f xs
+  filled n h f low high xs e half hl hh ey ez =
       let m : length xs / 2 ≡ h * F.elements.width = middle (length xs) n h F.elements.width e half in
-      let ly : length ys ≡ length xs / 2 = ap length ey ∙ length-added F laws h low (take (length xs / 2) xs) ∙ sym m in
-      both-back (length xs / 2) xs ys ly zs
-      ∙ ap₂ (λ a b. a ++ b)
+      ap₂ (λ a b. a ++ b)
       (ey
       ∙ ap (λ k. added F h low (take k xs)) m
       ∙ sym (added_cong F laws h f low (take (h * F.elements.width) xs) hl))
       (ez
-      ∙ ap (added F h high) (second_is (length xs / 2) xs ys ly ∙ ap (λ k. drop k xs) m)
+      ∙ ap (λ k. added F h high (drop k xs)) m
       ∙ sym (added_cong F laws h (λ j. f (h + j)) high (drop (h * F.elements.width) xs) hh))
       ∙ sym (added_parts F laws h h f xs (e ∙ ap (λ k. k * F.elements.width) half))
       ∙ ap (λ k. added F k f xs) (sym half)

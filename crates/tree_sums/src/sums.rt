@@ -65,9 +65,9 @@ fn add_four(cipher: TreeCipher, field: usize, c: usize, s: Block, acc: &mut [u64
     requires { (c + 4 ≤ 8) × (length acc.old ≡ 4 * element_words field) }
     ensures { acc.new ≡ children_added field (child_under cipher.entry.keys.now) c 4 (node_of s) acc.old }
 {
-    let mid = acc.len() / 2;
-    add_pair(cipher, field, c, s, &mut acc[..mid]);
-    add_pair(cipher, field, c + 2, s, &mut acc[mid..]);
+    let (first, second) = acc.split_at_mut(acc.len() / 2);
+    add_pair(cipher, field, c, s, first);
+    add_pair(cipher, field, c + 2, s, second);
 }
 
 // Adds all two, four or eight children of s, which are leaves, to the elements of acc.
@@ -82,14 +82,14 @@ pub fn add_bottom(
     requires { IsBranch bits × (c + 2 ^ bits ≤ 8) × (length acc.old ≡ 2 ^ bits * element_words field) }
     ensures { acc.new ≡ children_added field (child_under cipher.entry.keys.now) c (2 ^ bits) (node_of s) acc.old }
 {
-    if bits == 1 {
-        add_pair(cipher, field, c, s, acc);
-    } else if bits == 2 {
-        add_four(cipher, field, c, s, acc);
-    } else {
-        let mid = acc.len() / 2;
-        add_four(cipher, field, c, s, &mut acc[..mid]);
-        add_four(cipher, field, c + 4, s, &mut acc[mid..]);
+    match bits {
+        1 => add_pair(cipher, field, c, s, acc),
+        2 => add_four(cipher, field, c, s, acc),
+        _ => {
+            let (first, second) = acc.split_at_mut(acc.len() / 2);
+            add_four(cipher, field, c, s, first);
+            add_four(cipher, field, c + 4, s, second);
+        }
     }
 }
 
@@ -100,9 +100,9 @@ fn add_couple(cipher: TreeCipher, field: usize, both: Two<Block>, acc: &mut [u64
     ensures { acc.new
         ≡ both_added field (child_under cipher.entry.keys.now) (all_children 1 1) (node_of both.one) (node_of both.other) acc.old }
 {
-    let mid = acc.len() / 2;
-    add_pair(cipher, field, 0, both.one, &mut acc[..mid]);
-    add_pair(cipher, field, 0, both.other, &mut acc[mid..]);
+    let (first, second) = acc.split_at_mut(acc.len() / 2);
+    add_pair(cipher, field, 0, both.one, first);
+    add_pair(cipher, field, 0, both.other, second);
 }
 
 // Adds the leaves two levels below each of two nodes with two children a node: the children of both nodes are made before any
@@ -114,7 +114,7 @@ pub fn add_both(cipher: TreeCipher, field: usize, both: Two<Block>, acc: &mut [u
 {
     let low = cipher.children(0, both.one);
     let high = cipher.children(0, both.other);
-    let mid = acc.len() / 2;
-    add_couple(cipher, field, low, &mut acc[..mid]);
-    add_couple(cipher, field, high, &mut acc[mid..]);
+    let (first, second) = acc.split_at_mut(acc.len() / 2);
+    add_couple(cipher, field, low, first);
+    add_couple(cipher, field, high, second);
 }
