@@ -93,7 +93,7 @@ fn write_tree(
     next
 }
 
-// Writes the trees after the head; the place after them.
+// Writes the trees after the head; the place after them. Place and base are carried: each tree's follow from the one before.
 fn write_trees(out: &mut [u8], input: &Input) -> usize
     requires { TreesPlaced input.now.layout input.now.roots.now input.now.positions.now input.now.values.now
         input.now.delta.now out.old }

@@ -15,7 +15,8 @@ use tree::Punctured;
 use tree_sums::{Range, add_both, add_bottom, add_leaf, add_words};
 use tree_walk::{TreeCipher, node_at, power};
 
-// Adds the leaves below a range of the children of s to the elements of acc.
+// Adds the leaves below a range of the children of s to the elements of acc. Ranges are written out in this file: made by `half_from` and by
+// a function of all children, the searches of `add_run` and `add_punctured` did not close.
 fn add_range(cipher: TreeCipher, field: usize, range: Range, s: Block, acc: &mut [u64])
     requires { IsRange range × (length acc.old ≡ size_of range * element_words field) }
     ensures { acc.new ≡ range_added field (child_under cipher.entry.keys.now) range (node_of s) acc.old }
@@ -42,9 +43,9 @@ fn add_range(cipher: TreeCipher, field: usize, range: Range, s: Block, acc: &mut
             bits: branch_bits,
             from: 0,
         };
-        let mid = acc.len() / 2;
-        add_range(cipher, field, all, both.one, &mut acc[..mid]);
-        add_range(cipher, field, all, both.other, &mut acc[mid..]);
+        let (first, second) = acc.split_at_mut(acc.len() / 2);
+        add_range(cipher, field, all, both.one, first);
+        add_range(cipher, field, all, both.other, second);
     } else {
         let low = Range {
             bits: bits - 1,
@@ -54,9 +55,9 @@ fn add_range(cipher: TreeCipher, field: usize, range: Range, s: Block, acc: &mut
             from: from + power(bits - 1),
             ..low
         };
-        let mid = acc.len() / 2;
-        add_range(cipher, field, low, s, &mut acc[..mid]);
-        add_range(cipher, field, high, s, &mut acc[mid..]);
+        let (first, second) = acc.split_at_mut(acc.len() / 2);
+        add_range(cipher, field, low, s, first);
+        add_range(cipher, field, high, s, second);
     }
 }
 
@@ -87,9 +88,9 @@ fn add_run(cipher: TreeCipher, field: usize, run: Range, at: usize, bytes: &[u8]
             from: from + power(bits - 1),
             ..low
         };
-        let mid = acc.len() / 2;
-        add_run(cipher, field, low, at, bytes, &mut acc[..mid]);
-        add_run(cipher, field, high, at, bytes, &mut acc[mid..]);
+        let (first, second) = acc.split_at_mut(acc.len() / 2);
+        add_run(cipher, field, low, at, bytes, first);
+        add_run(cipher, field, high, at, bytes, second);
     }
 }
 
@@ -106,33 +107,18 @@ fn add_path(
     requires { IsPath path (length bytes.now) × (length acc.old ≡ size_of path.range * element_words field) }
     ensures { acc.new ≡ path_added field (child_under cipher.entry.keys.now) path bytes.now correction acc.old }
 {
-    let at = path.at;
     if path.range.levels == 0 {
         add_words(field, correction, acc);
         return;
     }
-    let mid = acc.len() / 2;
     let parts = parted(path);
+    let (first, second) = acc.split_at_mut(acc.len() / 2);
     if parts.lower {
-        add_path(
-            cipher,
-            field,
-            parts.below,
-            bytes,
-            correction,
-            &mut acc[..mid],
-        );
-        add_run(cipher, field, parts.beside, at, bytes, &mut acc[mid..]);
+        add_path(cipher, field, parts.below, bytes, correction, first);
+        add_run(cipher, field, parts.beside, path.at, bytes, second);
     } else {
-        add_run(cipher, field, parts.beside, at, bytes, &mut acc[..mid]);
-        add_path(
-            cipher,
-            field,
-            parts.below,
-            bytes,
-            correction,
-            &mut acc[mid..],
-        );
+        add_run(cipher, field, parts.beside, path.at, bytes, first);
+        add_path(cipher, field, parts.below, bytes, correction, second);
     }
 }
 

@@ -33,7 +33,7 @@ pub fn add_leaf(field: usize, s: Block, acc: &mut [u64])
     }
 }
 
-// Adds the element that words begin with to the one that the words of acc hold.
+// Adds the element that words begin with to the one that the words of acc hold. Beside `add_leaf`, which reduces: a line a field.
 pub fn add_words(field: usize, words: [u64; 2], acc: &mut [u64])
     requires { length acc.old ≡ element_words field }
     ensures { acc.new ≡ element_added field words acc.old }
@@ -85,6 +85,7 @@ pub fn add_bottom(
     match bits {
         1 => add_pair(cipher, field, c, s, acc),
         2 => add_four(cipher, field, c, s, acc),
+        // Three: `IsBranch` allows no other.
         _ => {
             let (first, second) = acc.split_at_mut(acc.len() / 2);
             add_four(cipher, field, c, s, first);

@@ -69,7 +69,8 @@ pub fn walk_both(
     nodes
 }
 
-// The sibling that leaf j follows from, of a tree punctured elsewhere whose siblings begin at a place.
+// The sibling that leaf j follows from, of a tree punctured elsewhere whose siblings begin at a place. Recursive: that the paths part is a
+// premise, and a loop over the levels would need an answer for after the last, which is never reached.
 pub fn from_sibling(
     branch_bits: usize,
     levels: usize,

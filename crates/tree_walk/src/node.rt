@@ -55,7 +55,7 @@ impl TreeCipher<'_> {
         }
     }
 
-    // Child c of each of two nodes.
+    // Child c of each of two nodes. One function of this and `children` would take two children and two nodes: `encrypt_two` again.
     pub fn child_of_both(self, c: usize, a: Block, b: Block) -> Two<Block>
         requires { c < 8 }
         ensures { (node_of result.one ≡ child_by (keys_for self.entry.keys.now) c (node_of a))
