@@ -7,7 +7,7 @@ ghost use Rattle.ends_bench_leaves.specs.Inner.Vectors.{field_for, element_value
 ghost use Rattle.ends_bench.specs.Inner.Rows.{row_in, IsBatch, IsCode, HasTerms, entry_in, sums_more, place_added};
 
 use aes_sbox::Tables;
-use code_places::row_term;
+use code_places::Code;
 use ends_bench_leaves::{Vector, add_output};
 use field::{Element, coefficient, noise_sum};
 use record::Layout;
@@ -34,7 +34,7 @@ fn pending_term(tables: Tables, code: &[u64; 40], layout: Layout, x: usize, i: u
     ensures { (result.place ≡ (row_in (round_keys code.now) layout x).place i)
         × (noise_in layout.field result.coefficient ≡ (row_in (round_keys code.now) layout x).coefficient i) }
 {
-    let term = row_term(tables, code, shape_of(layout), x, i);
+    let term = Code::new(tables, code, shape_of(layout)).row_term(x, i);
     Pending {
         place: term.place,
         coefficient: coefficient(layout.field, term.word),

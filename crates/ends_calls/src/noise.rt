@@ -11,6 +11,7 @@ use code::Window;
 use field::element_width;
 use record::leaves;
 use record_reading::read_noise;
+use window::Accumulated;
 use window_tests::{check_window, vector_words};
 use window_write::write_rows;
 
@@ -67,8 +68,15 @@ pub fn online(
     ) {
         return TwoLengths::refused(refusal);
     }
-    if !write_rows(source, layout, window, count, noise, v, u_out, v_out) {
-        return TwoLengths::refused(Refusal::NotElement);
+    if let Err(refusal) = write_rows(
+        source,
+        layout,
+        window,
+        Accumulated::Noise { noise, v },
+        u_out,
+        v_out,
+    ) {
+        return TwoLengths::refused(refusal);
     }
     TwoLengths {
         number: ACCEPTED,

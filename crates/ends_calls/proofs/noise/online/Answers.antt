@@ -1,6 +1,5 @@
 -- `ends_calls::noise::online` meets its contract: one law for each return. Assumes nothing.
-use Rattle.std.proofs.Common.{refl, ap}
-use mathlib.Core.Bool.{not}
+use Rattle.std.proofs.Common.{refl}
 use Rattle.answer.proofs.Refusals.{refusal-some}
 use Rattle.ends_calls.proofs.Calls.{noise-depth, noise-sizes, noise-online-fault, noise-refused, u_fitting, v_fitting, noise-words, noise_unfit, noise-written}
 use Rattle.ends_calls.proofs.noise.online.Goals as goal
@@ -18,19 +17,20 @@ returns-in-Err-check_window c =
 pub write_rows-requires-clause-sizes : goal.write_rows-requires-clause-sizes
 write_rows-requires-clause-sizes c = noise-sizes _ c.in-Ok.ensures
 
-pub write_rows-requires-clause-noise_fitting : goal.write_rows-requires-clause-noise_fitting
-write_rows-requires-clause-noise_fitting c =
+pub write_rows-requires-clause-fitting : goal.write_rows-requires-clause-fitting
+write_rows-requires-clause-fitting c =
     (u_fitting _ _ _ _ _ _ _ c.in-Ok.ensures c.in_default.ensures refl, v_fitting _ _ _ _ _ _ _ c.in-Ok.ensures c.in_default.ensures refl)
 
-pub returns-then-not-write_rows : goal.returns-then-not-write_rows
-returns-then-not-write_rows c =
-    rw c.refused-then-not-write_rows.ensures
-    (noise_unfit _ _ _ _ _ _ _ c.in-Ok.ensures c.in_default.ensures refl c.write_rows.ensures (ap not c.if-not-write_rows.true))
+pub returns-in-Err-write_rows : goal.returns-in-Err-write_rows
+returns-in-Err-write_rows c =
+    let w = c.in-Err-write_rows.ensures in
+    rw c.refused-in-Err-write_rows.ensures
+    (noise_unfit _ _ _ _ _ _ _ c.in-Ok.ensures c.in_default.ensures refl w.u_is w.elements_are _ w.told)
 
 pub overflow_mul-result : goal.overflow_mul-result
 overflow_mul-result c = noise-words _ _ _ _ _ _ _ c.in-Ok.ensures c.in_default.ensures refl c.element_width.ensures
 
 pub returns : goal.returns
 returns c =
-    noise-written _ _ _ _ _ _ _ c.in-Ok.ensures c.in_default.ensures refl c.write_rows.ensures (ap not c.if-not-write_rows.false)
-    c.element_width.ensures refl
+    let w = c.in_default-write_rows.ensures in
+    noise-written _ _ _ _ _ _ _ c.in-Ok.ensures c.in_default.ensures refl w.u_is w.elements_are w.told c.element_width.ensures refl
