@@ -115,7 +115,8 @@ impl<'a> Tables<'a> {
         Tables { words }
     }
 
-    // What a byte in a row adds to its column under SubBytes and MixColumns, as a wide column.
+    // What a byte in a row adds to its column under SubBytes and MixColumns, as a wide column. Here and in the rounds that a row or a column
+    // is below 4 is asked by clause: they are reckoned modulo 4, as FIPS 197 has it, which an enum of four is not.
     pub fn mixed(self, row: usize, x: u8) -> u64
         requires { row < 4 }
         ensures { wide_rows result ≡ mixed row x }
