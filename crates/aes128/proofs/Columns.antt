@@ -1,7 +1,7 @@
 -- Blocks of two words as columns of bytes. Assumes nothing.
 use mathlib.Core.Path.{◌≡◌, ◌∙◌, sym, ap}
 use mathlib.Core.List.{List, [], ◌∷◌}
-use Prim.Native.Nat.{ℕ, zero, suc, ◌+◌, ◌*◌, ◌/◌, ◌%◌, ◌^◌, ◌<◌}
+use Prim.Native.Nat.{ℕ, zero, suc, ◌+◌, ◌*◌, ◌/◌, ◌%◌, ◌<◌}
 use native.Mathlib.Omega.{arith}
 use lib.Bits.{bit_xor, xor_shr, xor_mod}
 use lib.Dec.{lit<}
@@ -9,7 +9,7 @@ use lib.ListN.{length, get_or, take, drop}
 use lib.Pow.{shr-shr}
 use Rattle.field.specs.Bytes.{le_number, le_bytes, columns_of, four_at, low_of, high_of}
 use Rattle.field.proofs.ByteWords.{le_bytes-le_number}
-use Rattle.aes128.specs.State.{column, xor_word, xor_state}
+use Rattle.aes128.specs.State.{xor_word, xor_state}
 use Rattle.aes128.specs.Inner.Blocks.{IsHalf}
 use Rattle.aes128.specs.Inner.Sizes.{IsWord, IsState}
 use Rattle.aes128.proofs.Words.{is_four, four_eq}
@@ -78,24 +78,3 @@ half_made l e p q r s = record { bytes = digits _ _ _ _ p q r s ∙ sym (is_four
   where
     digits : (a b x y : ℕ) → a < 256 → b < 256 → x < 256 → y < 256 → le_bytes 4 (a + b * 256 + x * 65536 + y * 16777216) ≡ a ∷ b ∷ x ∷ y ∷ []
     digits a b x y p q r s = four_eq (omega arith) (omega arith) (omega arith) (omega arith)
-
-low_half : (x y : ℕ) → le_bytes 4 (x + y * 4294967296) ≡ le_bytes 4 x
-unfolding le_bytes
-low_half x y =
-    let d1 : (x + y * 4294967296) / 256 ≡ x / 256 + y * 16777216 = omega arith in
-    let d2 : (x + y * 4294967296) / 256 / 256 ≡ x / 256 / 256 + y * 65536 = omega arith in
-    let d3 : (x + y * 4294967296) / 256 / 256 / 256 ≡ x / 256 / 256 / 256 + y * 256 = omega arith in
-    four_eq (omega arith) (rw d1 (omega arith)) (rw d2 (omega arith)) (rw d3 (omega arith))
-
-high_half : (x y : ℕ) → x < 2 ^ 32 → le_bytes 4 ((x + y * 4294967296) / 4294967296) ≡ le_bytes 4 y
-high_half x y h =
-    let e : (x + y * 4294967296) / 4294967296 ≡ y = omega arith in
-    ap (le_bytes 4) e
-
--- the columns of a block that is made of four halves
-pub block_made : {p q r s : ℕ} {k : List (List ℕ)} → length k ≡ 4 → IsHalf p (column k 0) → IsHalf q (column k 1) → IsHalf r (column k 2)
-    → IsHalf s (column k 3) → columns_of (p + q * 4294967296) (r + s * 4294967296) ≡ k
-unfolding columns_of
-block_made {p} {q} {r} {s} {k} e hp hq hr hs =
-    four_eq (low_half p q ∙ hp.bytes) (high_half p q hp.below ∙ hq.bytes) (low_half r s ∙ hr.bytes) (high_half r s hr.below ∙ hs.bytes)
-    ∙ sym (is_four [] k e)

@@ -1,4 +1,4 @@
--- The laws of `aes128`. Callers use Wide, Sizes, Words, Columns, Last and Rounds.
+-- The laws of `aes128`. Callers use Wide, Sizes, Given, Words, Columns, Last and Rounds.
 pub mod Words
 pub mod Wide
 pub mod Columns
@@ -7,3 +7,4 @@ mod Held
 mod Expansion
 pub mod Rounds
 pub mod Sizes
+pub mod Given

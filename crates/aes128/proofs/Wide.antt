@@ -1,14 +1,12 @@
 -- Laws of wide columns. Assumes nothing.
 use mathlib.Core.Path.{◌≡◌, ◌∙◌, sym, ap}
 use mathlib.Core.List.{List, [], ◌∷◌}
-use Prim.Native.Nat.{ℕ, ◌+◌, ◌*◌, ◌/◌, ◌%◌, ◌^◌, ◌<◌}
-use native.Mathlib.Omega.{arith}
+use Prim.Native.Nat.{ℕ, ◌/◌, ◌%◌, ◌^◌}
 use lib.Bits.{bit_xor, xor_shr, xor_mod, xor_comm}
 use Rattle.field.proofs.Xor.{xor_assoc}
 use Rattle.aes_sbox.specs.Byte.{s_box}
 use Rattle.aes_sbox.specs.Inner.Wide.{wide_rows}
 use Rattle.aes_sbox.specs.Inner.Tables.{mixed}
-use Rattle.aes_sbox.proofs.Columns.{rows_of_column}
 use Rattle.aes128.specs.State.{xor_word}
 use Rattle.aes128.specs.Cipher.{mix_column}
 use Rattle.aes128.proofs.Words.{four_eq}
@@ -43,10 +41,3 @@ pub mixed-column : (k a b x y ta tb tx ty : ℕ) {r : List ℕ} → r ≡ wide_r
 unfolding xor_word mix_column
 mixed-column k a b x y ta tb tx ty e ea eb ex ey =
     e ∙ ap wide_rows (ordered k ta tb tx ty) ∙ simp (wide-xor, ea, eb, ex, ey)
-
--- a wide column that is made of four bytes
-pub wide-made : {a b x y : ℕ} → a < 256 → b < 256 → x < 256 → y < 256
-    → wide_rows (a + (b + x * 256) * 2 ^ 24 + y * 2 ^ 56) ≡ a ∷ b ∷ x ∷ y ∷ []
-wide-made {a} {b} {x} {y} p q r s =
-    let e : a + (b + x * 256) * 2 ^ 24 + y * 2 ^ 56 ≡ a + b * 2 ^ 24 + x * 2 ^ 32 + y * 2 ^ 56 = omega arith in
-    ap wide_rows e ∙ rows_of_column a b x y p q r s

@@ -1,14 +1,12 @@
 // KeyExpansion of FIPS 197, and the forty words in which the cipher is lent its round keys.
-ghost use Rattle.std.specs.Prelude.{◌≡◌, [], ◌∷◌};
+ghost use Rattle.std.specs.Prelude.{◌≡◌};
 ghost use Rattle.field.specs.Bytes.{columns_of};
-ghost use Rattle.aes_sbox.specs.Inner.Wide.{wide_rows};
 ghost use Rattle.aes128.specs.State.{xor_word};
 ghost use Rattle.aes128.specs.Cipher.{key_expansion};
 ghost use Rattle.aes128.specs.Inner.Words.{wide_key, round_keys};
-ghost use Rattle.aes128.specs.Inner.Blocks.{IsHalf};
 ghost use Rattle.aes128.specs.Inner.Steps.{next_key};
 
-use aes_sbox::sub;
+use aes_sbox::{sub, wide_column};
 use field::Block;
 
 // The exclusive or of two words. Written out, which is as short: by `array::from_fn` the check does not find the proof.
@@ -45,50 +43,23 @@ fn expand_key(key: [[u8; 4]; 4]) -> [[[u8; 4]; 4]; 11]
     keys
 }
 
-// The wide column of four bytes.
-pub fn wide_of(a: u8, b: u8, c: u8, d: u8) -> u64
-    ensures { wide_rows result ≡ a ∷ b ∷ c ∷ d ∷ [] }
-{
-    (a as u64) + ((b as u64) + (c as u64) * 0x100) * 0x100_0000 + (d as u64) * 0x100_0000_0000_0000
-}
-
-// The wide column of a word.
-fn wide_column(a: [u8; 4]) -> u64
-    ensures { wide_rows result ≡ a }
-{
-    wide_of(a[0], a[1], a[2], a[3])
-}
-
 // The wide columns of a round key.
 fn wide_key(k: [[u8; 4]; 4]) -> [u64; 4]
     ensures { wide_key result 0 ≡ k }
 {
-    let w0 = wide_column(k[0]);
-    let w1 = wide_column(k[1]);
-    let w2 = wide_column(k[2]);
-    let w3 = wide_column(k[3]);
-    [w0, w1, w2, w3]
-}
-
-// The number of four bytes, least first.
-fn half_word(a: [u8; 4]) -> u64
-    ensures { IsHalf result a }
-{
-    u64::from(u32::from_le_bytes(a))
+    [
+        wide_column(k[0]),
+        wide_column(k[1]),
+        wide_column(k[2]),
+        wide_column(k[3]),
+    ]
 }
 
 // The block of a round key.
 fn block_key(k: [[u8; 4]; 4]) -> Block
     ensures { columns_of result.low result.high ≡ k }
 {
-    let h0 = half_word(k[0]);
-    let h1 = half_word(k[1]);
-    let h2 = half_word(k[2]);
-    let h3 = half_word(k[3]);
-    Block {
-        low: h0 + h1 * 0x1_0000_0000,
-        high: h2 + h3 * 0x1_0000_0000,
-    }
+    Block::of_columns(k)
 }
 
 // The words of eleven round keys.
@@ -113,7 +84,8 @@ fn words_of(k: [[[u8; 4]; 4]; 11]) -> [u64; 40]
     words
 }
 
-// The round keys of a key, as words.
+// The round keys of a key, as words: forty and no struct, since `full_round`, `last_round` and `share`, which docs/PROMISES.md names
+// (13.3), promise their answer for any forty words.
 pub fn schedule(key: [[u8; 4]; 4]) -> [u64; 40]
     ensures { round_keys result ≡ key_expansion key }
 {

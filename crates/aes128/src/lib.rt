@@ -4,4 +4,4 @@
 
 mod key;
 
-pub use key::{schedule, wide_of};
+pub use key::schedule;

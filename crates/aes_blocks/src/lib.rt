@@ -11,7 +11,7 @@ mod round;
 
 pub use round::{first_key, full_round, last_round, rows};
 
-// Two values: what is made of two blocks in alternation.
+// Two values: what is made of two blocks in alternation. No pair: contracts say which of the two by name.
 #[derive(Clone, Copy)]
 pub struct Two<T> {
     pub one: T,

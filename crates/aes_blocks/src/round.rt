@@ -36,7 +36,7 @@ fn mix_column(tables: Tables, s: &[[u8; 4]; 4], c: usize, k: u64) -> [u8; 4]
     )
 }
 
-// A round with all four steps, whose round key's columns begin at a place.
+// A round with all four steps, whose round key's columns begin at a place: any of forty words, as `aes128::schedule` says.
 pub fn full_round(tables: Tables, s: [[u8; 4]; 4], keys: &[u64; 40], at: usize) -> [[u8; 4]; 4]
     requires { at + 4 ≤ 40 }
     ensures { result ≡ full_round s (wide_key keys.now at) }
@@ -86,9 +86,9 @@ pub fn last_round(tables: Tables, s: [[u8; 4]; 4], keys: &[u64; 40]) -> [[u8; 4]
 pub fn first_key(s: Block, keys: &[u64; 40]) -> [[u8; 4]; 4]
     ensures { result ≡ add_round_key (columns_of s.low s.high) (block_key keys.now 0) }
 {
-    let t = Block {
-        low: s.low ^ keys[0],
-        high: s.high ^ keys[1],
+    let key = Block {
+        low: keys[0],
+        high: keys[1],
     };
-    t.columns()
+    s.add(key).columns()
 }

@@ -1,6 +1,6 @@
 -- The rounds of the blocks of x and i: the first two from what the blocks share, and those after them. Assumes nothing.
-use mathlib.Core.Path.{◌≡◌, refl, ◌∙◌, ap, ap₂}
-use mathlib.Core.List.{List, [], ◌∷◌}
+use mathlib.Core.Path.{◌≡◌, ◌∙◌, ap, ap₂}
+use mathlib.Core.List.{List, []}
 use Prim.Native.Nat.{ℕ, ◌%◌, ◌<◌}
 use lib.Bits.{bit_xor, xor_mod}
 use lib.ListN.{get_or}
@@ -12,15 +12,10 @@ use Rattle.aes128.specs.Inner.Words.{round_keys}
 use Rattle.aes_rows.specs.Inner.Row.{row_state, first_of, second_of, IsShared}
 use Rattle.aes128.proofs.Wide.{wide-xor}
 
--- a column's four bytes are the column
-column-bytes : (w v : List ℕ) → xor_word (get_or w 0 0 ∷ get_or w 1 0 ∷ get_or w 2 0 ∷ get_or w 3 0 ∷ []) v ≡ xor_word w v
-unfolding xor_word
-column-bytes w v = refl
-
--- a column with what a byte adds, from the wide column of its four bytes
+-- a column with what a byte adds, from its wide column
 pub entered : (s : List (List ℕ)) (c v w : ℕ) {r m : List ℕ} → r ≡ wide_rows (bit_xor v w)
-    → wide_rows v ≡ byte_at s 0 c ∷ byte_at s 1 c ∷ byte_at s 2 c ∷ byte_at s 3 c ∷ [] → wide_rows w ≡ m → r ≡ xor_word (column s c) m
-entered s c v w e f g = e ∙ wide-xor v w ∙ ap₂ xor_word f g ∙ column-bytes (column s c) _
+    → wide_rows v ≡ column s c → wide_rows w ≡ m → r ≡ xor_word (column s c) m
+entered s c v w e f g = e ∙ wide-xor v w ∙ ap₂ xor_word f g
 
 module _ (keys : List ℕ) (x i : ℕ) where
   -- the one byte of the block after the first AddRoundKey that depends on i

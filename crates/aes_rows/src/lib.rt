@@ -10,8 +10,7 @@ ghost use Rattle.aes128.specs.Inner.Blocks.{cipher_of};
 ghost use Rattle.aes_rows.specs.Inner.Row.{column_of, Lacks, first_of, second_of, IsShared};
 
 use aes_blocks::{Two, first_key, full_round, last_round, rows};
-use aes_sbox::Tables;
-use aes128::wide_of;
+use aes_sbox::{Tables, wide_column};
 use field::Block;
 
 // A column of a round of s, with its round key's column, without what the byte in row r adds, which comes of column 2 of s.
@@ -23,7 +22,8 @@ fn without_row(tables: Tables, s: &[[u8; 4]; 4], r: usize, k: u64) -> [u8; 4]
     rows(k ^ tables.mixed(a, s[3][a]) ^ tables.mixed(b, s[0][b]) ^ tables.mixed(c, s[1][c]))
 }
 
-// The states after rounds 1 and 2 that the blocks of x and i share, for one x: each without what the bytes that differ add.
+// The states after rounds 1 and 2 that the blocks of x and i share, for one x: each without what the bytes that differ add. Two states in
+// an array beside x, and no struct of all three: docs/PROMISES.md has this form (13.3).
 pub fn share(tables: Tables, keys: &[u64; 40], x: u64) -> [[[u8; 4]; 4]; 2]
     ensures { IsShared keys.now x result }
 {
@@ -42,7 +42,7 @@ fn with_byte(tables: Tables, s: &[[u8; 4]; 4], c: usize, row: usize, x: u8) -> [
     requires { (c < 4) × (row < 4) }
     ensures { result ≡ xor_word (column s.now c) (mixed row x) }
 {
-    rows(wide_of(s[c][0], s[c][1], s[c][2], s[c][3]) ^ tables.mixed(row, x))
+    rows(wide_column(s[c]) ^ tables.mixed(row, x))
 }
 
 // The state of the block of x and i after round 1, from the state that the blocks share: one lookup, for column 2.

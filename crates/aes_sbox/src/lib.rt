@@ -1,7 +1,7 @@
 // FIPS 197's S-box as a constant whose rule is proved by one computed test, and the tables of the rounds, which are filled from it.
 #![tactic(auto)]
 
-ghost use Rattle.std.specs.Prelude.{◌≡◌, ◌+◌, ◌*◌, ◌^◌, ◌<◌};
+ghost use Rattle.std.specs.Prelude.{◌≡◌, ◌+◌, ◌*◌, ◌^◌, ◌<◌, get_or};
 ghost use Rattle.aes_sbox.specs.Byte.{mul_bytes, s_box};
 ghost use Rattle.aes_sbox.specs.Inner.Wide.{wide_rows};
 ghost use Rattle.aes_sbox.specs.Inner.Tables.{mixed, half_turned, wide_column, RoundTables};
@@ -42,27 +42,28 @@ pub fn sub(x: u8) -> u8
 }
 
 // Twice a byte in the field of FIPS 197.
-fn twice(s: u64) -> u64
-    requires { s < 256 }
-    ensures { (result ≡ mul_bytes 2 s) × (result < 256) }
+fn twice(s: u8) -> u8
+    ensures { result ≡ mul_bytes 2 s }
 {
-    (s / 128 * 27) ^ (s * 2 % 256)
+    (s / 128 * 27) ^ (s % 128 * 2)
 }
 
 // Three times a byte in the field of FIPS 197.
-fn thrice(s: u64) -> u64
-    requires { s < 256 }
-    ensures { (result ≡ mul_bytes 3 s) × (result < 256) }
+fn thrice(s: u8) -> u8
+    ensures { result ≡ mul_bytes 3 s }
 {
     twice(s) ^ s
 }
 
 // The wide column of four bytes.
-fn wide_column(a: u64, b: u64, c: u64, d: u64) -> u64
-    requires { (a < 256) × (b < 256) × (c < 256) × (d < 256) }
-    ensures { result ≡ wide_column a b c d }
+pub fn wide_column(rows: [u8; 4]) -> u64
+    ensures column { result ≡ wide_column (get_or rows 0 0) (get_or rows 1 0) (get_or rows 2 0) (get_or rows 3 0) }
+    ensures rows { wide_rows result ≡ rows }
 {
-    d * 0x100_0000_0000_0000 + c * 0x1_0000_0000 + b * 0x100_0000 + a
+    let [a, b, c, d] = rows;
+    u64::from(a)
+        + (u64::from(b) + u64::from(c) * 0x100) * 0x100_0000
+        + u64::from(d) * 0x100_0000_0000_0000
 }
 
 // A wide column whose rows moved down by two.
@@ -72,26 +73,28 @@ fn half_turned(w: u64) -> u64
     w % 0x1_0000_0000 * 0x1_0000_0000 + w / 0x1_0000_0000
 }
 
-// Fills the tables' words.
+// Fills the tables' words: those of bytes in rows 0 to 3 as `mixed`, then those of the last round.
 pub fn fill_tables(words: &mut [u64; 1536])
     ensures { RoundTables words.new }
 {
     for x in 0..256 {
-        let s = u64::from(sub(x as u8));
+        let s = sub(x as u8);
         let d = twice(s);
         let e = thrice(s);
-        let m0 = wide_column(d, s, s, e);
-        let m1 = wide_column(e, d, s, s);
+        let m0 = wide_column([d, s, s, e]);
+        let m1 = wide_column([e, d, s, s]);
+        let w = u64::from(s);
         words[x] = m0;
         words[256 + x] = m1;
         words[512 + x] = half_turned(m0);
         words[768 + x] = half_turned(m1);
-        words[1024 + x] = s + s * 0x100_0000_0000;
-        words[1280 + x] = s * 0x1_0000 + s * 0x100_0000_0000_0000;
+        words[1024 + x] = w + w * 0x100_0000_0000;
+        words[1280 + x] = w * 0x1_0000 + w * 0x100_0000_0000_0000;
     }
 }
 
-// The tables that the rounds read, in words that a caller lends: by value the words would be copied once more, on 12 KiB of stack.
+// The tables that the rounds read, in words that a caller lends: by value the words would be copied once more, on 12 KiB of stack. All six
+// lie in one array, since `of` takes what `full_round`, `last_round` and `share` took (docs/PROMISES.md, 13.3): any 1,536 such words.
 #[derive(Clone, Copy)]
 pub struct Tables<'a> {
     words: &'a [u64; 1536],
@@ -112,7 +115,8 @@ impl<'a> Tables<'a> {
         Tables { words }
     }
 
-    // What a byte in a row adds to its column under SubBytes and MixColumns, as a wide column.
+    // What a byte in a row adds to its column under SubBytes and MixColumns, as a wide column. Here and in the rounds that a row or a column
+    // is below 4 is asked by clause: they are reckoned modulo 4, as FIPS 197 has it, which an enum of four is not.
     pub fn mixed(self, row: usize, x: u8) -> u64
         requires { row < 4 }
         ensures { wide_rows result ≡ mixed row x }
@@ -120,7 +124,8 @@ impl<'a> Tables<'a> {
         self.words[256 * row + x as usize]
     }
 
-    // The S-box's value at a byte at the places of rows 0 and 1, each in a half of the word.
+    // The S-box's value at a byte at the places of rows 0 and 1, each in a half of the word. It and `high_rows` are a look-up each, with
+    // an equation each: to one function of both the caller would pass a number that says which.
     pub fn low_rows(self, x: u8) -> u64
         ensures { result ≡ s_box x + s_box x * 2 ^ 40 }
     {

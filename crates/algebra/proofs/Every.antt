@@ -63,19 +63,10 @@ module _ (test : ℕ → Bool) where
       decide true q earlier = every_stop (i + n) m (omega arith) (ap (λ (b : Bool). b && test (i + n)) (sym q) ∙ f)
       decide false q earlier = earlier q
 
--- the test so far, one index a turn: before the loop, after a turn and after the loop
-module _ (test : ℕ → Bool) where
-  pub passed_none : true ≡ every 0 test
-  unfolding every
-  passed_none = refl
-
-  module _ {k : ℕ} {t : Bool} (e : t ≡ every k test) where
-    pub passed_more : {x : Bool} → x ≡ test k → (t && x) ≡ every (k + 1) test
-    unfolding every
-    passed_more q = rw (e, q, add-one)
-
-    pub passed_all : {n : ℕ} → k ≤ n → n ≤ k → t ≡ every n test
-    passed_all {n} h g = e ∙ ap (λ (m : ℕ). every m test) (le_antisymm {n = k} {m = n} h g)
+-- no test is passed
+pub passed_none : (test : ℕ → Bool) → true ≡ every 0 test
+unfolding every
+passed_none test = refl
 
 and_swap : (a b c d : Bool) → ((a && b) && (c && d)) ≡ ((a && c) && (b && d))
 and_swap true true c d = refl

@@ -8,7 +8,6 @@ use native.Mathlib.Nat.{suc-mul, mul-le-mul_right}
 use native.Mathlib.Omega.{arith}
 use lib.Dec.{eqb}
 use lib.ListN.{length, take, drop}
-use lib.Seq.{length-take-le}
 use borrow.Author.Tests.{eqb-true, eqb-false}
 use Rattle.algebra.specs.Choice.{choose}
 use Rattle.algebra.specs.Coding.{Coding, CodingLaws, at, flat, over}
@@ -18,10 +17,6 @@ use Rattle.algebra.specs.Sum.{accumulate}
 use Rattle.algebra.proofs.Coding.{flat_cong, length-flat, at_flat, ext_at, length-put, at_put-same, at_put-other, take-over}
 use Rattle.algebra.proofs.Sum.{sum_cong}
 use Rattle.algebra.proofs.Written.{front-put}
-
--- the front of a buffer has its length
-pub taken-length : (n : ℕ) (l : List ℕ) → n ≤ length l → n ≡ length (take n l)
-taken-length n l h = sym (length-take-le n l h)
 
 -- the words of f accumulated are those of the accumulated f
 pub flat-accumulated : (G : Group) (C : Coding G.Of) → CodingLaws C → (N : ℕ) (f : ℕ → G.Of) {w next : List ℕ} → w ≡ flat C N f

@@ -5,9 +5,9 @@ use Prim.Native.Nat.{ℕ, suc, ◌+◌, ◌*◌, ◌<◌, ◌≤◌}
 use native.Mathlib.Omega.{arith}
 use native.Mathlib.Nat.{mul-one}
 use native.Mathlib.Numerals.{add-one}
-use lib.ListN.{length, get_or, take, drop, set}
+use lib.ListN.{length, take, drop, set}
 use lib.Seq.{drop-cons, set_split, sets-eq, get_or-append_seam, get_or-append-add}
-use Rattle.algebra.specs.Coding.{CodingLaws, at}
+use Rattle.algebra.specs.Coding.{CodingLaws}
 use Rattle.algebra.specs.Inner.Put.{put}
 use Rattle.algebra.specs.Words.{one_word, two_words}
 
@@ -19,10 +19,6 @@ module _ {A : Type 0} (word : A → ℕ) (make : ℕ → A) where
         read-words = λ before a after. ap make (get_or-append_seam before (word a) after 0) ∙ there a;
         words-read = λ l k h. rw (back, drop-cons l k 0 (omega arith));
       }
-
-  -- value i is word i
-  pub at_one : (l : List ℕ) (i : ℕ) → at (one_word word make) l i ≡ make (get_or l i 0)
-  at_one l i = ap (λ (k : ℕ). make (get_or l k 0)) (mul-one i)
 
   -- replacing value i is storing its word at i
   pub put_one : (l : List ℕ) (i : ℕ) (a : A) → i < length l → put (one_word word make) l i a ≡ set l i (word a)

@@ -7,7 +7,8 @@ ghost use Rattle.amounts.specs.Calls.{read_amount, write_amount};
 use answer::{ACCEPTED, Refusal};
 use prime::Prime;
 
-// What reading answers: the number, and the amount, 0 where the call is refused.
+// What reading answers: the number, and the amount, 0 where the call is refused. It and `WrittenAmount` are what C is returned: no
+// `Result`.
 #[repr(C)]
 #[derive(Clone, Copy)]
 pub struct Amount {

@@ -4,6 +4,8 @@ use mathlib.Core.Bool.{Bool, true, false, ◌||◌, or-false}
 use mathlib.Core.List.{List, [], ◌∷◌}
 use Prim.Native.Nat.{ℕ, zero, suc, ◌+◌, ◌≤◌, ◌<◌}
 use native.Mathlib.Omega.{arith}
+use Rattle.std.proofs.Math.Nat.{le-max_left, le-max_right, max-le}
+use Rattle.std.specs.Prelude.{max}
 use native.Mathlib.Numerals.{add-one}
 use lib.Dec.{ltb}
 use lib.ListN.{length, get_or, drop, drop_of_length-le}
@@ -30,19 +32,13 @@ pub bits-all : (count : ℕ) (bytes : List ℕ) → length bytes ≡ count → A
 bits-all count bytes e all = none_above 1 bytes (above-none 1 bytes (λ k h. all k (omega arith)))
 
 -- of two bytes the larger decides
-larger : (limit a b : ℕ) (rest : Bool) → a ≤ b → ltb limit a || (ltb limit b || rest) ≡ ltb limit b || rest
-larger limit a b rest h = side (ltb limit a) refl
+larger : (limit a b : ℕ) (rest : Bool) → ltb limit a || (ltb limit b || rest) ≡ ltb limit (max a b) || rest
+larger limit a b rest = side (ltb limit a) refl (ltb limit b) refl
   where
-    side : (t : Bool) → ltb limit a ≡ t → ltb limit a || (ltb limit b || rest) ≡ ltb limit b || rest
-    side true e = let below : limit < b = omega (arith, ltb-true limit a e) in rw (e, lt-ltb limit b below)
-    side false e = rw e
-
-smaller : (limit a b : ℕ) (rest : Bool) → b ≤ a → ltb limit a || (ltb limit b || rest) ≡ ltb limit a || rest
-smaller limit a b rest h = side (ltb limit a) refl
-  where
-    side : (t : Bool) → ltb limit a ≡ t → ltb limit a || (ltb limit b || rest) ≡ ltb limit a || rest
-    side true e = rw e
-    side false e = let above : b ≤ limit = omega (arith, ltb-false limit a e) in rw (e, le-ltb limit b above)
+    side : (s : Bool) → ltb limit a ≡ s → (t : Bool) → ltb limit b ≡ t → ltb limit a || (ltb limit b || rest) ≡ ltb limit (max a b) || rest
+    side true e t f = rw (e, lt-ltb limit (max a b) (omega (arith, ltb-true limit a e, le-max_left a b)))
+    side false e true f = rw (e, f, lt-ltb limit (max a b) (omega (arith, ltb-true limit b f, le-max_right a b)))
+    side false e false f = rw (e, f, le-ltb limit (max a b) (max-le (ltb-false limit a e) (ltb-false limit b f)))
 
 -- before the first byte
 pub above-start : (limit : ℕ) (l : List ℕ) → any_above limit l ≡ ltb limit 0 || any_above limit (drop 0 l)
@@ -50,14 +46,10 @@ above-start limit l = rw (le-ltb limit 0 (omega arith))
 
 -- the search, where the largest of the first i bytes and the bytes left decide
 module _ (limit : ℕ) (l : List ℕ) (i most : ℕ) (so : any_above limit l ≡ ltb limit most || any_above limit (drop i l)) where
-  -- byte i is larger, or not
-  pub above_larger : (now : ℕ) → i < length l → most < get_or l i 0 → now ≡ get_or l i 0 → any_above limit l ≡ ltb limit now || any_above limit (drop (i + 1) l)
+  -- the larger of them and of byte i
+  pub above_more : {now : ℕ} → i < length l → now ≡ max most (get_or l i 0) → any_above limit l ≡ ltb limit now || any_above limit (drop (i + 1) l)
   unfolding any_above
-  above_larger now h a e = so ∙ rw (e, drop-cons l i 0 h, add-one) (larger limit most (get_or l i 0) _ (omega arith))
-
-  pub above-smaller : (now : ℕ) → i < length l → get_or l i 0 ≤ most → now ≡ most → any_above limit l ≡ ltb limit now || any_above limit (drop (i + 1) l)
-  unfolding any_above
-  above-smaller now h a e = so ∙ rw (e, drop-cons l i 0 h, add-one) (smaller limit most (get_or l i 0) _ a)
+  above_more h e = so ∙ rw (e, drop-cons l i 0 h, add-one) (larger limit most (get_or l i 0) _)
 
   -- after the last byte
   pub above_largest : length l ≤ i → ltb limit most ≡ any_above limit l

@@ -8,9 +8,7 @@ pub fn any_above(limit: u8, bytes: &[u8]) -> bool
 {
     let mut most: u8 = 0;
     for byte in bytes {
-        if *byte > most {
-            most = *byte;
-        }
+        most = most.max(*byte);
     }
     most > limit
 }

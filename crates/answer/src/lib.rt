@@ -11,7 +11,7 @@ mod lengths;
 pub use bytes::any_above;
 pub use lengths::{is_past, is_short, is_times};
 
-// The number of an accepted call.
+// The number of an accepted call, as C is returned it.
 pub const ACCEPTED: u32 = 0;
 
 // Why a call is refused, each by its number, under the names of the C header. specs/Numbers.antt says what each means.
@@ -49,7 +49,7 @@ impl Refusal {
     }
 }
 
-// The answer of a call with two output buffers.
+// The answer of a call with two output buffers. It and the next are what C is returned: a number with lengths beside it, and no `Result`.
 #[repr(C)]
 #[derive(Clone, Copy)]
 pub struct TwoLengths {

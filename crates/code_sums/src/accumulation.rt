@@ -1,5 +1,5 @@
 // Accumulating replaces place j by the sum of places 0 to j.
-ghost use Rattle.std.specs.Prelude.{◌≡◌, ◌*◌, length};
+ghost use Rattle.std.specs.Prelude.{◌≡◌, ℕ, ◌*◌, ◌≤◌, length};
 ghost use Rattle.algebra.specs.Coding.{CodingLaws, at, flat};
 ghost use Rattle.algebra.specs.Sum.{accumulate};
 ghost use Rattle.field.specs.Inner.Parts.{group_of};
@@ -8,14 +8,15 @@ ghost use Rattle.field.specs.Kind.{kind_of, element_words};
 use field::{BINARY, Block, FieldElement};
 use prime::Prime;
 
-// Accumulates `count` values.
-fn accumulate<E: FieldElement>(words: &mut [u64], count: usize)
+// Accumulates the values of a vector, of however many it is.
+fn accumulate<E: FieldElement>(words: &mut [u64])
     requires coded { CodingLaws E.parts.coding }
-    requires whole { length words.old ≡ count * E.parts.coding.width }
-    ensures { words.new ≡ flat E.parts.coding count (accumulate (group_of E.parts) (at E.parts.coding words.old)) }
+    requires wide { 1 ≤ E.parts.coding.width }
+    ensures { (count : ℕ) → length words.old ≡ count * E.parts.coding.width
+        → words.new ≡ flat E.parts.coding count (accumulate (group_of E.parts) (at E.parts.coding words.old)) }
 {
     let mut total = E::zero();
-    for i in 0..count {
+    for i in 0..E::count(words) {
         total = total.add(E::at(words, i));
         total.put(words, i);
     }
@@ -28,21 +29,20 @@ pub fn accumulate_noise(field: usize, words: &mut [u64])
 {
     if field == BINARY {
         // A noise word of field 1 is a u64.
-        accumulate::<u64>(words, words.len());
+        accumulate::<u64>(words);
     } else {
-        accumulate::<Prime>(words, words.len());
+        accumulate::<Prime>(words);
     }
 }
 
-// Accumulates `count` elements of a field.
-pub fn accumulate_elements(field: usize, count: usize, words: &mut [u64])
-    requires { length words.old ≡ count * element_words field }
-    ensures { words.new ≡ flat (kind_of field).field.elements count
+// Accumulates elements of a field, of however many the words are.
+pub fn accumulate_elements(field: usize, words: &mut [u64])
+    ensures { (count : ℕ) → length words.old ≡ count * element_words field → words.new ≡ flat (kind_of field).field.elements count
         (accumulate (kind_of field).field.scaled.group (at (kind_of field).field.elements words.old)) }
 {
     if field == BINARY {
-        accumulate::<Block>(words, count);
+        accumulate::<Block>(words);
     } else {
-        accumulate::<Prime>(words, count);
+        accumulate::<Prime>(words);
     }
 }

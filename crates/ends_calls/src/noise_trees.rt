@@ -11,7 +11,7 @@ ghost use Rattle.ends.specs.Inner.Noise.{Ready, TreeRead, content_of};
 
 use aes_sbox::Tables;
 use code_sums::{accumulate_elements, accumulate_noise};
-use record::{Layout, Tree, leaves, sibling_count};
+use record::{Layout, Tree, sibling_count};
 use record_reading::known_tree;
 use tree::Punctured;
 use tree_fill::add_punctured;
@@ -73,6 +73,6 @@ pub fn write_accumulated(source: &[u8], layout: Layout, noise: &mut [u64], v: &m
         (accumulate (kind_of layout.field).field.scaled.group (v0 (content_of source.now layout)))) }
 {
     write_trees(source, layout, noise, v);
-    accumulate_elements(layout.field, leaves(layout.depth), v);
+    accumulate_elements(layout.field, v);
     accumulate_noise(layout.field, noise);
 }

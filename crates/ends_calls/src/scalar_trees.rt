@@ -10,7 +10,7 @@ ghost use Rattle.ends.specs.Inner.Scalar.{Ready, content_of};
 use aes_sbox::Tables;
 use code_sums::accumulate_elements;
 use field::{BINARY, element_width, word_at};
-use record::{Layout, leaves};
+use record::Layout;
 use tree_fill::add_leaves;
 use tree_sums::zero_words;
 use tree_walk::{TreeCipher, child_keys, columns_at};
@@ -53,7 +53,7 @@ pub fn write_accumulated(source: &[u8], layout: Layout, w: &mut [u64])
         (accumulate (kind_of layout.field).field.scaled.group (w0 (content_of source.now layout))) }
 {
     write_trees(source, layout, w);
-    accumulate_elements(layout.field, leaves(layout.depth), w);
+    accumulate_elements(layout.field, w);
 }
 
 // Writes the two words of Δ of an accepted record.

@@ -12,13 +12,13 @@ use Rattle.algebra.proofs.Flats.{flat-accumulated}
 use Rattle.field.specs.Kind.{kind_of}
 use Rattle.field.proofs.BothKinds.{kind_laws}
 
--- the words of N elements of a field, accumulated as many as N is told to be
-module _ (field N : ℕ) (f : ℕ → Value (kind_of field).field) {w : List ℕ} (e : w ≡ flat (kind_of field).field.elements N f) {n : ℕ} (same : n ≡ N) where
-  pub accumulated : {next : List ℕ}
-      → next ≡ flat (kind_of field).field.elements n (accumulate (kind_of field).field.scaled.group (at (kind_of field).field.elements w))
-      → next ≡ flat (kind_of field).field.elements N (accumulate (kind_of field).field.scaled.group f)
-  accumulated q =
-      flat-accumulated (kind_of field).field.scaled.group (kind_of field).field.elements (kind_laws field).field.elements N f e (rw same at q)
+-- the words of N elements of a field, accumulated
+pub accumulated : (field N : ℕ) (f : ℕ → Value (kind_of field).field) {w : List ℕ} → w ≡ flat (kind_of field).field.elements N f
+    → {next : List ℕ}
+    → next ≡ flat (kind_of field).field.elements N (accumulate (kind_of field).field.scaled.group (at (kind_of field).field.elements w))
+    → next ≡ flat (kind_of field).field.elements N (accumulate (kind_of field).field.scaled.group f)
+accumulated field N f e q =
+    flat-accumulated (kind_of field).field.scaled.group (kind_of field).field.elements (kind_laws field).field.elements N f e q
 
 -- the words of N noise values, all of them accumulated
 pub noise-accumulated : (field N : ℕ) (f : ℕ → NoiseValue (kind_of field).field) {w : List ℕ} → w ≡ flat (kind_of field).field.noise_values N f

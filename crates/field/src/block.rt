@@ -4,7 +4,7 @@ ghost use Rattle.field.specs.Bytes.{columns_of, word_at};
 ghost use Rattle.field.specs.Inner.Written.{with_word};
 ghost use Rattle.field.specs.Binary.{block, block_zero, block_add, block_sub, block_scale, block_leaf, bit_add};
 
-use crate::bytes::{high_word, low_word, put_word, word_at, word_columns};
+use crate::bytes::{put_word, word_at};
 
 // An element of field 1: 16 bytes as two words, each least byte first.
 #[derive(Clone, Copy)]
@@ -16,7 +16,7 @@ pub struct Block {
 impl Block {
     pub const ZERO: Block = Block { low: 0, high: 0 };
 
-    // The zero of the element kind.
+    // The zero of the element kind: the constant as a constructor too, as `Prime` has it (docs/PROMISES.md, 13.2).
     pub fn zero() -> Block
         ensures value { result ≡ block_zero }
         ensures constant { (result.low ≡ Block.ZERO.low) × (result.high ≡ Block.ZERO.high) }
@@ -48,13 +48,14 @@ impl Block {
         if bit == 1 { self } else { Block::ZERO }
     }
 
-    // The element of a leaf: its 16 bytes.
+    // The element of a leaf: its 16 bytes. It and `columns` have names, which say what the four arrays are; `From` would not.
     pub fn of_columns(columns: [[u8; 4]; 4]) -> Block
         ensures { result ≡ block_leaf columns }
     {
+        let [[a, b, c, d], [e, f, g, h], [i, j, k, l], [m, n, o, p]] = columns;
         Block {
-            low: low_word(columns),
-            high: high_word(columns),
+            low: u64::from_le_bytes([a, b, c, d, e, f, g, h]),
+            high: u64::from_le_bytes([i, j, k, l, m, n, o, p]),
         }
     }
 
@@ -82,7 +83,9 @@ impl Block {
     pub fn columns(self) -> [[u8; 4]; 4]
         ensures { result ≡ columns_of self.low self.high }
     {
-        word_columns(self.low, self.high)
+        let [a, b, c, d, e, f, g, h] = self.low.to_le_bytes();
+        let [i, j, k, l, m, n, o, p] = self.high.to_le_bytes();
+        [[a, b, c, d], [e, f, g, h], [i, j, k, l], [m, n, o, p]]
     }
 }
 

@@ -1,4 +1,5 @@
-// Elements of either field by the field's number: made of leaves, words and bytes, added, scaled, compared, tested and written.
+// Elements of either field by the field's number, which may be any (`BINARY` says why): made of leaves, words and bytes, added, scaled,
+// compared, tested and written.
 ghost use Rattle.std.specs.Prelude.{◌≡◌, ◌+◌, ◌*◌, ◌≤◌, length};
 ghost use Rattle.algebra.specs.Coding.{at};
 ghost use Rattle.field.specs.Binary.{block};
@@ -10,7 +11,7 @@ ghost use Rattle.field.specs.Inner.Written.{with_words};
 
 use crate::BINARY;
 use crate::block::Block;
-use crate::bytes::{low_word, put_word, word_at};
+use crate::bytes::{put_word, word_at};
 use crate::parts::FieldElement;
 use crate::width::element_width;
 use prime::Prime;
@@ -22,6 +23,7 @@ pub struct Element {
     pub high: u64,
 }
 
+// By name and not by `From`: an element's words do not say of which field it is.
 impl Element {
     // As an element of field 1.
     fn block(self) -> Block
@@ -74,10 +76,11 @@ pub fn element_length(field: usize) -> usize
 pub fn leaf_element(field: usize, leaf: [[u8; 4]; 4]) -> Element
     ensures { element_in field result ≡ (kind_of field).leaf leaf }
 {
+    let block = Block::of_columns(leaf);
     if field == BINARY {
-        Element::from(Block::of_columns(leaf))
+        Element::from(block)
     } else {
-        Element::from(Prime::reduce(low_word(leaf)))
+        Element::from(Prime::reduce(block.low))
     }
 }
 
@@ -86,12 +89,13 @@ pub fn element_at(field: usize, bytes: &[u8], at: usize) -> Element
     requires { at + element_length field ≤ length bytes.now }
     ensures { result ≡ element_at field bytes.now at }
 {
-    let low = word_at(bytes, at);
     if field == BINARY {
-        let high = word_at(bytes, at + 8);
-        return Element { low, high };
+        Element::from(Block::read(bytes, at))
+    } else {
+        Element::from(Prime {
+            word: word_at(bytes, at),
+        })
     }
-    Element { low, high: 0 }
 }
 
 // Element i of a vector, which has room for two words an element in either field.
@@ -139,7 +143,7 @@ pub fn element_scaled(field: usize, value: u64, a: Element) -> Element
     }
 }
 
-// Whether two elements are equal.
+// Whether two elements are equal. No `PartialEq`, which has no field's number: in field 2 the second words do not count.
 pub fn same_element(field: usize, a: Element, b: Element) -> bool
     ensures { Compared field a b result }
 {

@@ -1,4 +1,5 @@
-// Fields by their number, and noise values of either field as one word: which are admitted, coefficients and sums.
+// Fields by their number, which may be any (`BINARY` says why), and noise values of either field as one word: which are admitted,
+// coefficients and sums.
 ghost use Rattle.std.specs.Prelude.{◌≡◌};
 ghost use Rattle.field.specs.ByNumber.{is_field, is_noise, one_noise};
 ghost use Rattle.field.specs.Kind.{kind_of};

@@ -1,5 +1,5 @@
 // What elements of both fields and noise words of field 1 share: a group, and values in a vector of words.
-ghost use Rattle.std.specs.Prelude.{◌≡◌, ◌+◌, ◌*◌, ◌≤◌, length};
+ghost use Rattle.std.specs.Prelude.{◌≡◌, ◌+◌, ◌*◌, ◌/◌, ◌≤◌, length};
 ghost use Rattle.algebra.specs.Coding.{at};
 ghost use Rattle.algebra.specs.Inner.Put.{put};
 ghost use Rattle.field.specs.Inner.Parts.{Parts, block_parts, prime_parts, bit_parts};
@@ -19,6 +19,10 @@ pub trait FieldElement: Copy {
 
     fn sub(self, other: Self) -> Self
         ensures { result ≡ parts.sub self other };
+
+    // How many values a vector holds.
+    fn count(words: &[u64]) -> usize
+        ensures { result ≡ length words.now / parts.coding.width };
 
     // Value i of a vector.
     fn at(words: &[u64], i: usize) -> Self
@@ -44,6 +48,10 @@ impl FieldElement for Block {
 
     fn sub(self, other: Block) -> Block {
         self.sub(other)
+    }
+
+    fn count(words: &[u64]) -> usize {
+        words.len() / 2
     }
 
     fn at(words: &[u64], i: usize) -> Block {
@@ -74,6 +82,10 @@ impl FieldElement for Prime {
         self.sub(other)
     }
 
+    fn count(words: &[u64]) -> usize {
+        words.len()
+    }
+
     fn at(words: &[u64], i: usize) -> Prime {
         Prime { word: words[i] }
     }
@@ -97,6 +109,10 @@ impl FieldElement for u64 {
 
     fn sub(self, other: u64) -> u64 {
         add_bits(self, other)
+    }
+
+    fn count(words: &[u64]) -> usize {
+        words.len()
     }
 
     fn at(words: &[u64], i: usize) -> u64 {

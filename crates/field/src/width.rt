@@ -1,4 +1,4 @@
-// How many words an element takes, by the field's number.
+// How many words an element takes, by the field's number, which may be any (`BINARY` says why).
 ghost use Rattle.std.specs.Prelude.{◌≡◌};
 ghost use Rattle.field.specs.Kind.{element_words};
 

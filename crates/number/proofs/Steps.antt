@@ -2,10 +2,10 @@
 -- from the tests that lead to it. Assumes nothing.
 use Prim.Native.Nat.{ℕ, ◌+◌, ◌-◌, ◌*◌, ◌/◌, ◌%◌, ◌≤◌, ◌<◌}
 use mathlib.Core.List.{List}
-use mathlib.Core.Path.{◌≡◌}
+use mathlib.Core.Path.{◌≡◌, refl}
 use borrow.Author.Tests.{lt-ltb, le-ltb, eq-eqb, ne_eqb}
 use Rattle.number.proofs.Places.{split}
-use native.Mathlib.Numerals.{add-one}
+use native.Mathlib.Numerals.{add-one, towards_suc}
 use native.Mathlib.Omega.{arith}
 use lib.ListN.{length, get_or, set}
 use Rattle.number.specs.Number.{write_number, last_group, read_number, number_length}
@@ -81,14 +81,14 @@ module _ (n : ℕ) where
     unfolding write_number
     wrote_1 h = record { place = simp (lt-ltb _ _ h); stored = simp (lt-ltb _ _ h) }
 
-    pub wrote_2 : 128 ≤ n → n < 16384 → Wrote b at (write_number n) (at + 1 + 1) (set (set b at (128 + n % 128)) (at + 1) (n / 128))
+    pub wrote_2 : 128 ≤ n → n < 16384 → Wrote b at (write_number n) (at + 2) (set (set b at (128 + n % 128)) (at + 1) (n / 128))
     unfolding write_number
     wrote_2 h g = record { place = simp (le-ltb _ _ h, lt-ltb _ _ g) (omega arith); stored = simp (le-ltb _ _ h, lt-ltb _ _ g, add-one) }
 
     pub wrote_3 : 128 ≤ n → 16384 ≤ n
-        → Wrote b at (write_number n) (at + 1 + 1 + 1) (set (set (set b at (128 + n % 128)) (at + 1) (128 + n / 128 % 128)) (at + 1 + 1) (n / 16384))
+        → Wrote b at (write_number n) (at + 3) (set (set (set b at (128 + n % 128)) (at + 1) (128 + n / 128 % 128)) (at + 2) (n / 16384))
     unfolding write_number
-    wrote_3 h g = record { place = simp (le-ltb _ _ h, le-ltb _ _ g) (omega arith); stored = simp (le-ltb _ _ h, le-ltb _ _ g, add-one) }
+    wrote_3 h g = record { place = simp (le-ltb _ _ h, le-ltb _ _ g) (omega arith); stored = simp (le-ltb _ _ h, le-ltb _ _ g) (simp towards_suc refl) }
 
     module _ (room : Room b at (write_number n)) where
       pub room_1 : at < length b
@@ -97,5 +97,5 @@ module _ (n : ℕ) where
       pub room_2 : 128 ≤ n → at + 1 < length b
       room_2 h = split n 16384 (λ g. omega (arith, length-number, two h g)) (λ g. omega (arith, length-number, three h g))
 
-      pub room_3 : 128 ≤ n → 16384 ≤ n → at + 1 + 1 < length b
+      pub room_3 : 128 ≤ n → 16384 ≤ n → at + 2 < length b
       room_3 h g = omega (arith, length-number, three h g)

@@ -1,4 +1,5 @@
-// The number code of records: reading and writing a number of at most three bytes.
+// The number code of records: reading and writing a number of at most three bytes. Readers and the writer take a whole record and a
+// place in it, and give the place after: a place is no length of the slice, and the page's definitions go by places.
 #![tactic(auto)]
 
 ghost use Rattle.std.specs.Prelude.{true, ◌≡◌, ◌<◌, IfOk};
@@ -77,13 +78,11 @@ pub fn write_number(buffer: &mut [u8], at: usize, n: usize) -> usize
         return at + 1;
     }
     buffer[at] = (128 + n % 128) as u8;
-    let at1 = at + 1;
     if n < 16384 {
-        buffer[at1] = (n / 128) as u8;
-        return at1 + 1;
+        buffer[at + 1] = (n / 128) as u8;
+        return at + 2;
     }
-    buffer[at1] = (128 + n / 128 % 128) as u8;
-    let at2 = at1 + 1;
-    buffer[at2] = (n / 16384) as u8;
-    at2 + 1
+    buffer[at + 1] = (128 + n / 128 % 128) as u8;
+    buffer[at + 2] = (n / 16384) as u8;
+    at + 3
 }

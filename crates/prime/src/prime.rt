@@ -15,6 +15,7 @@ impl Prime {
 
     pub const ONE: Prime = Prime { word: 1 };
 
+    // The constants as constructors too, whose contracts tie them to the definitions of laws (docs/PROMISES.md, 13.2).
     // The modulus p.
     pub fn modulus() -> u64
         ensures value { result ≡ modulus }

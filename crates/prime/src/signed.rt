@@ -1,4 +1,5 @@
-// Elements of field 2 as signed numbers of 64 bits, around the middle of the field.
+// Elements of field 2 as signed numbers of 64 bits, around the middle of the field. By the names that docs/PROMISES.md has (13.1), and
+// not by `From` and `TryFrom`, which do not say around what.
 ghost use Rattle.std.specs.Prelude.{◌≡◌};
 ghost use Rattle.prime.specs.Signed.{to_signed, from_signed, prime_negate};
 

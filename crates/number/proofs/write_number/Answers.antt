@@ -12,17 +12,17 @@ returns-then-n-lt128 c = wrote_1 _ _ _ c.if-n-lt128.true
 pub bounds-buffer-at-2 : goal.bounds-buffer-at-2
 bounds-buffer-at-2 c = search room_1
 
-pub bounds-buffer-at1 : goal.bounds-buffer-at1
-bounds-buffer-at1 c = search (rules, room_2)
+pub bounds-buffer-at-then-n-lt16384 : goal.bounds-buffer-at-then-n-lt16384
+bounds-buffer-at-then-n-lt16384 c = search (rules, room_2)
 
 pub returns-then-n-lt16384 : goal.returns-then-n-lt16384
 returns-then-n-lt16384 c = wrote_2 _ _ _ c.if-n-lt128.false c.if-n-lt16384.true
 
-pub bounds-buffer-at1-2 : goal.bounds-buffer-at1-2
-bounds-buffer-at1-2 c = search (rules, room_2)
+pub bounds-buffer-at-3 : goal.bounds-buffer-at-3
+bounds-buffer-at-3 c = search (rules, room_2)
 
-pub bounds-buffer-at2 : goal.bounds-buffer-at2
-bounds-buffer-at2 c = simp length-set (search room_3)
+pub bounds-buffer-at-4 : goal.bounds-buffer-at-4
+bounds-buffer-at-4 c = simp length-set (search room_3)
 
 pub returns : goal.returns
 returns c = wrote_3 _ _ _ c.if-n-lt128.false c.if-n-lt16384.false
