@@ -1,6 +1,6 @@
 -- A test of what was read, and the definition's. Assumes nothing.
-use Rattle.std.proofs.Common.{ℕ, Bool, true, false, ◌≡◌, refl, sym, ap, ◌∙◌}
-use Rattle.std.specs.Prelude.{Result, Ok, Err}
+use Rattle.std.proofs.Common.{ℕ, Bool, true, false, ◌≡◌, refl, sym, ap, ◌∙◌, subst}
+use Rattle.std.specs.Prelude.{Result, Ok, Err, IfOk}
 use Rattle.answer.specs.declared.Refusal.{Refusal}
 use Rattle.answer.specs.Refused.{number_of}
 use Rattle.number.specs.Answer.{number_read}
@@ -34,3 +34,13 @@ tested_number ok reason read result t agree =
     same : (r : Result (ℕ × ℕ) Refusal) → number_read r ≡ parsed (λ x. x) r
     same (Ok read) = refl
     same (Err refusal) = refl
+
+-- what holds of what was read holds of what passed
+pub tested_keeps : {A : Type 0} (P : A × ℕ → Type 0) (answers : A → Bool → Type 0) (reason : Refusal) (read result : Result (A × ℕ) Refusal)
+    → Tested answers reason read result → IfOk read P → IfOk result P
+tested_keeps {A} P answers reason (Ok x) result t p = subst (λ (r : Result (A × ℕ) Refusal). IfOk r P) (sym t.2) (of t.0)
+  where
+    of : (b : Bool) → IfOk (choose b (Ok x) (Err reason)) P
+    of true = p
+    of false = tt
+tested_keeps {A} P answers reason (Err refusal) result t p = subst (λ (r : Result (A × ℕ) Refusal). IfOk r P) (sym t) tt

@@ -11,7 +11,7 @@ use number::{read_byte, read_number, tested};
 use record::{Layout, leaves};
 
 // Whether a record has a count of bytes from a place on.
-pub fn has_bytes(source: &[u8], at: usize, count: usize) -> bool
+fn has_bytes(source: &[u8], at: usize, count: usize) -> bool
     ensures { result ≡ leb (at + count) (length source.now) }
 {
     count <= source.len() && at <= source.len() - count
@@ -89,7 +89,7 @@ fn read_sizes(source: &[u8], at: usize, field: usize) -> Result<Layout, Refusal>
     read_after_depth(source, at, field, depth)
 }
 
-// The head of a record of the end with this byte.
+// The head of a record of the end with this byte. A byte and no `End`, as ARCHITECTURE.md names it: the answer is promised for every byte.
 pub fn read_head(source: &[u8], end: u8) -> Result<Layout, Refusal>
     ensures { record_read source.now result ≡ read_head end source.now }
 {
