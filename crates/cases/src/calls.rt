@@ -35,7 +35,8 @@ pub fn dealings(rt: &impl Print) {
     }
 }
 
-// The number of a window at the noise end, of a record of eight leaves in field 2.
+// The number of a window at the noise end, of a record of eight leaves in field 2. It is printed, so it stays the number that C has. Each
+// end has its calls and its vectors, so one function for both would take the calls as parameters.
 fn noise_window(source: &[u8], first: usize, count: usize) -> u32 {
     let mut noise = [0u64; 8];
     let mut v = [0u64; 8];

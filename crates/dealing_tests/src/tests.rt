@@ -26,7 +26,8 @@ fn is_branch(depth: usize, branch_bits: usize) -> bool
     is_size(3, branch_bits) && depth % branch_bits == 0
 }
 
-// Whether a count is 1 to the smaller of a limit and N.
+// Whether a count is 1 to the smaller of a limit and N. It and `is_outputs` stay beside `is_size`: by their names `check_sizes` reads as
+// the document's list, a line a test.
 fn is_count(limit: usize, depth: usize, count: usize) -> bool
     requires { depth ≤ 16 }
     ensures { result ≡ is_size (min limit (2 ^ depth)) count }
@@ -101,7 +102,8 @@ pub fn check_lengths(input: &Input) -> Result<(), Refusal>
     Ok(())
 }
 
-// Whether the positions are strictly rising and below N.
+// Whether the positions are strictly rising and below N. The loop carries the least that the next may be: pairs by `windows` would leave
+// the first position to a test of its own.
 fn rising(depth: usize, positions: &[u32]) -> bool
     requires { depth ≤ 16 }
     ensures { result ≡ positions_admitted (2 ^ depth) (length positions.now) positions.now }

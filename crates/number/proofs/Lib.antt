@@ -3,3 +3,4 @@ pub mod Laws
 pub mod Records
 pub mod Places
 mod Steps
+pub mod Tests

@@ -5,14 +5,32 @@
 ghost use Rattle.std.specs.Prelude.{true, ◌≡◌, ◌<◌, IfOk};
 ghost use Rattle.number.specs.Reading.{Whole, read_byte};
 ghost use Rattle.number.specs.Inner.Known.{is_whole};
+ghost use Rattle.number.specs.Inner.Tested.{Tested};
 ghost use Rattle.number.specs.Number.{write_number, read_number, number_length};
 ghost use Rattle.number.specs.Inner.Written.{Room, Wrote, numbers};
 ghost use Rattle.number.specs.Answer.{number_read};
 
 use answer::Refusal;
 
+// What was read, where it passes a test; else refused.
+#[inline(always)]
+pub fn tested<A: Copy, F: FnOnce(A) -> bool>(
+    read: Result<(A, usize), Refusal>,
+    refusal: Refusal,
+    test: F,
+) -> Result<(A, usize), Refusal>
+    requires { IfOk read (λ r. F.pre test r.0) }
+    ensures { Tested (F.post test) refusal read result }
+{
+    let (value, at) = read?;
+    if !test(value) {
+        return Err(refusal);
+    }
+    Ok((value, at))
+}
+
 // The byte at a place, and the place after it.
-fn read_byte(source: &[u8], at: usize) -> Result<(usize, usize), Refusal>
+pub fn read_byte(source: &[u8], at: usize) -> Result<(usize, usize), Refusal>
     ensures value { number_read result ≡ read_byte source.now at }
     ensures byte { IfOk result (λ read. read.0 < 256) }
 {

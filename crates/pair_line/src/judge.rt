@@ -15,7 +15,8 @@ use record_reading::{read_noise, read_scalar};
 // The leaves that there is memory for.
 const MOST_LEAVES: usize = 1024;
 
-// Writes u and v at every output of an accepted noise record.
+// Writes u and v at every output of an accepted noise record. The arrays are those of PROMISES.md, 13.9, and the call says how much of
+// each it filled. Each end has its calls, its outputs and its promise, so this and the next stay two.
 fn noise_outputs(source: &[u8], layout: Layout, u_out: &mut [u64], v_out: &mut [u64])
     requires { noise.Ready source.now layout × (2 ^ layout.depth ≤ 1024) × (length u_out.old ≡ 512) × (length v_out.old ≡ 1024) }
     ensures { NoiseOutputs source.now layout u_out.new v_out.new }

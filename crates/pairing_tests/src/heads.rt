@@ -16,7 +16,7 @@ fn same_block(a: &[u8], x: usize, b: &[u8], y: usize) -> bool
     a[x..x + 16] == b[y..y + 16]
 }
 
-// Whether field and sizes are all equal.
+// Whether field and sizes are all equal. No derived `==` of layouts, which would compare where the bodies begin, too.
 fn same_sizes(p: Layout, q: Layout) -> bool
     ensures { result ≡ same_sizes p q }
 {

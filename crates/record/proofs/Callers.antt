@@ -32,18 +32,14 @@ use Rattle.record.specs.Answer.{head_if_whole}
 
 pub record Ranges (h : Head) : Type 0 where
   pub field : (h.field ≡ 1 → ⊥) → h.field ≡ 2
-  pub depth_least : 1 ≤ h.depth
   pub depth-most : h.depth ≤ 16
   pub branch_least : 1 ≤ h.branch_bits
   pub branch-most : h.branch_bits ≤ 3
   pub branch-divides : h.depth % h.branch_bits ≡ 0
-  pub trees_least : 1 ≤ h.trees
   pub trees-most : h.trees ≤ 64
-  pub trees-leaves : h.trees ≤ 2 ^ h.depth
   pub terms_least : 1 ≤ h.terms
   pub terms-most : h.terms ≤ 32
   pub terms-leaves : h.terms ≤ 2 ^ h.depth
-  pub outputs_least : 1 ≤ h.outputs
   pub outputs-most : h.outputs ≤ 2 ^ h.depth / 2
 
 either_field : (f : ℕ) → is_field f ≡ true → (f ≡ 1 → ⊥) → f ≡ 2
@@ -63,18 +59,14 @@ head_ranges end s {h} e =
     let n = size-range (most_outputs h.depth) s p.at5 p.outputs in
     record {
       field = either_field h.field (field-exact s end p.field).0;
-      depth_least = d.0;
       depth-most = d.1;
       branch_least = g.0;
       branch-most = g.1;
       branch-divides = branch-multiple h.depth s p.at2 p.branch;
-      trees_least = t.0;
       trees-most = le_trans t.1 (min-le_left 64 (2 ^ h.depth));
-      trees-leaves = le_trans t.1 (min-le_right 64 (2 ^ h.depth));
       terms_least = l.0;
       terms-most = le_trans l.1 (min-le_left 32 (2 ^ h.depth));
       terms-leaves = le_trans l.1 (min-le_right 32 (2 ^ h.depth));
-      outputs_least = n.0;
       outputs-most = n.1;
     }
 

@@ -2,13 +2,16 @@
 use Prim.Native.Nat.{ℕ, ◌+◌, ◌-◌, ◌%◌, ◌^◌, ◌≤◌}
 use mathlib.Core.Bool.{Bool, true, false}
 use mathlib.Core.List.{List}
-use mathlib.Core.Path.{◌≡◌, refl, ap, ◌∙◌}
+use mathlib.Core.Path.{◌≡◌, refl, sym, ap, ◌∙◌}
 use borrow.Author.Tests.{leb-true, le-leb, eqb-true}
 use native.Mathlib.Nat.{le_trans, min-le_left}
 use native.Mathlib.Omega.{arith}
 use lib.Dec.{leb, eqb}
 use lib.ListN.{length}
+use Rattle.std.specs.Prelude.{Result, Ok, Err, IfOk}
+use Rattle.answer.specs.declared.Refusal.{Refusal}
 use Rattle.number.proofs.Places.{tested-whole}
+use Rattle.number.specs.Answer.{number_read}
 use Rattle.number.specs.Number.{read_number}
 use Rattle.number.specs.Reading.{Reading, Whole, Refused, then, part, read_bytes}
 use Rattle.record.proofs.Fields.{and_both, skip-refused, skip-whole}
@@ -24,6 +27,10 @@ unfolding read_size
 size-range top s at {n} e =
     let b = and_both _ _ (tested-whole (read_number s at) (λ m. is_size top m) 2 e).1 in
     (leb-true _ _ b.0, leb-true _ _ b.1)
+
+pub size-some : (top : ℕ) (s : List ℕ) (at : ℕ) (r : Result (ℕ × ℕ) Refusal) → number_read r ≡ read_size top s at → IfOk r (λ read. 1 ≤ read.0)
+size-some top s at (Ok read) e = (size-range top s at (sym e)).0
+size-some top s at (Err refusal) e = tt
 
 -- g that was read is 1, 2 or 3
 pub branch-range : (depth : ℕ) (s : List ℕ) (at : ℕ) {g next : ℕ} → read_branch depth s at ≡ Whole (g, next) → (1 ≤ g) × (g ≤ 3)

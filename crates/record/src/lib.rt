@@ -2,8 +2,9 @@
 #![tactic(auto)]
 
 ghost use Rattle.std.specs.Prelude.{◌≡◌};
-ghost use Rattle.record.specs.Inner.Ends.{end_byte};
+ghost use Rattle.record.specs.Inner.Ends.{end_byte, OfByte};
 
+use answer::Refusal;
 use field::Element;
 
 mod sizes;
@@ -31,7 +32,22 @@ impl End {
     }
 }
 
-// The head of a record in numbers: field, d, g, t, ℓ, n, and the place after it, where the body begins.
+impl TryFrom<u8> for End {
+    type Error = Refusal;
+
+    ghost try_from_gives = { OfByte };
+
+    fn try_from(byte: u8) -> Result<Self, Refusal> {
+        match byte {
+            1 => Ok(End::Noise),
+            2 => Ok(End::Scalar),
+            _ => Err(Refusal::WrongEnd),
+        }
+    }
+}
+
+// The head of a record in numbers: field, d, g, t, ℓ, n, and the place after it, where the body begins. The field is a number and no
+// enum: a dealing's layout is made of what is not tested yet, and the functions of `field` promise an answer for every number.
 #[derive(Clone, Copy)]
 pub struct Layout {
     pub field: usize,

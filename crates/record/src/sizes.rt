@@ -2,7 +2,7 @@
 ghost use Rattle.std.specs.Prelude.{◌≡◌, ◌^◌, ◌≤◌};
 ghost use Rattle.record.specs.Content.{sibling_count};
 
-// The number of leaves of a tree.
+// The number of leaves of a tree. `power` of `tree_walk`, which rests on no record, says the same of any count of bits below 64.
 pub fn leaves(depth: usize) -> usize
     requires { depth ≤ 16 }
     ensures { result ≡ 2 ^ depth }

@@ -1,4 +1,5 @@
-// Writing records into a lent buffer, and their lengths.
+// Writing records into a lent buffer, and their lengths. Each writer takes the buffer and a place, and gives the place after what it
+// wrote: `Wrote` says of each that and the bytes, which a writer that moves would say besides where it then stands.
 ghost use Rattle.std.specs.Prelude.{◌≡◌, ◌+◌, ◌*◌, ◌^◌, ◌≤◌, ◌<◌, length};
 ghost use Rattle.field.specs.ByNumber.{element_of};
 ghost use Rattle.number.specs.Inner.Written.{numbers, Room, Wrote};
@@ -85,7 +86,8 @@ pub fn write_head(
     write_bytes(buffer, next, label)
 }
 
-// Writes a tree up to its siblings from a place on, its position as the number `back`; the place of the siblings.
+// Writes a tree up to its siblings from a place on, its position as the number `back`; the place of the siblings. No `Tree`, since
+// one holds the place that is the answer here.
 pub fn write_tree_start(
     buffer: &mut [u8],
     at: usize,
@@ -124,7 +126,7 @@ pub fn write_scalar(
     write_bytes(buffer, next, roots)
 }
 
-// How many bytes a head takes.
+// How many bytes a head takes. Five sizes and no `Layout`, since a layout holds the place after its head, which is this length.
 pub fn head_length(
     depth: usize,
     branch_bits: usize,
@@ -163,7 +165,7 @@ pub fn scalar_length(layout: Layout) -> usize
     layout.body + (element_length(layout.field) + 16 * layout.trees)
 }
 
-// How many bytes the noise record takes.
+// How many bytes the noise record takes. The loop carries what the next position is written from.
 pub fn noise_length(layout: Layout, positions: &[u32]) -> usize
     requires { (Writable layout) × (length positions.now ≤ 64) × (RisesFrom (2 ^ layout.depth) 0 positions.now) }
     ensures { result ≡ noise_length layout positions.now }

@@ -13,7 +13,7 @@ use field::element_width;
 use record::{End, Layout, leaves};
 use record_reading::{read_noise, read_scalar};
 
-// The answer: the number; the end, the field and the sizes of the record; N, and the words of an element; the label and the code
+// The answer, as the C header has it, whose structs keep the number beside the values: the number; the end, the field and the sizes of the record; N, and the words of an element; the label and the code
 // key. A refused record has zeros beside its number.
 #[repr(C)]
 #[derive(Clone, Copy)]
@@ -109,10 +109,12 @@ fn scalar_head(source: &[u8]) -> Described
 pub fn describe(source: &[u8]) -> Described
     ensures { description result source.now ≡ describe source.now }
 {
-    match source.first() {
-        None => Described::refused(Refusal::RecordEnds),
-        Some(1) => noise_head(source),
-        Some(2) => scalar_head(source),
-        Some(_) => Described::refused(Refusal::WrongEnd),
+    let Some(byte) = source.first() else {
+        return Described::refused(Refusal::RecordEnds);
+    };
+    match End::try_from(*byte) {
+        Ok(End::Noise) => noise_head(source),
+        Ok(End::Scalar) => scalar_head(source),
+        Err(wrong_end) => Described::refused(wrong_end),
     }
 }

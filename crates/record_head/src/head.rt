@@ -7,11 +7,11 @@ ghost use Rattle.record.specs.Answer.{record_read};
 
 use answer::Refusal;
 use field::is_field;
-use number::read_number;
+use number::{read_byte, read_number, tested};
 use record::{Layout, leaves};
 
 // Whether a record has a count of bytes from a place on.
-pub fn has_bytes(source: &[u8], at: usize, count: usize) -> bool
+fn has_bytes(source: &[u8], at: usize, count: usize) -> bool
     ensures { result ≡ leb (at + count) (length source.now) }
 {
     count <= source.len() && at <= source.len() - count
@@ -31,42 +31,32 @@ pub fn skip(source: &[u8], at: usize, count: usize) -> Result<usize, Refusal>
 fn read_size(source: &[u8], at: usize, top: usize) -> Result<(usize, usize), Refusal>
     ensures { number_read result ≡ read_size top source.now at }
 {
-    let (size, at) = read_number(source, at)?;
-    if size < 1 || top < size {
-        return Err(Refusal::BadSize);
-    }
-    Ok((size, at))
+    tested(read_number(source, at), Refusal::BadSize, |size| {
+        1 <= size && size <= top
+    })
 }
 
 // g: 1, 2 or 3, and a divisor of d; and the place after it.
 fn read_branch(source: &[u8], at: usize, depth: usize) -> Result<(usize, usize), Refusal>
     ensures { number_read result ≡ read_branch depth source.now at }
 {
-    let (branch_bits, at) = read_size(source, at, 3)?;
-    if depth % branch_bits != 0 {
-        return Err(Refusal::BadSize);
-    }
-    Ok((branch_bits, at))
+    tested(read_size(source, at, 3), Refusal::BadSize, |branch_bits| {
+        depth % branch_bits == 0
+    })
 }
 
 // The field, from the end byte and the field byte, and the place after them.
 fn read_field(source: &[u8], end: u8) -> Result<(usize, usize), Refusal>
     ensures { number_read result ≡ read_field end source.now }
 {
-    if source.len() <= 0 {
-        return Err(Refusal::RecordEnds);
-    }
-    if source[0] != end {
-        return Err(Refusal::WrongEnd);
-    }
-    if source.len() <= 1 {
-        return Err(Refusal::RecordEnds);
-    }
-    let field = source[1] as usize;
-    if !is_field(field) {
-        return Err(Refusal::BadField);
-    }
-    Ok((field, 2))
+    let (_, at) = tested(read_byte(source, 0), Refusal::WrongEnd, |byte| {
+        byte == end as usize
+    })?;
+    tested(
+        read_byte(source, at),
+        Refusal::BadField,
+        |field| is_field(field),
+    )
 }
 
 // g, t, ℓ, n, the code key and the label, after d.
@@ -99,7 +89,7 @@ fn read_sizes(source: &[u8], at: usize, field: usize) -> Result<Layout, Refusal>
     read_after_depth(source, at, field, depth)
 }
 
-// The head of a record of the end with this byte.
+// The head of a record of the end with this byte. A byte and no `End`, as ARCHITECTURE.md names it: the answer is promised for every byte.
 pub fn read_head(source: &[u8], end: u8) -> Result<Layout, Refusal>
     ensures { record_read source.now result ≡ read_head end source.now }
 {

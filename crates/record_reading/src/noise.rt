@@ -1,17 +1,16 @@
 // The noise record.
-ghost use Rattle.std.specs.Prelude.{true, ◌≡◌, ◌+◌, ◌*◌, ◌^◌, ◌≤◌, get_or};
+ghost use Rattle.std.specs.Prelude.{true, ◌≡◌, ◌+◌, ◌*◌, ◌^◌, ◌≤◌, ◌<◌, get_or, IfOk};
 ghost use Rattle.field.specs.ByNumber.{element_of};
 ghost use Rattle.number.specs.Answer.{number_read};
 ghost use Rattle.number.specs.Reading.{Whole};
 ghost use Rattle.number.specs.Inner.Known.{is_whole};
 ghost use Rattle.record.specs.Reading.{read_position, read_tree, read_head, read_noise};
-ghost use Rattle.record.specs.Inner.Answers.{tree_read, tree_of};
+ghost use Rattle.record.specs.Inner.Answers.{tree_read, tree_of, SecondIn};
 ghost use Rattle.record.specs.Answer.{head_if_whole, record_read};
 
 use crate::element::{read_correction, read_value};
 use answer::Refusal;
-use field::{element_at, one_noise, word_at};
-use number::{known_number, read_number};
+use number::{read_number, tested};
 use record::{End, Layout, Tree, leaves, sibling_count};
 use record_head::{read_head, skip};
 
@@ -25,14 +24,15 @@ fn read_position(
     requires { base ≤ all }
     ensures { number_read result ≡ read_position base all source.now at }
 {
-    let (back, at) = read_number(source, at)?;
-    if all - base <= back {
-        return Err(Refusal::BadPosition);
-    }
+    let left = all - base;
+    let (back, at) = tested(read_number(source, at), Refusal::BadPosition, |back| {
+        back < left
+    })?;
     Ok((base + back, at))
 }
 
-// A tree with so many siblings, after positions below `base`, and the place after it.
+// A tree with so many siblings, after positions below `base`, and the place after it. Field, depth and siblings stay three parameters:
+// `known_tree`, which ARCHITECTURE.md names, promises its tree for any three.
 fn read_tree(
     source: &[u8],
     at: usize,
@@ -41,8 +41,10 @@ fn read_tree(
     depth: usize,
     siblings: usize,
 ) -> Result<(Tree, usize), Refusal>
-    requires { (base ≤ 2 ^ depth) × (depth ≤ 16) × (siblings ≤ 112) }
-    ensures { tree_read source.now field siblings result ≡ read_tree field depth siblings base source.now at }
+    requires { (base ≤ 2 ^ depth) × (depth ≤ 16) × (16 * siblings < 2 ^ 64) }
+    ensures value { tree_read source.now field siblings result ≡ read_tree field depth siblings base source.now at }
+    ensures second { IfOk result (λ read. SecondIn field read.0.correction) }
+    ensures end { IfOk result (λ read. read.1 ≡ read.0.siblings + 16 * siblings) }
 {
     let (position, at) = read_position(source, at, base, leaves(depth))?;
     let (value, at) = read_value(source, at, field)?;
@@ -57,7 +59,8 @@ fn read_tree(
     Ok((tree, end))
 }
 
-// The noise record, whole and tested.
+// The noise record, whole and tested. The loop carries the next place: an iterator of trees would be a struct of both places, and be lent
+// to the loop, since the place after the last tree is tested.
 pub fn read_noise(source: &[u8]) -> Result<Layout, Refusal>
     ensures { record_read source.now result ≡ head_if_whole (read_noise source.now) (read_head 1 source.now) }
 {
@@ -90,21 +93,8 @@ pub fn known_tree(
         ≡ read_tree field depth siblings base source.now at)
         × (result.correction.high ≡ get_or (element_of field result.correction.low result.correction.high) 1 0) }
 {
-    let (back, at) = known_number(source, at);
-    let position = base + back;
-    let siblings = at + 16;
-    if one_noise(field) {
-        return Tree {
-            position,
-            value: 1,
-            correction: element_at(field, source, at),
-            siblings,
-        };
-    }
-    Tree {
-        position,
-        value: word_at(source, at),
-        correction: element_at(field, source, at + 8),
-        siblings,
-    }
+    let Ok((tree, _)) = read_tree(source, at, base, field, depth, siblings) else {
+        unreachable!()
+    };
+    tree
 }

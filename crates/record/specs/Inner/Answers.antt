@@ -1,7 +1,8 @@
 -- Inner: no promise cites this file. What the code reads stands for a record's fields.
-use Rattle.std.specs.Prelude.{ℕ, ◌+◌, List, leb, length, Result, Ok, Err}
+use Rattle.std.specs.Prelude.{ℕ, ◌+◌, List, ◌≡◌, leb, length, get_or, Result, Ok, Err}
 use Rattle.answer.specs.declared.Refusal.{Refusal}
 use Rattle.answer.specs.Refused.{number_of}
+use Rattle.field.specs.Bytes.{word_at}
 use Rattle.field.specs.ByNumber.{element_of}
 use Rattle.field.specs.declared.element.Element.{Element}
 use Rattle.number.specs.Reading.{Reading, Whole, Refused, Parsed, choose}
@@ -17,6 +18,14 @@ reading_of (Err refusal) = Refused (number_of refusal)
 -- the place after a count of bytes that are not looked at; 10: record ends inside them
 unfoldable pub skipped : ℕ → List ℕ → ℕ → Reading ℕ
 skipped count s at = choose (leb (at + count) (length s)) (Whole (at + count)) (Refused 10)
+
+-- a word, and the place after it; 10: record ends inside it
+abbrev pub word_field : List ℕ → ℕ → Parsed ℕ
+word_field s at = choose (leb (at + 8) (length s)) (Whole (word_at s at, at + 8)) (Refused 10)
+
+-- the second word is 0 where an element has one
+abbrev pub SecondIn : ℕ → Element → Type 0
+SecondIn field e = e.high ≡ get_or (element_of field e.low e.high) 1 0
 
 -- an element, and the place after it
 abbrev pub element_read : ℕ → Result (Element × ℕ) Refusal → Parsed (List ℕ)

@@ -1,30 +1,15 @@
--- `record_reading::element::read_correction` meets its contract: the bytes are there or not, and are an element or not. Assumes nothing.
-use Rattle.std.proofs.Common.{sym, ◌∙◌}
-use Rattle.number.specs.Reading.{tested}
-use Rattle.record.proofs.Fields.{element-has, element-words}
-use Rattle.record.specs.Reading.{read_items, read_correction}
+-- `record_reading::element::read_correction` meets its contract: the words, then their test. Assumes nothing.
+use Rattle.std.proofs.Common.{rules}
+use Rattle.field.specs.ByNumber.{is_element}
+use Rattle.number.proofs.Tests.{tested_keeps}
+use Rattle.record.proofs.Fields.{tested_element}
+use Rattle.record.specs.Reading.{read_correction}
 use Rattle.record_reading.proofs.element.read_correction.Goals as goal
 
-pub returns-then-not-has_bytes : goal.returns-then-not-has_bytes
-unfolding read_correction read_items tested
-returns-then-not-has_bytes c =
-    simp (element-has c.args.field c.args.source.now c.args.at c.element_length-length.ensures c.has_bytes.ensures c.if-not-has_bytes.true)
+pub returns-clause-value : goal.returns-clause-value
+unfolding read_correction
+returns-clause-value c =
+    rw (← c.read_words.ensures.value) (tested_element c.args.field (is_element c.args.field) _ _ _ c.tested.ensures (λ x b p. search rules))
 
-pub returns-then-not-is_element : goal.returns-then-not-is_element
-unfolding read_correction read_items tested
-returns-then-not-is_element c =
-    simp (
-      element-has c.args.field c.args.source.now c.args.at c.element_length-length.ensures c.has_bytes.ensures c.if-not-has_bytes.false,
-      element-words c.args.field c.args.source.now c.args.at c.element_at-correction.ensures,
-      sym c.is_element.ensures ∙ c.if-not-is_element.true,
-    )
-
-pub returns : goal.returns
-unfolding read_correction read_items tested
-returns c =
-    simp (
-      element-has c.args.field c.args.source.now c.args.at c.element_length-length.ensures c.has_bytes.ensures c.if-not-has_bytes.false,
-      element-words c.args.field c.args.source.now c.args.at c.element_at-correction.ensures,
-      sym c.is_element.ensures ∙ c.if-not-is_element.false,
-      c.element_length-length.ensures,
-    )
+pub returns-clause-second : goal.returns-clause-second
+returns-clause-second c = tested_keeps _ _ _ _ _ c.tested.ensures c.read_words.ensures.second

@@ -14,17 +14,17 @@ pub loop-init : goal.loop-init
 loop-init c = turn_start _ c.in_ok-layout.ensures c.sibling_count-siblings.ensures
 
 pub read_tree-requires : goal.read_tree-requires
-read_tree-requires c = (c.loop.invariant.below, c.loop.invariant.depth, c.loop.invariant.few)
+read_tree-requires c = (c.loop.invariant.below, c.loop.invariant.depth, omega (arith, c.loop.invariant.few))
 
 pub returns-in_err-tree : goal.returns-in_err-tree
 returns-in_err-tree c =
-    rw (passed_on c.from_residual-in_err-tree.result c.from_residual-in_err-tree.ensures.1) (turn_refused c.loop.invariant (omega arith) c.in_err-tree.ensures)
+    rw (passed_on c.from_residual-in_err-tree.result c.from_residual-in_err-tree.ensures.1) (turn_refused c.loop.invariant (omega arith) c.in_err-tree.ensures.value)
 
 pub overflow_add-base : goal.overflow_add-base
-overflow_add-base c = turn_fits c.loop.invariant (omega arith) c.in_ok-tree.ensures 1 (omega arith)
+overflow_add-base c = turn_fits c.loop.invariant (omega arith) c.in_ok-tree.ensures.value 1 (omega arith)
 
 pub loop-preserved : goal.loop-preserved
-loop-preserved c = turn_next c.loop.invariant (omega arith) c.in_ok-tree.ensures
+loop-preserved c = turn_next c.loop.invariant (omega arith) c.in_ok-tree.ensures.value
 
 pub returns-then-at-source : goal.returns-then-at-source
 returns-then-at-source c = turn_after c.loop.invariant (omega arith) c.if-at-source.true
