@@ -1,5 +1,6 @@
-// The public calls under their exported names. Document 01's calls, here, cite its page (`crates/page/specs/Document01.antt`); the others
-// have the contract of the call that they pass on to.
+// The public calls under their exported names. Document 01's calls, here, cite its page (`crates/page/specs/Document01.antt`); the others,
+// in files of their own, document 02's. Parameters and answers in all files are the C interface: `field` and `role` are
+// bytes, a window is two numbers, and a number stands beside what an answer holds.
 #![tactic(auto)]
 
 ghost use Rattle.std.specs.Prelude.{◌≡◌, [], ◌∷◌};

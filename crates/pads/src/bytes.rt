@@ -1,4 +1,4 @@
-// Blocks in bytes.
+// Blocks in bytes. `Block` reads and writes them; these two say so in the words of `Coding`, which every loop over pads is proved in.
 ghost use Rattle.std.specs.Prelude.{◌≡◌, ◌+◌, ◌≤◌, length};
 ghost use Rattle.algebra.specs.Inner.Put.{with_value};
 ghost use Rattle.pads.specs.Bytes.{block_bytes};

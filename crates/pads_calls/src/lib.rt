@@ -1,4 +1,5 @@
-// Both ends' pad calls on byte slices.
+// Both ends' pad calls on byte slices: two functions, since C calls both and each has a promise of its own on document 01's page. The
+// cipher is made in both: it lends what stands in the function that makes it.
 #![tactic(auto)]
 
 ghost use Rattle.std.specs.Prelude.{◌≡◌};

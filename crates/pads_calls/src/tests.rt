@@ -1,4 +1,5 @@
-// The pad calls' tests, by document 01's table and in its order.
+// The pad calls' tests, by document 01's table and in its order, which is another one for each end past `check_window` (`noise_tests`,
+// `scalar_tests`).
 ghost use Rattle.std.specs.Prelude.{◌≡◌};
 ghost use Rattle.answer.specs.Refused.{fault};
 ghost use Rattle.answer.specs.Tests.{first_fault};
@@ -11,6 +12,7 @@ use answer::{Refusal, any_above, is_past, is_short, is_times};
 const WINDOW_END: usize = 32768;
 
 // What both ends test first: the lengths of the blocks and of the end's other slice, and the window.
+#[tactic(auto, using(answer::proofs::Faults::chain))]
 fn check_window(
     first: usize,
     count: usize,

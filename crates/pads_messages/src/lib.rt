@@ -1,5 +1,6 @@
 // Messages of the callers' own choosing, passed under pads of field 1: the noise end's correction bits, the scalar end's
-// answers, and their opening. The definitions and laws stand in crate `pads`.
+// answers, and their opening: three functions, since C calls each and each has a promise of its own on document 02's page. The definitions
+// and laws stand in crate `pads`.
 #![tactic(auto)]
 
 ghost use Rattle.std.specs.Prelude.{◌≡◌};
@@ -26,7 +27,7 @@ pub fn correction_bits(
     if let Err(refusal) = check_correction(count, choices, wanted, bits_out.len()) {
         return OneLength::refused(refusal);
     }
-    write_bits(count, choices, wanted, bits_out);
+    write_bits(choices, wanted, bits_out);
     OneLength {
         number: ACCEPTED,
         written: count,
@@ -47,7 +48,7 @@ pub fn mask_messages(
     if let Err(refusal) = check_blocks(32, count, bits, pads, messages, answers_out.len()) {
         return OneLength::refused(refusal);
     }
-    write_answers(count, bits, pads, messages, answers_out);
+    write_answers(bits, pads, messages, answers_out);
     OneLength {
         number: ACCEPTED,
         written: 32 * count,
@@ -68,7 +69,7 @@ pub fn unmask_messages(
     if let Err(refusal) = check_blocks(16, count, wanted, pads, answers, messages_out.len()) {
         return OneLength::refused(refusal);
     }
-    write_opened(count, wanted, pads, answers, messages_out);
+    write_opened(wanted, pads, answers, messages_out);
     OneLength {
         number: ACCEPTED,
         written: 16 * count,

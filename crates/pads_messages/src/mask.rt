@@ -1,4 +1,5 @@
-// What the calls write to the front of their buffers.
+// What the calls write to the front of their buffers. The loops of the last two calls share `mask_block`; one loop for both would take a
+// closure for its one line.
 ghost use Rattle.std.specs.Prelude.{◌≡◌, ◌+◌, ◌*◌, ◌≤◌, ◌<◌, length, get_or};
 ghost use Rattle.algebra.specs.Coding.{over};
 ghost use Rattle.algebra.specs.Inner.Put.{with_value};
@@ -9,17 +10,18 @@ ghost use Rattle.answer.specs.Tests.{AllMet};
 use pads::{block_at, put_block};
 
 // Writes choice exclusive-or wanted bit of each output.
-pub fn write_bits(count: usize, choices: &[u8], wanted: &[u8], bits_out: &mut [u8])
-    requires { AllMet (correction_tests count choices.now wanted.now (length bits_out.old)) }
+pub fn write_bits(choices: &[u8], wanted: &[u8], bits_out: &mut [u8])
+    requires { AllMet (correction_tests (length choices.now) choices.now wanted.now (length bits_out.old)) }
     ensures { bits_out.new
-        ≡ over byte count (correction_bit choices.now wanted.now) bits_out.old }
+        ≡ over byte (length choices.now) (correction_bit choices.now wanted.now) bits_out.old }
 {
-    for k in 0..count {
+    for k in 0..choices.len() {
         bits_out[k] = choices[k] ^ wanted[k];
     }
 }
 
-// Writes from a place on the exclusive or of 16 bytes from a place of each of two slices, as blocks of two words.
+// Writes from a place on the exclusive or of 16 bytes from a place of each of two slices, as blocks of two words. Places are no longer
+// than parts of slices, which a caller would have to cut three times.
 fn mask_block(from: &[u8], at: usize, by: &[u8], start: usize, out: &mut [u8], to: usize)
     requires { (at + 16 ≤ length from.now) × (start + 16 ≤ length by.now) × (to + 16 ≤ length out.old) }
     ensures { out.new
@@ -47,18 +49,12 @@ fn put_answer(k: usize, bits: &[u8], pads: &[u8], messages: &[u8], answers: &mut
 }
 
 // Writes both masked messages of each output.
-pub fn write_answers(
-    count: usize,
-    bits: &[u8],
-    pads: &[u8],
-    messages: &[u8],
-    answers_out: &mut [u8],
-)
-    requires { AllMet (mask_tests count bits.now pads.now messages.now (length answers_out.old)) }
+pub fn write_answers(bits: &[u8], pads: &[u8], messages: &[u8], answers_out: &mut [u8])
+    requires { AllMet (mask_tests (length bits.now) bits.now pads.now messages.now (length answers_out.old)) }
     ensures { answers_out.new
-        ≡ over thirty_two count (answer_of bits.now pads.now messages.now) answers_out.old }
+        ≡ over thirty_two (length bits.now) (answer_of bits.now pads.now messages.now) answers_out.old }
 {
-    for k in 0..count {
+    for k in 0..bits.len() {
         put_answer(k, bits, pads, messages, answers_out);
     }
 }
@@ -76,18 +72,12 @@ fn put_opened(k: usize, wanted: &[u8], pads: &[u8], answers: &[u8], messages: &m
 }
 
 // Writes the wanted message of each output.
-pub fn write_opened(
-    count: usize,
-    wanted: &[u8],
-    pads: &[u8],
-    answers: &[u8],
-    messages_out: &mut [u8],
-)
-    requires { AllMet (unmask_tests count wanted.now pads.now answers.now (length messages_out.old)) }
+pub fn write_opened(wanted: &[u8], pads: &[u8], answers: &[u8], messages_out: &mut [u8])
+    requires { AllMet (unmask_tests (length wanted.now) wanted.now pads.now answers.now (length messages_out.old)) }
     ensures { messages_out.new
-        ≡ over sixteen count (opened_of wanted.now pads.now answers.now) messages_out.old }
+        ≡ over sixteen (length wanted.now) (opened_of wanted.now pads.now answers.now) messages_out.old }
 {
-    for k in 0..count {
+    for k in 0..wanted.len() {
         put_opened(k, wanted, pads, answers, messages_out);
     }
 }

@@ -11,6 +11,7 @@ use answer::{Refusal, any_above, is_short, is_times};
 const LARGEST_BATCH: usize = 4096;
 
 // Tests the correction bits with a buffer of `room` bytes.
+#[tactic(auto, using(answer::proofs::Faults::chain))]
 pub fn check_correction(
     count: usize,
     choices: &[u8],
@@ -41,6 +42,7 @@ pub fn check_correction(
 }
 
 // Tests the answers, of 32 bytes of pads an output, or their opening, of 16, with a buffer of `room` bytes.
+#[tactic(auto, using(answer::proofs::Faults::chain))]
 pub fn check_blocks(
     width: usize,
     count: usize,

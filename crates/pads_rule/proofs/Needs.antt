@@ -22,7 +22,7 @@ pub first_is : (keys : List ℕ) (w r : Block) → round_keys keys ≡ key_expan
 unfolding under_pad_key aes
 first_is keys w r ks e = rw (e, ks)
 
-pub second_is : (keys : List ℕ) (x : ℕ) (s z e r : Block) → round_keys keys ≡ key_expansion pad_key
-    → z ≡ block_add s (index_block x) → e ≡ cipher_of keys z → r ≡ block_add e s → r ≡ second_step x s
+pub second_is : (keys : List ℕ) (x : ℕ) (s i z e r : Block) → round_keys keys ≡ key_expansion pad_key
+    → i ≡ index_block x → z ≡ block_add s i → e ≡ cipher_of keys z → r ≡ block_add e s → r ≡ second_step x s
 unfolding second_step
-second_is keys x s z e r ks ze ee re = rw (re, first_is keys z e ks ee, ze)
+second_is keys x s i z e r ks ie ze ee re = rw (re, first_is keys z e ks ee, ze, ie)

@@ -2,7 +2,7 @@
 ghost use Rattle.std.specs.Prelude.{◌≡◌};
 ghost use Rattle.aes128.specs.Cipher.{key_expansion};
 ghost use Rattle.aes128.specs.Inner.Words.{round_keys};
-ghost use Rattle.pads.specs.Pad.{pad_key, pad};
+ghost use Rattle.pads.specs.Pad.{pad_key, index_block, pad};
 ghost use Rattle.pads.specs.Inner.Passes.{second_step};
 
 use aes_blocks::{Two, encrypt, encrypt_two};
@@ -14,6 +14,16 @@ pub fn pad_keys() -> [u64; 40]
     ensures { round_keys result ≡ key_expansion pad_key }
 {
     aes128::schedule([[255; 4]; 4])
+}
+
+// The index as a block: what a pad's second step adds to the first.
+fn index_block(x: usize) -> Block
+    ensures { result ≡ index_block x }
+{
+    Block {
+        low: x as u64,
+        high: 0,
+    }
 }
 
 // The cipher under the pads' key.
@@ -36,14 +46,8 @@ impl<'a> PadCipher<'a> {
     pub fn second_steps(self, x: usize, y: usize, s: Block, t: Block) -> Two<Block>
         ensures { (result.one ≡ second_step x s) × (result.other ≡ second_step y t) }
     {
-        let p = s.add(Block {
-            low: x as u64,
-            high: 0,
-        });
-        let q = t.add(Block {
-            low: y as u64,
-            high: 0,
-        });
+        let p = s.add(index_block(x));
+        let q = t.add(index_block(y));
         let e = encrypt_two(self.tables, self.keys, self.keys, p, q);
         Two {
             one: e.one.add(s),

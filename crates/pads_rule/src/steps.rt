@@ -1,4 +1,5 @@
-// The two steps of two pads: the first written, the second made in place.
+// The two steps of two pads: the first written, the second made in place. The buffer comes with a place and not as a part of 32 bytes, so
+// that the loops' laws are of one buffer.
 ghost use Rattle.std.specs.Prelude.{◌≡◌, ◌+◌, ◌≤◌, length};
 ghost use Rattle.algebra.specs.Inner.Put.{with_value};
 ghost use Rattle.pads.specs.Bytes.{block_bytes};

@@ -7,6 +7,7 @@ ghost use Rattle.pads.specs.Triples.Call.{triples_tests};
 use answer::{Refusal, any_above, is_short, is_times};
 
 // Tests a call with a buffer of `room` bytes.
+#[tactic(auto, using(answer::proofs::Faults::chain))]
 pub fn check(choices: &[u8], pads: &[u8], pad_pairs: &[u8], room: usize) -> Result<(), Refusal>
     ensures { fault result ≡ first_fault (triples_tests choices.now pads.now pad_pairs.now room) }
 {

@@ -9,7 +9,8 @@ pub struct Label {
     pub bytes: [u8; 16],
 }
 
-// Under the label in use, caller k draws from next[k] up to end[k]; entries past `callers` are zero.
+// Under the label in use, caller k draws from next[k] up to end[k]; entries past `callers` are zero. C keeps a stock between calls: its
+// struct has two arrays with their count beside them, and so has this one.
 #[repr(C)]
 #[derive(Clone, Copy)]
 pub struct Stock {
@@ -19,7 +20,8 @@ pub struct Stock {
     pub end: [u32; 8],
 }
 
-// The answer of an opening or a passage: its number, and the stock. The answers here are the C interface, so no Result.
+// The answer of an opening or a passage: its number, and the stock. The answers here are the C interface, so no Result: `OpenedStock`,
+// `Drawn` and `Previewed` have the number beside what stands on a refusal too.
 #[repr(C)]
 #[derive(Clone, Copy)]
 pub struct OpenedStock {

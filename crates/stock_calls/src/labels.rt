@@ -1,4 +1,5 @@
-// Labels compare as LE numbers.
+// Labels compare as LE numbers. A derived order, or one of the arrays, would go by the first byte in which they differ, and not by the
+// last, and C of all machines has no number of 16 bytes.
 ghost use Rattle.std.specs.Prelude.{◌≡◌, eqb, ltb};
 ghost use Rattle.stock.specs.Label.{number_of};
 

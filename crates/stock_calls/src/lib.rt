@@ -23,6 +23,7 @@ const MOST_CALLERS: usize = 8;
 const MOST_OUTPUTS: usize = 32768;
 
 // The shares of an opening, padded to eight, once its tests are met.
+#[tactic(auto, using(answer::proofs::Faults::chain))]
 fn opening_shares(outputs: usize, shares: &[u32]) -> Result<[u32; 8], Refusal>
     ensures tests { fault result ≡ first_fault (open_tests outputs shares.now) }
     ensures padded { IfOk result (λ each. each ≡ entries (length shares.now) (opening_share shares.now)) }
@@ -69,6 +70,7 @@ fn refused_opening(refusal: Refusal) -> OpenedStock
 }
 
 // Tests a draw.
+#[tactic(auto, using(answer::proofs::Faults::chain))]
 fn check_draw(stock: Stock, label: Label, caller: usize, count: usize) -> Result<(), Refusal>
     ensures { fault result ≡ first_fault (draw_tests stock label caller count) }
 {
@@ -122,7 +124,8 @@ fn refused_draw(stock: Stock, refusal: Refusal) -> Drawn
     }
 }
 
-// What a draw would return, and the stock that it would leave.
+// What a draw would return, and the stock that it would leave. The one place that makes the second struct of the C interface of the
+// first: a `From` would stand in crate `stock`, which has no code.
 pub fn preview(stock: Stock, label: Label, caller: usize, count: usize) -> Previewed
     ensures { result ≡ preview_stock stock label caller count }
 {
@@ -136,6 +139,7 @@ pub fn preview(stock: Stock, label: Label, caller: usize, count: usize) -> Previ
 }
 
 // The unspent shares that pass to a dealing, once a passage's tests are met.
+#[tactic(auto, using(answer::proofs::Faults::chain))]
 fn passing_shares(stock: Stock, label: Label, outputs: usize) -> Result<[u32; 8], Refusal>
     ensures tests { fault result ≡ first_fault (pass_tests stock label outputs) }
     ensures unspent { IfOk result (λ each. each ≡ entries 8 (remaining stock)) }

@@ -1,11 +1,13 @@
-// Shares of eight callers, and their blocks.
+// Shares of eight callers, and their blocks. A caller is a number, which need not be one of the stock's: `is_caller` and `remaining` say
+// what holds of any.
 ghost use Rattle.std.specs.Prelude.{◌≡◌, ◌≤◌, length};
 ghost use Rattle.stock.specs.Stock.{is_caller, remaining, sum_of, entries, share_blocks};
 ghost use Rattle.stock.specs.Calls.{is_count, opening_share};
 
 use stock::{Label, Stock};
 
-// Whether a number is 1 to a largest one.
+// Whether a number is 1 to a largest one. The test of a dealing's sizes is as short (`is_size` of `dealing_tests`); each says the
+// definition of its own call.
 pub fn is_count(most: usize, n: usize) -> bool
     ensures { result ≡ is_count most n }
 {
@@ -33,7 +35,8 @@ pub fn total(shares: [u32; 8]) -> usize
     sum
 }
 
-// Consecutive blocks of the outputs, from index 0 in caller order.
+// Consecutive blocks of the outputs, from index 0 in caller order. `at` is the sum of the shares so far, and goes into two arrays: `scan`
+// would take a closure for it, and two loops.
 pub fn blocks_of(label: Label, callers: u32, shares: [u32; 8]) -> Stock
     requires { sum_of 8 (opening_share shares) ≤ 32768 }
     ensures { result ≡ share_blocks label callers (opening_share shares) }

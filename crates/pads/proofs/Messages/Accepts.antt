@@ -1,15 +1,14 @@
 -- Each call returns 0 exactly if its tests are all met; and what the calls' returns need.
-use mathlib.Core.Path.{◌≡◌, refl}
+use mathlib.Core.Path.{◌≡◌, refl, sym, subst}
 use mathlib.Core.List.{List}
 use Prim.Native.Nat.{ℕ, ◌*◌}
 use native.Mathlib.Omega.{arith}
 use mir.Syntax.{w64}
 use mir.Val.{Fits}
-use Rattle.answer.specs.Tests.{first_fault}
-use Rattle.answer.specs.Outcome.{wrote}
+use Rattle.answer.specs.Tests.{Test, AllMet, first_fault}
 use Rattle.answer.proofs.Faults.{admitted_by}
 use Rattle.answer.proofs.Answers.{outcome-accepts}
-use Rattle.pads.specs.Messages.Calls.{lent_correction, lent_mask, lent_unmask, mask_tests, unmask_tests, correction_bits, mask_messages, unmask_messages, Accepts}
+use Rattle.pads.specs.Messages.Calls.{mask_tests, unmask_tests, correction_bits, mask_messages, unmask_messages, Accepts}
 
 pub accepts : Accepts
 unfolding correction_bits mask_messages unmask_messages
@@ -29,13 +28,6 @@ pub unmask_fit : (count : ℕ) (wanted pads answers : List ℕ) (room n : ℕ) �
     → Fits w64 (16 * count)
 unmask_fit count wanted pads answers room n e z = omega (arith, (admitted_by _ n refl e z).all)
 
--- what is lent, with the buffer as a loop leaves it
-module _ (written : ℕ) (b b' : List ℕ) (e : b ≡ b') where
-  pub correction-left : (choices wanted : List ℕ) → wrote written (lent_correction choices wanted b) ≡ wrote written (lent_correction choices wanted b')
-  correction-left choices wanted = rw e
-
-  pub mask-left : (bits pads messages : List ℕ) → wrote written (lent_mask bits pads messages b) ≡ wrote written (lent_mask bits pads messages b')
-  mask-left bits pads messages = rw e
-
-  pub unmask-left : (wanted pads answers : List ℕ) → wrote written (lent_unmask wanted pads answers b) ≡ wrote written (lent_unmask wanted pads answers b')
-  unmask-left wanted pads answers = rw e
+-- tests that are met for a count are so for a length that is that count
+pub by_length : {n count : ℕ} (tests : ℕ → List Test) → n ≡ count → AllMet (tests count) → AllMet (tests n)
+by_length tests e a = subst (λ m. AllMet (tests m)) (sym e) a

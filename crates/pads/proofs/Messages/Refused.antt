@@ -1,15 +1,11 @@
 -- What a refused call of messages gives: the number of its first fault, zero, and all that is lent as it was.
 use mathlib.Core.Path.{◌≡◌}
-use mathlib.Core.Bool.{true, false}
-use mathlib.Core.List.{List}
-use Prim.Native.Nat.{ℕ, ◌≤◌}
+use mathlib.Core.Bool.{false}
+use Prim.Native.Nat.{ℕ}
 use lib.Dec.{eqb}
 use lib.ListN.{length}
-use Rattle.answer.specs.Bytes.{any_above}
-use Rattle.answer.specs.Numbers.{not_element}
 use Rattle.answer.specs.Tests.{first_fault}
 use Rattle.answer.specs.Outcome.{refused_one}
-use Rattle.answer.proofs.Faults.{chain}
 use Rattle.answer.proofs.Answers.{refused-one}
 use Rattle.pads.specs.Messages.Calls.{CorrectionLent, MaskLent, UnmaskLent, correction_tests, mask_tests, unmask_tests}
 use Rattle.pads.specs.Messages.Calls.{correction_bits, mask_messages, unmask_messages}
@@ -29,8 +25,3 @@ module _ (count n : ℕ) (h : eqb n 0 ≡ false) where
       → refused_one l n ≡ unmask_messages count l
   unfolding unmask_messages
   unmask-refused l e = refused-one l _ n e h _
-
--- a choice above 1 gives 8, whatever the room
-pub bit-first : (count : ℕ) (choices wanted : List ℕ) (room : ℕ) → count ≤ 4096 → length choices ≡ count → length wanted ≡ count
-    → true ≡ any_above 1 choices → not_element ≡ first_fault (correction_tests count choices wanted room)
-bit-first count choices wanted room small size sizes above = search chain depth 9

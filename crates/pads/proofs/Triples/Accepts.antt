@@ -7,10 +7,9 @@ use lib.ListN.{length}
 use mir.Syntax.{w64}
 use mir.Val.{Fits}
 use Rattle.answer.specs.Tests.{first_fault}
-use Rattle.answer.specs.Outcome.{wrote}
 use Rattle.answer.proofs.Faults.{admitted_by}
 use Rattle.answer.proofs.Answers.{outcome-accepts}
-use Rattle.pads.specs.Triples.Call.{lent_triples, triples_tests, triples, Accepts}
+use Rattle.pads.specs.Triples.Call.{triples_tests, triples, Accepts}
 
 pub accepts : Accepts
 unfolding triples
@@ -21,8 +20,3 @@ module _ (choices pads pad_pairs : List ℕ) where
   pub triples_fit : (room n : ℕ) → n ≡ first_fault (triples_tests choices pads pad_pairs room) → n ≡ 0 → Fits w64 room
       → Fits w64 (3 * length choices)
   triples_fit room n e z f = omega (arith, (admitted_by _ n refl e z).all)
-
-  -- what is lent, with the buffer as the loop leaves it
-  pub triples-left : (b b' : List ℕ) (written : ℕ) → b ≡ b'
-      → wrote written (lent_triples choices pads pad_pairs b) ≡ wrote written (lent_triples choices pads pad_pairs b')
-  triples-left b b' written e = rw e

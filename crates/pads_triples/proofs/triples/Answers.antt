@@ -4,7 +4,7 @@ use Rattle.answer.proofs.Answers.{accepted_now}
 use Rattle.answer.proofs.Faults.{admitted_by}
 use Rattle.answer.proofs.Refusals.{refusal-counts}
 use Rattle.pads.specs.Triples.Call.{triples}
-use Rattle.pads.proofs.Triples.Accepts.{triples_fit, triples-left}
+use Rattle.pads.proofs.Triples.Accepts.{triples_fit}
 use Rattle.pads.proofs.Triples.Refused.{triples-refused}
 use Rattle.pads_triples.proofs.triples.Goals as goal
 
@@ -19,4 +19,4 @@ overflow_mul-result c = triples_fit _ _ _ _ 0 c.in_default.ensures refl (search 
 
 pub returns : goal.returns
 unfolding triples
-returns c = accepted_now _ _ _ _ c.in_default.ensures (search triples-left)
+returns c = accepted_now _ _ _ _ c.in_default.ensures (rw c.write_triples.ensures)

@@ -3,12 +3,6 @@ use Rattle.answer.proofs.Faults.{chain}
 use Rattle.stock.proofs.Opened.{open_above, open_enough}
 use Rattle.stock_calls.proofs.opening_shares.Goals as goal
 
-pub returns-then-not-is_count-clause-tests : goal.returns-then-not-is_count-clause-tests
-returns-then-not-is_count-clause-tests c = search chain depth 9
-
-pub returns-then-not-is_count-2-clause-tests : goal.returns-then-not-is_count-2-clause-tests
-returns-then-not-is_count-2-clause-tests c = search chain depth 9
-
 pub returns-then-outputs-total-clause-tests : goal.returns-then-outputs-total-clause-tests
 returns-then-outputs-total-clause-tests c = search (chain, open_above) depth 9
 

@@ -3,12 +3,6 @@ use Rattle.answer.proofs.Faults.{chain}
 use Rattle.stock_calls.proofs.Passed.{pass-above, pass-enough}
 use Rattle.stock_calls.proofs.passing_shares.Goals as goal
 
-pub returns-then-not-is_count-clause-tests : goal.returns-then-not-is_count-clause-tests
-returns-then-not-is_count-clause-tests c = search chain depth 9
-
-pub returns-then-not-is_above-clause-tests : goal.returns-then-not-is_above-clause-tests
-returns-then-not-is_above-clause-tests c = search chain depth 9
-
 pub returns-then-outputs-total-clause-tests : goal.returns-then-outputs-total-clause-tests
 returns-then-outputs-total-clause-tests c = search (chain, pass-above) depth 9
 
