@@ -9,4 +9,5 @@ pub mod Values
 mod Fields
 pub mod Turns
 mod Circuits
+pub mod Iterators
 mod Second

@@ -1,11 +1,14 @@
 -- Gates and wires that were read one after the other: the first of them and the rest, how many there are, and that they are admitted.
 -- Assumes nothing.
-use Prim.Native.Nat.{ℕ, zero, suc, ◌+◌, ◌<◌}
+use Prim.Native.Nat.{ℕ, zero, suc, ◌+◌, ◌-◌, ◌<◌}
+use mathlib.Core.Bool.{true}
 use mathlib.Core.List.{List, [], ◌∷◌}
 use mathlib.Core.Path.{◌≡◌, sym, ap, ◌∙◌, subst}
 use borrow.Author.Tests.{eq-eqb, ne_eqb}
+use native.Mathlib.Omega.{arith}
 use lib.ListN.{length}
-use Rattle.number.proofs.Places.{either, whole_is, then-whole}
+use Rattle.number.proofs.Places.{either, whole_is, whole_of, then-whole}
+use Rattle.number.specs.Inner.Known.{is_whole}
 use Rattle.number.specs.Reading.{Whole}
 use Rattle.circuit.proofs.Fields.{GateParts, one, two, gate_parts, wire_parts, two_wires}
 use Rattle.circuit.specs.Admitted.{GateBelow, GatesBelow, WiresBelow}
@@ -61,6 +64,36 @@ first-wire n limit s at {ws} {end} e =
       rest = q.2 ∙ ap (λ (y : List ℕ × ℕ). Whole (q.0, y.1)) z;
       all = ap (λ (y : List ℕ × ℕ). y.0) (sym z);
     }
+
+-- of n gates that can be read, where there is one, the first can be read, and so can those after it
+module _ (wire : ℕ) (s : List ℕ) (at : ℕ) {n : ℕ} (known : is_whole (read_gates n wire s at) ≡ true) (some : n ≡ 0 → ⊥) where
+  gate-known : (gs : List Gate) × (end : ℕ) × FirstGate (n - 1) wire s at gs end
+  gate-known =
+      let z = whole_of (read_gates n wire s at) known in
+      (z.0.0, z.0.1, first-gate (n - 1) wire s at (ap (λ (m : ℕ). read_gates m wire s at) {x = suc (n - 1)} {y = n} (omega arith) ∙ z.1))
+
+  pub gates-first : is_whole (read_gate wire s at) ≡ true
+  gates-first = ap is_whole gate-known.2.reads
+
+  pub gates-later : {g : Gate} {next : ℕ} → Whole (g, next) ≡ read_gate wire s at → is_whole (read_gates (n - 1) (wire + 1) s next) ≡ true
+  gates-later {g} {next} read =
+      let z : ◌≡◌ {A = Gate × ℕ} (g, next) (gate-known.2.gate, gate-known.2.next) = whole_is (read ∙ gate-known.2.reads) in
+      ap (λ (p : Gate × ℕ). is_whole (read_gates (n - 1) (wire + 1) s p.1)) z ∙ ap is_whole gate-known.2.rest
+
+-- of n wires likewise
+module _ (limit : ℕ) (s : List ℕ) (at : ℕ) {n : ℕ} (known : is_whole (read_wires n limit s at) ≡ true) (some : n ≡ 0 → ⊥) where
+  wire-known : (ws : List ℕ) × (end : ℕ) × FirstWire (n - 1) limit s at ws end
+  wire-known =
+      let z = whole_of (read_wires n limit s at) known in
+      (z.0.0, z.0.1, first-wire (n - 1) limit s at (ap (λ (m : ℕ). read_wires m limit s at) {x = suc (n - 1)} {y = n} (omega arith) ∙ z.1))
+
+  pub wires-first : is_whole (read_wire limit s at) ≡ true
+  wires-first = ap is_whole wire-known.2.reads
+
+  pub wires-later : {w next : ℕ} → Whole (w, next) ≡ read_wire limit s at → is_whole (read_wires (n - 1) limit s next) ≡ true
+  wires-later {w} {next} read =
+      let z : ◌≡◌ {A = ℕ × ℕ} (w, next) (wire-known.2.wire, wire-known.2.next) = whole_is (read ∙ wire-known.2.reads) in
+      ap (λ (p : ℕ × ℕ). is_whole (read_wires (n - 1) limit s p.1)) z ∙ ap is_whole wire-known.2.rest
 
 -- none
 pub no_gate : (wire : ℕ) (s : List ℕ) (at : ℕ) {gs : List Gate} {end : ℕ} → read_gates 0 wire s at ≡ Whole (gs, end) → (gs ≡ []) × (end ≡ at)

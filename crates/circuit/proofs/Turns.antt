@@ -2,10 +2,8 @@
 use Prim.Native.Nat.{ℕ, suc, ◌+◌, ◌-◌, ◌≤◌, ◌<◌}
 use mathlib.Core.List.{List, ◌∷◌}
 use mathlib.Core.Path.{◌≡◌, refl, sym, ap, ◌∙◌}
-use native.Mathlib.Nat.{add-zero, sub-zero}
+use native.Mathlib.Nat.{add-zero}
 use native.Mathlib.Omega.{arith}
-use mir.Syntax.{w64}
-use mir.Val.{Fits}
 use Rattle.number.specs.Reading.{Whole, Refused, Parsed, then, choose}
 use Rattle.circuit.specs.Content.{Gate, Xor, And, Not, is_and, ands_in}
 use Rattle.circuit.specs.Inner.GateNumbers.{counted_ands, placed}
@@ -30,10 +28,6 @@ pub record GatesTurn (s : List ℕ) (body gates inputs at ands i : ℕ) : Type 0
   pub turns : i ≤ gates
   pub few : ands ≤ i
 
-pub gates-start : (s : List ℕ) (body gates inputs : ℕ) → GatesTurn s body gates inputs body 0 0
-gates-start s body gates inputs =
-    record { answer = rw (sub-zero gates, add-zero inputs); turns = omega arith; few = omega arith }
-
 module _ {s : List ℕ} {body gates inputs at ands i : ℕ} (turn : GatesTurn s body gates inputs at ands i) where
   module _ (more : i < gates) where
     step : (x : Parsed Gate) → read_gate (inputs + i) s at ≡ x
@@ -44,9 +38,6 @@ module _ {s : List ℕ} {body gates inputs at ands i : ℕ} (turn : GatesTurn s 
         turn.answer
         ∙ ap (λ (n : ℕ). counted_ands ands (read_gates n (inputs + i) s at)) {x = gates - i} {y = suc (gates - (i + 1))} (omega arith)
         ∙ ap (λ (y : Parsed Gate). counted_ands ands (then y λ g next. then (read_gates (gates - (i + 1)) (inputs + i + 1) s next) λ gs end. Whole (g ∷ gs, end))) e
-
-    pub gates-fits : (g : Gate) {n : ℕ} → n ≡ choose (is_and g) 1 0 → inputs + gates ≤ 4096 → Fits w64 (ands + n)
-    gates-fits g w h = record { fits = omega (arith, turn.few, and-small g, w) }
 
     pub gates-fault : {k : ℕ} → Refused k ≡ read_gate (inputs + i) s at → Refused k ≡ counted_ands 0 (read_gates gates inputs s body)
     gates-fault {k} e = sym (step (Refused k) (sym e))
@@ -80,9 +71,6 @@ placed_more w (Refused k) = refl
 pub record WiresTurn (s : List ℕ) (tail count limit at i : ℕ) : Type 0 where
   pub answer : placed (read_wires count limit s tail) ≡ placed (read_wires (count - i) limit s at)
   pub turns : i ≤ count
-
-pub wires-start : (s : List ℕ) (tail count limit : ℕ) → WiresTurn s tail count limit tail 0
-wires-start s tail count limit = record { answer = rw (sub-zero count); turns = omega arith }
 
 module _ {s : List ℕ} {tail count limit at i : ℕ} (turn : WiresTurn s tail count limit at i) where
   module _ (more : i < count) where

@@ -7,9 +7,9 @@ ghost use Rattle.circuit.specs.Reading.{read_within, read_wire, read_gate, read_
 
 use crate::Gate;
 use answer::Refusal;
-use number::read_number;
+use number::{read_number, tested};
 
-// The kinds of gates in the bytes of a circuit, from 1 to 3; 2 is an AND.
+// The kinds of gates in the bytes of a circuit, from 1 to 3; 2 is an AND. No kind outlives its reading: what is read is a `Gate`.
 pub const XOR: usize = 1;
 
 pub const NOT: usize = 3;
@@ -24,11 +24,9 @@ pub fn read_within(
 ) -> Result<(usize, usize), Refusal>
     ensures { number_read result ≡ read_within least most source.now at }
 {
-    let (n, next) = read_number(source, at)?;
-    if n < least || most < n {
-        return Err(Refusal::BadCircuit);
-    }
-    Ok((n, next))
+    tested(read_number(source, at), Refusal::BadCircuit, |n| {
+        least <= n && n <= most
+    })
 }
 
 // A wire below a limit, and the place after it.
@@ -36,11 +34,9 @@ pub fn read_within(
 pub fn read_wire(source: &[u8], at: usize, limit: usize) -> Result<(usize, usize), Refusal>
     ensures { number_read result ≡ read_wire limit source.now at }
 {
-    let (wire, next) = read_number(source, at)?;
-    if limit <= wire {
-        return Err(Refusal::BadCircuit);
-    }
-    Ok((wire, next))
+    tested(read_number(source, at), Refusal::BadCircuit, |wire| {
+        wire < limit
+    })
 }
 
 // The gate at a wire, and the place after it.
@@ -60,7 +56,8 @@ pub fn read_gate(source: &[u8], at: usize, wire: usize) -> Result<(Gate, usize),
     Ok((Gate::And(first, second), at))
 }
 
-// Gates, the first at wire `inputs`: how many ANDs they are, and the place after them.
+// Gates, the first at wire `inputs`: how many ANDs they are, and the place after them. The place goes by hand here and in `read_wires`:
+// a turn may refuse, and the last place is the answer.
 pub fn read_gates(
     source: &[u8],
     body: usize,

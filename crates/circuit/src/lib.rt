@@ -5,11 +5,14 @@ ghost use Rattle.std.specs.Prelude.{◌≡◌};
 ghost use Rattle.circuit.specs.Content.{is_and};
 ghost use Rattle.circuit.specs.Inner.GateNumbers.{gate_of};
 
+mod accepted;
 mod again;
 mod gates;
+mod passing;
 mod reading;
 
-pub use again::{known_gate, known_wire};
+pub use accepted::{Circuit, Gates, OutputWires};
+pub use again::known_gate;
 pub use reading::read_circuit;
 
 // The numbers of an accepted circuit: inputs, gates, outputs, ANDs, and the places of the first gate and the first output wire.

@@ -1,6 +1,5 @@
 -- The levels of the wires, gate by gate, and the greatest of them. Assumes nothing.
-use Prim.Native.Nat.{ℕ, zero, suc, ◌+◌, ◌-◌, ◌≤◌, ◌<◌}
-use mathlib.Core.Bool.{true}
+use Prim.Native.Nat.{ℕ, zero, suc, ◌+◌, ◌-◌, ◌≤◌, ◌<◌, max}
 use mathlib.Core.List.{List, [], ◌∷◌, ◌++◌, append_assoc}
 use mathlib.Core.Path.{◌≡◌, refl, sym, ap, ap₂, ◌∙◌, subst}
 use native.Mathlib.Nat.{add-zero}
@@ -10,16 +9,20 @@ use lib.Seq.{take-add, take-length, set_at, length-take-le}
 use Rattle.circuit.proofs.Folds.{fold_length, fold_last}
 use Rattle.circuit.proofs.Levels.{greater_is, greater-below, greatest-below, level_below}
 use Rattle.circuit.proofs.Lists.{gate-below}
+use Rattle.circuit.proofs.Iterators.{AtGate, first_gate, no_gate_left, next_gate, gate-left, gate-wire, gate-read, wires_all}
 use Rattle.circuit.specs.Answer.{content, HasLayout}
 use Rattle.circuit.specs.Content.{Gate, Xor, And, Not, Circuit}
+use Rattle.circuit.specs.Inner.GateNumbers.{gate_of, WiresOf}
+use Rattle.circuit.specs.Inner.Passing.{GatesFrom, Gave}
 use Rattle.circuit.specs.Levels.{greater, gate_level, greatest, levels, depth}
 use Rattle.circuit.specs.Reading.{read_gate}
 use Rattle.circuit.specs.Value.{over_gates}
+use Rattle.circuit.specs.declared.Gate as code
 use Rattle.circuit.specs.declared.Layout.{Layout}
-use Rattle.circuit_run.proofs.Gates.{gates_of, left-start, whole-gate, first, here, left-next}
+use Rattle.circuit.specs.declared.accepted.Gates.{Gates}
+use Rattle.circuit_run.proofs.Gates.{gates_of, left-start, first, here, left-next}
 use Rattle.circuit_run.specs.Inner.Places.{Left}
 use Rattle.number.proofs.Places.{split}
-use Rattle.number.specs.Inner.Known.{is_whole}
 use Rattle.number.specs.Reading.{Whole}
 use Rattle.circuit_describe.specs.Inner.Levels.{levels_to}
 
@@ -30,6 +33,9 @@ greater-second a b h = sym ((greater_is a b).0 h)
 
 pub greater-first : (a b : ℕ) → b < a → a ≡ greater a b
 greater-first a b h = sym ((greater_is a b).1 h)
+
+pub max_is : (a b : ℕ) → max a b ≡ greater a b
+max_is a b = split b a (λ h. omega (arith, greater-first a b h)) (λ h. omega (arith, greater-second a b h))
 
 greater-most : (a b limit : ℕ) → a ≤ limit → b ≤ limit → greater a b ≤ limit
 greater-most a b limit p q = let r = greater-below a b (limit + 1) (omega arith) (omega arith) in omega (arith, r)
@@ -95,7 +101,7 @@ append_small [] n limit (suc w) h k = omega arith
 append_small (x ∷ l) n limit zero h k = h 0
 append_small (x ∷ l) n limit (suc w) h k = append_small l n limit w (λ u. h (suc u)) k
 
-pub depth-start : {s : List ℕ} {f : Layout} → HasLayout s f → DepthTurn s f.inputs (replicate 4096 0) 0 f.body 0
+depth-start : {s : List ℕ} {f : Layout} → HasLayout s f → DepthTurn s f.inputs (replicate 4096 0) 0 f.body 0
 unfolding levels_to over_gates
 depth-start {s} {f} o =
     record {
@@ -123,9 +129,6 @@ module _ {s : List ℕ} {f : Layout} (o : HasLayout s f) {array : List ℕ} {mos
     inside : i < length (gates_of s)
     inside = omega (arith, o.gates)
 
-    pub depth-known : is_whole (read_gate (f.inputs + i) s at) ≡ true
-    depth-known = whole-gate turn.left inside
-
     at_wire : (w : ℕ) → w < f.inputs + i → get_or array w 0 ≡ get_or (levels_to c i) w 0
     at_wire w h =
         ap (λ (l : List ℕ). get_or l w 0) turn.front
@@ -138,7 +141,7 @@ module _ {s : List ℕ} {f : Layout} (o : HasLayout s f) {array : List ℕ} {mos
         (take-add i 1 c.gates ∙ ap (λ (l : List Gate). take i c.gates ++ take 1 l) h)
         ∙ fold_last gate_level (take i c.gates) g (replicate c.inputs 0)
 
-    pub depth-next : (g : Gate) {next level most' : ℕ} → Whole (g, next) ≡ read_gate (f.inputs + i) s at
+    depth-next : (g : Gate) {next level most' : ℕ} → Whole (g, next) ≡ read_gate (f.inputs + i) s at
         → level ≡ gate_level g array → most' ≡ greater most level
         → DepthTurn s f.inputs (set array (f.inputs + i) level) most' next (i + 1)
     depth-next g {next} {level} {most'} read e m =
@@ -167,12 +170,58 @@ module _ {s : List ℕ} {f : Layout} (o : HasLayout s f) {array : List ℕ} {mos
         last-small : (w : ℕ) → get_or (levels_to c i ++ (level ∷ [])) w 0 ≤ i + 1
         last-small w = append_small (levels_to c i) level (i + 1) w (λ u. let h = turn.small u in omega arith) bound
 
-  pub depth-most : most ≤ 4096
-  depth-most = omega (arith, turn.greatest_is, greatest-below (levels_to c i) i (λ w _. turn.small w), turn.left.below, o.gates, o.most)
+  depth-small : most ≤ 4096
+  depth-small = omega (arith, turn.greatest_is, greatest-below (levels_to c i) i (λ w _. turn.small w), turn.left.below, o.gates, o.most)
 
-  pub depth_is : f.gates ≤ i → most ≡ depth c
+  depth-whole : f.gates ≤ i → most ≡ depth c
   unfolding levels_to levels
-  depth_is over =
+  depth-whole over =
       let n : i ≡ length c.gates = omega (arith, turn.left.below, o.gates) in
       let all : take i c.gates ≡ c.gates = ap (λ (k : ℕ). take k c.gates) n ∙ take-length c.gates in
       turn.greatest_is ∙ ap (λ (l : List Gate). greatest (over_gates gate_level l (replicate c.inputs 0))) all
+
+-- ---- the loop, by the iterator over the gates
+
+-- the turn at the gate where the iterator stands
+pub record DepthAt (s : List ℕ) (f : Layout) (gates : Gates) (array : List ℕ) (most : ℕ) : Type 0 where
+  pub i : ℕ
+  pub here : AtGate s f gates i
+  pub turn : DepthTurn s f.inputs array most gates.at i
+
+pub depths-start : {s : List ℕ} {f : Layout} {gates : Gates} → HasLayout s f → GatesFrom s f gates → DepthAt s f gates (replicate 4096 0) 0
+depths-start {s} {f} o from =
+    record {
+      i = 0;
+      here = first_gate from;
+      turn = subst (λ (at : ℕ). DepthTurn s f.inputs (replicate 4096 0) 0 at 0) (sym from.at) (depth-start o);
+    }
+
+module _ {s : List ℕ} {f : Layout} (o : HasLayout s f) {gates : Gates} {array : List ℕ} {most : ℕ} (loop : DepthAt s f gates array most) where
+  module _ {wire : ℕ} {gate : code.Gate} {after : Gates} (gave : Gave gates wire gate after) where
+    -- its wires are before its own, and their levels are known
+    pub wires-small : WiresOf (λ (w : ℕ). (w < 4096) × (get_or array w 0 ≤ 4096)) gate
+    wires-small =
+        wires_all
+        (λ (w : ℕ) h.
+        let more = gate-left loop.here gave in
+        let below : w < f.inputs + loop.i = omega (arith, h, loop.here.wire) in (
+          omega (arith, below, more, o.most),
+          omega (arith, at_wire o loop.turn more w below, loop.turn.small w, more, o.most),
+        ))
+        gate gave.below
+
+    pub depths-next : {level most' : ℕ} → level ≡ gate_level (gate_of gate) array → most' ≡ max most level → DepthAt s f after (set array wire level) most'
+    depths-next {level} {most'} e m =
+        record {
+          i = loop.i + 1;
+          here = next_gate loop.here gave;
+          turn =
+              subst (λ (w : ℕ). DepthTurn s f.inputs (set array w level) most' after.at (loop.i + 1)) (sym (gate-wire loop.here gave))
+              (depth-next o loop.turn (gate-left loop.here gave) (gate_of gate) (gate-read loop.here gave) e (m ∙ max_is most level));
+        }
+
+  pub depth-most : most ≤ 4096
+  depth-most = depth-small o loop.turn
+
+  pub depth_is : gates.left ≡ 0 → most ≡ depth (content s)
+  depth_is none = depth-whole o loop.turn (no_gate_left loop.here none)

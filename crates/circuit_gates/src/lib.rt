@@ -5,5 +5,5 @@
 mod bytes;
 mod shares;
 
-pub use bytes::{Opening, byte_after, input_byte};
+pub use bytes::{Opening, WAITS, byte_after, input_byte, share_of};
 pub use shares::{flip, give_and, is_role};

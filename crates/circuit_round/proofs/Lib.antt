@@ -1,4 +1,3 @@
 -- The laws of `circuit_round`, which its functions' proofs use.
 mod Leaves
 mod Passes
-mod Outputs

@@ -12,18 +12,22 @@ use lib.ListN.{length, get_or, set, take, drop, length-append, length-drop, leng
 use lib.Seq.{take_all, take-add, take-set-le, length-take-le, drop-set-lt, drop-set-add, take-suc-set, drop-drop, get_or-set_same}
 use Rattle.algebra.specs.Choice.{choose}
 use Rattle.circuit.proofs.Ands.{tail_at, ands_split}
+use Rattle.circuit.proofs.Iterators.{AtGate, first_gate, no_gate_left, next_gate, gate-left, gate-wire, gate-read, wires_all}
 use Rattle.circuit.proofs.Lists as lists
 use Rattle.circuit.proofs.Lists.{gates-below}
 use Rattle.circuit.specs.Admitted.{GateBelow}
 use Rattle.circuit.specs.Answer.{content, HasLayout}
-use Rattle.circuit.specs.Content.{Gate, And, Circuit, is_and, ands_in}
+use Rattle.circuit.specs.Content.{Gate, And, Circuit, is_and}
+use Rattle.circuit.specs.Inner.GateNumbers.{gate_of, WiresOf}
+use Rattle.circuit.specs.Inner.Passing.{GatesFrom, Gave}
 use Rattle.circuit.specs.Reading.{read_gate}
 use Rattle.circuit.specs.Value.{over_gates}
+use Rattle.circuit.specs.declared.Gate as code
 use Rattle.circuit.specs.declared.Layout.{Layout}
-use Rattle.circuit_run.proofs.Gates.{gates_of, here, gate_here, PlaceTurn, place-start, place-known, place-next}
+use Rattle.circuit.specs.declared.accepted.Gates.{Gates}
+use Rattle.circuit_run.proofs.Gates.{gates_of, here, gate_here, PlaceTurn, place-start, place-next}
 use Rattle.circuit_run.specs.Step.{gate_at, ands_before, triple_first, triple_second, masked_first, masked_second}
 use Rattle.number.proofs.Places.{either}
-use Rattle.number.specs.Inner.Known.{is_whole}
 use Rattle.number.specs.Reading.{Whole}
 use Rattle.circuit_run.proofs.RoundGates.{share-at, byte_is, same_at, byte_no_wait, byte-few}
 use Rattle.circuit_run.proofs.Opened.{gate-below, adds, opened_more, share-kept, opened-kept, two_more}
@@ -50,7 +54,7 @@ pub record PassTurn (s : List ℕ) (inputs gates role : ℕ) (triples far before
       ≡ over_gates (make s role triples far before) (drop i (gates_of s)) (take (inputs + i) wires)
   pub rest : drop (inputs + i) wires ≡ drop (inputs + i) before
 
-pub pass-start : {s : List ℕ} {f : Layout} (role : ℕ) {triples far before : List ℕ} (bits : List ℕ) → HasLayout s f
+pass-start : {s : List ℕ} {f : Layout} (role : ℕ) {triples far before : List ℕ} (bits : List ℕ) → HasLayout s f
     → CanPass s f triples far (length bits) before → PassTurn s f.inputs f.gates role triples far before bits before bits f.body 0 0 0 0
 unfolding opened_bits
 pass-start {s} {f} role {triples} {far} {before} bits o can =
@@ -107,9 +111,6 @@ module _ {s : List ℕ} {f : Layout} (o : HasLayout s f) {role : ℕ} {triples f
     was : get_or before n 0 ≡ get_or wires n 0
     was = same_at wires before n turn.rest
 
-    pub pass-known : is_whole (read_gate (f.inputs + i) s at) ≡ true
-    pass-known = place-known o all turn.stands more
-
     module _ (g : Gate) {next : ℕ} (read : Whole (g, next) ≡ read_gate (f.inputs + i) s at) where
       gate_is : gate_at c i ≡ g
       gate_is = gate_here turn.stands.left inside g read
@@ -135,7 +136,7 @@ module _ {s : List ℕ} {f : Layout} (o : HasLayout s f) {role : ℕ} {triples f
       and-bits : is_and g ≡ true → q + 1 < length bits
       and-bits e = omega (arith, and-room e, length_is (omega (arith, and-room e)))
 
-      pub pass-puts : (x : ℕ) → is_and g ≡ true → CanPut x triples ands bits q
+      pass-puts : (x : ℕ) → is_and g ≡ true → CanPut x triples ands bits q
       pass-puts x e =
           record {
             few = omega (arith, turn.stands.few, more, o.most);
@@ -144,7 +145,7 @@ module _ {s : List ℕ} {f : Layout} (o : HasLayout s f) {role : ℕ} {triples f
             room = λ w. and-bits e;
           }
 
-      pub pass-has : is_and g ≡ true → get_or wires (f.inputs + i) 0 ≡ 1 → AndHas triples ands far p
+      pass-has : is_and g ≡ true → get_or wires (f.inputs + i) 0 ≡ 1 → AndHas triples ands far p
       pass-has e w =
           let v : wait_of (get_or before n 0) ≡ 1 = ap wait_of (was ∙ w) in
           let m : waiting_up_to f.inputs before f.gates ≡ waiting_in c before =
@@ -258,13 +259,13 @@ module _ {s : List ℕ} {f : Layout} (o : HasLayout s f) {role : ℕ} {triples f
               ∙ ap (λ (l : List ℕ). l ++ drop q bits₀) (sym d)
               ∙ ap (λ (j : ℕ). opened_bits c triples (set wires n x) 0 (take (i + 1) (gates_of s)) ++ drop j bits₀) (sym k))
 
-          pub pass_other : is_and g ≡ false → {q' : ℕ} {bits' : List ℕ} → q' ≡ q → bits' ≡ bits
+          pass_other : is_and g ≡ false → {q' : ℕ} {bits' : List ℕ} → q' ≡ q → bits' ≡ bits
               → PassTurn s f.inputs f.gates role triples far before bits₀ (set wires (f.inputs + i) x) bits' next ands' (p + m₂) q' (i + 1)
           pass_other other {q'} e₃ e₄ =
               let m : x ≡ 1 → ⊥ = λ w. true≢false (sym (two w) ∙ other) in
               next_none m (e₃ ∙ sym (ap (λ (u : Bool). choose {A = ℕ} u (q + 2) q) (ne_eqb x 1 m))) e₄
 
-          pub pass_and : (a b : ℕ) → g ≡ And a b → {q' : ℕ} {bits' : List ℕ} → q' ≡ place_after x q
+          pass_and : (a b : ℕ) → g ≡ And a b → {q' : ℕ} {bits' : List ℕ} → q' ≡ place_after x q
               → bits' ≡ put_bits x (get_or wires a 0) (get_or wires b 0) triples ands q bits
               → PassTurn s f.inputs f.gates role triples far before bits₀ (set wires (f.inputs + i) x) bits' next ands' (p + m₂) q' (i + 1)
           unfolding put_bits
@@ -293,12 +294,7 @@ module _ {s : List ℕ} {f : Layout} (o : HasLayout s f) {role : ℕ} {triples f
     whole : length (gates_of s) ≤ i
     whole = omega (arith, o.gates)
 
-    pub pass_kept : length bits ≡ length bits₀
-    pass_kept =
-        let k : ands ≡ ands_in (gates_of s) = turn.stands.counted ∙ ap ands_in (take_all i (gates_of s) whole) in
-        length_is (omega (arith, turn.below, k, o.ands, can.room))
-
-    pub pass_done : Passes s f role triples far bits₀ before q bits wires
+    pass_done : Passes s f role triples far bits₀ before q bits wires
     unfolding over_gates
     pass_done =
         let mk = make s role triples far before in
@@ -317,3 +313,79 @@ module _ {s : List ℕ} {f : Layout} (o : HasLayout s f) {role : ℕ} {triples f
           counted = sym (ap length (sym d) ∙ turn.size);
           sent = turn.sent ∙ ap (λ (l : List ℕ). l ++ drop q bits₀) d;
         }
+
+-- ---- the loop, by the iterator over the gates
+
+-- the turn at the gate where the iterator stands
+pub record PassAt (s : List ℕ) (f : Layout) (role : ℕ) (triples far before bits₀ : List ℕ) (gates : Gates) (wires bits : List ℕ) (ands p q : ℕ) : Type 0 where
+  pub i : ℕ
+  pub here : AtGate s f gates i
+  pub turn : PassTurn s f.inputs f.gates role triples far before bits₀ wires bits gates.at ands p q i
+
+pub passes-start : {s : List ℕ} {f : Layout} (role : ℕ) {triples far before : List ℕ} (bits : List ℕ) {gates : Gates} → HasLayout s f
+    → CanPass s f triples far (length bits) before → GatesFrom s f gates → PassAt s f role triples far before bits gates before bits 0 0 0
+passes-start {s} {f} role {triples} {far} {before} bits o can from =
+    record {
+      i = 0;
+      here = first_gate from;
+      turn = subst (λ (at : ℕ). PassTurn s f.inputs f.gates role triples far before bits before bits at 0 0 0 0) (sym from.at) (pass-start role bits o can);
+    }
+
+module _ {s : List ℕ} {f : Layout} (o : HasLayout s f) {role : ℕ} {triples far before bits₀ : List ℕ} (can : CanPass s f triples far (length bits₀) before)
+    {gates : Gates} {wires bits : List ℕ} {ands p q : ℕ} (loop : PassAt s f role triples far before bits₀ gates wires bits ands p q) where
+  module _ {wire : ℕ} {gate : code.Gate} {after : Gates} (gave : Gave gates wire gate after) where
+    abbrev g : Gate
+    g = gate_of gate
+
+    wire_is : wire ≡ f.inputs + loop.i
+    wire_is = gate-wire loop.here gave
+
+    more-left : loop.i < f.gates
+    more-left = gate-left loop.here gave
+
+    pub passes-inside : wire < 4096
+    passes-inside = omega (arith, wire_is, more-left, o.most)
+
+    pub passes-below : WiresOf (λ (w : ℕ). w < 4096) gate
+    passes-below = wires_all (λ (w : ℕ) h. omega (arith, h, loop.here.wire, more-left, o.most)) gate gave.below
+
+    pub passes-puts : (x : ℕ) → is_and g ≡ true → CanPut x triples ands bits q
+    passes-puts = pass-puts o can loop.turn more-left g (gate-read loop.here gave)
+
+    pub passes-has : is_and g ≡ true → get_or wires wire 0 ≡ 1 → AndHas triples ands far p
+    passes-has is waits =
+        pass-has o can loop.turn more-left g (gate-read loop.here gave) is (ap (λ (w : ℕ). get_or wires w 0) (sym wire_is) ∙ waits)
+
+    module _ {x : ℕ} (e : x ≡ byte_by role g (get_or wires wire 0) wires triples ands far p) {m₂ : ℕ} (e₂ : m₂ ≡ wait_of (get_or wires wire 0))
+        {ands' : ℕ} (e₁ : ands' ≡ ands + choose (is_and g) 1 0) where
+      byte_is_here : x ≡ byte_by role g (get_or wires (f.inputs + loop.i) 0) wires triples ands far p
+      byte_is_here = e ∙ ap (λ (w : ℕ). byte_by role g (get_or wires w 0) wires triples ands far p) wire_is
+
+      waits_here : m₂ ≡ wait_of (get_or wires (f.inputs + loop.i) 0)
+      waits_here = e₂ ∙ ap (λ (w : ℕ). wait_of (get_or wires w 0)) wire_is
+
+      gone_on : {q' : ℕ} {bits' : List ℕ}
+          → PassTurn s f.inputs f.gates role triples far before bits₀ (set wires (f.inputs + loop.i) x) bits' after.at ands' (p + m₂) q' (loop.i + 1)
+          → PassAt s f role triples far before bits₀ after (set wires wire x) bits' ands' (p + m₂) q'
+      gone_on {q'} {bits'} turn =
+          record {
+            i = loop.i + 1;
+            here = next_gate loop.here gave;
+            turn =
+                subst (λ (w : ℕ). PassTurn s f.inputs f.gates role triples far before bits₀ (set wires w x) bits' after.at ands' (p + m₂) q' (loop.i + 1))
+                (sym wire_is) turn;
+          }
+
+      pub passes_other : is_and g ≡ false → {q' : ℕ} {bits' : List ℕ} → q' ≡ q → bits' ≡ bits
+          → PassAt s f role triples far before bits₀ after (set wires wire x) bits' ands' (p + m₂) q'
+      passes_other other e₃ e₄ =
+          gone_on (pass_other o can loop.turn more-left g (gate-read loop.here gave) byte_is_here waits_here e₁ other e₃ e₄)
+
+      pub passes_and : (a b : ℕ) → g ≡ And a b → {q' : ℕ} {bits' : List ℕ} → q' ≡ place_after x q
+          → bits' ≡ put_bits x (get_or wires a 0) (get_or wires b 0) triples ands q bits
+          → PassAt s f role triples far before bits₀ after (set wires wire x) bits' ands' (p + m₂) q'
+      passes_and a b is e₃ e₄ =
+          gone_on (pass_and o can loop.turn more-left g (gate-read loop.here gave) byte_is_here waits_here e₁ a b is e₃ e₄)
+
+  pub passes_done : gates.left ≡ 0 → Passes s f role triples far bits₀ before q bits wires
+  passes_done none = pass_done o can loop.turn (no_gate_left loop.here none)

@@ -11,9 +11,9 @@ mod writing;
 
 use accepted::accepted_round;
 use answer::ACCEPTED;
-use circuit::read_circuit;
+use circuit::Circuit;
 use circuit_run::{RoundState, Rounded};
-use tests::{Frame, check};
+use tests::{Round, check};
 
 // One round of an end's run: opens every AND whose wires are known and gives its two bits to send, or writes the outputs of a run
 // where none waits.
@@ -33,26 +33,22 @@ pub fn round_run(
         (round_with role circuit.now shares.now triples.now
         output.old far_bits.now bits_out.old) state }
 {
-    let layout = match read_circuit(circuit) {
-        Ok(layout) => layout,
+    let circuit = match Circuit::read(circuit) {
+        Ok(circuit) => circuit,
         Err(refusal) => return Rounded::refused(refusal, state),
     };
-    let frame = Frame { layout, role };
-    if let Err(refusal) = check(
-        frame,
-        &state.wires,
+    let round = Round {
+        circuit,
+        role,
         shares,
         triples,
         far_bits,
-        output.len(),
-        bits_out.len(),
-    ) {
+    };
+    if let Err(refusal) = check(round, &state.wires, output.len(), bits_out.len()) {
         return Rounded::refused(refusal, state);
     }
     let mut wires = state.wires;
-    let lengths = accepted_round(
-        circuit, frame, shares, triples, output, far_bits, bits_out, &mut wires,
-    );
+    let lengths = accepted_round(round, output, bits_out, &mut wires);
     Rounded {
         number: ACCEPTED,
         written: lengths.written,

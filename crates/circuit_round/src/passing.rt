@@ -1,13 +1,12 @@
 // What a round makes of the state: the inputs, then the gates in their order.
 ghost use Rattle.std.specs.Prelude.{◌++◌, ◌≡◌, ℕ, ◌≤◌, length, get_or, drop};
-ghost use Rattle.circuit.specs.Answer.{HasLayout};
 ghost use Rattle.circuit_run.specs.Inner.RoundPasses.{CanPass, Passes};
 ghost use Rattle.circuit_run.specs.Round.{input_bytes};
 
-use crate::tests::Frame;
+use crate::tests::Round;
 use crate::writing::put_bits;
-use circuit::{Gate, known_gate};
-use circuit_gates::{Opening, byte_after, input_byte};
+use circuit::Gate;
+use circuit_gates::{Opening, WAITS, byte_after, input_byte};
 
 // Gives each input that is not known its share.
 pub fn take_inputs(shares: &[u8], wires: &mut [u8; 4096])
@@ -20,27 +19,22 @@ pub fn take_inputs(shares: &[u8], wires: &mut [u8; 4096])
 }
 
 // Passes over the gates and puts the bits of those that wait afterwards; how many bits they are.
-pub fn pass_gates(
-    source: &[u8],
-    frame: Frame,
-    triples: &[u8],
-    far_bits: &[u8],
-    bits_out: &mut [u8],
-    wires: &mut [u8; 4096],
-) -> usize
-    requires { HasLayout source.now frame.layout
-        × CanPass source.now frame.layout triples.now far_bits.now (length bits_out.old) wires.old }
-    ensures { Passes source.now frame.layout frame.role triples.now far_bits.now
+pub fn pass_gates(round: Round, bits_out: &mut [u8], wires: &mut [u8; 4096]) -> usize
+    requires { CanPass round.circuit.source.now round.circuit.layout round.triples.now round.far_bits.now (length bits_out.old) wires.old }
+    ensures { Passes round.entry.circuit.source.now round.entry.circuit.layout round.entry.role round.entry.triples.now round.entry.far_bits.now
         bits_out.old wires.old result bits_out.new wires.new }
 {
-    let Frame { layout, role } = frame;
-    let mut at = layout.body;
+    let Round {
+        circuit,
+        role,
+        triples,
+        far_bits,
+        ..
+    } = round;
     let mut ands: usize = 0;
     let mut passed: usize = 0;
     let mut place: usize = 0;
-    for i in 0..layout.gates {
-        let wire = layout.inputs + i;
-        let (gate, next) = known_gate(source, at, wire);
+    for (wire, gate) in circuit.gates() {
         let opening = Opening {
             role,
             triples,
@@ -55,8 +49,7 @@ pub fn pass_gates(
             ands += 1;
         }
         wires[wire] = after;
-        passed += usize::from(before == 1);
-        at = next;
+        passed += usize::from(before == WAITS);
     }
     place
 }

@@ -7,14 +7,17 @@ ghost use Rattle.circuit_run.specs.Inner.RoundTests.{byte_tests, asked_tests};
 ghost use Rattle.circuit_run.specs.Inner.RoundPasses.{waiting_by};
 
 use answer::{Refusal, any_above, is_short, is_times};
-use circuit::Layout;
-use circuit_gates::is_role;
+use circuit::{Circuit, Layout};
+use circuit_gates::{WAITS, is_role};
 
-// What a round has of its circuit, once read, and the role that it is run in.
+// What a round is lent to read: its circuit, once read, the role, this end's shares and triples, and the far bits.
 #[derive(Clone, Copy)]
-pub struct Frame {
-    pub layout: Layout,
+pub struct Round<'a> {
+    pub circuit: Circuit<'a>,
     pub role: u8,
+    pub shares: &'a [u8],
+    pub triples: &'a [u8],
+    pub far_bits: &'a [u8],
 }
 
 // How many gates wait.
@@ -24,61 +27,48 @@ fn waiting_gates(wires: &[u8; 4096], layout: Layout) -> usize
 {
     let mut count: usize = 0;
     for byte in &wires[layout.inputs..layout.inputs + layout.gates] {
-        count += usize::from(*byte == 1);
+        count += usize::from(*byte == WAITS);
     }
     count
 }
 
-// Tests the bytes and the role of a round on a circuit of so many ANDs.
-fn check_bytes(
-    ands: usize,
-    role: u8,
-    shares: &[u8],
-    triples: &[u8],
-    far_bits: &[u8],
-) -> Result<(), Refusal>
-    ensures { fault result ≡ first_fault (byte_tests ands role shares.now triples.now far_bits.now) }
+// Tests the bytes and the role of a round. Here, in `check` and in a step's a line is a test of the page, in its order.
+fn check_bytes(round: Round) -> Result<(), Refusal>
+    ensures { fault result
+        ≡ first_fault (byte_tests round.entry.circuit.layout.ands round.entry.role round.entry.shares.now round.entry.triples.now round.entry.far_bits.now) }
 {
-    if any_above(1, shares) {
+    if any_above(1, round.shares) {
         return Err(Refusal::NotElement);
     }
-    if any_above(1, triples) {
+    if any_above(1, round.triples) {
         return Err(Refusal::NotElement);
     }
-    if any_above(1, far_bits) {
+    if any_above(1, round.far_bits) {
         return Err(Refusal::NotElement);
     }
-    if is_short(triples.len(), 3, ands) {
+    if is_short(round.triples.len(), 3, round.circuit.layout.ands) {
         return Err(Refusal::TooFewTriples);
     }
-    if !is_role(role) {
+    if !is_role(round.role) {
         return Err(Refusal::WrongEnd);
     }
     Ok(())
 }
 
 // Tests a round on a state of these wires, with room for an output and for bits of so many bytes.
-pub fn check(
-    frame: Frame,
-    wires: &[u8; 4096],
-    shares: &[u8],
-    triples: &[u8],
-    far_bits: &[u8],
-    room: usize,
-    bits_room: usize,
-) -> Result<(), Refusal>
-    requires { frame.layout.inputs + frame.layout.gates ≤ most_wires }
-    ensures { fault result ≡ first_fault (asked_tests frame.layout (waiting_by frame.layout wires.now) frame.role shares.now triples.now far_bits.now room bits_room) }
+pub fn check(round: Round, wires: &[u8; 4096], room: usize, bits_room: usize) -> Result<(), Refusal>
+    ensures { fault result
+        ≡ first_fault (asked_tests round.entry.circuit.layout (waiting_by round.entry.circuit.layout wires.now) round.entry.role round.entry.shares.now round.entry.triples.now round.entry.far_bits.now room bits_room) }
 {
-    let Frame { layout, role } = frame;
+    let layout = round.circuit.layout;
     let waits = waiting_gates(wires, layout);
-    if shares.len() != layout.inputs {
+    if round.shares.len() != layout.inputs {
         return Err(Refusal::BadLength);
     }
-    if triples.len() % 3 != 0 {
+    if round.triples.len() % 3 != 0 {
         return Err(Refusal::BadLength);
     }
-    if !is_times(far_bits.len(), 2, waits) {
+    if !is_times(round.far_bits.len(), 2, waits) {
         return Err(Refusal::BadLength);
     }
     if room < layout.outputs {
@@ -87,5 +77,5 @@ pub fn check(
     if is_short(bits_room, 2, layout.ands) {
         return Err(Refusal::BufferShort);
     }
-    check_bytes(layout.ands, role, shares, triples, far_bits)
+    check_bytes(round)
 }

@@ -4,7 +4,6 @@ use Prim.Native.Nat.{ℕ, suc, ◌+◌, ◌-◌, ◌≤◌, ◌<◌}
 use mathlib.Core.Bool.{Bool, true, false}
 use mathlib.Core.List.{List, ◌∷◌}
 use mathlib.Core.Path.{◌≡◌, refl, sym, ap, ◌∙◌}
-use borrow.Author.Tests.{lt-leb}
 use native.Mathlib.Nat.{add-zero}
 use native.Mathlib.Omega.{arith}
 use lib.Bits.{bit_xor}
@@ -21,10 +20,9 @@ use Rattle.circuit.specs.declared.Layout.{Layout}
 use Rattle.number.proofs.Places.{whole_is}
 use Rattle.number.specs.Reading.{Whole}
 use Rattle.number.specs.Inner.Known.{is_whole}
-use Rattle.circuit_run.specs.Inner.Places.{Left, WaitsAt, Admits, Stops}
-use Rattle.circuit_run.specs.Step.{gate_at, ands_before, flipped, run_on, step_state_with, state_admitted}
+use Rattle.circuit_run.specs.Inner.Places.{Left, WaitsAt, Stops}
+use Rattle.circuit_run.specs.Step.{gate_at, ands_before, flipped, run_on, step_state_with}
 use Rattle.circuit_run.specs.declared.places.Spot.{Spot}
-use Rattle.circuit_run.specs.declared.places.Run.TheVariants.{Going}
 
 -- ---- the gate at a place
 
@@ -204,15 +202,3 @@ module _ {s : List ℕ} {f : Layout} (o : HasLayout s f) {gate : ℕ} (room : ga
             turns = omega arith;
             few = omega (arith, turn.few, one, and-small g);
           }
-
--- ---- a run by its state
-
-module _ (s : List ℕ) (f : Layout) {phase : ℕ} (gate : ℕ) where
-  pub run_unknown : (phase ≡ 0 → ⊥) → (phase ≡ 1 → ⊥) → (phase ≡ 2 → ⊥) → state_admitted (content s) phase gate ≡ false
-  run_unknown a b c = let h : 2 < phase = omega arith in rw (lt-leb phase 2 h)
-
-  pub run_none : phase ≡ 1 → is_and (gate_at (content s) gate) ≡ false → state_admitted (content s) phase gate ≡ false
-  run_none one e = rw (one, e)
-
-  pub run_waits : {r : Spot} → phase ≡ 1 → (r.gate ≡ gate) × WaitsAt s f r → Admits s f phase gate (Some (Going (Some r)))
-  run_waits {r} one e = let g : gate_at (content s) gate ≡ And r.first_wire r.second_wire = ap (gate_at (content s)) (sym e.0) ∙ e.1.gate in (rw (one, g), (one, e))

@@ -1,20 +1,21 @@
 -- Wires in memory: the fresh wires, the share of an AND, and the outputs. Assumes nothing.
 use Prim.Native.Nat.{ℕ, suc, ◌+◌, ◌-◌, ◌≤◌, ◌<◌}
-use mathlib.Core.Bool.{true}
 use mathlib.Core.List.{List, [], ◌∷◌, ◌++◌, append_assoc}
-use mathlib.Core.Path.{◌≡◌, refl, sym, ap, ◌∙◌}
+use mathlib.Core.Path.{◌≡◌, refl, sym, ap, ◌∙◌, subst}
 use native.Mathlib.Numerals.{add-one}
 use native.Mathlib.Omega.{arith}
 use lib.ListN.{length, get_or, take, drop, set, replicate, length-map}
 use lib.Seq.{set_at, take-suc, drop-cons, drop-drop, length-take-le, get_or-drop}
+use Rattle.circuit.proofs.Iterators.{AtOutput, next_output, output-left, output-read}
 use Rattle.circuit.proofs.Lists.{FirstWire, first-wire}
 use Rattle.circuit.specs.Answer.{content, HasLayout}
+use Rattle.circuit.specs.Inner.Passing.{GaveOutput}
 use Rattle.circuit.specs.Reading.{read_wire, read_wires}
 use Rattle.circuit.specs.Value.{at_wires}
 use Rattle.circuit.specs.declared.Layout.{Layout}
+use Rattle.circuit.specs.declared.accepted.OutputWires.{OutputWires}
 use Rattle.number.proofs.Places.{whole_is}
 use Rattle.number.specs.Reading.{Whole}
-use Rattle.number.specs.Inner.Known.{is_whole}
 use Rattle.circuit_run.specs.Inner.Places.{opened_with, given_and}
 use Rattle.circuit_run.specs.declared.places.Asked.{Asked}
 use Rattle.circuit_run.specs.declared.places.Spot.{Spot}
@@ -69,10 +70,7 @@ module _ {s : List ℕ} {f : Layout} (o : HasLayout s f) {wires output₀ : List
         first-wire (f.outputs - (i + 1)) (f.inputs + f.gates) s at
         (ap (λ (n : ℕ). read_wires n (f.inputs + f.gates) s at) {x = suc (f.outputs - (i + 1))} {y = f.outputs - i} (omega arith) ∙ turn.read)
 
-    pub output-known : is_whole (read_wire (f.inputs + f.gates) s at) ≡ true
-    output-known = ap is_whole first.reads
-
-    pub output-next : {w next : ℕ} → Whole (w, next) ≡ read_wire (f.inputs + f.gates) s at
+    output-next : {w next : ℕ} → Whole (w, next) ≡ read_wire (f.inputs + f.gates) s at
         → OutputTurn s wires output₀ f.outputs (f.inputs + f.gates) (set output i (get_or wires w 0)) next (i + 1)
     output-next {w} {next} read =
         let z : ◌≡◌ {A = ℕ × ℕ} (w, next) (first.wire, first.next) = whole_is (read ∙ first.reads) in
@@ -99,4 +97,23 @@ module _ {s : List ℕ} {f : Layout} (o : HasLayout s f) {wires output₀ : List
               ∙ sym (append_assoc p (v ∷ []) (drop (suc i) output₀))
               ∙ ap (λ (l : List ℕ). l ++ drop (suc i) output₀) (sym (ap (at_wires wires) k ∙ map_append wires (take i (outputs_of s)) (w ∷ [])))
               ∙ ap (λ (n : ℕ). at_wires wires (take (i + 1) (outputs_of s)) ++ drop n output₀) (sym (add-one i));
+        }
+
+-- ---- outputs, by the iterator over the output wires
+
+-- the turn at the output where the iterator stands
+pub record OutputAt (s : List ℕ) (f : Layout) (wires output₀ : List ℕ) (left : OutputWires) (output : List ℕ) (i : ℕ) : Type 0 where
+  pub here : AtOutput s f left i
+  pub turn : OutputTurn s wires output₀ f.outputs (f.inputs + f.gates) output left.at i
+
+module _ {s : List ℕ} {f : Layout} (o : HasLayout s f) {wires output₀ : List ℕ} (room : f.outputs ≤ length output₀) {left : OutputWires}
+    {output : List ℕ} {i : ℕ} (loop : OutputAt s f wires output₀ left output i) where
+  module _ {wire : ℕ} {after : OutputWires} (gave : GaveOutput left wire after) where
+    pub outputs-next : {x : ℕ} → x ≡ get_or wires wire 0 → OutputAt s f wires output₀ after (set output i x) (i + 1)
+    outputs-next {x} e =
+        record {
+          here = next_output loop.here gave;
+          turn =
+              subst (λ (x : ℕ). OutputTurn s wires output₀ f.outputs (f.inputs + f.gates) (set output i x) after.at (i + 1)) (sym e)
+              (output-next o room loop.turn (output-left loop.here gave) (output-read loop.here gave));
         }

@@ -12,12 +12,16 @@ mod places;
 use answer::Refusal;
 pub use places::{Asked, Place, Run, Spot};
 
-// The end of a run by its role: the pairing's noise end makes each NOT and adds the product of what is opened.
+// The end of a run by its role: the pairing's noise end makes each NOT and adds the product of what is opened. It is a number, as C
+// passes it: it is tested last (document 02, 9), and `opened_share` and `give_and` promise a share for every number.
 pub const ROLE_NOISE: u8 = 1;
 
 pub const ROLE_SCALAR: u8 = 2;
 
-// A run that waits for the far bits of an AND, and one whose outputs are written; a fresh one is at phase 0.
+// The phases of a run by steps: fresh, waiting for the far bits of an AND, and with its outputs written. They are numbers, as C reads
+// them in the state, which may hold any other (17).
+pub const RUN_FRESH: u32 = 0;
+
 pub const RUN_WAITS: u32 = 1;
 
 pub const RUN_FINISHED: u32 = 2;
@@ -31,7 +35,7 @@ pub struct StepState {
     pub wires: [u8; 4096],
 }
 
-// The answer of a step.
+// The answer of a step, in which C reads the number beside the values.
 #[repr(C)]
 #[derive(Clone, Copy)]
 pub struct Stepped {
@@ -65,7 +69,7 @@ pub struct RoundState {
     pub wires: [u8; 4096],
 }
 
-// The answer of a round.
+// The answer of a round, in which C reads the number beside the values.
 #[repr(C)]
 #[derive(Clone, Copy)]
 pub struct Rounded {

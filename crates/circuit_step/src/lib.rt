@@ -10,9 +10,9 @@ mod tests;
 mod waiting;
 
 use accepted::accepted_step;
-use circuit::read_circuit;
+use circuit::Circuit;
 use circuit_run::{Asked, RUN_WAITS, StepState, Stepped};
-use tests::check;
+use tests::{Step, check};
 
 // One step of an end's run: up to the next AND, whose two bits to send it gives, or to the end, where it writes the outputs.
 pub fn step_run(
@@ -28,8 +28,8 @@ pub fn step_run(
     ensures { stepped result (lent_with role circuit.now shares.now triples.now output.new far_first far_second)
         ≡ step (lent_with role circuit.now shares.now triples.now output.old far_first far_second) state }
 {
-    let layout = match read_circuit(circuit) {
-        Ok(layout) => layout,
+    let circuit = match Circuit::read(circuit) {
+        Ok(circuit) => circuit,
         Err(refusal) => return Stepped::refused(refusal, state),
     };
     let asked = Asked {
@@ -38,16 +38,14 @@ pub fn step_run(
         far_first,
         far_second,
     };
-    match check(
+    let step = Step {
         circuit,
-        layout,
         asked,
-        &state,
         shares,
         triples,
-        output.len(),
-    ) {
-        Ok(run) => accepted_step(circuit, layout, asked, run, shares, triples, output, state),
+    };
+    match check(step, &state, output.len()) {
+        Ok(run) => accepted_step(step, run, output, state),
         Err(refusal) => Stepped::refused(refusal, state),
     }
 }

@@ -1,27 +1,24 @@
 // Running to the next AND or to the end.
 ghost use Rattle.std.specs.Prelude.{◌++◌, ◌≡◌, ◌*◌, ◌≤◌, length, drop, IfSome};
-ghost use Rattle.circuit.specs.Answer.{content, HasLayout};
+ghost use Rattle.circuit.specs.Answer.{content};
 ghost use Rattle.circuit.specs.Value.{at_wires};
 ghost use Rattle.circuit_run.specs.Inner.Places.{Stands, WaitsAt, Stops, proceeded};
 ghost use Rattle.circuit_run.specs.Step.{fresh_wires, run_on};
 
-use circuit::{Gate, Layout, known_gate, known_wire};
+use crate::tests::Step;
+use circuit::{Circuit, Gate, known_gate};
 use circuit_gates::{flip, give_and};
-use circuit_run::{Asked, Place, Spot};
+use circuit_run::{Place, Spot};
 
-// Runs from a place to the next AND, which it gives, or to the end.
-fn run_on(
-    source: &[u8],
-    layout: Layout,
-    role: u8,
-    from: Place,
-    wires: &mut [u8; 4096],
-) -> Option<Spot>
-    requires { HasLayout source.now layout × Stands source.now layout from }
-    ensures { Stops source.now layout
-        (run_on role layout.inputs (drop from.gate (content source.now).gates) from.gate wires.old)
+// Runs from a place to the next AND, which it gives, or to the end. It keeps the place of each gate by hand, since it gives that after the
+// AND: the iterator `Gates` keeps its own.
+fn run_on(circuit: Circuit, role: u8, from: Place, wires: &mut [u8; 4096]) -> Option<Spot>
+    requires { Stands circuit.source.now circuit.layout from }
+    ensures { Stops circuit.entry.source.now circuit.entry.layout
+        (run_on role circuit.entry.layout.inputs (drop from.gate (content circuit.entry.source.now).gates) from.gate wires.old)
         result wires.new }
 {
+    let Circuit { source, layout } = circuit;
     let mut at = from.at;
     for gate in from.gate..layout.gates {
         let wire = layout.inputs + gate;
@@ -55,23 +52,21 @@ fn fresh_wires(shares: &[u8]) -> [u8; 4096]
 }
 
 // Takes a fresh run, or one that waits at an AND, to the next AND or to the end.
-pub fn proceed(
-    source: &[u8],
-    layout: Layout,
-    asked: Asked,
-    waiting: Option<Spot>,
-    shares: &[u8],
-    triples: &[u8],
-    wires: &mut [u8; 4096],
-) -> Option<Spot>
-    requires layout { HasLayout source.now layout }
-    requires few { length shares.now ≤ 4096 }
-    requires enough { layout.ands * 3 ≤ length triples.now }
-    requires waits { IfSome waiting (λ spot. WaitsAt source.now layout spot) }
-    ensures { Stops source.now layout
-        (proceeded source.now layout asked waiting shares.now triples.now wires.old)
+pub fn proceed(step: Step, waiting: Option<Spot>, wires: &mut [u8; 4096]) -> Option<Spot>
+    requires few { length step.shares.now ≤ 4096 }
+    requires enough { step.circuit.layout.ands * 3 ≤ length step.triples.now }
+    requires waits { IfSome waiting (λ spot. WaitsAt step.circuit.source.now step.circuit.layout spot) }
+    ensures { Stops step.entry.circuit.source.now step.entry.circuit.layout
+        (proceeded step.entry.circuit.source.now step.entry.circuit.layout step.entry.asked waiting step.entry.shares.now step.entry.triples.now wires.old)
         result wires.new }
 {
+    let Step {
+        circuit,
+        asked,
+        shares,
+        triples,
+    } = step;
+    let layout = circuit.layout;
     let from = match waiting {
         Some(spot) => {
             give_and(asked, spot, layout.inputs + spot.gate, triples, wires);
@@ -90,20 +85,16 @@ pub fn proceed(
             }
         }
     };
-    run_on(source, layout, asked.role, from, wires)
+    run_on(circuit, asked.role, from, wires)
 }
 
 // Writes the shares of the output wires, which a step's state holds as they are; a round's has them in bytes (`write_shares`).
-pub fn write_outputs(source: &[u8], layout: Layout, wires: &[u8; 4096], output: &mut [u8])
-    requires { HasLayout source.now layout × (layout.outputs ≤ length output.old) }
+pub fn write_outputs(circuit: Circuit, wires: &[u8; 4096], output: &mut [u8])
+    requires { circuit.layout.outputs ≤ length output.old }
     ensures { output.new
-        ≡ at_wires wires.now (content source.now).outputs ++ drop layout.outputs output.old }
+        ≡ at_wires wires.now (content circuit.entry.source.now).outputs ++ drop circuit.entry.layout.outputs output.old }
 {
-    let limit = layout.inputs + layout.gates;
-    let mut at = layout.tail;
-    for i in 0..layout.outputs {
-        let (wire, next) = known_wire(source, at, limit);
+    for (i, wire) in circuit.output_wires().enumerate() {
         output[i] = wires[wire];
-        at = next;
     }
 }

@@ -1,17 +1,20 @@
 // Where a run stands in its circuit.
 ghost use Rattle.std.specs.Prelude.{◌≡◌, ◌≤◌};
-ghost use Rattle.circuit.specs.Answer.{content, HasLayout};
+ghost use Rattle.circuit.specs.Answer.{content};
 ghost use Rattle.circuit_run.specs.Inner.Places.{Left, IsAnd, Admits};
 ghost use Rattle.circuit_run.specs.Step.{ands_before};
 
-use circuit::{Gate, Layout, known_gate};
-use circuit_run::{Place, RUN_FINISHED, RUN_WAITS, Run, Spot};
+use circuit::{Circuit, Gate, known_gate};
+use circuit_run::{Place, RUN_FINISHED, RUN_FRESH, RUN_WAITS, Run, Spot};
 
-// The place of a gate, or after the last.
-fn place_of(source: &[u8], layout: Layout, gate: usize) -> Place
-    requires { HasLayout source.now layout × (gate ≤ layout.gates) }
-    ensures { Left source.now layout.inputs gate result.at × (result.ands ≡ ands_before (content source.now) gate) }
+// The place of a gate, or after the last. It keeps the place of each gate by hand, since it gives the last: the iterator `Gates` keeps
+// its own.
+fn place_of(circuit: Circuit, gate: usize) -> Place
+    requires { gate ≤ circuit.layout.gates }
+    ensures { Left circuit.entry.source.now circuit.entry.layout.inputs gate result.at
+        × (result.ands ≡ ands_before (content circuit.entry.source.now) gate) }
 {
+    let Circuit { source, layout } = circuit;
     let mut at = layout.body;
     let mut ands: usize = 0;
     for i in 0..gate {
@@ -23,14 +26,14 @@ fn place_of(source: &[u8], layout: Layout, gate: usize) -> Place
 }
 
 // The AND at a gate, where there is one.
-fn and_at(source: &[u8], layout: Layout, gate: usize) -> Option<Spot>
-    requires { HasLayout source.now layout }
-    ensures { IsAnd source.now layout gate result }
+fn and_at(circuit: Circuit, gate: usize) -> Option<Spot>
+    ensures { IsAnd circuit.entry.source.now circuit.entry.layout gate result }
 {
+    let Circuit { source, layout } = circuit;
     if layout.gates <= gate {
         return None;
     }
-    let Place { at, ands, .. } = place_of(source, layout, gate);
+    let Place { at, ands, .. } = place_of(circuit, gate);
     let (found, next) = known_gate(source, at, layout.inputs + gate);
     let Gate::And(first_wire, second_wire) = found else {
         return None;
@@ -45,14 +48,13 @@ fn and_at(source: &[u8], layout: Layout, gate: usize) -> Option<Spot>
 }
 
 // The run of a state of a phase and a gate, where the state is admitted.
-pub fn run_of(source: &[u8], layout: Layout, phase: u32, gate: usize) -> Option<Run>
-    requires { HasLayout source.now layout }
-    ensures { Admits source.now layout phase gate result }
+pub fn run_of(circuit: Circuit, phase: u32, gate: usize) -> Option<Run>
+    ensures { Admits circuit.entry.source.now circuit.entry.layout phase gate result }
 {
     match phase {
-        0 => Some(Run::Going(None)),
+        RUN_FRESH => Some(Run::Going(None)),
         RUN_WAITS => {
-            let spot = and_at(source, layout, gate)?;
+            let spot = and_at(circuit, gate)?;
             Some(Run::Going(Some(spot)))
         }
         RUN_FINISHED => Some(Run::Finished),

@@ -1,15 +1,23 @@
 -- `circuit_describe::depth_of` meets its contract: one law for each goal. Assumes nothing.
-use Rattle.circuit_describe.proofs.Levels.{depth-start, depth-known, depth-next, depth_is, depth-most}
+use Rattle.circuit_describe.proofs.Levels.{depths-start, wires-small, depths-next, depth_is, depth-most}
 use Rattle.circuit_describe.proofs.depth_of.Goals as goal
 
-pub loop-i-init : goal.loop-i-init
-loop-i-init c = search depth-start
+pub loop-wire-init : goal.loop-wire-init
+loop-wire-init c = (tt, tt, rw c.into_iter-wire-iterator.ensures.into_iter_gives (depths-start c.args.circuit.read c.gates-wire-items.ensures))
 
-pub known_gate-gate-requires : goal.known_gate-gate-requires
-known_gate-gate-requires c = search depth-known
+pub level_of-level-requires : goal.level_of-level-requires
+level_of-level-requires c = wires-small c.args.circuit.read c.loop-wire.invariant.2 c.in-Some.ensures.steps
 
-pub loop-i-preserved : goal.loop-i-preserved
-loop-i-preserved c = search depth-next
+pub loop-wire-preserved : goal.loop-wire-preserved
+loop-wire-preserved c = (
+  tt,
+  tt,
+  depths-next c.args.circuit.read c.loop-wire.invariant.2 c.in-Some.ensures.steps c.level_of-level.ensures c.max-most.ensures,
+)
 
 pub returns : goal.returns
-returns c = rw c.from.ensures (search depth_is, search depth-most)
+returns c =
+    rw c.from.ensures (
+      depth_is c.args.circuit.read c.loop-wire.invariant.2 c.in-None.ensures.steps.0,
+      depth-most c.args.circuit.read c.loop-wire.invariant.2,
+    )

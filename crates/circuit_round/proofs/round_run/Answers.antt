@@ -11,16 +11,16 @@ returns-in-Err c =
 
 pub returns-in-Err-check : goal.returns-in-Err-check
 returns-in-Err-check c =
-    round-refused c.args.role c.args.shares.now c.args.triples.now c.args.output.now c.args.far_bits.now c.args.bits_out.now c.args.state c.in-Ok.ensures
-    c.in-Err-check.ensures (refusal-counts c.in-Err-check.refusal) c.refused-in-Err-check.ensures
+    rw (← c.in-Ok.ensures)
+    (round-refused c.args.role c.args.shares.now c.args.triples.now c.args.output.now c.args.far_bits.now c.args.bits_out.now c.args.state c.in-Ok.circuit.read
+    c.in-Err-check.ensures (refusal-counts c.in-Err-check.refusal) c.refused-in-Err-check.ensures)
 
 pub accepted_round-lengths-requires : goal.accepted_round-lengths-requires
-accepted_round-lengths-requires c = (
-  c.in-Ok.ensures,
-  tests_passed c.in-Ok.layout c.args.role c.args.shares.now c.args.triples.now _ c.args.far_bits.now _ c.args.state.wires refl c.in_default.ensures (search rules),
-)
+accepted_round-lengths-requires c =
+    tests_passed c.in-Ok.circuit.layout c.args.role c.args.shares.now c.args.triples.now _ c.args.far_bits.now _ c.args.state.wires refl c.in_default.ensures (search rules)
 
 pub returns : goal.returns
 returns c =
-    round-accepted c.args.role c.args.shares.now c.args.triples.now c.args.output.now c.args.far_bits.now c.args.bits_out.now c.args.state c.in-Ok.ensures
-    c.in_default.ensures refl c.accepted_round-lengths.ensures
+    rw (← c.in-Ok.ensures)
+    (round-accepted c.args.role c.args.shares.now c.args.triples.now c.args.output.now c.args.far_bits.now c.args.bits_out.now c.args.state c.in-Ok.circuit.read
+    c.in_default.ensures refl c.accepted_round-lengths.ensures)

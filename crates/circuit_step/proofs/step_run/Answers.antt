@@ -10,10 +10,12 @@ returns-in-Err c =
 
 pub returns-in-Ok-check : goal.returns-in-Ok-check
 returns-in-Ok-check c =
-    step-accepted c.args.role c.args.shares.now c.args.triples.now c.args.output.now c.args.far_first c.args.far_second c.args.state c.in-Ok.ensures
-    c.in-Ok-check.ensures.number refl c.accepted_step.ensures
+    rw (← c.in-Ok.ensures)
+    (step-accepted c.args.role c.args.shares.now c.args.triples.now c.args.output.now c.args.far_first c.args.far_second c.args.state c.in-Ok.circuit.read
+    c.in-Ok-check.ensures.number refl c.accepted_step.ensures)
 
 pub returns-in-Err-check : goal.returns-in-Err-check
 returns-in-Err-check c =
-    step-refused c.args.role c.args.shares.now c.args.triples.now c.args.output.now c.args.far_first c.args.far_second c.args.state c.in-Ok.ensures
-    c.in-Err-check.ensures.number (refusal-counts c.in-Err-check.refusal) c.refused-in-Err-check.ensures
+    rw (← c.in-Ok.ensures)
+    (step-refused c.args.role c.args.shares.now c.args.triples.now c.args.output.now c.args.far_first c.args.far_second c.args.state c.in-Ok.circuit.read
+    c.in-Err-check.ensures.number (refusal-counts c.in-Err-check.refusal) c.refused-in-Err-check.ensures)

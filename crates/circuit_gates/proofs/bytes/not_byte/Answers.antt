@@ -1,17 +1,15 @@
 -- `circuit_gates::bytes::not_byte` meets its contract, by the tests. Assumes nothing.
-use borrow.Author.Tests.{le-leb}
-use Rattle.circuit_run.proofs.Numbers.{tests}
 use Rattle.circuit_run.specs.Inner.RoundGates.{not_byte_by}
-use Rattle.circuit_gates.proofs.Leaves.{not-fits}
+use Rattle.circuit_gates.proofs.Leaves.{not-small}
 use Rattle.circuit_gates.proofs.bytes.not_byte.Goals as goal
 
-pub returns-then-x-lt2 : goal.returns-then-x-lt2
-unfolding not_byte_by
-returns-then-x-lt2 c = search tests
+pub known_as-requires : goal.known_as-requires
+known_as-requires c = not-small c.args.role c.args.x c.share_of.ensures c.flip.ensures
 
-pub overflow_add-result : goal.overflow_add-result
-overflow_add-result c = search not-fits
+pub returns-then-is_known : goal.returns-then-is_known
+unfolding not_byte_by
+returns-then-is_known c = rw (← c.if-is_known.ensures, ← c.share_of.ensures, ← c.flip.ensures) c.known_as.ensures
 
 pub returns : goal.returns
 unfolding not_byte_by
-returns c = rw (le-leb 2 c.args.x c.if-x-lt2.false, c.flip.ensures)
+returns c = rw (← c.if-is_known.ensures)

@@ -2,11 +2,11 @@
 use Rattle.answer.proofs.Faults.{chain}
 use Rattle.circuit_round.proofs.tests.check.Goals as goal
 
-pub returns-then-shares-layout : goal.returns-then-shares-layout
-returns-then-shares-layout c = search chain depth 12 fits 4000
+pub returns-then-round-layout : goal.returns-then-round-layout
+returns-then-round-layout c = search chain depth 12 fits 4000
 
-pub returns-then-triples-ne0 : goal.returns-then-triples-ne0
-returns-then-triples-ne0 c = search chain depth 12 fits 4000
+pub returns-then-round-ne0 : goal.returns-then-round-ne0
+returns-then-round-ne0 c = search chain depth 12 fits 4000
 
 pub returns-then-not-is_times : goal.returns-then-not-is_times
 returns-then-not-is_times c = rw (← c.waiting_gates-waits.ensures) (search chain depth 12 fits 4000)

@@ -3,10 +3,10 @@ use Rattle.circuit_run.proofs.Numbers.{tests}
 use Rattle.circuit_run.specs.Inner.RoundGates.{put_bits}
 use Rattle.circuit_round.proofs.writing.put_bits.Goals as goal
 
-pub returns-then-byte-ne1 : goal.returns-then-byte-ne1
+pub returns-then-byte-ne-WAITS : goal.returns-then-byte-ne-WAITS
 unfolding put_bits
-returns-then-byte-ne1 c = (search tests, search tests)
+returns-then-byte-ne-WAITS c = (search tests, search tests)
 
 pub returns : goal.returns
 unfolding put_bits
-returns c = (search tests, search tests)
+returns c = rw (c.share_of.ensures, c.share_of-2.ensures) (search tests, search tests)

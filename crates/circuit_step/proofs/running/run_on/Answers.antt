@@ -11,17 +11,17 @@ pub returns-in-And : goal.returns-in-And
 returns-in-And c =
     let read = rw c.in-And.is at c.known_gate-found.ensures.gate in
     let below = rw c.in-And.is at c.known_gate-found.ensures.below in
-    run-waits c.requires.0 c.loop-gate.invariant c.loop-gate-test.true c.in-And.first_wire c.in-And.second_wire read below.0 below.1
+    run-waits c.args.circuit.read c.loop-gate.invariant c.loop-gate-test.true c.in-And.first_wire c.in-And.second_wire read below.0 below.1
 
 pub loop-gate-preserved : goal.loop-gate-preserved
 loop-gate-preserved c =
     elim c.match-found.branch [
       | in-Xor w ↦
           let read = rw w.in-Xor.is at c.known_gate-found.ensures.gate in
-          run_xor c.requires.0 c.loop-gate.invariant c.loop-gate-test.true w.in-Xor.a w.in-Xor.b read w.wires-is
+          run_xor c.args.circuit.read c.loop-gate.invariant c.loop-gate-test.true w.in-Xor.a w.in-Xor.b read w.wires-is
       | in-Not w ↦
           let read = rw w.in-Not.is at c.known_gate-found.ensures.gate in
-          run_not c.requires.0 c.loop-gate.invariant c.loop-gate-test.true w.in-Not.a read (w.wires-is ∙ w.flip.ensures)
+          run_not c.args.circuit.read c.loop-gate.invariant c.loop-gate-test.true w.in-Not.a read (w.wires-is ∙ w.flip.ensures)
     ]
 
 pub returns : goal.returns

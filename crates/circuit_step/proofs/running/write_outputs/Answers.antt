@@ -1,9 +1,12 @@
 -- `circuit_step::running::write_outputs` meets its contract. Assumes nothing.
-use Rattle.circuit_run.proofs.Wires.{output-known, output-next}
+use mathlib.Core.Path.{refl}
+use Rattle.circuit_run.proofs.Wires.{outputs-next}
 use Rattle.circuit_step.proofs.running.write_outputs.Goals as goal
 
-pub known_wire-wire-requires : goal.known_wire-wire-requires
-known_wire-wire-requires c = search output-known
-
 pub loop-i-preserved : goal.loop-i-preserved
-loop-i-preserved c = search output-next
+loop-i-preserved c = (
+  c.in-Some.ensures.goes.keeps,
+  tt,
+  rw (c.in-Some.ensures.steps.1, c.in-Some.ensures.steps.2)
+      (outputs-next c.args.circuit.read c.requires c.loop-i.invariant.2 c.in-Some.ensures.steps.0 refl),
+)

@@ -1,6 +1,9 @@
 -- `circuit_step::running::write_outputs`: the shares of the wires passed stand in front of what was there.
-use Rattle.circuit_run.proofs.Wires.{OutputTurn}
+use Rattle.circuit_run.proofs.Wires.{OutputAt}
 use Rattle.circuit_step.proofs.running.write_outputs.Given as goal
 
 abbrev pub invariant-loop-i : goal.invariant-loop-i
-invariant-loop-i l = OutputTurn l.source l.wires l.initial.output l.fn.layout.outputs l.limit l.output l.at l.i
+invariant-loop-i l =
+    (goal.iterator-loop-i).can_next l.i-iterator
+    × (goal.iterator-loop-i).is_finite l.i-iterator
+    × OutputAt l.circuit.source.now l.circuit.layout l.wires l.initial.output l.i-iterator.iter l.output l.i-iterator.count

@@ -36,4 +36,4 @@ returns-clause-number c = search (chain, held-now c.in-Some.ensures.0) depth 12 
 
 pub returns-clause-tested : goal.returns-clause-tested
 returns-clause-tested c =
-    tests_passed c.requires c.args.asked c.args.shares.now c.args.triples.now c.args.room c.in-Some.ensures (returns-clause-number c)
+    tests_passed c.args.step.circuit.read c.args.step.asked c.args.step.shares.now c.args.step.triples.now c.args.room c.in-Some.ensures (returns-clause-number c)

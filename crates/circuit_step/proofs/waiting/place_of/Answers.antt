@@ -13,4 +13,4 @@ known_gate-passed-requires c = search place-known
 pub loop-i-preserved : goal.loop-i-preserved
 loop-i-preserved c =
     let g = gate_of c.known_gate-passed.result.0 in
-    place-next c.requires.0 c.requires.1 c.loop-i.invariant c.loop-i-test.true g (one_for g c.from-ands.ensures c.is_and.ensures) c.known_gate-passed.ensures.gate
+    place-next c.args.circuit.read c.requires c.loop-i.invariant c.loop-i-test.true g (one_for g c.from-ands.ensures c.is_and.ensures) c.known_gate-passed.ensures.gate
