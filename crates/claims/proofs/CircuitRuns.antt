@@ -27,7 +27,8 @@ pub circuits : Circuits
 circuits circuit c read calls₁ calls₂ shares₁ triples₁ shares₂ triples₂ E G =
     evaluation circuit c read calls₁ calls₂ shares₁ triples₁ shares₂ triples₂ E (λ j h. gathered-match triples₁ triples₂ j (G j (omega arith)))
 
--- ---- lists of triples that are gathered to their end
+-- ---- lists of triples that are gathered to their end: one call of each end, or several, meet the premise of `Circuits` for every AND. These
+-- results are cited by none.
 
 -- on these triples, where both ends finish a circuit, their combined outputs are its value
 abbrev pub Evaluates : List ℕ → List ℕ → Type 0

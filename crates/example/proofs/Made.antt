@@ -2,7 +2,6 @@
 use mathlib.Core.Path.{◌≡◌, ap, ◌∙◌}
 use mathlib.Core.List.{List, map}
 use Prim.Native.Nat.{ℕ, ◌/◌, ◌^◌}
-use Rattle.algebra.specs.Expansion.{correction, punctured, whole}
 use Rattle.algebra.specs.Field.{Value}
 use Rattle.algebra.specs.Row.{Row}
 use Rattle.aes128.specs.State.{xor_state}
@@ -18,7 +17,7 @@ use Rattle.record.specs.Content.{Head}
 use Rattle.window.specs.Head.{kind, field_of, places, row}
 use Rattle.dealing.specs.Input.{Input, position}
 use Rattle.dealing.specs.Parts.{noise_tree}
-use Rattle.dealing.specs.Vectors.{head, field, value, root, leaf, delta, tree_correction, v0, w0}
+use Rattle.dealing.specs.Vectors.{head, field, root, leaf}
 use Rattle.pads.specs.Pad.{pad_key, index_block, state, under_pad_key, pad}
 use Rattle.example.proofs.Cipher.{looked_cipher, looked_keys, cipher_looked, keys_looked}
 
@@ -48,15 +47,6 @@ module _ (grow : ℕ → List (List ℕ) → List (List ℕ)) (I : Input) where
   unfoldable pub siblings_by : ℕ → List (List ℕ)
   siblings_by i = map columns_bytes (siblings (2 ^ I.branch_bits) grow (I.depth / I.branch_bits) (root I i) (position I i))
 
-  unfoldable pub correction_by : ℕ → Value (field I)
-  correction_by i = correction (field I).scaled (delta I) (leaf_by i (position I i)) (value I i)
-
-  unfoldable pub v0_by : ℕ → Value (field I)
-  v0_by = punctured (field I).scaled I.trees (position I) correction_by leaf_by
-
-  unfoldable pub w0_by : ℕ → Value (field I)
-  w0_by = whole (field I).scaled I.trees leaf_by
-
 module _ (I : Input) where
   pub leaf_looked : leaf I ≡ leaf_by looked_child I
   unfolding leaf_by
@@ -65,18 +55,6 @@ module _ (I : Input) where
   pub siblings_looked : (i : ℕ) → (noise_tree I i).siblings ≡ siblings_by looked_child I i
   unfolding siblings_by noise_tree
   siblings_looked i j = siblings_by (child_looked j) I i
-
-  pub correction_looked : tree_correction I ≡ correction_by looked_child I
-  unfolding leaf_by correction_by
-  correction_looked i = correction_by (child_looked i) I
-
-  pub v0_looked : v0 I ≡ v0_by looked_child I
-  unfolding leaf_by correction_by v0_by v0
-  v0_looked i = v0_by (child_looked i) I
-
-  pub w0_looked : w0 I ≡ w0_by looked_child I
-  unfolding leaf_by w0_by w0
-  w0_looked i = w0_by (child_looked i) I
 
 -- ---- rows
 

@@ -7,7 +7,7 @@ use lib.Dec.{eqb, leb}
 use lib.ListN.{length, drop}
 use Rattle.algebra.specs.Choice.{choose}
 use Rattle.algebra.specs.Coding.{at}
-use Rattle.answer.specs.Tests.{Ask, Test, ◌is◌, ◌or◌, is_met, first_fault}
+use Rattle.answer.specs.Tests.{Ask, Test, ◌or◌, is_met, first_fault}
 use Rattle.answer.specs.Outcome.{Outcome, TwoWritten, by_number, answered}
 use Rattle.window.specs.Head.{field_of}
 use Rattle.ends.specs.Noise.Offline as noise_off

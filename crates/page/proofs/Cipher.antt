@@ -20,10 +20,6 @@ use Rattle.page.specs.Document01 as page
 abbrev pub state : List ℕ → List (List ℕ)
 state s = columns_at s 0
 
-pub xtime_is : (b : ℕ) → page.xtime b ≡ byte.xtime b
-unfolding page.xtime byte.xtime
-xtime_is b = refl
-
 pub times_is : (n a b : ℕ) → page.times n a b ≡ byte.multiples n a b
 unfolding page.times byte.multiples page.xtime byte.xtime
 times_is n a b = refl

@@ -13,7 +13,6 @@ use Rattle.algebra.specs.Expansion.{rising, correction}
 use Rattle.answer.specs.Tests.{is_met}
 use Rattle.answer.specs.Outcome.{Outcome, TwoWritten}
 use Rattle.field.specs.Bytes.{le_bytes, word_at}
-use Rattle.field.specs.ByNumber.{is_scalar}
 use Rattle.field.specs.Kind.{kind_of}
 use Rattle.field.proofs.KindOf.{kind_by}
 use Rattle.number.specs.Number as numbers
@@ -39,10 +38,6 @@ use Rattle.page.proofs.Calls.{none, more, answer-two}
 
 -- ---- writing
 
-number-written : (x : ℕ) → page.write_number x ≡ numbers.write_number x
-unfolding page.write_number numbers.write_number page.when◌then◌else◌
-number-written x = refl
-
 -- the writings of a list's members, before what follows
 abbrev before : List ℕ → List ℕ → List ℕ
 before [] r = r
@@ -58,14 +53,6 @@ unfolding page.write_head rec.write_head
 head-written end h =
     let sizes = h.depth ∷ h.branch_bits ∷ h.trees ∷ h.terms ∷ h.outputs ∷ [] in
     ap (λ (l : List ℕ). end ∷ h.field ∷ l) (append_assoc (page.each page.write_number sizes) h.code_key h.label ∙ each_before sizes (h.code_key ++ h.label))
-
-each-written : {A : Type 0} (write : A → List ℕ) (l : List A) → page.each write l ≡ rec.write_each write l
-unfolding page.each rec.write_each
-each-written write l = refl
-
-bytes_is : (n x : ℕ) → page.to_bytes n x ≡ le_bytes n x
-unfolding page.to_bytes le_bytes
-bytes_is n x = refl
 
 pub trees-written : (f base : ℕ) (l : List NoiseTree) → page.write_trees f base (map tree l) ≡ rec.write_trees f base l
 unfolding page.write_trees rec.write_trees rec.write_tree rec.write_tree_start page.when◌then◌else◌ page.write_number numbers.write_number page.each rec.write_each page.to_bytes le_bytes

@@ -21,10 +21,6 @@ use Rattle.page.proofs.Rows.{head, output_is}
 use Rattle.page.proofs.Vectors.{tree, noise_record, scalar_record, mu_is, v0_is, w0_is}
 use Rattle.page.proofs.Contents.{content, mapped, noise-content, scalar-content}
 
-digits_is : (n x : ℕ) → page.decimal n x ≡ digits n x
-unfolding page.decimal digits page.when◌then◌else◌
-digits_is n x = refl
-
 same_is : (a b : List ℕ) → page.same a b ≡ same_list a b
 unfolding page.same same_list
 same_is a b = refl

@@ -5,7 +5,7 @@ use mathlib.Core.List.{List, [], ◌∷◌, map}
 use lib.Dec.{eqb}
 use lib.ListN.{get_or, get_or-map}
 use Rattle.algebra.specs.Expansion.{noise, punctured, whole}
-use Rattle.record.specs.Content.{Head, NoiseTree, NoisePart, ScalarPart, tree_in}
+use Rattle.record.specs.Content.{NoiseTree, NoisePart, ScalarPart, tree_in}
 use Rattle.tree.specs.Columns.{columns_at}
 use Rattle.window.specs.Head.{field_of, kind}
 use Rattle.ends.specs.Noise.Vectors as noise_end
