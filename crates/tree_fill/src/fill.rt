@@ -9,14 +9,13 @@ ghost use Rattle.tree.specs.Inner.Branches.{IsBranch, IsPunctured};
 ghost use Rattle.tree_sums.specs.Inner.Ranges.{child_under, size_of, IsRange, range_added};
 ghost use Rattle.tree_fill.specs.Inner.Ranges.{IsRun, IsPath, run_added, path_added};
 
-use crate::range::{Path, parted};
+use crate::range::{Path, all_children, half_from, parted};
 use field::Block;
 use tree::Punctured;
 use tree_sums::{Range, add_both, add_bottom, add_leaf, add_words};
 use tree_walk::{TreeCipher, node_at, power};
 
-// Adds the leaves below a range of the children of s to the elements of acc. Ranges are written out in this file: made by `half_from` and by
-// a function of all children, the searches of `add_run` and `add_punctured` did not close.
+// Adds the leaves below a range of the children of s to the elements of acc.
 fn add_range(cipher: TreeCipher, field: usize, range: Range, s: Block, acc: &mut [u64])
     requires { IsRange range × (length acc.old ≡ size_of range * element_words field) }
     ensures { acc.new ≡ range_added field (child_under cipher.entry.keys.now) range (node_of s) acc.old }
@@ -37,24 +36,13 @@ fn add_range(cipher: TreeCipher, field: usize, range: Range, s: Block, acc: &mut
                 return;
             }
         }
-        let all = Range {
-            branch_bits,
-            levels: levels - 1,
-            bits: branch_bits,
-            from: 0,
-        };
+        let all = all_children(branch_bits, levels - 1);
         let (first, second) = acc.split_at_mut(acc.len() / 2);
         add_range(cipher, field, all, both.one, first);
         add_range(cipher, field, all, both.other, second);
     } else {
-        let low = Range {
-            bits: bits - 1,
-            ..range
-        };
-        let high = Range {
-            from: from + power(bits - 1),
-            ..low
-        };
+        let low = half_from(range, from);
+        let high = half_from(range, from + power(bits - 1));
         let (first, second) = acc.split_at_mut(acc.len() / 2);
         add_range(cipher, field, low, s, first);
         add_range(cipher, field, high, s, second);
@@ -72,22 +60,11 @@ fn add_run(cipher: TreeCipher, field: usize, run: Range, at: usize, bytes: &[u8]
     let from = run.from;
     if bits == 0 {
         let sibling = node_at(bytes, at + 16 * from);
-        let all = Range {
-            branch_bits,
-            levels: levels - 1,
-            bits: branch_bits,
-            from: 0,
-        };
+        let all = all_children(branch_bits, levels - 1);
         add_range(cipher, field, all, sibling, acc);
     } else {
-        let low = Range {
-            bits: bits - 1,
-            ..run
-        };
-        let high = Range {
-            from: from + power(bits - 1),
-            ..low
-        };
+        let low = half_from(run, from);
+        let high = half_from(run, from + power(bits - 1));
         let (first, second) = acc.split_at_mut(acc.len() / 2);
         add_run(cipher, field, low, at, bytes, first);
         add_run(cipher, field, high, at, bytes, second);
@@ -134,12 +111,7 @@ pub fn add_leaves(
     requires { IsBranch branch_bits × (length acc.old ≡ (2 ^ branch_bits) ^ levels * element_words field) }
     ensures { acc.new ≡ leaves_added (kind_of field) (2 ^ branch_bits) (child_by (keys_for cipher.entry.keys.now)) levels s acc.old }
 {
-    let all = Range {
-        branch_bits,
-        levels,
-        bits: branch_bits,
-        from: 0,
-    };
+    let all = all_children(branch_bits, levels);
     add_range(cipher, field, all, Block::of_columns(s), acc);
 }
 
@@ -160,12 +132,7 @@ pub fn add_punctured(
         ((kind_of field).field.elements.read correction 0) acc.old }
 {
     let path = Path {
-        range: Range {
-            branch_bits: tree.branch_bits,
-            levels: tree.levels,
-            bits: tree.branch_bits,
-            from: 0,
-        },
+        range: all_children(tree.branch_bits, tree.levels),
         position: tree.position,
         at: tree.at,
     };

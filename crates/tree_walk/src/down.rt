@@ -1,7 +1,8 @@
 // The way down to a leaf: from a node, from two nodes under the same children in alternation, and from the sibling that the leaf of a
 // punctured tree follows from.
-ghost use Rattle.std.specs.Prelude.{◌≡◌, ◌/◌, ◌%◌, ◌^◌, ◌≤◌, ◌<◌};
+ghost use Rattle.std.specs.Prelude.{◌≡◌, ◌*◌, ◌/◌, ◌%◌, ◌^◌, ◌≤◌, ◌<◌};
 ghost use Rattle.tree.specs.Child.{child_by};
+ghost use Rattle.tree.specs.Inner.Branches.{IsBranch};
 ghost use Rattle.tree.specs.Inner.Keys.{keys_for};
 ghost use Rattle.tree.specs.Inner.Nodes.{node_of};
 ghost use Rattle.tree.specs.Tree.{leaf_at};
@@ -20,8 +21,8 @@ pub struct Start {
 }
 
 // The child that leaf j lies below, of a node whose children have so many levels below them.
-fn digit(branch_bits: usize, left: usize, j: usize) -> usize
-    requires { IsWay branch_bits left }
+pub fn digit(branch_bits: usize, left: usize, j: usize) -> usize
+    requires { IsBranch branch_bits × (left * branch_bits < 64) }
     ensures { (result ≡ (j / (2 ^ branch_bits) ^ left) % 2 ^ branch_bits) × (result < 2 ^ branch_bits) × (result < 8) }
 {
     let count = power(branch_bits);
