@@ -38,7 +38,7 @@ pub struct Planned {
     pub at: usize,
 }
 
-// Tree i, after positions below `base`, at a place.
+// Tree i, after positions below `base`, at a place. Positions and values lie in a buffer each, as C lends them.
 fn plan(input: &Input, i: usize, base: usize, at: usize) -> Planned
     requires { (i < length input.now.positions.now) × (i < length input.now.values.now) }
     ensures { result ≡ planned input.now.layout input.now.positions.now input.now.values.now i base at }

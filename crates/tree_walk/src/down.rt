@@ -49,7 +49,8 @@ pub fn walk_to(
     node
 }
 
-// Leaf j below each of two nodes with `left` levels below them.
+// Leaf j below each of two nodes with `left` levels below them: two walks in alternation, as the bench has them (docs/DECISIONS.md), where two
+// calls of `walk_to` would encrypt one block after the other.
 pub fn walk_both(
     cipher: TreeCipher,
     branch_bits: usize,

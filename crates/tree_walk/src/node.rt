@@ -25,7 +25,8 @@ pub fn child_keys(branch_bits: usize) -> [[u64; 40]; 8]
 }
 
 // The cipher of a tree: tables, and the round keys of eight child keys, those of child c at place c. No ghost field says of which keys
-// they are, since walks and fills are proved for any that they are lent (document 02, 3).
+// they are, since walks and fills are proved for any that they are lent (document 02, 3). No field says how many children a node has:
+// `Punctured` and `Range` say it.
 #[derive(Clone, Copy)]
 pub struct TreeCipher<'a> {
     pub tables: Tables<'a>,
