@@ -57,8 +57,7 @@ fn write_trees(source: &[u8], layout: Layout, noise: &mut [u64], v: &mut [u64])
             position,
             at: tree.siblings,
         };
-        let correction = [tree.correction.low, tree.correction.high];
-        add_punctured(cipher, layout.field, punctured, source, correction, v);
+        add_punctured(cipher, layout.field, punctured, source, tree.correction, v);
         at = tree.siblings + 16 * siblings;
         base = position + 1;
     }

@@ -1,5 +1,6 @@
 // Leaves added into words, in either field: a tree by the two halves of its words, each from the middle on.
-ghost use Rattle.std.specs.Prelude.{◌≡◌, ◌*◌, ◌^◌, ◌<◌, length};
+// Cipher and field are lent apart: walks take a cipher and no field, `add_leaf` and `add_element` a field and no cipher.
+ghost use Rattle.std.specs.Prelude.{[], ◌∷◌, ◌≡◌, ◌*◌, ◌^◌, ◌<◌, length};
 ghost use Rattle.field.specs.Kind.{kind_of, element_words};
 ghost use Rattle.tree.specs.Child.{child_by};
 ghost use Rattle.tree.specs.Inner.Keys.{keys_for};
@@ -10,9 +11,9 @@ ghost use Rattle.tree_sums.specs.Inner.Ranges.{child_under, size_of, IsRange, ra
 ghost use Rattle.tree_fill.specs.Inner.Ranges.{IsRun, IsPath, run_added, path_added};
 
 use crate::range::{Path, all_children, half_from, parted};
-use field::Block;
+use field::{Block, Element};
 use tree::Punctured;
-use tree_sums::{Range, add_both, add_bottom, add_leaf, add_words};
+use tree_sums::{Range, add_both, add_bottom, add_element, add_leaf};
 use tree_walk::{TreeCipher, node_at, power};
 
 // Adds the leaves below a range of the children of s to the elements of acc.
@@ -30,11 +31,9 @@ fn add_range(cipher: TreeCipher, field: usize, range: Range, s: Block, acc: &mut
         add_bottom(cipher, field, bits, from, s, acc);
     } else if bits == 1 {
         let both = cipher.children(from, s);
-        if levels == 3 {
-            if branch_bits == 1 {
-                add_both(cipher, field, both, acc);
-                return;
-            }
+        if levels == 3 && branch_bits == 1 {
+            add_both(cipher, field, both, acc);
+            return;
         }
         let all = all_children(branch_bits, levels - 1);
         let (first, second) = acc.split_at_mut(acc.len() / 2);
@@ -78,14 +77,14 @@ fn add_path(
     field: usize,
     path: Path,
     bytes: &[u8],
-    correction: [u64; 2],
+    correction: Element,
     acc: &mut [u64],
 )
     requires { IsPath path (length bytes.now) × (length acc.old ≡ size_of path.range * element_words field) }
-    ensures { acc.new ≡ path_added field (child_under cipher.entry.keys.now) path bytes.now correction acc.old }
+    ensures { acc.new ≡ path_added field (child_under cipher.entry.keys.now) path bytes.now (correction.low ∷ correction.high ∷ []) acc.old }
 {
     if path.range.levels == 0 {
-        add_words(field, correction, acc);
+        add_element(field, correction, acc);
         return;
     }
     let parts = parted(path);
@@ -115,21 +114,21 @@ pub fn add_leaves(
     add_range(cipher, field, all, Block::of_columns(s), acc);
 }
 
-// Adds the leaves of a punctured tree to the elements of acc: at its position the correction, whose words are lent by value,
-// the others from the siblings among the bytes.
+// Adds the leaves of a punctured tree to the elements of acc: at its position the correction, the others from the siblings
+// among the bytes.
 pub fn add_punctured(
     cipher: TreeCipher,
     field: usize,
     tree: Punctured,
     bytes: &[u8],
-    correction: [u64; 2],
+    correction: Element,
     acc: &mut [u64],
 )
     requires { IsPunctured tree (length bytes.now) × (tree.position < (2 ^ tree.branch_bits) ^ tree.levels)
         × (length acc.old ≡ (2 ^ tree.branch_bits) ^ tree.levels * element_words field) }
     ensures { acc.new
         ≡ punctured_added (kind_of field) (2 ^ tree.branch_bits) (child_by (keys_for cipher.entry.keys.now)) tree bytes.now
-        ((kind_of field).field.elements.read correction 0) acc.old }
+        ((kind_of field).field.elements.read (correction.low ∷ correction.high ∷ []) 0) acc.old }
 {
     let path = Path {
         range: all_children(tree.branch_bits, tree.levels),

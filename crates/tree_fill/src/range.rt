@@ -6,7 +6,8 @@ ghost use Rattle.tree_fill.specs.Inner.Ranges.{IsPath, half_from, first_half, pa
 use tree_sums::Range;
 use tree_walk::power;
 
-// A range with a position among the leaves below it, and the place where the bytes of its level's siblings begin.
+// A range with a position among the leaves below it, and the place where the bytes of its level's siblings begin. Not a `Punctured` with
+// the range's bits and first child: `add_range` and `add_run`, which take no position, take the range.
 #[derive(Clone, Copy)]
 pub struct Path {
     pub range: Range,

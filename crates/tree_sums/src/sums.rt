@@ -1,5 +1,6 @@
 // Elements of leaves added into words, in either field: one element, those of the last level's children, and those below two nodes.
-ghost use Rattle.std.specs.Prelude.{◌≡◌, ◌+◌, ◌*◌, ◌^◌, ◌≤◌, length};
+// Cipher and field are lent apart: walks take a cipher and no field, `add_leaf` and `add_element` a field and no cipher.
+ghost use Rattle.std.specs.Prelude.{[], ◌∷◌, ◌≡◌, ◌+◌, ◌*◌, ◌^◌, ◌≤◌, length};
 ghost use Rattle.algebra.specs.Coding.{at};
 ghost use Rattle.algebra.specs.Inner.Put.{put};
 ghost use Rattle.field.specs.Kind.{element_words};
@@ -8,7 +9,7 @@ ghost use Rattle.tree.specs.Inner.Branches.{IsBranch};
 ghost use Rattle.tree_sums.specs.Inner.Ranges.{leaf_added, children_added, element_added, child_under, all_children, both_added};
 
 use aes_blocks::Two;
-use field::{BINARY, Block, FieldElement};
+use field::{BINARY, Block, Element, FieldElement};
 use prime::Prime;
 use tree_walk::TreeCipher;
 
@@ -33,15 +34,19 @@ pub fn add_leaf(field: usize, s: Block, acc: &mut [u64])
     }
 }
 
-// Adds the element that words begin with to the one that the words of acc hold. Beside `add_leaf`, which reduces: a line a field.
-pub fn add_words(field: usize, words: [u64; 2], acc: &mut [u64])
+// Adds an element to the one that the words hold. Beside `add_leaf`, which reduces: a line a field.
+pub fn add_element(field: usize, element: Element, acc: &mut [u64])
     requires { length acc.old ≡ element_words field }
-    ensures { acc.new ≡ element_added field words acc.old }
+    ensures { acc.new ≡ element_added field (element.low ∷ element.high ∷ []) acc.old }
 {
     if field == BINARY {
-        add_at(Block::at(&words, 0), 0, acc);
+        let block = Block {
+            low: element.low,
+            high: element.high,
+        };
+        add_at(block, 0, acc);
     } else {
-        add_at(Prime::at(&words, 0), 0, acc);
+        add_at(Prime { word: element.low }, 0, acc);
     }
 }
 

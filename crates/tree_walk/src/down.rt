@@ -49,7 +49,8 @@ pub fn walk_to(
     node
 }
 
-// Leaf j below each of two nodes with `left` levels below them.
+// Leaf j below each of two nodes with `left` levels below them: two walks in alternation, as the bench has them (docs/DECISIONS.md), where two
+// calls of `walk_to` would encrypt one block after the other.
 pub fn walk_both(
     cipher: TreeCipher,
     branch_bits: usize,
@@ -71,7 +72,8 @@ pub fn walk_both(
 }
 
 // The sibling that leaf j follows from, of a tree punctured elsewhere whose siblings begin at a place. Recursive: that the paths part is a
-// premise, and a loop over the levels would need an answer for after the last, which is never reached.
+// premise, and a loop over the levels would need an answer for after the last, which is never reached. Four of its numbers are a
+// `Punctured`'s: the one caller (`start_at` of the bench) has none, and would build one in six lines for a call of one.
 pub fn from_sibling(
     branch_bits: usize,
     levels: usize,

@@ -39,8 +39,8 @@ returns-then-levels-eq0 t c = search filled-leaf
 pub returns-then-levels-eq1 : goal.returns-then-levels-eq1
 returns-then-levels-eq1 t c = search filled_bottom
 
-pub returns-after-levels-eq3 : goal.returns-after-levels-eq3
-returns-after-levels-eq3 t c =
+pub returns-else-levels-eq3 : goal.returns-else-levels-eq3
+returns-else-levels-eq3 t c =
     let a = rw c.all_children-all.ensures at c.add_range.ensures in
     let b = rw c.all_children-all.ensures at c.add_range-then-bits-eq1.ensures in
     search (filled-children, a, b)
