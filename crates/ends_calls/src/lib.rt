@@ -2,7 +2,12 @@
 // definitions and laws stand in crate `ends`.
 #![tactic(auto)]
 
+mod accepted;
 pub mod noise;
 mod noise_trees;
 pub mod scalar;
 mod scalar_trees;
+mod trees;
+
+pub use accepted::{NoiseRecord, ScalarRecord};
+pub use trees::Trees;

@@ -22,13 +22,12 @@ use Rattle.prime.specs.Prime.{prime}
 use Rattle.field.proofs.BothKinds.{kind_laws}
 use Rattle.algebra.proofs.Words.{put_one}
 use Rattle.number.specs.Reading.{Whole}
-use Rattle.number.specs.Inner.Known.{is_whole}
 use Rattle.record.specs.Content.{NoiseTree, tree_in, sibling_count}
 use Rattle.record.specs.Reading.{read_tree, read_trees}
 use Rattle.record.specs.Inner.Answers.{tree_of}
 use Rattle.record.specs.declared.Layout.{Layout}
 use Rattle.record.specs.declared.Tree.{Tree}
-use Rattle.record.proofs.Callers.{again-asks, again_at, tree_ranges}
+use Rattle.record.proofs.Callers.{again_at, tree_ranges}
 use Rattle.tree.specs.Added.{added, leaf_element, punctured_element}
 use Rattle.tree.specs.Child.{child, child_by}
 use Rattle.tree.specs.Inner.Keys.{keys_for}
@@ -51,6 +50,11 @@ use Rattle.ends.specs.Inner.Noise.{Ready, TreeRead, tree_siblings, trees_at, con
 use Rattle.ends.specs.Inner.Scalar as scalar
 use Rattle.ends.proofs.Vectors.{noise-laws}
 use Rattle.ends.proofs.noise.Content.{correction-words, siblings-columns}
+use Rattle.ends.proofs.noise.Content.{ready as noise_ready}
+use Rattle.std.specs.Prelude.{Some}
+use Rattle.ends_calls.specs.Inner.Trees.{GivesTree}
+use Rattle.ends_calls.specs.declared.accepted.NoiseRecord.{NoiseRecord}
+use Rattle.ends_calls.specs.declared.trees.Trees.{Trees}
 
 -- ---- the trees of either end
 
@@ -84,9 +88,9 @@ module _ (f : Layout) (leaf : ℕ → ℕ → Value (kind_of f.field).field) whe
 
 -- ---- the scalar end's
 
-pub root_is : (s : List ℕ) (f : Layout) (i : ℕ) → i < f.trees → {width : ℕ} → width ≡ element_words f.field → {root : List (List ℕ)}
-    → root ≡ columns_at s (f.body + 8 * width + 16 * i) → root ≡ columns_at (get_or (scalar.content_of s f).roots i []) 0
-root_is s f i h we e = e ∙ rw we (sym (columns-item s (scalar.roots_at f) f.trees i h))
+pub root_is : (s : List ℕ) (f : Layout) (i : ℕ) → i < f.trees → {place : ℕ} → place ≡ scalar.roots_at f + 16 * i → {root : List (List ℕ)}
+    → root ≡ columns_at s place → root ≡ columns_at (get_or (scalar.content_of s f).roots i []) 0
+root_is s f i h p e = e ∙ rw p (sym (columns-item s (scalar.roots_at f) f.trees i h))
 
 -- after i trees, under the child keys' round keys
 pub record Rooted (s : List ℕ) (f : Layout) (keys : List (List ℕ)) (i : ℕ) (v : List ℕ) : Type 0 where
@@ -226,9 +230,6 @@ module _ (s : List ℕ) (f : Layout) where
       }
 
   module _ {keys : List (List ℕ)} {n place base i : ℕ} {w v : List ℕ} (g : Grown s f keys n place base i w v) where
-    pub grown_asks : i < f.trees → is_whole (read_tree f.field f.depth n base s place) ≡ true
-    grown_asks more = again-asks f.field f.depth n f.trees base s place i more g.rest
-
     pub grown_more : i < f.trees → {t : Tree} → TreeRead s f n place base t → {next : List ℕ}
         → next ≡ punctured_added (kind_of f.field) (2 ^ f.branch_bits) (child_by (keys_for keys)) (punctured_of f t) s
         ((kind_of f.field).field.elements.read (t.correction.low ∷ t.correction.high ∷ []) 0) v
@@ -270,3 +271,49 @@ module _ (s : List ℕ) (f : Layout) where
       pub grown_v0 : v ≡ flat (kind_of f.field).field.elements (2 ^ f.depth) (v0 (content_of s f))
       unfolding trees_sum v0 punctured
       grown_v0 = added-all f (punctured_leaves s f) g.added done
+
+-- the same by the iterator over its trees
+pub record Passing (r : NoiseRecord) (keys : List (List ℕ)) (it : Trees) (w v : List ℕ) : Type 0 where
+  pub same : it.record ≡ r
+  pub within : it.left ≤ r.layout.trees
+  pub grown : Grown r.source.now r.layout keys it.siblings it.at it.base (r.layout.trees - it.left) w v
+
+module _ (r : NoiseRecord) (keys : List (List ℕ)) where
+  pub passing_none : OfChildKeys (2 ^ r.layout.branch_bits) (keys_for keys) → (it : Trees)
+      → (it.record ≡ r) × (it.siblings ≡ tree_siblings r.layout) × (it.at ≡ r.layout.body) × (it.base ≡ 0) × (it.left ≡ r.layout.trees)
+      → {n m : ℕ} → n ≡ 2 ^ r.layout.depth → m ≡ 2 ^ r.layout.depth * element_words r.layout.field
+      → {w v : List ℕ} → w ≡ replicate n 0 → v ≡ replicate m 0 → Passing r keys it w v
+  passing_none own it e values size wz vz =
+      let s = r.source.now in
+      let f = r.layout in
+      let none : 0 ≡ f.trees - it.left = omega (arith, e.4) in
+      record {
+        same = e.0;
+        within = omega (arith, e.4);
+        grown = rw (e.2, e.3, ← none) (grown_none s f (noise_ready s r.accepted) own (e.1, it.rest.few) values size wz vz);
+      }
+
+  module _ {it : Trees} {w v : List ℕ} (p : Passing r keys it w v) where
+    module _ {t : Tree} (next : Trees) (step : GivesTree it (Some t) next) where
+      pub passing_read : TreeRead r.source.now r.layout it.siblings it.at it.base t
+      passing_read = rw (← p.same) step.0
+
+      pub passing_more : {more : List ℕ}
+          → more ≡ punctured_added (kind_of r.layout.field) (2 ^ r.layout.branch_bits) (child_by (keys_for keys)) (punctured_of r.layout t) r.source.now
+          ((kind_of r.layout.field).field.elements.read (t.correction.low ∷ t.correction.high ∷ []) 0) v
+          → Passing r keys next (set w t.position t.value) more
+      passing_more q =
+          let trees = r.layout.trees in
+          let one : trees - it.left + 1 ≡ trees - next.left = omega (arith, p.within, step.1) in
+          record {
+            same = step.2 ∙ p.same;
+            within = omega (arith, p.within, step.1);
+            grown = rw (step.3, step.4, step.5, ← one) (grown_more r.source.now r.layout p.grown (omega (arith, p.within, step.1)) passing_read q);
+          }
+
+    module _ (none : it.left ≡ 0) where
+      pub passing_mu : w ≡ flat (kind_of r.layout.field).field.noise_values (2 ^ r.layout.depth) (mu (content_of r.source.now r.layout))
+      passing_mu = grown_mu r.source.now r.layout p.grown (omega (arith, none))
+
+      pub passing_v0 : v ≡ flat (kind_of r.layout.field).field.elements (2 ^ r.layout.depth) (v0 (content_of r.source.now r.layout))
+      passing_v0 = grown_v0 r.source.now r.layout p.grown (omega (arith, none))

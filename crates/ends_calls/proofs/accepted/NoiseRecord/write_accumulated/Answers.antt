@@ -1,6 +1,6 @@
 -- `ends_calls::noise_trees::write_accumulated` meets its contract. Assumes nothing.
 use Rattle.field.proofs.Accumulated.{accumulated, noise-accumulated}
-use Rattle.ends_calls.proofs.noise_trees.write_accumulated.Goals as goal
+use Rattle.ends_calls.proofs.accepted.NoiseRecord.write_accumulated.Goals as goal
 
 pub returns : goal.returns
 returns c = (search noise-accumulated, search accumulated)
