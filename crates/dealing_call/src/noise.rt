@@ -15,7 +15,7 @@ use dealing_tests::Input;
 use field::{Element, element_at, element_difference, element_scaled, leaf_element};
 use record::{End, sibling_count, tree_start_length, write_head, write_tree_start};
 use tree::Punctured;
-use tree_walk::{child_keys, columns_at, walk};
+use tree_walk::{TreeCipher, child_keys, columns_at, walk};
 
 // The correction of a tree: the element of the leaf at its position minus Δ × its noise value.
 fn correction(field: usize, leaf: [[u8; 4]; 4], value: u64, delta: &[u8]) -> Element
@@ -69,14 +69,13 @@ fn write_planned(leaf: [[u8; 4]; 4], tree: Planned, delta: &[u8], out: &mut [u8]
 
 // Writes a tree at its place; the place after it. The walk to the leaf writes the siblings.
 fn write_tree(
-    tables: Tables,
-    keys: &[[u64; 40]; 8],
+    cipher: TreeCipher,
     root: [[u8; 4]; 4],
     tree: Planned,
     delta: &[u8],
     out: &mut [u8],
 ) -> usize
-    requires child_keys { OfChildKeys (2 ^ tree.branch_bits) (keys_for keys.now) }
+    requires child_keys { OfChildKeys (2 ^ tree.branch_bits) (keys_for cipher.keys.now) }
     requires placed { Placed tree root delta.now out.old }
     ensures { Wrote out.old tree.at
         (write_tree tree.field tree.base (planned_tree tree root delta.now)) result out.new }
@@ -89,7 +88,7 @@ fn write_tree(
         position: tree.position,
         at: siblings,
     };
-    let leaf = walk(tables, keys, root, place, out);
+    let leaf = walk(cipher, root, place, out);
     write_planned(leaf, tree, delta, out);
     next
 }
@@ -105,12 +104,16 @@ fn write_trees(out: &mut [u8], input: &Input) -> usize
     let mut words = [0u64; 1536];
     let tables = Tables::fill(&mut words);
     let keys = child_keys(input.layout.branch_bits);
+    let cipher = TreeCipher {
+        tables,
+        keys: &keys,
+    };
     let mut at = input.layout.body;
     let mut base: usize = 0;
     for i in 0..input.layout.trees {
         let tree = plan(input, i, base, at);
         let root = columns_at(input.roots, 16 * i);
-        at = write_tree(tables, &keys, root, tree, input.delta, out);
+        at = write_tree(cipher, root, tree, input.delta, out);
         base = tree.position + 1;
     }
     at

@@ -24,7 +24,7 @@ use code::Window;
 use ends_bench_leaves::{Vector, tree_table};
 use field::{Element, element_width};
 use record::{Layout, Tree};
-use tree_walk::child_keys;
+use tree_walk::{TreeCipher, child_keys};
 use window_tests::code_keys;
 
 // The words of a window's elements.
@@ -76,8 +76,7 @@ pub struct Rows {
 
 // Writes u and v of a noise record's rows, under the round keys lent.
 fn write_tabled(
-    tables: Tables,
-    keys: &[[u64; 40]; 8],
+    cipher: TreeCipher,
     code: &[u64; 40],
     source: &[u8],
     table: &[Tree; 64],
@@ -85,7 +84,7 @@ fn write_tabled(
     u_out: &mut [u64],
     v_out: &mut [u64],
 )
-    requires { BothFit source.now rows table.now keys.now (length u_out.old) (length v_out.old) }
+    requires { BothFit source.now rows table.now cipher.keys.now (length u_out.old) (length v_out.old) }
     ensures { (u_out.new ≡ over (field_for 1 rows.layout.field).elements rows.count
         (λ k. output_of 1 source.now (round_keys code.now) rows.layout (rows.first + k)) u_out.old)
         × (v_out.new ≡ over (field_for 2 rows.layout.field).elements rows.count
@@ -97,13 +96,13 @@ fn write_tabled(
         first: rows.first,
         count: rows.count,
     };
-    write_outputs(tables, keys, code, source, table, mu, u_out);
+    write_outputs(cipher, code, source, table, mu, u_out);
     let v0 = Batch {
         vector: Vector { number: 2, layout },
         first: rows.first,
         count: rows.count,
     };
-    write_outputs(tables, keys, code, source, table, v0, v_out);
+    write_outputs(cipher, code, source, table, v0, v_out);
 }
 
 // Writes a noise record's window.
@@ -117,6 +116,10 @@ fn write_both(source: &[u8], layout: Layout, window: Window, u_out: &mut [u64], 
     let mut words = [0u64; 1536];
     let tables = Tables::fill(&mut words);
     let keys = child_keys(layout.branch_bits);
+    let cipher = TreeCipher {
+        tables,
+        keys: &keys,
+    };
     let code = code_keys(source, layout);
     let table = tree_table(source, layout);
     let rows = Rows {
@@ -124,7 +127,7 @@ fn write_both(source: &[u8], layout: Layout, window: Window, u_out: &mut [u64], 
         first: window.first,
         count: window.count,
     };
-    write_tabled(tables, &keys, &code, source, &table, rows, u_out, v_out);
+    write_tabled(cipher, &code, source, &table, rows, u_out, v_out);
 }
 
 // The noise end's call on a record that was accepted.
@@ -162,6 +165,10 @@ fn write_w(source: &[u8], layout: Layout, window: Window, w_out: &mut [u64])
     let mut words = [0u64; 1536];
     let tables = Tables::fill(&mut words);
     let keys = child_keys(layout.branch_bits);
+    let cipher = TreeCipher {
+        tables,
+        keys: &keys,
+    };
     let code = code_keys(source, layout);
     let none = Tree {
         position: 0,
@@ -175,7 +182,7 @@ fn write_w(source: &[u8], layout: Layout, window: Window, w_out: &mut [u64])
         first: window.first,
         count: window.count,
     };
-    write_outputs(tables, &keys, &code, source, &table, w0, w_out);
+    write_outputs(cipher, &code, source, &table, w0, w_out);
 }
 
 // The scalar end's call on a record that was accepted.

@@ -8,9 +8,9 @@ ghost use Rattle.ends_bench_leaves.specs.Inner.Trees.{Walking};
 ghost use Rattle.ends_bench.specs.Inner.Strips.{IsStrip};
 
 use crate::entries::{Batch, add_place, make_terms, pass_terms};
-use aes_sbox::Tables;
 use ends_bench_leaves::value_at;
 use record::{Layout, Tree, leaves};
+use tree_walk::TreeCipher;
 
 // Strip i of the places, for a batch.
 #[derive(Clone, Copy)]
@@ -29,15 +29,14 @@ fn strip_size(layout: Layout) -> usize
 
 // Adds the places of strip i to the outputs, from the highest down.
 fn add_strip(
-    tables: Tables,
-    keys: &[[u64; 40]; 8],
+    cipher: TreeCipher,
     source: &[u8],
     table: &[Tree; 64],
     strip: Strip,
     rows: &[u64; 96],
     out: &mut [u64],
 )
-    requires { IsStrip source.now table.now keys.now strip (length out.old) }
+    requires { IsStrip source.now table.now cipher.keys.now strip (length out.old) }
     ensures { out.new ≡ strip_added strip.batch.vector.number strip.batch.vector.layout.field strip.batch.count rows.now
         (values_of strip.batch.vector.number source.now strip.batch.vector.layout)
         ((strip.number + 1) * strip_of strip.batch.vector.layout) (strip_of strip.batch.vector.layout) out.old }
@@ -47,22 +46,21 @@ fn add_strip(
     let start = strip.number * size;
     for left in (0..size).rev() {
         let j = start + left;
-        let value = value_at(tables, keys, source, table, batch.vector, j);
+        let value = value_at(cipher, source, table, batch.vector, j);
         add_place(batch, rows, j, value, out);
     }
 }
 
 // Writes the outputs of a batch.
 fn write_batch(
-    tables: Tables,
-    keys: &[[u64; 40]; 8],
+    cipher: TreeCipher,
     code: &[u64; 40],
     source: &[u8],
     table: &[Tree; 64],
     batch: Batch,
     out: &mut [u64],
 )
-    requires { Walking batch.vector.number source.now batch.vector.layout table.now keys.now × IsBatch batch
+    requires { Walking batch.vector.number source.now batch.vector.layout table.now cipher.keys.now × IsBatch batch
         × (length out.old ≡ batch.count * (field_for batch.vector.number batch.vector.layout.field).elements.width) }
     ensures { out.new ≡ flat (field_for batch.vector.number batch.vector.layout.field).elements batch.count
         (λ k. output_of batch.vector.number source.now (round_keys code.now) batch.vector.layout (batch.first + k)) }
@@ -70,9 +68,9 @@ fn write_batch(
     out.fill(0);
     let mut rows = [0u64; 96];
     for i in (0..batch.vector.layout.terms).rev() {
-        make_terms(tables, code, batch, i, &mut rows);
+        make_terms(cipher.tables, code, batch, i, &mut rows);
         let strip = Strip { batch, number: i };
-        add_strip(tables, keys, source, table, strip, &rows, out);
+        add_strip(cipher, source, table, strip, &rows, out);
         pass_terms(batch.vector.layout.field, batch.count, &mut rows);
     }
 }
@@ -90,15 +88,14 @@ fn value_width(vector: usize, field: usize) -> usize
 
 // Writes the outputs of a window over the front of a buffer.
 pub fn write_outputs(
-    tables: Tables,
-    keys: &[[u64; 40]; 8],
+    cipher: TreeCipher,
     code: &[u64; 40],
     source: &[u8],
     table: &[Tree; 64],
     window: Batch,
     out: &mut [u64],
 )
-    requires { Walking window.vector.number source.now window.vector.layout table.now keys.now × (window.first + window.count ≤ 32768)
+    requires { Walking window.vector.number source.now window.vector.layout table.now cipher.keys.now × (window.first + window.count ≤ 32768)
         × (window.count * (field_for window.vector.number window.vector.layout.field).elements.width ≤ length out.old) }
     ensures { out.new ≡ over (field_for window.vector.number window.vector.layout.field).elements window.count
         (λ k. output_of window.vector.number source.now (round_keys code.now) window.vector.layout (window.first + k))
@@ -115,6 +112,6 @@ pub fn write_outputs(
         };
         let from = done * width;
         let to = from + count * width;
-        write_batch(tables, keys, code, source, table, batch, &mut out[from..to]);
+        write_batch(cipher, code, source, table, batch, &mut out[from..to]);
     }
 }

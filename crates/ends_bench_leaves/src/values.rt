@@ -8,10 +8,9 @@ ghost use Rattle.ends_bench_leaves.specs.Inner.Trees.{Walking, TwoStarts, two_le
 
 use crate::trees::{either_punctured, punctured_at, start_at};
 use crate::walk::{Levels, walk_two};
-use aes_sbox::Tables;
 use field::{Element, element_sum, leaf_element};
 use record::{Layout, Tree};
-use tree_walk::{Start, node_at, walk_to};
+use tree_walk::{Start, TreeCipher, node_at, walk_to};
 
 // A vector of a record: 1 is μ, 2 is v0 and 3 is w0. A number and no enum, since `add_output` promises its sum for every number.
 #[derive(Clone, Copy)]
@@ -22,15 +21,14 @@ pub struct Vector {
 
 // The element of leaf j of tree i, walked alone; the correction stands in for a punctured leaf.
 fn leaf_of(
-    tables: Tables,
-    keys: &[[u64; 40]; 8],
+    cipher: TreeCipher,
     source: &[u8],
     table: &[Tree; 64],
     vector: Vector,
     i: usize,
     j: usize,
 ) -> Element
-    requires { Walking vector.number source.now vector.layout table.now keys.now × (i < vector.layout.trees)
+    requires { Walking vector.number source.now vector.layout table.now cipher.keys.now × (i < vector.layout.trees)
         × (j < 2 ^ vector.layout.depth) }
     ensures { element_in vector.layout.field result ≡ leaf_of vector.number source.now vector.layout i j }
 {
@@ -40,21 +38,20 @@ fn leaf_of(
     }
     let start = start_at(source, table, vector.number, layout, i, j);
     let node = node_at(source, start.at);
-    let leaf = walk_to(tables, keys, layout.branch_bits, start.left, 0, node, j);
+    let leaf = walk_to(cipher, layout.branch_bits, start.left, 0, node, j);
     leaf_element(layout.field, leaf.columns())
 }
 
 // The sum of the elements of leaf j below two blocks.
 fn two_walked(
-    tables: Tables,
-    keys: &[[u64; 40]; 8],
+    cipher: TreeCipher,
     source: &[u8],
     layout: Layout,
     a: Start,
     b: Start,
     j: usize,
 ) -> Element
-    requires { TwoStarts source.now layout keys.now a b }
+    requires { TwoStarts source.now layout cipher.keys.now a b }
     ensures { element_in layout.field result ≡ two_leaves source.now layout a b j }
 {
     let levels = Levels {
@@ -64,7 +61,7 @@ fn two_walked(
     };
     let one = node_at(source, a.at);
     let other = node_at(source, b.at);
-    let leaves = walk_two(tables, keys, levels, one, other, j);
+    let leaves = walk_two(cipher, levels, one, other, j);
     element_sum(
         layout.field,
         leaf_element(layout.field, leaves.one.columns()),
@@ -74,15 +71,14 @@ fn two_walked(
 
 // The sum of the elements of leaf j of trees i and i + 1.
 fn two_leaves(
-    tables: Tables,
-    keys: &[[u64; 40]; 8],
+    cipher: TreeCipher,
     source: &[u8],
     table: &[Tree; 64],
     vector: Vector,
     i: usize,
     j: usize,
 ) -> Element
-    requires { Walking vector.number source.now vector.layout table.now keys.now × (i + 1 < vector.layout.trees)
+    requires { Walking vector.number source.now vector.layout table.now cipher.keys.now × (i + 1 < vector.layout.trees)
         × (j < 2 ^ vector.layout.depth) }
     ensures { element_in vector.layout.field result
         ≡ (kind_of vector.layout.field).field.scaled.group.add (leaf_of vector.number source.now vector.layout i j)
@@ -90,25 +86,24 @@ fn two_leaves(
 {
     let layout = vector.layout;
     if either_punctured(vector.number, table, i, j) {
-        let a = leaf_of(tables, keys, source, table, vector, i, j);
-        let b = leaf_of(tables, keys, source, table, vector, i + 1, j);
+        let a = leaf_of(cipher, source, table, vector, i, j);
+        let b = leaf_of(cipher, source, table, vector, i + 1, j);
         return element_sum(layout.field, a, b);
     }
     let a = start_at(source, table, vector.number, layout, i, j);
     let b = start_at(source, table, vector.number, layout, i + 1, j);
-    two_walked(tables, keys, source, layout, a, b, j)
+    two_walked(cipher, source, layout, a, b, j)
 }
 
 // The sum of the elements of leaf j of all trees.
 fn leaves_sum(
-    tables: Tables,
-    keys: &[[u64; 40]; 8],
+    cipher: TreeCipher,
     source: &[u8],
     table: &[Tree; 64],
     vector: Vector,
     j: usize,
 ) -> Element
-    requires { Walking vector.number source.now vector.layout table.now keys.now × (j < 2 ^ vector.layout.depth) }
+    requires { Walking vector.number source.now vector.layout table.now cipher.keys.now × (j < 2 ^ vector.layout.depth) }
     ensures { element_in vector.layout.field result
         ≡ leaves_of vector.number source.now vector.layout vector.layout.trees j }
 {
@@ -116,13 +111,13 @@ fn leaves_sum(
     let trees = vector.layout.trees;
     let mut total = Element { low: 0, high: 0 };
     for pair in 0..trees / 2 {
-        let both = two_leaves(tables, keys, source, table, vector, 2 * pair, j);
+        let both = two_leaves(cipher, source, table, vector, 2 * pair, j);
         total = element_sum(field, total, both);
     }
     if trees % 2 == 0 {
         return total;
     }
-    let last = leaf_of(tables, keys, source, table, vector, trees - 1, j);
+    let last = leaf_of(cipher, source, table, vector, trees - 1, j);
     element_sum(field, total, last)
 }
 
@@ -143,14 +138,13 @@ fn noise_at(table: &[Tree; 64], trees: usize, j: usize) -> u64
 
 // The vector's value at place j.
 pub fn value_at(
-    tables: Tables,
-    keys: &[[u64; 40]; 8],
+    cipher: TreeCipher,
     source: &[u8],
     table: &[Tree; 64],
     vector: Vector,
     j: usize,
 ) -> Element
-    requires { Walking vector.number source.now vector.layout table.now keys.now × (j < 2 ^ vector.layout.depth) }
+    requires { Walking vector.number source.now vector.layout table.now cipher.keys.now × (j < 2 ^ vector.layout.depth) }
     ensures { element_value vector.number vector.layout.field result ≡ values_of vector.number source.now vector.layout j }
 {
     if vector.number == 1 {
@@ -159,5 +153,5 @@ pub fn value_at(
             high: 0,
         };
     }
-    leaves_sum(tables, keys, source, table, vector, j)
+    leaves_sum(cipher, source, table, vector, j)
 }

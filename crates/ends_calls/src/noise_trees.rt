@@ -17,7 +17,7 @@ use record_reading::known_tree;
 use tree::Punctured;
 use tree_fill::add_punctured;
 use tree_sums::zero_words;
-use tree_walk::child_keys;
+use tree_walk::{TreeCipher, child_keys};
 
 // The tree at a place of an accepted record, whose trees have `tree_siblings` siblings, after positions below `base`: its position is
 // a leaf's, and its siblings lie in the record.
@@ -40,8 +40,11 @@ impl NoiseRecord<'_> {
     {
         let layout = self.layout;
         let mut words = [0u64; 1536];
-        let tables = Tables::fill(&mut words);
         let keys = child_keys(layout.branch_bits);
+        let cipher = TreeCipher {
+            tables: Tables::fill(&mut words),
+            keys: &keys,
+        };
         zero_words(noise);
         zero_words(v);
         for tree in self.trees() {
@@ -53,15 +56,7 @@ impl NoiseRecord<'_> {
                 at: tree.siblings,
             };
             let correction = [tree.correction.low, tree.correction.high];
-            add_punctured(
-                tables,
-                &keys,
-                layout.field,
-                punctured,
-                self.source,
-                correction,
-                v,
-            );
+            add_punctured(cipher, layout.field, punctured, self.source, correction, v);
         }
     }
 

@@ -13,7 +13,7 @@ use field::{element_at, element_width};
 use record::{Layout, leaves};
 use tree_fill::add_leaves;
 use tree_sums::zero_words;
-use tree_walk::{child_keys, columns_at};
+use tree_walk::{TreeCipher, child_keys, columns_at};
 
 // The place of root i, which stands after Δ.
 pub fn root_place(layout: Layout, i: usize) -> usize
@@ -31,21 +31,16 @@ impl ScalarRecord<'_> {
     {
         let layout = self.layout;
         let mut words = [0u64; 1536];
-        let tables = Tables::fill(&mut words);
         let keys = child_keys(layout.branch_bits);
+        let cipher = TreeCipher {
+            tables: Tables::fill(&mut words),
+            keys: &keys,
+        };
         zero_words(w);
         let levels = layout.depth / layout.branch_bits;
         for i in 0..layout.trees {
             let root = columns_at(self.source, root_place(layout, i));
-            add_leaves(
-                tables,
-                &keys,
-                layout.field,
-                layout.branch_bits,
-                levels,
-                root,
-                w,
-            );
+            add_leaves(cipher, layout.field, layout.branch_bits, levels, root, w);
         }
     }
 

@@ -10,23 +10,15 @@ ghost use Rattle.tree_sums.specs.Inner.Ranges.{child_under, size_of, IsRange, ra
 ghost use Rattle.tree_fill.specs.Inner.Ranges.{IsRun, IsPath, run_added, path_added};
 
 use crate::range::{Path, parted};
-use aes_sbox::Tables;
 use field::Block;
 use tree::Punctured;
 use tree_sums::{Range, add_both, add_bottom, add_leaf, add_words};
-use tree_walk::{children, node_at, power};
+use tree_walk::{TreeCipher, node_at, power};
 
 // Adds the leaves below a range of the children of s to the elements of acc.
-fn add_range(
-    tables: Tables,
-    keys: &[[u64; 40]; 8],
-    field: usize,
-    range: Range,
-    s: Block,
-    acc: &mut [u64],
-)
+fn add_range(cipher: TreeCipher, field: usize, range: Range, s: Block, acc: &mut [u64])
     requires { IsRange range × (length acc.old ≡ size_of range * element_words field) }
-    ensures { acc.new ≡ range_added field (child_under keys.now) range (node_of s) acc.old }
+    ensures { acc.new ≡ range_added field (child_under cipher.entry.keys.now) range (node_of s) acc.old }
 {
     let branch_bits = range.branch_bits;
     let levels = range.levels;
@@ -35,12 +27,12 @@ fn add_range(
     if levels == 0 {
         add_leaf(field, s, acc);
     } else if levels == 1 {
-        add_bottom(tables, keys, field, bits, from, s, acc);
+        add_bottom(cipher, field, bits, from, s, acc);
     } else if bits == 1 {
-        let both = children(tables, keys, from, s);
+        let both = cipher.children(from, s);
         if levels == 3 {
             if branch_bits == 1 {
-                add_both(tables, keys, field, both, acc);
+                add_both(cipher, field, both, acc);
                 return;
             }
         }
@@ -51,8 +43,8 @@ fn add_range(
             from: 0,
         };
         let mid = acc.len() / 2;
-        add_range(tables, keys, field, all, both.one, &mut acc[..mid]);
-        add_range(tables, keys, field, all, both.other, &mut acc[mid..]);
+        add_range(cipher, field, all, both.one, &mut acc[..mid]);
+        add_range(cipher, field, all, both.other, &mut acc[mid..]);
     } else {
         let low = Range {
             bits: bits - 1,
@@ -63,23 +55,15 @@ fn add_range(
             ..low
         };
         let mid = acc.len() / 2;
-        add_range(tables, keys, field, low, s, &mut acc[..mid]);
-        add_range(tables, keys, field, high, s, &mut acc[mid..]);
+        add_range(cipher, field, low, s, &mut acc[..mid]);
+        add_range(cipher, field, high, s, &mut acc[mid..]);
     }
 }
 
 // Adds the leaves below a run of siblings, of those whose bytes begin at a place, to the elements of acc.
-fn add_run(
-    tables: Tables,
-    keys: &[[u64; 40]; 8],
-    field: usize,
-    run: Range,
-    at: usize,
-    bytes: &[u8],
-    acc: &mut [u64],
-)
+fn add_run(cipher: TreeCipher, field: usize, run: Range, at: usize, bytes: &[u8], acc: &mut [u64])
     requires { IsRun run at (length bytes.now) × (length acc.old ≡ size_of run * element_words field) }
-    ensures { acc.new ≡ run_added field (child_under keys.now) run bytes.now at acc.old }
+    ensures { acc.new ≡ run_added field (child_under cipher.entry.keys.now) run bytes.now at acc.old }
 {
     let branch_bits = run.branch_bits;
     let levels = run.levels;
@@ -93,7 +77,7 @@ fn add_run(
             bits: branch_bits,
             from: 0,
         };
-        add_range(tables, keys, field, all, sibling, acc);
+        add_range(cipher, field, all, sibling, acc);
     } else {
         let low = Range {
             bits: bits - 1,
@@ -104,16 +88,15 @@ fn add_run(
             ..low
         };
         let mid = acc.len() / 2;
-        add_run(tables, keys, field, low, at, bytes, &mut acc[..mid]);
-        add_run(tables, keys, field, high, at, bytes, &mut acc[mid..]);
+        add_run(cipher, field, low, at, bytes, &mut acc[..mid]);
+        add_run(cipher, field, high, at, bytes, &mut acc[mid..]);
     }
 }
 
 // Adds the leaves below a range that holds the position of a punctured tree to the elements of acc: the correction at the
 // position, the others from the siblings among the bytes.
 fn add_path(
-    tables: Tables,
-    keys: &[[u64; 40]; 8],
+    cipher: TreeCipher,
     field: usize,
     path: Path,
     bytes: &[u8],
@@ -121,7 +104,7 @@ fn add_path(
     acc: &mut [u64],
 )
     requires { IsPath path (length bytes.now) × (length acc.old ≡ size_of path.range * element_words field) }
-    ensures { acc.new ≡ path_added field (child_under keys.now) path bytes.now correction acc.old }
+    ensures { acc.new ≡ path_added field (child_under cipher.entry.keys.now) path bytes.now correction acc.old }
 {
     let at = path.at;
     if path.range.levels == 0 {
@@ -132,36 +115,18 @@ fn add_path(
     let parts = parted(path);
     if parts.lower {
         add_path(
-            tables,
-            keys,
+            cipher,
             field,
             parts.below,
             bytes,
             correction,
             &mut acc[..mid],
         );
-        add_run(
-            tables,
-            keys,
-            field,
-            parts.beside,
-            at,
-            bytes,
-            &mut acc[mid..],
-        );
+        add_run(cipher, field, parts.beside, at, bytes, &mut acc[mid..]);
     } else {
-        add_run(
-            tables,
-            keys,
-            field,
-            parts.beside,
-            at,
-            bytes,
-            &mut acc[..mid],
-        );
+        add_run(cipher, field, parts.beside, at, bytes, &mut acc[..mid]);
         add_path(
-            tables,
-            keys,
+            cipher,
             field,
             parts.below,
             bytes,
@@ -173,8 +138,7 @@ fn add_path(
 
 // Adds the leaves of the tree below s to the elements of acc.
 pub fn add_leaves(
-    tables: Tables,
-    keys: &[[u64; 40]; 8],
+    cipher: TreeCipher,
     field: usize,
     branch_bits: usize,
     levels: usize,
@@ -182,7 +146,7 @@ pub fn add_leaves(
     acc: &mut [u64],
 )
     requires { IsBranch branch_bits × (length acc.old ≡ (2 ^ branch_bits) ^ levels * element_words field) }
-    ensures { acc.new ≡ leaves_added (kind_of field) (2 ^ branch_bits) (child_by (keys_for keys.now)) levels s acc.old }
+    ensures { acc.new ≡ leaves_added (kind_of field) (2 ^ branch_bits) (child_by (keys_for cipher.entry.keys.now)) levels s acc.old }
 {
     let all = Range {
         branch_bits,
@@ -190,14 +154,13 @@ pub fn add_leaves(
         bits: branch_bits,
         from: 0,
     };
-    add_range(tables, keys, field, all, Block::of_columns(s), acc);
+    add_range(cipher, field, all, Block::of_columns(s), acc);
 }
 
 // Adds the leaves of a punctured tree to the elements of acc: at its position the correction, whose words are lent by value,
 // the others from the siblings among the bytes.
 pub fn add_punctured(
-    tables: Tables,
-    keys: &[[u64; 40]; 8],
+    cipher: TreeCipher,
     field: usize,
     tree: Punctured,
     bytes: &[u8],
@@ -207,7 +170,7 @@ pub fn add_punctured(
     requires { IsPunctured tree (length bytes.now) × (tree.position < (2 ^ tree.branch_bits) ^ tree.levels)
         × (length acc.old ≡ (2 ^ tree.branch_bits) ^ tree.levels * element_words field) }
     ensures { acc.new
-        ≡ punctured_added (kind_of field) (2 ^ tree.branch_bits) (child_by (keys_for keys.now)) tree bytes.now
+        ≡ punctured_added (kind_of field) (2 ^ tree.branch_bits) (child_by (keys_for cipher.entry.keys.now)) tree bytes.now
         ((kind_of field).field.elements.read correction 0) acc.old }
 {
     let path = Path {
@@ -220,5 +183,5 @@ pub fn add_punctured(
         position: tree.position,
         at: tree.at,
     };
-    add_path(tables, keys, field, path, bytes, correction, acc);
+    add_path(cipher, field, path, bytes, correction, acc);
 }

@@ -9,10 +9,9 @@ ghost use Rattle.tree.specs.Inner.Branches.{IsBranch};
 ghost use Rattle.tree_sums.specs.Inner.Ranges.{first_or_second, leaf_added, children_added, element_added, child_under, all_children, both_added};
 
 use aes_blocks::Two;
-use aes_sbox::Tables;
 use field::{BINARY, Block};
 use prime::Prime;
-use tree_walk::children;
+use tree_walk::TreeCipher;
 
 // Adds an element of field 1 to the one that two words hold.
 fn add_block(element: Block, acc: &mut [u64])
@@ -91,18 +90,11 @@ fn add_primes(both: Two<Block>, acc: &mut [u64])
 }
 
 // Adds children c and c + 1 of s, which are leaves, to the elements of acc.
-fn add_pair(
-    tables: Tables,
-    keys: &[[u64; 40]; 8],
-    field: usize,
-    c: usize,
-    s: Block,
-    acc: &mut [u64],
-)
+fn add_pair(cipher: TreeCipher, field: usize, c: usize, s: Block, acc: &mut [u64])
     requires { (c + 2 ≤ 8) × (length acc.old ≡ 2 * element_words field) }
-    ensures { acc.new ≡ children_added field (child_under keys.now) c 2 (node_of s) acc.old }
+    ensures { acc.new ≡ children_added field (child_under cipher.entry.keys.now) c 2 (node_of s) acc.old }
 {
-    let both = children(tables, keys, c, s);
+    let both = cipher.children(c, s);
     if field == BINARY {
         add_blocks(both, acc);
     } else {
@@ -111,26 +103,18 @@ fn add_pair(
 }
 
 // Adds four children of s from c on, which are leaves, to the elements of acc.
-fn add_four(
-    tables: Tables,
-    keys: &[[u64; 40]; 8],
-    field: usize,
-    c: usize,
-    s: Block,
-    acc: &mut [u64],
-)
+fn add_four(cipher: TreeCipher, field: usize, c: usize, s: Block, acc: &mut [u64])
     requires { (c + 4 ≤ 8) × (length acc.old ≡ 4 * element_words field) }
-    ensures { acc.new ≡ children_added field (child_under keys.now) c 4 (node_of s) acc.old }
+    ensures { acc.new ≡ children_added field (child_under cipher.entry.keys.now) c 4 (node_of s) acc.old }
 {
     let mid = acc.len() / 2;
-    add_pair(tables, keys, field, c, s, &mut acc[..mid]);
-    add_pair(tables, keys, field, c + 2, s, &mut acc[mid..]);
+    add_pair(cipher, field, c, s, &mut acc[..mid]);
+    add_pair(cipher, field, c + 2, s, &mut acc[mid..]);
 }
 
 // Adds all two, four or eight children of s, which are leaves, to the elements of acc.
 pub fn add_bottom(
-    tables: Tables,
-    keys: &[[u64; 40]; 8],
+    cipher: TreeCipher,
     field: usize,
     bits: usize,
     c: usize,
@@ -138,53 +122,41 @@ pub fn add_bottom(
     acc: &mut [u64],
 )
     requires { IsBranch bits × (c + 2 ^ bits ≤ 8) × (length acc.old ≡ 2 ^ bits * element_words field) }
-    ensures { acc.new ≡ children_added field (child_under keys.now) c (2 ^ bits) (node_of s) acc.old }
+    ensures { acc.new ≡ children_added field (child_under cipher.entry.keys.now) c (2 ^ bits) (node_of s) acc.old }
 {
     if bits == 1 {
-        add_pair(tables, keys, field, c, s, acc);
+        add_pair(cipher, field, c, s, acc);
     } else if bits == 2 {
-        add_four(tables, keys, field, c, s, acc);
+        add_four(cipher, field, c, s, acc);
     } else {
         let mid = acc.len() / 2;
-        add_four(tables, keys, field, c, s, &mut acc[..mid]);
-        add_four(tables, keys, field, c + 4, s, &mut acc[mid..]);
+        add_four(cipher, field, c, s, &mut acc[..mid]);
+        add_four(cipher, field, c + 4, s, &mut acc[mid..]);
     }
 }
 
 // Adds the two children of each of two nodes, which are leaves, to the elements of acc. Two nodes here, two pairs of one node's in
 // `add_four`: with both as parameters one function has more of them than lines.
-fn add_couple(
-    tables: Tables,
-    keys: &[[u64; 40]; 8],
-    field: usize,
-    both: Two<Block>,
-    acc: &mut [u64],
-)
+fn add_couple(cipher: TreeCipher, field: usize, both: Two<Block>, acc: &mut [u64])
     requires { length acc.old ≡ 4 * element_words field }
     ensures { acc.new
-        ≡ both_added field (child_under keys.now) (all_children 1 1) (node_of both.one) (node_of both.other) acc.old }
+        ≡ both_added field (child_under cipher.entry.keys.now) (all_children 1 1) (node_of both.one) (node_of both.other) acc.old }
 {
     let mid = acc.len() / 2;
-    add_pair(tables, keys, field, 0, both.one, &mut acc[..mid]);
-    add_pair(tables, keys, field, 0, both.other, &mut acc[mid..]);
+    add_pair(cipher, field, 0, both.one, &mut acc[..mid]);
+    add_pair(cipher, field, 0, both.other, &mut acc[mid..]);
 }
 
 // Adds the leaves two levels below each of two nodes with two children a node: the children of both nodes are made before any
 // leaf, so that no leaf waits for the cipher right before it.
-pub fn add_both(
-    tables: Tables,
-    keys: &[[u64; 40]; 8],
-    field: usize,
-    both: Two<Block>,
-    acc: &mut [u64],
-)
+pub fn add_both(cipher: TreeCipher, field: usize, both: Two<Block>, acc: &mut [u64])
     requires { length acc.old ≡ 8 * element_words field }
     ensures { acc.new
-        ≡ both_added field (child_under keys.now) (all_children 1 2) (node_of both.one) (node_of both.other) acc.old }
+        ≡ both_added field (child_under cipher.entry.keys.now) (all_children 1 2) (node_of both.one) (node_of both.other) acc.old }
 {
-    let low = children(tables, keys, 0, both.one);
-    let high = children(tables, keys, 0, both.other);
+    let low = cipher.children(0, both.one);
+    let high = cipher.children(0, both.other);
     let mid = acc.len() / 2;
-    add_couple(tables, keys, field, low, &mut acc[..mid]);
-    add_couple(tables, keys, field, high, &mut acc[mid..]);
+    add_couple(cipher, field, low, &mut acc[..mid]);
+    add_couple(cipher, field, high, &mut acc[mid..]);
 }

@@ -7,10 +7,9 @@ ghost use Rattle.tree.specs.Inner.Nodes.{node_of};
 ghost use Rattle.tree.specs.Tree.{leaf_at};
 ghost use Rattle.tree_walk.specs.Inner.Ways.{IsWay, IsBeside, FromSibling};
 
-use crate::node::{child, child_of_both};
+use crate::node::TreeCipher;
 use crate::powers::power;
 use aes_blocks::Two;
-use aes_sbox::Tables;
 use field::Block;
 
 // The place of a block's bytes, and how many levels are left below it.
@@ -31,8 +30,7 @@ fn digit(branch_bits: usize, left: usize, j: usize) -> usize
 
 // The node above leaf j with `stop` levels below it, from the one with `left` levels below it.
 pub fn walk_to(
-    tables: Tables,
-    keys: &[[u64; 40]; 8],
+    cipher: TreeCipher,
     branch_bits: usize,
     left: usize,
     stop: usize,
@@ -40,20 +38,19 @@ pub fn walk_to(
     j: usize,
 ) -> Block
     requires way { IsWay branch_bits left × (stop ≤ left) }
-    ensures { leaf_at (2 ^ branch_bits) (child_by (keys_for keys.now)) stop (node_of result) j
-        ≡ leaf_at (2 ^ branch_bits) (child_by (keys_for keys.now)) left (node_of s) j }
+    ensures { leaf_at (2 ^ branch_bits) (child_by (keys_for cipher.entry.keys.now)) stop (node_of result) j
+        ≡ leaf_at (2 ^ branch_bits) (child_by (keys_for cipher.entry.keys.now)) left (node_of s) j }
 {
     let mut node = s;
     for level in (stop..left).rev() {
-        node = child(tables, keys, digit(branch_bits, level, j), node);
+        node = cipher.child(digit(branch_bits, level, j), node);
     }
     node
 }
 
 // Leaf j below each of two nodes with `left` levels below them.
 pub fn walk_both(
-    tables: Tables,
-    keys: &[[u64; 40]; 8],
+    cipher: TreeCipher,
     branch_bits: usize,
     left: usize,
     a: Block,
@@ -61,13 +58,13 @@ pub fn walk_both(
     j: usize,
 ) -> Two<Block>
     requires way { IsWay branch_bits left }
-    ensures { (node_of result.one ≡ leaf_at (2 ^ branch_bits) (child_by (keys_for keys.now)) left (node_of a) j)
-        × (node_of result.other ≡ leaf_at (2 ^ branch_bits) (child_by (keys_for keys.now)) left (node_of b) j) }
+    ensures { (node_of result.one ≡ leaf_at (2 ^ branch_bits) (child_by (keys_for cipher.entry.keys.now)) left (node_of a) j)
+        × (node_of result.other ≡ leaf_at (2 ^ branch_bits) (child_by (keys_for cipher.entry.keys.now)) left (node_of b) j) }
 {
     let mut nodes = Two { one: a, other: b };
     for level in (0..left).rev() {
         let c = digit(branch_bits, level, j);
-        nodes = child_of_both(tables, keys, c, nodes.one, nodes.other);
+        nodes = cipher.child_of_both(c, nodes.one, nodes.other);
     }
     nodes
 }

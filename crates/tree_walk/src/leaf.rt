@@ -8,47 +8,31 @@ ghost use Rattle.tree_walk.specs.Inner.Levels.{IsLevel, children_put, twin_put, 
 ghost use Rattle.tree.specs.Inner.Nodes.{node_of};
 
 use crate::columns::put_node;
-use crate::node::children;
+use crate::node::TreeCipher;
 use crate::powers::power;
-use aes_sbox::Tables;
 use field::Block;
 use tree::Punctured;
 
 // Writes so many pairs of children of s, from child `from` on, from a place on.
-fn put_children(
-    tables: Tables,
-    keys: &[[u64; 40]; 8],
-    s: Block,
-    from: usize,
-    pairs: usize,
-    at: usize,
-    out: &mut [u8],
-)
+fn put_children(cipher: TreeCipher, s: Block, from: usize, pairs: usize, at: usize, out: &mut [u8])
     requires { (from + 2 * pairs ≤ 8) × (at + 32 * pairs ≤ length out.old) }
-    ensures { out.new ≡ children_put (child_by (keys_for keys.now)) (node_of s) from (2 * pairs) at out.old }
+    ensures { out.new ≡ children_put (child_by (keys_for cipher.entry.keys.now)) (node_of s) from (2 * pairs) at out.old }
 {
     if pairs == 0 {
         return;
     }
-    let both = children(tables, keys, from, s);
+    let both = cipher.children(from, s);
     put_node(out, at, both.one);
     put_node(out, at + 16, both.other);
-    put_children(tables, keys, s, from + 2, pairs - 1, at + 32, out);
+    put_children(cipher, s, from + 2, pairs - 1, at + 32, out);
 }
 
 // The child of s that a digit names; writes the other of its pair from a place on.
-fn put_twin(
-    tables: Tables,
-    keys: &[[u64; 40]; 8],
-    s: Block,
-    digit: usize,
-    at: usize,
-    out: &mut [u8],
-) -> Block
+fn put_twin(cipher: TreeCipher, s: Block, digit: usize, at: usize, out: &mut [u8]) -> Block
     requires { (digit < 8) × (at + 16 ≤ length out.old) }
-    ensures { walk (node_of result) out.new ≡ twin_put (child_by (keys_for keys.now)) (node_of s) digit at out.old }
+    ensures { walk (node_of result) out.new ≡ twin_put (child_by (keys_for cipher.entry.keys.now)) (node_of s) digit at out.old }
 {
-    let both = children(tables, keys, 2 * (digit / 2), s);
+    let both = cipher.children(2 * (digit / 2), s);
     if digit % 2 == 0 {
         put_node(out, at, both.other);
         both.one
@@ -59,19 +43,12 @@ fn put_twin(
 }
 
 // The child of s that a digit names; writes the children before its pair and the other of its pair from a place on.
-fn put_before(
-    tables: Tables,
-    keys: &[[u64; 40]; 8],
-    s: Block,
-    digit: usize,
-    at: usize,
-    out: &mut [u8],
-) -> Block
+fn put_before(cipher: TreeCipher, s: Block, digit: usize, at: usize, out: &mut [u8]) -> Block
     requires { (digit < 8) × (at + 32 * (digit / 2) + 16 ≤ length out.old) }
-    ensures { walk (node_of result) out.new ≡ before_put (child_by (keys_for keys.now)) (node_of s) digit at out.old }
+    ensures { walk (node_of result) out.new ≡ before_put (child_by (keys_for cipher.entry.keys.now)) (node_of s) digit at out.old }
 {
-    put_children(tables, keys, s, 0, digit / 2, at, out);
-    put_twin(tables, keys, s, digit, at + 32 * (digit / 2), out)
+    put_children(cipher, s, 0, digit / 2, at, out);
+    put_twin(cipher, s, digit, at + 32 * (digit / 2), out)
 }
 
 // How many pairs of children stand after the pair of the one that a digit names.
@@ -85,8 +62,7 @@ fn pairs_after(branch_bits: usize, digit: usize) -> usize
 
 // The child of s that a digit names; writes the others, in rising order, from a place on.
 fn pass_level(
-    tables: Tables,
-    keys: &[[u64; 40]; 8],
+    cipher: TreeCipher,
     branch_bits: usize,
     s: Block,
     digit: usize,
@@ -95,34 +71,20 @@ fn pass_level(
 ) -> Block
     requires { IsLevel branch_bits digit at (length out.old) }
     ensures { walk (node_of result) out.new
-        ≡ level_passed (2 ^ branch_bits) (child_by (keys_for keys.now)) (node_of s) digit at out.old }
+        ≡ level_passed (2 ^ branch_bits) (child_by (keys_for cipher.entry.keys.now)) (node_of s) digit at out.old }
 {
     let pair = digit / 2;
-    let next = put_before(tables, keys, s, digit, at, out);
+    let next = put_before(cipher, s, digit, at, out);
     let after = pairs_after(branch_bits, digit);
-    put_children(
-        tables,
-        keys,
-        s,
-        2 * pair + 2,
-        after,
-        at + 32 * pair + 16,
-        out,
-    );
+    put_children(cipher, s, 2 * pair + 2, after, at + 32 * pair + 16, out);
     next
 }
 
 // The leaf below a node at the position; writes the siblings beside the path to it, top first, from their place on.
-fn walk_from(
-    tables: Tables,
-    keys: &[[u64; 40]; 8],
-    root: Block,
-    tree: Punctured,
-    out: &mut [u8],
-) -> Block
+fn walk_from(cipher: TreeCipher, root: Block, tree: Punctured, out: &mut [u8]) -> Block
     requires { IsPunctured tree (length out.old) }
     ensures { walk (node_of result) out.new
-        ≡ walked (2 ^ tree.branch_bits) (child_by (keys_for keys.now)) (node_of root) tree out.old }
+        ≡ walked (2 ^ tree.branch_bits) (child_by (keys_for cipher.entry.keys.now)) (node_of root) tree out.old }
 {
     let branch_bits = tree.branch_bits;
     let position = tree.position;
@@ -131,23 +93,17 @@ fn walk_from(
     let mut at = tree.at;
     for level in (0..tree.levels).rev() {
         let digit = (position >> (level * branch_bits)) % count;
-        node = pass_level(tables, keys, branch_bits, node, digit, at, out);
+        node = pass_level(cipher, branch_bits, node, digit, at, out);
         at += 16 * (count - 1);
     }
     node
 }
 
 // The leaf at the position; writes the siblings beside the path to it, top first, from their place on.
-pub fn walk(
-    tables: Tables,
-    keys: &[[u64; 40]; 8],
-    root: [[u8; 4]; 4],
-    tree: Punctured,
-    out: &mut [u8],
-) -> [[u8; 4]; 4]
+pub fn walk(cipher: TreeCipher, root: [[u8; 4]; 4], tree: Punctured, out: &mut [u8]) -> [[u8; 4]; 4]
     requires { IsPunctured tree (length out.old) }
-    ensures { walk result out.new ≡ walked (2 ^ tree.branch_bits) (child_by (keys_for keys.now)) root tree out.old }
+    ensures { walk result out.new ≡ walked (2 ^ tree.branch_bits) (child_by (keys_for cipher.entry.keys.now)) root tree out.old }
 {
-    let leaf = walk_from(tables, keys, Block::of_columns(root), tree, out);
+    let leaf = walk_from(cipher, Block::of_columns(root), tree, out);
     leaf.columns()
 }

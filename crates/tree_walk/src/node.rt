@@ -1,4 +1,4 @@
-// The round keys of the child keys, and two children of a node.
+// The round keys of the child keys, and the cipher by which a node's children are made.
 ghost use Rattle.std.specs.Prelude.{◌≡◌, ◌+◌, ◌^◌, ◌≤◌, ◌<◌};
 ghost use Rattle.tree.specs.Child.{child_by};
 ghost use Rattle.tree.specs.Inner.Keys.{keys_for};
@@ -23,44 +23,48 @@ pub fn child_keys(branch_bits: usize) -> [[u64; 40]; 8]
     keys
 }
 
-// Children c and c + 1 of a node. Inlined, so that sums of leaves make no call more.
-#[inline(always)]
-pub fn children(tables: Tables, keys: &[[u64; 40]; 8], c: usize, s: Block) -> Two<Block>
-    requires { c + 1 < 8 }
-    ensures { (node_of result.one ≡ child_by (keys_for keys.now) c (node_of s))
-        × (node_of result.other ≡ child_by (keys_for keys.now) (c + 1) (node_of s)) }
-{
-    let both = aes_blocks::encrypt_two(tables, &keys[c], &keys[c + 1], s, s);
-    Two {
-        one: both.one.add(s),
-        other: both.other.add(s),
+// The cipher of a tree: tables, and the round keys of eight child keys, those of child c at place c. No ghost field says of which keys
+// they are, since walks and fills are proved for any that they are lent (document 02, 3).
+#[derive(Clone, Copy)]
+pub struct TreeCipher<'a> {
+    pub tables: Tables<'a>,
+    pub keys: &'a [[u64; 40]; 8],
+}
+
+impl TreeCipher<'_> {
+    // Child c of a node.
+    pub fn child(self, c: usize, s: Block) -> Block
+        requires { c < 8 }
+        ensures { node_of result ≡ child_by (keys_for self.entry.keys.now) c (node_of s) }
+    {
+        let e = aes_blocks::encrypt(self.tables, &self.keys[c], s);
+        e.add(s)
     }
-}
 
-// Child c of a node.
-pub fn child(tables: Tables, keys: &[[u64; 40]; 8], c: usize, s: Block) -> Block
-    requires { c < 8 }
-    ensures { node_of result ≡ child_by (keys_for keys.now) c (node_of s) }
-{
-    let e = aes_blocks::encrypt(tables, &keys[c], s);
-    e.add(s)
-}
+    // Children c and c + 1 of a node. Inlined, so that sums of leaves make no call more.
+    #[inline(always)]
+    pub fn children(self, c: usize, s: Block) -> Two<Block>
+        requires { c + 1 < 8 }
+        ensures { (node_of result.one ≡ child_by (keys_for self.entry.keys.now) c (node_of s))
+            × (node_of result.other ≡ child_by (keys_for self.entry.keys.now) (c + 1) (node_of s)) }
+    {
+        let both = aes_blocks::encrypt_two(self.tables, &self.keys[c], &self.keys[c + 1], s, s);
+        Two {
+            one: both.one.add(s),
+            other: both.other.add(s),
+        }
+    }
 
-// Child c of each of two nodes.
-pub fn child_of_both(
-    tables: Tables,
-    keys: &[[u64; 40]; 8],
-    c: usize,
-    a: Block,
-    b: Block,
-) -> Two<Block>
-    requires { c < 8 }
-    ensures { (node_of result.one ≡ child_by (keys_for keys.now) c (node_of a))
-        × (node_of result.other ≡ child_by (keys_for keys.now) c (node_of b)) }
-{
-    let both = aes_blocks::encrypt_two(tables, &keys[c], &keys[c], a, b);
-    Two {
-        one: both.one.add(a),
-        other: both.other.add(b),
+    // Child c of each of two nodes.
+    pub fn child_of_both(self, c: usize, a: Block, b: Block) -> Two<Block>
+        requires { c < 8 }
+        ensures { (node_of result.one ≡ child_by (keys_for self.entry.keys.now) c (node_of a))
+            × (node_of result.other ≡ child_by (keys_for self.entry.keys.now) c (node_of b)) }
+    {
+        let both = aes_blocks::encrypt_two(self.tables, &self.keys[c], &self.keys[c], a, b);
+        Two {
+            one: both.one.add(a),
+            other: both.other.add(b),
+        }
     }
 }

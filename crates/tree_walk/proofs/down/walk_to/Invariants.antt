@@ -9,4 +9,4 @@ use Rattle.tree_walk.proofs.down.walk_to.Given as goal
 abbrev pub invariant-loop-level : goal.invariant-loop-level
 invariant-loop-level l =
     (l.stop ≤ l.level)
-    × (leaf_at (2 ^ l.branch_bits) (child_by (keys_for l.keys)) l.level (node_of l.node) l.j ≡ leaf_at (2 ^ l.branch_bits) (child_by (keys_for l.keys)) l.left (node_of l.initial.node) l.j)
+    × (leaf_at (2 ^ l.branch_bits) (child_by (keys_for l.cipher.keys.now)) l.level (node_of l.node) l.j ≡ leaf_at (2 ^ l.branch_bits) (child_by (keys_for l.cipher.keys.now)) l.left (node_of l.initial.node) l.j)

@@ -4,4 +4,4 @@ use Rattle.ends_calls.proofs.Added.{Passing}
 use Rattle.ends_calls.proofs.accepted.NoiseRecord.write_trees.Given as goal
 
 abbrev pub invariant-loop-tree : goal.invariant-loop-tree
-invariant-loop-tree l = Passing l.self l.keys l.tree-iterator l.noise l.v
+invariant-loop-tree l = Passing l.self l.cipher.keys.now l.tree-iterator l.noise l.v

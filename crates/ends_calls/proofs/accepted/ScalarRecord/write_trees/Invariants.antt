@@ -3,4 +3,4 @@ use Rattle.ends_calls.proofs.Added.{Rooted}
 use Rattle.ends_calls.proofs.accepted.ScalarRecord.write_trees.Given as goal
 
 abbrev pub invariant-loop-i : goal.invariant-loop-i
-invariant-loop-i l = Rooted l.self.source.now l.self.layout l.keys l.i l.w
+invariant-loop-i l = Rooted l.self.source.now l.self.layout l.cipher.keys.now l.i l.w
