@@ -1,59 +1,16 @@
 // Whether every word that a window's rows use is below a bound.
-ghost use Rattle.std.specs.Prelude.{◌&&◌, ◌≡◌, ◌+◌, ◌<◌, ◌≤◌, ltb, length};
+ghost use Rattle.std.specs.Prelude.{◌&&◌, ◌≡◌, ◌+◌, ◌≤◌, ltb, length};
 ghost use Rattle.aes128.specs.Inner.Words.{round_keys};
-ghost use Rattle.code.specs.Inner.Rows.{Shaped};
 ghost use Rattle.code.specs.Inner.Used.{row_below, used_below, four_below, all_below};
 
-use crate::row::row_place;
-use aes_sbox::Tables;
-use code::{Shape, Window};
+use crate::row::Code;
+use code::Window;
 
 // Whether every word is below the bound, where that is known of all but one.
 pub fn still_below(others: bool, word: u64, bound: u64) -> bool
     ensures { result ≡ (others && ltb word bound) }
 {
     others && word < bound
-}
-
-// Whether every word at the places of row x is below the bound.
-fn row_below(
-    tables: Tables,
-    keys: &[u64; 40],
-    shape: Shape,
-    x: usize,
-    words: &[u64],
-    bound: u64,
-) -> bool
-    requires { Shaped shape × (length words.now ≡ shape.places) }
-    ensures { result ≡ row_below bound words.now (round_keys keys.now) shape x }
-{
-    for i in 0..shape.terms {
-        let j = row_place(tables, keys, shape, x, i);
-        if bound <= words[j] {
-            return false;
-        }
-    }
-    true
-}
-
-// The test, row by row.
-pub fn rows_below(
-    tables: Tables,
-    keys: &[u64; 40],
-    shape: Shape,
-    window: Window,
-    words: &[u64],
-    bound: u64,
-) -> bool
-    requires { Shaped shape × (length words.now ≡ shape.places) × (window.first + window.count ≤ 32768) }
-    ensures { result ≡ used_below bound words.now (round_keys keys.now) shape window }
-{
-    for k in 0..window.count {
-        if !row_below(tables, keys, shape, window.first + k, words, bound) {
-            return false;
-        }
-    }
-    true
 }
 
 // Whether the four words from a place on are below the bound.
@@ -85,21 +42,43 @@ pub fn all_below(words: &[u64], bound: u64) -> bool
     true
 }
 
-// The test, by a pass over all words where that is less work than the rows' ciphers; the rows are walked only if that
-// pass finds a word at the bound or above, or is not made. A term takes about as long as 100 words of the pass.
-pub fn used_below(
-    tables: Tables,
-    keys: &[u64; 40],
-    shape: Shape,
-    window: Window,
-    words: &[u64],
-    bound: u64,
-) -> bool
-    requires { Shaped shape × (length words.now ≡ shape.places) × (window.first + window.count ≤ 32768) }
-    ensures { result ≡ used_below bound words.now (round_keys keys.now) shape window }
-{
-    if shape.places / 100 <= window.count * shape.terms && all_below(words, bound) {
-        return true;
+impl Code<'_> {
+    // Whether every word at the places of row x is below the bound.
+    fn row_below(self, x: usize, words: &[u64], bound: u64) -> bool
+        requires { length words.now ≡ self.shape.places }
+        ensures { result ≡ row_below bound words.now (round_keys self.entry.keys.now) self.entry.shape x }
+    {
+        for i in 0..self.shape.terms {
+            let j = self.row_place(x, i);
+            if bound <= words[j] {
+                return false;
+            }
+        }
+        true
     }
-    rows_below(tables, keys, shape, window, words, bound)
+
+    // The test, row by row.
+    fn rows_below(self, window: Window, words: &[u64], bound: u64) -> bool
+        requires { (length words.now ≡ self.shape.places) × (window.first + window.count ≤ 32768) }
+        ensures { result ≡ used_below bound words.now (round_keys self.entry.keys.now) self.entry.shape window }
+    {
+        for k in 0..window.count {
+            if !self.row_below(window.first + k, words, bound) {
+                return false;
+            }
+        }
+        true
+    }
+
+    // The test, by a pass over all words where that is less work than the rows' ciphers; the rows are walked only if that
+    // pass finds a word at the bound or above, or is not made. A term takes about as long as 100 words of the pass.
+    pub fn used_below(self, window: Window, words: &[u64], bound: u64) -> bool
+        requires { (length words.now ≡ self.shape.places) × (window.first + window.count ≤ 32768) }
+        ensures { result ≡ used_below bound words.now (round_keys self.entry.keys.now) self.entry.shape window }
+    {
+        if self.shape.places / 100 <= window.count * self.shape.terms && all_below(words, bound) {
+            return true;
+        }
+        self.rows_below(window, words, bound)
+    }
 }

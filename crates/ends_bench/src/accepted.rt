@@ -1,4 +1,5 @@
-// A call on an accepted record: the tests 7 and 13, and the outputs written.
+// A call on an accepted record: the tests 7 and 13, and the outputs written. A test, a writer and an answer for each end, as C has a call
+// and an answer for each, and as each end has tests of its own (`bench_tests` of Noise/Bench and of Scalar/Bench).
 ghost use Rattle.std.specs.Prelude.{◌≡◌, [], ◌+◌, ◌*◌, ◌≤◌, length};
 ghost use Rattle.answer.specs.Outcome.{outcome_one, outcome_two};
 ghost use Rattle.answer.specs.Refused.{fault};

@@ -35,12 +35,12 @@ fn add_strip(vector: &Vector, i: usize, rows: &[Pending], out: &mut [u64])
     }
 }
 
-// Writes the outputs of at most 32 rows.
-fn write_batch(vector: &Vector, code: &[u64; 40], window: Window, out: &mut [u64])
+// Writes the outputs of at most 32 rows of the code under these round keys.
+fn write_batch(vector: &Vector, keys: &[u64; 40], window: Window, out: &mut [u64])
     requires { (window.count ≤ 32) × (window.first + window.count ≤ 32768)
         × (length out.old ≡ window.count * (field_for vector.now.number vector.now.layout.field).elements.width) }
     ensures { out.new ≡ flat (field_for vector.now.number vector.now.layout.field).elements window.count
-        (λ k. output_of vector.now.number vector.now.source.now (round_keys code.now) vector.now.layout (window.first + k)) }
+        (λ k. output_of vector.now.number vector.now.source.now (round_keys keys.now) vector.now.layout (window.first + k)) }
 {
     out.fill(0);
     let none = Pending {
@@ -51,13 +51,13 @@ fn write_batch(vector: &Vector, code: &[u64; 40], window: Window, out: &mut [u64
     let mut all = [none; 32];
     let rows = &mut all[..window.count];
     for i in (0..vector.layout.terms).rev() {
-        make_terms(vector, code, window.first, i, rows);
+        make_terms(vector, keys, window.first, i, rows);
         add_strip(vector, i, rows, out);
         pass_terms(vector.layout.field, rows);
     }
 }
 
-// The words of a vector's value.
+// The words of a vector's value, by numbers as `add_output` has them.
 fn value_width(vector: usize, field: usize) -> usize
     ensures { result ≡ (field_for vector field).elements.width }
 {
@@ -69,11 +69,11 @@ fn value_width(vector: usize, field: usize) -> usize
 }
 
 // Writes the outputs of a window over the front of a buffer.
-pub fn write_outputs(vector: &Vector, code: &[u64; 40], window: Window, out: &mut [u64])
+pub fn write_outputs(vector: &Vector, keys: &[u64; 40], window: Window, out: &mut [u64])
     requires { (window.first + window.count ≤ 32768)
         × (window.count * (field_for vector.now.number vector.now.layout.field).elements.width ≤ length out.old) }
     ensures { out.new ≡ over (field_for vector.now.number vector.now.layout.field).elements window.count
-        (λ k. output_of vector.now.number vector.now.source.now (round_keys code.now) vector.now.layout (window.first + k))
+        (λ k. output_of vector.now.number vector.now.source.now (round_keys keys.now) vector.now.layout (window.first + k))
         out.old }
 {
     let width = value_width(vector.number, vector.layout.field);
@@ -84,6 +84,6 @@ pub fn write_outputs(vector: &Vector, code: &[u64; 40], window: Window, out: &mu
         };
         let from = done * width;
         let to = from + batch.count * width;
-        write_batch(vector, code, batch, &mut out[from..to]);
+        write_batch(vector, keys, batch, &mut out[from..to]);
     }
 }

@@ -6,7 +6,7 @@ ghost use Rattle.field.specs.Inner.Elements.{noise_in};
 ghost use Rattle.ends_bench_leaves.specs.Inner.Vectors.{field_for, element_value};
 ghost use Rattle.ends_bench.specs.Inner.Rows.{HasTerms, entry_in, SumsMore, place_added};
 
-use code_places::row_term;
+use code_places::Code;
 use ends_bench_leaves::{Vector, add_output};
 use field::{Element, coefficient, noise_sum};
 use window_tests::shape_of;
@@ -31,15 +31,15 @@ impl Pending {
     }
 }
 
-// Makes term i of each row, the first of which is row `first` of the code.
-pub fn make_terms(vector: &Vector, code: &[u64; 40], first: usize, i: usize, rows: &mut [Pending])
+// Makes term i of each row, the first of which is row `first` of the code under these round keys.
+pub fn make_terms(vector: &Vector, keys: &[u64; 40], first: usize, i: usize, rows: &mut [Pending])
     requires { (first + length rows.old ≤ 32768) × (i < vector.now.layout.terms) }
-    ensures { HasTerms (round_keys code.now) vector.now.layout first i (length rows.old) rows.old rows.new }
+    ensures { HasTerms (round_keys keys.now) vector.now.layout first i (length rows.old) rows.old rows.new }
 {
     let layout = vector.layout;
-    let shape = shape_of(layout);
+    let code = Code::new(vector.cipher.tables, keys, shape_of(layout));
     for (k, row) in rows.iter_mut().enumerate() {
-        let term = row_term(vector.cipher.tables, code, shape, first + k, i);
+        let term = code.row_term(first + k, i);
         row.place = term.place;
         row.coefficient = coefficient(layout.field, term.word);
     }

@@ -1,6 +1,6 @@
 -- Each return of the calls gives what the definition says there: what was read, and which tests were met before it.
-use mathlib.Core.Path.{◌≡◌, refl, sym, ◌∙◌}
-use mathlib.Core.Bool.{Bool, true, false, not}
+use mathlib.Core.Path.{◌≡◌, refl, sym, ap, ◌∙◌}
+use mathlib.Core.Bool.{Bool, true, false, not, ◌&&◌}
 use mathlib.Core.List.{List, ◌++◌}
 use Prim.Native.Nat.{ℕ, ◌*◌, ◌^◌, ◌≤◌, ◌<◌}
 use native.Mathlib.Omega.{arith}
@@ -8,9 +8,11 @@ use lib.ListN.{length, take, drop}
 use lib.Seq.{length-take-le}
 use mir.Syntax.{w64}
 use mir.Val.{Fits}
-use borrow.Author.Tests.{not-true, not-false}
 use Rattle.answer.specs.Tests.{first_fault, AllMet}
+use Rattle.answer.specs.Numbers.{accepted as accepted_is, not_element}
 use Rattle.answer.specs.Outcome.{TwoWritten, refused_one, refused_two, wrote}
+use Rattle.answer.specs.Refused.{number_of}
+use Rattle.answer.specs.declared.Refusal.{Refusal}
 use Rattle.answer.proofs.Faults.{admitted_by}
 use Rattle.algebra.specs.Coding.{Coding, flat, over}
 use Rattle.algebra.specs.Sum.{accumulate}
@@ -21,18 +23,18 @@ use Rattle.record.specs.Reading.{read_head, read_noise, read_scalar}
 use Rattle.record.specs.Answer.{head_of, head_if_whole}
 use Rattle.record.specs.declared.Layout.{Layout}
 use Rattle.aes128.specs.Cipher.{aes}
-use Rattle.algebra.specs.Every.{every}
+use Rattle.algebra.specs.Choice.{choose}
 use Rattle.algebra.proofs.Every.{every-both}
 use Rattle.code.specs.Row.{term_block, row_of_blocks}
 use Rattle.code.specs.Inner.Rows.{term_block_by}
 use Rattle.code.specs.declared.Window.{Window}
-use Rattle.window.specs.Head.{field_of}
+use Rattle.window.specs.Head.{field_of, of_noise}
 use Rattle.window.specs.Inner.Numbers.{length_tests, element_tests}
-use Rattle.window.specs.Inner.Outputs.{code_keys, rows_of}
-use Rattle.window.specs.Inner.Testing.{Fitting, NoiseFitting, elements_used}
-use Rattle.window.specs.Inner.Written.{both_used, u_over, v_over, WindowWritten}
+use Rattle.window.specs.Inner.Outputs.{code_keys, shape_of, rows_of, window_over}
+use Rattle.window.specs.Inner.Testing.{Fitting, elements_used}
 use Rattle.window.specs.Usable.{window_usable}
-use Rattle.window.proofs.Numbers.{count_fits, passed_fits, all_u, elements-alone}
+use Rattle.window.proofs.Numbers.{count_fits, passed_fits, elements-alone}
+use Rattle.window.proofs.Tested.{test-passed, test-failed}
 use Rattle.ends.specs.Noise.Online as noise_online
 use Rattle.ends.specs.Scalar.Online as scalar_online
 use Rattle.ends.specs.Noise.Offline as noise_offline
@@ -118,42 +120,54 @@ module _ (s noise v u_out v_out : List ℕ) (first count : ℕ) {f : Layout} (op
       met : AllMet (length_tests f (length noise) (length v) a (length u_out) (length v_out))
       met = admitted_by _ n refl number z
 
-      pub u_fitting : NoiseFitting (rows_of f (record { first = first; count = count }) count) (length noise) (length u_out)
+      pub u_fitting : Fitting 1 (shape_of f) (rows_of f (record { first = first; count = count })) (length noise) (length u_out)
       u_fitting =
-          all_u f a (passed_fits 1 s f (length noise) a (length u_out) count accepted.sizes
-          (omega (arith, met.all)) (omega (arith, met.all)) (omega (arith, met.all)))
+          passed_fits 1 s f (length noise) a (length u_out) accepted.sizes
+          (omega (arith, met.all)) (omega (arith, met.all)) (omega (arith, met.all))
 
-      pub v_fitting : Fitting (element_words f.field) (rows_of f (record { first = first; count = count }) count) (length v) (length v_out)
+      pub v_fitting : Fitting (element_words f.field) (shape_of f) (rows_of f (record { first = first; count = count })) (length v) (length v_out)
       v_fitting =
-          passed_fits (element_words f.field) s f (length v) a (length v_out) count accepted.sizes
+          passed_fits (element_words f.field) s f (length v) a (length v_out) accepted.sizes
           (omega (arith, met.all)) (omega (arith, met.all)) (omega (arith, met.all))
 
       pub noise-words : {width : ℕ} → width ≡ element_words f.field → Fits w64 (count * width)
       noise-words we = count_fits f.field we first count v_fitting.testing.within
 
       -- the test of the words that the rows use, place by place and vector by vector
-      both_used_lem : both_used (code_keys (head_of s f)) (rows_of f a count) noise v
-          ≡ window_usable (noise_online.usable (field_of (head_of s f)) l) (head_of s f) first count
+      abbrev used : Bool
+      used =
+          elements_used (of_noise (kind_of f.field).field) (code_keys (head_of s f)) (shape_of f) (rows_of f (record { first = first; count = count })) noise
+          && elements_used (kind_of f.field).field (code_keys (head_of s f)) (shape_of f) (rows_of f (record { first = first; count = count })) v
+
+      used_lem : used ≡ window_usable (noise_online.usable (field_of (head_of s f)) l) (head_of s f) first count
       unfolding elements_used window_usable noise_online.usable row_of_blocks term_block term_block_by aes
-      both_used_lem = simp every-both
+      used_lem = simp every-both
 
-      module _ {t : Bool} {x y : List ℕ}
-          (w : WindowWritten (code_keys (head_of s f)) (rows_of f (record { first = first; count = count }) count) noise v u_out v_out t x y) where
-        pub noise_unfit : not t ≡ true
-            → refused_two (noise_online.lent_with s noise v x y) 8 ≡ noise_online.online (noise_online.lent_with s noise v u_out v_out) first count
-        noise_unfit g =
-            let p : x ≡ u_out = w.u_is ∙ rw (not-true t g) in
-            let q : y ≡ v_out = w.v_is ∙ rw (not-true t g) in
-            rw (p, q) (words-refused _ _ _ _ _ _ number refl z (w.told ∙ both_used_lem) g ∙ sym (noise_laws.online-whole l first count accepted.read))
+      module _ {x y : List ℕ}
+          (x_is : x ≡ choose used (window_over (of_noise (kind_of f.field).field) (kind_of f.field).coefficient (code_keys (head_of s f)) (shape_of f)
+          (rows_of f (record { first = first; count = count })) noise u_out) u_out)
+          (y_is : y ≡ choose used (window_over (kind_of f.field).field (kind_of f.field).coefficient (code_keys (head_of s f)) (shape_of f)
+          (rows_of f (record { first = first; count = count })) v v_out) v_out) where
+        pub noise_unfit : (e : Refusal) → number_of e ≡ choose used accepted_is not_element
+            → refused_two (noise_online.lent_with s noise v x y) (number_of e) ≡ noise_online.online (noise_online.lent_with s noise v u_out v_out) first count
+        noise_unfit e told =
+            let g : used ≡ false = test-failed used e told in
+            let p : x ≡ u_out = x_is ∙ rw g in
+            let q : y ≡ v_out = y_is ∙ rw g in
+            let k : number_of e ≡ not_element = told ∙ rw g in
+            rw (p, q, k) (words-refused _ _ _ _ _ _ number refl z used_lem (ap not g) ∙ sym (noise_laws.online-whole l first count accepted.read))
 
-        pub noise-written : not t ≡ false → {width : ℕ} → width ≡ element_words f.field → {both : TwoWritten}
+        pub noise-written : accepted_is ≡ choose used accepted_is not_element → {width : ℕ} → width ≡ element_words f.field → {both : TwoWritten}
             → both ≡ record { first_written = count; second_written = count * width }
             → wrote both (noise_online.lent_with s noise v x y) ≡ noise_online.online (noise_online.lent_with s noise v u_out v_out) first count
         unfolding noise_online.filled term_block term_block_by aes
-        noise-written g we be =
-            let p : x ≡ u_over (code_keys (head_of s f)) (rows_of f a count) noise u_out = w.u_is ∙ rw (not-false t g) in
-            let q : y ≡ v_over (code_keys (head_of s f)) (rows_of f a count) v v_out = w.v_is ∙ rw (not-false t g) in
-            words-written _ _ _ _ _ _ number refl z (w.told ∙ both_used_lem) g
+        noise-written told we be =
+            let g : used ≡ true = test-passed used told in
+            let p : x ≡ window_over (of_noise (kind_of f.field).field) (kind_of f.field).coefficient (code_keys (head_of s f)) (shape_of f) (rows_of f a) noise u_out =
+            x_is ∙ rw g in
+            let q : y ≡ window_over (kind_of f.field).field (kind_of f.field).coefficient (code_keys (head_of s f)) (shape_of f) (rows_of f a) v v_out =
+            y_is ∙ rw g in
+            words-written _ _ _ _ _ _ number refl z used_lem (ap not g)
             (be ∙ λ i. record { first_written = count; second_written = count * we i }) (λ i. record { source = s; noise = noise; v = v; u_out = p i; v_out = q i })
             ∙ sym (noise_laws.online-whole l first count accepted.read)
 
@@ -215,29 +229,38 @@ module _ (s w out : List ℕ) (first count : ℕ) {f : Layout} (opens : Whole (h
       met' : AllMet (element_tests f (length w) a' (length out))
       met' = admitted_by _ n refl number' z
 
-      pub w_fitting : Fitting (element_words f.field) (rows_of f (record { first = first; count = count }) 0) (length w) (length out)
+      pub w_fitting : Fitting (element_words f.field) (shape_of f) (rows_of f (record { first = first; count = count })) (length w) (length out)
       w_fitting =
-          passed_fits (element_words f.field) s f (length w) a' (length out) 0 accepted'.sizes
+          passed_fits (element_words f.field) s f (length w) a' (length out) accepted'.sizes
           (omega (arith, met'.all)) (omega (arith, met'.all)) (omega (arith, met'.all))
 
       pub scalar-words : {width : ℕ} → width ≡ element_words f.field → Fits w64 (count * width)
       scalar-words we = count_fits f.field we first count w_fitting.testing.within
 
-      module _ {none u u' : List ℕ} {t : Bool} {x : List ℕ}
-          (v : WindowWritten (code_keys (head_of s f)) (rows_of f (record { first = first; count = count }) 0) none w u out t u' x) where
-        w_used : t ≡ window_usable (scalar_online.usable (field_of (head_of s f)) l') (head_of s f) first count
-        unfolding every elements_used window_usable scalar_online.usable row_of_blocks term_block term_block_by aes
-        w_used = v.told
+      abbrev used' : Bool
+      used' = elements_used (kind_of f.field).field (code_keys (head_of s f)) (shape_of f) (rows_of f (record { first = first; count = count })) w
 
-        pub scalar_unfit : not t ≡ true → refused_one (scalar_online.lent_with s w x) 8 ≡ scalar_online.online (scalar_online.lent_with s w out) first count
-        scalar_unfit g =
-            let p : x ≡ out = v.v_is ∙ rw (not-true t g) in
-            rw p (words-refused _ _ _ _ _ _ number' refl z w_used g ∙ sym (scalar_laws.online-whole l' first count accepted'.read))
+      used'_lem : used' ≡ window_usable (scalar_online.usable (field_of (head_of s f)) l') (head_of s f) first count
+      unfolding elements_used window_usable scalar_online.usable row_of_blocks term_block term_block_by aes
+      used'_lem = refl
 
-        pub scalar-written : not t ≡ false → {width : ℕ} → width ≡ element_words f.field
+      module _ {x : List ℕ}
+          (x_is : x ≡ choose used' (window_over (kind_of f.field).field (kind_of f.field).coefficient (code_keys (head_of s f)) (shape_of f)
+          (rows_of f (record { first = first; count = count })) w out) out) where
+        pub scalar_unfit : (e : Refusal) → number_of e ≡ choose used' accepted_is not_element
+            → refused_one (scalar_online.lent_with s w x) (number_of e) ≡ scalar_online.online (scalar_online.lent_with s w out) first count
+        scalar_unfit e told =
+            let g : used' ≡ false = test-failed used' e told in
+            let p : x ≡ out = x_is ∙ rw g in
+            let k : number_of e ≡ not_element = told ∙ rw g in
+            rw (p, k) (words-refused _ _ _ _ _ _ number' refl z used'_lem (ap not g) ∙ sym (scalar_laws.online-whole l' first count accepted'.read))
+
+        pub scalar-written : accepted_is ≡ choose used' accepted_is not_element → {width : ℕ} → width ≡ element_words f.field
             → wrote (count * width) (scalar_online.lent_with s w x) ≡ scalar_online.online (scalar_online.lent_with s w out) first count
         unfolding scalar_online.filled term_block term_block_by aes
-        scalar-written g we =
-            let p : x ≡ v_over (code_keys (head_of s f)) (rows_of f a' 0) w out = v.v_is ∙ rw (not-false t g) in
-            words-written _ _ _ _ _ _ number' refl z w_used g (λ i. count * we i) (λ i. record { source = s; w = w; w_out = p i })
+        scalar-written told we =
+            let g : used' ≡ true = test-passed used' told in
+            let p : x ≡ window_over (kind_of f.field).field (kind_of f.field).coefficient (code_keys (head_of s f)) (shape_of f) (rows_of f a') w out =
+            x_is ∙ rw g in
+            words-written _ _ _ _ _ _ number' refl z used'_lem (ap not g) (λ i. count * we i) (λ i. record { source = s; w = w; w_out = p i })
             ∙ sym (scalar_laws.online-whole l' first count accepted'.read)

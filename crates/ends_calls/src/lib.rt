@@ -1,5 +1,6 @@
 // Both ends' calls: offline writes an end's accumulated vectors, online a window of its outputs. A refused call writes nothing. Their
-// definitions and laws stand in crate `ends`.
+// definitions and laws stand in crate `ends`. The two ends have functions alike, since C calls each end by promises of its own; one
+// `write_accumulated` for both took 30 lines to save 25 (docs/TRIALS.md).
 #![tactic(auto)]
 
 mod accepted;

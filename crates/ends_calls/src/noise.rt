@@ -10,6 +10,7 @@ use answer::{ACCEPTED, Refusal, TwoLengths};
 use code::Window;
 use field::element_width;
 use record::leaves;
+use window::Accumulated;
 use window_tests::{check_window, vector_words};
 use window_write::write_rows;
 
@@ -68,8 +69,15 @@ pub fn online(
     ) {
         return TwoLengths::refused(refusal);
     }
-    if !write_rows(record.source, layout, window, count, noise, v, u_out, v_out) {
-        return TwoLengths::refused(Refusal::NotElement);
+    if let Err(refusal) = write_rows(
+        record.source,
+        layout,
+        window,
+        Accumulated::Noise { noise, v },
+        u_out,
+        v_out,
+    ) {
+        return TwoLengths::refused(refusal);
     }
     TwoLengths {
         number: ACCEPTED,

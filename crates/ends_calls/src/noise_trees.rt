@@ -20,7 +20,8 @@ use tree_sums::zero_words;
 use tree_walk::{TreeCipher, child_keys};
 
 // The tree at a place of an accepted record, whose trees have `tree_siblings` siblings, after positions below `base`: its position is
-// a leaf's, and its siblings lie in the record.
+// a leaf's, and its siblings lie in the record. It takes bytes and numbers and no `NoiseRecord`: docs/landings names it, and it holds
+// wherever a tree was read.
 pub fn tree_at(source: &[u8], layout: Layout, siblings: usize, at: usize, base: usize) -> Tree
     requires { (is_whole (read_tree layout.field layout.depth siblings base source.now at) ≡ true)
         × (layout.depth ≤ 16) × (siblings ≡ sibling_count layout.depth layout.branch_bits) }

@@ -10,6 +10,7 @@ use answer::{ACCEPTED, OneLength, Refusal, TwoLengths};
 use code::Window;
 use field::element_width;
 use record::leaves;
+use window::Accumulated;
 use window_tests::{check_window, vector_words};
 use window_write::write_rows;
 
@@ -61,10 +62,15 @@ pub fn online(source: &[u8], w: &[u64], first: usize, count: usize, w_out: &mut 
         return OneLength::refused(refusal);
     }
     let words = count * element_width(layout.field);
-    let mut no_u = [0u64; 1];
-    // No word of u is asked for, so that neither the noise, for which w stands, nor a buffer for u is touched.
-    if !write_rows(record.source, layout, window, 0, w, w, &mut no_u, w_out) {
-        return OneLength::refused(Refusal::NotElement);
+    if let Err(refusal) = write_rows(
+        record.source,
+        layout,
+        window,
+        Accumulated::Scalar { w },
+        &mut [],
+        w_out,
+    ) {
+        return OneLength::refused(refusal);
     }
     OneLength {
         number: ACCEPTED,

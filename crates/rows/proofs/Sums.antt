@@ -15,9 +15,8 @@ use Rattle.prime.specs.declared.prime.Prime.{Prime}
 use Rattle.field.specs.Binary.{binary, bit_ring, block, blocks, block_zero}
 use Rattle.prime.specs.Prime.{primes, prime_ring, modulus, prime_reduce}
 use Rattle.code.specs.declared.Shape.{Shape}
-use Rattle.rows.specs.declared.row.BinaryPair.{BinaryPair}
-use Rattle.rows.specs.declared.row.PrimeSum.{PrimeSum}
-use Rattle.rows.specs.declared.row.PrimeSums.{PrimeSums}
+use Rattle.rows.specs.declared.row.Pair.{Pair}
+use Rattle.rows.specs.declared.row.Single.{Single}
 use Rattle.code.specs.Inner.Rows.{place_by, binary_row, prime_row}
 use Rattle.rows.specs.Inner.Walked.{Walked}
 use Rattle.rows.specs.Inner.Sums.{BinaryAdded, BlockAdded, PrimesAdded, PrimeAdded, blocks_sum, BinarySums, PrimesTotal, PrimeTotal}
@@ -37,7 +36,7 @@ module _ (keys : List ℕ) (s : Shape) (x : ℕ) (noise values : List ℕ) {none
         admitted = below_none 2 noise (round_keys keys) s x;
       }
 
-  binary_more : (i : ℕ) {r next : BinaryPair} → BinaryAdded noise values (place_by s i (cipher_of keys (block x i)).low) r next
+  binary_more : (i : ℕ) {r next : Pair ℕ Block} → BinaryAdded noise values (place_by s i (cipher_of keys (block x i)).low) r next
       → BinarySums (round_keys keys) s x noise values i r → BinarySums (round_keys keys) s x noise values (i + 1) next
   binary_more i added sums =
       record {
@@ -46,13 +45,13 @@ module _ (keys : List ℕ) (s : Shape) (x : ℕ) (noise values : List ℕ) {none
         admitted = below_more 2 noise (round_keys keys) s x i (place-word keys s x i refl) sums.admitted added.admitted;
       }
 
-  binary-sums : (n : ℕ) (r : BinaryPair) → Walked (λ j word. BinaryAdded noise values j) keys s x (record { u = 0; v = none; admitted = true }) n r
+  binary-sums : (n : ℕ) (r : Pair ℕ Block) → Walked (λ j word. BinaryAdded noise values j) keys s x (record { u = 0; v = none; admitted = true }) n r
       → BinarySums (round_keys keys) s x noise values n r
   unfolding Walked
   binary-sums zero r e = rw e binary-none
   binary-sums (suc n) r (m, before, added) = rw (← add-one) (binary_more n added (binary-sums n m before))
 
-  module _ (r : BinaryPair) (walked : Walked (λ j word. BinaryAdded noise values j) keys s x (record { u = 0; v = none; admitted = true }) s.terms r) where
+  module _ (r : Pair ℕ Block) (walked : Walked (λ j word. BinaryAdded noise values j) keys s x (record { u = 0; v = none; admitted = true }) s.terms r) where
     binary-all : BinarySums (round_keys keys) s x noise values s.terms r
     binary-all = binary-sums s.terms r walked
 
@@ -80,31 +79,31 @@ module _ (keys : List ℕ) (s : Shape) (x : ℕ) (words : List ℕ) {none : Bloc
 -- ---- field 2 at the scalar end
 
 module _ (keys : List ℕ) (s : Shape) (x : ℕ) (words : List ℕ) where
-  prime-none : PrimeTotal (round_keys keys) s x words 0 (record { total = 0; admitted = true })
-  prime-none = record { total = primes-none (round_keys keys) s x words; admitted = below_none modulus words (round_keys keys) s x }
+  prime-none : PrimeTotal (round_keys keys) s x words 0 (record { w = 0; admitted = true })
+  prime-none = record { w = primes-none (round_keys keys) s x words; admitted = below_none modulus words (round_keys keys) s x }
 
-  prime_more : (i : ℕ) {r next : PrimeSum}
+  prime_more : (i : ℕ) {r next : Single ℕ}
       → PrimeAdded words (place_by s i (cipher_of keys (block x i)).low) (cipher_of keys (block x i)).high r next
       → PrimeTotal (round_keys keys) s x words i r → PrimeTotal (round_keys keys) s x words (i + 1) next
   prime_more i {r} {next} added sum =
       record {
-        total = primes_more (round_keys keys) s x words i (place-block keys s x i refl) r.total next.total (cipher_of keys (block x i)).high sum.total
-            (word_is keys s x i refl) added.total;
+        w = primes_more (round_keys keys) s x words i (place-block keys s x i refl) r.w next.w (cipher_of keys (block x i)).high sum.w
+            (word_is keys s x i refl) added.w;
         admitted = below_more modulus words (round_keys keys) s x i (place-block keys s x i refl) sum.admitted added.admitted;
       }
 
-  prime-sums : (n : ℕ) (r : PrimeSum) → Walked (PrimeAdded words) keys s x (record { total = 0; admitted = true }) n r
+  prime-sums : (n : ℕ) (r : Single ℕ) → Walked (PrimeAdded words) keys s x (record { w = 0; admitted = true }) n r
       → PrimeTotal (round_keys keys) s x words n r
   unfolding Walked
   prime-sums zero r e = rw e prime-none
   prime-sums (suc n) r (m, before, added) = rw (← add-one) (prime_more n added (prime-sums n m before))
 
-  module _ (r : PrimeSum) (walked : Walked (PrimeAdded words) keys s x (record { total = 0; admitted = true }) s.terms r) where
+  module _ (r : Single ℕ) (walked : Walked (PrimeAdded words) keys s x (record { w = 0; admitted = true }) s.terms r) where
     prime-all : PrimeTotal (round_keys keys) s x words s.terms r
     prime-all = prime-sums s.terms r walked
 
-    pub prime_w : {w : Prime} → w ≡ prime_reduce r.total → w ≡ output (itself prime_ring) (prime_row (round_keys keys) s x) (at primes.elements words)
-    prime_w e = primes_done (round_keys keys) s x words s.terms r.total prime-all.total (omega arith) (omega arith) e
+    pub prime_w : {w : Prime} → w ≡ prime_reduce r.w → w ≡ output (itself prime_ring) (prime_row (round_keys keys) s x) (at primes.elements words)
+    prime_w e = primes_done (round_keys keys) s x words s.terms r.w prime-all.w (omega arith) (omega arith) e
 
     pub prime-admitted : r.admitted ≡ row_below modulus words (round_keys keys) s x
     prime-admitted = below_done modulus words (round_keys keys) s x s.terms prime-all.admitted (omega arith) (omega arith)
@@ -127,7 +126,7 @@ module _ (keys : List ℕ) (s : Shape) (x : ℕ) (noise values : List ℕ) where
         admitted = rw (← below_none modulus noise (round_keys keys) s x, ← below_none modulus values (round_keys keys) s x);
       }
 
-  primes_turn : (i : ℕ) {r next : PrimeSums}
+  primes_turn : (i : ℕ) {r next : Pair ℕ ℕ}
       → PrimesAdded noise values (place_by s i (cipher_of keys (block x i)).low) (cipher_of keys (block x i)).high r next
       → PrimesTotal (round_keys keys) s x noise values i r → PrimesTotal (round_keys keys) s x noise values (i + 1) next
   primes_turn i {r} {next} added sums =
@@ -145,13 +144,13 @@ module _ (keys : List ℕ) (s : Shape) (x : ℕ) (noise values : List ℕ) where
             (below_more modulus values (round_keys keys) s x i (place-block keys s x i refl) refl refl);
       }
 
-  primes-sums : (n : ℕ) (r : PrimeSums) → Walked (PrimesAdded noise values) keys s x (record { u = 0; v = 0; admitted = true }) n r
+  primes-sums : (n : ℕ) (r : Pair ℕ ℕ) → Walked (PrimesAdded noise values) keys s x (record { u = 0; v = 0; admitted = true }) n r
       → PrimesTotal (round_keys keys) s x noise values n r
   unfolding Walked
   primes-sums zero r e = rw e primes-start
   primes-sums (suc n) r (m, before, added) = rw (← add-one) (primes_turn n added (primes-sums n m before))
 
-  module _ (r : PrimeSums) (walked : Walked (PrimesAdded noise values) keys s x (record { u = 0; v = 0; admitted = true }) s.terms r) where
+  module _ (r : Pair ℕ ℕ) (walked : Walked (PrimesAdded noise values) keys s x (record { u = 0; v = 0; admitted = true }) s.terms r) where
     primes-all : PrimesTotal (round_keys keys) s x noise values s.terms r
     primes-all = primes-sums s.terms r walked
 

@@ -5,5 +5,5 @@
 mod row;
 mod walked;
 
-pub use row::{BinaryPair, PrimePair, PrimeRow, PrimeSum, PrimeSums};
+pub use row::{Pair, Single};
 pub use walked::{Vectors, walk};

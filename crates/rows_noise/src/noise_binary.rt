@@ -6,14 +6,12 @@ ghost use Rattle.algebra.specs.Row.{output};
 ghost use Rattle.aes128.specs.Inner.Words.{round_keys};
 ghost use Rattle.field.specs.Binary.{binary, bit_ring, blocks};
 ghost use Rattle.rows.specs.Inner.Sums.{BinaryAdded};
-ghost use Rattle.code.specs.Inner.Rows.{Shaped, binary_row};
+ghost use Rattle.code.specs.Inner.Rows.{binary_row};
 ghost use Rattle.code.specs.Inner.Used.{row_below};
 
-use aes_sbox::Tables;
-use code::Shape;
-use code_places::{place_of, still_below};
+use code_places::{Code, still_below};
 use field::{Block, FieldElement, add_bits};
-use rows::{BinaryPair, Vectors, walk};
+use rows::{Pair, Vectors, walk};
 
 // The vectors of the noise end in field 1.
 #[derive(Clone, Copy)]
@@ -22,15 +20,21 @@ struct NoiseBinary<'a> {
     v: &'a [u64],
 }
 
-impl Vectors<BinaryPair> for NoiseBinary<'_> {
+impl Vectors<Pair<u64, Block>> for NoiseBinary<'_> {
     ghost Fits = { λ shape s. (length s.noise.now ≡ shape.places) × (length s.v.now ≡ shape.places * 2) };
 
     ghost Added = { λ s j word sums r. BinaryAdded s.noise.now s.v.now j sums r };
 
-    fn with_term(self, shape: Shape, i: usize, block: Block, sums: BinaryPair) -> BinaryPair {
-        let j = place_of(shape, i, block.low);
+    fn with_term(
+        self,
+        code: Code,
+        i: usize,
+        block: Block,
+        sums: Pair<u64, Block>,
+    ) -> Pair<u64, Block> {
+        let j = code.place_of(i, block.low);
         let bit = self.noise[j];
-        BinaryPair {
+        Pair {
             u: add_bits(sums.u, bit),
             v: sums.v.add(Block::at(self.v, j)),
             admitted: still_below(sums.admitted, bit, 2),
@@ -39,23 +43,16 @@ impl Vectors<BinaryPair> for NoiseBinary<'_> {
 }
 
 // Row x of u and v in field 1.
-pub fn noise_row_binary(
-    tables: Tables,
-    keys: &[u64; 40],
-    shape: Shape,
-    x: usize,
-    noise: &[u64],
-    v: &[u64],
-) -> BinaryPair
-    requires { Shaped shape × (length noise.now ≡ shape.places) × (length v.now ≡ shape.places * 2) }
-    ensures { (result.u ≡ output (itself bit_ring) (binary_row (round_keys keys.now) shape x) (at binary.noise_values noise.now))
-        × (result.v ≡ output blocks (binary_row (round_keys keys.now) shape x) (at binary.elements v.now))
-        × (result.admitted ≡ row_below 2 noise.now (round_keys keys.now) shape x) }
+pub fn noise_row_binary(code: Code, x: usize, noise: &[u64], v: &[u64]) -> Pair<u64, Block>
+    requires { (length noise.now ≡ code.shape.places) × (length v.now ≡ code.shape.places * 2) }
+    ensures { (result.u ≡ output (itself bit_ring) (binary_row (round_keys code.entry.keys.now) code.entry.shape x) (at binary.noise_values noise.now))
+        × (result.v ≡ output blocks (binary_row (round_keys code.entry.keys.now) code.entry.shape x) (at binary.elements v.now))
+        × (result.admitted ≡ row_below 2 noise.now (round_keys code.entry.keys.now) code.entry.shape x) }
 {
-    let none = BinaryPair {
+    let none = Pair {
         u: 0,
         v: Block::zero(),
         admitted: true,
     };
-    walk(tables, keys, shape, x, NoiseBinary { noise, v }, none)
+    walk(code, x, NoiseBinary { noise, v }, none)
 }

@@ -6,15 +6,13 @@ ghost use Rattle.algebra.specs.Row.{output};
 ghost use Rattle.aes128.specs.Inner.Words.{round_keys};
 ghost use Rattle.prime.specs.Prime.{primes, prime_ring, modulus};
 ghost use Rattle.rows.specs.Inner.Sums.{PrimesAdded};
-ghost use Rattle.code.specs.Inner.Rows.{Shaped, prime_row};
+ghost use Rattle.code.specs.Inner.Rows.{prime_row};
 ghost use Rattle.code.specs.Inner.Used.{row_below};
 
-use aes_sbox::Tables;
-use code::Shape;
-use code_places::{place_of, still_below};
+use code_places::{Code, still_below};
 use field::Block;
 use prime::Prime;
-use rows::{PrimePair, PrimeSums, Vectors, walk};
+use rows::{Pair, Vectors, walk};
 
 // The vectors of the noise end in field 2.
 #[derive(Clone, Copy)]
@@ -23,17 +21,17 @@ struct NoisePrime<'a> {
     v: &'a [u64],
 }
 
-impl Vectors<PrimeSums> for NoisePrime<'_> {
+impl Vectors<Pair<u64, u64>> for NoisePrime<'_> {
     ghost Fits = { λ shape s. (length s.noise.now ≡ shape.places) × (length s.v.now ≡ shape.places) };
 
     ghost Added = { λ s. PrimesAdded s.noise.now s.v.now };
 
-    fn with_term(self, shape: Shape, i: usize, block: Block, sums: PrimeSums) -> PrimeSums {
-        let j = place_of(shape, i, block.low);
+    fn with_term(self, code: Code, i: usize, block: Block, sums: Pair<u64, u64>) -> Pair<u64, u64> {
+        let j = code.place_of(i, block.low);
         let a = self.noise[j];
         let b = self.v[j];
         let below = still_below(sums.admitted, a, Prime::modulus());
-        PrimeSums {
+        Pair {
             u: Prime::add_product(sums.u, block.high, a),
             v: Prime::add_product(sums.v, block.high, b),
             admitted: still_below(below, b, Prime::modulus()),
@@ -42,27 +40,20 @@ impl Vectors<PrimeSums> for NoisePrime<'_> {
 }
 
 // Row x of u and v in field 2.
-pub fn noise_row_prime(
-    tables: Tables,
-    keys: &[u64; 40],
-    shape: Shape,
-    x: usize,
-    noise: &[u64],
-    v: &[u64],
-) -> PrimePair
-    requires { Shaped shape × (length noise.now ≡ shape.places) × (length v.now ≡ shape.places) }
-    ensures { (result.u ≡ output (itself prime_ring) (prime_row (round_keys keys.now) shape x) (at primes.noise_values noise.now))
-        × (result.v ≡ output (itself prime_ring) (prime_row (round_keys keys.now) shape x) (at primes.elements v.now))
-        × (result.admitted ≡ (row_below modulus noise.now (round_keys keys.now) shape x
-        && row_below modulus v.now (round_keys keys.now) shape x)) }
+pub fn noise_row_prime(code: Code, x: usize, noise: &[u64], v: &[u64]) -> Pair<Prime, Prime>
+    requires { (length noise.now ≡ code.shape.places) × (length v.now ≡ code.shape.places) }
+    ensures { (result.u ≡ output (itself prime_ring) (prime_row (round_keys code.entry.keys.now) code.entry.shape x) (at primes.noise_values noise.now))
+        × (result.v ≡ output (itself prime_ring) (prime_row (round_keys code.entry.keys.now) code.entry.shape x) (at primes.elements v.now))
+        × (result.admitted ≡ (row_below modulus noise.now (round_keys code.entry.keys.now) code.entry.shape x
+        && row_below modulus v.now (round_keys code.entry.keys.now) code.entry.shape x)) }
 {
-    let none = PrimeSums {
+    let none = Pair {
         u: 0,
         v: 0,
         admitted: true,
     };
-    let sums = walk(tables, keys, shape, x, NoisePrime { noise, v }, none);
-    PrimePair {
+    let sums = walk(code, x, NoisePrime { noise, v }, none);
+    Pair {
         u: Prime::reduce(sums.u),
         v: Prime::reduce(sums.v),
         admitted: sums.admitted,

@@ -5,11 +5,9 @@ ghost use Rattle.algebra.specs.Row.{output};
 ghost use Rattle.aes128.specs.Inner.Words.{round_keys};
 ghost use Rattle.field.specs.Binary.{binary, blocks};
 ghost use Rattle.rows.specs.Inner.Sums.{BlockAdded};
-ghost use Rattle.code.specs.Inner.Rows.{Shaped, binary_row};
+ghost use Rattle.code.specs.Inner.Rows.{binary_row};
 
-use aes_sbox::Tables;
-use code::Shape;
-use code_places::place_of;
+use code_places::Code;
 use field::{Block, FieldElement};
 use rows::{Vectors, walk};
 
@@ -24,21 +22,15 @@ impl Vectors<Block> for ScalarBinary<'_> {
 
     ghost Added = { λ s j word. BlockAdded s.w.now j word };
 
-    fn with_term(self, shape: Shape, i: usize, block: Block, sums: Block) -> Block {
-        sums.add(Block::at(self.w, place_of(shape, i, block.low)))
+    fn with_term(self, code: Code, i: usize, block: Block, sums: Block) -> Block {
+        sums.add(Block::at(self.w, code.place_of(i, block.low)))
     }
 }
 
 // Row x of w in field 1.
-pub fn scalar_row_binary(
-    tables: Tables,
-    keys: &[u64; 40],
-    shape: Shape,
-    x: usize,
-    w: &[u64],
-) -> Block
-    requires { Shaped shape × (length w.now ≡ shape.places * 2) }
-    ensures { result ≡ output blocks (binary_row (round_keys keys.now) shape x) (at binary.elements w.now) }
+pub fn scalar_row_binary(code: Code, x: usize, w: &[u64]) -> Block
+    requires { length w.now ≡ code.shape.places * 2 }
+    ensures { result ≡ output blocks (binary_row (round_keys code.entry.keys.now) code.entry.shape x) (at binary.elements w.now) }
 {
-    walk(tables, keys, shape, x, ScalarBinary { w }, Block::zero())
+    walk(code, x, ScalarBinary { w }, Block::zero())
 }

@@ -6,15 +6,13 @@ ghost use Rattle.algebra.specs.Row.{output};
 ghost use Rattle.aes128.specs.Inner.Words.{round_keys};
 ghost use Rattle.prime.specs.Prime.{primes, prime_ring, modulus};
 ghost use Rattle.rows.specs.Inner.Sums.{PrimeAdded};
-ghost use Rattle.code.specs.Inner.Rows.{Shaped, prime_row};
+ghost use Rattle.code.specs.Inner.Rows.{prime_row};
 ghost use Rattle.code.specs.Inner.Used.{row_below};
 
-use aes_sbox::Tables;
-use code::Shape;
-use code_places::{place_of, still_below};
+use code_places::{Code, still_below};
 use field::Block;
 use prime::Prime;
-use rows::{PrimeRow, PrimeSum, Vectors, walk};
+use rows::{Single, Vectors, walk};
 
 // The vector of the scalar end in field 2.
 #[derive(Clone, Copy)]
@@ -22,39 +20,33 @@ struct ScalarPrime<'a> {
     w: &'a [u64],
 }
 
-impl Vectors<PrimeSum> for ScalarPrime<'_> {
+impl Vectors<Single<u64>> for ScalarPrime<'_> {
     ghost Fits = { λ shape s. length s.w.now ≡ shape.places };
 
     ghost Added = { λ s. PrimeAdded s.w.now };
 
-    fn with_term(self, shape: Shape, i: usize, block: Block, sums: PrimeSum) -> PrimeSum {
-        let word = self.w[place_of(shape, i, block.low)];
-        PrimeSum {
-            total: Prime::add_product(sums.total, block.high, word),
+    fn with_term(self, code: Code, i: usize, block: Block, sums: Single<u64>) -> Single<u64> {
+        let word = self.w[code.place_of(i, block.low)];
+        Single {
+            w: Prime::add_product(sums.w, block.high, word),
             admitted: still_below(sums.admitted, word, Prime::modulus()),
         }
     }
 }
 
 // Row x of w in field 2.
-pub fn scalar_row_prime(
-    tables: Tables,
-    keys: &[u64; 40],
-    shape: Shape,
-    x: usize,
-    w: &[u64],
-) -> PrimeRow
-    requires { Shaped shape × (length w.now ≡ shape.places) }
-    ensures { (result.w ≡ output (itself prime_ring) (prime_row (round_keys keys.now) shape x) (at primes.elements w.now))
-        × (result.admitted ≡ row_below modulus w.now (round_keys keys.now) shape x) }
+pub fn scalar_row_prime(code: Code, x: usize, w: &[u64]) -> Single<Prime>
+    requires { length w.now ≡ code.shape.places }
+    ensures { (result.w ≡ output (itself prime_ring) (prime_row (round_keys code.entry.keys.now) code.entry.shape x) (at primes.elements w.now))
+        × (result.admitted ≡ row_below modulus w.now (round_keys code.entry.keys.now) code.entry.shape x) }
 {
-    let none = PrimeSum {
-        total: 0,
+    let none = Single {
+        w: 0,
         admitted: true,
     };
-    let sum = walk(tables, keys, shape, x, ScalarPrime { w }, none);
-    PrimeRow {
-        w: Prime::reduce(sum.total),
+    let sum = walk(code, x, ScalarPrime { w }, none);
+    Single {
+        w: Prime::reduce(sum.w),
         admitted: sum.admitted,
     }
 }

@@ -1,16 +1,14 @@
 -- A window filled one row a turn: what a row's sums write and tell, end by end and field by field, and the loop's start and turn.
-use mathlib.Core.Bool.{Bool, true, false, ◌&&◌, and-true}
+use mathlib.Core.Bool.{Bool, true, ◌&&◌, and-true}
 use mathlib.Core.List.{List}
 use mathlib.Core.Path.{◌≡◌, refl, sym, ap, ap₂, ◌∙◌}
 use Prim.Native.Nat.{ℕ, suc, ◌+◌, ◌<◌}
 use native.Mathlib.Nat.{mul-one}
 use native.Mathlib.Numerals.{add-one}
 use native.Mathlib.Omega.{arith}
-use lib.Dec.{eqb}
 use lib.ListN.{length, set}
-use borrow.Author.Tests.{ne_eqb}
-use Rattle.algebra.specs.Choice.{choose}
-use Rattle.algebra.specs.Coding.{Coding, CodingLaws, at, over}
+use denote.Ref.{Bor}
+use Rattle.algebra.specs.Coding.{at}
 use Rattle.algebra.specs.Every.{every}
 use Rattle.algebra.specs.Group.{itself}
 use Rattle.algebra.specs.Inner.Put.{put}
@@ -18,6 +16,7 @@ use Rattle.algebra.specs.Row.{output}
 use Rattle.algebra.proofs.Every.{every-all, every-both}
 use Rattle.algebra.proofs.Flats.{value-put}
 use Rattle.algebra.proofs.Written.{front-none}
+use Rattle.code.specs.declared.Shape.{Shape}
 use Rattle.code.specs.Inner.Rows.{binary_row, prime_row}
 use Rattle.code.specs.Inner.Used.{row_below}
 use Rattle.field.specs.declared.block.Block.{Block}
@@ -28,125 +27,125 @@ use Rattle.prime.specs.Prime.{primes, prime_ring, prime, modulus}
 use Rattle.field.proofs.BothKinds.{kind_laws}
 use Rattle.field.proofs.KindOf.{kind_1, kind_2}
 use Rattle.algebra.proofs.Words.{put_one}
+use Rattle.window.specs.declared.Accumulated.{Accumulated}
+use Rattle.window.specs.declared.Accumulated.TheVariants.{Noise, Scalar}
 use Rattle.window.specs.declared.WindowRows.{WindowRows}
 use Rattle.window.specs.Head.{of_noise}
-use Rattle.window.specs.Inner.Testing.{Fitting, NoiseFitting, row_used, elements_used}
-use Rattle.window.specs.Inner.Written.{RowWritten, Filled}
+use Rattle.window.specs.Inner.Testing.{Fitting, row_used, elements_used}
+use Rattle.window.specs.Inner.Written.{RowWritten, Filled, all_used}
 
--- ---- lengths: row k has its place in the buffers
+-- ---- lengths: row k has its place in a buffer
 
-module _ {r : WindowRows} {noise room : ℕ} (fits : NoiseFitting r noise room) where
-  module _ (some : r.u_words ≡ 0 → ⊥) where
-    pub room-noise : (k : ℕ) → k < r.window.count → k < room
-    room-noise k h = let a = fits.testing.all some in omega (arith, a.0, fits.enough)
-
-pub room-one : {r : WindowRows} {vector room : ℕ} → Fitting 1 r vector room → (k : ℕ) → k < r.window.count → k < room
+pub room-one : {s : Shape} {r : WindowRows} {vector room : ℕ} → Fitting 1 s r vector room → (k : ℕ) → k < r.window.count → k < room
 room-one fits k h = omega (arith, fits.enough)
 
 -- ---- the test of the words that a row uses
 
-module _ (keys : List (List (List ℕ))) (r : WindowRows) (words : List ℕ) (k : ℕ) where
-  row-bits : row_below 2 words keys r.shape (r.window.first + k) ≡ row_used (of_noise binary) keys r words k
+module _ (keys : List (List (List ℕ))) (s : Shape) (r : WindowRows) (words : List ℕ) (k : ℕ) where
+  row-bits : row_below 2 words keys s (r.window.first + k) ≡ row_used (of_noise binary) keys s r words k
   unfolding row_below
   row-bits = simp mul-one
 
-  row-primes : row_below modulus words keys r.shape (r.window.first + k) ≡ row_used primes keys r words k
+  row-primes : row_below modulus words keys s (r.window.first + k) ≡ row_used primes keys s r words k
   unfolding row_below
   row-primes = simp mul-one
 
   -- every word is of an element of field 1
-  row-blocks : true ≡ row_used binary keys r words k
-  row-blocks = sym (every-all _ r.shape.terms (λ i c. refl))
+  row-blocks : true ≡ row_used binary keys s r words k
+  row-blocks = sym (every-all _ s.terms (λ i c. refl))
 
 -- ---- what a row's sums write and tell
 
-module _ (keys : List (List (List ℕ))) (r : WindowRows) (k : ℕ) (noise v u_out v_out : List ℕ) where
-  module _ (none : r.u_words ≡ 0) where
-    pub alone-binary : {y : Block} → y ≡ output blocks (binary_row keys r.shape (r.window.first + k)) (at binary.elements v)
-        → {b : List ℕ} → b ≡ put binary.elements v_out k y → RowWritten binary_kind (eqb r.u_words 0) keys r k noise v u_out v_out true u_out b
-    alone-binary s q = rw none record { told = row-blocks keys r v k; u_is = refl; v_is = q ∙ ap (put binary.elements v_out k) s }
+module _ (keys : List (List (List ℕ))) (s : Shape) (r : WindowRows) (k : ℕ) (u_out out : List ℕ) where
+  -- at the scalar end
+  module _ {w : Bor (List ℕ)} where
+    pub alone-binary : {y : Block} → y ≡ output blocks (binary_row keys s (r.window.first + k)) (at binary.elements w.now)
+        → {b : List ℕ} → b ≡ put binary.elements out k y → RowWritten binary_kind keys s r k (Scalar w) u_out out true u_out b
+    alone-binary e q = record { told = row-blocks keys s r w.now k; u_is = refl; element_is = q ∙ ap (put binary.elements out k) e }
 
-    pub alone-prime : k < length v_out → {y : Prime} → y ≡ output (itself prime_ring) (prime_row keys r.shape (r.window.first + k)) (at primes.elements v)
-        → {t : Bool} → t ≡ row_below modulus v keys r.shape (r.window.first + k)
-        → RowWritten prime_kind (eqb r.u_words 0) keys r k noise v u_out v_out t u_out (set v_out k y.word)
-    alone-prime h {y} s q =
-        rw none record {
-          told = q ∙ row-primes keys r v k;
+    pub alone-prime : k < length out → {y : Prime} → y ≡ output (itself prime_ring) (prime_row keys s (r.window.first + k)) (at primes.elements w.now)
+        → {t : Bool} → t ≡ row_below modulus w.now keys s (r.window.first + k)
+        → RowWritten prime_kind keys s r k (Scalar w) u_out out t u_out (set out k y.word)
+    alone-prime h {y} e q =
+        record {
+          told = q ∙ row-primes keys s r w.now k;
           u_is = refl;
-          v_is = sym (put_one (λ x. x.word) prime v_out k y h) ∙ ap (put primes.elements v_out k) s;
+          element_is = sym (put_one (λ x. x.word) prime out k y h) ∙ ap (put primes.elements out k) e;
         }
 
-  module _ (some : r.u_words ≡ 0 → ⊥) (room : k < length u_out) where
-    pub pair_binary : {x : ℕ} → x ≡ output (itself bit_ring) (binary_row keys r.shape (r.window.first + k)) (at binary.noise_values noise)
-        → {y : Block} → y ≡ output blocks (binary_row keys r.shape (r.window.first + k)) (at binary.elements v)
-        → {t : Bool} → t ≡ row_below 2 noise keys r.shape (r.window.first + k) → {b : List ℕ} → b ≡ put binary.elements v_out k y
-        → RowWritten binary_kind (eqb r.u_words 0) keys r k noise v u_out v_out t (set u_out k x) b
-    pair_binary {x} a s {t} q p =
-        rw (ne_eqb r.u_words 0 some) record {
-          told = sym (and-true t) ∙ ap₂ ◌&&◌ (q ∙ row-bits keys r noise k) (row-blocks keys r v k);
+  -- at the noise end
+  module _ {noise v : Bor (List ℕ)} (room : k < length u_out) where
+    pub pair_binary : {x : ℕ} → x ≡ output (itself bit_ring) (binary_row keys s (r.window.first + k)) (at binary.noise_values noise.now)
+        → {y : Block} → y ≡ output blocks (binary_row keys s (r.window.first + k)) (at binary.elements v.now)
+        → {t : Bool} → t ≡ row_below 2 noise.now keys s (r.window.first + k) → {b : List ℕ} → b ≡ put binary.elements out k y
+        → RowWritten binary_kind keys s r k (Noise noise v) u_out out t (set u_out k x) b
+    pair_binary {x} a e {t} q p =
+        record {
+          told = sym (and-true t) ∙ ap₂ ◌&&◌ (q ∙ row-bits keys s r noise.now k) (row-blocks keys s r v.now k);
           u_is = sym (put_one (λ x. x) (λ x. x) u_out k x room) ∙ ap (put binary.noise_values u_out k) a;
-          v_is = p ∙ ap (put binary.elements v_out k) s;
+          element_is = p ∙ ap (put binary.elements out k) e;
         }
 
-    pub pair_prime : k < length v_out
-        → {x : Prime} → x ≡ output (itself prime_ring) (prime_row keys r.shape (r.window.first + k)) (at primes.noise_values noise)
-        → {y : Prime} → y ≡ output (itself prime_ring) (prime_row keys r.shape (r.window.first + k)) (at primes.elements v)
-        → {t : Bool} → t ≡ (row_below modulus noise keys r.shape (r.window.first + k) && row_below modulus v keys r.shape (r.window.first + k))
-        → RowWritten prime_kind (eqb r.u_words 0) keys r k noise v u_out v_out t (set u_out k x.word) (set v_out k y.word)
-    pair_prime h {x} a {y} s q =
-        rw (ne_eqb r.u_words 0 some) record {
-          told = q ∙ ap₂ ◌&&◌ (row-primes keys r noise k) (row-primes keys r v k);
+    pub pair_prime : k < length out
+        → {x : Prime} → x ≡ output (itself prime_ring) (prime_row keys s (r.window.first + k)) (at primes.noise_values noise.now)
+        → {y : Prime} → y ≡ output (itself prime_ring) (prime_row keys s (r.window.first + k)) (at primes.elements v.now)
+        → {t : Bool} → t ≡ (row_below modulus noise.now keys s (r.window.first + k) && row_below modulus v.now keys s (r.window.first + k))
+        → RowWritten prime_kind keys s r k (Noise noise v) u_out out t (set u_out k x.word) (set out k y.word)
+    pair_prime h {x} a {y} e q =
+        record {
+          told = q ∙ ap₂ ◌&&◌ (row-primes keys s r noise.now k) (row-primes keys s r v.now k);
           u_is = sym (put_one (λ x. x.word) prime u_out k x room) ∙ ap (put primes.noise_values u_out k) a;
-          v_is = sym (put_one (λ x. x.word) prime v_out k y h) ∙ ap (put primes.elements v_out k) s;
+          element_is = sym (put_one (λ x. x.word) prime out k y h) ∙ ap (put primes.elements out k) e;
         }
 
 -- in the field of the rows
-module _ {alone : Bool} {keys : List (List (List ℕ))} {r : WindowRows} {k : ℕ} {noise v u_out v_out : List ℕ} {t : Bool} {a b : List ℕ} where
-  pub row-binary : r.field ≡ 1 → RowWritten binary_kind alone keys r k noise v u_out v_out t a b
-      → RowWritten (kind_of r.field) alone keys r k noise v u_out v_out t a b
+module _ {keys : List (List (List ℕ))} {s : Shape} {r : WindowRows} {k : ℕ} {vectors : Accumulated} {u_out out : List ℕ} {t : Bool} {a b : List ℕ} where
+  pub row-binary : r.field ≡ 1 → RowWritten binary_kind keys s r k vectors u_out out t a b → RowWritten (kind_of r.field) keys s r k vectors u_out out t a b
   row-binary e w = rw (kind_1 r.field e) w
 
-  pub row-prime : (r.field ≡ 1 → ⊥) → RowWritten prime_kind alone keys r k noise v u_out v_out t a b
-      → RowWritten (kind_of r.field) alone keys r k noise v u_out v_out t a b
+  pub row-prime : (r.field ≡ 1 → ⊥) → RowWritten prime_kind keys s r k vectors u_out out t a b
+      → RowWritten (kind_of r.field) keys s r k vectors u_out out t a b
   row-prime e w = rw (kind_2 r.field e) w
 
 -- ---- the loop
 
 -- the window's first k rows
 abbrev pub rows_to : WindowRows → ℕ → WindowRows
-rows_to r k =
-    record { field = r.field; shape = r.shape; window = record { first = r.window.first; count = k }; u_words = choose (eqb r.u_words 0) 0 k }
+rows_to r k = record { field = r.field; window = record { first = r.window.first; count = k } }
 
-no-u : (alone : Bool) → ◌≡◌ {A = ℕ} (choose alone 0 0) 0
-no-u true = refl
-no-u false = refl
-
--- a turn writes one value more, and tests one index more, of u unless no row gives it
-turn_put : {A : Type 0} (C : Coding A) → CodingLaws C → (f : ℕ → A) (b : List ℕ) (k : ℕ) (alone : Bool) {l next : List ℕ} → l ≡ over C (choose alone 0 k) f b
-    → next ≡ choose alone l (put C l k (f k)) → next ≡ over C (choose alone 0 (k + 1)) f b
-turn_put C L f b k true e q = q ∙ e
-turn_put C L f b k false e q = value-put C L f b k e q refl
-
-turn_test : (s t : ℕ → Bool) (k : ℕ) (alone : Bool) {x y : Bool} → x ≡ (every (choose alone 0 k) s && every k t) → y ≡ (choose alone true (s k) && t k)
-    → (x && y) ≡ (every (choose alone 0 (k + 1)) s && every (k + 1) t)
+-- a turn tests one index more, of one vector or of both
+one_turn : (t : ℕ → Bool) (k : ℕ) {x y : Bool} → x ≡ every k t → y ≡ t k → (x && y) ≡ every (k + 1) t
 unfolding every
-turn_test s t k true e q = rw (e, q, add-one)
-turn_test s t k false e q = rw (e, q, add-one) (ap (λ (b : Bool). b && (s k && t k)) (sym (every-both k s t)) ∙ every-both (suc k) s t)
+one_turn t k e q = rw (e, q, add-one)
 
-module _ (keys : List (List (List ℕ))) (r : WindowRows) (noise v u_out v_out : List ℕ) where
-  pub filled_none : Filled keys (rows_to r 0) noise v u_out v_out true u_out v_out
+both_turn : (s t : ℕ → Bool) (k : ℕ) {x y : Bool} → x ≡ (every k s && every k t) → y ≡ (s k && t k) → (x && y) ≡ (every (k + 1) s && every (k + 1) t)
+unfolding every
+both_turn s t k e q = rw (e, q, add-one) (ap (λ (b : Bool). b && (s k && t k)) (sym (every-both k s t)) ∙ every-both (suc k) s t)
+
+module _ (keys : List (List (List ℕ))) (s : Shape) (r : WindowRows) where
+  pub used_none : (vectors : Accumulated) → true ≡ all_used keys s (rows_to r 0) vectors
   unfolding elements_used every
-  filled_none =
-      rw (no-u (eqb r.u_words 0)) record { told = refl; u_is = front-none _ _ u_out; v_is = front-none _ _ v_out }
+  used_none (Noise noise v) = refl
+  used_none (Scalar w) = refl
 
-  module _ {k : ℕ} {t : Bool} {a b : List ℕ} (f : Filled keys (rows_to r k) noise v u_out v_out t a b) where
-    pub filled_more : {x : Bool} {c d : List ℕ} → RowWritten (kind_of r.field) (eqb r.u_words 0) keys r k noise v a b x c d
-        → Filled keys (rows_to r (k + 1)) noise v u_out v_out (t && x) c d
+  pub filled_none : (vectors : Accumulated) (u_out out : List ℕ) → Filled keys s (rows_to r 0) vectors u_out out u_out out
+  filled_none (Noise noise v) u_out out = record { u_is = front-none _ _ u_out; elements_are = front-none _ _ out }
+  filled_none (Scalar w) u_out out = record { u_is = refl; elements_are = front-none _ _ out }
+
+  module _ {k : ℕ} {a b : List ℕ} {x : Bool} {c d : List ℕ} where
+    pub used_more : (vectors : Accumulated) {t : Bool} → t ≡ all_used keys s (rows_to r k) vectors
+        → RowWritten (kind_of r.field) keys s r k vectors a b x c d → (t && x) ≡ all_used keys s (rows_to r (k + 1)) vectors
     unfolding elements_used
-    filled_more w =
+    used_more (Noise noise v) e w = both_turn _ _ k e w.told
+    used_more (Scalar w') e w = one_turn _ k e w.told
+
+    pub filled_more : (vectors : Accumulated) {u_out out : List ℕ} → Filled keys s (rows_to r k) vectors u_out out a b
+        → RowWritten (kind_of r.field) keys s r k vectors a b x c d → Filled keys s (rows_to r (k + 1)) vectors u_out out c d
+    filled_more (Noise noise v) {u_out} {out} f w =
         let L = (kind_laws r.field).field in
         record {
-          told = turn_test _ _ k (eqb r.u_words 0) f.told w.told;
-          u_is = turn_put _ L.noise_values _ u_out k (eqb r.u_words 0) f.u_is w.u_is;
-          v_is = value-put _ L.elements _ v_out k f.v_is w.v_is refl;
+          u_is = value-put _ L.noise_values _ u_out k f.u_is w.u_is refl;
+          elements_are = value-put _ L.elements _ out k f.elements_are w.element_is refl;
         }
+    filled_more (Scalar w') {u_out} {out} f w =
+        record { u_is = w.u_is ∙ f.u_is; elements_are = value-put _ (kind_laws r.field).field.elements _ out k f.elements_are w.element_is refl }

@@ -1,10 +1,9 @@
 -- Numbers of words that fit a word, and what the tests 3, 7 and 13 of an online call say of a vector, a window and a buffer.
-use mathlib.Core.Path.{◌≡◌, refl}
+use mathlib.Core.Path.{◌≡◌}
 use mathlib.Core.List.{List}
 use Prim.Native.Nat.{ℕ, ◌+◌, ◌*◌, ◌^◌, ◌≤◌}
 use native.Mathlib.Nat.{mul-le-mul}
 use native.Mathlib.Omega.{arith}
-use lib.Pow.{pow_mono}
 use mir.Syntax.{w64}
 use mir.Val.{Fits}
 use Rattle.answer.specs.Tests.{first_fault}
@@ -15,9 +14,9 @@ use Rattle.field.proofs.Widths.{width-most}
 use Rattle.record.specs.declared.Layout.{Layout}
 use Rattle.record.specs.Answer.{head_of}
 use Rattle.window.specs.Inner.Numbers.{length_tests, element_tests}
-use Rattle.window.specs.Inner.Outputs.{rows_of}
+use Rattle.window.specs.Inner.Outputs.{rows_of, shape_of}
 use Rattle.window.specs.Inner.Sizes.{Sizes}
-use Rattle.window.specs.Inner.Testing.{Fitting, NoiseFitting}
+use Rattle.window.specs.Inner.Testing.{Fitting}
 
 -- the elements of a window that ends at 32768 or before fit a word
 pub count_fits : (field : ℕ) {width : ℕ} → width ≡ element_words field → (first count : ℕ) → first + count ≤ 32768 → Fits w64 (count * width)
@@ -27,25 +26,11 @@ count_fits field {width} we first count within =
     record { fits = omega arith }
 
 -- a vector, a window and a buffer that pass all three tests fit each other
-pub passed_fits : (width : ℕ) (s : List ℕ) (f : Layout) (vector : ℕ) (w : Window) (room words : ℕ) → Sizes s (head_of s f) f.body
+pub passed_fits : (width : ℕ) (s : List ℕ) (f : Layout) (vector : ℕ) (w : Window) (room : ℕ) → Sizes s (head_of s f) f.body
     → vector ≡ 2 ^ f.depth * width → w.first + w.count ≤ f.outputs → w.count * width ≤ room
-    → Fitting width (rows_of f w words) vector room
-passed_fits width s f vector w room words sizes whole within enough =
-    record {
-      testing = record {
-        shaped = record { some = sizes.some; full = sizes.full; few = sizes.terms; most = pow_mono sizes.depth; strip = refl };
-        whole = whole;
-        within = omega (arith, sizes.outputs);
-      };
-      enough = enough;
-    }
-
--- a word of u from every row, and from none
-pub all_u : (f : Layout) (w : Window) {noise room : ℕ} → Fitting 1 (rows_of f w w.count) noise room → NoiseFitting (rows_of f w w.count) noise room
-all_u f w fits = record { testing = record { few = omega arith; all = λ some. (refl, fits.testing) }; enough = omega (arith, fits.enough) }
-
-pub no-u : (f : Layout) (w : Window) (noise room : ℕ) → NoiseFitting (rows_of f w 0) noise room
-no-u f w noise room = record { testing = record { few = omega arith; all = λ some. absurd (some refl) }; enough = omega arith }
+    → Fitting width (shape_of f) (rows_of f w) vector room
+passed_fits width s f vector w room sizes whole within enough =
+    record { testing = record { whole = whole; within = omega (arith, sizes.outputs) }; enough = enough }
 
 -- with as many words of noise as there are places, and as much room for u as the window's count, the tests of the elements are left
 pub elements-alone : (f : Layout) (vector : ℕ) (w : Window) (room : ℕ) {noise : ℕ} → noise ≡ 2 ^ f.depth

@@ -2,14 +2,18 @@
 // and `window_write`.
 #![tactic(auto)]
 
-use code::{Shape, Window};
+use code::Window;
 
-// The rows of a window: the field, the code's shape, the window, and how many words of u it gives: one for each row at the noise end, none
-// at the scalar end.
+// The rows of a window: the field, and the window.
 #[derive(Clone, Copy)]
 pub struct WindowRows {
     pub field: usize,
-    pub shape: Shape,
     pub window: Window,
-    pub u_words: usize,
+}
+
+// The accumulated vectors that an end lends a window: its rows sum the noise to u and v to v, or w to w.
+#[derive(Clone, Copy)]
+pub enum Accumulated<'a> {
+    Noise { noise: &'a [u64], v: &'a [u64] },
+    Scalar { w: &'a [u64] },
 }

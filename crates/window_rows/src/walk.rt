@@ -1,116 +1,121 @@
-// A window's outputs written and its words tested in one walk of its rows.
-ghost use Rattle.std.specs.Prelude.{◌<◌, eqb, length};
+// A window's outputs written and its words tested in one walk of its rows. The buffers stay two parameters: as a struct of `&mut` they would
+// be lent anew for each row.
+ghost use Rattle.std.specs.Prelude.{◌≡◌, ◌<◌, length};
 ghost use Rattle.aes128.specs.Inner.Words.{round_keys};
+ghost use Rattle.algebra.specs.Choice.{choose};
+ghost use Rattle.answer.specs.Numbers.{accepted, not_element};
+ghost use Rattle.answer.specs.Refused.{fault};
 ghost use Rattle.field.specs.Kind.{kind_of, binary_kind, prime_kind, element_words};
-ghost use Rattle.window.specs.Inner.Testing.{Fitting, NoiseFitting};
-ghost use Rattle.window.specs.Inner.Written.{RowWritten, Filled};
+ghost use Rattle.window.specs.Inner.Testing.{EndFitting};
+ghost use Rattle.window.specs.Inner.Written.{RowWritten, Filled, all_used};
 
-use aes_sbox::Tables;
+use answer::Refusal;
+use code_places::Code;
 use field::{BINARY, FieldElement};
 use rows_noise::{noise_row_binary, noise_row_prime};
 use rows_scalar::{scalar_row_binary, scalar_row_prime};
-use window::WindowRows;
+use window::{Accumulated, WindowRows};
 
-// Writes output k of the window in field 1, with its word of u if rows give one; whether every word of the noise that the row uses
+// Writes output k of the window in field 1, at the noise end with its word of u; whether every word of the noise that the row uses
 // is a bit. Field 2 has its own below: a trait over both fields' rows would be longer than the two.
 fn write_binary(
-    tables: Tables,
-    keys: &[u64; 40],
+    code: Code,
     rows: WindowRows,
     k: usize,
-    noise: &[u64],
-    v: &[u64],
+    vectors: Accumulated,
     u_out: &mut [u64],
-    v_out: &mut [u64],
+    out: &mut [u64],
 ) -> bool
     requires row { k < rows.window.count }
-    requires noise_fitting { NoiseFitting rows (length noise.now) (length u_out.old) × Fitting 2 rows (length v.now) (length v_out.old) }
-    ensures { RowWritten binary_kind (eqb rows.u_words 0) (round_keys keys.now) rows k noise.now v.now
-        u_out.old v_out.old result u_out.new v_out.new }
+    requires fitting { EndFitting 2 code.shape rows vectors (length u_out.old) (length out.old) }
+    ensures { RowWritten binary_kind (round_keys code.entry.keys.now) code.entry.shape rows k vectors.entry u_out.old out.old result u_out.new out.new }
 {
     let x = rows.window.first + k;
-    if rows.u_words == 0 {
-        let element = scalar_row_binary(tables, keys, rows.shape, x, v);
-        element.put(v_out, k);
-        return true;
+    match vectors {
+        Accumulated::Noise { noise, v } => {
+            let pair = noise_row_binary(code, x, noise, v);
+            u_out[k] = pair.u;
+            pair.v.put(out, k);
+            pair.admitted
+        }
+        Accumulated::Scalar { w } => {
+            let element = scalar_row_binary(code, x, w);
+            element.put(out, k);
+            true
+        }
     }
-    let pair = noise_row_binary(tables, keys, rows.shape, x, noise, v);
-    u_out[k] = pair.u;
-    pair.v.put(v_out, k);
-    pair.admitted
 }
 
-// Writes row k of a window in field 2, and says whether every word that the row uses is an element.
+// The same in field 2; whether every word that the row uses is an element.
 fn write_prime(
-    tables: Tables,
-    keys: &[u64; 40],
+    code: Code,
     rows: WindowRows,
     k: usize,
-    noise: &[u64],
-    v: &[u64],
+    vectors: Accumulated,
     u_out: &mut [u64],
-    v_out: &mut [u64],
+    out: &mut [u64],
 ) -> bool
     requires row { k < rows.window.count }
-    requires noise_fitting { NoiseFitting rows (length noise.now) (length u_out.old) × Fitting 1 rows (length v.now) (length v_out.old) }
-    ensures { RowWritten prime_kind (eqb rows.u_words 0) (round_keys keys.now) rows k noise.now v.now
-        u_out.old v_out.old result u_out.new v_out.new }
+    requires fitting { EndFitting 1 code.shape rows vectors (length u_out.old) (length out.old) }
+    ensures { RowWritten prime_kind (round_keys code.entry.keys.now) code.entry.shape rows k vectors.entry u_out.old out.old result u_out.new out.new }
 {
     let x = rows.window.first + k;
-    if rows.u_words == 0 {
-        let row = scalar_row_prime(tables, keys, rows.shape, x, v);
-        v_out[k] = row.w.word;
-        return row.admitted;
+    match vectors {
+        Accumulated::Noise { noise, v } => {
+            let pair = noise_row_prime(code, x, noise, v);
+            u_out[k] = pair.u.word;
+            out[k] = pair.v.word;
+            pair.admitted
+        }
+        Accumulated::Scalar { w } => {
+            let row = scalar_row_prime(code, x, w);
+            out[k] = row.w.word;
+            row.admitted
+        }
     }
-    let pair = noise_row_prime(tables, keys, rows.shape, x, noise, v);
-    u_out[k] = pair.u.word;
-    v_out[k] = pair.v.word;
-    pair.admitted
 }
 
-// Writes row k of a window in the field of the rows, and says whether every word that the row uses is admitted.
+// Writes row k of a window in the field of the rows; whether every word that the row uses is admitted. A bool, since the walk goes on
+// after a word that is not.
 fn write_row(
-    tables: Tables,
-    keys: &[u64; 40],
+    code: Code,
     rows: WindowRows,
     k: usize,
-    noise: &[u64],
-    v: &[u64],
+    vectors: Accumulated,
     u_out: &mut [u64],
-    v_out: &mut [u64],
+    out: &mut [u64],
 ) -> bool
     requires row { k < rows.window.count }
-    requires noise_fitting { NoiseFitting rows (length noise.now) (length u_out.old)
-        × Fitting (element_words rows.field) rows (length v.now) (length v_out.old) }
-    ensures { RowWritten (kind_of rows.field) (eqb rows.u_words 0) (round_keys keys.now) rows k noise.now v.now
-        u_out.old v_out.old result u_out.new v_out.new }
+    requires fitting { EndFitting (element_words rows.field) code.shape rows vectors (length u_out.old) (length out.old) }
+    ensures { RowWritten (kind_of rows.field) (round_keys code.entry.keys.now) code.entry.shape rows k vectors.entry
+        u_out.old out.old result u_out.new out.new }
 {
     if rows.field == BINARY {
-        return write_binary(tables, keys, rows, k, noise, v, u_out, v_out);
+        return write_binary(code, rows, k, vectors, u_out, out);
     }
-    write_prime(tables, keys, rows, k, noise, v, u_out, v_out)
+    write_prime(code, rows, k, vectors, u_out, out)
 }
 
-// Writes the window's words of u, if any are asked for, and its elements; whether every word that its rows use is a noise value or
-// an element.
+// Writes the window's elements, at the noise end with its words of u; refuses if a word that its rows use is no noise value or no element.
 pub fn walk_rows(
-    tables: Tables,
-    keys: &[u64; 40],
+    code: Code,
     rows: WindowRows,
-    noise: &[u64],
-    v: &[u64],
+    vectors: Accumulated,
     u_out: &mut [u64],
-    v_out: &mut [u64],
-) -> bool
-    requires noise_fitting { NoiseFitting rows (length noise.now) (length u_out.old)
-        × Fitting (element_words rows.field) rows (length v.now) (length v_out.old) }
-    ensures { Filled (round_keys keys.now) rows noise.now v.now
-        u_out.old v_out.old result u_out.new v_out.new }
+    out: &mut [u64],
+) -> Result<(), Refusal>
+    requires fitting { EndFitting (element_words rows.field) code.shape rows vectors (length u_out.old) (length out.old) }
+    ensures told { fault result ≡ choose (all_used (round_keys code.entry.keys.now) code.entry.shape rows vectors.entry) accepted not_element }
+    ensures filled { Filled (round_keys code.entry.keys.now) code.entry.shape rows vectors.entry u_out.old out.old u_out.new out.new }
 {
     let mut passed = true;
     for k in 0..rows.window.count {
-        let admitted = write_row(tables, keys, rows, k, noise, v, u_out, v_out);
+        let admitted = write_row(code, rows, k, vectors, u_out, out);
         passed = passed & admitted;
     }
-    passed
+    if passed {
+        Ok(())
+    } else {
+        Err(Refusal::NotElement)
+    }
 }

@@ -3,102 +3,90 @@ ghost use Rattle.std.specs.Prelude.{◌++◌, ◌≡◌, ◌≤◌, length, take
 ghost use Rattle.aes128.specs.Inner.Words.{round_keys};
 ghost use Rattle.field.specs.Kind.{element_words};
 ghost use Rattle.record.specs.Answer.{head_of};
-ghost use Rattle.window.specs.Inner.Outputs.{code_keys, rows_of};
+ghost use Rattle.window.specs.Inner.Outputs.{code_keys, rows_of, shape_of};
 ghost use Rattle.window.specs.Inner.Sizes.{Sizes};
-ghost use Rattle.window.specs.Inner.Testing.{Fitting, NoiseFitting};
+ghost use Rattle.window.specs.Inner.Testing.{EndFitting};
 ghost use Rattle.window.specs.Inner.Written.{WindowWritten};
 
-use crate::used::{elements_used, noise_used};
+use crate::used::all_used;
 use aes_sbox::Tables;
+use answer::Refusal;
 use code::Window;
+use code_places::Code;
 use field::element_width;
 use record::Layout;
-use window::WindowRows;
+use window::{Accumulated, WindowRows};
 use window_rows::walk_rows;
 use window_tests::{code_keys, shape_of};
 
-// Writes a window of at most 32 outputs, if the words that its rows use are noise values and elements, and says whether they
-// are: one walk of the rows tests and sums them in memory of its own, from where the window is copied.
+// Writes a window of at most 32 outputs, if the words that its rows use are noise values and elements, or refuses: one walk of the rows
+// tests and sums them in memory of its own, from where the window is copied. The memory is fixed, as no heap is used: the most words that
+// 32 outputs take.
 fn write_small(
-    tables: Tables,
-    keys: &[u64; 40],
+    code: Code,
     rows: WindowRows,
-    noise: &[u64],
-    v: &[u64],
+    vectors: Accumulated,
     u_out: &mut [u64],
-    v_out: &mut [u64],
-) -> bool
+    out: &mut [u64],
+) -> Result<(), Refusal>
     requires small { rows.window.count ≤ 32 }
-    requires noise_fitting { NoiseFitting rows (length noise.now) (length u_out.old)
-        × Fitting (element_words rows.field) rows (length v.now) (length v_out.old) }
-    ensures { WindowWritten (round_keys keys.now) rows noise.now v.now
-        u_out.old v_out.old result u_out.new v_out.new }
+    requires fitting { EndFitting (element_words rows.field) code.shape rows vectors (length u_out.old) (length out.old) }
+    ensures { WindowWritten (round_keys code.entry.keys.now) code.entry.shape rows vectors.entry u_out.old out.old result u_out.new out.new }
 {
     let mut u_own = [0u64; 32];
-    let mut v_own = [0u64; 64];
-    if !walk_rows(tables, keys, rows, noise, v, &mut u_own, &mut v_own) {
-        return false;
+    let mut own = [0u64; 64];
+    walk_rows(code, rows, vectors, &mut u_own, &mut own)?;
+    let count = rows.window.count;
+    let words = count * element_width(rows.field);
+    out[..words].copy_from_slice(&own[..words]);
+    if let Accumulated::Noise { .. } = vectors {
+        u_out[..count].copy_from_slice(&u_own[..count]);
     }
-    let v_words = rows.window.count * element_width(rows.field);
-    u_out[..rows.u_words].copy_from_slice(&u_own[..rows.u_words]);
-    v_out[..v_words].copy_from_slice(&v_own[..v_words]);
-    true
+    Ok(())
 }
 
-// Writes any window, if the words that its rows use are noise values and elements, and says whether they are: one of more than 32
-// outputs is tested before its rows are walked to write it.
+// Writes any window, if the words that its rows use are noise values and elements, or refuses: one of more than 32 outputs is tested
+// before its rows are walked to write it.
 fn write_tested(
-    tables: Tables,
-    keys: &[u64; 40],
+    code: Code,
     rows: WindowRows,
-    noise: &[u64],
-    v: &[u64],
+    vectors: Accumulated,
     u_out: &mut [u64],
-    v_out: &mut [u64],
-) -> bool
-    requires noise_fitting { NoiseFitting rows (length noise.now) (length u_out.old)
-        × Fitting (element_words rows.field) rows (length v.now) (length v_out.old) }
-    ensures { WindowWritten (round_keys keys.now) rows noise.now v.now
-        u_out.old v_out.old result u_out.new v_out.new }
+    out: &mut [u64],
+) -> Result<(), Refusal>
+    requires fitting { EndFitting (element_words rows.field) code.shape rows vectors (length u_out.old) (length out.old) }
+    ensures { WindowWritten (round_keys code.entry.keys.now) code.entry.shape rows vectors.entry u_out.old out.old result u_out.new out.new }
 {
     if rows.window.count <= 32 {
-        return write_small(tables, keys, rows, noise, v, u_out, v_out);
+        return write_small(code, rows, vectors, u_out, out);
     }
-    if !noise_used(tables, keys, rows, noise) {
-        return false;
+    if !all_used(code, rows, vectors) {
+        return Err(Refusal::NotElement);
     }
-    if !elements_used(tables, keys, rows, v) {
-        return false;
-    }
-    walk_rows(tables, keys, rows, noise, v, u_out, v_out);
-    true
+    walk_rows(code, rows, vectors, u_out, out)
 }
 
-// Writes a window of any size under a record's code key. `u_words` is the window's count at the noise end, 0 at the scalar end.
+// Writes a window of any size under a record's code key, or refuses it. The scalar end's buffer for u may be empty.
 pub fn write_rows(
     source: &[u8],
     layout: Layout,
     window: Window,
-    u_words: usize,
-    noise: &[u64],
-    v: &[u64],
+    vectors: Accumulated,
     u_out: &mut [u64],
-    v_out: &mut [u64],
-) -> bool
+    out: &mut [u64],
+) -> Result<(), Refusal>
     requires sizes { Sizes source.now (head_of source.now layout) layout.body }
-    requires noise_fitting { NoiseFitting (rows_of layout window u_words) (length noise.now) (length u_out.old)
-        × Fitting (element_words layout.field) (rows_of layout window u_words) (length v.now) (length v_out.old) }
-    ensures { WindowWritten (code_keys (head_of source.now layout)) (rows_of layout window u_words) noise.now v.now
-        u_out.old v_out.old result u_out.new v_out.new }
+    requires fitting { EndFitting (element_words layout.field) (shape_of layout) (rows_of layout window) vectors (length u_out.old) (length out.old) }
+    ensures { WindowWritten (code_keys (head_of source.now layout)) (shape_of layout) (rows_of layout window) vectors.entry
+        u_out.old out.old result u_out.new out.new }
 {
     let mut words = [0u64; 1536];
     let tables = Tables::fill(&mut words);
     let keys = code_keys(source, layout);
+    let code = Code::new(tables, &keys, shape_of(layout));
     let rows = WindowRows {
         field: layout.field,
-        shape: shape_of(layout),
         window,
-        u_words,
     };
-    write_tested(tables, &keys, rows, noise, v, u_out, v_out)
+    write_tested(code, rows, vectors, u_out, out)
 }

@@ -10,14 +10,13 @@ use Rattle.prime.specs.declared.prime.Prime.{Prime}
 use Rattle.field.specs.Binary.{binary, bit_ring, blocks, block_add, bit_add}
 use Rattle.prime.specs.Prime.{primes, prime_ring, modulus, prime, prime_reduce, prime_add, prime_mul}
 use Rattle.code.specs.declared.Shape.{Shape}
-use Rattle.rows.specs.declared.row.BinaryPair.{BinaryPair}
-use Rattle.rows.specs.declared.row.PrimeSum.{PrimeSum}
-use Rattle.rows.specs.declared.row.PrimeSums.{PrimeSums}
+use Rattle.rows.specs.declared.row.Pair.{Pair}
+use Rattle.rows.specs.declared.row.Single.{Single}
 use Rattle.code.specs.Inner.Rows.{binary_row, prime_row}
 use Rattle.code.specs.Inner.Used.{word_below, terms_below}
 
 -- r is the sums with the values at place j added
-pub record BinaryAdded (noise values : List ℕ) (j : ℕ) (sums r : BinaryPair) : Type 0 where
+pub record BinaryAdded (noise values : List ℕ) (j : ℕ) (sums r : Pair ℕ Block) : Type 0 where
   pub u : r.u ≡ bit_add sums.u (get_or noise j 0)
   pub v : r.v ≡ block_add sums.v (at binary.elements values j)
   pub admitted : r.admitted ≡ (sums.admitted && word_below 2 noise j)
@@ -27,11 +26,11 @@ abbrev pub BlockAdded : List ℕ → ℕ → ℕ → Block → Block → Type 0
 BlockAdded words j coefficient sum r = r ≡ block_add sum (at binary.elements words j)
 
 -- r is the sum, or the sums, with the product of a coefficient and the element at place j added
-pub record PrimeAdded (words : List ℕ) (j coefficient : ℕ) (sum r : PrimeSum) : Type 0 where
-  pub total : prime_reduce r.total ≡ prime_add (prime sum.total) (prime_mul (prime coefficient) (prime (get_or words j 0)))
+pub record PrimeAdded (words : List ℕ) (j coefficient : ℕ) (sum r : Single ℕ) : Type 0 where
+  pub w : prime_reduce r.w ≡ prime_add (prime sum.w) (prime_mul (prime coefficient) (prime (get_or words j 0)))
   pub admitted : r.admitted ≡ (sum.admitted && word_below modulus words j)
 
-pub record PrimesAdded (noise values : List ℕ) (j coefficient : ℕ) (sums r : PrimeSums) : Type 0 where
+pub record PrimesAdded (noise values : List ℕ) (j coefficient : ℕ) (sums r : Pair ℕ ℕ) : Type 0 where
   pub u : prime_reduce r.u ≡ prime_add (prime sums.u) (prime_mul (prime coefficient) (prime (get_or noise j 0)))
   pub v : prime_reduce r.v ≡ prime_add (prime sums.v) (prime_mul (prime coefficient) (prime (get_or values j 0)))
   pub admitted : r.admitted ≡ ((sums.admitted && word_below modulus noise j) && word_below modulus values j)
@@ -55,18 +54,18 @@ unfoldable pub primes_sum : List (List (List ℕ)) → Shape → ℕ → List �
 primes_sum keys s x words n = terms_sum (itself prime_ring) (prime_row keys s x) (at primes.elements words) n
 
 -- both sums at the noise end in field 1
-pub record BinarySums (keys : List (List (List ℕ))) (s : Shape) (x : ℕ) (noise values : List ℕ) (n : ℕ) (r : BinaryPair) : Type 0 where
+pub record BinarySums (keys : List (List (List ℕ))) (s : Shape) (x : ℕ) (noise values : List ℕ) (n : ℕ) (r : Pair ℕ Block) : Type 0 where
   pub u : r.u ≡ bits_sum keys s x noise n
   pub v : r.v ≡ blocks_sum keys s x values n
   pub admitted : r.admitted ≡ terms_below 2 noise keys s x n
 
 -- both in field 2, not reduced
-pub record PrimesTotal (keys : List (List (List ℕ))) (s : Shape) (x : ℕ) (noise values : List ℕ) (n : ℕ) (r : PrimeSums) : Type 0 where
+pub record PrimesTotal (keys : List (List (List ℕ))) (s : Shape) (x : ℕ) (noise values : List ℕ) (n : ℕ) (r : Pair ℕ ℕ) : Type 0 where
   pub u : prime_reduce r.u ≡ primes_sum keys s x noise n
   pub v : prime_reduce r.v ≡ primes_sum keys s x values n
   pub admitted : r.admitted ≡ (terms_below modulus noise keys s x n && terms_below modulus values keys s x n)
 
 -- the sum at the scalar end in field 2, not reduced
-pub record PrimeTotal (keys : List (List (List ℕ))) (s : Shape) (x : ℕ) (words : List ℕ) (n : ℕ) (r : PrimeSum) : Type 0 where
-  pub total : prime_reduce r.total ≡ primes_sum keys s x words n
+pub record PrimeTotal (keys : List (List (List ℕ))) (s : Shape) (x : ℕ) (words : List ℕ) (n : ℕ) (r : Single ℕ) : Type 0 where
+  pub w : prime_reduce r.w ≡ primes_sum keys s x words n
   pub admitted : r.admitted ≡ terms_below modulus words keys s x n

@@ -22,19 +22,15 @@ code_keys h = key_expansion (columns_at h.code_key 0)
 abbrev pub shape_of : Layout → Shape
 shape_of f = record { places = 2 ^ f.depth; terms = f.terms; strip = strip (2 ^ f.depth) f.terms }
 
--- the rows of a window, of which so many give a word of u too
-abbrev pub rows_of : Layout → Window → ℕ → WindowRows
-rows_of f w words = record { field = f.field; shape = shape_of f; window = w; u_words = words }
-
--- those that do
-abbrev pub u_rows : WindowRows → WindowRows
-u_rows r = record { field = r.field; shape = r.shape; window = record { first = r.window.first; count = r.u_words }; u_words = r.u_words }
+-- the rows of a window
+abbrev pub rows_of : Layout → Window → WindowRows
+rows_of f w = record { field = f.field; window = w }
 
 -- output k of the window, for a rule of coefficients
-abbrev pub output_at : (F : Field) → (ℕ → NoiseValue F) → List (List (List ℕ)) → WindowRows → List ℕ → ℕ → Value F
-output_at F coefficient keys r w k =
-    output F.scaled (row_of_blocks F.ring coefficient r.shape.places r.shape.terms (term_block_by keys (r.window.first + k))) (at F.elements w)
+abbrev pub output_at : (F : Field) → (ℕ → NoiseValue F) → List (List (List ℕ)) → Shape → WindowRows → List ℕ → ℕ → Value F
+output_at F coefficient keys s r w k =
+    output F.scaled (row_of_blocks F.ring coefficient s.places s.terms (term_block_by keys (r.window.first + k))) (at F.elements w)
 
 -- the window over the front of a buffer
-abbrev pub window_over : (F : Field) → (ℕ → NoiseValue F) → List (List (List ℕ)) → WindowRows → List ℕ → List ℕ → List ℕ
-window_over F coefficient keys r w buffer = over F.elements r.window.count (output_at F coefficient keys r w) buffer
+abbrev pub window_over : (F : Field) → (ℕ → NoiseValue F) → List (List (List ℕ)) → Shape → WindowRows → List ℕ → List ℕ → List ℕ
+window_over F coefficient keys s r w buffer = over F.elements r.window.count (output_at F coefficient keys s r w) buffer

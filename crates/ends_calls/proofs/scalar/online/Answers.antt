@@ -1,8 +1,6 @@
 -- `ends_calls::scalar::online` meets its contract: one law for each return. Assumes nothing.
-use Rattle.std.proofs.Common.{refl, ap}
-use mathlib.Core.Bool.{not}
+use Rattle.std.proofs.Common.{refl}
 use Rattle.answer.proofs.Refusals.{refusal-some}
-use Rattle.window.proofs.Numbers.{no-u}
 use Rattle.ends_calls.proofs.Calls.{scalar-online-fault, scalar-refused, w_fitting, scalar-words, scalar_unfit, scalar-written}
 use Rattle.ends_calls.proofs.scalar.online.Goals as goal
 
@@ -16,15 +14,18 @@ returns-in-Err-check_window c =
 pub overflow_mul-words : goal.overflow_mul-words
 overflow_mul-words c = scalar-words _ _ _ _ _ c.in-Ok.record.accepted c.leaves.ensures c.in_default.ensures refl c.element_width.ensures
 
-pub write_rows-requires-clause-noise_fitting : goal.write_rows-requires-clause-noise_fitting
-write_rows-requires-clause-noise_fitting c = (search no-u, w_fitting _ _ _ _ _ c.in-Ok.record.accepted c.leaves.ensures c.in_default.ensures refl)
+pub write_rows-requires-clause-fitting : goal.write_rows-requires-clause-fitting
+write_rows-requires-clause-fitting c = w_fitting _ _ _ _ _ c.in-Ok.record.accepted c.leaves.ensures c.in_default.ensures refl
 
-pub returns-then-not-write_rows : goal.returns-then-not-write_rows
-returns-then-not-write_rows c =
-    rw (← c.in-Ok.ensures.0) (rw c.refused-then-not-write_rows.ensures
-    (scalar_unfit _ _ _ _ _ c.in-Ok.record.accepted c.leaves.ensures c.in_default.ensures refl c.write_rows.ensures (ap not c.if-not-write_rows.true)))
+pub returns-in-Err-write_rows : goal.returns-in-Err-write_rows
+returns-in-Err-write_rows c =
+    let w = c.in-Err-write_rows.ensures in
+    rw (← c.in-Ok.ensures.0)
+    (rw c.refused-in-Err-write_rows.ensures
+    (scalar_unfit _ _ _ _ _ c.in-Ok.record.accepted c.leaves.ensures c.in_default.ensures refl w.elements_are _ w.told))
 
 pub returns : goal.returns
 returns c =
-    rw (← c.in-Ok.ensures.0) (scalar-written _ _ _ _ _ c.in-Ok.record.accepted c.leaves.ensures c.in_default.ensures refl c.write_rows.ensures (ap not c.if-not-write_rows.false)
-    c.element_width.ensures)
+    let w = c.in_default-write_rows.ensures in
+    rw (← c.in-Ok.ensures.0)
+    (scalar-written _ _ _ _ _ c.in-Ok.record.accepted c.leaves.ensures c.in_default.ensures refl w.elements_are w.told c.element_width.ensures)

@@ -3,11 +3,12 @@
 use mathlib.Core.Path.{◌≡◌}
 use lib.ListN.{length}
 use Rattle.aes128.specs.Inner.Words.{round_keys}
-use Rattle.window.specs.Inner.Written.{Filled}
+use Rattle.window.specs.Inner.Written.{Filled, all_used}
 use Rattle.window.proofs.Filled.{rows_to}
 use Rattle.window_rows.proofs.walk.walk_rows.Given as goal
 
 abbrev pub invariant-loop-k : goal.invariant-loop-k
 invariant-loop-k l =
-    (length l.u_out ≡ length l.initial.u_out) × (length l.v_out ≡ length l.initial.v_out)
-    × Filled (round_keys l.keys) (rows_to l.rows l.k) l.noise l.v l.initial.u_out l.initial.v_out l.passed l.u_out l.v_out
+    (length l.u_out ≡ length l.initial.u_out) × (length l.out ≡ length l.initial.out)
+    × (l.passed ≡ all_used (round_keys l.code.keys.now) l.code.shape (rows_to l.rows l.k) l.vectors)
+    × Filled (round_keys l.code.keys.now) l.code.shape (rows_to l.rows l.k) l.vectors l.initial.u_out l.initial.out l.u_out l.out

@@ -1,7 +1,7 @@
--- `code_places::used::row_below` meets its contract, term by term. Assumes nothing.
+-- `code_places::row::Code::row_below` meets its contract, term by term. Assumes nothing.
 use Rattle.std.proofs.Common.{rules}
 use Rattle.code.proofs.Tested.{terms-none, term_more, term_stop, terms_done}
-use Rattle.code_places.proofs.used.row_below.Goals as goal
+use Rattle.code_places.proofs.row.Code.row_below.Goals as goal
 
 pub loop-i-init : goal.loop-i-init
 loop-i-init c = search (rules, terms-none)

@@ -1,8 +1,8 @@
--- `code_places::used::rows_below` meets its contract, row by row. Assumes nothing.
+-- `code_places::row::Code::rows_below` meets its contract, row by row. Assumes nothing.
 use Rattle.std.proofs.Common.{rules}
 use borrow.Author.Tests.{not-false}
 use Rattle.code.proofs.Tested.{rows_none, row_more, row_stop}
-use Rattle.code_places.proofs.used.rows_below.Goals as goal
+use Rattle.code_places.proofs.row.Code.rows_below.Goals as goal
 
 pub loop-k-init : goal.loop-k-init
 loop-k-init c = search (rules, rows_none)
