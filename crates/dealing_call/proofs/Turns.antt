@@ -82,7 +82,7 @@ module _ (f : Layout) (roots positions values delta b : List ℕ) where
           own : planned_tree t root delta ≡ tree i
           own = rw (made, node) (own-tree (input_from f roots positions values delta [] []) i base at)
 
-          more : first f.field tree (i + 1) ≡ first f.field tree i ++ write_tree t.field t.base (planned_tree t root delta)
+          more : first f.field tree (i + 1) ≡ first f.field tree i ++ write_tree t.layout.field t.base (planned_tree t root delta)
           more = first_more f.field tree i ∙ rw (own, made, T.next)
 
           pub turn_asks : Placed t root delta out
@@ -102,14 +102,14 @@ module _ (f : Layout) (roots positions values delta b : List ℕ) where
                             enough T.ready (i + 1) (omega arith),
                             ap length more,
                             ap (λ x. x.at) made,
-                            length-append (first f.field tree i) (write_tree t.field t.base (planned_tree t root delta)),
+                            length-append (first f.field tree i) (write_tree t.layout.field t.base (planned_tree t root delta)),
                             T.wrote.place,
                             turn_long,
                           );
                     };
               }
 
-          pub turn_next : {after : ℕ} {out₁ : List ℕ} → Wrote out t.at (write_tree t.field t.base (planned_tree t root delta)) after out₁
+          pub turn_next : {after : ℕ} {out₁ : List ℕ} → Wrote out t.at (write_tree t.layout.field t.base (planned_tree t root delta)) after out₁
               → Turn keys out₁ after (t.position + 1) (i + 1)
           turn_next {after} {out₁} w =
               record {
@@ -121,7 +121,7 @@ module _ (f : Layout) (roots positions values delta b : List ℕ) where
                     ∙ sym (base_next f.field tree i);
                 wrote =
                     rw more (wrote_then T.wrote
-                    (subst (λ n. Wrote out n (write_tree t.field t.base (planned_tree t root delta)) after out₁) (ap (λ x. x.at) made) w));
+                    (subst (λ n. Wrote out n (write_tree t.layout.field t.base (planned_tree t root delta)) after out₁) (ap (λ x. x.at) made) w));
               }
 
 -- ---- the head and the trees

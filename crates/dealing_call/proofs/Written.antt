@@ -128,26 +128,26 @@ corrected field s y delta {d} l m c read leaf multiple difference =
 module _ (t : Planned) (root : List (List ℕ)) (delta : List ℕ) where
   -- the bytes before the siblings, and the siblings
   abbrev before : List ℕ
-  before = planned_bytes t (leaf_at (2 ^ t.branch_bits) child (t.depth / t.branch_bits) root t.position) delta
+  before = planned_bytes t (leaf_at (2 ^ t.layout.branch_bits) child (t.layout.depth / t.layout.branch_bits) root t.position) delta
 
   abbrev beside : List ℕ
-  beside = blocks_bytes (siblings (2 ^ t.branch_bits) child (t.depth / t.branch_bits) root t.position)
+  beside = blocks_bytes (siblings (2 ^ t.layout.branch_bits) child (t.layout.depth / t.layout.branch_bits) root t.position)
 
-  tree-bytes : write_tree t.field t.base (planned_tree t root delta) ≡ before ++ beside
+  tree-bytes : write_tree t.layout.field t.base (planned_tree t root delta) ≡ before ++ beside
   unfolding write_tree write_tree_start planned_bytes
-  tree-bytes = ap (λ l. before ++ l) (sym (blocks-bytes (siblings (2 ^ t.branch_bits) child (t.depth / t.branch_bits) root t.position)))
+  tree-bytes = ap (λ l. before ++ l) (sym (blocks-bytes (siblings (2 ^ t.layout.branch_bits) child (t.layout.depth / t.layout.branch_bits) root t.position)))
 
   before_long : length before ≡ tree_start_length t.base t.position
   unfolding write_tree_start correction_words planned_bytes
   before_long =
-      tree-start-long t.field t.base t.position t.value (planned_tree t root delta).correction
-      ((kind_laws t.field).field.elements.length-words _)
+      tree-start-long t.layout.field t.base t.position t.value (planned_tree t root delta).correction
+      ((kind_laws t.layout.field).field.elements.length-words _)
 
-  beside_long : length beside ≡ 16 * sibling_count t.depth t.branch_bits
-  beside_long = siblings-long t.depth t.branch_bits root t.position
+  beside_long : length beside ≡ 16 * sibling_count t.layout.depth t.layout.branch_bits
+  beside_long = siblings-long t.layout.depth t.layout.branch_bits root t.position
 
-  pub tree-long : length (write_tree t.field t.base (planned_tree t root delta))
-      ≡ tree_start_length t.base t.position + 16 * sibling_count t.depth t.branch_bits
+  pub tree-long : length (write_tree t.layout.field t.base (planned_tree t root delta))
+      ≡ tree_start_length t.base t.position + 16 * sibling_count t.layout.depth t.layout.branch_bits
   tree-long = ap length tree-bytes ∙ length-append before beside ∙ ap₂ (λ a b. a + b) before_long beside_long
 
 pub own-tree : (I : Input) (i base at : ℕ) → planned_tree (planned (layout_for I 0) I.positions I.values i base at) (root I i) I.delta ≡ noise_tree I i
@@ -163,13 +163,13 @@ own-tree I i base at =
 
 -- ---- a tree at its place
 
-module _ (t : Planned) (leaf : List (List ℕ)) (delta words : List ℕ) (corrected : words ≡ correction_words t.field leaf t.value delta) where
+module _ (t : Planned) (leaf : List (List ℕ)) (delta words : List ℕ) (corrected : words ≡ correction_words t.layout.field leaf t.value delta) where
   pub planned-room : {out : List ℕ} → Room out t.at (planned_bytes t leaf delta)
-      → Room out t.at (tree_start_bytes t.field (t.position - t.base) t.value words)
+      → Room out t.at (tree_start_bytes t.layout.field (t.position - t.base) t.value words)
   unfolding planned_bytes
   planned-room r = rw corrected r
 
-  pub planned-wrote : {out out₁ : List ℕ} {next : ℕ} → Wrote out t.at (tree_start_bytes t.field (t.position - t.base) t.value words) next out₁
+  pub planned-wrote : {out out₁ : List ℕ} {next : ℕ} → Wrote out t.at (tree_start_bytes t.layout.field (t.position - t.base) t.value words) next out₁
       → Wrote out t.at (planned_bytes t leaf delta) next out₁
   unfolding planned_bytes
   planned-wrote w = rw (← corrected) w
@@ -178,32 +178,32 @@ module _ (t : Planned) (root : List (List ℕ)) (delta : List ℕ) {out : List �
     {f : ℕ} (start : f ≡ tree_start_length t.base t.position) where
   -- the tree as its siblings are written
   abbrev place : Punctured
-  place = record { branch_bits = t.branch_bits; levels = t.depth / t.branch_bits; position = t.position; at = t.at + f }
+  place = record { branch_bits = t.layout.branch_bits; levels = t.layout.depth / t.layout.branch_bits; position = t.position; at = t.at + f }
 
-  tree-end : t.at + f + 16 * sibling_count t.depth t.branch_bits ≤ length out
+  tree-end : t.at + f + 16 * sibling_count t.layout.depth t.layout.branch_bits ≤ length out
   tree-end = omega (arith, P.room.fits, start, tree-long t root delta)
 
   pub siblings_fit : length out < 2 ^ 64 → Fits w64 (t.at + f)
   siblings_fit h = record { fits = omega (arith, tree-end) }
 
-  pub next_fits : {n : ℕ} → (n ≡ sibling_count t.depth t.branch_bits) × (n ≤ 112) → length out < 2 ^ 64 → Fits w64 (t.at + f + 16 * n)
+  pub next_fits : {n : ℕ} → (n ≡ sibling_count t.layout.depth t.layout.branch_bits) × (n ≤ 112) → length out < 2 ^ 64 → Fits w64 (t.at + f + 16 * n)
   next_fits c h = record { fits = omega (arith, tree-end, c.0) }
 
   pub walk-room : IsPunctured place (length out)
   unfolding sibling_count
   walk-room =
-      let h = mul-div-le t.depth t.branch_bits in
+      let h = mul-div-le t.layout.depth t.layout.branch_bits in
       record {
         branch = record { two = P.branch_least; eight = P.branch-most };
         short = omega (arith, h, P.depth);
         room = tree-end;
       }
 
-  module _ (keys : List (List ℕ)) (L : OfChildKeys (2 ^ t.branch_bits) (keys_for keys)) {s : List (List ℕ)} {out₁ : List ℕ}
-      (went : walk s out₁ ≡ walked (2 ^ t.branch_bits) (child_by (keys_for keys)) root place out) where
+  module _ (keys : List (List ℕ)) (L : OfChildKeys (2 ^ t.layout.branch_bits) (keys_for keys)) {s : List (List ℕ)} {out₁ : List ℕ}
+      (went : walk s out₁ ≡ walked (2 ^ t.layout.branch_bits) (child_by (keys_for keys)) root place out) where
     -- the round keys that are lent give the tree's own walk
-    own : walk s out₁ ≡ walked (2 ^ t.branch_bits) child root place out
-    own = went ∙ key_schedules.walks (2 ^ t.branch_bits) (keys_for keys) (pow_pos t.branch_bits) L root place out
+    own : walk s out₁ ≡ walked (2 ^ t.layout.branch_bits) child root place out
+    own = went ∙ key_schedules.walks (2 ^ t.layout.branch_bits) (keys_for keys) (pow_pos t.layout.branch_bits) L root place out
 
     stored : out₁ ≡ sets out (t.at + f) (beside t root delta)
     unfolding walked
@@ -218,9 +218,9 @@ module _ (t : Planned) (root : List (List ℕ)) (delta : List ℕ) {out : List �
         let kept = length-sets out (t.at + f) (beside t root delta) in
         record { fits = omega (arith, tree-end, start, ap length same, before_long t root delta, ap length stored, kept) }
 
-    pub tree-wrote : {n next : ℕ} {out₂ : List ℕ} → (n ≡ sibling_count t.depth t.branch_bits) × (n ≤ 112)
+    pub tree-wrote : {n next : ℕ} {out₂ : List ℕ} → (n ≡ sibling_count t.layout.depth t.layout.branch_bits) × (n ≤ 112)
         → Wrote out₁ t.at (planned_bytes t s delta) next out₂
-        → Wrote out t.at (write_tree t.field t.base (planned_tree t root delta)) (t.at + f + 16 * n) out₂
+        → Wrote out t.at (write_tree t.layout.field t.base (planned_tree t root delta)) (t.at + f + 16 * n) out₂
     tree-wrote c w =
         record {
           place = omega (arith, start, tree-long t root delta, c.0);

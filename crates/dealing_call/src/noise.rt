@@ -13,7 +13,7 @@ ghost use Rattle.dealing_call.specs.Inner.Steps.{correction_words, planned, plan
 use aes_sbox::Tables;
 use dealing_tests::Input;
 use field::{Element, element_at, element_difference, element_scaled, leaf_element};
-use record::{End, sibling_count, tree_start_length, write_head, write_tree_start};
+use record::{End, Layout, sibling_count, tree_start_length, write_head, write_tree_start};
 use tree::Punctured;
 use tree_walk::{TreeCipher, child_keys, columns_at, walk};
 
@@ -28,27 +28,23 @@ fn correction(field: usize, leaf: [[u8; 4]; 4], value: u64, delta: &[u8]) -> Ele
     element_difference(field, element, multiple)
 }
 
-// A tree to be written: field, d, g, position, noise value, one more than the position before, and the place for it.
+// A tree to be written: its record's layout, position, noise value, one more than the position before, and the place for it.
 #[derive(Clone, Copy)]
 pub struct Planned {
-    pub field: usize,
-    pub depth: usize,
-    pub branch_bits: usize,
+    pub layout: Layout,
     pub position: usize,
     pub value: u64,
     pub base: usize,
     pub at: usize,
 }
 
-// Tree i, after positions below `base`, at a place.
+// Tree i, after positions below `base`, at a place. Positions and values lie in a buffer each, as C lends them.
 fn plan(input: &Input, i: usize, base: usize, at: usize) -> Planned
     requires { (i < length input.now.positions.now) × (i < length input.now.values.now) }
     ensures { result ≡ planned input.now.layout input.now.positions.now input.now.values.now i base at }
 {
     Planned {
-        field: input.layout.field,
-        depth: input.layout.depth,
-        branch_bits: input.layout.branch_bits,
+        layout: input.layout,
         position: input.positions[i] as usize,
         value: input.values[i],
         base,
@@ -62,9 +58,9 @@ fn write_planned(leaf: [[u8; 4]; 4], tree: Planned, delta: &[u8], out: &mut [u8]
         × (Room out.old tree.at (planned_bytes tree leaf delta.now)) }
     ensures { Wrote out.old tree.at (planned_bytes tree leaf delta.now) result out.new }
 {
-    let words = correction(tree.field, leaf, tree.value, delta);
+    let words = correction(tree.layout.field, leaf, tree.value, delta);
     let back = tree.position - tree.base;
-    write_tree_start(out, tree.at, tree.field, back, tree.value, words)
+    write_tree_start(out, tree.at, tree.layout.field, back, tree.value, words)
 }
 
 // Writes a tree at its place; the place after it. The walk to the leaf writes the siblings.
@@ -75,16 +71,16 @@ fn write_tree(
     delta: &[u8],
     out: &mut [u8],
 ) -> usize
-    requires child_keys { OfChildKeys (2 ^ tree.branch_bits) (keys_for cipher.keys.now) }
+    requires child_keys { OfChildKeys (2 ^ tree.layout.branch_bits) (keys_for cipher.keys.now) }
     requires placed { Placed tree root delta.now out.old }
     ensures { Wrote out.old tree.at
-        (write_tree tree.field tree.base (planned_tree tree root delta.now)) result out.new }
+        (write_tree tree.layout.field tree.base (planned_tree tree root delta.now)) result out.new }
 {
     let siblings = tree.at + tree_start_length(tree.base, tree.position);
-    let next = siblings + 16 * sibling_count(tree.depth, tree.branch_bits);
+    let next = siblings + 16 * sibling_count(tree.layout.depth, tree.layout.branch_bits);
     let place = Punctured {
-        branch_bits: tree.branch_bits,
-        levels: tree.depth / tree.branch_bits,
+        branch_bits: tree.layout.branch_bits,
+        levels: tree.layout.depth / tree.layout.branch_bits,
         position: tree.position,
         at: siblings,
     };
@@ -93,7 +89,7 @@ fn write_tree(
     next
 }
 
-// Writes the trees after the head; the place after them.
+// Writes the trees after the head; the place after them. Place and base are carried: each tree's follow from the one before.
 fn write_trees(out: &mut [u8], input: &Input) -> usize
     requires { TreesPlaced input.now.layout input.now.roots.now input.now.positions.now input.now.values.now
         input.now.delta.now out.old }

@@ -56,8 +56,14 @@ impl NoiseRecord<'_> {
                 position: tree.position,
                 at: tree.siblings,
             };
-            let correction = [tree.correction.low, tree.correction.high];
-            add_punctured(cipher, layout.field, punctured, self.source, correction, v);
+            add_punctured(
+                cipher,
+                layout.field,
+                punctured,
+                self.source,
+                tree.correction,
+                v,
+            );
         }
     }
 

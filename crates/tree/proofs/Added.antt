@@ -1,4 +1,4 @@
--- Laws of elements added into a buffer: each element, the length, and the front and the rest of the buffer apart.
+-- Laws of elements added into a buffer: each element, and the front and the rest of the buffer apart.
 use mathlib.Core.Path.{◌≡◌, refl, ap, ap₂, sym, ◌∙◌}
 use mathlib.Core.List.{List, [], ◌∷◌, ◌++◌}
 use Prim.Native.Nat.{ℕ, zero, suc, ◌+◌, ◌*◌, ◌≤◌, ◌<◌}
@@ -8,7 +8,7 @@ use lib.ListN.{length, take, drop, length-drop}
 use lib.Seq.{take-take, drop-drop, length-take-le}
 use Rattle.algebra.specs.Coding.{Coding, CodingLaws, at}
 use Rattle.algebra.specs.Field.{Field, FieldLaws, Value}
-use Rattle.algebra.proofs.Coding.{length-flat, flat_cong, flat-add, read_local}
+use Rattle.algebra.proofs.Coding.{flat_cong, flat-add, read_local}
 use Rattle.tree.specs.Added.{added}
 
 -- what lies within the front n is not cut by it
@@ -40,10 +40,6 @@ module _ {E : Type 0} (C : Coding E) (L : CodingLaws C) where
       (ap (take C.width) (drop-drop (j * C.width) (m * C.width) l ∙ ap (λ k. drop k l) s))
 
 module _ (F : Field) (laws : FieldLaws F) where
-  pub length-added : (n : ℕ) (f : ℕ → Value F) (l : List ℕ) → length (added F n f l) ≡ n * F.elements.width
-  unfolding added
-  length-added n f l = length-flat F.elements laws.elements n (λ j. F.scaled.group.add (at F.elements l j) (f j))
-
   pub added_cong : (n : ℕ) (f g : ℕ → Value F) (l : List ℕ) → ((j : ℕ) → j < n → f j ≡ g j) → added F n f l ≡ added F n g l
   unfolding added
   added_cong n f g l e =

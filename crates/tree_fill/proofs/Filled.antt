@@ -9,7 +9,6 @@ use native.Mathlib.Nat.{one-mul}
 use native.Mathlib.Omega.{arith}
 use lib.ListN.{length, take, drop}
 use borrow.Author.Tests.{eq-eqb}
-use borrow.Rule.Slice.PartMut.{mid_of, put_mid}
 use Rattle.algebra.specs.Field.{Field, FieldLaws, Value}
 use Rattle.field.specs.Kind.{kind_of}
 use Rattle.field.proofs.BothKinds.{kind_laws}
@@ -24,7 +23,7 @@ use Rattle.tree_fill.specs.Inner.Ranges.{half_from, first_half, second_half, IsR
 use Rattle.tree_fill.specs.declared.range.Path.{Path}
 use Rattle.tree_fill.specs.declared.range.Halves.{Halves}
 use Rattle.tree.proofs.Laws.{leaf-none}
-use Rattle.tree_sums.proofs.Halves.{front_length, second, second-length, filled, added-same}
+use Rattle.tree_sums.proofs.Halves.{front_length, back_length, filled, added-same}
 use Rattle.tree_sums.proofs.Ranges.{size-all, one_twice}
 use Rattle.tree_sums.proofs.Elements.{all-element}
 use Rattle.tree_sums.proofs.Couples.{from_halves, both_below}
@@ -32,78 +31,70 @@ use Rattle.tree_fill.proofs.Ranges.{size_is, size_none, two-some, half_twice, ha
 use Rattle.tree_fill.proofs.Ranges.{in_cases, held-size, holds-first, holds-second}
 use Rattle.tree_fill.proofs.Elements.{back-element, run-one, run-back, path-above, path-below, path-first, path-second, path-back}
 
--- ---- lengths
+-- ---- lengths: of a buffer, m words, and of its halves, k words
 
-module _ {X : Type 0} (ρ : Range) (xs : List X) (w : ℕ) (e : length xs ≡ size_of ρ * w) where
-  pub leaf-length : ρ.levels ≡ 0 → IsRange ρ → length xs ≡ w
+module _ (ρ : Range) (m w : ℕ) (e : m ≡ size_of ρ * w) where
+  pub leaf-length : ρ.levels ≡ 0 → IsRange ρ → m ≡ w
   leaf-length h ok = e ∙ ap (λ n. n * w) (size_none ρ h ok) ∙ one-mul w
 
-  module _ (h : ρ.levels ≢ 0) where
-    pub one-front : ρ.bits ≡ 1 → length (take (length xs / 2) xs) ≡ size_of (of_child ρ) * w
-    one-front b = front_length xs (size_of ρ) _ w e (one_twice ρ h b)
+  module _ (h : ρ.levels ≢ 0) {k : ℕ} where
+    pub one-front : ρ.bits ≡ 1 → k ≡ m / 2 → k ≡ size_of (of_child ρ) * w
+    one-front b = front_length m (size_of ρ) _ w e (one_twice ρ h b)
 
-    pub one-back : ρ.bits ≡ 1 → (l : List X) → length l ≡ length xs
-        → length (mid_of (length xs / 2) (length l - length xs / 2) l) ≡ size_of (of_child ρ) * w
-    one-back b = second-length xs (size_of ρ) _ w e (one_twice ρ h b)
+    pub one-back : ρ.bits ≡ 1 → k + m / 2 ≡ m → k ≡ size_of (of_child ρ) * w
+    one-back b = back_length m (size_of ρ) _ w e (one_twice ρ h b)
 
-    pub half_front : (c : ℕ) → ρ.bits ≢ 0 → length (take (length xs / 2) xs) ≡ size_of (half_from ρ c) * w
-    half_front c b = front_length xs (size_of ρ) _ w e (half_twice ρ h c b)
+    pub half_front : (c : ℕ) → ρ.bits ≢ 0 → k ≡ m / 2 → k ≡ size_of (half_from ρ c) * w
+    half_front c b = front_length m (size_of ρ) _ w e (half_twice ρ h c b)
 
-    pub half_back : (c : ℕ) → ρ.bits ≢ 0 → (l : List X) → length l ≡ length xs
-        → length (mid_of (length xs / 2) (length l - length xs / 2) l) ≡ size_of (half_from ρ c) * w
-    half_back c b = second-length xs (size_of ρ) _ w e (half_twice ρ h c b)
+    pub half_back : (c : ℕ) → ρ.bits ≢ 0 → k + m / 2 ≡ m → k ≡ size_of (half_from ρ c) * w
+    half_back c b = back_length m (size_of ρ) _ w e (half_twice ρ h c b)
 
-pub all-length : {X : Type 0} (g levels w : ℕ) (xs : List X) → length xs ≡ (2 ^ g) ^ levels * w → length xs ≡ size_of (all_children g levels) * w
-all-length g levels w xs e = e ∙ ap (λ n. n * w) (sym (size-all g levels))
+pub all-length : (g levels w m : ℕ) → m ≡ (2 ^ g) ^ levels * w → m ≡ size_of (all_children g levels) * w
+all-length g levels w m e = e ∙ ap (λ n. n * w) (sym (size-all g levels))
 
-module _ {X : Type 0} (ρ : Range) (at n w : ℕ) (ok : IsRun ρ at n) (xs : List X) where
-  pub sibling_length : ρ.bits ≡ 0 → length xs ≡ size_of ρ * w → length xs ≡ size_of (of_child ρ) * w
-  sibling_length b e = e ∙ ap (λ m. m * w) (sibling_size ρ at n ok b)
+module _ (ρ : Range) (at n w : ℕ) (ok : IsRun ρ at n) (m : ℕ) (e : m ≡ size_of ρ * w) where
+  pub sibling_length : ρ.bits ≡ 0 → m ≡ size_of (of_child ρ) * w
+  sibling_length b = e ∙ ap (λ m. m * w) (sibling_size ρ at n ok b)
 
-  pub run_half_front : (c : ℕ) → ρ.bits ≢ 0 → length xs ≡ size_of ρ * w → length (take (length xs / 2) xs) ≡ size_of (half_from ρ c) * w
-  run_half_front c b e = half_front ρ xs w e ok.some c b
+  module _ {k : ℕ} (c : ℕ) (b : ρ.bits ≢ 0) where
+    pub run_half_front : k ≡ m / 2 → k ≡ size_of (half_from ρ c) * w
+    run_half_front = half_front ρ m w e ok.some c b
 
-  pub run_half_back : (c : ℕ) → ρ.bits ≢ 0 → length xs ≡ size_of ρ * w → (l : List X) → length l ≡ length xs
-      → length (mid_of (length xs / 2) (length l - length xs / 2) l) ≡ size_of (half_from ρ c) * w
-  run_half_back c b e = half_back ρ xs w e ok.some c b
+    pub run_half_back : k + m / 2 ≡ m → k ≡ size_of (half_from ρ c) * w
+    run_half_back = half_back ρ m w e ok.some c b
 
-module _ {X : Type 0} (path : Path) (n : ℕ) (ok : IsPath path n) (h : path.range.levels ≢ 0) {half : ℕ} (eh : half ≡ size_of (first_half path.range))
-    (xs : List X) (w : ℕ) (e : length xs ≡ size_of path.range * w) (c s : ℕ) {r : Path} (er : r ≡ path_in path c s) where
+module _ (path : Path) (n : ℕ) (ok : IsPath path n) (h : path.range.levels ≢ 0) {half : ℕ} (eh : half ≡ size_of (first_half path.range))
+    (m w : ℕ) (e : m ≡ size_of path.range * w) (c s : ℕ) {r : Path} (er : r ≡ path_in path c s) where
   held_twice : size_of path.range ≡ size_of r.range + size_of r.range
   held_twice =
       half_twice path.range h path.range.from (two-some path.range ok.range)
       ∙ ap (λ m. m + m) (sym eh ∙ sym (held-size path n ok h eh c s er))
 
-  held-front : length (take (length xs / 2) xs) ≡ size_of r.range * w
-  held-front = front_length xs (size_of path.range) _ w e held_twice
+  held-front : {k : ℕ} → k ≡ m / 2 → k ≡ size_of r.range * w
+  held-front = front_length m (size_of path.range) _ w e held_twice
 
-  held_back : (l : List X) → length l ≡ length xs → length (mid_of (length xs / 2) (length l - length xs / 2) l) ≡ size_of r.range * w
-  held_back = second-length xs (size_of path.range) _ w e held_twice
+  held_back : {k : ℕ} → k + m / 2 ≡ m → k ≡ size_of r.range * w
+  held_back = back_length m (size_of path.range) _ w e held_twice
 
-module _ {X : Type 0} (path : Path) (n : ℕ) (ok : IsPath path n) (h : path.range.levels ≢ 0) (xs : List X) (w : ℕ)
-    (e : length xs ≡ size_of path.range * w) (r : Halves) (parts : AreHalves path r) where
-  pub first-front : r.lower ≡ true → length (take (length xs / 2) xs) ≡ size_of r.below.range * w
-  first-front t = held-front path n ok h refl xs w e path.range.from path.position (holds-first path parts t).on
+module _ (path : Path) (n : ℕ) (ok : IsPath path n) (h : path.range.levels ≢ 0) (m w : ℕ) (e : m ≡ size_of path.range * w)
+    (r : Halves) (parts : AreHalves path r) {k : ℕ} where
+  pub first-front : r.lower ≡ true → k ≡ m / 2 → k ≡ size_of r.below.range * w
+  first-front t = held-front path n ok h refl m w e path.range.from path.position (holds-first path parts t).on
 
-  pub first_back : r.lower ≡ true → (l : List X) → length l ≡ length xs
-      → length (mid_of (length xs / 2) (length l - length xs / 2) l) ≡ size_of r.beside * w
-  first_back t = rw (holds-first path parts t).run (half_back path.range xs w e h _ (two-some path.range ok.range))
+  pub first_back : r.lower ≡ true → k + m / 2 ≡ m → k ≡ size_of r.beside * w
+  first_back t = rw (holds-first path parts t).run (half_back path.range m w e h _ (two-some path.range ok.range))
 
-  pub second-front : r.lower ≡ false → length (take (length xs / 2) xs) ≡ size_of r.beside * w
-  second-front t = rw (holds-second path parts t).run (half_front path.range xs w e h _ (two-some path.range ok.range))
+  pub second-front : r.lower ≡ false → k ≡ m / 2 → k ≡ size_of r.beside * w
+  second-front t = rw (holds-second path parts t).run (half_front path.range m w e h _ (two-some path.range ok.range))
 
-  pub second_back : r.lower ≡ false → (l : List X) → length l ≡ length xs
-      → length (mid_of (length xs / 2) (length l - length xs / 2) l) ≡ size_of r.below.range * w
-  second_back t = held_back path n ok h refl xs w e (path.range.from + 2 ^ (path.range.bits - 1)) _ (holds-second path parts t).on
+  pub second_back : r.lower ≡ false → k + m / 2 ≡ m → k ≡ size_of r.below.range * w
+  second_back t = held_back path n ok h refl m w e (path.range.from + 2 ^ (path.range.bits - 1)) _ (holds-second path parts t).on
 
 pub run-falls : (ρ : Range) (at n c : ℕ) {t : ℕ} → IsRun ρ at n → ρ.bits ≢ 0 → left_of ρ ≡ t → left_of (half_from ρ c) < t
 run-falls ρ at n c ok b l = half_falls ρ ok.some c b l
 
 -- ---- ranges
-
--- a buffer when its halves are back as ys and zs
-abbrev Both : List ℕ → List ℕ → List ℕ → List ℕ
-Both xs ys zs = put_mid (length xs / 2) (length (ys ++ drop (length xs / 2) xs) - length xs / 2) (ys ++ drop (length xs / 2) xs) zs
 
 module _ (field : ℕ) (child : ℕ → List (List ℕ) → List (List ℕ)) where
   abbrev F : Field
@@ -128,25 +119,27 @@ module _ (field : ℕ) (child : ℕ → List (List ℕ) → List (List ℕ)) whe
 
     module _ (h : ρ.levels ≢ 0) (e : length xs ≡ size_of ρ * F.elements.width) where
       -- by two children
-      pub filled-children : {x y : List (List ℕ)} {ys zs : List ℕ} → IsRange ρ → ρ.bits ≡ 1 → x ≡ child ρ.from s → y ≡ child (ρ.from + 1) s
-          → ys ≡ range_added field child (of_child ρ) x (take (length xs / 2) xs)
-          → zs ≡ range_added field child (of_child ρ) y (second (length xs / 2) xs ys) → Both xs ys zs ≡ range_added field child ρ s xs
-      filled-children {x} {y} ok b ex ey el eh =
+      pub filled-children : {x y : List (List ℕ)} {xs₁ xs₂ ys zs : List ℕ} → IsRange ρ → ρ.bits ≡ 1 → x ≡ child ρ.from s → y ≡ child (ρ.from + 1) s
+          → xs₁ ≡ take (length xs / 2) xs → xs₂ ≡ drop (length xs / 2) xs
+          → ys ≡ range_added field child (of_child ρ) x xs₁
+          → zs ≡ range_added field child (of_child ρ) y xs₂ → ys ++ zs ≡ range_added field child ρ s xs
+      filled-children {x} {y} ok b ex ey e₁ e₂ el eh =
           both_below field child ρ s xs h ok b ex ey
-          (from_halves field child (of_child ρ) x y xs (e ∙ ap (λ n. n * F.elements.width) (one_twice ρ h b)) el eh)
+          (from_halves field child (of_child ρ) x y xs (e ∙ ap (λ n. n * F.elements.width) (one_twice ρ h b)) (rw e₁ at el) (rw e₂ at eh))
 
       -- by half as many children each
-      pub filled_halves : {p : ℕ} {ys zs : List ℕ} → IsRange ρ → p ≡ 2 ^ (ρ.bits - 1)
-          → ys ≡ range_added field child (first_half ρ) s (take (length xs / 2) xs)
-          → zs ≡ range_added field child (half_from ρ (ρ.from + p)) s (second (length xs / 2) xs ys) → Both xs ys zs ≡ range_added field child ρ s xs
+      pub filled_halves : {p : ℕ} {xs₁ xs₂ ys zs : List ℕ} → IsRange ρ → p ≡ 2 ^ (ρ.bits - 1)
+          → xs₁ ≡ take (length xs / 2) xs → xs₂ ≡ drop (length xs / 2) xs
+          → ys ≡ range_added field child (first_half ρ) s xs₁
+          → zs ≡ range_added field child (half_from ρ (ρ.from + p)) s xs₂ → ys ++ zs ≡ range_added field child ρ s xs
       unfolding range_element left_of
-      filled_halves {p} {ys} ok q ey ez =
+      filled_halves {p} ok q e₁ e₂ ey ez =
           filled F laws (size_of ρ) (size_of (first_half ρ)) (range_element leaf child ρ s) (range_element leaf child (first_half ρ) s)
           (range_element leaf child (second_half ρ) s) xs e (half_twice ρ h ρ.from (two-some ρ ok))
           (λ j l. refl)
           (λ j l. back-element leaf child s ρ h j)
-          ey
-          (ez ∙ ap (λ n. added F (size_of (first_half ρ)) (range_element leaf child (half_from ρ (ρ.from + n)) s) (second (length xs / 2) xs ys)) q)
+          (rw e₁ at ey)
+          ((rw e₂ at ez) ∙ ap (λ n. added F (size_of (first_half ρ)) (range_element leaf child (half_from ρ (ρ.from + n)) s) (drop (length xs / 2) xs)) q)
 
   -- all children of s
   pub filled-all : (g levels : ℕ) (s : List (List ℕ)) (xs : List ℕ) {x : List (List ℕ)} {ys : List ℕ} → x ≡ s
@@ -195,17 +188,18 @@ module _ (field : ℕ) (child : ℕ → List (List ℕ) → List (List ℕ)) whe
         one : Range
         one = of_child ρ
 
-    pub filled_runs : {p : ℕ} {ys zs : List ℕ} → ρ.bits ≢ 0 → length xs ≡ size_of ρ * F.elements.width → p ≡ 2 ^ (ρ.bits - 1)
-        → ys ≡ run_added field child (first_half ρ) bytes at (take (length xs / 2) xs)
-        → zs ≡ run_added field child (half_from ρ (ρ.from + p)) bytes at (second (length xs / 2) xs ys) → Both xs ys zs ≡ run_added field child ρ bytes at xs
+    pub filled_runs : {p : ℕ} {xs₁ xs₂ ys zs : List ℕ} → ρ.bits ≢ 0 → length xs ≡ size_of ρ * F.elements.width → p ≡ 2 ^ (ρ.bits - 1)
+        → xs₁ ≡ take (length xs / 2) xs → xs₂ ≡ drop (length xs / 2) xs
+        → ys ≡ run_added field child (first_half ρ) bytes at xs₁
+        → zs ≡ run_added field child (half_from ρ (ρ.from + p)) bytes at xs₂ → ys ++ zs ≡ run_added field child ρ bytes at xs
     unfolding run_element left_of
-    filled_runs {p} {ys} b e q ey ez =
+    filled_runs {p} b e q e₁ e₂ ey ez =
         filled F laws (size_of ρ) (size_of (first_half ρ)) (run_element leaf child ρ bytes at) (run_element leaf child (first_half ρ) bytes at)
         (run_element leaf child (second_half ρ) bytes at) xs e (half_twice ρ ok.some ρ.from b)
         (λ j l. refl)
         (λ j l. run-back leaf child bytes at ρ ok.some j)
-        ey
-        (ez ∙ ap (λ m. added F (size_of (first_half ρ)) (run_element leaf child (half_from ρ (ρ.from + m)) bytes at) (second (length xs / 2) xs ys)) q)
+        (rw e₁ at ey)
+        ((rw e₂ at ez) ∙ ap (λ m. added F (size_of (first_half ρ)) (run_element leaf child (half_from ρ (ρ.from + m)) bytes at) (drop (length xs / 2) xs)) q)
 
   -- ---- ranges that hold a path
 
@@ -260,8 +254,8 @@ module _ (field : ℕ) (child : ℕ → List (List ℕ) → List (List ℕ)) whe
           → ((j : ℕ) → j < 2 ^ (ρ.bits - 1) * below ρ → here s j ≡ low j)
           → ((j : ℕ) → j < 2 ^ (ρ.bits - 1) * below ρ → here s (2 ^ (ρ.bits - 1) * below ρ + j) ≡ high j)
           → ys ≡ added F half low (take (length xs / 2) xs)
-          → zs ≡ added F half high (second (length xs / 2) xs ys)
-          → Both xs ys zs ≡ path_added field child path bytes words xs
+          → zs ≡ added F half high (drop (length xs / 2) xs)
+          → ys ++ zs ≡ path_added field child path bytes words xs
       unfolding here
       both s low high es hl hh ey ez =
           filled F laws (size_of ρ) half (here s) low high xs e twice_half
@@ -284,8 +278,8 @@ module _ (field : ℕ) (child : ℕ → List (List ℕ) → List (List ℕ)) whe
       abbrev Low : (m : ℕ) → (ℕ → Value F) → List ℕ
       Low m f = added F m f (take (length xs / 2) xs)
 
-      abbrev High : (m : ℕ) → (ℕ → Value F) → List ℕ → List ℕ
-      High m f ys = added F m f (second (length xs / 2) xs ys)
+      abbrev High : (m : ℕ) → (ℕ → Value F) → List ℕ
+      High m f = added F m f (drop (length xs / 2) xs)
 
       abbrev Whole : List ℕ
       Whole = path_added field child path bytes words xs
@@ -294,9 +288,9 @@ module _ (field : ℕ) (child : ℕ → List (List ℕ) → List (List ℕ)) whe
       abbrev Above : ℕ → ℕ → Value F
       Above c = by_run (ρ.from + (c - 1))
 
-      above-words : (ys : List ℕ) {zs : List ℕ} → zs ≡ High (size_of (half_from ρ (ρ.from + (p - 1)))) (Above p) ys
-          → zs ≡ High half (Above (2 ^ (ρ.bits - 1))) ys
-      above-words ys ez = ez ∙ ap₂ (λ m c. High m (Above c) ys) (from_half (ρ.from + (p - 1))) ep
+      above-words : {zs : List ℕ} → zs ≡ High (size_of (half_from ρ (ρ.from + (p - 1)))) (Above p)
+          → zs ≡ High half (Above (2 ^ (ρ.bits - 1)))
+      above-words ez = ez ∙ ap₂ (λ m c. High m (Above c)) (from_half (ρ.from + (p - 1))) ep
 
       above-elements : path.position < half → (j : ℕ) → j < 2 ^ (ρ.bits - 1) * below ρ
           → here path.position (2 ^ (ρ.bits - 1) * below ρ + j) ≡ Above (2 ^ (ρ.bits - 1)) j
@@ -306,24 +300,24 @@ module _ (field : ℕ) (child : ℕ → List (List ℕ) → List (List ℕ)) whe
 
       filled-first : {next : ℕ} {ys zs : List ℕ} → path.position < half → ρ.bits ≡ 1 → next ≡ path.at + 16 * (child_count ρ - 1)
           → ys ≡ Low (size_of one) (in_child next path.position)
-          → zs ≡ High (size_of (half_from ρ (ρ.from + (p - 1)))) (Above p) ys → Both xs ys zs ≡ Whole
+          → zs ≡ High (size_of (half_from ρ (ρ.from + (p - 1)))) (Above p) → ys ++ zs ≡ Whole
       unfolding here
       filled-first {ys = ys} l b f ey ez =
           both path.position (in_child (path.at + 16 * (child_count ρ - 1)) path.position) (Above (2 ^ (ρ.bits - 1))) refl
           (λ j m. path-first leaf child bytes correction path.at ρ ok.range h path.position j b (omega (arith, product)) m)
           (above-elements l)
           (ey ∙ ap₂ (λ m a. Low m (in_child a path.position)) (one_half b) f)
-          (above-words ys ez)
+          (above-words ez)
 
       filled-front : {ys zs : List ℕ} → path.position < half → ys ≡ Low (size_of (first_half ρ)) (in_half ρ.from path.position)
-          → zs ≡ High (size_of (half_from ρ (ρ.from + (p - 1)))) (Above p) ys → Both xs ys zs ≡ Whole
+          → zs ≡ High (size_of (half_from ρ (ρ.from + (p - 1)))) (Above p) → ys ++ zs ≡ Whole
       unfolding here path_element
       filled-front {ys} l ey ez =
           both path.position (in_half ρ.from path.position) (Above (2 ^ (ρ.bits - 1))) refl
           (λ j m. refl)
           (above-elements l)
           (ey ∙ ap (λ m. Low m (in_half ρ.from path.position)) (from_half ρ.from))
-          (above-words ys ez)
+          (above-words ez)
 
       -- the position lies in the second half
       abbrev rest : ℕ
@@ -344,56 +338,56 @@ module _ (field : ℕ) (child : ℕ → List (List ℕ) → List (List ℕ)) whe
       below-elements l j m = path-below leaf child bytes correction path.at ρ ok.range h rest j (rest_below l) m
 
       filled-second : {next : ℕ} {ys zs : List ℕ} → half ≤ path.position → ρ.bits ≡ 1 → next ≡ path.at + 16 * (child_count ρ - 1)
-          → ys ≡ Low (size_of (first_half ρ)) (by_run ρ.from) → zs ≡ High (size_of one) (in_child next rest) ys → Both xs ys zs ≡ Whole
+          → ys ≡ Low (size_of (first_half ρ)) (by_run ρ.from) → zs ≡ High (size_of one) (in_child next rest) → ys ++ zs ≡ Whole
       unfolding here
       filled-second {ys = ys} l b f ey ez =
           both (2 ^ (ρ.bits - 1) * below ρ + rest) (by_run ρ.from) (in_child (path.at + 16 * (child_count ρ - 1)) rest) (position l)
           (below-elements l)
           (λ j m. path-second leaf child bytes correction path.at ρ ok.range h rest j b (rest_below l) m)
           (below-words ey)
-          (ez ∙ ap₂ (λ m a. High m (in_child a rest) ys) (one_half b) f)
+          (ez ∙ ap₂ (λ m a. High m (in_child a rest)) (one_half b) f)
 
       filled-back : {ys zs : List ℕ} → half ≤ path.position → ys ≡ Low (size_of (first_half ρ)) (by_run ρ.from)
-          → zs ≡ High (size_of (half_from ρ (ρ.from + p))) (in_half (ρ.from + p) rest) ys → Both xs ys zs ≡ Whole
+          → zs ≡ High (size_of (half_from ρ (ρ.from + p))) (in_half (ρ.from + p) rest) → ys ++ zs ≡ Whole
       unfolding here
       filled-back {ys} l ey ez =
           both (2 ^ (ρ.bits - 1) * below ρ + rest) (by_run ρ.from) (in_half (ρ.from + 2 ^ (ρ.bits - 1)) rest) (position l)
           (below-elements l)
           (λ j m. path-back leaf child bytes correction path.at ρ ok.range h rest j)
           (below-words ey)
-          (ez ∙ ap₂ (λ m c. High m (in_half (ρ.from + c) rest) ys) (from_half (ρ.from + p)) ep)
+          (ez ∙ ap₂ (λ m c. High m (in_half (ρ.from + c) rest)) (from_half (ρ.from + p)) ep)
 
       -- the half that holds the path, as the path that goes on
       filled-low : {r : Path} {ys zs : List ℕ} → path.position < half → r ≡ path_in path ρ.from path.position
           → ys ≡ Low (size_of r.range) (path_element leaf child r bytes correction)
-          → zs ≡ High (size_of (half_from ρ (ρ.from + (p - 1)))) (Above p) ys → Both xs ys zs ≡ Whole
+          → zs ≡ High (size_of (half_from ρ (ρ.from + (p - 1)))) (Above p) → ys ++ zs ≡ Whole
       filled-low {ys = ys} {zs} l er ey ez =
           in_cases path ρ.from path.position
-          (λ x. ys ≡ Low (size_of x.range) (path_element leaf child x bytes correction) → Both xs ys zs ≡ Whole)
+          (λ x. ys ≡ Low (size_of x.range) (path_element leaf child x bytes correction) → ys ++ zs ≡ Whole)
           (λ b k. filled-first l b refl k ez)
           (λ b k. filled-front l k ez)
           (rw er at ey)
 
       filled-high : {r : Path} {ys zs : List ℕ} → half ≤ path.position → r ≡ path_in path (ρ.from + p) rest
           → ys ≡ Low (size_of (first_half ρ)) (by_run ρ.from)
-          → zs ≡ High (size_of r.range) (path_element leaf child r bytes correction) ys → Both xs ys zs ≡ Whole
+          → zs ≡ High (size_of r.range) (path_element leaf child r bytes correction) → ys ++ zs ≡ Whole
       filled-high {ys = ys} {zs} l er ey ez =
           in_cases path (ρ.from + p) rest
-          (λ x. zs ≡ High (size_of x.range) (path_element leaf child x bytes correction) ys → Both xs ys zs ≡ Whole)
+          (λ x. zs ≡ High (size_of x.range) (path_element leaf child x bytes correction) → ys ++ zs ≡ Whole)
           (λ b k. filled-second l b refl ey k)
           (λ b k. filled-back l ey k)
           (rw er at ez)
 
     module _ (h : path.range.levels ≢ 0) (e : length xs ≡ size_of path.range * F.elements.width) (r : Halves) (parts : AreHalves path r)
-        {ys zs : List ℕ} where
-      pub filled-first-holds : r.lower ≡ true → ys ≡ path_added field child r.below bytes words (take (length xs / 2) xs)
-          → zs ≡ run_added field child r.beside bytes path.at (second (length xs / 2) xs ys) → Both xs ys zs ≡ path_added field child path bytes words xs
+        {xs₁ xs₂ ys zs : List ℕ} (e₁ : xs₁ ≡ take (length xs / 2) xs) (e₂ : xs₂ ≡ drop (length xs / 2) xs) where
+      pub filled-first-holds : r.lower ≡ true → ys ≡ path_added field child r.below bytes words xs₁
+          → zs ≡ run_added field child r.beside bytes path.at xs₂ → ys ++ zs ≡ path_added field child path bytes words xs
       filled-first-holds t ey ez =
           let a = holds-first path parts t in
-          filled-low h e refl refl a.inside a.on ey (rw a.run at ez)
+          filled-low h e refl refl a.inside a.on (rw e₁ at ey) (rw (a.run, e₂) at ez)
 
-      pub filled-second-holds : r.lower ≡ false → ys ≡ run_added field child r.beside bytes path.at (take (length xs / 2) xs)
-          → zs ≡ path_added field child r.below bytes words (second (length xs / 2) xs ys) → Both xs ys zs ≡ path_added field child path bytes words xs
+      pub filled-second-holds : r.lower ≡ false → ys ≡ run_added field child r.beside bytes path.at xs₁
+          → zs ≡ path_added field child r.below bytes words xs₂ → ys ++ zs ≡ path_added field child path bytes words xs
       filled-second-holds t ey ez =
           let a = holds-second path parts t in
-          filled-high h e refl refl a.inside a.on (rw a.run at ey) ez
+          filled-high h e refl refl a.inside a.on (rw (a.run, e₁) at ey) (rw e₂ at ez)

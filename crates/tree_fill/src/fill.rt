@@ -1,5 +1,6 @@
 // Leaves added into words, in either field: a tree by the two halves of its words, each from the middle on.
-ghost use Rattle.std.specs.Prelude.{◌≡◌, ◌*◌, ◌^◌, ◌<◌, length};
+// Cipher and field are lent apart: walks take a cipher and no field, `add_leaf` and `add_element` a field and no cipher.
+ghost use Rattle.std.specs.Prelude.{[], ◌∷◌, ◌≡◌, ◌*◌, ◌^◌, ◌<◌, length};
 ghost use Rattle.field.specs.Kind.{kind_of, element_words};
 ghost use Rattle.tree.specs.Child.{child_by};
 ghost use Rattle.tree.specs.Inner.Keys.{keys_for};
@@ -9,10 +10,10 @@ ghost use Rattle.tree.specs.Inner.Branches.{IsBranch, IsPunctured};
 ghost use Rattle.tree_sums.specs.Inner.Ranges.{child_under, size_of, IsRange, range_added};
 ghost use Rattle.tree_fill.specs.Inner.Ranges.{IsRun, IsPath, run_added, path_added};
 
-use crate::range::{Path, parted};
-use field::Block;
+use crate::range::{Path, all_children, half_from, parted};
+use field::{Block, Element};
 use tree::Punctured;
-use tree_sums::{Range, add_both, add_bottom, add_leaf, add_words};
+use tree_sums::{Range, add_both, add_bottom, add_element, add_leaf};
 use tree_walk::{TreeCipher, node_at, power};
 
 // Adds the leaves below a range of the children of s to the elements of acc.
@@ -30,33 +31,20 @@ fn add_range(cipher: TreeCipher, field: usize, range: Range, s: Block, acc: &mut
         add_bottom(cipher, field, bits, from, s, acc);
     } else if bits == 1 {
         let both = cipher.children(from, s);
-        if levels == 3 {
-            if branch_bits == 1 {
-                add_both(cipher, field, both, acc);
-                return;
-            }
+        if levels == 3 && branch_bits == 1 {
+            add_both(cipher, field, both, acc);
+            return;
         }
-        let all = Range {
-            branch_bits,
-            levels: levels - 1,
-            bits: branch_bits,
-            from: 0,
-        };
-        let mid = acc.len() / 2;
-        add_range(cipher, field, all, both.one, &mut acc[..mid]);
-        add_range(cipher, field, all, both.other, &mut acc[mid..]);
+        let all = all_children(branch_bits, levels - 1);
+        let (first, second) = acc.split_at_mut(acc.len() / 2);
+        add_range(cipher, field, all, both.one, first);
+        add_range(cipher, field, all, both.other, second);
     } else {
-        let low = Range {
-            bits: bits - 1,
-            ..range
-        };
-        let high = Range {
-            from: from + power(bits - 1),
-            ..low
-        };
-        let mid = acc.len() / 2;
-        add_range(cipher, field, low, s, &mut acc[..mid]);
-        add_range(cipher, field, high, s, &mut acc[mid..]);
+        let low = half_from(range, from);
+        let high = half_from(range, from + power(bits - 1));
+        let (first, second) = acc.split_at_mut(acc.len() / 2);
+        add_range(cipher, field, low, s, first);
+        add_range(cipher, field, high, s, second);
     }
 }
 
@@ -71,25 +59,14 @@ fn add_run(cipher: TreeCipher, field: usize, run: Range, at: usize, bytes: &[u8]
     let from = run.from;
     if bits == 0 {
         let sibling = node_at(bytes, at + 16 * from);
-        let all = Range {
-            branch_bits,
-            levels: levels - 1,
-            bits: branch_bits,
-            from: 0,
-        };
+        let all = all_children(branch_bits, levels - 1);
         add_range(cipher, field, all, sibling, acc);
     } else {
-        let low = Range {
-            bits: bits - 1,
-            ..run
-        };
-        let high = Range {
-            from: from + power(bits - 1),
-            ..low
-        };
-        let mid = acc.len() / 2;
-        add_run(cipher, field, low, at, bytes, &mut acc[..mid]);
-        add_run(cipher, field, high, at, bytes, &mut acc[mid..]);
+        let low = half_from(run, from);
+        let high = half_from(run, from + power(bits - 1));
+        let (first, second) = acc.split_at_mut(acc.len() / 2);
+        add_run(cipher, field, low, at, bytes, first);
+        add_run(cipher, field, high, at, bytes, second);
     }
 }
 
@@ -100,39 +77,24 @@ fn add_path(
     field: usize,
     path: Path,
     bytes: &[u8],
-    correction: [u64; 2],
+    correction: Element,
     acc: &mut [u64],
 )
     requires { IsPath path (length bytes.now) × (length acc.old ≡ size_of path.range * element_words field) }
-    ensures { acc.new ≡ path_added field (child_under cipher.entry.keys.now) path bytes.now correction acc.old }
+    ensures { acc.new ≡ path_added field (child_under cipher.entry.keys.now) path bytes.now (correction.low ∷ correction.high ∷ []) acc.old }
 {
-    let at = path.at;
     if path.range.levels == 0 {
-        add_words(field, correction, acc);
+        add_element(field, correction, acc);
         return;
     }
-    let mid = acc.len() / 2;
     let parts = parted(path);
+    let (first, second) = acc.split_at_mut(acc.len() / 2);
     if parts.lower {
-        add_path(
-            cipher,
-            field,
-            parts.below,
-            bytes,
-            correction,
-            &mut acc[..mid],
-        );
-        add_run(cipher, field, parts.beside, at, bytes, &mut acc[mid..]);
+        add_path(cipher, field, parts.below, bytes, correction, first);
+        add_run(cipher, field, parts.beside, path.at, bytes, second);
     } else {
-        add_run(cipher, field, parts.beside, at, bytes, &mut acc[..mid]);
-        add_path(
-            cipher,
-            field,
-            parts.below,
-            bytes,
-            correction,
-            &mut acc[mid..],
-        );
+        add_run(cipher, field, parts.beside, path.at, bytes, first);
+        add_path(cipher, field, parts.below, bytes, correction, second);
     }
 }
 
@@ -148,38 +110,28 @@ pub fn add_leaves(
     requires { IsBranch branch_bits × (length acc.old ≡ (2 ^ branch_bits) ^ levels * element_words field) }
     ensures { acc.new ≡ leaves_added (kind_of field) (2 ^ branch_bits) (child_by (keys_for cipher.entry.keys.now)) levels s acc.old }
 {
-    let all = Range {
-        branch_bits,
-        levels,
-        bits: branch_bits,
-        from: 0,
-    };
+    let all = all_children(branch_bits, levels);
     add_range(cipher, field, all, Block::of_columns(s), acc);
 }
 
-// Adds the leaves of a punctured tree to the elements of acc: at its position the correction, whose words are lent by value,
-// the others from the siblings among the bytes.
+// Adds the leaves of a punctured tree to the elements of acc: at its position the correction, the others from the siblings
+// among the bytes.
 pub fn add_punctured(
     cipher: TreeCipher,
     field: usize,
     tree: Punctured,
     bytes: &[u8],
-    correction: [u64; 2],
+    correction: Element,
     acc: &mut [u64],
 )
     requires { IsPunctured tree (length bytes.now) × (tree.position < (2 ^ tree.branch_bits) ^ tree.levels)
         × (length acc.old ≡ (2 ^ tree.branch_bits) ^ tree.levels * element_words field) }
     ensures { acc.new
         ≡ punctured_added (kind_of field) (2 ^ tree.branch_bits) (child_by (keys_for cipher.entry.keys.now)) tree bytes.now
-        ((kind_of field).field.elements.read correction 0) acc.old }
+        ((kind_of field).field.elements.read (correction.low ∷ correction.high ∷ []) 0) acc.old }
 {
     let path = Path {
-        range: Range {
-            branch_bits: tree.branch_bits,
-            levels: tree.levels,
-            bits: tree.branch_bits,
-            from: 0,
-        },
+        range: all_children(tree.branch_bits, tree.levels),
         position: tree.position,
         at: tree.at,
     };

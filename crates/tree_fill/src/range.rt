@@ -1,12 +1,13 @@
 // Consecutive children of a node, halved along the path to a position.
 ghost use Rattle.std.specs.Prelude.{◌≢◌, ◌≡◌, ◌+◌, ◌*◌, ◌-◌, ◌^◌, ◌≤◌, ◌<◌};
-ghost use Rattle.tree_sums.specs.Inner.Ranges.{IsRange, child_count, size_of};
+ghost use Rattle.tree_sums.specs.Inner.Ranges.{IsRange, all_children, child_count, size_of};
 ghost use Rattle.tree_fill.specs.Inner.Ranges.{IsPath, half_from, first_half, path_in, AreHalves};
 
 use tree_sums::Range;
 use tree_walk::power;
 
-// A range with a position among the leaves below it, and the place where the bytes of its level's siblings begin.
+// A range with a position among the leaves below it, and the place where the bytes of its level's siblings begin. Not a `Punctured` with
+// the range's bits and first child: `add_range` and `add_run`, which take no position, take the range.
 #[derive(Clone, Copy)]
 pub struct Path {
     pub range: Range,
@@ -40,8 +41,20 @@ fn next_level(branch_bits: usize, at: usize) -> usize
     at + 16 * (count - 1)
 }
 
+// All children of a node with so many levels below it.
+pub fn all_children(branch_bits: usize, levels: usize) -> Range
+    ensures { result ≡ all_children branch_bits levels }
+{
+    Range {
+        branch_bits,
+        levels,
+        bits: branch_bits,
+        from: 0,
+    }
+}
+
 // Half as many children, from child c on.
-fn half_from(range: Range, c: usize) -> Range
+pub fn half_from(range: Range, c: usize) -> Range
     requires { 1 ≤ range.bits }
     ensures { result ≡ half_from range c }
 {
@@ -60,22 +73,13 @@ fn path_in(path: Path, c: usize, position: usize) -> Path
     let range = path.range;
     if range.bits == 1 {
         Path {
-            range: Range {
-                branch_bits: range.branch_bits,
-                levels: range.levels - 1,
-                bits: range.branch_bits,
-                from: 0,
-            },
+            range: all_children(range.branch_bits, range.levels - 1),
             position,
             at: next_level(range.branch_bits, path.at),
         }
     } else {
         Path {
-            range: Range {
-                bits: range.bits - 1,
-                from: c,
-                ..range
-            },
+            range: half_from(range, c),
             position,
             at: path.at,
         }

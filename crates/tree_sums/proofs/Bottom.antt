@@ -7,7 +7,6 @@ use native.Mathlib.Nat.{add_assoc, pow-zero}
 use native.Mathlib.Omega.{arith}
 use lib.ListN.{length, take, drop}
 use lib.Pow.{pow_pos}
-use borrow.Rule.Slice.PartMut.{put_mid}
 use Rattle.algebra.specs.Field.{Value}
 use Rattle.field.specs.Kind.{kind_of, element_words}
 use Rattle.field.proofs.BothKinds.{kind_laws}
@@ -18,7 +17,7 @@ use Rattle.tree_sums.specs.Inner.Ranges.{IsRange, child_count, left_of, size_of,
 use Rattle.tree_sums.specs.declared.range.Range.{Range}
 use Rattle.tree.proofs.Laws.{leaf-none, leaf-child}
 use Rattle.tree.proofs.PowerLaws.{eight}
-use Rattle.tree_sums.proofs.Halves.{second, filled, added-same}
+use Rattle.tree_sums.proofs.Halves.{filled, added-same}
 
 three : (bits : ℕ) → IsBranch bits → bits ≢ 1 → bits ≢ 2 → bits ≡ 3
 three bits ok n₁ n₂ = omega (arith, ok.two, ok.eight)
@@ -29,8 +28,8 @@ module _ (field : ℕ) (child : ℕ → List (List ℕ) → List (List ℕ)) (c 
   -- n children from two halves of h
   halves : (n h : ℕ) {ys zs : List ℕ} → n ≡ h + h → length xs ≡ n * element_words field
       → ys ≡ children_added field child c h s (take (length xs / 2) xs)
-      → zs ≡ children_added field child (c + h) h s (second (length xs / 2) xs ys)
-      → put_mid (length xs / 2) (length (ys ++ drop (length xs / 2) xs) - length xs / 2) (ys ++ drop (length xs / 2) xs) zs
+      → zs ≡ children_added field child (c + h) h s (drop (length xs / 2) xs)
+      → ys ++ zs
       ≡ children_added field child c n s xs
   unfolding children_added
   halves n h half e ey ez =
@@ -41,20 +40,21 @@ module _ (field : ℕ) (child : ℕ → List (List ℕ) → List (List ℕ)) (c 
       element : ℕ → ℕ → Value (kind_of field).field
       element i j = (kind_of field).leaf (child (i + j) s)
 
-  pub four-added : {ys zs : List ℕ} → length xs ≡ 4 * element_words field
-      → ys ≡ children_added field child c 2 s (take (length xs / 2) xs)
-      → zs ≡ children_added field child (c + 2) 2 s (second (length xs / 2) xs ys)
-      → put_mid (length xs / 2) (length (ys ++ drop (length xs / 2) xs) - length xs / 2) (ys ++ drop (length xs / 2) xs) zs
+  pub four-added : {xs₁ xs₂ ys zs : List ℕ} → length xs ≡ 4 * element_words field → xs₁ ≡ take (length xs / 2) xs → xs₂ ≡ drop (length xs / 2) xs
+      → ys ≡ children_added field child c 2 s xs₁
+      → zs ≡ children_added field child (c + 2) 2 s xs₂
+      → ys ++ zs
       ≡ children_added field child c 4 s xs
-  four-added e ey ez = halves 4 2 refl e ey ez
+  four-added e e₁ e₂ ey ez = halves 4 2 refl e (rw e₁ at ey) (rw e₂ at ez)
 
   module _ (bits : ℕ) where
-    pub bottom_eight : {ys zs : List ℕ} → IsBranch bits → bits ≢ 1 → bits ≢ 2 → length xs ≡ 2 ^ bits * element_words field
-        → ys ≡ children_added field child c 4 s (take (length xs / 2) xs)
-        → zs ≡ children_added field child (c + 4) 4 s (second (length xs / 2) xs ys)
-        → put_mid (length xs / 2) (length (ys ++ drop (length xs / 2) xs) - length xs / 2) (ys ++ drop (length xs / 2) xs) zs
+    pub bottom_eight : {xs₁ xs₂ ys zs : List ℕ} → IsBranch bits → bits ≢ 1 → bits ≢ 2 → length xs ≡ 2 ^ bits * element_words field
+        → xs₁ ≡ take (length xs / 2) xs → xs₂ ≡ drop (length xs / 2) xs
+        → ys ≡ children_added field child c 4 s xs₁
+        → zs ≡ children_added field child (c + 4) 4 s xs₂
+        → ys ++ zs
         ≡ children_added field child c (2 ^ bits) s xs
-    bottom_eight ok n₁ n₂ e ey ez = halves (2 ^ bits) 4 (ap (λ n. 2 ^ n) (three bits ok n₁ n₂)) e ey ez
+    bottom_eight ok n₁ n₂ e e₁ e₂ ey ez = halves (2 ^ bits) 4 (ap (λ n. 2 ^ n) (three bits ok n₁ n₂)) e (rw e₁ at ey) (rw e₂ at ez)
 
 -- ---- a range of the last level
 

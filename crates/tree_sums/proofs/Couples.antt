@@ -8,7 +8,6 @@ use native.Mathlib.Omega.{arith}
 use lib.Dec.{ltb}
 use lib.ListN.{length, take, drop}
 use borrow.Author.Tests.{lt-ltb, le-ltb, ltb-true, ltb-false}
-use borrow.Rule.Slice.PartMut.{put_mid}
 use Rattle.algebra.specs.Choice.{choose}
 use Rattle.algebra.proofs.Choice.{choose-true, choose-false}
 use Rattle.algebra.specs.Field.{Field, Value}
@@ -16,7 +15,7 @@ use Rattle.field.specs.Kind.{kind_of, element_words}
 use Rattle.field.proofs.BothKinds.{kind_laws}
 use Rattle.tree_sums.specs.Inner.Ranges.{children_added, below, left_of, size_of, IsRange, all_children, of_child, range_element, range_added, both_added}
 use Rattle.tree_sums.specs.declared.range.Range.{Range}
-use Rattle.tree_sums.proofs.Halves.{second, filled, added-same}
+use Rattle.tree_sums.proofs.Halves.{filled, added-same}
 use Rattle.tree_sums.proofs.Ranges.{size-all, one_twice}
 use Rattle.tree_sums.proofs.Elements.{first-child, second-child}
 use Rattle.tree_sums.proofs.Bottom.{filled_bottom}
@@ -56,8 +55,8 @@ module _ (field : ℕ) (child : ℕ → List (List ℕ) → List (List ℕ)) whe
     -- from two halves
     pub from_halves : (xs : List ℕ) {ys zs : List ℕ} → length xs ≡ (size_of all + size_of all) * F.elements.width
         → ys ≡ range_added field child all x (take (length xs / 2) xs)
-        → zs ≡ range_added field child all y (second (length xs / 2) xs ys)
-        → put_mid (length xs / 2) (length (ys ++ drop (length xs / 2) xs) - length xs / 2) (ys ++ drop (length xs / 2) xs) zs
+        → zs ≡ range_added field child all y (drop (length xs / 2) xs)
+        → ys ++ zs
         ≡ both_added field child all x y xs
     unfolding both_added
     from_halves xs e ey ez =
@@ -96,27 +95,27 @@ module _ (field : ℕ) (child : ℕ → List (List ℕ) → List (List ℕ)) whe
         decide j m true q = low j (ltb-true j (size_of one) q)
         decide j m false q = high j m (ltb-false j (size_of one) q)
 
-  module _ (xs : List ℕ) (x y : List (List ℕ)) {ys zs : List ℕ} where
+  module _ (xs : List ℕ) (x y : List (List ℕ)) {xs₁ xs₂ ys zs : List ℕ} (e₁ : xs₁ ≡ take (length xs / 2) xs) (e₂ : xs₂ ≡ drop (length xs / 2) xs) where
     -- the leaves of two nodes
-    pub couple_added : length xs ≡ 4 * element_words field → ys ≡ children_added field child 0 2 x (take (length xs / 2) xs)
-        → zs ≡ children_added field child 0 2 y (second (length xs / 2) xs ys)
-        → put_mid (length xs / 2) (length (ys ++ drop (length xs / 2) xs) - length xs / 2) (ys ++ drop (length xs / 2) xs) zs
+    pub couple_added : length xs ≡ 4 * element_words field → ys ≡ children_added field child 0 2 x xs₁
+        → zs ≡ children_added field child 0 2 y xs₂
+        → ys ++ zs
         ≡ both_added field child (all_children 1 1) x y xs
     couple_added e ey ez =
         from_halves (all_children 1 1) x y xs (e ∙ ap (λ n. (n + n) * element_words field) (sym size-one))
-        (filled_bottom (all_children 1 1) (two-range 1) refl field child x (take (length xs / 2) xs) ey)
-        (filled_bottom (all_children 1 1) (two-range 1) refl field child y (second (length xs / 2) xs ys) ez)
+        (filled_bottom (all_children 1 1) (two-range 1) refl field child x (take (length xs / 2) xs) (rw e₁ at ey))
+        (filled_bottom (all_children 1 1) (two-range 1) refl field child y (drop (length xs / 2) xs) (rw e₂ at ez))
 
     -- and those two levels below
     pub both-added : {x₀ x₁ y₀ y₁ : List (List ℕ)} → length xs ≡ 8 * element_words field → x₀ ≡ child 0 x → x₁ ≡ child 1 x → y₀ ≡ child 0 y → y₁ ≡ child 1 y
-        → ys ≡ both_added field child (all_children 1 1) x₀ x₁ (take (length xs / 2) xs)
-        → zs ≡ both_added field child (all_children 1 1) y₀ y₁ (second (length xs / 2) xs ys)
-        → put_mid (length xs / 2) (length (ys ++ drop (length xs / 2) xs) - length xs / 2) (ys ++ drop (length xs / 2) xs) zs
+        → ys ≡ both_added field child (all_children 1 1) x₀ x₁ xs₁
+        → zs ≡ both_added field child (all_children 1 1) y₀ y₁ xs₂
+        → ys ++ zs
         ≡ both_added field child (all_children 1 2) x y xs
     both-added e x₀ x₁ y₀ y₁ ey ez =
         from_halves (all_children 1 2) x y xs (e ∙ ap (λ n. (n + n) * element_words field) (sym size-two))
-        (both_below (all_children 1 2) x (take (length xs / 2) xs) (λ z. absurd (omega (arith, z))) (two-range 2) refl x₀ x₁ ey)
-        (both_below (all_children 1 2) y (second (length xs / 2) xs ys) (λ z. absurd (omega (arith, z))) (two-range 2) refl y₀ y₁ ez)
+        (both_below (all_children 1 2) x (take (length xs / 2) xs) (λ z. absurd (omega (arith, z))) (two-range 2) refl x₀ x₁ (rw e₁ at ey))
+        (both_below (all_children 1 2) y (drop (length xs / 2) xs) (λ z. absurd (omega (arith, z))) (two-range 2) refl y₀ y₁ (rw e₂ at ez))
 
 -- ---- the last three levels
 

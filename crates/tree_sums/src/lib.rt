@@ -7,5 +7,5 @@ mod sums;
 mod zero;
 
 pub use range::Range;
-pub use sums::{add_both, add_bottom, add_leaf, add_words};
+pub use sums::{add_both, add_bottom, add_element, add_leaf};
 pub use zero::zero_words;

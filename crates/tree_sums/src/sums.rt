@@ -1,40 +1,25 @@
 // Elements of leaves added into words, in either field: one element, those of the last level's children, and those below two nodes.
-ghost use Rattle.std.specs.Prelude.{◌≡◌, ◌+◌, ◌*◌, ◌^◌, ◌≤◌, length};
-ghost use Rattle.field.specs.Binary.{binary};
-ghost use Rattle.prime.specs.Prime.{primes, prime_reduce};
+// Cipher and field are lent apart: walks take a cipher and no field, `add_leaf` and `add_element` a field and no cipher.
+ghost use Rattle.std.specs.Prelude.{[], ◌∷◌, ◌≡◌, ◌+◌, ◌*◌, ◌^◌, ◌≤◌, length};
+ghost use Rattle.algebra.specs.Coding.{at};
+ghost use Rattle.algebra.specs.Inner.Put.{put};
 ghost use Rattle.field.specs.Kind.{element_words};
-ghost use Rattle.tree.specs.Added.{added};
 ghost use Rattle.tree.specs.Inner.Nodes.{node_of};
 ghost use Rattle.tree.specs.Inner.Branches.{IsBranch};
-ghost use Rattle.tree_sums.specs.Inner.Ranges.{first_or_second, leaf_added, children_added, element_added, child_under, all_children, both_added};
+ghost use Rattle.tree_sums.specs.Inner.Ranges.{leaf_added, children_added, element_added, child_under, all_children, both_added};
 
 use aes_blocks::Two;
-use field::{BINARY, Block};
+use field::{BINARY, Block, Element, FieldElement};
 use prime::Prime;
 use tree_walk::TreeCipher;
 
-// Adds an element of field 1 to the one that two words hold.
-fn add_block(element: Block, acc: &mut [u64])
-    requires { length acc.old ≡ 2 }
-    ensures { acc.new ≡ added binary 1 (λ j. element) acc.old }
+// Adds an element to element i of those that the words hold. Inlined, so that sums of leaves make no call more.
+#[inline(always)]
+fn add_at<E: FieldElement>(element: E, i: usize, acc: &mut [u64])
+    requires { i * E.parts.coding.width + E.parts.coding.width ≤ length acc.old }
+    ensures { acc.new ≡ put E.parts.coding acc.old i (E.parts.add (at E.parts.coding acc.old i) element) }
 {
-    let old = Block {
-        low: acc[0],
-        high: acc[1],
-    };
-    let sum = old.add(element);
-    acc[0] = sum.low;
-    acc[1] = sum.high;
-}
-
-// Adds an element of field 2 to the one that a word holds.
-fn add_prime(element: Prime, acc: &mut [u64])
-    requires { length acc.old ≡ 1 }
-    ensures { acc.new ≡ added primes 1 (λ j. element) acc.old }
-{
-    let old = Prime { word: acc[0] };
-    let sum = old.add(element);
-    acc[0] = sum.word;
+    E::at(acc, i).add(element).put(acc, i);
 }
 
 // Adds the element of a leaf to the one that the words hold.
@@ -43,50 +28,26 @@ pub fn add_leaf(field: usize, s: Block, acc: &mut [u64])
     ensures { acc.new ≡ leaf_added field (node_of s) acc.old }
 {
     if field == BINARY {
-        add_block(s, acc);
+        add_at(s, 0, acc);
     } else {
-        add_prime(Prime::reduce(s.low), acc);
+        add_at(Prime::reduce(s.low), 0, acc);
     }
 }
 
-// Adds the element that words begin with to the one that the words of acc hold.
-pub fn add_words(field: usize, words: [u64; 2], acc: &mut [u64])
+// Adds an element to the one that the words hold. Beside `add_leaf`, which reduces: a line a field.
+pub fn add_element(field: usize, element: Element, acc: &mut [u64])
     requires { length acc.old ≡ element_words field }
-    ensures { acc.new ≡ element_added field words acc.old }
+    ensures { acc.new ≡ element_added field (element.low ∷ element.high ∷ []) acc.old }
 {
     if field == BINARY {
-        let element = Block {
-            low: words[0],
-            high: words[1],
+        let block = Block {
+            low: element.low,
+            high: element.high,
         };
-        add_block(element, acc);
+        add_at(block, 0, acc);
     } else {
-        add_prime(Prime { word: words[0] }, acc);
+        add_at(Prime { word: element.low }, 0, acc);
     }
-}
-
-// Adds two elements of field 1 to those that four words hold.
-fn add_blocks(both: Two<Block>, acc: &mut [u64])
-    requires { length acc.old ≡ 4 }
-    ensures { acc.new ≡ added binary 2 (first_or_second both.one both.other) acc.old }
-{
-    acc[0] = acc[0] ^ both.one.low;
-    acc[1] = acc[1] ^ both.one.high;
-    acc[2] = acc[2] ^ both.other.low;
-    acc[3] = acc[3] ^ both.other.high;
-}
-
-// Adds the elements of field 2 of two leaves to those that two words hold.
-fn add_primes(both: Two<Block>, acc: &mut [u64])
-    requires { length acc.old ≡ 2 }
-    ensures { acc.new ≡ added primes 2 (first_or_second (prime_reduce both.one.low) (prime_reduce both.other.low)) acc.old }
-{
-    let word0 = Prime { word: acc[0] };
-    let word1 = Prime { word: acc[1] };
-    let a = word0.add(Prime::reduce(both.one.low));
-    let b = word1.add(Prime::reduce(both.other.low));
-    acc[0] = a.word;
-    acc[1] = b.word;
 }
 
 // Adds children c and c + 1 of s, which are leaves, to the elements of acc.
@@ -96,9 +57,11 @@ fn add_pair(cipher: TreeCipher, field: usize, c: usize, s: Block, acc: &mut [u64
 {
     let both = cipher.children(c, s);
     if field == BINARY {
-        add_blocks(both, acc);
+        add_at(both.one, 0, acc);
+        add_at(both.other, 1, acc);
     } else {
-        add_primes(both, acc);
+        add_at(Prime::reduce(both.one.low), 0, acc);
+        add_at(Prime::reduce(both.other.low), 1, acc);
     }
 }
 
@@ -107,9 +70,9 @@ fn add_four(cipher: TreeCipher, field: usize, c: usize, s: Block, acc: &mut [u64
     requires { (c + 4 ≤ 8) × (length acc.old ≡ 4 * element_words field) }
     ensures { acc.new ≡ children_added field (child_under cipher.entry.keys.now) c 4 (node_of s) acc.old }
 {
-    let mid = acc.len() / 2;
-    add_pair(cipher, field, c, s, &mut acc[..mid]);
-    add_pair(cipher, field, c + 2, s, &mut acc[mid..]);
+    let (first, second) = acc.split_at_mut(acc.len() / 2);
+    add_pair(cipher, field, c, s, first);
+    add_pair(cipher, field, c + 2, s, second);
 }
 
 // Adds all two, four or eight children of s, which are leaves, to the elements of acc.
@@ -124,14 +87,15 @@ pub fn add_bottom(
     requires { IsBranch bits × (c + 2 ^ bits ≤ 8) × (length acc.old ≡ 2 ^ bits * element_words field) }
     ensures { acc.new ≡ children_added field (child_under cipher.entry.keys.now) c (2 ^ bits) (node_of s) acc.old }
 {
-    if bits == 1 {
-        add_pair(cipher, field, c, s, acc);
-    } else if bits == 2 {
-        add_four(cipher, field, c, s, acc);
-    } else {
-        let mid = acc.len() / 2;
-        add_four(cipher, field, c, s, &mut acc[..mid]);
-        add_four(cipher, field, c + 4, s, &mut acc[mid..]);
+    match bits {
+        1 => add_pair(cipher, field, c, s, acc),
+        2 => add_four(cipher, field, c, s, acc),
+        // Three: `IsBranch` allows no other.
+        _ => {
+            let (first, second) = acc.split_at_mut(acc.len() / 2);
+            add_four(cipher, field, c, s, first);
+            add_four(cipher, field, c + 4, s, second);
+        }
     }
 }
 
@@ -142,9 +106,9 @@ fn add_couple(cipher: TreeCipher, field: usize, both: Two<Block>, acc: &mut [u64
     ensures { acc.new
         ≡ both_added field (child_under cipher.entry.keys.now) (all_children 1 1) (node_of both.one) (node_of both.other) acc.old }
 {
-    let mid = acc.len() / 2;
-    add_pair(cipher, field, 0, both.one, &mut acc[..mid]);
-    add_pair(cipher, field, 0, both.other, &mut acc[mid..]);
+    let (first, second) = acc.split_at_mut(acc.len() / 2);
+    add_pair(cipher, field, 0, both.one, first);
+    add_pair(cipher, field, 0, both.other, second);
 }
 
 // Adds the leaves two levels below each of two nodes with two children a node: the children of both nodes are made before any
@@ -156,7 +120,7 @@ pub fn add_both(cipher: TreeCipher, field: usize, both: Two<Block>, acc: &mut [u
 {
     let low = cipher.children(0, both.one);
     let high = cipher.children(0, both.other);
-    let mid = acc.len() / 2;
-    add_couple(cipher, field, low, &mut acc[..mid]);
-    add_couple(cipher, field, high, &mut acc[mid..]);
+    let (first, second) = acc.split_at_mut(acc.len() / 2);
+    add_couple(cipher, field, low, first);
+    add_couple(cipher, field, high, second);
 }

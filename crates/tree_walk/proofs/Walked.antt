@@ -19,7 +19,7 @@ use Rattle.tree.proofs.Laws.{leaf-none, leaf-suc, siblings-none, siblings-suc, l
 use Rattle.tree.proofs.Listed.{length-listed, listed-front, listed_cong, listed-none, listed-last}
 use Rattle.algebra.proofs.Written.{sets_append}
 use Rattle.tree.proofs.Blocks.{length-blocks}
-use Rattle.tree.proofs.PowerLaws.{power_of_power, down, level_less, halved, eight}
+use Rattle.tree.proofs.PowerLaws.{down, level_less, halved, eight}
 
 -- ---- blocks written one after another
 
@@ -68,30 +68,56 @@ module _ {A : Type 0} (child : ℕ → A → A) (s : A) where
       more : (c i : ℕ) → c + suc (suc i) ≡ c + 2 + i
       more c i = omega arith
 
+  from-last : (c n : ℕ) → children_from child s c (suc (suc n)) ≡ children_from child s c n ++ (child (c + n) s ∷ child (c + n + 1) s ∷ [])
+  unfolding children_from
+  from-last c n =
+      listed-last (suc n) f
+      ∙ ap (λ l. l ++ (f (suc n) ∷ [])) (listed-last n f)
+      ∙ append_assoc (listed n f) (f n ∷ []) (f (suc n) ∷ [])
+      ∙ ap (λ k. listed n f ++ (f n ∷ child k s ∷ [])) (more c n)
+    where
+      f : ℕ → A
+      f i = child (c + i) s
+
+      more : (c n : ℕ) → c + suc n ≡ c + n + 1
+      more c n = omega arith
+
   length_from : (c n : ℕ) → length (children_from child s c n) ≡ n
   unfolding children_from
   length_from c n = length-listed n (λ i. child (c + i) s)
 
-module _ (child : ℕ → List (List ℕ) → List (List ℕ)) (s : List (List ℕ)) (first pairs at : ℕ) (l : List ℕ) where
-  pub put-none : pairs ≡ 0 → l ≡ children_put child s first (2 * pairs) at l
+module _ (child : ℕ → List (List ℕ) → List (List ℕ)) (s : List (List ℕ)) (first at : ℕ) (l₀ : List ℕ) where
+  -- so many pairs of children written into a buffer
+  pub record Put (pairs : ℕ) (l : List ℕ) : Type 0 where
+    pub put : l ≡ children_put child s first (2 * pairs) at l₀
+    pub long : length l ≡ length l₀
+
+  pub put-none : Put 0 l₀
   unfolding children_put blocks_bytes
-  put-none e = sym (ap (λ n. sets l at (blocks_bytes (children_from child s first (2 * n)))) e ∙ ap (λ x. sets l at (blocks_bytes x)) (from-none child s first))
+  put-none = record { put = sym (ap (λ x. sets l₀ at (blocks_bytes x)) (from-none child s first)); long = refl }
 
-  pub put_more : {x y : List (List ℕ)} {l₁ l₂ l₃ : List ℕ} → pairs ≢ 0 → x ≡ child first s → y ≡ child (first + 1) s
-      → l₁ ≡ sets l at (columns_bytes x) → l₂ ≡ sets l₁ (at + 16) (columns_bytes y)
-      → l₃ ≡ children_put child s (first + 2) (2 * (pairs - 1)) (at + 32) l₂ → l₃ ≡ children_put child s first (2 * pairs) at l
+  -- a pair after them
+  pub put_next : (pair : ℕ) {x y : List (List ℕ)} {l l₁ l₂ : List ℕ} → Put pair l
+      → x ≡ child (first + 2 * pair) s → y ≡ child (first + 2 * pair + 1) s
+      → l₁ ≡ sets l (at + 32 * pair) (columns_bytes x) → l₂ ≡ sets l₁ (at + 32 * pair + 16) (columns_bytes y)
+      → length l₂ ≡ length l → Put (pair + 1) l₂
   unfolding children_put
-  put_more {x} {y} h ex ey e₁ e₂ e₃ =
-      e₃
-      ∙ ap (λ k. sets k (at + 32) (blocks_bytes rest)) (sets-two l at x y e₁ e₂ ∙ ap₂ (λ a b. sets l at (blocks_bytes (a ∷ b ∷ []))) ex ey)
-      ∙ sets-blocks l at (at + 32) (child first s ∷ child (first + 1) s ∷ []) rest refl
-      ∙ ap (λ x. sets l at (blocks_bytes x)) (sym (from-two child s first (2 * (pairs - 1))) ∙ ap (children_from child s first) (twice pairs h))
+  put_next pair {x} {y} {l} p ex ey e₁ e₂ same =
+      record {
+        put =
+            sets-two l (at + 32 * pair) x y e₁ e₂
+            ∙ ap₂ (λ a b. sets l (at + 32 * pair) (blocks_bytes (a ∷ b ∷ []))) ex ey
+            ∙ ap (λ k. sets k (at + 32 * pair) (blocks_bytes two)) p.put
+            ∙ sets-blocks l₀ at (at + 32 * pair) (children_from child s first (2 * pair)) two (omega (arith, length_from child s first (2 * pair)))
+            ∙ ap (λ z. sets l₀ at (blocks_bytes z)) (sym (from-last child s first (2 * pair)) ∙ ap (children_from child s first) (twice pair));
+        long = same ∙ p.long;
+      }
     where
-      rest : List (List (List ℕ))
-      rest = children_from child s (first + 2) (2 * (pairs - 1))
+      two : List (List (List ℕ))
+      two = child (first + 2 * pair) s ∷ child (first + 2 * pair + 1) s ∷ []
 
-      twice : (n : ℕ) → n ≢ 0 → suc (suc (2 * (n - 1))) ≡ 2 * n
-      twice n h = omega arith
+      twice : (n : ℕ) → suc (suc (2 * n)) ≡ 2 * (n + 1)
+      twice n = omega arith
 
 -- ---- a level passed
 
@@ -251,12 +277,12 @@ module _ (child : ℕ → List (List ℕ) → List (List ℕ)) (s : List (List �
   walked-root {l₂ = l₂} ex er e = ap (λ z. walk z l₂) er ∙ e ∙ ap (λ z. walked k child z t l) ex
 
   -- one level on, past the other children
-  pub walked_on : {count : ℕ} {x r : List (List ℕ)} {l₁ l₂ : List ℕ} → t.levels ≢ 0 → count ≡ 2 ^ t.branch_bits
-      → walk x l₁ ≡ level_passed k child s (t.position / 2 ^ ((t.levels - 1) * t.branch_bits) % count) t.at l
+  pub walked_on : {count c : ℕ} {x r : List (List ℕ)} {l₁ l₂ : List ℕ} → t.levels ≢ 0 → count ≡ 2 ^ t.branch_bits
+      → c ≡ digit k (t.levels - 1) t.position → walk x l₁ ≡ level_passed k child s c t.at l
       → walk r l₂ ≡ walked k child x (record { branch_bits = t.branch_bits; levels = t.levels - 1; position = t.position; at = t.at + 16 * (count - 1) }) l₁
       → walk r l₂ ≡ walked k child s t l
   unfolding walked level_passed By
-  walked_on {count} {x} {r} {l₁} h ec e₁ e₂ =
+  walked_on {count} {c} {x} {r} {l₁} h ec same e₁ e₂ =
       e₂
       ∙ ap₂ (λ a b. walked k child a (record { branch_bits = t.branch_bits; levels = t.levels - 1; position = t.position; at = t.at + 16 * (count - 1) }) b)
       (ap (λ w. w.leaf) e₁) (ap (λ w. w.bytes) e₁)
@@ -276,9 +302,6 @@ module _ (child : ℕ → List (List ℕ) → List (List ℕ)) (s : List (List �
           walk (leaf_at k child (t.levels - 1) (child d s) t.position)
           (sets (sets l t.at (blocks_bytes (others k child s d))) (t.at + 16 * (c - 1))
           (blocks_bytes (siblings k child (t.levels - 1) (child d s) t.position)))
-
-      same : t.position / 2 ^ ((t.levels - 1) * t.branch_bits) % count ≡ named
-      same = ap₂ (λ a b. t.position / a % b) (sym (power_of_power t.branch_bits (t.levels - 1))) ec
 
       sixteen : (n : ℕ) → 16 * n ≡ n * 16
       sixteen n = omega arith
@@ -311,21 +334,20 @@ module _ (child : ℕ → List (List ℕ) → List (List ℕ)) (root : List (Lis
       less-room : levels * (2 ^ g - 1) ≡ (levels - 1) * (2 ^ g - 1) + (2 ^ g - 1)
       less-room = level_less levels (2 ^ g - 1) some
 
-      pub going_level : (n : ℕ) → IsLevel g (n % count) at (length l)
-      going_level n =
+      pub going_level : {c : ℕ} → c < 2 ^ g → IsLevel g c at (length l)
+      going_level named =
           record {
             branch = G.room.branch;
             few = eight g G.room.branch;
-            named = omega (arith, G.counted, mod-lt n {m = count} (omega (arith, G.counted, pow_pos g)));
+            named = named;
             room = omega (arith, G.room.room, less-room);
           }
 
       -- one level on, past the other children
-      pub going_next : {x : List (List ℕ)} {l₁ : List ℕ}
-          → walk x l₁ ≡ level_passed (2 ^ g) child node (position / 2 ^ ((levels - 1) * g) % count) at l
-          → length l₁ ≡ length l → Going count x (levels - 1) (at + 16 * (count - 1)) l₁
+      pub going_next : {c : ℕ} {x : List (List ℕ)} {l₁ : List ℕ} → c ≡ digit (2 ^ g) (levels - 1) position
+          → walk x l₁ ≡ level_passed (2 ^ g) child node c at l → length l₁ ≡ length l → Going count x (levels - 1) (at + 16 * (count - 1)) l₁
       unfolding walked
-      going_next {x} {l₁} e same =
+      going_next {c} {x} {l₁} named e same =
           record {
             counted = G.counted;
             room = record {
@@ -333,6 +355,6 @@ module _ (child : ℕ → List (List ℕ) → List (List ℕ)) (root : List (Lis
               short = omega (arith, G.room.short, less-levels);
               room = omega (arith, G.counted, G.room.room, less-room);
             };
-            left = walked_on child node (rest_of levels at) l {x = x} {l₁ = l₁} some G.counted e refl ∙ G.left;
+            left = walked_on child node (rest_of levels at) l {x = x} {l₁ = l₁} some G.counted named e refl ∙ G.left;
             long = same ∙ G.long;
           }

@@ -12,6 +12,7 @@ use lib.Pow.{pow_mono, pow_pos}
 use borrow.Author.Tests.{eq-eqb, ne_eqb}
 use Rattle.algebra.specs.Choice.{choose}
 use Rattle.tree.specs.Child.{child, child_by}
+use Rattle.tree.specs.Inner.Branches.{IsBranch}
 use Rattle.tree.specs.Inner.Keys.{keys_for}
 use Rattle.tree.specs.Columns.{siblings_at}
 use Rattle.tree.specs.Tree.{rank, leaf_at, from_siblings}
@@ -31,9 +32,9 @@ way-less {g} w levels h =
     let m = mul-le-mul_right g h in
     record { branch = w.branch; short = omega (arith, w.short) }
 
-module _ (g left j : ℕ) (w : IsWay g left) {count : ℕ} (e : count ≡ 2 ^ g) where
+module _ (g left j : ℕ) (b : IsBranch g) {count : ℕ} (e : count ≡ 2 ^ g) where
   few : 2 ^ g ≤ 8
-  few = pow_mono {i = g} {j = 3} w.branch.eight
+  few = pow_mono {i = g} {j = 3} b.eight
 
   pub digit_is : (j / 2 ^ (left * g)) % count ≡ (j / (2 ^ g) ^ left) % 2 ^ g
   digit_is = ap₂ (λ a b. j / a % b) (sym (power_of_power g left)) e

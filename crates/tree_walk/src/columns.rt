@@ -1,4 +1,4 @@
-// Blocks in bytes.
+// Blocks in bytes: what `Block::read` and `Block::write` do, promised in the words of the trees' definitions, so that no caller proves it.
 ghost use Rattle.std.specs.Prelude.{◌≡◌, ◌+◌, ◌≤◌, length};
 ghost use Rattle.std.proofs.lemmas.List.Edits.{sets};
 ghost use Rattle.tree.specs.Columns.{columns_at, columns_bytes};

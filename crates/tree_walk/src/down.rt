@@ -1,7 +1,8 @@
 // The way down to a leaf: from a node, from two nodes under the same children in alternation, and from the sibling that the leaf of a
 // punctured tree follows from.
-ghost use Rattle.std.specs.Prelude.{◌≡◌, ◌/◌, ◌%◌, ◌^◌, ◌≤◌, ◌<◌};
+ghost use Rattle.std.specs.Prelude.{◌≡◌, ◌*◌, ◌/◌, ◌%◌, ◌^◌, ◌≤◌, ◌<◌};
 ghost use Rattle.tree.specs.Child.{child_by};
+ghost use Rattle.tree.specs.Inner.Branches.{IsBranch};
 ghost use Rattle.tree.specs.Inner.Keys.{keys_for};
 ghost use Rattle.tree.specs.Inner.Nodes.{node_of};
 ghost use Rattle.tree.specs.Tree.{leaf_at};
@@ -20,8 +21,8 @@ pub struct Start {
 }
 
 // The child that leaf j lies below, of a node whose children have so many levels below them.
-fn digit(branch_bits: usize, left: usize, j: usize) -> usize
-    requires { IsWay branch_bits left }
+pub fn digit(branch_bits: usize, left: usize, j: usize) -> usize
+    requires { IsBranch branch_bits × (left * branch_bits < 64) }
     ensures { (result ≡ (j / (2 ^ branch_bits) ^ left) % 2 ^ branch_bits) × (result < 2 ^ branch_bits) × (result < 8) }
 {
     let count = power(branch_bits);
@@ -48,7 +49,8 @@ pub fn walk_to(
     node
 }
 
-// Leaf j below each of two nodes with `left` levels below them.
+// Leaf j below each of two nodes with `left` levels below them: two walks in alternation, as the bench has them (docs/DECISIONS.md), where two
+// calls of `walk_to` would encrypt one block after the other.
 pub fn walk_both(
     cipher: TreeCipher,
     branch_bits: usize,
@@ -69,7 +71,9 @@ pub fn walk_both(
     nodes
 }
 
-// The sibling that leaf j follows from, of a tree punctured elsewhere whose siblings begin at a place.
+// The sibling that leaf j follows from, of a tree punctured elsewhere whose siblings begin at a place. Recursive: that the paths part is a
+// premise, and a loop over the levels would need an answer for after the last, which is never reached. Four of its numbers are a
+// `Punctured`'s: the one caller (`start_at` of the bench) has none, and would build one in six lines for a call of one.
 pub fn from_sibling(
     branch_bits: usize,
     levels: usize,

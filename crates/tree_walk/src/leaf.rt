@@ -8,6 +8,7 @@ ghost use Rattle.tree_walk.specs.Inner.Levels.{IsLevel, children_put, twin_put, 
 ghost use Rattle.tree.specs.Inner.Nodes.{node_of};
 
 use crate::columns::put_node;
+use crate::down::digit;
 use crate::node::TreeCipher;
 use crate::powers::power;
 use field::Block;
@@ -18,13 +19,11 @@ fn put_children(cipher: TreeCipher, s: Block, from: usize, pairs: usize, at: usi
     requires { (from + 2 * pairs ≤ 8) × (at + 32 * pairs ≤ length out.old) }
     ensures { out.new ≡ children_put (child_by (keys_for cipher.entry.keys.now)) (node_of s) from (2 * pairs) at out.old }
 {
-    if pairs == 0 {
-        return;
+    for pair in 0..pairs {
+        let both = cipher.children(from + 2 * pair, s);
+        put_node(out, at + 32 * pair, both.one);
+        put_node(out, at + 32 * pair + 16, both.other);
     }
-    let both = cipher.children(from, s);
-    put_node(out, at, both.one);
-    put_node(out, at + 16, both.other);
-    put_children(cipher, s, from + 2, pairs - 1, at + 32, out);
 }
 
 // The child of s that a digit names; writes the other of its pair from a place on.
@@ -80,7 +79,8 @@ fn pass_level(
     next
 }
 
-// The leaf below a node at the position; writes the siblings beside the path to it, top first, from their place on.
+// The leaf below a node at the position; writes the siblings beside the path to it, top first, from their place on. The place is carried:
+// by the level it is `tree.at + 16 * (count - 1) * (tree.levels - 1 - level)`.
 fn walk_from(cipher: TreeCipher, root: Block, tree: Punctured, out: &mut [u8]) -> Block
     requires { IsPunctured tree (length out.old) }
     ensures { walk (node_of result) out.new
@@ -92,8 +92,8 @@ fn walk_from(cipher: TreeCipher, root: Block, tree: Punctured, out: &mut [u8]) -
     let mut node = root;
     let mut at = tree.at;
     for level in (0..tree.levels).rev() {
-        let digit = (position >> (level * branch_bits)) % count;
-        node = pass_level(cipher, branch_bits, node, digit, at, out);
+        let child = digit(branch_bits, level, position);
+        node = pass_level(cipher, branch_bits, node, child, at, out);
         at += 16 * (count - 1);
     }
     node

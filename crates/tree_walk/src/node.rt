@@ -10,7 +10,8 @@ use aes_blocks::Two;
 use aes_sbox::Tables;
 use field::Block;
 
-// The round keys of the child keys of a node's 2^branch_bits children, those of child c at place c.
+// The round keys of the child keys of a node's 2^branch_bits children, those of child c at place c. Eight places for any branch_bits: there
+// is no heap, and no const argument can be computed.
 pub fn child_keys(branch_bits: usize) -> [[u64; 40]; 8]
     requires { branch_bits ≤ 3 }
     ensures { OfChildKeys (2 ^ branch_bits) (keys_for result) }
@@ -24,7 +25,8 @@ pub fn child_keys(branch_bits: usize) -> [[u64; 40]; 8]
 }
 
 // The cipher of a tree: tables, and the round keys of eight child keys, those of child c at place c. No ghost field says of which keys
-// they are, since walks and fills are proved for any that they are lent (document 02, 3).
+// they are, since walks and fills are proved for any that they are lent (document 02, 3). No field says how many children a node has:
+// `Punctured` and `Range` say it.
 #[derive(Clone, Copy)]
 pub struct TreeCipher<'a> {
     pub tables: Tables<'a>,
@@ -55,7 +57,7 @@ impl TreeCipher<'_> {
         }
     }
 
-    // Child c of each of two nodes.
+    // Child c of each of two nodes. One function of this and `children` would take two children and two nodes: `encrypt_two` again.
     pub fn child_of_both(self, c: usize, a: Block, b: Block) -> Two<Block>
         requires { c < 8 }
         ensures { (node_of result.one ≡ child_by (keys_for self.entry.keys.now) c (node_of a))

@@ -43,9 +43,7 @@ correction_words field leaf value delta =
 abbrev pub planned : Layout → List ℕ → List ℕ → ℕ → ℕ → ℕ → Planned
 planned f positions values i base at =
     record {
-      field = f.field;
-      depth = f.depth;
-      branch_bits = f.branch_bits;
+      layout = f;
       position = get_or positions i 0;
       value = get_or values i 0;
       base = base;
@@ -54,7 +52,7 @@ planned f positions values i base at =
 
 -- a tree up to its siblings, from the leaf at its position
 unfoldable pub planned_bytes : Planned → List (List ℕ) → List ℕ → List ℕ
-planned_bytes t leaf delta = tree_start_bytes t.field (t.position - t.base) t.value (correction_words t.field leaf t.value delta)
+planned_bytes t leaf delta = tree_start_bytes t.layout.field (t.position - t.base) t.value (correction_words t.layout.field leaf t.value delta)
 
 -- the tree of these numbers, this root and Δ
 abbrev pub planned_tree : Planned → List (List ℕ) → List ℕ → NoiseTree
@@ -62,19 +60,19 @@ planned_tree t root delta =
     record {
       position = t.position;
       value = t.value;
-      correction = correction_words t.field (leaf_at (2 ^ t.branch_bits) child (t.depth / t.branch_bits) root t.position) t.value delta;
-      siblings = map columns_bytes (siblings (2 ^ t.branch_bits) child (t.depth / t.branch_bits) root t.position);
+      correction = correction_words t.layout.field (leaf_at (2 ^ t.layout.branch_bits) child (t.layout.depth / t.layout.branch_bits) root t.position) t.value delta;
+      siblings = map columns_bytes (siblings (2 ^ t.layout.branch_bits) child (t.layout.depth / t.layout.branch_bits) root t.position);
     }
 
 -- a tree can be written at its place
 pub record Placed (t : Planned) (root : List (List ℕ)) (delta out : List ℕ) : Type 0 where
-  pub depth : t.depth ≤ 16
-  pub branch_least : 1 ≤ t.branch_bits
-  pub branch-most : t.branch_bits ≤ 3
+  pub depth : t.layout.depth ≤ 16
+  pub branch_least : 1 ≤ t.layout.branch_bits
+  pub branch-most : t.layout.branch_bits ≤ 3
   pub scalar : length delta ≡ 16
   pub rising : t.base ≤ t.position
   pub below : t.position < 65536
-  pub room : Room out t.at (write_tree t.field t.base (planned_tree t root delta))
+  pub room : Room out t.at (write_tree t.layout.field t.base (planned_tree t root delta))
 
 -- the trees of a noise record, one after the other
 abbrev pub trees_bytes : Layout → List ℕ → List ℕ → List ℕ → List ℕ → List ℕ

@@ -5,8 +5,8 @@ use Rattle.tree_fill.proofs.Filled.{leaf-length, first-front, first_back, second
 use Rattle.tree_fill.proofs.Filled.{filled-correction, filled-first-holds, filled-second-holds}
 use Rattle.tree_fill.proofs.fill.+add_path.Goals as goal
 
-pub add_words-requires : goal.add_words-requires
-add_words-requires t c = search leaf-length
+pub add_element-requires : goal.add_element-requires
+add_element-requires t c = search leaf-length
 
 pub returns-then-path-eq0 : goal.returns-then-path-eq0
 returns-then-path-eq0 t c = search filled-correction

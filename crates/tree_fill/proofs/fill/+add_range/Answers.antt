@@ -22,16 +22,16 @@ pub returns-then-branch_bits-eq1 : goal.returns-then-branch_bits-eq1
 returns-then-branch_bits-eq1 t c = search three-below
 
 pub add_range-requires : goal.add_range-requires
-add_range-requires t c = (search one-falls, (search one-range, search one-front))
+add_range-requires t c = rw c.all_children-all.ensures (search one-falls, (search one-range, search one-front))
 
 pub add_range-requires-then-bits-eq1 : goal.add_range-requires-then-bits-eq1
-add_range-requires-then-bits-eq1 t c = (search one-falls, (search one-range, search one-back))
+add_range-requires-then-bits-eq1 t c = rw c.all_children-all.ensures (search one-falls, (search one-range, search one-back))
 
 pub add_range-requires-else-bits-eq1 : goal.add_range-requires-else-bits-eq1
-add_range-requires-else-bits-eq1 t c = (search (half_falls, two-some), (search first_half_range, search (half_front, two-some)))
+add_range-requires-else-bits-eq1 t c = rw c.half_from-low.ensures (search (half_falls, two-some), (search first_half_range, search (half_front, two-some)))
 
 pub add_range-requires-else-bits-eq1-2 : goal.add_range-requires-else-bits-eq1-2
-add_range-requires-else-bits-eq1-2 t c = (search (half_falls, two-some), (search back-range, search (half_back, two-some)))
+add_range-requires-else-bits-eq1-2 t c = rw c.half_from-high.ensures (search (half_falls, two-some), (search back-range, search (half_back, two-some)))
 
 pub returns-then-levels-eq0 : goal.returns-then-levels-eq0
 returns-then-levels-eq0 t c = search filled-leaf
@@ -39,8 +39,14 @@ returns-then-levels-eq0 t c = search filled-leaf
 pub returns-then-levels-eq1 : goal.returns-then-levels-eq1
 returns-then-levels-eq1 t c = search filled_bottom
 
-pub returns-after-levels-eq3 : goal.returns-after-levels-eq3
-returns-after-levels-eq3 t c = search filled-children
+pub returns-else-levels-eq3 : goal.returns-else-levels-eq3
+returns-else-levels-eq3 t c =
+    let a = rw c.all_children-all.ensures at c.add_range.ensures in
+    let b = rw c.all_children-all.ensures at c.add_range-then-bits-eq1.ensures in
+    search (filled-children, a, b)
 
 pub returns-else-bits-eq1 : goal.returns-else-bits-eq1
-returns-else-bits-eq1 t c = search filled_halves
+returns-else-bits-eq1 t c =
+    let a = rw c.half_from-low.ensures at c.add_range-else-bits-eq1.ensures in
+    let b = rw c.half_from-high.ensures at c.add_range-else-bits-eq1-2.ensures in
+    search (filled_halves, a, b)

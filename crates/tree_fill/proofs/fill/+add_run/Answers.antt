@@ -5,16 +5,19 @@ use Rattle.tree_fill.proofs.Filled.{sibling_length, run-falls, run_half_front, r
 use Rattle.tree_fill.proofs.fill.+add_run.Goals as goal
 
 pub add_range-requires : goal.add_range-requires
-add_range-requires t c = (search sibling_range, search sibling_length)
+add_range-requires t c = rw c.all_children-all.ensures (search sibling_range, search sibling_length)
 
 pub add_run-requires : goal.add_run-requires
-add_run-requires t c = (search run-falls, (search first_half_run, search run_half_front))
+add_run-requires t c = rw c.half_from-low.ensures (search run-falls, (search first_half_run, search run_half_front))
 
 pub add_run-requires-else-bits-eq0 : goal.add_run-requires-else-bits-eq0
-add_run-requires-else-bits-eq0 t c = (search run-falls, (search back-run, search run_half_back))
+add_run-requires-else-bits-eq0 t c = rw c.half_from-high.ensures (search run-falls, (search back-run, search run_half_back))
 
 pub returns-then-bits-eq0 : goal.returns-then-bits-eq0
-returns-then-bits-eq0 t c = search filled_sibling
+returns-then-bits-eq0 t c = let a = rw c.all_children-all.ensures at c.add_range.ensures in search (filled_sibling, a)
 
 pub returns-else-bits-eq0 : goal.returns-else-bits-eq0
-returns-else-bits-eq0 t c = search filled_runs
+returns-else-bits-eq0 t c =
+    let a = rw c.half_from-low.ensures at c.add_run.ensures in
+    let b = rw c.half_from-high.ensures at c.add_run-else-bits-eq0.ensures in
+    search (filled_runs, a, b)

@@ -6,7 +6,7 @@ use Rattle.tree_fill.proofs.Filled.{all-length, filled-tree}
 use Rattle.tree_fill.proofs.fill.add_punctured.Goals as goal
 
 pub add_path-requires : goal.add_path-requires
-add_path-requires c = (whole-path _ _ (search rules) (search rules) (omega arith), search (rules, all-length))
+add_path-requires c = rw c.all_children.ensures (whole-path _ _ (search rules) (search rules) (omega arith), search (rules, all-length))
 
 pub returns : goal.returns
-returns c = search (rules, filled-tree)
+returns c = let a = rw c.all_children.ensures at c.add_path.ensures in search (rules, filled-tree, a)

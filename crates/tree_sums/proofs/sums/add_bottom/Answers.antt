@@ -2,5 +2,5 @@
 use Rattle.tree_sums.proofs.Bottom.{bottom_eight}
 use Rattle.tree_sums.proofs.sums.add_bottom.Goals as goal
 
-pub returns-else-bits-eq2 : goal.returns-else-bits-eq2
-returns-else-bits-eq2 c = search bottom_eight
+pub returns-in_default : goal.returns-in_default
+returns-in_default c = search bottom_eight

@@ -1,6 +1,6 @@
--- `tree_sums::sums::add_words` meets its contract, in either field. Assumes nothing.
+-- `tree_sums::sums::add_element` meets its contract, in either field. Assumes nothing.
 use Rattle.tree_sums.proofs.Halves.{element_1, element_2}
-use Rattle.tree_sums.proofs.sums.add_words.Goals as goal
+use Rattle.tree_sums.proofs.sums.add_element.Goals as goal
 
 pub returns-then-field-eq-BINARY : goal.returns-then-field-eq-BINARY
 returns-then-field-eq-BINARY c = search element_1
