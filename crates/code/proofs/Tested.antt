@@ -4,7 +4,7 @@ use mathlib.Core.Bool.{Bool, true, false, ◌&&◌}
 use mathlib.Core.List.{List}
 use mathlib.Core.Path.{◌≡◌, sym, ap, ◌∙◌}
 use Prim.Native.Nat.{ℕ, ◌+◌, ◌≤◌, ◌<◌}
-use native.Mathlib.Nat.{add-zero, le_antisymm}
+use native.Mathlib.Nat.{le_antisymm}
 use native.Mathlib.Numerals.{add-one}
 use borrow.Author.Tests.{lt-ltb, le-ltb}
 use lib.ListN.{length, get_or}
@@ -12,8 +12,8 @@ use Rattle.code.specs.declared.Shape.{Shape}
 use Rattle.code.specs.declared.Window.{Window}
 use Rattle.code.specs.Inner.Rows.{place_in}
 use Rattle.algebra.specs.Every.{every}
-use Rattle.code.specs.Inner.Used.{word_below, terms_below, row_below, used_below, four_below, all_below}
-use Rattle.algebra.proofs.Every.{every-none, every_more, every_done, every_stop, every-and, every-not}
+use Rattle.code.specs.Inner.Used.{word_below, terms_below, row_below, used_below, all_below}
+use Rattle.algebra.proofs.Every.{every-none, every_more, every_done, every_stop}
 use Rattle.code.proofs.Laws.{used_all}
 
 module _ (bound : ℕ) (words : List ℕ) (keys : List (List (List ℕ))) (s : Shape) where
@@ -74,20 +74,6 @@ module _ (bound : ℕ) (words : List ℕ) where
   pub all_stop : (j : ℕ) → j < length words → bound ≤ get_or words j 0 → false ≡ all_below bound words
   unfolding all_below
   all_stop j k h = every_stop (word_below bound words) j (length words) k (le-ltb (get_or words j 0) bound h)
-
-  -- four words more
-  pub four_is : (j : ℕ) {a b x y : Bool} → a ≡ (true && word_below bound words j) → b ≡ (a && word_below bound words (j + 1))
-      → x ≡ (b && word_below bound words (j + 2)) → y ≡ (x && word_below bound words (j + 3)) → y ≡ four_below bound words j
-  unfolding four_below every
-  four_is j p q r s = s ∙ rw (r, q, p, add-zero)
-
-  pub four_more : (j : ℕ) {r : Bool} → r ≡ four_below bound words j → r ≡ true → every j (word_below bound words) ≡ true → every (j + 4) (word_below bound words) ≡ true
-  unfolding four_below
-  four_more j f t e = every-and (word_below bound words) j 4 e (sym f ∙ t)
-
-  pub four_stop : (j : ℕ) {r : Bool} → r ≡ four_below bound words j → r ≡ false → j + 4 ≤ length words → false ≡ all_below bound words
-  unfolding four_below all_below
-  four_stop j f t h = every-not (word_below bound words) j 4 (length words) h (sym f ∙ t)
 
   pub all_done : (j : ℕ) → every j (word_below bound words) ≡ true → j ≤ length words → length words ≤ j → true ≡ all_below bound words
   unfolding all_below

@@ -1,7 +1,8 @@
 // No code: the rows of the code in definitions and laws, and the structs that its functions take.
 #![tactic(auto)]
 
-// The code's shape: its places N, the terms ℓ of a row, and the strip N / ℓ.
+// The code's shape: its places N, the terms ℓ of a row, and the strip N / ℓ, which is divided once and not for each term. A vector's length
+// does not say N: an element takes one word or two.
 #[derive(Clone, Copy)]
 pub struct Shape {
     pub places: usize,

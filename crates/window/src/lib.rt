@@ -4,7 +4,7 @@
 
 use code::Window;
 
-// The rows of a window: the field, and the window.
+// The rows of a window: the field, by its number as everywhere (`field` says why), and the window.
 #[derive(Clone, Copy)]
 pub struct WindowRows {
     pub field: usize,

@@ -22,10 +22,6 @@ row_below bound words keys s x = every s.terms (λ i. word_below bound words (pl
 unfoldable pub used_below : ℕ → List ℕ → List (List (List ℕ)) → Shape → Window → Bool
 used_below bound words keys s w = every w.count (λ k. row_below bound words keys s (w.first + k))
 
--- the four words from place i on are below the bound
-unfoldable pub four_below : ℕ → List ℕ → ℕ → Bool
-four_below bound words i = every 4 (λ k. word_below bound words (i + k))
-
 -- every word of the whole vector is below the bound
 unfoldable pub all_below : ℕ → List ℕ → Bool
 all_below bound words = every (length words) (word_below bound words)
