@@ -17,7 +17,7 @@ pub struct Vector<'a> {
     pub layout: Layout,
     pub table: &'a [Tree; 64],
     pub cipher: TreeCipher<'a>,
-    pub ghost walking: { Walking number source.now layout table.now cipher.keys.now },
+    ghost walking: { Walking number source.now layout table.now cipher.keys.now },
 }
 
 impl<'a> Vector<'a> {

@@ -14,8 +14,8 @@ use record_reading::{read_noise, read_scalar};
 pub struct NoiseRecord<'a> {
     pub source: &'a [u8],
     pub layout: Layout,
-    pub ghost accepted: { NoiseAccepted source.now layout },
-    pub ghost sizes: { Sizes source.now (head_of source.now layout) layout.body },
+    ghost accepted: { NoiseAccepted source.now layout },
+    ghost sizes: { Sizes source.now (head_of source.now layout) layout.body },
 }
 
 impl<'a> NoiseRecord<'a> {
@@ -35,9 +35,9 @@ impl<'a> NoiseRecord<'a> {
 pub struct ScalarRecord<'a> {
     pub source: &'a [u8],
     pub layout: Layout,
-    pub ghost accepted: { ScalarAccepted source.now layout },
-    pub ghost sizes: { Sizes source.now (head_of source.now layout) layout.body },
-    pub ghost room: { roots_at layout + 16 * layout.trees ≤ length source.now },
+    ghost accepted: { ScalarAccepted source.now layout },
+    ghost sizes: { Sizes source.now (head_of source.now layout) layout.body },
+    ghost room: { roots_at layout + 16 * layout.trees ≤ length source.now },
 }
 
 impl<'a> ScalarRecord<'a> {
