@@ -4,16 +4,17 @@ use mathlib.Core.Path.{◌≡◌, refl, sym, ap, ap₂, ◌∙◌}
 use mathlib.Core.Bool.{Bool, true, false}
 use mathlib.Core.List.{List}
 use Prim.Native.Nat.{ℕ, suc, ◌+◌, ◌*◌, ◌≤◌, ◌<◌}
-use native.Mathlib.Nat.{mul-one, mul-le-mul_right, suc-mul}
+use native.Mathlib.Nat.{mul-le-mul_right, suc-mul}
 use native.Mathlib.Omega.{arith}
 use lib.Dec.{eqb, leb}
-use lib.ListN.{length, get_or, set, length-set}
+use lib.ListN.{length, set, length-set}
 use lib.Pow.{pow_mono}
 use lib.Seq.{get_or-set_same, get_or-set_other}
 use borrow.Author.Tests.{le-leb, lt-leb, eqb-true, eqb-false}
 use Rattle.algebra.specs.Coding.{CodingLaws, at, over}
 use Rattle.algebra.specs.Field.{FieldLaws, NoiseValue, Value}
 use Rattle.algebra.specs.Inner.Put.{put}
+use Rattle.algebra.specs.Choice.{choose}
 use Rattle.algebra.proofs.Choice.{choose-true, choose-false}
 use Rattle.algebra.proofs.Coding.{at_over_past, length-put, over-whole}
 use Rattle.algebra.proofs.Written.{front-none, front-all}
@@ -21,11 +22,8 @@ use Rattle.code.specs.declared.Shape.{Shape}
 use Rattle.code.specs.Row.{row_of_blocks}
 use Rattle.code.specs.Inner.Rows.{Shaped, term_block_by, place_in}
 use Rattle.field.specs.Bytes.{high_of}
-use Rattle.field.specs.Binary.{binary}
 use Rattle.field.specs.Kind.{kind_of}
-use Rattle.field.proofs.BinaryField.{binary_laws}
 use Rattle.field.proofs.BothKinds.{kind_laws}
-use Rattle.algebra.proofs.Words.{put_one}
 use Rattle.record.specs.declared.Layout.{Layout}
 use Rattle.window.specs.Inner.Outputs.{shape_of}
 use Rattle.algebra.proofs.Flats.{value-put}
@@ -33,10 +31,10 @@ use Rattle.tree.specs.Added.{added}
 use Rattle.field.specs.Inner.Elements.{noise_in, noise_sum}
 use Rattle.field.proofs.Elements.{noise-sum_is, noise-zero}
 use Rattle.ends_bench_leaves.specs.Inner.Vectors.{field_by, field_for, element_value}
-use Rattle.ends_bench.specs.Inner.Rows.{row_in, entry_in, IsBatch, IsCode, HasTerms, sums_more, place_added}
+use Rattle.ends_bench.specs.Inner.Rows.{row_in, entry_in, row_at, IsCode, HasTerms, carried_on, SumsMore, place_added}
 use Rattle.ends.proofs.Vectors.{noise-laws}
 use Rattle.field.specs.declared.element.Element.{Element}
-use Rattle.ends_bench.specs.declared.entries.Batch.{Batch}
+use Rattle.ends_bench.specs.declared.entries.Pending.{Pending}
 
 -- the laws of a vector's values
 pub vector_laws : (b : Bool) (field : ℕ) → FieldLaws (field_by b field)
@@ -45,25 +43,23 @@ vector_laws false field = (kind_laws field).field
 
 -- ---- entries
 
-module _ (field : ℕ) (rows : List ℕ) (j k : ℕ) {r : ℕ} where
-  pub entry_with : j ≤ get_or rows (32 + k) 0 → r ≡ noise_sum field (get_or rows k 0) (get_or rows (64 + k) 0) → noise_in field r ≡ entry_in field rows j k
+module _ (field : ℕ) (r : Pending) (j : ℕ) {x : ℕ} where
+  pub entry_with : j ≤ r.place → x ≡ noise_sum field r.sum r.coefficient → noise_in field x ≡ entry_in field r j
   unfolding entry_in
   entry_with h q =
       let K = kind_of field in
-      ap (noise_in field) q ∙ noise-sum_is field (get_or rows k 0) (get_or rows (64 + k) 0)
-      ∙ ap (K.field.ring.group.add (noise_in field (get_or rows k 0)))
-      (sym (choose-true (leb j (get_or rows (32 + k) 0)) (noise_in field (get_or rows (64 + k) 0)) K.field.ring.group.zero
-      (le-leb j (get_or rows (32 + k) 0) h)))
+      ap (noise_in field) q ∙ noise-sum_is field r.sum r.coefficient
+      ∙ ap (K.field.ring.group.add (noise_in field r.sum))
+      (sym (choose-true (leb j r.place) (noise_in field r.coefficient) K.field.ring.group.zero (le-leb j r.place h)))
 
-  pub entry_without : get_or rows (32 + k) 0 < j → r ≡ noise_sum field (get_or rows k 0) 0 → noise_in field r ≡ entry_in field rows j k
+  pub entry_without : r.place < j → x ≡ noise_sum field r.sum 0 → noise_in field x ≡ entry_in field r j
   unfolding entry_in
   entry_without h q =
       let K = kind_of field in
-      ap (noise_in field) q ∙ noise-sum_is field (get_or rows k 0) 0
-      ∙ ap (K.field.ring.group.add (noise_in field (get_or rows k 0)))
+      ap (noise_in field) q ∙ noise-sum_is field r.sum 0
+      ∙ ap (K.field.ring.group.add (noise_in field r.sum))
       (noise-zero field
-      ∙ sym (choose-false (leb j (get_or rows (32 + k) 0)) (noise_in field (get_or rows (64 + k) 0)) K.field.ring.group.zero
-      (lt-leb j (get_or rows (32 + k) 0) h)))
+      ∙ sym (choose-false (leb j r.place) (noise_in field r.coefficient) K.field.ring.group.zero (lt-leb j r.place h)))
 
 -- ---- terms
 
@@ -84,90 +80,74 @@ module _ (f : Layout) (ok : IsCode f) {shape : Shape} (e : shape ≡ shape_of f)
     unfolding row_in row_of_blocks
     term-coefficient c q n = n ∙ ap (kind_of f.field).coefficient q
 
-module _ (code : List (List (List ℕ))) (b : Batch) (i : ℕ) (before : List ℕ) where
-  pub terms-none : length before ≡ 96 → HasTerms code b i 0 before before
-  terms-none size =
-      record { places = λ k h. absurd (omega arith); coefficients = λ k h. absurd (omega arith); sums = λ k h. refl; size = size }
+-- row m after row k is set
+row-set : (rows : List Pending) (k m : ℕ) (r : Pending) → k < length rows → (t : Bool) → eqb m k ≡ t
+    → row_at (set rows k r) m ≡ choose t r (row_at rows m)
+row-set rows k m r h true q = rw (eqb-true m k q) (get_or-set_same rows k r _ h)
+row-set rows k m r h false q = get_or-set_other rows k m r _ (eqb-false m k q)
 
-  pub terms_more : {k : ℕ} {rows : List ℕ} → HasTerms code b i k before rows → IsBatch b → k < b.count → {p : ℕ} (c : ℕ)
-      → p ≡ (row_in code b.vector.layout (b.first + k)).place i
-      → noise_in b.vector.layout.field c ≡ (row_in code b.vector.layout (b.first + k)).coefficient i
-      → HasTerms code b i (k + 1) before (set (set rows (32 + k) p) (64 + k) c)
-  terms_more {k} {rows} t small few {p} c pe ce =
+module _ (code : List (List (List ℕ))) (f : Layout) (first i : ℕ) (before : List Pending) where
+  pub terms-none : HasTerms code f first i 0 before before
+  terms-none = record { places = λ k h. absurd (omega arith); coefficients = λ k h. absurd (omega arith); sums = λ k. refl; size = refl }
+
+  pub terms_more : {k : ℕ} {rows : List Pending} → HasTerms code f first i k before rows → k < length rows → (r : Pending)
+      → r.place ≡ (row_in code f (first + k)).place i → noise_in f.field r.coefficient ≡ (row_in code f (first + k)).coefficient i
+      → r.sum ≡ (row_at rows k).sum → HasTerms code f first i (k + 1) before (set rows k r)
+  terms_more {k} {rows} t few r pe ce se =
       record {
         places = λ m h. place m h (eqb m k) refl;
         coefficients = λ m h. coefficient m h (eqb m k) refl;
-        sums = λ m h.
-            get_or-set_other (set rows (32 + k) p) (64 + k) m c 0 (λ q. omega (arith, small.few))
-            ∙ get_or-set_other rows (32 + k) m p 0 (λ q. omega (arith, small.few)) ∙ t.sums m h;
-        size = simp length-set t.size;
+        sums = λ m. ap (λ (x : Pending). x.sum) (row-set rows k m r few (eqb m k) refl) ∙ sums m (eqb m k) refl ∙ t.sums m;
+        size = length-set rows k r ∙ t.size;
       }
     where
-      place : (m : ℕ) → m < k + 1 → (s : Bool) → eqb m k ≡ s
-          → get_or (set (set rows (32 + k) p) (64 + k) c) (32 + m) 0 ≡ (row_in code b.vector.layout (b.first + m)).place i
-      place m h true q =
-          rw (eqb-true m k q)
-          (get_or-set_other (set rows (32 + k) p) (64 + k) (32 + k) c 0 (λ q. omega (arith, small.few))
-          ∙ get_or-set_same rows (32 + k) p 0 (omega (arith, t.size, small.few)) ∙ pe)
+      place : (m : ℕ) → m < k + 1 → (s : Bool) → eqb m k ≡ s → (row_at (set rows k r) m).place ≡ (row_in code f (first + m)).place i
+      place m h true q = ap (λ (x : Pending). x.place) (row-set rows k m r few true q) ∙ rw (eqb-true m k q) pe
       place m h false q =
-          let n : m < k = omega (arith, eqb-false m k q) in
-          get_or-set_other (set rows (32 + k) p) (64 + k) (32 + m) c 0 (λ q. omega (arith, small.few))
-          ∙ get_or-set_other rows (32 + k) (32 + m) p 0 (λ q. omega (arith, small.few)) ∙ t.places m n
+          ap (λ (x : Pending). x.place) (row-set rows k m r few false q) ∙ t.places m (omega (arith, eqb-false m k q))
 
       coefficient : (m : ℕ) → m < k + 1 → (s : Bool) → eqb m k ≡ s
-          → noise_in b.vector.layout.field (get_or (set (set rows (32 + k) p) (64 + k) c) (64 + m) 0)
-          ≡ (row_in code b.vector.layout (b.first + m)).coefficient i
-      coefficient m h true q =
-          rw (eqb-true m k q)
-          (ap (noise_in b.vector.layout.field) (get_or-set_same (set rows (32 + k) p) (64 + k) c 0 (simp length-set (omega (arith, t.size, small.few))))
-          ∙ ce)
+          → noise_in f.field (row_at (set rows k r) m).coefficient ≡ (row_in code f (first + m)).coefficient i
+      coefficient m h true q = ap (λ (x : Pending). noise_in f.field x.coefficient) (row-set rows k m r few true q) ∙ rw (eqb-true m k q) ce
       coefficient m h false q =
-          let n : m < k = omega (arith, eqb-false m k q) in
-          ap (noise_in b.vector.layout.field)
-          (get_or-set_other (set rows (32 + k) p) (64 + k) (64 + m) c 0 (λ q. omega (arith, small.few))
-          ∙ get_or-set_other rows (32 + k) (64 + m) p 0 (λ q. omega (arith, small.few)))
-          ∙ t.coefficients m n
+          ap (λ (x : Pending). noise_in f.field x.coefficient) (row-set rows k m r few false q)
+          ∙ t.coefficients m (omega (arith, eqb-false m k q))
+
+      sums : (m : ℕ) (s : Bool) → eqb m k ≡ s → (choose s r (row_at rows m)).sum ≡ (row_at rows m).sum
+      sums m true q = rw (eqb-true m k q) se
+      sums m false q = refl
 
 -- ---- the sums carried on
 
-module _ (field : ℕ) (b : List ℕ) where
-  -- the sums of the first k rows
-  abbrev carried : ℕ → ℕ
-  carried k = noise_sum field (get_or b k 0) (get_or b (64 + k) 0)
+module _ (field : ℕ) (before : List Pending) where
+  pub passed_none : SumsMore field 0 before before
+  passed_none = record { carried = λ k h. absurd (omega arith); others = λ k h. refl; size = refl }
 
-  pub record Passed (v : List ℕ) (k : ℕ) : Type 0 where
-    pub words : v ≡ over binary.noise_values k carried b
-    pub size : length v ≡ length b
-
-  pub passed_none : Passed b 0
-  passed_none = record { words = front-none binary.noise_values carried b; size = refl }
-
-  word_past : (v : List ℕ) (k m : ℕ) → v ≡ over binary.noise_values k carried b → k ≤ m → m < length b → get_or v m 0 ≡ get_or b m 0
-  word_past v k m e h l =
-      ap (λ (i : ℕ). get_or v i 0) (sym (mul-one m)) ∙ ap (λ (x : List ℕ). get_or x (m * 1) 0) e
-      ∙ at_over_past binary.noise_values binary_laws.noise_values k carried b m h (omega arith) ∙ ap (λ (i : ℕ). get_or b i 0) (mul-one m)
-
-  pub passed_more : length b ≡ 96 → {v : List ℕ} {k count : ℕ} → Passed v k → k < count → count ≤ 32 → {x : ℕ}
-      → x ≡ noise_sum field (get_or v k 0) (get_or v (64 + k) 0) → Passed (set v k x) (k + 1)
-  passed_more size {v} {k} p few most {x} e =
+  pub passed_more : {k : ℕ} {rows : List Pending} → SumsMore field k before rows → k < length rows → {x : ℕ}
+      → x ≡ noise_sum field (row_at rows k).sum (row_at rows k).coefficient
+      → SumsMore field (k + 1) before (set rows k (record { place = (row_at rows k).place; coefficient = (row_at rows k).coefficient; sum = x }))
+  passed_more {k} {rows} p few {x} e =
+      let r : Pending = record { place = (row_at rows k).place; coefficient = (row_at rows k).coefficient; sum = x } in
+      let f : r ≡ carried_on field (row_at rows k) =
+      ap (λ (n : ℕ). record { place = (row_at rows k).place; coefficient = (row_at rows k).coefficient; sum = n }) e in
       record {
-        words = value-put binary.noise_values binary_laws.noise_values carried b k p.words
-            (sym (put_one (λ b. b) (λ w. w) v k x (omega (arith, p.size))))
-            (e ∙ ap₂ (noise_sum field) (word_past v k k p.words (omega arith) (omega arith)) (word_past v k (64 + k) p.words (omega arith) (omega arith)));
-        size = length-set v k x ∙ p.size;
+        carried = λ m h. row-set rows k m r few (eqb m k) refl ∙ carried r f m h (eqb m k) refl;
+        others = λ m h. get_or-set_other rows k m r _ (λ q. omega arith) ∙ p.others m (omega arith);
+        size = length-set rows k r ∙ p.size;
       }
-
-  pub passed_all : {v : List ℕ} {k n : ℕ} → Passed v k → k ≤ n → n ≤ k → v ≡ sums_more field n b
-  unfolding sums_more
-  passed_all {v} {k} {n} p h g = front-all binary.noise_values carried b k n v h g p.words
+    where
+      carried : (r : Pending) → r ≡ carried_on field (row_at rows k) → (m : ℕ) → m < k + 1 → (s : Bool) → eqb m k ≡ s
+          → choose s r (row_at rows m) ≡ carried_on field (row_at before m)
+      carried r f m h true q = rw (eqb-true m k q) (f ∙ ap (carried_on field) (p.others k (omega arith)))
+      carried r f m h false q = p.carried m (omega (arith, eqb-false m k q))
 
 -- ---- a place added
 
-module _ (vector field : ℕ) (rows : List ℕ) (j : ℕ) (value : Element) (b : List ℕ) where
+module _ (vector field : ℕ) (rows : List Pending) (j : ℕ) (value : Element) (b : List ℕ) where
   abbrev added_at : ℕ → Value (field_for vector field)
   added_at k =
       (field_for vector field).scaled.group.add (at (field_for vector field).elements b k)
-      ((field_for vector field).scaled.scale (entry_in field rows j k) (element_value vector field value))
+      ((field_for vector field).scaled.scale (entry_in field (row_at rows k) j) (element_value vector field value))
 
   coding : CodingLaws (field_for vector field).elements
   coding = (vector_laws (eqb vector 1) field).elements
@@ -179,14 +159,14 @@ module _ (vector field : ℕ) (rows : List ℕ) (j : ℕ) (value : Element) (b :
   pub summed-none : Summed b 0
   summed-none = record { words = front-none (field_for vector field).elements added_at b; size = refl }
 
-  module _ (count : ℕ) (whole : length b ≡ count * (field_for vector field).elements.width) {v : List ℕ} {k : ℕ} (s : Summed v k) where
-    pub summed-room : k < count → k * (field_for vector field).elements.width + (field_for vector field).elements.width ≤ length v
+  module _ (whole : length b ≡ length rows * (field_for vector field).elements.width) {v : List ℕ} {k : ℕ} (s : Summed v k) where
+    pub summed-room : k < length rows → k * (field_for vector field).elements.width + (field_for vector field).elements.width ≤ length v
     summed-room h =
         let W = (field_for vector field).elements.width in
-        let m : suc k * W ≤ count * W = mul-le-mul_right W h in
+        let m : suc k * W ≤ length rows * W = mul-le-mul_right W h in
         omega (arith, s.size, suc-mul k W)
 
-    pub summed_more : k < count → (entry : ℕ) → noise_in field entry ≡ entry_in field rows j k → {next : List ℕ}
+    pub summed_more : k < length rows → (entry : ℕ) → noise_in field entry ≡ entry_in field (row_at rows k) j → {next : List ℕ}
         → next ≡ put (field_for vector field).elements v k ((field_for vector field).scaled.group.add (at (field_for vector field).elements v k)
         ((field_for vector field).scaled.scale (noise_in field entry) (element_value vector field value)))
         → Summed next (k + 1)
@@ -201,8 +181,8 @@ module _ (vector field : ℕ) (rows : List ℕ) (j : ℕ) (value : Element) (b :
           size = ap length q ∙ length-put F.elements coding v k _ (summed-room h) ∙ s.size;
         }
 
-    pub summed-all : k ≤ count → count ≤ k → v ≡ place_added vector field count rows j (element_value vector field value) b
+    pub summed-all : k ≤ length rows → length rows ≤ k → v ≡ place_added vector field rows j (element_value vector field value) b
     unfolding place_added added
     summed-all h g =
-        front-all (field_for vector field).elements added_at b k count v h g s.words
-        ∙ over-whole (field_for vector field).elements coding count added_at b whole
+        front-all (field_for vector field).elements added_at b k (length rows) v h g s.words
+        ∙ over-whole (field_for vector field).elements coding (length rows) added_at b whole

@@ -3,66 +3,63 @@ use mathlib.Core.Path.{◌≡◌, refl, sym, ap, ap₂, ◌∙◌}
 use mathlib.Core.Bool.{Bool, true, false}
 use mathlib.Core.List.{List, ◌++◌, append_assoc}
 use Prim.Native.Nat.{ℕ, zero, suc, ◌+◌, ◌-◌, ◌*◌, ◌^◌, ◌≤◌, ◌<◌, min}
-use native.Mathlib.Nat.{mul-one, mul-le-mul_right, add-mul, zero-mul}
+use native.Mathlib.Nat.{mul-le-mul_right, add-mul, zero-mul}
 use native.Mathlib.Omega.{arith}
 use lib.Dec.{eqb, leb}
-use lib.ListN.{length, get_or, take, drop, replicate, get_or-replicate, length-replicate}
+use lib.ListN.{length, take, drop, replicate, get_or-replicate, length-replicate}
 use lib.Pow.{pow_mono}
-use lib.Seq.{drop-drop}
+use lib.Seq.{drop-drop, length-take-le}
+use Rattle.std.proofs.lemmas.List.{get_or-take}
 use borrow.Author.Tests.{eq-eqb, ne_eqb}
 use borrow.Rule.Slice.PartMut.{put_mid}
 use Rattle.algebra.specs.Choice.{choose}
 use Rattle.algebra.specs.Coding.{CodingLaws, at, flat, over}
 use Rattle.algebra.specs.Field.{Field, FieldLaws, NoiseValue, Value}
 use Rattle.algebra.specs.Row.{Row, entry}
-use Rattle.algebra.proofs.Coding.{flat_cong, length-flat, at_flat, at_over, flat-add, take-over, drop-over-add, length_over}
+use Rattle.algebra.proofs.Coding.{flat_cong, length-flat, at_flat, flat-add, take-over, drop-over-add, length_over}
 use Rattle.algebra.proofs.Written.{front-none}
 use Rattle.algebra.proofs.Falling.{from_top, top-none, top_more}
 use Rattle.algebra.proofs.Sum.{sum-none}
 use Rattle.code.specs.Strips.{ReadsStrips}
 use Rattle.code.specs.Inner.Rows.{term_block_by}
 use Rattle.code.proofs.Strips.{strip-end, strips_within, blocks-full}
-use Rattle.field.specs.Binary.{binary}
 use Rattle.field.specs.Kind.{Kind, kind_of, element_words}
-use Rattle.field.proofs.BinaryField.{binary_laws}
 use Rattle.field.proofs.BothKinds.{kind_laws}
 use Rattle.record.specs.declared.Layout.{Layout}
-use Rattle.record.specs.declared.Tree.{Tree}
 use Rattle.field.proofs.KindOf.{zero-elements, zero-noise}
 use Rattle.tree.proofs.Sums.{trees-none, trees_sum}
 use Rattle.tree.specs.Added.{added}
 use Rattle.tree.proofs.PowerLaws.{level_less}
-use Rattle.field.specs.Inner.Elements.{noise_in, noise_sum}
+use Rattle.field.specs.Inner.Elements.{noise_in}
 use Rattle.field.proofs.Elements.{noise-sum_is, noise-zero}
 use Rattle.ends_bench_leaves.specs.Inner.Vectors.{field_by, field_for, values_of}
-use Rattle.ends_bench.specs.Inner.Rows.{row_in, output_of, entry_in, IsBatch, IsCode, HasTerms, sums_more, place_added, strip_added, strip_of}
-use Rattle.ends_bench.specs.Inner.Strips.{IsStrip}
-use Rattle.ends_bench_leaves.specs.Inner.Trees.{Walking}
-use Rattle.ends_bench.specs.declared.batch.Strip.{Strip}
-use Rattle.ends_bench.specs.declared.entries.Batch.{Batch}
+use Rattle.ends_bench.specs.Inner.Rows.{row_in, output_of, entry_in, row_at, IsCode, HasTerms, SumsMore, place_added, strip_added, strip_of}
+use Rattle.ends_bench.specs.declared.entries.Pending.{Pending}
+use Rattle.ends_bench_leaves.specs.declared.vector.Vector.{Vector}
+use Rattle.code.specs.declared.Window.{Window}
 use Rattle.ends_bench.proofs.Rows.{vector_laws}
 use Rattle.ends_bench.proofs.ByStrips.{strip-entry, strips_times}
 
 -- ---- a strip, one place a turn
 
 -- the places of a strip of so many from a place on, but the lowest `left`, are added
-pub record Stripped (vector field count : ℕ) (rows : List ℕ) (value : ℕ → Value (field_for vector field)) (b : List ℕ) (start size left : ℕ)
+pub record Stripped (vector field : ℕ) (rows : List Pending) (value : ℕ → Value (field_for vector field)) (b : List ℕ) (start size left : ℕ)
     (v : List ℕ) : Type 0 where
   pub within : left ≤ size
-  pub words : v ≡ strip_added vector field count rows value (start + size) (size - left) b
+  pub words : v ≡ strip_added vector field rows value (start + size) (size - left) b
 
-module _ (vector field count : ℕ) (rows : List ℕ) (value : ℕ → Value (field_for vector field)) (b : List ℕ) (start size : ℕ) where
-  pub stripped_none : Stripped vector field count rows value b start size size b
+module _ (vector field : ℕ) (rows : List Pending) (value : ℕ → Value (field_for vector field)) (b : List ℕ) (start size : ℕ) where
+  pub stripped_none : Stripped vector field rows value b start size size b
   unfolding strip_added
   stripped_none =
       record {
         within = omega arith;
-        words = sym (ap (λ (n : ℕ). strip_added vector field count rows value (start + size) n b) {x = size - size} {y = 0} (omega arith));
+        words = sym (ap (λ (n : ℕ). strip_added vector field rows value (start + size) n b) {x = size - size} {y = 0} (omega arith));
       }
 
-  module _ {left : ℕ} {v : List ℕ} (e : Stripped vector field count rows value b start size left v) where
+  module _ {left : ℕ} {v : List ℕ} (e : Stripped vector field rows value b start size left v) where
     pub stripped_more : 0 < left → {x : Value (field_for vector field)} → x ≡ value (start + (left - 1)) → {next : List ℕ}
-        → next ≡ place_added vector field count rows (start + (left - 1)) x v → Stripped vector field count rows value b start size (left - 1) next
+        → next ≡ place_added vector field rows (start + (left - 1)) x v → Stripped vector field rows value b start size (left - 1) next
     unfolding strip_added
     stripped_more k {x} xe {next} q =
         let h = e.within in
@@ -70,9 +67,9 @@ module _ (vector field count : ℕ) (rows : List ℕ) (value : ℕ → Value (fi
         record {
           within = omega arith;
           words =
-              q ∙ ap₂ (place_added vector field count rows (start + (left - 1))) xe e.words
-              ∙ ap (λ (j : ℕ). place_added vector field count rows j (value j) (strip_added vector field count rows value (start + size) (size - left) b)) p
-              ∙ ap (λ (n : ℕ). strip_added vector field count rows value (start + size) n b) {x = suc (size - left)} {y = size - (left - 1)} (omega arith);
+              q ∙ ap₂ (place_added vector field rows (start + (left - 1))) xe e.words
+              ∙ ap (λ (j : ℕ). place_added vector field rows j (value j) (strip_added vector field rows value (start + size) (size - left) b)) p
+              ∙ ap (λ (n : ℕ). strip_added vector field rows value (start + size) n b) {x = suc (size - left)} {y = size - (left - 1)} (omega arith);
         }
 
 -- ---- a batch, one strip a turn
@@ -82,86 +79,92 @@ zero-values : (b : Bool) (field : ℕ) → (field_by b field).elements.words (fi
 zero-values true field = zero-noise field
 zero-values false field = zero-elements field
 
--- the field of a batch's vector, its row k, and the places of its strips
-abbrev batch_field : Batch → Field
-batch_field b = field_for b.vector.number b.vector.layout.field
+-- the field of a vector's values, row k of a batch from a row on, and the places of the strips
+abbrev value_field : Vector → Field
+value_field v = field_for v.number v.layout.field
 
-abbrev row_of : List (List (List ℕ)) → (b : Batch) → ℕ → Row (kind_of b.vector.layout.field).field.ring
-row_of code b k = row_in code b.vector.layout (b.first + k)
+abbrev row_of : List (List (List ℕ)) → (v : Vector) → ℕ → ℕ → Row (kind_of v.layout.field).field.ring
+row_of code v first k = row_in code v.layout (first + k)
 
 abbrev strips_of : Layout → ℕ
 strips_of f = f.terms * strip_of f
 
 -- row k's entry × the value at a place, and their sum over the places from j on
-unfoldable pub part_of : List ℕ → List (List (List ℕ)) → (b : Batch) → ℕ → ℕ → Value (batch_field b)
-part_of s code b k j = (batch_field b).scaled.scale (entry (row_of code b k) j) (values_of b.vector.number s b.vector.layout j)
+unfoldable pub part_of : List (List (List ℕ)) → (v : Vector) → ℕ → ℕ → ℕ → Value (value_field v)
+part_of code v first k j =
+    (value_field v).scaled.scale (entry (row_of code v first k) j) (values_of v.number v.source.now v.layout j)
 
-abbrev summed_to : List ℕ → List (List (List ℕ)) → (b : Batch) → ℕ → ℕ → Value (batch_field b)
-summed_to s code b j k = from_top (batch_field b).scaled.group (part_of s code b k) (strips_of b.vector.layout) j
+abbrev summed_to : List (List (List ℕ)) → (v : Vector) → ℕ → ℕ → ℕ → Value (value_field v)
+summed_to code v first j k = from_top (value_field v).scaled.group (part_of code v first k) (strips_of v.layout) j
 
 -- a batch with the strips from i on summed
-pub record Down (s : List ℕ) (code : List (List (List ℕ))) (b : Batch) (i : ℕ) (rows out : List ℕ) : Type 0 where
-  pub shape : IsCode b.vector.layout
-  pub within : i ≤ b.vector.layout.terms
-  pub sums : (k : ℕ) → k < b.count → noise_in b.vector.layout.field (get_or rows k 0)
-      ≡ from_top (kind_of b.vector.layout.field).field.ring.group (row_of code b k).coefficient b.vector.layout.terms i
-  pub size : length rows ≡ 96
-  pub outputs : out ≡ flat (batch_field b).elements b.count (summed_to s code b (i * strip_of b.vector.layout))
-  pub whole : length out ≡ b.count * (batch_field b).elements.width
+pub record Down (code : List (List (List ℕ))) (v : Vector) (w : Window) (i : ℕ) (rows : List Pending) (out : List ℕ) : Type 0 where
+  pub shape : IsCode v.layout
+  pub within : i ≤ v.layout.terms
+  pub sums : (k : ℕ) → k < w.count → noise_in v.layout.field (row_at rows k).sum
+      ≡ from_top (kind_of v.layout.field).field.ring.group (row_of code v w.first k).coefficient v.layout.terms i
+  pub size : length rows ≡ w.count
+  pub outputs : out ≡ flat (value_field v).elements w.count (summed_to code v w.first (i * strip_of v.layout))
+  pub whole : length out ≡ w.count * (value_field v).elements.width
 
-pub batch-code : (s : List ℕ) (b : Batch) {table : List Tree} {keys : List (List ℕ)} → Walking b.vector.number s b.vector.layout table keys
-    → IsCode b.vector.layout
-batch-code s b w = let z = w.standing.sizes in record { depth = z.depth; some = z.some; full = z.full; few = z.terms }
+pub code_sizes : (v : Vector) → IsCode v.layout
+code_sizes v = let z = v.walking.standing.sizes in record { depth = z.depth; some = z.some; full = z.full; few = z.terms }
 
-module _ (s : List ℕ) (code : List (List (List ℕ))) (b : Batch) where
+module _ (code : List (List (List ℕ))) (v : Vector) (w : Window) where
   abbrev f : Layout
-  f = b.vector.layout
+  f = v.layout
 
   abbrev F : Field
-  F = batch_field b
+  F = value_field v
 
   abbrev K : Kind
-  K = kind_of b.vector.layout.field
+  K = kind_of v.layout.field
 
-  laws : FieldLaws (batch_field b)
-  laws = vector_laws (eqb b.vector.number 1) f.field
+  laws : FieldLaws (value_field v)
+  laws = vector_laws (eqb v.number 1) f.field
 
-  reads : IsCode b.vector.layout → (k : ℕ) → ReadsStrips (2 ^ f.depth) f.terms (row_of code b k)
+  reads : (k : ℕ) → ReadsStrips (2 ^ f.depth) f.terms (row_of code v w.first k)
   unfolding row_in
-  reads ok k = blocks-full K.field.ring K.coefficient (2 ^ f.depth) f.terms (term_block_by code (b.first + k)) ok.some ok.full
+  reads k =
+      let ok = code_sizes v in
+      blocks-full K.field.ring K.coefficient (2 ^ f.depth) f.terms (term_block_by code (w.first + k)) ok.some ok.full
 
-  summed-size : (j : ℕ) {out : List ℕ} → out ≡ flat F.elements b.count (summed_to s code b j) → length out ≡ b.count * F.elements.width
-  summed-size j e = ap length e ∙ length-flat F.elements laws.elements b.count (summed_to s code b j)
+  summed-size : (j : ℕ) {out : List ℕ} → out ≡ flat F.elements w.count (summed_to code v w.first j) → length out ≡ w.count * F.elements.width
+  summed-size j e = ap length e ∙ length-flat F.elements laws.elements w.count (summed_to code v w.first j)
 
-  pub batch-none : {table : List Tree} {keys : List (List ℕ)} → Walking b.vector.number s b.vector.layout table keys → IsBatch b
-      → {n : ℕ} → n ≡ b.count * (field_for b.vector.number b.vector.layout.field).elements.width → {rows out : List ℕ}
-      → rows ≡ replicate 96 0 → out ≡ replicate n 0 → Down s code b b.vector.layout.terms rows out
+  pub batch-none : w.count ≤ 32 → {n : ℕ} → n ≡ w.count * (field_for v.number v.layout.field).elements.width → {rows : List Pending} {out : List ℕ}
+      → rows ≡ take w.count (replicate 32 (record { place = 0; coefficient = 0; sum = 0 })) → out ≡ replicate n 0
+      → Down code v w v.layout.terms rows out
   unfolding trees_sum
-  batch-none w small size re oe =
-      let o : _ ≡ flat F.elements b.count (summed_to s code b (strips_of f)) =
-      trees-none F laws b.count (λ m k. F.scaled.group.zero) (zero-values (eqb b.vector.number 1) f.field) oe size
-      ∙ flat_cong F.elements laws.elements b.count _ (summed_to s code b (strips_of f))
-      (λ k h. sum-none F.scaled.group (λ m. F.scaled.group.zero) ∙ sym (top-none F.scaled.group (part_of s code b k) (strips_of f))) in
+  batch-none few size re oe =
+      let none : Pending = record { place = 0; coefficient = 0; sum = 0 } in
+      let o : _ ≡ flat F.elements w.count (summed_to code v w.first (strips_of f)) =
+      trees-none F laws w.count (λ m k. F.scaled.group.zero) (zero-values (eqb v.number 1) f.field) oe size
+      ∙ flat_cong F.elements laws.elements w.count _ (summed_to code v w.first (strips_of f))
+      (λ k h. sum-none F.scaled.group (λ m. F.scaled.group.zero) ∙ sym (top-none F.scaled.group (part_of code v w.first k) (strips_of f))) in
       record {
-        shape = batch-code s b w;
+        shape = code_sizes v;
         within = omega arith;
         sums = λ k h.
-            ap (noise_in f.field) (ap (λ (l : List ℕ). get_or l k 0) re ∙ get_or-replicate 96 k 0 0 (omega (arith, small.few))) ∙ noise-zero f.field
-            ∙ sym (top-none K.field.ring.group (row_of code b k).coefficient f.terms);
-        size = ap length re ∙ length-replicate {A = ℕ} 96 0;
+            ap (λ (l : List Pending). noise_in f.field (row_at l k).sum) re
+            ∙ ap (λ (r : Pending). noise_in f.field r.sum)
+            (get_or-take w.count (replicate 32 none) k none h ∙ get_or-replicate 32 k none none (omega (arith, few)))
+            ∙ noise-zero f.field
+            ∙ sym (top-none K.field.ring.group (row_of code v w.first k).coefficient f.terms);
+        size = ap length re ∙ length-take-le w.count (replicate 32 none) (rw (length-replicate {A = Pending} 32 none) few);
         outputs = o;
         whole = summed-size (strips_of f) o;
       }
 
   -- ---- strip i − 1, whose terms stand in the rows
 
-  module _ {i : ℕ} {before out : List ℕ} (d : Down s code b i before out) where
-    pub batch-below : 0 < i → i - 1 < b.vector.layout.terms
+  module _ {i : ℕ} {before : List Pending} {out : List ℕ} (d : Down code v w i before out) where
+    pub batch-below : 0 < i → i - 1 < v.layout.terms
     batch-below h = omega (arith, d.within)
 
-    module _ (small : IsBatch b) (some : 0 < i) {rows : List ℕ} (t : HasTerms code b (i - 1) b.count before rows) where
+    module _ (some : 0 < i) {rows : List Pending} (t : HasTerms code v.layout w.first (i - 1) (length before) before rows) where
       abbrev size : ℕ
-      size = strip_of b.vector.layout
+      size = strip_of v.layout
 
       top : i * size ≡ (i - 1) * size + size
       top = level_less i size (λ e. omega arith)
@@ -172,95 +175,104 @@ module _ (s : List ℕ) (code : List (List (List ℕ))) (b : Batch) where
       one_up : {A : Type 0} (g : ℕ → A) → g i ≡ g (suc (i - 1))
       one_up g = ap g {x = i} {y = suc (i - 1)} (omega arith)
 
-      entry_is : (k j : ℕ) → k < b.count → (i - 1) * size ≤ j → j < i * size → entry_in f.field rows j k ≡ entry (row_of code b k) j
+      row_here : {k : ℕ} → k < w.count → k < length before
+      row_here h = omega (arith, d.size, h)
+
+      pub rows_size : length rows ≡ w.count
+      rows_size = t.size ∙ d.size
+
+      sum_is : (k : ℕ) → k < w.count
+          → noise_in f.field (row_at rows k).sum ≡ from_top K.field.ring.group (row_of code v w.first k).coefficient f.terms (suc (i - 1))
+      sum_is k h =
+          ap (noise_in f.field) (t.sums k) ∙ d.sums k h ∙ one_up (from_top K.field.ring.group (row_of code v w.first k).coefficient f.terms)
+
+      entry_is : (k j : ℕ) → k < w.count → (i - 1) * size ≤ j → j < i * size
+          → entry_in f.field (row_at rows k) j ≡ entry (row_of code v w.first k) j
       unfolding entry_in
       entry_is k j h low high =
           let G = K.field.ring.group in
-          let row = row_of code b k in
-          ap₂ (λ (x : G.Of) (y : ℕ). G.add x (choose (leb j y) (noise_in f.field (get_or rows (64 + k) 0)) G.zero))
-          (ap (noise_in f.field) (t.sums k (omega (arith, small.few))) ∙ d.sums k h ∙ one_up (from_top G row.coefficient f.terms)) (t.places k h)
+          let row = row_of code v w.first k in
+          ap₂ (λ (x : G.Of) (y : ℕ). G.add x (choose (leb j y) (noise_in f.field (row_at rows k).coefficient) G.zero))
+          (sum_is k h) (t.places k (row_here h))
           ∙ ap (λ (z : G.Of). G.add (from_top G row.coefficient f.terms (suc (i - 1))) (choose (leb j (row.place (i - 1))) z G.zero))
-          (t.coefficients k h)
-          ∙ sym (strip-entry (kind_laws f.field).field.ring.group (2 ^ f.depth) f.terms row (reads d.shape k) (i - 1) j (batch-below some) low
+          (t.coefficients k (row_here h))
+          ∙ sym (strip-entry (kind_laws f.field).field.ring.group (2 ^ f.depth) f.terms row (reads k) (i - 1) j (batch-below some) low
           (rw (← one_up (λ n. n * size)) high))
 
       strip-summed : (n : ℕ) → n ≤ size
-          → strip_added b.vector.number f.field b.count rows (values_of b.vector.number s f) (i * size) n out
-          ≡ flat F.elements b.count (summed_to s code b (i * size - n))
+          → strip_added v.number f.field rows (values_of v.number v.source.now f) (i * size) n out
+          ≡ flat F.elements w.count (summed_to code v w.first (i * size - n))
       unfolding strip_added place_added added part_of
       strip-summed zero h =
-          d.outputs ∙ ap (λ (j : ℕ). flat F.elements b.count (summed_to s code b j)) {x = i * size} {y = i * size - 0} (omega arith)
+          d.outputs ∙ ap (λ (j : ℕ). flat F.elements w.count (summed_to code v w.first j)) {x = i * size} {y = i * size - 0} (omega arith)
       strip-summed (suc n) h =
           let j = i * size - suc n in
+          let values = values_of v.number v.source.now f in
           let earlier = strip-summed n (omega arith) in
-          flat_cong F.elements laws.elements b.count _ (summed_to s code b j)
+          ap (λ (m : ℕ). flat F.elements m
+          (λ k. F.scaled.group.add (at F.elements (strip_added v.number f.field rows values (i * size) n out) k)
+          (F.scaled.scale (entry_in f.field (row_at rows k) j) (values j)))) rows_size
+          ∙ flat_cong F.elements laws.elements w.count _ (summed_to code v w.first j)
           (λ k l.
-          ap₂ (λ (x : Value F) (c : NoiseValue F). F.scaled.group.add x (F.scaled.scale c (values_of b.vector.number s f j)))
-          (ap (λ (v : List ℕ). at F.elements v k) earlier
-          ∙ at_flat F.elements laws.elements b.count (summed_to s code b (i * size - n)) k l
-          ∙ ap (λ (m : ℕ). summed_to s code b m k) {x = i * size - n} {y = suc j} (omega (arith, top)))
+          ap₂ (λ (x : Value F) (c : NoiseValue F). F.scaled.group.add x (F.scaled.scale c (values j)))
+          (ap (λ (o : List ℕ). at F.elements o k) earlier
+          ∙ at_flat F.elements laws.elements w.count (summed_to code v w.first (i * size - n)) k l
+          ∙ ap (λ (m : ℕ). summed_to code v w.first m k) {x = i * size - n} {y = suc j} (omega (arith, top)))
           (entry_is k j l (omega (arith, top)) (omega (arith, top)))
           ∙ place k j (omega (arith, last, top)))
         where
           place : (k j : ℕ) → j < strips_of f
-              → F.scaled.group.add (summed_to s code b (suc j) k) (F.scaled.scale (entry (row_of code b k) j) (values_of b.vector.number s f j))
-              ≡ summed_to s code b j k
-          place k j l = sym (top_more F.scaled.group (part_of s code b k) (strips_of f) j l)
+              → F.scaled.group.add (summed_to code v w.first (suc j) k)
+              (F.scaled.scale (entry (row_of code v w.first k) j) (values_of v.number v.source.now f j))
+              ≡ summed_to code v w.first j k
+          place k j l = sym (top_more F.scaled.group (part_of code v w.first k) (strips_of f) j l)
 
       pub batch_more : {next : List ℕ}
-          → next ≡ strip_added b.vector.number b.vector.layout.field b.count rows (values_of b.vector.number s b.vector.layout)
-          ((i - 1 + 1) * strip_of b.vector.layout) (strip_of b.vector.layout) out
-          → {after : List ℕ} → after ≡ sums_more b.vector.layout.field b.count rows → Down s code b (i - 1) after next
-      unfolding sums_more
+          → next ≡ strip_added v.number v.layout.field rows (values_of v.number v.source.now v.layout)
+          ((i - 1 + 1) * strip_of v.layout) (strip_of v.layout) out
+          → {after : List Pending} → SumsMore v.layout.field (length rows) rows after → Down code v w (i - 1) after next
       batch_more {next} q {after} a =
-          let C = binary.noise_values in
-          let carried : ℕ → ℕ = λ k. noise_sum f.field (get_or rows k 0) (get_or rows (64 + k) 0) in
-          let o : next ≡ flat F.elements b.count (summed_to s code b ((i - 1) * size)) =
-          q ∙ ap (λ (n : ℕ). strip_added b.vector.number f.field b.count rows (values_of b.vector.number s f) (n * size) size out)
+          let o : next ≡ flat F.elements w.count (summed_to code v w.first ((i - 1) * size)) =
+          q ∙ ap (λ (n : ℕ). strip_added v.number f.field rows (values_of v.number v.source.now f) (n * size) size out)
           {x = i - 1 + 1} {y = i} (omega arith)
           ∙ strip-summed size (omega arith)
-          ∙ ap (λ (j : ℕ). flat F.elements b.count (summed_to s code b j)) {x = i * size - size} {y = (i - 1) * size} (omega (arith, top)) in
+          ∙ ap (λ (j : ℕ). flat F.elements w.count (summed_to code v w.first j)) {x = i * size - size} {y = (i - 1) * size} (omega (arith, top)) in
           record {
             shape = d.shape;
             within = omega (arith, d.within);
             sums = λ k h.
-                ap (noise_in f.field) (ap (λ (j : ℕ). get_or after j 0) (sym (mul-one k)) ∙ ap (λ (l : List ℕ). get_or l (k * 1) 0) a
-                ∙ at_over C binary_laws.noise_values b.count carried rows k h)
-                ∙ noise-sum_is f.field (get_or rows k 0) (get_or rows (64 + k) 0)
-                ∙ ap₂ K.field.ring.group.add
-                (ap (noise_in f.field) (t.sums k (omega (arith, small.few))) ∙ d.sums k h
-                ∙ one_up (from_top K.field.ring.group (row_of code b k).coefficient f.terms))
-                (t.coefficients k h)
-                ∙ sym (top_more K.field.ring.group (row_of code b k).coefficient f.terms (i - 1) (batch-below some));
-            size = ap length a ∙ length_over C binary_laws.noise_values b.count carried rows (omega (arith, t.size, small.few)) ∙ t.size;
+                ap (λ (r : Pending). noise_in f.field r.sum) (a.carried k (omega (arith, rows_size, h)))
+                ∙ noise-sum_is f.field (row_at rows k).sum (row_at rows k).coefficient
+                ∙ ap₂ K.field.ring.group.add (sum_is k h) (t.coefficients k (row_here h))
+                ∙ sym (top_more K.field.ring.group (row_of code v w.first k).coefficient f.terms (i - 1) (batch-below some));
+            size = a.size ∙ rows_size;
             outputs = o;
             whole = summed-size ((i - 1) * size) o;
           }
 
     -- all strips
-    pub batch-all : i ≤ 0 → out ≡ flat (batch_field b).elements b.count
-        (λ k. output_of b.vector.number s code b.vector.layout (b.first + k))
+    pub batch-all : i ≤ 0 → out ≡ flat (value_field v).elements w.count
+        (λ k. output_of v.number v.source.now code v.layout (w.first + k))
     unfolding output_of part_of
     batch-all h =
         d.outputs
-        ∙ flat_cong F.elements laws.elements b.count _ _
-        (λ k l. ap (λ (n : ℕ). summed_to s code b (n * strip_of f) k) {x = i} {y = 0} (omega arith)
-        ∙ ap (λ (j : ℕ). summed_to s code b j k) (zero-mul (strip_of f))
-        ∙ strips_times (kind_laws f.field).field.ring.group (2 ^ f.depth) f.terms (row_of code b k) (reads d.shape k)
-        F.scaled laws.scaled (strips_within (2 ^ f.depth) f.terms d.shape.full) (values_of b.vector.number s f))
+        ∙ flat_cong F.elements laws.elements w.count _ _
+        (λ k l. ap (λ (n : ℕ). summed_to code v w.first (n * strip_of f) k) {x = i} {y = 0} (omega arith)
+        ∙ ap (λ (j : ℕ). summed_to code v w.first j k) (zero-mul (strip_of f))
+        ∙ strips_times (kind_laws f.field).field.ring.group (2 ^ f.depth) f.terms (row_of code v w.first k) (reads k)
+        F.scaled laws.scaled (strips_within (2 ^ f.depth) f.terms d.shape.full) (values_of v.number v.source.now f))
 
 -- ---- a strip's places
 
-module _ (s : List ℕ) (table : List Tree) (keys : List (List ℕ)) (t : Strip) (n : ℕ) (ok : IsStrip s table keys t n) {size : ℕ}
-    (e : size ≡ strip_of t.batch.vector.layout) where
-  pub strip-top : t.number * size + size ≤ 2 ^ t.batch.vector.layout.depth
+module _ (v : Vector) (i : ℕ) (below : i < v.layout.terms) {size : ℕ} (e : size ≡ strip_of v.layout) where
+  pub strip-top : i * size + size ≤ 2 ^ v.layout.depth
   strip-top =
-      let f = t.batch.vector.layout in
-      let sizes = ok.walking.standing.sizes in
-      rw e (omega (arith, strip-end (2 ^ f.depth) f.terms sizes.full t.number ok.below, strips_within (2 ^ f.depth) f.terms sizes.full))
+      let f = v.layout in
+      let sizes = v.walking.standing.sizes in
+      rw e (omega (arith, strip-end (2 ^ f.depth) f.terms sizes.full i below, strips_within (2 ^ f.depth) f.terms sizes.full))
 
-  pub strip-most : t.number * size + size ≤ 65536
-  strip-most = omega (arith, strip-top, pow_mono {i = t.batch.vector.layout.depth} {j = 16} ok.walking.standing.sizes.depth)
+  pub strip-most : i * size + size ≤ 65536
+  strip-most = omega (arith, strip-top, pow_mono {i = v.layout.depth} {j = 16} v.walking.standing.sizes.depth)
 
 -- ---- the words of a value
 
@@ -274,59 +286,59 @@ module _ (vector field : ℕ) where
 -- ---- a window, one batch a turn
 
 -- output k of a batch
-abbrev batch_output : List ℕ → List (List (List ℕ)) → (b : Batch) → ℕ → Value (batch_field b)
-batch_output s code b k = output_of b.vector.number s code b.vector.layout (b.first + k)
+abbrev batch_output : List (List (List ℕ)) → (b : Vector) → (first k : ℕ) → Value (value_field b)
+batch_output code b first k = output_of b.number b.source.now code b.layout (first + k)
 
 -- the window's first `done` outputs are written, or all of them
-pub record Windowed (s : List ℕ) (code : List (List (List ℕ))) (b : Batch) (before : List ℕ) (done : ℕ) (v : List ℕ) : Type 0 where
-  pub room : b.count * (batch_field b).elements.width ≤ length before
-  pub words : v ≡ over (batch_field b).elements (min done b.count) (batch_output s code b) before
+pub record Windowed (code : List (List (List ℕ))) (b : Vector) (w : Window) (before : List ℕ) (done : ℕ) (v : List ℕ) : Type 0 where
+  pub room : w.count * (value_field b).elements.width ≤ length before
+  pub words : v ≡ over (value_field b).elements (min done w.count) (batch_output code b w.first) before
   pub size : length v ≡ length before
 
-module _ (s : List ℕ) (code : List (List (List ℕ))) (b : Batch) (before : List ℕ) where
-  coding : CodingLaws (batch_field b).elements
-  coding = (vector_laws (eqb b.vector.number 1) b.vector.layout.field).elements
+module _ (code : List (List (List ℕ))) (b : Vector) (w : Window) (before : List ℕ) where
+  coding : CodingLaws (value_field b).elements
+  coding = (vector_laws (eqb b.number 1) b.layout.field).elements
 
-  abbrev out_at : ℕ → Value (batch_field b)
-  out_at = batch_output s code b
+  abbrev out_at : ℕ → Value (value_field b)
+  out_at = batch_output code b w.first
 
-  pub windowed_none : b.count * (batch_field b).elements.width ≤ length before → Windowed s code b before 0 before
+  pub windowed_none : w.count * (value_field b).elements.width ≤ length before → Windowed code b w before 0 before
   windowed_none room =
       record {
         room = room;
         words =
-            front-none (batch_field b).elements out_at before
-            ∙ ap (λ (n : ℕ). over (batch_field b).elements n out_at before) {x = 0} {y = min 0 b.count} (omega arith);
+            front-none (value_field b).elements out_at before
+            ∙ ap (λ (n : ℕ). over (value_field b).elements n out_at before) {x = 0} {y = min 0 w.count} (omega arith);
         size = refl;
       }
 
-  module _ {done : ℕ} {v : List ℕ} (d : Windowed s code b before done v) (more : done < b.count)
-      {width : ℕ} (we : width ≡ (batch_field b).elements.width) (count : ℕ) (part : count ≡ min (b.count - done) 32) where
-    few : done + count ≤ b.count
+  module _ {done : ℕ} {v : List ℕ} (d : Windowed code b w before done v) (more : done < w.count)
+      {width : ℕ} (we : width ≡ (value_field b).elements.width) (count : ℕ) (part : count ≡ min (w.count - done) 32) where
+    few : done + count ≤ w.count
     few = omega arith
 
-    words_here : v ≡ over (batch_field b).elements done out_at before
-    words_here = d.words ∙ ap (λ (n : ℕ). over (batch_field b).elements n out_at before) {x = min done b.count} {y = done} (omega arith)
+    words_here : v ≡ over (value_field b).elements done out_at before
+    words_here = d.words ∙ ap (λ (n : ℕ). over (value_field b).elements n out_at before) {x = min done w.count} {y = done} (omega arith)
 
     all_words : (done + count) * width ≡ done * width + count * width
     all_words = add-mul done count width
 
     pub part_room : done * width + count * width ≤ length v
     part_room =
-        let m : (done + count) * width ≤ b.count * width = mul-le-mul_right width few in
-        let r : b.count * width ≤ length before = rw we d.room in
+        let m : (done + count) * width ≤ w.count * width = mul-le-mul_right width few in
+        let r : w.count * width ≤ length before = rw we d.room in
         omega (arith, d.size, all_words)
 
     pub windowed_more : {ys : List ℕ}
-        → ys ≡ flat (batch_field b).elements count (λ k. output_of b.vector.number s code b.vector.layout (b.first + done + k))
-        → Windowed s code b before (done + 32) (put_mid (done * width) (done * width + count * width - done * width) v ys)
+        → ys ≡ flat (value_field b).elements count (λ k. output_of b.number b.source.now code b.layout (w.first + done + k))
+        → Windowed code b w before (done + 32) (put_mid (done * width) (done * width + count * width - done * width) v ys)
     unfolding over
     windowed_more {ys} e =
-        let W = batch_field b in
+        let W = value_field b in
         let n : done * width + count * width - done * width ≡ count * width = omega arith in
         let y : ys ≡ flat W.elements count (λ k. out_at (done + k)) =
         e ∙ flat_cong W.elements coding count _ _
-        (λ k h. ap (output_of b.vector.number s code b.vector.layout) {x = b.first + done + k} {y = b.first + (done + k)} (omega arith)) in
+        (λ k h. ap (output_of b.number b.source.now code b.layout) {x = w.first + done + k} {y = w.first + (done + k)} (omega arith)) in
         let layout : take (done * width) v ≡ flat W.elements done out_at =
         rw we (ap (take (done * W.elements.width)) words_here ∙ take-over W.elements coding done out_at before) in
         let past : drop (count * width) (drop (done * width) v) ≡ drop ((done + count) * width) before =
@@ -337,28 +349,28 @@ module _ (s : List ℕ) (code : List (List (List ℕ))) (b : Batch) (before : Li
         ∙ written) in
         record {
           room = d.room;
-          words = words ∙ ap (λ (n : ℕ). over W.elements n out_at before) {x = done + count} {y = min (done + 32) b.count} (omega arith);
+          words = words ∙ ap (λ (n : ℕ). over W.elements n out_at before) {x = done + count} {y = min (done + 32) w.count} (omega arith);
           size = ap length words ∙ length_over W.elements coding (done + count) out_at before
-              (let m : (done + count) * W.elements.width ≤ b.count * W.elements.width = mul-le-mul_right W.elements.width few in
+              (let m : (done + count) * W.elements.width ≤ w.count * W.elements.width = mul-le-mul_right W.elements.width few in
               omega (arith, d.room));
         }
       where
-        after-over : drop ((done + count) * (batch_field b).elements.width)
-            (over (batch_field b).elements done out_at before)
-            ≡ drop ((done + count) * (batch_field b).elements.width) before
+        after-over : drop ((done + count) * (value_field b).elements.width)
+            (over (value_field b).elements done out_at before)
+            ≡ drop ((done + count) * (value_field b).elements.width) before
         after-over =
-            let W = batch_field b in
+            let W = value_field b in
             rw (add-mul done count W.elements.width) (drop-over-add W.elements coding done out_at before (count * W.elements.width))
 
-        written : flat (batch_field b).elements done out_at
-            ++ (flat (batch_field b).elements count (λ k. out_at (done + k)) ++ drop ((done + count) * width) before)
-            ≡ over (batch_field b).elements (done + count) out_at before
+        written : flat (value_field b).elements done out_at
+            ++ (flat (value_field b).elements count (λ k. out_at (done + k)) ++ drop ((done + count) * width) before)
+            ≡ over (value_field b).elements (done + count) out_at before
         written =
-            let W = batch_field b in
+            let W = value_field b in
             sym (append_assoc (flat W.elements done out_at) (flat W.elements count (λ k. out_at (done + k))) (drop ((done + count) * width) before))
             ∙ ap₂ (λ (x : List ℕ) (n : ℕ). x ++ drop ((done + count) * n) before) (sym (flat-add W.elements coding done count out_at)) we
 
-  pub windowed_all : {done : ℕ} {v : List ℕ} → Windowed s code b before done v → b.count ≤ done
-      → v ≡ over (batch_field b).elements b.count out_at before
+  pub windowed_all : {done : ℕ} {v : List ℕ} → Windowed code b w before done v → w.count ≤ done
+      → v ≡ over (value_field b).elements w.count out_at before
   windowed_all {done} {v} d h =
-      d.words ∙ ap (λ (n : ℕ). over (batch_field b).elements n out_at before) {x = min done b.count} {y = b.count} (omega arith)
+      d.words ∙ ap (λ (n : ℕ). over (value_field b).elements n out_at before) {x = min done w.count} {y = w.count} (omega arith)

@@ -1,5 +1,3 @@
 -- Inner: no promise cites this folder. What inner functions' contracts and the proofs use.
 pub mod Rows
-pub mod Strips
 pub mod Calls
-pub mod Both

@@ -1,15 +1,11 @@
-// A call on an accepted record: the tests 7 and 13, and the outputs written.
+// A call on an accepted record: the tests 7 and 13, and the outputs written. A test, a writer and an answer for each end, as C has a call
+// and an answer for each, and as each end has tests of its own (`bench_tests` of Noise/Bench and of Scalar/Bench).
 ghost use Rattle.std.specs.Prelude.{◌≡◌, [], ◌+◌, ◌*◌, ◌≤◌, length};
 ghost use Rattle.answer.specs.Outcome.{outcome_one, outcome_two};
 ghost use Rattle.answer.specs.Refused.{fault};
 ghost use Rattle.answer.specs.Tests.{first_fault};
 ghost use Rattle.field.specs.Kind.{element_words};
 ghost use Rattle.record.specs.Inner.Heads.{head_from};
-ghost use Rattle.algebra.specs.Coding.{over};
-ghost use Rattle.aes128.specs.Inner.Words.{round_keys};
-ghost use Rattle.ends_bench_leaves.specs.Inner.Vectors.{field_for};
-ghost use Rattle.ends_bench.specs.Inner.Rows.{output_of};
-ghost use Rattle.ends_bench.specs.Inner.Both.{BothFit};
 ghost use Rattle.ends.specs.Inner.Noise as noise_ready;
 ghost use Rattle.ends.specs.Inner.Scalar as scalar_ready;
 ghost use Rattle.ends.specs.Noise.Bench as noise;
@@ -17,13 +13,13 @@ ghost use Rattle.ends.specs.Scalar.Bench as scalar;
 ghost use Rattle.ends_bench.specs.Inner.Calls.{NoiseFits, ScalarFits};
 
 use crate::batch::write_outputs;
-use crate::entries::Batch;
 use aes_sbox::Tables;
 use answer::{ACCEPTED, OneLength, Refusal, TwoLengths, is_past};
 use code::Window;
-use ends_bench_leaves::{Vector, tree_table};
-use field::{Element, element_width};
-use record::{Layout, Tree};
+use ends_bench_leaves::{Vector, no_trees, tree_table};
+use ends_calls::{NoiseRecord, ScalarRecord};
+use field::element_width;
+use record::Layout;
 use tree_walk::{TreeCipher, child_keys};
 use window_tests::code_keys;
 
@@ -66,138 +62,80 @@ fn check_scalar(layout: Layout, window: Window, room: usize) -> Result<(), Refus
     Ok(())
 }
 
-// So many rows of a record's code from an index on.
-#[derive(Clone, Copy)]
-pub struct Rows {
-    pub layout: Layout,
-    pub first: usize,
-    pub count: usize,
-}
-
-// Writes u and v of a noise record's rows, under the round keys lent.
-fn write_tabled(
-    cipher: TreeCipher,
-    code: &[u64; 40],
-    source: &[u8],
-    table: &[Tree; 64],
-    rows: Rows,
-    u_out: &mut [u64],
-    v_out: &mut [u64],
-)
-    requires { BothFit source.now rows table.now cipher.keys.now (length u_out.old) (length v_out.old) }
-    ensures { (u_out.new ≡ over (field_for 1 rows.layout.field).elements rows.count
-        (λ k. output_of 1 source.now (round_keys code.now) rows.layout (rows.first + k)) u_out.old)
-        × (v_out.new ≡ over (field_for 2 rows.layout.field).elements rows.count
-        (λ k. output_of 2 source.now (round_keys code.now) rows.layout (rows.first + k)) v_out.old) }
-{
-    let layout = rows.layout;
-    let mu = Batch {
-        vector: Vector { number: 1, layout },
-        first: rows.first,
-        count: rows.count,
-    };
-    write_outputs(cipher, code, source, table, mu, u_out);
-    let v0 = Batch {
-        vector: Vector { number: 2, layout },
-        first: rows.first,
-        count: rows.count,
-    };
-    write_outputs(cipher, code, source, table, v0, v_out);
-}
-
 // Writes a noise record's window.
-fn write_both(source: &[u8], layout: Layout, window: Window, u_out: &mut [u64], v_out: &mut [u64])
-    requires ready { noise_ready.Ready source.now layout }
-    requires noise_fits { NoiseFits layout window (length u_out.old) (length v_out.old) }
-    ensures { noise.lent_with source.now u_out.new v_out.new
-        ≡ noise.filled (noise_ready.content_of source.now layout)
-        (noise.lent_with source.now u_out.old v_out.old) window.first window.count }
+fn write_both(accepted: NoiseRecord, window: Window, u_out: &mut [u64], v_out: &mut [u64])
+    requires { NoiseFits accepted.layout window (length u_out.old) (length v_out.old) }
+    ensures { noise.lent_with accepted.entry.source.now u_out.new v_out.new
+        ≡ noise.filled (noise_ready.content_of accepted.entry.source.now accepted.entry.layout)
+        (noise.lent_with accepted.entry.source.now u_out.old v_out.old) window.first window.count }
 {
     let mut words = [0u64; 1536];
-    let tables = Tables::fill(&mut words);
-    let keys = child_keys(layout.branch_bits);
+    let keys = child_keys(accepted.layout.branch_bits);
     let cipher = TreeCipher {
-        tables,
+        tables: Tables::fill(&mut words),
         keys: &keys,
     };
-    let code = code_keys(source, layout);
-    let table = tree_table(source, layout);
-    let rows = Rows {
-        layout,
-        first: window.first,
-        count: window.count,
-    };
-    write_tabled(cipher, &code, source, &table, rows, u_out, v_out);
+    let code = code_keys(accepted.source, accepted.layout);
+    let table = tree_table(accepted);
+    let mu = Vector::of_noise(1, accepted, &table, cipher);
+    write_outputs(&mu, &code, window, u_out);
+    let v0 = Vector::of_noise(2, accepted, &table, cipher);
+    write_outputs(&v0, &code, window, v_out);
 }
 
 // The noise end's call on a record that was accepted.
 pub fn write_noise(
-    source: &[u8],
-    layout: Layout,
+    accepted: NoiseRecord,
     window: Window,
     u_out: &mut [u64],
     v_out: &mut [u64],
 ) -> TwoLengths
-    requires { noise_ready.Ready source.now layout }
-    ensures { outcome_two result (noise.lent_with source.now u_out.new v_out.new)
-        ≡ noise.bench_window (noise_ready.content_of source.now layout)
-        (noise.lent_with source.now u_out.old v_out.old) window.first window.count }
+    ensures { outcome_two result (noise.lent_with accepted.entry.source.now u_out.new v_out.new)
+        ≡ noise.bench_window (noise_ready.content_of accepted.entry.source.now accepted.entry.layout)
+        (noise.lent_with accepted.entry.source.now u_out.old v_out.old) window.first window.count }
 {
-    if let Err(refusal) = check_noise(layout, window, u_out.len(), v_out.len()) {
+    if let Err(refusal) = check_noise(accepted.layout, window, u_out.len(), v_out.len()) {
         return TwoLengths::refused(refusal);
     }
-    write_both(source, layout, window, u_out, v_out);
+    write_both(accepted, window, u_out, v_out);
     TwoLengths {
         number: ACCEPTED,
         first_written: window.count,
-        second_written: words_for(layout, window),
+        second_written: words_for(accepted.layout, window),
     }
 }
 
 // Writes a scalar record's window.
-fn write_w(source: &[u8], layout: Layout, window: Window, w_out: &mut [u64])
-    requires ready { scalar_ready.Ready source.now layout }
-    requires scalar_fits { ScalarFits layout window (length w_out.old) }
-    ensures { scalar.lent_with source.now w_out.new
-        ≡ scalar.filled (scalar_ready.content_of source.now layout)
-        (scalar.lent_with source.now w_out.old) window.first window.count }
+fn write_w(accepted: ScalarRecord, window: Window, w_out: &mut [u64])
+    requires { ScalarFits accepted.layout window (length w_out.old) }
+    ensures { scalar.lent_with accepted.entry.source.now w_out.new
+        ≡ scalar.filled (scalar_ready.content_of accepted.entry.source.now accepted.entry.layout)
+        (scalar.lent_with accepted.entry.source.now w_out.old) window.first window.count }
 {
     let mut words = [0u64; 1536];
-    let tables = Tables::fill(&mut words);
-    let keys = child_keys(layout.branch_bits);
+    let keys = child_keys(accepted.layout.branch_bits);
     let cipher = TreeCipher {
-        tables,
+        tables: Tables::fill(&mut words),
         keys: &keys,
     };
-    let code = code_keys(source, layout);
-    let none = Tree {
-        position: 0,
-        value: 0,
-        correction: Element { low: 0, high: 0 },
-        siblings: 0,
-    };
-    let table = [none; 64];
-    let w0 = Batch {
-        vector: Vector { number: 3, layout },
-        first: window.first,
-        count: window.count,
-    };
-    write_outputs(cipher, &code, source, &table, w0, w_out);
+    let code = code_keys(accepted.source, accepted.layout);
+    let table = no_trees();
+    let w0 = Vector::of_scalar(accepted, &table, cipher);
+    write_outputs(&w0, &code, window, w_out);
 }
 
 // The scalar end's call on a record that was accepted.
-pub fn write_scalar(source: &[u8], layout: Layout, window: Window, w_out: &mut [u64]) -> OneLength
-    requires { scalar_ready.Ready source.now layout }
-    ensures { outcome_one result (scalar.lent_with source.now w_out.new)
-        ≡ scalar.bench_window (scalar_ready.content_of source.now layout)
-        (scalar.lent_with source.now w_out.old) window.first window.count }
+pub fn write_scalar(accepted: ScalarRecord, window: Window, w_out: &mut [u64]) -> OneLength
+    ensures { outcome_one result (scalar.lent_with accepted.entry.source.now w_out.new)
+        ≡ scalar.bench_window (scalar_ready.content_of accepted.entry.source.now accepted.entry.layout)
+        (scalar.lent_with accepted.entry.source.now w_out.old) window.first window.count }
 {
-    if let Err(refusal) = check_scalar(layout, window, w_out.len()) {
+    if let Err(refusal) = check_scalar(accepted.layout, window, w_out.len()) {
         return OneLength::refused(refusal);
     }
-    write_w(source, layout, window, w_out);
+    write_w(accepted, window, w_out);
     OneLength {
         number: ACCEPTED,
-        written: words_for(layout, window),
+        written: words_for(accepted.layout, window),
     }
 }

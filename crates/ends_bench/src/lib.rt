@@ -14,7 +14,7 @@ mod entries;
 use accepted::{write_noise, write_scalar};
 use answer::{OneLength, TwoLengths};
 use code::Window;
-use record_reading::{read_noise, read_scalar};
+use ends_calls::{NoiseRecord, ScalarRecord};
 
 // Writes the window's outputs: u to the front of u_out, v to the front of v_out.
 pub fn noise_bench(
@@ -27,8 +27,8 @@ pub fn noise_bench(
     ensures { outcome_two result (noise.lent_with source.now u_out.new v_out.new)
         ≡ noise.bench_expansion (noise.lent_with source.now u_out.old v_out.old) first count }
 {
-    match read_noise(source) {
-        Ok(layout) => write_noise(source, layout, Window { first, count }, u_out, v_out),
+    match NoiseRecord::read(source) {
+        Ok(accepted) => write_noise(accepted, Window { first, count }, u_out, v_out),
         Err(refusal) => TwoLengths::refused(refusal),
     }
 }
@@ -38,8 +38,8 @@ pub fn scalar_bench(source: &[u8], first: usize, count: usize, w_out: &mut [u64]
     ensures { outcome_one result (scalar.lent_with source.now w_out.new)
         ≡ scalar.bench_expansion (scalar.lent_with source.now w_out.old) first count }
 {
-    match read_scalar(source) {
-        Ok(layout) => write_scalar(source, layout, Window { first, count }, w_out),
+    match ScalarRecord::read(source) {
+        Ok(accepted) => write_scalar(accepted, Window { first, count }, w_out),
         Err(refusal) => OneLength::refused(refusal),
     }
 }

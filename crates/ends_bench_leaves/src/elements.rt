@@ -1,4 +1,5 @@
-// An entry × a value added to an output, of noise values or of elements in either field.
+// An entry × a value added to an output, of noise values or of elements in either field. A function for each kind of value, since what is
+// read, multiplied and reduced differs in each; one for all would take every step of it from the caller.
 ghost use Rattle.std.specs.Prelude.{◌≡◌, ◌+◌, ◌*◌, ◌≤◌, ◌<◌, length};
 ghost use Rattle.algebra.specs.Coding.{at};
 ghost use Rattle.algebra.specs.Inner.Put.{put};
@@ -25,6 +26,7 @@ fn add_block(k: usize, entry: u64, element: Element, out: &mut [u64])
     ensures { out.new ≡ put binary.elements out.old k
         (block_add (at binary.elements out.old k) (block_scale entry (block element.low element.high))) }
 {
+    // By hand, since an element is a block in field 1 alone, and `From` would say so of both.
     let value = Block {
         low: element.low,
         high: element.high,
@@ -41,7 +43,7 @@ fn add_prime(k: usize, entry: u64, word: u64, out: &mut [u64])
     out[k] = Prime::reduce(Prime::add_product(out[k], entry, word)).word;
 }
 
-// Adds entry × value to output k of a vector.
+// Adds entry × value to output k of a vector. Numbers, for which docs/ARCHITECTURE.md has this function: its sum is promised for each.
 pub fn add_output(
     vector: usize,
     field: usize,

@@ -6,8 +6,9 @@ mod elements;
 mod table;
 mod trees;
 mod values;
+mod vector;
 mod walk;
 
 pub use elements::add_output;
-pub use table::tree_table;
-pub use values::{Vector, value_at};
+pub use table::{no_trees, tree_table};
+pub use vector::Vector;

@@ -1,16 +1,14 @@
 // The trees of a noise record, read once a call.
-ghost use Rattle.std.specs.Prelude.{◌≤◌};
-ghost use Rattle.ends.specs.Inner.Noise.{Ready};
-ghost use Rattle.ends_bench_leaves.specs.Inner.Trees.{TreesIn};
+ghost use Rattle.std.specs.Prelude.{◌≡◌, replicate};
+ghost use Rattle.ends_bench_leaves.specs.Inner.Trees.{no_tree, TreesIn};
 
-use ends_calls::noise::tree_at;
+use ends_calls::NoiseRecord;
 use field::Element;
-use record::{Layout, Tree, sibling_count};
+use record::Tree;
 
-// The trees of an accepted record; those past them are zero.
-pub fn tree_table(source: &[u8], layout: Layout) -> [Tree; 64]
-    requires { Ready source.now layout × (layout.trees ≤ 64) }
-    ensures { TreesIn source.now layout result layout.trees }
+// A table with no tree.
+pub fn no_trees() -> [Tree; 64]
+    ensures { result ≡ replicate 64 no_tree }
 {
     let none = Tree {
         position: 0,
@@ -18,15 +16,16 @@ pub fn tree_table(source: &[u8], layout: Layout) -> [Tree; 64]
         correction: Element { low: 0, high: 0 },
         siblings: 0,
     };
-    let mut table = [none; 64];
-    let siblings = sibling_count(layout.depth, layout.branch_bits);
-    let mut at = layout.body;
-    let mut base: usize = 0;
-    for i in 0..layout.trees {
-        let tree = tree_at(source, layout, siblings, at, base);
+    [none; 64]
+}
+
+// The trees of an accepted record; those past them are zero.
+pub fn tree_table(accepted: NoiseRecord) -> [Tree; 64]
+    ensures { TreesIn accepted.entry.source.now accepted.entry.layout result accepted.entry.layout.trees }
+{
+    let mut table = no_trees();
+    for (i, tree) in accepted.trees().enumerate() {
         table[i] = tree;
-        at = tree.siblings + 16 * siblings;
-        base = tree.position + 1;
     }
     table
 }

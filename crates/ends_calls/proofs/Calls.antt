@@ -20,7 +20,6 @@ use Rattle.field.specs.Kind.{kind_of, element_words}
 use Rattle.number.proofs.Records.{read-refused}
 use Rattle.number.specs.Reading.{Whole, Refused}
 use Rattle.record.specs.Reading.{read_head, read_noise, read_scalar}
-use Rattle.record.proofs.Callers as callers
 use Rattle.record.specs.Answer.{head_of, head_if_whole}
 use Rattle.record.specs.declared.Layout.{Layout}
 use Rattle.aes128.specs.Cipher.{aes}
@@ -32,7 +31,6 @@ use Rattle.code.specs.declared.Window.{Window}
 use Rattle.window.specs.Head.{field_of, of_noise}
 use Rattle.window.specs.Inner.Numbers.{length_tests, element_tests}
 use Rattle.window.specs.Inner.Outputs.{code_keys, shape_of, rows_of, window_over}
-use Rattle.window.specs.Inner.Sizes.{Sizes}
 use Rattle.window.specs.Inner.Testing.{Fitting, elements_used}
 use Rattle.window.specs.Usable.{window_usable}
 use Rattle.window.proofs.Numbers.{count_fits, passed_fits, elements-alone}
@@ -67,23 +65,17 @@ front-written C N f l p e = rw (p, e)
 -- ---- the noise end
 
 -- a record that is refused
-module _ (s : List ℕ) {k : ℕ} (opens : Refused k ≡ head_if_whole (read_noise s) (read_head 1 s)) where
+module _ (s : List ℕ) {k : ℕ} (opens : Refused k ≡ read_noise s) where
   pub noise-fault : (noise v : List ℕ) → refused_two (noise_offline.offline_with s noise v) k ≡ noise_offline.offline s noise v
   unfolding noise_offline.offline
-  noise-fault noise v = read-refused _ _ _ _ k (callers.noise-refused s (sym opens)) refl
+  noise-fault noise v = read-refused _ _ _ _ k (sym opens) refl
 
   pub noise-online-fault : (noise v u_out v_out : List ℕ) (first count : ℕ)
       → refused_two (noise_online.lent_with s noise v u_out v_out) k ≡ noise_online.online (noise_online.lent_with s noise v u_out v_out) first count
   unfolding noise_online.online
-  noise-online-fault noise v u_out v_out first count = read-refused _ _ _ _ k (callers.noise-refused s (sym opens)) refl
+  noise-online-fault noise v u_out v_out first count = read-refused _ _ _ _ k (sym opens) refl
 
 module _ (s : List ℕ) {f : Layout} (opens : Whole (head_of s f, f.body) ≡ head_if_whole (read_noise s) (read_head 1 s)) where
-  pub noise-depth : f.depth ≤ 16
-  noise-depth = (noise_content.ready s opens).sizes.depth
-
-  pub noise-sizes : Sizes s (head_of s f) f.body
-  noise-sizes = (noise_content.ready s opens).sizes
-
   module _ (noise v : List ℕ) where
     module _ {size : ℕ} (se : size ≡ 2 ^ f.depth) where
       pub noise-short : length noise < size → refused_two (noise_offline.offline_with s noise v) 13 ≡ noise_offline.offline s noise v
@@ -182,23 +174,17 @@ module _ (s noise v u_out v_out : List ℕ) (first count : ℕ) {f : Layout} (op
 -- ---- the scalar end
 
 -- a record that is refused
-module _ (s : List ℕ) {k : ℕ} (opens : Refused k ≡ head_if_whole (read_scalar s) (read_head 2 s)) where
+module _ (s : List ℕ) {k : ℕ} (opens : Refused k ≡ read_scalar s) where
   pub scalar-fault : (w d : List ℕ) → refused_two (scalar_offline.offline_with s w d) k ≡ scalar_offline.offline s w d
   unfolding scalar_offline.offline
-  scalar-fault w d = read-refused _ _ _ _ k (callers.scalar-refused s (sym opens)) refl
+  scalar-fault w d = read-refused _ _ _ _ k (sym opens) refl
 
   pub scalar-online-fault : (w out : List ℕ) (first count : ℕ)
       → refused_one (scalar_online.lent_with s w out) k ≡ scalar_online.online (scalar_online.lent_with s w out) first count
   unfolding scalar_online.online
-  scalar-online-fault w out first count = read-refused _ _ _ _ k (callers.scalar-refused s (sym opens)) refl
+  scalar-online-fault w out first count = read-refused _ _ _ _ k (sym opens) refl
 
 module _ (s : List ℕ) {f : Layout} (opens : Whole (head_of s f, f.body) ≡ head_if_whole (read_scalar s) (read_head 2 s)) where
-  pub scalar-depth : f.depth ≤ 16
-  scalar-depth = (scalar_content.ready s opens).sizes.depth
-
-  pub scalar-sizes : Sizes s (head_of s f) f.body
-  scalar-sizes = (scalar_content.ready s opens).sizes
-
   module _ (w d : List ℕ) where
     module _ {words : ℕ} (we : words ≡ 2 ^ f.depth * element_words f.field) where
       pub w_short : length w < words → refused_two (scalar_offline.offline_with s w d) 13 ≡ scalar_offline.offline s w d

@@ -1,4 +1,5 @@
 -- The laws of `ends_calls`, which its functions' proofs use.
 mod Calls
 mod Delta
-mod Trees
+mod Added
+mod Rest

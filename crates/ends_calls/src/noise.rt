@@ -4,13 +4,12 @@ ghost use Rattle.ends.specs.Noise.Offline.{offline_with, offline};
 ghost use Rattle.answer.specs.Outcome.{outcome_two};
 ghost use Rattle.ends.specs.Noise.Online.{lent_with, online};
 
+use crate::accepted::NoiseRecord;
 pub use crate::noise_trees::tree_at;
-use crate::noise_trees::write_accumulated;
 use answer::{ACCEPTED, Refusal, TwoLengths};
 use code::Window;
 use field::element_width;
 use record::leaves;
-use record_reading::read_noise;
 use window::Accumulated;
 use window_tests::{check_window, vector_words};
 use window_write::write_rows;
@@ -20,10 +19,11 @@ pub fn offline(source: &[u8], noise: &mut [u64], v: &mut [u64]) -> TwoLengths
     ensures { outcome_two result (offline_with source.now noise.new v.new)
         ≡ offline source.now noise.old v.old }
 {
-    let layout = match read_noise(source) {
-        Ok(layout) => layout,
+    let record = match NoiseRecord::read(source) {
+        Ok(record) => record,
         Err(refusal) => return TwoLengths::refused(refusal),
     };
+    let layout = record.layout;
     let size = leaves(layout.depth);
     if noise.len() < size {
         return TwoLengths::refused(Refusal::BufferShort);
@@ -32,7 +32,7 @@ pub fn offline(source: &[u8], noise: &mut [u64], v: &mut [u64]) -> TwoLengths
     if v.len() < words {
         return TwoLengths::refused(Refusal::BufferShort);
     }
-    write_accumulated(source, layout, &mut noise[..size], &mut v[..words]);
+    record.write_accumulated(&mut noise[..size], &mut v[..words]);
     TwoLengths {
         number: ACCEPTED,
         first_written: size,
@@ -53,10 +53,11 @@ pub fn online(
     ensures { outcome_two result (lent_with source.now noise.now v.now u_out.new v_out.new)
         ≡ online (lent_with source.now noise.now v.now u_out.old v_out.old) first count }
 {
-    let layout = match read_noise(source) {
-        Ok(layout) => layout,
+    let record = match NoiseRecord::read(source) {
+        Ok(record) => record,
         Err(refusal) => return TwoLengths::refused(refusal),
     };
+    let layout = record.layout;
     let window = Window { first, count };
     if let Err(refusal) = check_window(
         layout,
@@ -69,7 +70,7 @@ pub fn online(
         return TwoLengths::refused(refusal);
     }
     if let Err(refusal) = write_rows(
-        source,
+        record.source,
         layout,
         window,
         Accumulated::Noise { noise, v },

@@ -4,12 +4,12 @@ ghost use Rattle.answer.specs.Outcome.{outcome_one, outcome_two};
 ghost use Rattle.ends.specs.Scalar.Offline.{offline_with, offline};
 ghost use Rattle.ends.specs.Scalar.Online.{lent_with, online};
 
-use crate::scalar_trees::{write_accumulated, write_delta};
+use crate::accepted::ScalarRecord;
+pub use crate::scalar_trees::root_place;
 use answer::{ACCEPTED, OneLength, Refusal, TwoLengths};
 use code::Window;
 use field::element_width;
 use record::leaves;
-use record_reading::read_scalar;
 use window::Accumulated;
 use window_tests::{check_window, vector_words};
 use window_write::write_rows;
@@ -19,10 +19,11 @@ pub fn offline(source: &[u8], w: &mut [u64], delta: &mut [u64]) -> TwoLengths
     ensures { outcome_two result (offline_with source.now w.new delta.new)
         ≡ offline source.now w.old delta.old }
 {
-    let layout = match read_scalar(source) {
-        Ok(layout) => layout,
+    let record = match ScalarRecord::read(source) {
+        Ok(record) => record,
         Err(refusal) => return TwoLengths::refused(refusal),
     };
+    let layout = record.layout;
     let words = vector_words(layout);
     if w.len() < words {
         return TwoLengths::refused(Refusal::BufferShort);
@@ -30,8 +31,8 @@ pub fn offline(source: &[u8], w: &mut [u64], delta: &mut [u64]) -> TwoLengths
     if delta.len() < 2 {
         return TwoLengths::refused(Refusal::BufferShort);
     }
-    write_accumulated(source, layout, &mut w[..words]);
-    write_delta(source, layout, delta);
+    record.write_accumulated(&mut w[..words]);
+    record.write_delta(delta);
     TwoLengths {
         number: ACCEPTED,
         first_written: words,
@@ -44,10 +45,11 @@ pub fn online(source: &[u8], w: &[u64], first: usize, count: usize, w_out: &mut 
     ensures { outcome_one result (lent_with source.now w.now w_out.new)
         ≡ online (lent_with source.now w.now w_out.old) first count }
 {
-    let layout = match read_scalar(source) {
-        Ok(layout) => layout,
+    let record = match ScalarRecord::read(source) {
+        Ok(record) => record,
         Err(refusal) => return OneLength::refused(refusal),
     };
+    let layout = record.layout;
     let window = Window { first, count };
     if let Err(refusal) = check_window(
         layout,
@@ -61,7 +63,7 @@ pub fn online(source: &[u8], w: &[u64], first: usize, count: usize, w_out: &mut 
     }
     let words = count * element_width(layout.field);
     if let Err(refusal) = write_rows(
-        source,
+        record.source,
         layout,
         window,
         Accumulated::Scalar { w },

@@ -192,8 +192,3 @@ pub bench_whole : (l : bench.Lent) {P : NoisePart} (first count : ℕ) → read_
     → bench.bench_expansion l first count ≡ bench.bench_window P l first count
 unfolding bench.bench_expansion
 bench_whole l {P} first count e = sym (read_whole _ _ _ _ P e refl)
-
--- a window past n gets 7, whatever room the buffers have
-pub bench_past : (h : Head) (first count u_room v_room : ℕ) → h.outputs < first + count
-    → window_past_end ≡ first_fault (bench.bench_tests h first count u_room v_room)
-bench_past h first count u_room v_room past = search chain

@@ -21,9 +21,13 @@ use Rattle.ends_bench_leaves.specs.Inner.Vectors.{leaf_of}
 use Rattle.tree_walk.specs.Inner.Ways.{IsWay}
 use Rattle.tree_walk.specs.declared.down.Start.{Start}
 
+-- what stands in a table where no tree does
+abbrev pub no_tree : Tree
+no_tree = record { position = 0; value = 0; correction = record { low = 0; high = 0 }; siblings = 0 }
+
 -- tree i of a table
 abbrev pub tree_at : List Tree → ℕ → Tree
-tree_at table i = get_or table i (record { position = 0; value = 0; correction = record { low = 0; high = 0 }; siblings = 0 })
+tree_at table i = get_or table i no_tree
 
 -- it is tree i of the record: its position is a leaf's and its siblings lie in the record
 pub record IsTree (s : List ℕ) (f : Layout) (i : ℕ) (t : Tree) : Type 0 where

@@ -1,13 +1,13 @@
 -- `ends_bench::accepted::write_both` meets its contract. Assumes nothing.
-use Rattle.ends_bench.proofs.Calls.{few-trees, both-fit, both-filled}
-use borrow.Author.Rules.{rules}
+use Rattle.ends_bench.proofs.Calls.{u_fits, v_fits, both-filled}
 use Rattle.ends_bench.proofs.accepted.write_both.Goals as goal
 
-pub tree_table-table-requires : goal.tree_table-table-requires
-tree_table-table-requires c = (search rules, search few-trees)
+pub write_outputs-requires : goal.write_outputs-requires
+write_outputs-requires c = (c.requires.within, u_fits c.requires c.of_noise-mu.ensures)
 
-pub write_tabled-requires : goal.write_tabled-requires
-write_tabled-requires c = search both-fit
+pub write_outputs-requires-2 : goal.write_outputs-requires-2
+write_outputs-requires-2 c = (c.requires.within, v_fits c.requires c.of_noise-v0.ensures)
 
 pub returns : goal.returns
-returns c = search both-filled
+returns c =
+    both-filled c.of_noise-mu.ensures c.of_noise-v0.ensures _ c.code_keys-code.ensures _ _ c.write_outputs.ensures c.write_outputs-2.ensures

@@ -9,11 +9,11 @@ pub returns-in-Err : goal.returns-in-Err
 unfolding scalar.bench_window
 returns-in-Err c = rw c.refused.ensures (refused-one _ _ _ c.in-Err.ensures (refusal-counts _) _)
 
-pub write_w-requires-clause-scalar_fits : goal.write_w-requires-clause-scalar_fits
-write_w-requires-clause-scalar_fits c = scalar_fits _ _ _ c.in_default.ensures c.requires.sizes.outputs
+pub write_w-requires : goal.write_w-requires
+write_w-requires c = scalar_fits _ _ _ c.in_default.ensures c.args.accepted.sizes.outputs
 
 pub words_for-requires : goal.words_for-requires
-words_for-requires c = scalar-within c.args.layout c.args.window _ c.in_default.ensures c.requires.sizes.outputs
+words_for-requires c = scalar-within c.args.accepted.layout c.args.window _ c.in_default.ensures c.args.accepted.sizes.outputs
 
 pub returns : goal.returns
 returns c = scalar-written _ _ _ _ c.in_default.ensures c.words_for.ensures c.write_w.ensures

@@ -6,5 +6,5 @@ use Rattle.ends_bench.proofs.batch.add_strip.Given as goal
 
 abbrev pub invariant-loop-left : goal.invariant-loop-left
 invariant-loop-left l =
-    Stripped l.batch.vector.number l.batch.vector.layout.field l.batch.count l.rows (values_of l.batch.vector.number l.source l.batch.vector.layout) l.initial.out l.start l.size l.left l.out
-    × (l.start + l.size ≤ 2 ^ l.batch.vector.layout.depth) × (l.start + l.size ≤ 65536)
+    Stripped l.vector.number l.vector.layout.field l.rows (values_of l.vector.number l.vector.source.now l.vector.layout) l.initial.out l.start l.size l.left l.out
+    × (l.start + l.size ≤ 2 ^ l.vector.layout.depth) × (l.start + l.size ≤ 65536)

@@ -4,4 +4,4 @@ use Rattle.ends_bench.proofs.Strips.{Down}
 use Rattle.ends_bench.proofs.batch.write_batch.Given as goal
 
 abbrev pub invariant-loop-i : goal.invariant-loop-i
-invariant-loop-i l = Down l.source (round_keys l.code) l.batch l.i l.rows l.out
+invariant-loop-i l = Down (round_keys l.keys) l.vector l.window l.i l.rows l.out

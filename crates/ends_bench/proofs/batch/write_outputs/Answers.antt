@@ -11,10 +11,10 @@ slice_bounds-write_batch-end c = search part_room
 
 pub loop-done-preserved : goal.loop-done-preserved
 loop-done-preserved c =
-    windowed_more _ _ _ _ c.loop-done.invariant c.loop-done-test.true c.value_width-width.ensures _ c.min-count.ensures c.write_batch.ensures
+    windowed_more _ _ _ _ c.loop-done.invariant c.loop-done-test.true c.value_width-width.ensures _ c.min.ensures c.write_batch.ensures
 
 pub returns-2 : goal.returns-2
 returns-2 c =
     windowed_all _ _ _ _
-    (windowed_more _ _ _ _ c.loop-done.invariant c.loop-done-test.true c.value_width-width.ensures _ c.min-count.ensures c.write_batch.ensures)
+    (windowed_more _ _ _ _ c.loop-done.invariant c.loop-done-test.true c.value_width-width.ensures _ c.min.ensures c.write_batch.ensures)
     (omega arith)

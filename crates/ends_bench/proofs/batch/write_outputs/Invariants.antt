@@ -4,4 +4,4 @@ use Rattle.ends_bench.proofs.Strips.{Windowed}
 use Rattle.ends_bench.proofs.batch.write_outputs.Given as goal
 
 abbrev pub invariant-loop-done : goal.invariant-loop-done
-invariant-loop-done l = Windowed l.source (round_keys l.code) l.window l.initial.out l.done l.out
+invariant-loop-done l = Windowed (round_keys l.keys) l.vector l.window l.initial.out l.done l.out

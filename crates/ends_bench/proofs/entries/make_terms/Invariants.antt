@@ -4,4 +4,4 @@ use Rattle.ends_bench.specs.Inner.Rows.{HasTerms}
 use Rattle.ends_bench.proofs.entries.make_terms.Given as goal
 
 abbrev pub invariant-loop-k : goal.invariant-loop-k
-invariant-loop-k l = HasTerms (round_keys l.code) l.batch l.i l.k l.initial.rows l.rows
+invariant-loop-k l = HasTerms (round_keys l.keys) l.layout l.first l.i l.k l.initial.rows l.rows

@@ -1,10 +1,14 @@
--- `ends_bench_leaves::table::tree_table` meets its contract. Assumes nothing.
-use Rattle.ends_bench_leaves.proofs.Tables.{tabled_asks, tabled_more}
+-- `ends_bench_leaves::table::tree_table` meets its contract: the iterator starts with all trees and ends with none. Assumes nothing.
 use borrow.Author.Rules.{rules}
+use Rattle.ends_bench_leaves.proofs.Tables.{filling_none, filling_more}
 use Rattle.ends_bench_leaves.proofs.table.tree_table.Goals as goal
 
-pub tree_at-tree-requires : goal.tree_at-tree-requires
-tree_at-tree-requires c = (tabled_asks _ _ c.loop-i.invariant c.loop-i-test.true, search rules, search rules)
+pub loop-i-init : goal.loop-i-init
+loop-i-init c =
+    let made = c.enumerate-i-items.ensures in
+    rw (c.into_iter-i-iterator.ensures.into_iter_gives, made.source, made.count) (filling_none _ c.trees.result c.trees.ensures _ (search rules))
 
 pub loop-i-preserved : goal.loop-i-preserved
-loop-i-preserved c = search tabled_more
+loop-i-preserved c =
+    let step = c.in-Some.ensures.steps in
+    rw (step.2, step.1) (filling_more _ c.loop-i.invariant _ step.0)

@@ -1,0 +1,3 @@
+-- The definitions of `ends_calls`: what its calls say stands in `ends`.
+pub mod Answer
+pub mod Inner
