@@ -70,7 +70,7 @@ impl Dealing {
     }
 }
 
-// The answer of a dealing, and each record at the front of a buffer.
+// The answer of a dealing, and each record at the front of a buffer, whose length the answer has: the programs use no heap.
 #[derive(Drop)]
 pub struct Records {
     pub answer: TwoLengths,
@@ -92,5 +92,5 @@ impl Records {
 pub fn front(bytes: &[u8], n: usize) -> &[u8]
     ensures { (length result.now ≤ length bytes.now) × (result.now ≡ take (length result.now) bytes.now) }
 {
-    if n <= bytes.len() { &bytes[..n] } else { &[] }
+    bytes.get(..n).unwrap_or(&[])
 }

@@ -33,6 +33,7 @@ fn waiting_gates(wires: &[u8; 4096], layout: Layout) -> usize
 }
 
 // Tests the bytes and the role of a round. Here, in `check` and in a step's a line is a test of the page, in its order.
+#[tactic(auto, using(answer::proofs::Faults::chain))]
 fn check_bytes(round: Round) -> Result<(), Refusal>
     ensures { fault result
         ≡ first_fault (byte_tests round.entry.circuit.layout.ands round.entry.role round.entry.shares.now round.entry.triples.now round.entry.far_bits.now) }
@@ -56,6 +57,7 @@ fn check_bytes(round: Round) -> Result<(), Refusal>
 }
 
 // Tests a round on a state of these wires, with room for an output and for bits of so many bytes.
+#[tactic(auto, using(answer::proofs::Faults::chain))]
 pub fn check(round: Round, wires: &[u8; 4096], room: usize, bits_room: usize) -> Result<(), Refusal>
     ensures { fault result
         ≡ first_fault (asked_tests round.entry.circuit.layout (waiting_by round.entry.circuit.layout wires.now) round.entry.role round.entry.shares.now round.entry.triples.now round.entry.far_bits.now room bits_room) }

@@ -30,6 +30,7 @@ fn are_far_bits(waits: bool, far_first: u8, far_second: u8) -> bool
 }
 
 // The run of a step on a state, with room for an output of `room` bytes.
+#[tactic(auto, using(answer::proofs::Faults::chain))]
 pub fn check(step: Step, state: &StepState, room: usize) -> Result<Run, Refusal>
     ensures number { fault result
         ≡ first_fault (asked_tests step.entry.circuit.layout (state_admitted (content step.entry.circuit.source.now) state.now.phase state.now.gate) step.entry.asked step.entry.shares.now step.entry.triples.now room) }

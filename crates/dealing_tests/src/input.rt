@@ -30,6 +30,7 @@ pub struct Rooms {
 }
 
 // Tests both buffers for room for their records.
+#[tactic(auto, using(answer::proofs::Faults::chain))]
 fn check_rooms(layout: Layout, rooms: Rooms, positions: &[u32]) -> Result<(), Refusal>
     requires { Measured layout positions.now }
     ensures { fault result ≡ first_fault (measured_tests layout positions.now rooms.noise rooms.scalar) }

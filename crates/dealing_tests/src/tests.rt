@@ -44,6 +44,7 @@ fn is_outputs(depth: usize, outputs: usize) -> bool
 }
 
 // Tests field, d, g, t, ℓ and n.
+#[tactic(auto, using(answer::proofs::Faults::chain))]
 pub fn check_sizes(layout: Layout) -> Result<(), Refusal>
     ensures { fault result ≡ first_fault (size_tests (input_from layout [] [] [] [] [] [])) }
 {
@@ -69,6 +70,7 @@ pub fn check_sizes(layout: Layout) -> Result<(), Refusal>
 }
 
 // Tests that each slice has the length that the sizes call for.
+#[tactic(auto, using(answer::proofs::Faults::chain))]
 pub fn check_lengths(input: &Input) -> Result<(), Refusal>
     ensures { fault result ≡ first_fault (length_tests (input_of input.now)) }
 {
@@ -136,6 +138,7 @@ fn delta_admitted(field: usize, delta: &[u8]) -> bool
 }
 
 // Tests positions, noise values and Δ.
+#[tactic(auto, using(answer::proofs::Faults::chain))]
 pub fn check_content(input: &Input) -> Result<(), Refusal>
     requires { Lengths input.now.layout (length input.now.positions.now) (length input.now.values.now)
         (length input.now.delta.now) }

@@ -39,6 +39,7 @@ fn are_words(field: usize, words: &[u64]) -> bool
 }
 
 // The first test that is not met.
+#[tactic(auto, using(answer::proofs::Faults::chain))]
 pub fn check(field: usize, from: &[u64], into: &[u64]) -> Result<(), Refusal>
     ensures { fault result ≡ first_fault (add_tests field (lent_add from.now into.now)) }
 {

@@ -5,6 +5,7 @@
 
 mod noise_binary;
 mod noise_prime;
+mod vectors;
 
 pub use noise_binary::noise_row_binary;
 pub use noise_prime::noise_row_prime;

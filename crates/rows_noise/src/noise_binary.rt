@@ -9,18 +9,12 @@ ghost use Rattle.rows.specs.Inner.Sums.{BinaryAdded};
 ghost use Rattle.code.specs.Inner.Rows.{binary_row};
 ghost use Rattle.code.specs.Inner.Used.{row_below};
 
+use crate::vectors::NoiseVectors;
 use code_places::{Code, still_below};
 use field::{Block, FieldElement, add_bits};
 use rows::{Pair, Vectors, walk};
 
-// The vectors of the noise end in field 1.
-#[derive(Clone, Copy)]
-struct NoiseBinary<'a> {
-    noise: &'a [u64],
-    v: &'a [u64],
-}
-
-impl Vectors<Pair<u64, Block>> for NoiseBinary<'_> {
+impl Vectors<Pair<u64, Block>> for NoiseVectors<'_> {
     ghost Fits = { λ shape s. (length s.noise.now ≡ shape.places) × (length s.v.now ≡ shape.places * 2) };
 
     ghost Added = { λ s j word sums r. BinaryAdded s.noise.now s.v.now j sums r };
@@ -54,5 +48,5 @@ pub fn noise_row_binary(code: Code, x: usize, noise: &[u64], v: &[u64]) -> Pair<
         v: Block::zero(),
         admitted: true,
     };
-    walk(code, x, NoiseBinary { noise, v }, none)
+    walk(code, x, NoiseVectors { noise, v }, none)
 }

@@ -9,19 +9,13 @@ ghost use Rattle.rows.specs.Inner.Sums.{PrimesAdded};
 ghost use Rattle.code.specs.Inner.Rows.{prime_row};
 ghost use Rattle.code.specs.Inner.Used.{row_below};
 
+use crate::vectors::NoiseVectors;
 use code_places::{Code, still_below};
 use field::Block;
 use prime::Prime;
 use rows::{Pair, Vectors, walk};
 
-// The vectors of the noise end in field 2.
-#[derive(Clone, Copy)]
-struct NoisePrime<'a> {
-    noise: &'a [u64],
-    v: &'a [u64],
-}
-
-impl Vectors<Pair<u64, u64>> for NoisePrime<'_> {
+impl Vectors<Pair<u64, u64>> for NoiseVectors<'_> {
     ghost Fits = { λ shape s. (length s.noise.now ≡ shape.places) × (length s.v.now ≡ shape.places) };
 
     ghost Added = { λ s. PrimesAdded s.noise.now s.v.now };
@@ -52,7 +46,7 @@ pub fn noise_row_prime(code: Code, x: usize, noise: &[u64], v: &[u64]) -> Pair<P
         v: 0,
         admitted: true,
     };
-    let sums = walk(code, x, NoisePrime { noise, v }, none);
+    let sums = walk(code, x, NoiseVectors { noise, v }, none);
     Pair {
         u: Prime::reduce(sums.u),
         v: Prime::reduce(sums.v),

@@ -4,6 +4,7 @@
 
 mod scalar_binary;
 mod scalar_prime;
+mod vector;
 
 pub use scalar_binary::scalar_row_binary;
 pub use scalar_prime::scalar_row_prime;

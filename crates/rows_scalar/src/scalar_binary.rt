@@ -7,17 +7,12 @@ ghost use Rattle.field.specs.Binary.{binary, blocks};
 ghost use Rattle.rows.specs.Inner.Sums.{BlockAdded};
 ghost use Rattle.code.specs.Inner.Rows.{binary_row};
 
+use crate::vector::ScalarVector;
 use code_places::Code;
 use field::{Block, FieldElement};
 use rows::{Vectors, walk};
 
-// The vector of the scalar end in field 1.
-#[derive(Clone, Copy)]
-struct ScalarBinary<'a> {
-    w: &'a [u64],
-}
-
-impl Vectors<Block> for ScalarBinary<'_> {
+impl Vectors<Block> for ScalarVector<'_> {
     ghost Fits = { λ shape s. length s.w.now ≡ shape.places * 2 };
 
     ghost Added = { λ s j word. BlockAdded s.w.now j word };
@@ -32,5 +27,5 @@ pub fn scalar_row_binary(code: Code, x: usize, w: &[u64]) -> Block
     requires { length w.now ≡ code.shape.places * 2 }
     ensures { result ≡ output blocks (binary_row (round_keys code.entry.keys.now) code.entry.shape x) (at binary.elements w.now) }
 {
-    walk(code, x, ScalarBinary { w }, Block::zero())
+    walk(code, x, ScalarVector { w }, Block::zero())
 }

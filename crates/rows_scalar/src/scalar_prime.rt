@@ -9,18 +9,13 @@ ghost use Rattle.rows.specs.Inner.Sums.{PrimeAdded};
 ghost use Rattle.code.specs.Inner.Rows.{prime_row};
 ghost use Rattle.code.specs.Inner.Used.{row_below};
 
+use crate::vector::ScalarVector;
 use code_places::{Code, still_below};
 use field::Block;
 use prime::Prime;
 use rows::{Single, Vectors, walk};
 
-// The vector of the scalar end in field 2.
-#[derive(Clone, Copy)]
-struct ScalarPrime<'a> {
-    w: &'a [u64],
-}
-
-impl Vectors<Single<u64>> for ScalarPrime<'_> {
+impl Vectors<Single<u64>> for ScalarVector<'_> {
     ghost Fits = { λ shape s. length s.w.now ≡ shape.places };
 
     ghost Added = { λ s. PrimeAdded s.w.now };
@@ -44,7 +39,7 @@ pub fn scalar_row_prime(code: Code, x: usize, w: &[u64]) -> Single<Prime>
         w: 0,
         admitted: true,
     };
-    let sum = walk(code, x, ScalarPrime { w }, none);
+    let sum = walk(code, x, ScalarVector { w }, none);
     Single {
         w: Prime::reduce(sum.w),
         admitted: sum.admitted,

@@ -20,6 +20,7 @@ fn lacks_room(field: usize, count: usize, room: usize) -> bool
 
 // The tests 3, 7 and 13, from the lengths of the noise and of a vector of elements, and of the buffers for a window of them. The
 // scalar end, which has no noise, gives N for its length and the window's count for the room of u.
+#[tactic(auto, using(answer::proofs::Faults::chain))]
 pub fn check_window(
     layout: Layout,
     noise: usize,
