@@ -43,9 +43,9 @@ pub thrice_lt : (b : ℕ) → b < 256 → mul_bytes 3 b < 256
 thrice_lt b h = rw (thrice_is b h) (xor_lt 8 (xtime b) b (xtime_lt b h) h)
 
 -- as the code computes them
-pub twice_of : {b : ℕ} → b < 256 → bit_xor (b / 128 * 27) (b % 128 * 2) ≡ mul_bytes 2 b
+pub twice_of : {b : ℕ} → b < 256 → (bit_xor (b / 128 * 27) (b * 2 % 256) ≡ mul_bytes 2 b) × (bit_xor (b / 128 * 27) (b * 2 % 256) < 256)
 unfolding xtime
-twice_of {b} h = let e : b % 128 * 2 ≡ b * 2 % 256 = omega arith in rw e (sym (twice_is b h))
+twice_of {b} h = (sym (twice_is b h), xtime_lt b h)
 
-pub thrice_of : {b d : ℕ} → b < 256 → d ≡ mul_bytes 2 b → bit_xor d b ≡ mul_bytes 3 b
-thrice_of {b} {d} h e = rw (e, twice_is b h) (sym (thrice_is b h))
+pub thrice_of : {b d : ℕ} → b < 256 → (d ≡ mul_bytes 2 b) × (d < 256) → (bit_xor d b ≡ mul_bytes 3 b) × (bit_xor d b < 256)
+thrice_of {b} {d} h e = (rw (e.0, twice_is b h) (sym (thrice_is b h)), xor_lt 8 d b e.1 h)

@@ -52,20 +52,14 @@ filled_next {t} {p} {x} {k} {at} {v} f q hk hx e ev =
         get_or-set_other t at i v 0 other ∙ f.entries i h (omega arith)
 
 module _ {t : List ℕ} {x s d e m0 m1 m2 m3 : ℕ} (f : Filled t (6 * x)) (hx : x < 256) (es : s ≡ s_box x)
-    (ed : d ≡ mul_bytes 2 s) (ee : e ≡ mul_bytes 3 s) (e0 : m0 ≡ wide_column d s s e) (e1 : m1 ≡ wide_column e d s s)
+    (ed : (d ≡ mul_bytes 2 s) × (d < 256)) (ee : (e ≡ mul_bytes 3 s) × (e < 256)) (e0 : m0 ≡ wide_column d s s e) (e1 : m1 ≡ wide_column e d s s)
     (e2 : m2 ≡ half_turned m0) (e3 : m3 ≡ half_turned m1) where
   is-byte : s < 256
   is-byte = rw es (sbox_lt x)
 
-  twice-byte : d < 256
-  twice-byte = rw ed (twice_lt s is-byte)
-
-  thrice-byte : e < 256
-  thrice-byte = rw ee (thrice_lt s is-byte)
-
   entry_is : (k : ℕ) → get_or (entries_of s d e) k 0 ≡ entry_at k x
   unfolding entry_at
-  entry_is k = rw (ed, ee, es)
+  entry_is k = rw (ed.0, ee.0, es)
 
   -- the entries of one more byte
   pub filled-byte : Filled (set (set (set (set (set (set t x m0) (256 + x) m1) (512 + x) m2) (768 + x) m3) (1024 + x) (s + s * 2 ^ 40)) (1280 + x) (s * 2 ^ 16 + s * 2 ^ 56))
@@ -74,8 +68,8 @@ module _ {t : List ℕ} {x s d e m0 m1 m2 m3 : ℕ} (f : Filled t (6 * x)) (hx :
   filled-byte =
       let f0 = filled_next {x = x} {k = 0} {at = x} f (omega arith) (lit< tt) hx (omega arith) (e0 ∙ entry_is 0) in
       let f1 = filled_next {x = x} {k = 1} {at = 256 + x} f0 (omega arith) (lit< tt) hx (omega arith) (e1 ∙ entry_is 1) in
-      let v2 = e2 ∙ ap half_turned e0 ∙ half_turned_column d s s e twice-byte is-byte is-byte thrice-byte in
-      let v3 = e3 ∙ ap half_turned e1 ∙ half_turned_column e d s s thrice-byte twice-byte is-byte is-byte in
+      let v2 = e2 ∙ ap half_turned e0 ∙ half_turned_column d s s e ed.1 is-byte is-byte ee.1 in
+      let v3 = e3 ∙ ap half_turned e1 ∙ half_turned_column e d s s ee.1 ed.1 is-byte is-byte in
       let f2 = filled_next {x = x} {k = 2} {at = 512 + x} f1 (omega arith) (lit< tt) hx (omega arith) (v2 ∙ entry_is 2) in
       let f3 = filled_next {x = x} {k = 3} {at = 768 + x} f2 (omega arith) (lit< tt) hx (omega arith) (v3 ∙ entry_is 3) in
       let f4 = filled_next {x = x} {k = 4} {at = 1024 + x} f3 (omega arith) (lit< tt) hx (omega arith) (entry_is 4) in

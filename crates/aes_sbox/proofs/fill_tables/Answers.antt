@@ -6,10 +6,9 @@ use Rattle.aes_sbox.proofs.fill_tables.Goals as goal
 
 pub loop-x-preserved : goal.loop-x-preserved
 loop-x-preserved c =
-    let s : c.sub-s.result ≡ s_box c.loop-x.x = cc in
-    rw c.from-w.ensures
-    (filled-byte c.loop-x.invariant c.loop-x-test.true s c.twice-d.ensures c.thrice-e.ensures c.wide_column-m0.ensures.column
-    c.wide_column-m1.ensures.column c.half_turned.ensures c.half_turned-in-loop-x.ensures)
+    let s : c.from-s.result ≡ s_box c.loop-x.x = cc in
+    filled-byte c.loop-x.invariant c.loop-x-test.true s c.twice-d.ensures c.thrice-e.ensures c.column_of-m0.ensures c.column_of-m1.ensures
+    c.half_turned.ensures c.half_turned-in-loop-x.ensures
 
 pub returns : goal.returns
 returns c = filled-all c.loop-x.invariant (omega arith)

@@ -1,7 +1,6 @@
 -- Three times a byte is what the test over the 256 bytes found.
-use Rattle.std.proofs.Common.{rules}
 use Rattle.aes_sbox.proofs.Bytes.{thrice_of}
 use Rattle.aes_sbox.proofs.thrice.Goals as goal
 
 pub returns : goal.returns
-returns c = thrice_of (search rules) c.twice.ensures
+returns c = thrice_of c.requires c.twice.ensures
