@@ -6,5 +6,5 @@ use Rattle.ends_calls.proofs.accepted.NoiseRecord.write_accumulated.Goals as goa
 pub returns : goal.returns
 returns c = (
   search noise-accumulated,
-  accumulated _ _ _ c.write_trees.ensures.1 (c.accumulate_elements.ensures (2 ^ c.args.layout.depth) (search rules)),
+  accumulated _ _ _ c.write_trees.ensures.1 (c.accumulate_elements.ensures (2 ^ c.args.self.now.layout.depth) (search rules)),
 )
