@@ -76,7 +76,8 @@ pub fn wide_column(rows: [u8; 4]) -> u64
         + u64::from(d) * 0x100_0000_0000_0000
 }
 
-// A wide column whose rows moved down by two.
+// A wide column whose rows moved down by two, as a sum, which the laws of wide columns go by (`half_turned_column`): `rotate_left` promises
+// a bitwise or, and tools/c-file does not know it.
 fn half_turned(w: u64) -> u64
     ensures { result ≡ half_turned w }
 {

@@ -58,21 +58,7 @@ module _ (a b : ℕ) where
   unfolding is_met
   not-below = le-ltb a b
 
--- by a function that gives the other number
-module _ (a b given : ℕ) (e : given ≡ b) where
-  pub is_given : a ≡ given → is_met (a is b) ≡ true
-  is_given h = is_so a b (h ∙ e)
-
-  pub is_not-given : (a ≡ given → ⊥) → is_met (a is b) ≡ false
-  is_not-given h = is_not a b (λ g. h (g ∙ sym e))
-
-  pub at_most-given : a ≤ given → is_met (a at_most b) ≡ true
-  at_most-given h = at-most a b (omega arith)
-
-  pub above-given : given < a → is_met (a at_most b) ≡ false
-  above-given h = above a b (omega arith)
-
--- or the one that is to be at most another
+-- by a function that gives the number that is to be at most another
 module _ (a b given : ℕ) (e : given ≡ a) where
   pub given_at_most : given ≤ b → is_met (a at_most b) ≡ true
   given_at_most h = at-most a b (omega arith)

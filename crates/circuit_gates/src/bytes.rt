@@ -1,5 +1,6 @@
 // The byte that a round gives a wire. It stays a byte, and no enum: a state is the caller's and may hold any, a known one stays as it is
-// also above 3 (`byte_by`), and an AND that waits takes its wires' bytes modulo 2 whether they are known or not (`opened_by`).
+// also above 3 (`byte_by`), and an AND that waits takes its wires' bytes modulo 2 whether they are known or not (`opened_by`). The 4,096 bytes
+// of `wires` are those of C's state, here and in the shares of a step.
 ghost use Rattle.std.specs.Prelude.{true, ◌≡◌, ◌≤◌, ◌<◌};
 ghost use Rattle.circuit.specs.Content.{is_and};
 ghost use Rattle.circuit.specs.Inner.GateNumbers.{gate_of, WiresOf};
@@ -52,7 +53,8 @@ pub fn input_byte(byte: u8, share: u8) -> u8
 }
 
 // What opens an AND at one end: the triple of its number, after those of the ANDs before, and the far bits of its place, after those of
-// the ANDs before that waited. C lends triples and far bits as bytes, three and two each.
+// the ANDs before that waited. C lends triples and far bits as bytes, three and two each, and no far bits for an AND that did not wait: so
+// both are read where one opens, and come as whole slices with the counts before.
 #[derive(Clone, Copy)]
 pub struct Opening<'a> {
     pub role: u8,

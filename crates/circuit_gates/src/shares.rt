@@ -32,7 +32,8 @@ pub fn opened_share(
     requires { ands * 3 + 2 < length triples.now }
     ensures { result ≡ opened_with role x y triples.now ands far_first far_second }
 {
-    // C lends triples as bytes, three each; ARCHITECTURE.md names this function, so it takes them so.
+    // C lends triples as bytes, three each, and the far bits of a step as two numbers; ARCHITECTURE.md names this function, so it takes them
+    // so.
     let at = ands * 3;
     let a = triples[at];
     let b = triples[at + 1];

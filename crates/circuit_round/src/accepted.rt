@@ -8,7 +8,7 @@ use crate::passing::{pass_gates, take_inputs};
 use crate::tests::Round;
 use crate::writing::write_shares;
 
-// The outputs and the bits that a round wrote.
+// The outputs and the bits that a round wrote. One of both is 0, and C reads both (`Rounded`): an enum would be taken apart to them at once.
 #[derive(Clone, Copy)]
 pub struct Lengths {
     pub written: usize,

@@ -1,4 +1,5 @@
-// A round of an end's run of a circuit: opens every AND whose wires are known.
+// A round of an end's run of a circuit: opens every AND whose wires are known. What it is passed is what C passes, with a state of 4,096
+// bytes, a wire each, which the functions here are lent as they are.
 #![tactic(auto)]
 
 ghost use Rattle.std.specs.Prelude.{◌≡◌};

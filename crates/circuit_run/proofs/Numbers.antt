@@ -13,15 +13,6 @@ use Rattle.circuit_run.specs.Step.{far_admitted, gate_at, state_admitted}
 -- what a test says of its numbers
 pub ruleset tests = (eq-eqb, ne_eqb, le-leb, lt-leb)
 
--- a test for what is known so, or not
-pub held-now : {t : Bool} → t ≡ true → is_met (holds t) ≡ true
-unfolding is_met
-held-now e = e
-
-pub broken-now : {t : Bool} → t ≡ false → is_met (holds t) ≡ false
-unfolding is_met
-broken-now e = e
-
 -- far bits that are admitted
 pub far-bits : (waits : Bool) (first second : ℕ) → far_admitted waits first second ≡ true → waits ≡ true → (first ≤ 1) × (second ≤ 1)
 far-bits true first second e w =

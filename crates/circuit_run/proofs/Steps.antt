@@ -137,21 +137,6 @@ pub finished-phase : (s : List ℕ) (f : Layout) (phase gate : ℕ) (run : Run) 
 finished-phase s f phase gate (Going w) h e = absurd (h w refl)
 finished-phase s f phase gate Finished h e = e
 
--- ---- the tests together
-
-pub tests_passed : {s : List ℕ} {f : Layout} → HasLayout s f → (a : Asked) {phase gate : ℕ} (shares triples : List ℕ) (space : ℕ) {run : Run}
-    → Admits s f phase gate (Some run) → 0 ≡ first_fault (asked_tests f (state_admitted (content s) phase gate) a shares triples space)
-    → Tested s f run shares triples space phase gate
-tests_passed {s} {f} o a {phase} {gate} shares triples space h number =
-    let m = admitted_by (asked_tests f (state_admitted (content s) phase gate) a shares triples space) 0 refl number refl in
-    record {
-      layout = o;
-      few = omega (arith, m.all, o.most);
-      enough = omega (arith, m.all);
-      room = omega (arith, m.all);
-      runs = h.1;
-    }
-
 -- ---- the call
 
 module _ (role : ℕ) {s : List ℕ} (shares triples output : List ℕ) (far1 far2 : ℕ) (state : StepState) {f : Layout} (o : HasLayout s f) {n : ℕ}

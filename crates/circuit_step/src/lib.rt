@@ -1,4 +1,5 @@
-// A step of an end's run of a circuit: up to the next AND, or to the end.
+// A step of an end's run of a circuit: up to the next AND, or to the end. What it is passed is what C passes: the far bits as two numbers,
+// and a state of 4,096 bytes, a wire each, which the functions here are lent as they are.
 #![tactic(auto)]
 
 ghost use Rattle.std.specs.Prelude.{◌≡◌};

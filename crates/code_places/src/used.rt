@@ -13,7 +13,8 @@ pub fn still_below(others: bool, word: u64, bound: u64) -> bool
     others && word < bound
 }
 
-// Whether every word is below the bound. Measured: 0.33 ns a word, and 0.41 where four words are tested a turn.
+// Whether every word is below the bound. Measured: 0.33 ns a word, and 0.41 where four words are tested a turn; what `iter().all` takes,
+// `are_elements` of `layer_add` says.
 fn all_below(words: &[u64], bound: u64) -> bool
     ensures { result ≡ all_below bound words.now }
 {
@@ -25,6 +26,8 @@ fn all_below(words: &[u64], bound: u64) -> bool
     true
 }
 
+// The rows and their terms go by two loops: `(0..n).all(..)` was tried, and no law says of a range's `all` what `first_from_Range` says of
+// its `find`.
 impl Code<'_> {
     // Whether every word at the places of row x is below the bound.
     fn row_below(self, x: usize, words: &[u64], bound: u64) -> bool

@@ -22,13 +22,13 @@ fn accumulate<E: FieldElement>(words: &mut [u64])
     }
 }
 
-// Accumulates noise words of a field.
+// Accumulates noise words of a field. It and the next stay two: in field 1 a noise word is a u64 and an element a `Block`, and noise words
+// are as many as the words, which of elements only the caller knows.
 pub fn accumulate_noise(field: usize, words: &mut [u64])
     ensures { words.new ≡ flat (kind_of field).field.noise_values (length words.old)
         (accumulate (kind_of field).field.ring.group (at (kind_of field).field.noise_values words.old)) }
 {
     if field == BINARY {
-        // A noise word of field 1 is a u64.
         accumulate::<u64>(words);
     } else {
         accumulate::<Prime>(words);

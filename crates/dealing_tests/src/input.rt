@@ -10,7 +10,7 @@ use crate::tests::{check_content, check_lengths, check_sizes};
 use answer::Refusal;
 use record::{Layout, noise_length, scalar_length};
 
-// What a dealing is lent: the sizes, and the slices that they size.
+// What a dealing is lent: the sizes, and the slices that they size, tree by tree in three slices, as C lends them.
 #[derive(Clone, Copy)]
 pub struct Input<'a> {
     pub layout: Layout,

@@ -1,4 +1,4 @@
-// The triples of all outputs, written to the front of a buffer.
+// The triples of all outputs, written to the front of a buffer, three bytes each, as C is given them.
 ghost use Rattle.std.specs.Prelude.{◌≡◌, ◌+◌, ◌*◌, ◌≤◌, ◌<◌, length};
 ghost use Rattle.algebra.specs.Coding.{over};
 ghost use Rattle.algebra.specs.Inner.Put.{with_value};

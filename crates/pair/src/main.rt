@@ -36,7 +36,7 @@ fn has_argument(rt: &impl Env) -> bool {
     !matches!(rt.arg(1, &mut [0u8; 1]), Err(FillError::NotPresent))
 }
 
-// What cannot be printed is left out.
+// What cannot be printed is left out. A buffer has the count that was read beside it, since no heap is used.
 fn main(rt: HostRuntime) {
     if has_argument(&rt) {
         let _ = eprintln!(rt;

@@ -28,7 +28,7 @@ fn same_sizes(p: Layout, q: Layout) -> bool
         && p.outputs == q.outputs
 }
 
-// Whether field, sizes, code key and label are all equal (document 02, 8).
+// Whether field, sizes, code key and label are all equal (document 02, 8). Each record stands beside its layout, as `window_tests` says.
 pub fn same_dealing(noise_record: &[u8], p: Layout, scalar_record: &[u8], q: Layout) -> bool
     requires { KeyIn noise_record.now p × KeyIn scalar_record.now q }
     ensures { result ≡ same_dealing (head_of noise_record.now p) (head_of scalar_record.now q) }

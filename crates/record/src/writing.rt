@@ -157,7 +157,7 @@ pub fn tree_length(layout: Layout, base: usize, position: usize) -> usize
     tree_start_length(base, position) + 16 * sibling_count(layout.depth, layout.branch_bits)
 }
 
-// How many bytes the scalar record takes.
+// How many bytes the scalar record takes. It goes by the sizes alone, and the noise record's length by the positions too: so they are two.
 pub fn scalar_length(layout: Layout) -> usize
     requires { Writable layout }
     ensures { result ≡ scalar_length layout }

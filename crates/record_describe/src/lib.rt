@@ -13,8 +13,8 @@ use field::element_width;
 use record::{End, Layout, leaves};
 use record_reading::{read_noise, read_scalar};
 
-// The answer, as the C header has it, whose structs keep the number beside the values: the number; the end, the field and the sizes of the record; N, and the words of an element; the label and the code
-// key. A refused record has zeros beside its number.
+// The answer, as the C header has it, whose structs keep the number beside the values: the number; the end, the field and the sizes of the
+// record; N, and the words of an element; the label and the code key. A refused record has zeros beside its number.
 #[repr(C)]
 #[derive(Clone, Copy)]
 pub struct Described {
@@ -54,7 +54,7 @@ impl Described {
     }
 }
 
-// The 16 bytes at a place.
+// The 16 bytes at a place. By `try_from` of a slice they would come in a `Result` whose error never comes.
 fn sixteen_at(source: &[u8], at: usize) -> [u8; 16]
     requires { at + 16 ≤ length source.now }
     ensures { result ≡ block_at source.now at }

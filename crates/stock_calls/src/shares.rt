@@ -75,7 +75,7 @@ pub fn holding(stock: Stock, caller: usize) -> u32
     stock.end[caller].saturating_sub(stock.next[caller])
 }
 
-// What each of the eight callers has not drawn.
+// What each of the eight callers has not drawn. By a loop: by `array::from_fn` the check does not find the proof.
 pub fn rest(stock: Stock) -> [u32; 8]
     ensures { result ≡ entries 8 (remaining stock) }
 {

@@ -1,5 +1,6 @@
 // A window's outputs written and its words tested in one walk of its rows. The buffers stay two parameters: as a struct of `&mut` they would
-// be lent anew for each row.
+// be lent anew for each row. So `EndFitting`, which is of the shape, the rows, the vectors and both buffers, is asked by clause: no type
+// holds all that it is of.
 ghost use Rattle.std.specs.Prelude.{◌≡◌, ◌<◌, length};
 ghost use Rattle.aes128.specs.Inner.Words.{round_keys};
 ghost use Rattle.algebra.specs.Choice.{choose};

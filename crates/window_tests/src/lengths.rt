@@ -1,6 +1,5 @@
 // The tests of a window by lengths alone: 3, 7 and 13.
-ghost use Rattle.std.specs.Prelude.{◌≡◌, ◌*◌, ◌≤◌, ltb};
-ghost use Rattle.field.specs.Kind.{element_words};
+ghost use Rattle.std.specs.Prelude.{◌≡◌, ◌≤◌};
 ghost use Rattle.answer.specs.Refused.{fault};
 ghost use Rattle.answer.specs.Tests.{first_fault};
 ghost use Rattle.window.specs.Inner.Numbers.{length_tests};
@@ -11,15 +10,9 @@ use code::Window;
 use field::element_width;
 use record::{Layout, leaves};
 
-// Whether a buffer is too short for so many elements of a field.
-fn lacks_room(field: usize, count: usize, room: usize) -> bool
-    ensures { result ≡ ltb room (count * element_words field) }
-{
-    is_short(room, element_width(field), count)
-}
-
 // The tests 3, 7 and 13, from the lengths of the noise and of a vector of elements, and of the buffers for a window of them. The
-// scalar end, which has no noise, gives N for its length and the window's count for the room of u.
+// scalar end, which has neither noise nor u, gives N and the window's count, which meet both tests (`elements-alone`): with an `Option` of
+// both lengths the tests would no longer be one list, a line a test.
 #[tactic(auto, using(answer::proofs::Faults::chain))]
 pub fn check_window(
     layout: Layout,
@@ -44,7 +37,7 @@ pub fn check_window(
     if u_room < window.count {
         return Err(Refusal::BufferShort);
     }
-    if lacks_room(layout.field, window.count, room) {
+    if is_short(room, element_width(layout.field), window.count) {
         return Err(Refusal::BufferShort);
     }
     Ok(())
