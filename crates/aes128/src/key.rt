@@ -62,7 +62,7 @@ fn block_key(k: [[u8; 4]; 4]) -> Block
     Block::of_columns(k)
 }
 
-// The words of eleven round keys.
+// The words of eleven round keys. Four are written by index: for `copy_from_slice` see `record::write_bytes`.
 fn words_of(k: [[[u8; 4]; 4]; 11]) -> [u64; 40]
     ensures { round_keys result ≡ k }
 {

@@ -19,7 +19,8 @@ pub struct Two<T> {
 }
 
 // Tables and round keys stay two parameters: trees lend eight lists of round keys beside one set of tables. The rounds are written out:
-// in a loop two ciphers take 1,793 instructions where they take 1,112.
+// in a loop two ciphers take 1,793 instructions where they take 1,112. `encrypt_two` stays beside `encrypt`, two calls of which would run
+// one block after the other (docs/DECISIONS.md), and takes its blocks apart, as what calls it has them.
 
 // The cipher of a block.
 pub fn encrypt(tables: Tables, keys: &[u64; 40], s: Block) -> Block

@@ -41,7 +41,8 @@ pub fn sub(x: u8) -> u8
     table()[x as usize]
 }
 
-// Twice a byte in the field of FIPS 197. A word, as are all bytes here: filled by bytes, the tables took 1,700 instructions more a call.
+// Twice a byte in the field of FIPS 197. A word, as are all bytes of the filling: by bytes it took 1,700 instructions more a call,
+// and `column_of` stays beside `wide_column` for it.
 fn twice(s: u64) -> u64
     requires { s < 256 }
     ensures { (result ≡ mul_bytes 2 s) × (result < 256) }
@@ -118,7 +119,7 @@ impl<'a> Tables<'a> {
         Tables { words }
     }
 
-    // Lends words that are filled.
+    // Lends words that are filled: for callers outside, who met the clause of `full_round`, `last_round` and `share` before.
     pub fn of(words: &'a [u64; 1536]) -> Self
         requires { RoundTables words.now }
     {

@@ -1,12 +1,10 @@
 -- Lengths of so many bytes an output by quotient and rest, so that no product is taken.
 use mathlib.Core.Path.{◌≡◌, sym, ap, ◌∙◌}
 use mathlib.Core.Bool.{false}
-use Prim.Native.Nat.{ℕ, ◌+◌, ◌-◌, ◌*◌, ◌%◌, ◌≤◌}
-use native.Mathlib.Omega.{arith}
+use Prim.Native.Nat.{ℕ, ◌*◌, ◌%◌, ◌≤◌}
 use native.Mathlib.Nat.{mul-mod_right}
-use lib.Dec.{ltb, eqb}
-use borrow.Author.Tests.{ltb-true, lt-ltb, ne_eqb}
-use Rattle.algebra.proofs.Tests.{together}
+use lib.Dec.{eqb}
+use borrow.Author.Tests.{ne_eqb}
 
 module _ (len width count : ℕ) (h : 1 ≤ width) where
   -- a length with a rest

@@ -2,7 +2,7 @@
 ghost use Rattle.std.specs.Prelude.{◌≡◌};
 ghost use Rattle.answer.specs.Bytes.{any_above};
 
-// Whether some byte is above a limit, by the largest of them: no byte ends the search, so that many are compared at once.
+// Whether some byte is above a limit, by the largest of them.
 pub fn any_above(limit: u8, bytes: &[u8]) -> bool
     ensures { result ≡ any_above limit bytes.now }
 {

@@ -41,7 +41,7 @@ pub enum Refusal {
 }
 
 impl Refusal {
-    // The number that the call returns.
+    // The number that the call returns. By name and not by `From`: docs/PROMISES.md (13.10) names it.
     pub fn number(self) -> u32
         ensures { result ≡ number_of self }
     {
@@ -59,7 +59,8 @@ pub struct TwoLengths {
 }
 
 impl TwoLengths {
-    // The answer of a refused call.
+    // The answer of a refused call. By name and not by `From`, here and in the other answers: each says that its call was refused, and has
+    // zeros of its own.
     pub fn refused(refusal: Refusal) -> TwoLengths
         ensures { result ≡ record { number = number_of refusal; first_written = 0; second_written = 0 } }
     {

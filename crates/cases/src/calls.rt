@@ -1,4 +1,4 @@
-// The calls' numbers, one line a case. What cannot be printed is left out.
+// The calls' numbers, one line a case. What cannot be printed is left out. A number is printed, so it stays the one that C has.
 use crate::dealings::{Dealing, USUAL, front};
 
 // n = 4 and n = 5 for d = 3, two equal positions, and more terms than places.
@@ -35,7 +35,7 @@ pub fn dealings(rt: &impl Print) {
     }
 }
 
-// The number of a window at the noise end, of a record of eight leaves in field 2. It is printed, so it stays the number that C has. Each
+// The number of a window at the noise end, of a record of eight leaves in field 2. Each
 // end has its calls and its vectors, so one function for both would take the calls as parameters.
 fn noise_window(source: &[u8], first: usize, count: usize) -> u32 {
     let mut noise = [0u64; 8];

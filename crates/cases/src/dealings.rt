@@ -12,7 +12,7 @@ pub const OTHER_ROOTS: [u8; 32] = *b"\
     \x09\x09\x09\x09\x09\x09\x09\x09\x09\x09\x09\x09\x09\x09\x09\x09\
     \x64\x09\x09\x09\x09\x09\x09\x09\x09\x09\x09\x09\x09\x09\x09\x09";
 
-// What a dealing is dealt from, with one bit a branch and one label.
+// What a dealing is dealt from, with one bit a branch and one label: the field's byte and the number of trees as `deal` takes them.
 #[derive(Clone, Copy)]
 pub struct Dealing {
     pub field: u8,

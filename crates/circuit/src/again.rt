@@ -28,7 +28,7 @@ pub fn known_gate(source: &[u8], at: usize, wire: usize) -> (Gate, usize)
     (Gate::And(first, second), at)
 }
 
-// The wire at a place of an accepted circuit, below a limit, and the place after it; beside `read_wire` for the same reason.
+// The wire at a place of an accepted circuit, below a limit, and the place after it; beside `read_wire`, since it tests no wire again.
 pub fn known_wire(source: &[u8], at: usize, limit: usize) -> (usize, usize)
     requires { is_whole (read_wire limit source.now at) ≡ true }
     ensures wire { Whole result ≡ read_wire limit source.now at }

@@ -18,7 +18,8 @@ pub fn take_inputs(shares: &[u8], wires: &mut [u8; 4096])
     }
 }
 
-// Passes over the gates and puts the bits of those that wait afterwards; how many bits they are.
+// Passes over the gates and puts the bits of those that wait afterwards; how many bits they are. `ands`, `passed` and `place` go on at some
+// gates only, so that no `enumerate` counts them.
 pub fn pass_gates(round: Round, bits_out: &mut [u8], wires: &mut [u8; 4096]) -> usize
     requires { CanPass round.circuit.source.now round.circuit.layout round.triples.now round.far_bits.now (length bits_out.old) wires.old }
     ensures { Passes round.entry.circuit.source.now round.entry.circuit.layout round.entry.role round.entry.triples.now round.entry.far_bits.now

@@ -20,7 +20,7 @@ pub struct Round<'a> {
     pub far_bits: &'a [u8],
 }
 
-// How many gates wait.
+// How many gates wait, counted by a `for`: no index is.
 fn waiting_gates(wires: &[u8; 4096], layout: Layout) -> usize
     requires { layout.inputs + layout.gates ≤ most_wires }
     ensures { result ≡ waiting_by layout wires.now }

@@ -8,7 +8,8 @@ ghost use Rattle.circuit_run.specs.Round.{shares_in};
 use circuit::Circuit;
 use circuit_gates::{WAITS, share_of};
 
-// Puts the two bits of a gate that waits, its wires' bytes given; the place after them, which is how many bits there are so far.
+// Puts the two bits of a gate that waits, its wires' bytes given; the place after them, which is how many bits there are so far. Whole slices
+// with counts, as `Opening` has them.
 pub fn put_bits(
     byte: u8,
     x: u8,

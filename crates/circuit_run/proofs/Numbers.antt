@@ -7,7 +7,6 @@ use lib.Dec.{leb, eqb}
 use Rattle.algebra.proofs.Tests.{and_left, and_right, and_both}
 use Rattle.circuit.specs.Content.{Circuit, is_and}
 use Rattle.number.proofs.Places.{either}
-use Rattle.answer.specs.Tests.{holds, is_met}
 use Rattle.circuit_run.specs.Step.{far_admitted, gate_at, state_admitted}
 
 -- what a test says of its numbers

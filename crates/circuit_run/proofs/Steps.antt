@@ -9,7 +9,6 @@ use lib.Bits.{bit_xor}
 use lib.Dec.{eqb}
 use lib.ListN.{length, get_or, drop}
 use Rattle.answer.proofs.Answers.{refused-with, accepted_with}
-use Rattle.answer.proofs.Faults.{admitted_by}
 use Rattle.answer.specs.Outcome.{answered}
 use Rattle.answer.specs.Tests.{first_fault}
 use Rattle.circuit.proofs.Ands.{before_few}
@@ -23,7 +22,7 @@ use Rattle.number.proofs.Records.{read-refused, read_whole}
 use Rattle.number.specs.Reading.{Refused}
 use Rattle.std.specs.Prelude.{Option, Some, None}
 use Rattle.circuit_run.proofs.Gates.{gates_of}
-use Rattle.circuit_run.specs.Inner.Places.{WaitsAt, RunsAs, Admits, Tested, Stops, opened_with, given_and, proceeded, stepped_with, accepted_on}
+use Rattle.circuit_run.specs.Inner.Places.{WaitsAt, RunsAs, Tested, Stops, opened_with, given_and, proceeded, stepped_with, accepted_on}
 use Rattle.circuit_run.specs.Inner.StepTests.{asked_tests}
 use Rattle.circuit_run.specs.Step.{StepLent, lent_with, StepOutcome, step_outcome, stepped, step_state_with, step_tests, gate_at, first_wire, second_wire, state_admitted, fresh_wires, run_on}
 use Rattle.circuit_run.specs.Step.{masked_first, masked_second, waiting_share, with_and, state_after, with_outputs, accepted_step, refused_step, step}

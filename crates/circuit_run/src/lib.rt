@@ -47,7 +47,7 @@ pub struct Stepped {
 }
 
 impl Stepped {
-    // A refused step: zeros, and the state as it was.
+    // A refused step: zeros, and the state as it was. Each answer of C has fields of its own, and so a `refused` of its own.
     pub fn refused(refusal: Refusal, state: StepState) -> Stepped
         ensures { result ≡ stepped_with (number_of refusal) 0 0 0 state }
     {

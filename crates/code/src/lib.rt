@@ -10,7 +10,7 @@ pub struct Shape {
     pub strip: usize,
 }
 
-// A window: a first index and a count.
+// A window: a first index and a count. No bound is its invariant: `online` and the bench make one of C's numbers before any test.
 #[derive(Clone, Copy)]
 pub struct Window {
     pub first: usize,

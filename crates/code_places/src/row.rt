@@ -16,7 +16,8 @@ pub struct Term {
     pub word: u64,
 }
 
-// The code: its cipher, by the tables and the round keys of the code key, and its shape.
+// The code: its cipher, by the tables and the round keys of the code key, and its shape. That a term is below `terms` is asked by clause: a
+// type for it would carry the code.
 #[derive(Clone, Copy)]
 pub struct Code<'a> {
     pub tables: Tables<'a>,

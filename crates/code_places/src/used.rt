@@ -26,8 +26,8 @@ fn all_below(words: &[u64], bound: u64) -> bool
     true
 }
 
-// The rows and their terms go by two loops: `(0..n).all(..)` was tried, and no law says of a range's `all` what `first_from_Range` says of
-// its `find`.
+// The rows and their terms go by two loops: `(0..n).all(..)` was tried, and the kit has no law of a range's `all`. Words and bound stay two
+// parameters: one call tests the noise and another the elements of one code.
 impl Code<'_> {
     // Whether every word at the places of row x is below the bound.
     fn row_below(self, x: usize, words: &[u64], bound: u64) -> bool

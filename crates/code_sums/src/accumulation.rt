@@ -1,4 +1,4 @@
-// Accumulating replaces place j by the sum of places 0 to j.
+// Accumulating replaces place j by the sum of places 0 to j. By the field's number, which may be any (`BINARY` of `field` says why).
 ghost use Rattle.std.specs.Prelude.{◌≡◌, ℕ, ◌*◌, ◌≤◌, length};
 ghost use Rattle.algebra.specs.Coding.{CodingLaws, at, flat};
 ghost use Rattle.algebra.specs.Sum.{accumulate};

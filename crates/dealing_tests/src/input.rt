@@ -10,7 +10,8 @@ use crate::tests::{check_content, check_lengths, check_sizes};
 use answer::Refusal;
 use record::{Layout, noise_length, scalar_length};
 
-// What a dealing is lent: the sizes, and the slices that they size, tree by tree in three slices, as C lends them.
+// What a dealing is lent: the sizes, and the slices that they size, tree by tree in three slices, as C lends them. Δ, code key and label are
+// slices of any length, as C lends them too: `check_lengths` tests that each has 16 bytes.
 #[derive(Clone, Copy)]
 pub struct Input<'a> {
     pub layout: Layout,
@@ -22,7 +23,7 @@ pub struct Input<'a> {
     pub label: &'a [u8],
 }
 
-// The lengths of both buffers.
+// The lengths of both buffers: the tests read no buffer.
 #[derive(Clone, Copy)]
 pub struct Rooms {
     pub noise: usize,

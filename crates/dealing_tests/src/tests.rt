@@ -12,7 +12,8 @@ use answer::{Refusal, is_times};
 use field::{element_at, is_field, is_noise, is_scalar, rest_zero, word_at};
 use record::{Layout, leaves};
 
-// Whether a size is 1 to `top`.
+// Whether a size is 1 to `top`. This and `is_branch` are tested in `record_head` too, of what is read, in a closure each: the definitions
+// that both promise are those of `record` (`Admitted`).
 fn is_size(top: usize, size: usize) -> bool
     ensures { result ≡ is_size top size }
 {

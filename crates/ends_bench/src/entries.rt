@@ -31,7 +31,8 @@ impl Pending {
     }
 }
 
-// Makes term i of each row, the first of which is row `first` of the code under these round keys.
+// Makes term i of each row, the first of which is row `first` of the code under these round keys. The `Code` is made here: what it holds
+// besides the keys stands in the vector.
 pub fn make_terms(vector: &Vector, keys: &[u64; 40], first: usize, i: usize, rows: &mut [Pending])
     requires { (first + length rows.old ≤ 32768) × (i < vector.now.layout.terms) }
     ensures { HasTerms (round_keys keys.now) vector.now.layout first i (length rows.old) rows.old rows.new }

@@ -1,5 +1,6 @@
 // The expansion for the bench: a window's outputs as rows of the code matrix times μ, v0 or w0, each leaf walked from its root or
-// sibling alone, with no accumulated vector and no buffer of N. A refused call writes nothing.
+// sibling alone, with no accumulated vector and no buffer of N. A refused call writes nothing. Each end has a function, since C calls each by
+// promises of its own.
 #![tactic(auto)]
 
 ghost use Rattle.std.specs.Prelude.{◌≡◌};

@@ -26,8 +26,8 @@ impl Vector<'_> {
         leaf_element(layout.field, leaf.columns())
     }
 
-    // The sum of the elements of leaf j below two blocks. Two walks in alternation take less time than two of `leaf_of`
-    // (docs/DECISIONS.md).
+    // The sum of the elements of leaf j below two blocks. Two walks in alternation, as the bench has one engine for both
+    // (docs/DECISIONS.md), and not two of `leaf_of`, whose ciphers would run one after the other.
     fn two_walked(&self, a: Start, b: Start, j: usize) -> Element
         requires { TwoStarts self.now.source.now self.now.layout self.now.cipher.keys.now a b }
         ensures { element_in self.now.layout.field result ≡ two_leaves self.now.source.now self.now.layout a b j }
@@ -85,7 +85,7 @@ impl Vector<'_> {
         element_sum(field, total, self.leaf_of(trees - 1, j))
     }
 
-    // μ at place j.
+    // μ at place j: the last tree there counts, as in `noise_word`.
     fn noise_at(&self, j: usize) -> u64
         ensures { result ≡ noise_word self.now.table.now self.now.layout.trees j }
     {
@@ -99,7 +99,7 @@ impl Vector<'_> {
         noise
     }
 
-    // The vector's value at place j.
+    // The vector's value at place j. μ's word is made an `Element` here: a `From` of a word would say of any word that it is a noise value.
     pub fn value_at(&self, j: usize) -> Element
         requires { j < 2 ^ self.now.layout.depth }
         ensures { element_value self.now.number self.now.layout.field result

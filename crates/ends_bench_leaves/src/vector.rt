@@ -8,8 +8,10 @@ use ends_calls::{NoiseRecord, ScalarRecord};
 use record::{Layout, Tree};
 use tree_walk::TreeCipher;
 
-// 1 is μ, 2 is v0 and 3 is w0: a number and no enum, since `add_output` promises its sum for every number. The table has the record's
-// trees; none is read of it for w0.
+// 1 is μ, 2 is v0 and 3 is w0: a number and no enum, since `Walking`, `values_of` and `add_output`, which promises its sum for every number,
+// go by it. The table has the record's trees, and none is read of it for w0: all 64 places, since as a slice its length would be one fact
+// more of `Walking`. Two functions make a vector, as each end's record is a type of its own. That a place is below 2 ^ depth is asked by
+// clause: a type for it would carry the vector.
 #[derive(Clone, Copy)]
 pub struct Vector<'a> {
     pub number: usize,

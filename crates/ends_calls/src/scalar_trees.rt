@@ -54,7 +54,7 @@ impl ScalarRecord<'_> {
         accumulate_elements(self.layout.field, w);
     }
 
-    // Writes the two words of Δ.
+    // Writes the two words of Δ: two in either field (`delta_out`), where `put_element` writes bytes.
     pub fn write_delta(&self, delta: &mut [u64])
         requires { 2 ≤ length delta.old }
         ensures { delta.new ≡ delta_out (content_of self.now.source.now self.now.layout) ++ drop 2 delta.old }

@@ -1,4 +1,4 @@
-// Evaluating and describing a circuit.
+// Running and describing a circuit.
 ghost use Rattle.std.specs.Prelude.{◌≡◌, [], ◌∷◌};
 ghost use Rattle.page.specs.Document01 as document;
 ghost use Rattle.page_two.specs.Document02 as document02;

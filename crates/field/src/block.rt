@@ -1,4 +1,4 @@
-// Field 1: blocks of two words, and the bits that scale them.
+// Field 1: blocks of two words, and the bits that scale them. `read` and `write` take a whole record and a place, as the head of `number` says.
 ghost use Rattle.std.specs.Prelude.{◌≡◌, ◌+◌, ◌≤◌, length};
 ghost use Rattle.field.specs.Bytes.{columns_of, word_at};
 ghost use Rattle.field.specs.Inner.Written.{with_word};

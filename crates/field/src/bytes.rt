@@ -1,4 +1,4 @@
-// Words in bytes, least byte first.
+// Words in bytes, least byte first, from a place in a whole record on, as the head of `number` says.
 ghost use Rattle.std.specs.Prelude.{◌≡◌, ◌+◌, ◌≤◌, length};
 ghost use Rattle.field.specs.Bytes.{word_at};
 ghost use Rattle.field.specs.Inner.Written.{with_word};

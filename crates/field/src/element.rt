@@ -1,5 +1,6 @@
 // Elements of either field by the field's number, which may be any (`BINARY` says why): made of leaves, words and bytes, added, scaled,
-// compared, tested and written.
+// compared, tested and written. An `Element` is no enum of both fields: `is_element` judges words that are an element of neither, and each answer is
+// promised for every number.
 ghost use Rattle.std.specs.Prelude.{◌≡◌, ◌+◌, ◌*◌, ◌≤◌, length};
 ghost use Rattle.algebra.specs.Coding.{at};
 ghost use Rattle.field.specs.Binary.{block};

@@ -1,4 +1,5 @@
-// The sum of two vectors of words, in either field: layers of one source are added by it.
+// The sum of two vectors of words, in either field: layers of one source are added by it. The field is the number that C passes, and `add`
+// promises its answer for every one; both slices are C's too, and `check` tests their lengths.
 #![tactic(auto)]
 
 ghost use Rattle.std.specs.Prelude.{◌≡◌};

@@ -1,4 +1,4 @@
-// The number code of records: reading and writing a number of at most three bytes. Readers and the writer take a whole record and a
+// The number code of records and circuits: reading and writing a number of at most three bytes. Readers and the writer take all bytes and a
 // place in it, and give the place after: a place is no length of the slice, and the page's definitions go by places.
 #![tactic(auto)]
 

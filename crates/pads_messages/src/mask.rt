@@ -9,7 +9,7 @@ ghost use Rattle.answer.specs.Tests.{AllMet};
 
 use pads::{block_at, put_block};
 
-// Writes choice exclusive-or wanted bit of each output.
+// Writes choice exclusive-or wanted bit of each output. By an index, since three slices go side by side; here and below they are C's.
 pub fn write_bits(choices: &[u8], wanted: &[u8], bits_out: &mut [u8])
     requires { AllMet (correction_tests (length choices.now) choices.now wanted.now (length bits_out.old)) }
     ensures { bits_out.new

@@ -23,7 +23,7 @@ fn put_triple(k: usize, choices: &[u8], pads: &[u8], pad_pairs: &[u8], triples: 
     triples[place + 2] = (a & (r ^ q)) ^ h ^ r;
 }
 
-// Writes the triple of each output.
+// Writes the triple of each output. One loop with those of `pads_messages` would take a closure for its one line; the three slices are C's.
 pub fn write_triples(choices: &[u8], pads: &[u8], pad_pairs: &[u8], triples_out: &mut [u8])
     requires { AllMet (triples_tests choices.now pads.now pad_pairs.now (length triples_out.old)) }
     ensures { triples_out.new

@@ -1,7 +1,7 @@
 // The pads of a window, written to the front of a buffer in two passes: the first writes each pad's first step, the second
 // finishes each pad in place. The four loops share the cipher's `start_two` and `finish_two`: one loop for both ends would take a closure
-// for the two blocks or indices of a turn, and be longer than two loops of two lines. `first` and `count` are the window that C passes;
-// that the slices have as many blocks, `pads_calls` tests first.
+// for the two blocks or indices of a turn, and be no shorter. `first` and `count` stay numbers: `Window` is of crate `code`, on which
+// no pad rests, and pads may be fewer than the buffers have room for.
 ghost use Rattle.std.specs.Prelude.{◌≡◌, ◌+◌, ◌*◌, ◌≤◌, length};
 ghost use Rattle.algebra.specs.Coding.{at, over};
 ghost use Rattle.pads.specs.Bytes.{block_bytes, pad_pair_bytes};

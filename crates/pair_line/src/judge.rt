@@ -1,5 +1,5 @@
-// What is found of two records, in memory of its own. A record and its layout stay two parameters: `Ready` is another fact at each end, so
-// that a struct which holds it would be two.
+// What is found of two records, in memory of its own. A record and its layout stay two parameters: the calls made here (`offline`, `online`)
+// take the record's bytes and read them again, and `same_dealing` takes layouts alone.
 ghost use Rattle.std.specs.Prelude.{◌≡◌, ◌^◌, ◌≤◌, length};
 ghost use Rattle.ends.specs.Inner.Noise as noise;
 ghost use Rattle.ends.specs.Inner.Scalar as scalar;

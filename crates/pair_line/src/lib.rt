@@ -10,7 +10,8 @@ mod text;
 use judge::judge;
 use text::write_finding;
 
-// Writes the line of two records over the front of `out`, and returns its length.
+// Writes the line of two records over the front of `out`, and returns its length: a buffer and a length, as the page's `line` has them, for
+// there is no heap.
 pub fn line(noise_record: &[u8], scalar_record: &[u8], out: &mut [u8; 64]) -> usize
     ensures { document.returned 0 (result ∷ []) (noise_record.now ∷ scalar_record.now ∷ []) (out.new ∷ [])
         ≡ document.line noise_record.now scalar_record.now out.old }

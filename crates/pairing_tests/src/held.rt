@@ -16,7 +16,7 @@ fn holds_at(field: usize, delta: &[u64], u: &[u64], v: &[u64], w: &[u64], x: usi
     same_element(field, element_of(field, w, x), right)
 }
 
-// How many of the first outputs hold. Their count stands beside the words, which have room for the most outputs.
+// How many of the first outputs hold, counted by a `for`: no index is. Their count stands beside the words, which have room for the most outputs.
 pub fn count_held(
     field: usize,
     delta: &[u64],

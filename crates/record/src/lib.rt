@@ -24,7 +24,7 @@ pub enum End {
 }
 
 impl End {
-    // The end byte.
+    // The end byte. By name: a `From` would say of a `u8` neither that it is a byte of a record nor which.
     pub fn byte(self) -> u8
         ensures { result ≡ end_byte self }
     {
@@ -48,6 +48,7 @@ impl TryFrom<u8> for End {
 
 // The head of a record in numbers: field, d, g, t, ℓ, n, and the place after it, where the body begins. The field is a number and no
 // enum: a dealing's layout is made of what is not tested yet, and the functions of `field` promise an answer for every number.
+// For the same reason neither `depth ≤ 16` nor `Writable` is its invariant.
 #[derive(Clone, Copy)]
 pub struct Layout {
     pub field: usize,
@@ -59,7 +60,8 @@ pub struct Layout {
     pub body: usize,
 }
 
-// A tree of a noise record: its position, noise value and correction, and the place of its siblings.
+// A tree of a noise record: its position, noise value and correction, and the place of its siblings in the record, as the head of `number`
+// says of places.
 #[derive(Clone, Copy)]
 pub struct Tree {
     pub position: usize,

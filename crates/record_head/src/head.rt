@@ -10,7 +10,8 @@ use field::is_field;
 use number::{read_byte, read_number, tested};
 use record::{Layout, leaves};
 
-// Whether a record has a count of bytes from a place on.
+// Whether a record has a count of bytes from a place on. `answer::is_past` says the opposite of a window; readers and their laws speak of
+// what is there.
 fn has_bytes(source: &[u8], at: usize, count: usize) -> bool
     ensures { result ≡ leb (at + count) (length source.now) }
 {

@@ -1,5 +1,5 @@
 // A row's outputs with the test of the words that it uses. The test stands beside the outputs, and an Option does not take its place: rows
-// promise their outputs also where a word is not admitted.
+// promise their outputs also where a word is not admitted. Two structs, since u, v and w are promised by these names.
 
 // A row's outputs at the noise end, and whether every word that it uses is admitted; before the row's end, the sums of its terms so far,
 // which in field 2 are words that are not reduced.

@@ -1,5 +1,5 @@
 // A row's output at the scalar end in each field, in field 2 with the test of the words that the row uses.
-// Each field keeps a function of its own, as at the noise end.
+// Each field keeps a function of its own, as in `rows_noise`.
 #![tactic(auto)]
 
 mod scalar_binary;

@@ -125,7 +125,7 @@ fn refused_draw(stock: Stock, refusal: Refusal) -> Drawn
 }
 
 // What a draw would return, and the stock that it would leave. The one place that makes the second struct of the C interface of the
-// first: a `From` would stand in crate `stock`, which has no code.
+// first: a `From` would be of two answers of C, one call's for another's.
 pub fn preview(stock: Stock, label: Label, caller: usize, count: usize) -> Previewed
     ensures { result ≡ preview_stock stock label caller count }
 {

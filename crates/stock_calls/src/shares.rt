@@ -14,7 +14,7 @@ pub fn is_count(most: usize, n: usize) -> bool
     1 <= n && n <= most
 }
 
-// The shares of a slice, with zeros past them.
+// The shares of a slice, with zeros past them. `fresh_wires` of `circuit_step` is as short: each says its own call's definition.
 pub fn padded(shares: &[u32]) -> [u32; 8]
     requires { length shares.now ≤ 8 }
     ensures { result ≡ entries (length shares.now) (opening_share shares.now) }

@@ -48,7 +48,8 @@ fn add_range(cipher: TreeCipher, field: usize, range: Range, s: Block, acc: &mut
     }
 }
 
-// Adds the leaves below a run of siblings, of those whose bytes begin at a place, to the elements of acc.
+// Adds the leaves below a run of siblings, of those whose bytes begin at a place, to the elements of acc. The last arm is that of
+// `add_range`: PROMISES.md (13.5, 13.6) names that function's body, and one halving for both would take the recursion as a closure.
 fn add_run(cipher: TreeCipher, field: usize, run: Range, at: usize, bytes: &[u8], acc: &mut [u64])
     requires { IsRun run at (length bytes.now) × (length acc.old ≡ size_of run * element_words field) }
     ensures { acc.new ≡ run_added field (child_under cipher.entry.keys.now) run bytes.now at acc.old }

@@ -8,6 +8,7 @@ use tree_walk::power;
 
 // A range with a position among the leaves below it, and the place where the bytes of its level's siblings begin. Not a `Punctured` with
 // the range's bits and first child: `add_range` and `add_run`, which take no position, take the range.
+// `at` is a place in lent bytes, as the head of `number` says.
 #[derive(Clone, Copy)]
 pub struct Path {
     pub range: Range,

@@ -1,5 +1,7 @@
 // Elements of leaves added into words, in either field: one element, those of the last level's children, and those below two nodes.
-// Cipher and field are lent apart: walks take a cipher and no field, `add_leaf` and `add_element` a field and no cipher.
+// Cipher and field are lent apart: walks take a cipher and no field, `add_leaf` and `add_element` a field and no cipher. The
+// field is its number, which may be any (`BINARY` of `field` says why), and words stay a slice beside it: docs/PROMISES.md (13.6) has the
+// halves as the two parts of `acc.split_at_mut`.
 ghost use Rattle.std.specs.Prelude.{[], ◌∷◌, ◌≡◌, ◌+◌, ◌*◌, ◌^◌, ◌≤◌, length};
 ghost use Rattle.algebra.specs.Coding.{at};
 ghost use Rattle.algebra.specs.Inner.Put.{put};
@@ -34,7 +36,8 @@ pub fn add_leaf(field: usize, s: Block, acc: &mut [u64])
     }
 }
 
-// Adds an element to the one that the words hold. Beside `add_leaf`, which reduces: a line a field.
+// Adds an element to the one that the words hold. Beside `add_leaf`, which reduces: a line a field. `Element::block` and `prime` are
+// private to `field`: public, they would make an element of a field that no number names.
 pub fn add_element(field: usize, element: Element, acc: &mut [u64])
     requires { length acc.old ≡ element_words field }
     ensures { acc.new ≡ element_added field (element.low ∷ element.high ∷ []) acc.old }
@@ -87,6 +90,7 @@ pub fn add_bottom(
     requires { IsBranch bits × (c + 2 ^ bits ≤ 8) × (length acc.old ≡ 2 ^ bits * element_words field) }
     ensures { acc.new ≡ children_added field (child_under cipher.entry.keys.now) c (2 ^ bits) (node_of s) acc.old }
 {
+    // An arm for each size: a recursion by halves would want a measure and be no shorter.
     match bits {
         1 => add_pair(cipher, field, c, s, acc),
         2 => add_four(cipher, field, c, s, acc),

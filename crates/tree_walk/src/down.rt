@@ -13,7 +13,7 @@ use crate::powers::power;
 use aes_blocks::Two;
 use field::Block;
 
-// The place of a block's bytes, and how many levels are left below it.
+// The place of a block's bytes, and how many levels are left below it. A place in lent bytes, as the head of `number` says.
 #[derive(Clone, Copy)]
 pub struct Start {
     pub at: usize,

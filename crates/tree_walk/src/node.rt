@@ -26,7 +26,8 @@ pub fn child_keys(branch_bits: usize) -> [[u64; 40]; 8]
 
 // The cipher of a tree: tables, and the round keys of eight child keys, those of child c at place c. No ghost field says of which keys
 // they are, since walks and fills are proved for any that they are lent (document 02, 3). No field says how many children a node has:
-// `Punctured` and `Range` say it.
+// walks are given it by the caller, whose promises speak of it. That a child is below 8 is asked by clause: it is reckoned (a digit, c + 1,
+// c + 2), and a type would be proved anew at each step.
 #[derive(Clone, Copy)]
 pub struct TreeCipher<'a> {
     pub tables: Tables<'a>,
