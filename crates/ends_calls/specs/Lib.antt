@@ -1,3 +1,2 @@
 -- The definitions of `ends_calls`: what its calls say stands in `ends`.
-pub mod Answer
 pub mod Inner

@@ -19,7 +19,7 @@ pub struct NoiseRecord<'a> {
 }
 
 impl<'a> NoiseRecord<'a> {
-    ghost use Rattle.ends_calls.specs.Answer.{NoiseRead};
+    ghost use Rattle.ends_calls.specs.Inner.Reads.{NoiseRead};
 
     // The record, whole and tested.
     pub fn read(source: &'a [u8]) -> Result<Self, Refusal>
@@ -41,7 +41,7 @@ pub struct ScalarRecord<'a> {
 }
 
 impl<'a> ScalarRecord<'a> {
-    ghost use Rattle.ends_calls.specs.Answer.{ScalarRead};
+    ghost use Rattle.ends_calls.specs.Inner.Reads.{ScalarRead};
 
     // The record, whole and tested.
     pub fn read(source: &'a [u8]) -> Result<Self, Refusal>

@@ -17,8 +17,8 @@ fn add_binary(from: &[u64], into: &mut [u64])
     }
 }
 
-// The sum of two words below p, modulo p, as the definition `prime_sum` has it, with no branch and no `Prime` made of either word: a sum of p or more has bit 61 once 1 is added, and is p less with that 1 and
-// without that bit.
+// The sum of two words below p, modulo p, as the definition `prime_sum` has it, with no branch and no `Prime` made of either word: a sum
+// of p or more has bit 61 once 1 is added, and is p less with that 1 and without that bit.
 fn prime_sum(a: u64, b: u64) -> u64
     requires { (a < modulus) × (b < modulus) }
     ensures { result ≡ prime_sum a b }

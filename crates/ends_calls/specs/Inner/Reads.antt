@@ -1,5 +1,5 @@
--- What the result of reading a whole record stands for (document 01, 'Numbers of the calls'): its bytes and its content where it is
--- accepted, else the number of its refusal.
+-- Inner: no promise cites this file. What the result of reading a whole record stands for (document 01, 'Numbers of the calls'): its
+-- bytes and its content where it is accepted, else the number of its refusal.
 use Rattle.std.specs.Prelude.{◌≡◌, ℕ, List, Result, Ok, Err}
 use Rattle.answer.specs.declared.Refusal.{Refusal}
 use Rattle.answer.specs.Refused.{number_of}
