@@ -1,4 +1,5 @@
-// Lengths of so many bytes an output, and windows, for any numbers: no product and no sum is taken.
+// Lengths of so many bytes an output, and windows, for any numbers: no product and no sum is taken. That a width is 1 at least is asked by
+// clause: it is a constant of the caller's, or an element's width.
 ghost use Rattle.std.specs.Prelude.{◌≡◌, ◌+◌, ◌*◌, ◌≤◌, ltb, eqb};
 
 // Whether a length is `width` bytes an output.

@@ -32,7 +32,7 @@ pub fn put_bits(
 }
 
 // Writes the shares of the output wires, of each byte its share; a step's state has the shares themselves (`write_outputs`). As one, the
-// two would take a closure for this one word.
+// two would take a closure for this one word. The room for the outputs is asked by clause, as there.
 pub fn write_shares(circuit: Circuit, wires: &[u8; 4096], output: &mut [u8])
     requires { circuit.layout.outputs ≤ length output.old }
     ensures { output.new

@@ -88,7 +88,8 @@ pub fn proceed(step: Step, waiting: Option<Spot>, wires: &mut [u8; 4096]) -> Opt
     run_on(circuit, asked.role, from, wires)
 }
 
-// Writes the shares of the output wires, which a step's state holds as they are; a round's has them in bytes (`write_shares`).
+// Writes the shares of the output wires, which a step's state holds as they are; a round's has them in bytes (`write_shares`). That
+// the outputs have room is asked by clause: the buffer is C's, and `check` tests it.
 pub fn write_outputs(circuit: Circuit, wires: &[u8; 4096], output: &mut [u8])
     requires { circuit.layout.outputs ≤ length output.old }
     ensures { output.new

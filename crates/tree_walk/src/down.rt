@@ -1,5 +1,5 @@
 // The way down to a leaf: from a node, from two nodes under the same children in alternation, and from the sibling that the leaf of a
-// punctured tree follows from.
+// punctured tree follows from. The bits of a branch stay a number, and `IsBranch` a clause: `record` has them so before they are tested.
 ghost use Rattle.std.specs.Prelude.{◌≡◌, ◌*◌, ◌/◌, ◌%◌, ◌^◌, ◌≤◌, ◌<◌};
 ghost use Rattle.tree.specs.Child.{child_by};
 ghost use Rattle.tree.specs.Inner.Branches.{IsBranch};

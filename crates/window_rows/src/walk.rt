@@ -1,7 +1,8 @@
 // A window's outputs written and its words tested in one walk of its rows. The buffers stay two parameters: as a struct of `&mut` they would
 // be lent anew for each row. So `EndFitting`, which is of the shape, the rows, the vectors and both buffers, is asked by clause: no type
 // holds all that it is of. Code, rows and vectors go on as they came: a struct of the three would be made in `write_rows` and taken apart in
-// each function below, which needs its parts.
+// each function below, which needs its parts. That k is a row of the window
+// is asked by clause: a type for it would carry the window.
 ghost use Rattle.std.specs.Prelude.{◌≡◌, ◌<◌, length};
 ghost use Rattle.aes128.specs.Inner.Words.{round_keys};
 ghost use Rattle.algebra.specs.Choice.{choose};

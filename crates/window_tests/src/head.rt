@@ -1,5 +1,6 @@
 // What a record's head gives its windows: the code's shape, the words of a vector, and the code key. A record and its layout stay two, here
-// and where windows are written: `read_noise` and `read_scalar`, which ARCHITECTURE.md names, give a layout without its record.
+// and where windows are written: `read_noise` and `read_scalar`, which ARCHITECTURE.md names, give a layout without its record. So that the
+// body has both keys before it is asked by clause, as `record::Layout` says of its sizes.
 ghost use Rattle.std.specs.Prelude.{◌≡◌, ◌-◌, ◌*◌, ◌^◌, ◌≤◌, length};
 ghost use Rattle.aes128.specs.Inner.Words.{round_keys};
 ghost use Rattle.field.specs.Kind.{element_words};
