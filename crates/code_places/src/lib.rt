@@ -5,5 +5,5 @@
 mod row;
 mod used;
 
-pub use row::{Code, Term};
+pub use row::{Code, Term, place_of};
 pub use used::still_below;

@@ -9,6 +9,15 @@ use aes_sbox::Tables;
 use code::Shape;
 use field::Block;
 
+// The place that a word names for term i, in strip i. Beside the method of the same name, since a place needs no cipher.
+pub fn place_of(shape: Shape, i: usize, word: u64) -> usize
+    requires { Shaped shape × (i < shape.terms) }
+    ensures { (result ≡ place_by shape i word) × (result < shape.places) }
+{
+    let strip = shape.strip;
+    i * strip + (word % (strip as u64)) as usize
+}
+
 // A term of a row: its place, and the last eight bytes of its block as a word.
 #[derive(Clone, Copy)]
 pub struct Term {
@@ -39,13 +48,12 @@ impl<'a> Code<'a> {
         }
     }
 
-    // The place that a word names for term i, in strip i.
+    // The place that a word names for term i.
     pub fn place_of(self, i: usize, word: u64) -> usize
         requires { i < self.shape.terms }
         ensures { (result ≡ place_by self.entry.shape i word) × (result < self.entry.shape.places) }
     {
-        let strip = self.shape.strip;
-        i * strip + (word % (strip as u64)) as usize
+        place_of(self.shape, i, word)
     }
 
     // Term i of row x.

@@ -8,7 +8,7 @@ use tree_walk::{Start, from_sibling};
 
 impl Vector<'_> {
     // Whether tree i is punctured at j, which at the scalar end none is.
-    pub fn punctured_at(&self, i: usize, j: usize) -> bool
+    pub(crate) fn punctured_at(&self, i: usize, j: usize) -> bool
         requires { i < 64 }
         ensures { result ≡ punctured_at self.now.number self.now.table.now i j }
     {
@@ -16,7 +16,7 @@ impl Vector<'_> {
     }
 
     // Whether tree i or the next is punctured at j.
-    pub fn either_punctured(&self, i: usize, j: usize) -> bool
+    pub(crate) fn either_punctured(&self, i: usize, j: usize) -> bool
         requires { i + 1 < 64 }
         ensures { result ≡ (punctured_at self.now.number self.now.table.now i j || punctured_at self.now.number self.now.table.now (i + 1) j) }
     {
@@ -24,7 +24,7 @@ impl Vector<'_> {
     }
 
     // Where the walk to leaf j of tree i starts, which is not punctured there.
-    pub fn start_at(&self, i: usize, j: usize) -> Start
+    pub(crate) fn start_at(&self, i: usize, j: usize) -> Start
         requires { (i < self.now.layout.trees) × (j < 2 ^ self.now.layout.depth)
             × (punctured_at self.now.number self.now.table.now i j ≡ false) }
         ensures { StartsAt self.now.number self.now.source.now self.now.layout i j result }

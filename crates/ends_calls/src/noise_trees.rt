@@ -68,7 +68,7 @@ impl NoiseRecord<'_> {
     }
 
     // Writes the accumulated μ and v0.
-    pub fn write_accumulated(&self, noise: &mut [u64], v: &mut [u64])
+    pub(crate) fn write_accumulated(&self, noise: &mut [u64], v: &mut [u64])
         requires { (length noise.old ≡ 2 ^ self.now.layout.depth) × (length v.old ≡ 2 ^ self.now.layout.depth * element_words self.now.layout.field) }
         ensures { (noise.new ≡ flat (kind_of self.now.layout.field).field.noise_values (2 ^ self.now.layout.depth)
             (accumulate (kind_of self.now.layout.field).field.ring.group (mu (content_of self.now.source.now self.now.layout))))

@@ -45,7 +45,7 @@ impl ScalarRecord<'_> {
     }
 
     // Writes the accumulated w0.
-    pub fn write_accumulated(&self, w: &mut [u64])
+    pub(crate) fn write_accumulated(&self, w: &mut [u64])
         requires { length w.old ≡ 2 ^ self.now.layout.depth * element_words self.now.layout.field }
         ensures { w.new ≡ flat (kind_of self.now.layout.field).field.elements (2 ^ self.now.layout.depth)
             (accumulate (kind_of self.now.layout.field).field.scaled.group (w0 (content_of self.now.source.now self.now.layout))) }
@@ -55,7 +55,7 @@ impl ScalarRecord<'_> {
     }
 
     // Writes the two words of Δ: two in either field (`delta_out`), where `put_element` writes bytes.
-    pub fn write_delta(&self, delta: &mut [u64])
+    pub(crate) fn write_delta(&self, delta: &mut [u64])
         requires { 2 ≤ length delta.old }
         ensures { delta.new ≡ delta_out (content_of self.now.source.now self.now.layout) ++ drop 2 delta.old }
     {
