@@ -189,7 +189,7 @@ def stands(path, name):
         field = re.escape(name.split(".", 1)[1])
         return bool(re.search(r"(?m)^  (?:pub )?" + field + r"(?=[\s:])", definitions.get(key, "")))
     if path.endswith(".rt"):
-        declared = r"(?:pub )?(?:extern \"C\" )?(?:fn|const|static|struct|enum|trait) " + re.escape(name) + r"\b"
+        declared = r"(?:pub(?:\(crate\))? )?(?:extern \"C\" )?(?:fn|const|static|struct|enum|trait) " + re.escape(name) + r"\b"
     else:
         declared = r"(?:(?:unfoldable|abbrev|pub|record|data) )*" + re.escape(name) + r"(?: [^=\n]*)? :"
     return bool(re.search(r"(?m)^\s*" + declared, text_of(path)))
@@ -230,7 +230,7 @@ def stated(path, name):
     """The statement that a proof is declared with, as a definition of specs/, or a sentence that says why there is none."""
     text = text_of(path)
     if path.endswith(".rt"):
-        contract = re.search(r"(?m)^\s*(?:pub )?(?:extern \"C\" )?fn " + re.escape(name) + r"\b(.*?)^\s*\{\n", text, re.S)
+        contract = re.search(r"(?m)^\s*(?:pub(?:\(crate\))? )?(?:extern \"C\" )?fn " + re.escape(name) + r"\b(.*?)^\s*\{\n", text, re.S)
         found = cited(" ".join(re.findall(r"ensures (?:\w+ )?\{(.*?)\}\n", contract[1] + "\n", re.S)), imports(text)) if contract else set()
         return found or f"the contract of {name} in {path} cites no statement"
     declared = re.search(r"(?m)^( *)(?:abbrev |unfoldable )*(?:pub )?" + re.escape(name) + r" :((?: |\n).*?)\n(?=\1" + re.escape(name)
