@@ -33,6 +33,7 @@ fn read_position(
 
 // A tree with so many siblings, after positions below `base`, and the place after it. Field, depth and siblings stay three parameters:
 // `known_tree`, which ARCHITECTURE.md names, promises its tree for any three by which one is read whole.
+#[inline(always)]
 fn read_tree(
     source: &[u8],
     at: usize,
