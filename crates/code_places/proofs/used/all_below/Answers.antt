@@ -1,17 +1,10 @@
--- `code_places::used::all_below` meets its contract, word by word. Assumes nothing.
-use Rattle.std.proofs.Common.{rules}
-use Rattle.algebra.proofs.Every.{every-none}
-use Rattle.code.proofs.Tested.{all_more, all_stop, all_done}
+-- `code_places::used::all_below` meets its contract: the words left decide, four a turn and then one. Assumes nothing.
+use mathlib.Core.Path.{◌∙◌, sym}
+use Rattle.code_places.proofs.Words.{all-each}
 use Rattle.code_places.proofs.used.all_below.Goals as goal
 
-pub loop-word-init : goal.loop-word-init
-loop-word-init c = search (rules, every-none)
-
-pub returns-then-bound-word : goal.returns-then-bound-word
-returns-then-bound-word c = search all_stop
-
-pub loop-word-preserved : goal.loop-word-preserved
-loop-word-preserved c = search (rules, all_more)
+pub loop-rest-init : goal.loop-rest-init
+loop-rest-init c = all-each _ _
 
 pub returns : goal.returns
-returns c = search all_done
+returns c = c.each_below.ensures ∙ all-each _ _ ∙ sym c.loop-rest.invariant

@@ -1,0 +1,2 @@
+-- The law of `code_places` of its own.
+pub mod Words
