@@ -4056,7 +4056,7 @@ INLINE Result_tuple_uint64_uint64_answer_Refusal circuit_gates_read_wire(slice s
 }
 
 /* circuit, src/gates.rt:44: The gate at a wire, and the place after it. */
-static Result_tuple_circuit_Gate_uint64_answer_Refusal circuit_gates_read_gate(slice source, uint64_t at, uint64_t wire)
+INLINE Result_tuple_circuit_Gate_uint64_answer_Refusal circuit_gates_read_gate(slice source, uint64_t at, uint64_t wire)
 {
     Result_tuple_circuit_Gate_uint64_answer_Refusal result;
     uint64_t kind, at_2, first, at_3, second, at_4;
@@ -4235,7 +4235,7 @@ static Result_uint64_answer_Refusal circuit_gates_read_wires(slice source, uint6
 }
 
 /* circuit, src/reading.rt:12: The circuit, whole and tested. */
-static Result_circuit_Layout_answer_Refusal circuit_reading_read_circuit(slice source)
+INLINE Result_circuit_Layout_answer_Refusal circuit_reading_read_circuit(slice source)
 {
     Result_circuit_Layout_answer_Refusal result;
     uint64_t inputs, at, gates, at_2, outputs, body, ands, tail, end, t19, t27, t37;
@@ -4364,7 +4364,7 @@ INLINE Result_circuit_accepted_Circuit_answer_Refusal circuit_accepted_Circuit_r
 
 /* circuit, src/again.rt:14: The gate at a place of an accepted circuit, at a wire, and the place after it. It stays beside `read_gate`,
  * since it tests no kind and no wire again: by `read_gate` a round takes 7 % more instructions. */
-static tuple_circuit_Gate_uint64 circuit_again_known_gate(slice source, uint64_t at, uint64_t wire)
+INLINE tuple_circuit_Gate_uint64 circuit_again_known_gate(slice source, uint64_t at, uint64_t wire)
 {
     tuple_circuit_Gate_uint64 result;
     uint64_t kind, at_2, first, at_3, second, at_4;
@@ -5833,7 +5833,7 @@ INLINE circuit_round_accepted_Lengths circuit_round_accepted_accepted_round(circ
 
 /* circuit_round, src/lib.rt:21: One round of an end's run: opens every AND whose wires are known and gives its two bits to send, or
  * writes the outputs of a run where none waits. */
-INLINE circuit_run_Rounded circuit_round_round_run(uint8_t role, slice circuit, slice shares, slice triples, slice output, slice far_bits,
+static circuit_run_Rounded circuit_round_round_run(uint8_t role, slice circuit, slice shares, slice triples, slice output, slice far_bits,
     slice bits_out, circuit_run_RoundState state)
 {
     circuit_run_Rounded result;
@@ -6399,7 +6399,7 @@ INLINE circuit_run_Stepped circuit_step_accepted_accepted_step(circuit_step_test
 
 /* circuit_step, src/lib.rt:19: One step of an end's run: up to the next AND, whose two bits to send it gives, or to the end, where it
  * writes the outputs. */
-INLINE circuit_run_Stepped circuit_step_step_run(uint8_t role, slice circuit, slice shares, slice triples, slice output, uint8_t far_first,
+static circuit_run_Stepped circuit_step_step_run(uint8_t role, slice circuit, slice shares, slice triples, slice output, uint8_t far_first,
     uint8_t far_second, circuit_run_StepState state)
 {
     circuit_run_Stepped result, t27;
@@ -6816,15 +6816,13 @@ INLINE Result_unit_answer_Refusal dealing_tests_input_check_rooms(record_Layout 
 }
 
 /* dealing_tests, src/input.rt:49: Tests an input and buffers of these lengths. */
-static Result_unit_answer_Refusal dealing_tests_input_check(char *input, uint64_t rooms_noise, uint64_t rooms_scalar)
+INLINE Result_unit_answer_Refusal dealing_tests_input_check(char *input, dealing_tests_input_Rooms rooms)
 {
     Result_unit_answer_Refusal result, t10;
-    dealing_tests_input_Rooms rooms;
     ErrResidual_answer_Refusal t4, t6, t8;
     ControlFlow_ErrResidual_answer_Refusal_unit t9, t12, t13;
     record_Layout t11;
     slice t14;
-    rooms = (dealing_tests_input_Rooms){rooms_noise, rooms_scalar};
     t11 = ((dealing_tests_input_Input *)input)->layout;
     t10 = dealing_tests_tests_check_sizes(t11);
     t9 = core_ResultTry_branch_unit_answer_Refusal(t10);
@@ -7643,7 +7641,7 @@ INLINE dealing_call_noise_Planned dealing_call_noise_plan(char *input, uint64_t 
 }
 
 /* dealing_call, src/noise.rt:21: The correction of a tree: the element of the leaf at its position minus Δ × its noise value. */
-static field_element_Element dealing_call_noise_correction(uint64_t field, uint8_4_4 leaf, uint64_t value, slice delta)
+INLINE field_element_Element dealing_call_noise_correction(uint64_t field, uint8_4_4 leaf, uint64_t value, slice delta)
 {
     field_element_Element result, scalar, element, multiple;
     scalar = field_element_element_at(field, delta, 0ull);
@@ -7767,7 +7765,7 @@ INLINE uint64_t dealing_call_noise_write_noise(slice out, char *input)
 }
 
 /* dealing_call, src/scalar.rt:14: Writes the scalar record at the buffer's front; its length. */
-static uint64_t dealing_call_scalar_write_scalar_part(slice out, char *input)
+INLINE uint64_t dealing_call_scalar_write_scalar_part(slice out, char *input)
 {
     uint64_t result, t4;
     field_element_Element scalar;
@@ -7789,7 +7787,7 @@ static uint64_t dealing_call_scalar_write_scalar_part(slice out, char *input)
 
 /* dealing_call, src/lib.rt:19: Writes the noise record and the scalar record of a dealing, each to its own buffer. The parameters are
  * those of the C interface. */
-INLINE answer_TwoLengths dealing_call_deal(uint8_t field, uint64_t depth, uint64_t branch_bits, uint64_t trees, uint64_t terms, uint64_t
+static answer_TwoLengths dealing_call_deal(uint8_t field, uint64_t depth, uint64_t branch_bits, uint64_t trees, uint64_t terms, uint64_t
     outputs, slice roots, slice positions, slice values, slice delta, slice code_key, slice label, slice noise_record, slice scalar_record)
 {
     answer_TwoLengths result;
@@ -7809,7 +7807,7 @@ INLINE answer_TwoLengths dealing_call_deal(uint8_t field, uint64_t depth, uint64
     t21 = scalar_record.count;
     rooms = (dealing_tests_input_Rooms){t20, t21};
     t24 = (char *)&input;
-    t23 = dealing_tests_input_check(t24, rooms.noise, rooms.scalar);
+    t23 = dealing_tests_input_check(t24, rooms);
     switch (t23.ok.tag) {
     case 1:
         refusal = t23.err.m1;
@@ -7875,9 +7873,8 @@ INLINE bool code_places_used_still_below(bool others, uint64_t word, uint64_t bo
     return result;
 }
 
-/* code_places, src/used.rt:18: Whether every word is below the bound. Measured: 0.33 ns a word, and 0.41 where four words are tested a
- * turn; what `iter().all` takes, `are_elements` of `layer_add` says. */
-static bool code_places_used_all_below(slice words, uint64_t bound)
+/* code_places, src/used.rt:17: Whether every word is below the bound, word by word. */
+static bool code_places_used_each_below(slice words, uint64_t bound)
 {
     bool result, t6, t10;
     uint64_t word_index, word_index_end, t9;
@@ -7900,6 +7897,63 @@ static bool code_places_used_all_below(slice words, uint64_t bound)
         word_index = word_index + 1ull;
     }
     result = true;
+    return result;
+}
+
+/* code_places, src/used.rt:30: Whether every word is below the bound, four words a turn: one a turn took 1.2 to 1.6 times as long in
+ * windows where this pass counts, as gcc and clang compile dist/expander.c; what `iter().all` takes, `are_elements` of `layer_add` says. */
+static bool code_places_used_all_below(slice words, uint64_t bound)
+{
+    bool result, t9;
+    slice rest, after;
+    char *first, *second, *third, *fourth, *t10, *t11, *t12, *t13, *t14, *t16;
+    uint64_t t15, t17;
+    rest = words;
+    for (;;) {
+        t9 = rest.count < 4ull;
+        if (t9) {
+            goto after1;
+        }
+        t10 = rest.at + 0ull;
+        t11 = rest.at + 8ull;
+        t12 = rest.at + 16ull;
+        t13 = rest.at + 24ull;
+        t14 = rest.at + 32ull;
+        t15 = rest.count - 4ull;
+        first = t10;
+        second = t11;
+        third = t12;
+        fourth = t13;
+        t16 = t14;
+        after = (slice){t16, t15};
+        t17 = *(uint64_t *)first;
+        t9 = bound <= t17;
+        if (t9) {
+            result = false;
+            return result;
+        }
+        t17 = *(uint64_t *)second;
+        t9 = bound <= t17;
+        if (t9) {
+            result = false;
+            return result;
+        }
+        t17 = *(uint64_t *)third;
+        t9 = bound <= t17;
+        if (t9) {
+            result = false;
+            return result;
+        }
+        t17 = *(uint64_t *)fourth;
+        t9 = bound <= t17;
+        if (t9) {
+            result = false;
+            return result;
+        }
+        rest = after;
+    }
+after1:;
+    result = code_places_used_each_below(rest, bound);
     return result;
 }
 
@@ -7936,7 +7990,7 @@ INLINE uint64_t code_places_row_Code_row_place(code_places_row_Code self, uint64
     return result;
 }
 
-/* code_places, src/used.rt:33: Whether every word at the places of row x is below the bound. */
+/* code_places, src/used.rt:56: Whether every word at the places of row x is below the bound. */
 static bool code_places_row_Code_row_below(code_places_row_Code self, uint64_t x, slice words, uint64_t bound)
 {
     bool result, t8;
@@ -7965,7 +8019,7 @@ static bool code_places_row_Code_row_below(code_places_row_Code self, uint64_t x
     return result;
 }
 
-/* code_places, src/used.rt:47: The test, row by row. */
+/* code_places, src/used.rt:70: The test, row by row. */
 static bool code_places_row_Code_rows_below(code_places_row_Code self, code_Window window, slice words, uint64_t bound)
 {
     bool result, t7, t10;
@@ -7992,7 +8046,7 @@ static bool code_places_row_Code_rows_below(code_places_row_Code self, code_Wind
     return result;
 }
 
-/* code_places, src/used.rt:61: The test, by a pass over all words where that is less work than the rows' ciphers; the rows are walked
+/* code_places, src/used.rt:84: The test, by a pass over all words where that is less work than the rows' ciphers; the rows are walked
  * only if that pass finds a word at the bound or above, or is not made. A term takes about as long as 100 words of the pass. */
 INLINE bool code_places_row_Code_used_below(code_places_row_Code self, code_Window window, slice words, uint64_t bound)
 {
@@ -8613,7 +8667,7 @@ INLINE Result_record_Layout_answer_Refusal record_head_head_read_sizes(slice sou
 
 /* record_head, src/head.rt:94: The head of a record of the end with this byte. A byte and no `End`, as ARCHITECTURE.md names it: the
  * answer is promised for every byte. */
-static Result_record_Layout_answer_Refusal record_head_head_read_head(slice source, uint8_t end)
+INLINE Result_record_Layout_answer_Refusal record_head_head_read_head(slice source, uint8_t end)
 {
     Result_record_Layout_answer_Refusal result;
     uint64_t field, at;
@@ -8965,9 +9019,9 @@ INLINE Result_tuple_field_element_Element_uint64_answer_Refusal record_reading_e
     return result;
 }
 
-/* record_reading, src/noise.rt:36: A tree with so many siblings, after positions below `base`, and the place after it. Field, depth and
+/* record_reading, src/noise.rt:37: A tree with so many siblings, after positions below `base`, and the place after it. Field, depth and
  * siblings stay three parameters: `known_tree`, which ARCHITECTURE.md names, promises its tree for any three by which one is read whole. */
-static Result_tuple_record_Tree_uint64_answer_Refusal record_reading_noise_read_tree(slice source, uint64_t at, uint64_t base, uint64_t
+INLINE Result_tuple_record_Tree_uint64_answer_Refusal record_reading_noise_read_tree(slice source, uint64_t at, uint64_t base, uint64_t
     field, uint64_t depth, uint64_t siblings)
 {
     Result_tuple_record_Tree_uint64_answer_Refusal result;
@@ -9050,7 +9104,7 @@ static Result_tuple_record_Tree_uint64_answer_Refusal record_reading_noise_read_
     return result;
 }
 
-/* record_reading, src/noise.rt:64: The noise record, whole and tested. The loop carries the next place: an iterator of trees would be a
+/* record_reading, src/noise.rt:65: The noise record, whole and tested. The loop carries the next place: an iterator of trees would be a
  * struct of both places, and be lent to the loop, since the place after the last tree is tested. */
 static Result_record_Layout_answer_Refusal record_reading_noise_read_noise(slice source)
 {
@@ -9202,7 +9256,7 @@ INLINE Result_tuple_field_element_Element_uint64_answer_Refusal record_reading_e
 }
 
 /* record_reading, src/scalar.rt:12: The scalar record, whole and tested. Δ begins the body, and the roots follow it. */
-static Result_record_Layout_answer_Refusal record_reading_scalar_read_scalar(slice source)
+INLINE Result_record_Layout_answer_Refusal record_reading_scalar_read_scalar(slice source)
 {
     Result_record_Layout_answer_Refusal result, t12;
     record_Layout layout, t3, t14;
@@ -9270,7 +9324,7 @@ static Result_record_Layout_answer_Refusal record_reading_scalar_read_scalar(sli
     return result;
 }
 
-/* record_reading, src/noise.rt:83: The tree at a place of an accepted noise record, after positions below `base`. The next tree follows
+/* record_reading, src/noise.rt:84: The tree at a place of an accepted noise record, after positions below `base`. The next tree follows
  * its siblings. */
 INLINE record_Tree record_reading_noise_known_tree(slice source, uint64_t at, uint64_t base, uint64_t field, uint64_t depth, uint64_t
     siblings)
@@ -9404,16 +9458,13 @@ INLINE void tree_sums_sums_add_pair(tree_walk_node_TreeCipher cipher, uint64_t f
 }
 
 /* tree_sums, src/sums.rt:72: Adds four children of s from c on, which are leaves, to the elements of acc. */
-static void tree_sums_sums_add_four(tree_walk_node_TreeCipher cipher, uint64_t field, uint64_t c, uint64_t s_low, uint64_t s_high, slice
-    acc)
+INLINE void tree_sums_sums_add_four(tree_walk_node_TreeCipher cipher, uint64_t field, uint64_t c, field_block_Block s, slice acc)
 {
-    field_block_Block s;
     slice first, second, t10, t16, t19;
     tuple_slice_uint64_slice_uint64 t8;
     char *t9, *t15, *t18;
     uint64_t t11, t12;
     tree_walk_node_TreeCipher t14, t17;
-    s = (field_block_Block){s_low, s_high};
     t9 = acc.at;
     t10 = (slice){t9, acc.count};
     t11 = acc.count;
@@ -9433,14 +9484,16 @@ static void tree_sums_sums_add_four(tree_walk_node_TreeCipher cipher, uint64_t f
 }
 
 /* tree_sums, src/sums.rt:82: Adds all two, four or eight children of s, which are leaves, to the elements of acc. */
-INLINE void tree_sums_sums_add_bottom(tree_walk_node_TreeCipher cipher, uint64_t field, uint64_t bits, uint64_t c, field_block_Block s,
-    slice acc)
+static void tree_sums_sums_add_bottom(tree_walk_node_TreeCipher cipher, uint64_t field, uint64_t bits, uint64_t c, uint64_t s_low, uint64_t
+    s_high, slice acc)
 {
+    field_block_Block s;
     slice first, second, t12, t16, t19, t25, t28;
     tree_walk_node_TreeCipher t10, t14, t23, t26;
     char *t11, *t15, *t18, *t24, *t27;
     tuple_slice_uint64_slice_uint64 t17;
     uint64_t t20, t21;
+    s = (field_block_Block){s_low, s_high};
     switch (bits) {
     case 1:
         t10 = cipher;
@@ -9452,7 +9505,7 @@ INLINE void tree_sums_sums_add_bottom(tree_walk_node_TreeCipher cipher, uint64_t
         t14 = cipher;
         t15 = acc.at;
         t16 = (slice){t15, acc.count};
-        tree_sums_sums_add_four(t14, field, c, s.low, s.high, t16);
+        tree_sums_sums_add_four(t14, field, c, s, t16);
         break;
     default:
         t18 = acc.at;
@@ -9465,19 +9518,19 @@ INLINE void tree_sums_sums_add_bottom(tree_walk_node_TreeCipher cipher, uint64_t
         t23 = cipher;
         t24 = first.at;
         t25 = (slice){t24, first.count};
-        tree_sums_sums_add_four(t23, field, c, s.low, s.high, t25);
+        tree_sums_sums_add_four(t23, field, c, s, t25);
         t26 = cipher;
         t20 = c + 4ull;
         t27 = second.at;
         t28 = (slice){t27, second.count};
-        tree_sums_sums_add_four(t26, field, t20, s.low, s.high, t28);
+        tree_sums_sums_add_four(t26, field, t20, s, t28);
         break;
     }
 }
 
 /* tree_sums, src/sums.rt:108: Adds the two children of each of two nodes, which are leaves, to the elements of acc. Two nodes here, two
  * pairs of one node's in `add_four`: with both as parameters one function has more of them than lines. */
-static void tree_sums_sums_add_couple(tree_walk_node_TreeCipher cipher, uint64_t field, aes_blocks_Two_field_block_Block both, slice acc)
+INLINE void tree_sums_sums_add_couple(tree_walk_node_TreeCipher cipher, uint64_t field, aes_blocks_Two_field_block_Block both, slice acc)
 {
     slice first, second, t9, t16, t20;
     tuple_slice_uint64_slice_uint64 t7;
@@ -9664,7 +9717,7 @@ static void tree_fill_fill_add_range(tree_walk_node_TreeCipher cipher, uint64_t 
             t24 = cipher;
             t25 = acc.at;
             t26 = (slice){t25, acc.count};
-            tree_sums_sums_add_bottom(t24, field, bits, from, s, t26);
+            tree_sums_sums_add_bottom(t24, field, bits, from, s.low, s.high, t26);
         } else {
             t27 = bits == 1ull;
             if (t27) {
@@ -10008,7 +10061,7 @@ INLINE uint8_4 aes_rows_without_row(aes_sbox_Tables tables, char *s, uint64_t r,
 
 /* aes_rows, src/lib.rt:27: The states after rounds 1 and 2 that the blocks of x and i share, for one x: each without what the bytes that
  * differ add. Two states in an array beside x, and no struct of all three: docs/PROMISES.md has this form (13.3). */
-static uint8_4_4_2 aes_rows_share(aes_sbox_Tables tables, char *keys, uint64_t x)
+INLINE uint8_4_4_2 aes_rows_share(aes_sbox_Tables tables, char *keys, uint64_t x)
 {
     uint8_4_4_2 result;
     uint8_4_4 s, t, t11, t14;
@@ -10943,11 +10996,10 @@ INLINE Result_unit_answer_Refusal window_write_writing_write_tested(code_places_
 
 /* window_write, src/writing.rt:70: Writes a window of any size under a record's code key, or refuses it. The scalar end's buffer for u
  * may be empty. */
-static Result_unit_answer_Refusal window_write_writing_write_rows(slice source, record_Layout layout, uint64_t window_first, uint64_t
-    window_count, window_Accumulated vectors, slice u_out, slice out)
+INLINE Result_unit_answer_Refusal window_write_writing_write_rows(slice source, record_Layout layout, code_Window window, window_Accumulated
+    vectors, slice u_out, slice out)
 {
     Result_unit_answer_Refusal result;
-    code_Window window;
     uint64_1536 words;
     aes_sbox_Tables tables, t14;
     uint64_40 keys, t13;
@@ -10957,7 +11009,6 @@ static Result_unit_answer_Refusal window_write_writing_write_rows(slice source, 
     code_Shape t16;
     window_Accumulated t18;
     slice t20, t22;
-    window = (code_Window){window_first, window_count};
     for (int each = 0; each < 1536; each++)
         words.a[each] = 0ull;
     t12 = (char *)&words;
@@ -11322,7 +11373,7 @@ INLINE void ends_calls_accepted_ScalarRecord_write_delta(char *self, slice delta
 }
 
 /* ends_calls, src/scalar.rt:18: Writes the accumulated w0 to the front of w, and the two words of Δ. */
-INLINE answer_TwoLengths ends_calls_scalar_offline(slice source, slice w, slice delta)
+static answer_TwoLengths ends_calls_scalar_offline(slice source, slice w, slice delta)
 {
     answer_TwoLengths result;
     ends_calls_accepted_ScalarRecord record, record_2, t10;
@@ -11421,7 +11472,7 @@ INLINE answer_TwoLengths ends_calls_noise_online(slice source, slice noise, slic
     t26 = (slice){t25, u_out.count};
     t27 = v_out.at;
     t28 = (slice){t27, v_out.count};
-    t22 = window_write_writing_write_rows(t23, layout, window.first, window.count, t24, t26, t28);
+    t22 = window_write_writing_write_rows(t23, layout, window, t24, t26, t28);
     switch (t22.ok.tag) {
     case 1:
         refusal_3 = t22.err.m1;
@@ -11437,7 +11488,7 @@ INLINE answer_TwoLengths ends_calls_noise_online(slice source, slice noise, slic
 }
 
 /* ends_calls, src/scalar.rt:44: Writes the window's outputs of the accumulated vector w to the front of w_out. */
-INLINE answer_OneLength ends_calls_scalar_online(slice source, slice w, uint64_t first, uint64_t count, slice w_out)
+static answer_OneLength ends_calls_scalar_online(slice source, slice w, uint64_t first, uint64_t count, slice w_out)
 {
     answer_OneLength result;
     ends_calls_accepted_ScalarRecord record, record_2, t15;
@@ -11484,7 +11535,7 @@ INLINE answer_OneLength ends_calls_scalar_online(slice source, slice w, uint64_t
     t25 = (slice){t24, 0ull};
     t26 = w_out.at;
     t27 = (slice){t26, w_out.count};
-    t20 = window_write_writing_write_rows(t21, layout, window.first, window.count, t22, t25, t27);
+    t20 = window_write_writing_write_rows(t21, layout, window, t22, t25, t27);
     switch (t20.ok.tag) {
     case 1:
         refusal_3 = t20.err.m1;
@@ -11699,7 +11750,7 @@ INLINE tree_walk_down_Start ends_bench_leaves_vector_Vector_start_at(char *self,
 }
 
 /* ends_bench_leaves, src/values.rt:15: The element of leaf j of tree i, walked alone; the correction stands in for a punctured leaf. */
-static field_element_Element ends_bench_leaves_vector_Vector_leaf_of(char *self, uint64_t i, uint64_t j)
+INLINE field_element_Element ends_bench_leaves_vector_Vector_leaf_of(char *self, uint64_t i, uint64_t j)
 {
     field_element_Element result;
     record_Layout layout;
@@ -11752,11 +11803,10 @@ INLINE aes_blocks_Two_field_block_Block ends_bench_leaves_walk_walk_two(tree_wal
 
 /* ends_bench_leaves, src/values.rt:31: The sum of the elements of leaf j below two blocks. Two walks in alternation, as the bench has
  * one engine for both (docs/DECISIONS.md), and not two of `leaf_of`, whose ciphers would run one after the other. */
-static field_element_Element ends_bench_leaves_vector_Vector_two_walked(char *self, uint64_t a_at, uint64_t a_left, uint64_t b_at, uint64_t
-    b_left, uint64_t j)
+INLINE field_element_Element ends_bench_leaves_vector_Vector_two_walked(char *self, tree_walk_down_Start a, tree_walk_down_Start b, uint64_t
+    j)
 {
     field_element_Element result, t13, t16;
-    tree_walk_down_Start a, b;
     uint64_t field, t10;
     ends_bench_leaves_walk_Levels levels;
     field_block_Block one, other, t15, t18;
@@ -11764,8 +11814,6 @@ static field_element_Element ends_bench_leaves_vector_Vector_two_walked(char *se
     slice t11;
     tree_walk_node_TreeCipher t12;
     uint8_4_4 t14, t17;
-    a = (tree_walk_down_Start){a_at, a_left};
-    b = (tree_walk_down_Start){b_at, b_left};
     field = ((ends_bench_leaves_vector_Vector *)self)->layout.field;
     t10 = ((ends_bench_leaves_vector_Vector *)self)->layout.branch_bits;
     levels = (ends_bench_leaves_walk_Levels){t10, a.left, b.left};
@@ -11786,7 +11834,7 @@ static field_element_Element ends_bench_leaves_vector_Vector_two_walked(char *se
 }
 
 /* ends_bench_leaves, src/values.rt:52: The sum of the elements of leaf j of trees i and i + 1. */
-INLINE field_element_Element ends_bench_leaves_vector_Vector_two_leaves(char *self, uint64_t i, uint64_t j)
+static field_element_Element ends_bench_leaves_vector_Vector_two_leaves(char *self, uint64_t i, uint64_t j)
 {
     field_element_Element result, t8, t9;
     tree_walk_down_Start a, b;
@@ -11804,7 +11852,7 @@ INLINE field_element_Element ends_bench_leaves_vector_Vector_two_leaves(char *se
     a = ends_bench_leaves_vector_Vector_start_at(self, i, j);
     t11 = i + 1ull;
     b = ends_bench_leaves_vector_Vector_start_at(self, t11, j);
-    result = ends_bench_leaves_vector_Vector_two_walked(self, a.at, a.left, b.at, b.left, j);
+    result = ends_bench_leaves_vector_Vector_two_walked(self, a, b, j);
     return result;
 }
 
@@ -12441,7 +12489,7 @@ INLINE answer_OneLength ends_bench_accepted_write_scalar(ends_calls_accepted_Sca
 }
 
 /* ends_bench, src/lib.rt:38: Writes the window's outputs: w to the front of w_out. */
-INLINE answer_OneLength ends_bench_scalar_bench(slice source, uint64_t first, uint64_t count, slice w_out)
+static answer_OneLength ends_bench_scalar_bench(slice source, uint64_t first, uint64_t count, slice w_out)
 {
     answer_OneLength result, t8;
     ends_calls_accepted_ScalarRecord accepted, t9;
@@ -12764,7 +12812,7 @@ INLINE aes_blocks_Two_field_block_Block pads_rule_rule_PadCipher_second_steps(pa
 }
 
 /* pads_rule, src/steps.rt:27: Finishes the pads of indices x and y, whose first steps stand from a place on. */
-static void pads_rule_rule_PadCipher_finish_two(pads_rule_rule_PadCipher self, uint64_t x, uint64_t y, slice pads, uint64_t at)
+INLINE void pads_rule_rule_PadCipher_finish_two(pads_rule_rule_PadCipher self, uint64_t x, uint64_t y, slice pads, uint64_t at)
 {
     field_block_Block s, t, t18, t21;
     aes_blocks_Two_field_block_Block p;
@@ -13327,7 +13375,7 @@ INLINE void pads_messages_mask_mask_block(slice from, uint64_t at, slice by, uin
 }
 
 /* pads_messages, src/mask.rt:36: Writes both masked messages of output k. */
-static void pads_messages_mask_put_answer(uint64_t k, slice bits, slice pads, slice messages, slice answers)
+INLINE void pads_messages_mask_put_answer(uint64_t k, slice bits, slice pads, slice messages, slice answers)
 {
     uint64_t block0, block1, bit, named, other, t13, t14;
     char *t11, *t16, *t18;
@@ -13680,7 +13728,7 @@ INLINE record_describe_Described record_describe_noise_head(slice source)
 }
 
 /* record_describe, src/lib.rt:99: The answer for a scalar record. */
-INLINE record_describe_Described record_describe_scalar_head(slice source)
+static record_describe_Described record_describe_scalar_head(slice source)
 {
     record_describe_Described result, t5;
     record_Layout layout;
@@ -14352,7 +14400,7 @@ INLINE answer_OneLength expander_bench_windows_expander_scalar_direct(slice sour
 }
 
 /* expander, src/lib.rt:142: The noise end's pads of a window. */
-static uint32_t expander_expander_noise_pads(uint64_t first, uint64_t count, slice v, slice choices, slice pads)
+INLINE uint32_t expander_expander_noise_pads(uint64_t first, uint64_t count, slice v, slice choices, slice pads)
 {
     uint32_t result;
     char *t6;
