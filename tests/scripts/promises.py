@@ -462,23 +462,12 @@ faults += [f"{show(key)} is reached by no promise and is no working: it belongs 
 
 # ---- nothing that a contract says lies in proofs/
 
-PROOFS = re.compile(r"Rattle\.(?!(?:core|std)\.)\w+\.proofs\b")
-OF_LAWS = re.compile(r"(?m)^ghost use (Rattle\.\w+\.proofs\.[\w.]+)\.\{([^}]*)\};\n")
-
-
-def without_proofs_of_laws(code):
-    """The code without the proofs that an impl gives of its trait's laws, which say nothing, and their imports, if nothing else names them."""
-    bare = re.sub(r"(?m)^ *ghost laws = \{[^;]*\};$", "", code)
-    for match in OF_LAWS.finditer(code):
-        rest = bare.replace(match[0], "")
-        if not any(re.search(rf"(?<![\w-]){re.escape(name.strip())}(?![\w-])", rest) for name in match[2].split(",")):
-            bare = rest
-    return bare
-
+PROOFS = re.compile(r"Rattle\.(?!(?:core|std)\.)\w+\.proofs\b|\b(?!(?:core|std)::)\w+::proofs\b")
+HINT = re.compile(r"#!?\[tactic\([^\]]*\)\]")  # laws that a function hands to the search: no part of what it says
 
 for path in sorted(glob.glob("crates/*/src/**/*.rt", recursive=True) + glob.glob("crates/*/specs/**/*.antt", recursive=True)):
     code = re.sub(r"(?m)//.*$" if path.endswith(".rt") else r"(?m)--.*$", "", text_of(path))
-    code = without_proofs_of_laws(code) if path.endswith(".rt") else code
+    code = HINT.sub("", code) if path.endswith(".rt") else code
     faults += [f"{path} names {name}, and nothing that a contract says may lie in proofs/" for name in sorted(set(PROOFS.findall(code)))]
 
 
