@@ -2628,7 +2628,7 @@ INLINE amounts_WrittenAmount amounts_write_amount(uint64_t amount)
     return result;
 }
 
-/* number, src/lib.rt:77: How many bytes the number takes. */
+/* number, src/lib.rt:87: How many bytes the number takes. */
 INLINE uint64_t number_number_length(uint64_t n)
 {
     uint64_t result;
@@ -2647,7 +2647,7 @@ INLINE uint64_t number_number_length(uint64_t n)
     return result;
 }
 
-/* number, src/lib.rt:90: Writes the number from a place on; the place after it. */
+/* number, src/lib.rt:100: Writes the number from a place on; the place after it. */
 INLINE uint64_t number_write_number(slice buffer, uint64_t at, uint64_t n)
 {
     uint64_t result, t7, t8, t11, t13, t15, t16;
@@ -2719,108 +2719,101 @@ INLINE Result_tuple_uint64_uint64_answer_Refusal number_read_byte(slice source, 
     return result;
 }
 
-/* number, src/lib.rt:44: The number at a place, and the place after it. */
+/* number, src/lib.rt:45: The number at a place, and the place after it. It reads its bytes itself: a longer number needs no place after
+ * its first byte then, and a loop over numbers takes one branch a turn (docs/DESIGN-PASS.md). */
 INLINE Result_tuple_uint64_uint64_answer_Refusal number_read_number(slice source, uint64_t at)
 {
-    Result_tuple_uint64_uint64_answer_Refusal result, t17;
-    uint64_t a, at_2, b, at_3, c, at_4, t25, t26, t27, t35, t36, t37, t38, t39, t40;
-    tuple_uint64_uint64 t5, t9, t13, t15, t18, t20, t21, t23, t28, t29, t31, t41;
-    ErrResidual_answer_Refusal t6, t10, t14;
-    ControlFlow_ErrResidual_answer_Refusal_tuple_uint64_uint64 t16, t22, t30;
-    bool t19, t32, t33;
-    answer_Refusal t24, t34;
-    t17 = number_read_byte(source, at);
-    t16 = core_ResultTry_branch_tuple_uint64_uint64_answer_Refusal(t17);
-    switch (t16.continue_.tag) {
-    case 0:
-        t5 = t16.continue_.m1;
-        t18 = t5;
-        break;
-    default:
-        t6 = t16.break_.m1;
-        result = core_ResultFromResidualErrResidual_from_residual_tuple(t6);
+    Result_tuple_uint64_uint64_answer_Refusal result;
+    uint64_t a, b, c, t6, t11, t13, t18, t19, t20, t21, t28, t29, t30, t31, t32;
+    bool t7, t16, t25, t26;
+    answer_Refusal t8, t14, t17, t23, t27;
+    char *t9, *t15, *t24;
+    uint8_t t10;
+    tuple_uint64_uint64 t12, t22, t33;
+    t6 = source.count;
+    t7 = t6 <= at;
+    if (t7) {
+        t8 = (answer_Refusal){answer_Refusal_record_ends};
+        result = (Result_tuple_uint64_uint64_answer_Refusal){.err = {1u, t8}};
         return result;
     }
-    t15 = t18;
-    a = t15.m0;
-    at_2 = t15.m1;
-    t19 = a < 128ull;
-    if (t19) {
-        t20 = (tuple_uint64_uint64){a, at_2};
-        result = (Result_tuple_uint64_uint64_answer_Refusal){.ok = {0u, t20}};
+    t9 = source.at + at;
+    t10 = *(uint8_t *)t9;
+    a = (uint64_t)t10;
+    t7 = a < 128ull;
+    if (t7) {
+        t11 = at + 1ull;
+        t12 = (tuple_uint64_uint64){a, t11};
+        result = (Result_tuple_uint64_uint64_answer_Refusal){.ok = {0u, t12}};
         return result;
     }
-    t17 = number_read_byte(source, at_2);
-    t22 = core_ResultTry_branch_tuple_uint64_uint64_answer_Refusal(t17);
-    switch (t22.continue_.tag) {
-    case 0:
-        t9 = t22.continue_.m1;
-        t23 = t9;
-        break;
-    default:
-        t10 = t22.break_.m1;
-        result = core_ResultFromResidualErrResidual_from_residual_tuple(t10);
+    t6 = source.count;
+    t13 = at + 2ull;
+    t7 = t6 < t13;
+    if (t7) {
+        t14 = (answer_Refusal){answer_Refusal_record_ends};
+        result = (Result_tuple_uint64_uint64_answer_Refusal){.err = {1u, t14}};
         return result;
     }
-    t21 = t23;
-    b = t21.m0;
-    at_3 = t21.m1;
-    t19 = b == 0ull;
-    if (t19) {
-        t24 = (answer_Refusal){answer_Refusal_bad_number};
-        result = (Result_tuple_uint64_uint64_answer_Refusal){.err = {1u, t24}};
+    t6 = at + 1ull;
+    t15 = source.at + t6;
+    t10 = *(uint8_t *)t15;
+    b = (uint64_t)t10;
+    t7 = b < 128ull;
+    if (t7) {
+        t16 = b == 0ull;
+        if (t16) {
+            t17 = (answer_Refusal){answer_Refusal_bad_number};
+            result = (Result_tuple_uint64_uint64_answer_Refusal){.err = {1u, t17}};
+            return result;
+        }
+        t18 = a - 128ull;
+        t19 = b * 128ull;
+        t20 = t18 + t19;
+        t21 = at + 2ull;
+        t22 = (tuple_uint64_uint64){t20, t21};
+        result = (Result_tuple_uint64_uint64_answer_Refusal){.ok = {0u, t22}};
         return result;
     }
-    t19 = b < 128ull;
-    if (t19) {
-        t25 = a - 128ull;
-        t26 = b * 128ull;
-        t27 = t25 + t26;
-        t28 = (tuple_uint64_uint64){t27, at_3};
-        result = (Result_tuple_uint64_uint64_answer_Refusal){.ok = {0u, t28}};
+    t13 = source.count;
+    t6 = at + 3ull;
+    t7 = t13 < t6;
+    if (t7) {
+        t23 = (answer_Refusal){answer_Refusal_record_ends};
+        result = (Result_tuple_uint64_uint64_answer_Refusal){.err = {1u, t23}};
         return result;
     }
-    t17 = number_read_byte(source, at_3);
-    t30 = core_ResultTry_branch_tuple_uint64_uint64_answer_Refusal(t17);
-    switch (t30.continue_.tag) {
-    case 0:
-        t13 = t30.continue_.m1;
-        t31 = t13;
-        break;
-    default:
-        t14 = t30.break_.m1;
-        result = core_ResultFromResidualErrResidual_from_residual_tuple(t14);
-        return result;
-    }
-    t29 = t31;
-    c = t29.m0;
-    at_4 = t29.m1;
-    t32 = c == 0ull;
-    if (!t32) {
-        t32 = 128ull <= c;
-        t33 = t32;
-        if (!t33) {
+    t13 = at + 2ull;
+    t24 = source.at + t13;
+    t10 = *(uint8_t *)t24;
+    c = (uint64_t)t10;
+    t25 = c == 0ull;
+    if (!t25) {
+        t25 = 128ull <= c;
+        t26 = t25;
+        if (!t26) {
             goto after2;
         }
     }
-    t34 = (answer_Refusal){answer_Refusal_bad_number};
-    result = (Result_tuple_uint64_uint64_answer_Refusal){.err = {1u, t34}};
+    t27 = (answer_Refusal){answer_Refusal_bad_number};
+    result = (Result_tuple_uint64_uint64_answer_Refusal){.err = {1u, t27}};
     return result;
     goto after1;
 after2:;
 after1:;
-    t35 = a - 128ull;
-    t36 = b - 128ull;
-    t37 = t36 * 128ull;
-    t38 = t35 + t37;
-    t39 = c * 16384ull;
-    t40 = t38 + t39;
-    t41 = (tuple_uint64_uint64){t40, at_4};
-    result = (Result_tuple_uint64_uint64_answer_Refusal){.ok = {0u, t41}};
+    t6 = a - 128ull;
+    t13 = b - 128ull;
+    t28 = t13 * 128ull;
+    t29 = t6 + t28;
+    t30 = c * 16384ull;
+    t31 = t29 + t30;
+    t32 = at + 3ull;
+    t33 = (tuple_uint64_uint64){t31, t32};
+    result = (Result_tuple_uint64_uint64_answer_Refusal){.ok = {0u, t33}};
     return result;
 }
 
-/* number, src/lib.rt:66: The number at a place where a number is known to stand, and the place after it. */
+/* number, src/lib.rt:76: The number at a place where a number is known to stand, and the place after it. */
 INLINE tuple_uint64_uint64 number_known_number(slice source, uint64_t at)
 {
     tuple_uint64_uint64 result, known;
@@ -5833,7 +5826,7 @@ INLINE circuit_round_accepted_Lengths circuit_round_accepted_accepted_round(circ
 
 /* circuit_round, src/lib.rt:21: One round of an end's run: opens every AND whose wires are known and gives its two bits to send, or
  * writes the outputs of a run where none waits. */
-static circuit_run_Rounded circuit_round_round_run(uint8_t role, slice circuit, slice shares, slice triples, slice output, slice far_bits,
+INLINE circuit_run_Rounded circuit_round_round_run(uint8_t role, slice circuit, slice shares, slice triples, slice output, slice far_bits,
     slice bits_out, circuit_run_RoundState state)
 {
     circuit_run_Rounded result;
@@ -8544,7 +8537,7 @@ INLINE Result_uint64_answer_Refusal record_head_head_skip(slice source, uint64_t
 }
 
 /* record_head, src/head.rt:64: g, t, ℓ, n, the code key and the label, after d. */
-static Result_record_Layout_answer_Refusal record_head_head_read_after_depth(slice source, uint64_t at, uint64_t field, uint64_t depth)
+INLINE Result_record_Layout_answer_Refusal record_head_head_read_after_depth(slice source, uint64_t at, uint64_t field, uint64_t depth)
 {
     Result_record_Layout_answer_Refusal result;
     uint64_t all, branch_bits, at_2, trees, at_3, terms, at_4, outputs, at_5, body, t23, t31, t41;
@@ -8667,7 +8660,7 @@ INLINE Result_record_Layout_answer_Refusal record_head_head_read_sizes(slice sou
 
 /* record_head, src/head.rt:94: The head of a record of the end with this byte. A byte and no `End`, as ARCHITECTURE.md names it: the
  * answer is promised for every byte. */
-INLINE Result_record_Layout_answer_Refusal record_head_head_read_head(slice source, uint8_t end)
+static Result_record_Layout_answer_Refusal record_head_head_read_head(slice source, uint8_t end)
 {
     Result_record_Layout_answer_Refusal result;
     uint64_t field, at;
@@ -11373,7 +11366,7 @@ INLINE void ends_calls_accepted_ScalarRecord_write_delta(char *self, slice delta
 }
 
 /* ends_calls, src/scalar.rt:18: Writes the accumulated w0 to the front of w, and the two words of Δ. */
-static answer_TwoLengths ends_calls_scalar_offline(slice source, slice w, slice delta)
+INLINE answer_TwoLengths ends_calls_scalar_offline(slice source, slice w, slice delta)
 {
     answer_TwoLengths result;
     ends_calls_accepted_ScalarRecord record, record_2, t10;
@@ -12489,7 +12482,7 @@ INLINE answer_OneLength ends_bench_accepted_write_scalar(ends_calls_accepted_Sca
 }
 
 /* ends_bench, src/lib.rt:38: Writes the window's outputs: w to the front of w_out. */
-static answer_OneLength ends_bench_scalar_bench(slice source, uint64_t first, uint64_t count, slice w_out)
+INLINE answer_OneLength ends_bench_scalar_bench(slice source, uint64_t first, uint64_t count, slice w_out)
 {
     answer_OneLength result, t8;
     ends_calls_accepted_ScalarRecord accepted, t9;
@@ -13728,7 +13721,7 @@ INLINE record_describe_Described record_describe_noise_head(slice source)
 }
 
 /* record_describe, src/lib.rt:99: The answer for a scalar record. */
-static record_describe_Described record_describe_scalar_head(slice source)
+INLINE record_describe_Described record_describe_scalar_head(slice source)
 {
     record_describe_Described result, t5;
     record_Layout layout;

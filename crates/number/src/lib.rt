@@ -40,26 +40,36 @@ pub fn read_byte(source: &[u8], at: usize) -> Result<(usize, usize), Refusal>
     Ok((source[at] as usize, at + 1))
 }
 
-// The number at a place, and the place after it.
+// The number at a place, and the place after it. It reads its bytes itself: a longer number needs no place after its first byte then, and
+// a loop over numbers takes one branch a turn (docs/DESIGN-PASS.md).
 pub fn read_number(source: &[u8], at: usize) -> Result<(usize, usize), Refusal>
     ensures { number_read result ≡ read_number source.now at }
 {
-    let (a, at) = read_byte(source, at)?;
+    if source.len() <= at {
+        return Err(Refusal::RecordEnds);
+    }
+    let a = source[at] as usize;
     if a < 128 {
-        return Ok((a, at));
+        return Ok((a, at + 1));
     }
-    let (b, at) = read_byte(source, at)?;
-    if b == 0 {
-        return Err(Refusal::BadNumber);
+    if source.len() < at + 2 {
+        return Err(Refusal::RecordEnds);
     }
+    let b = source[at + 1] as usize;
     if b < 128 {
-        return Ok((a - 128 + b * 128, at));
+        if b == 0 {
+            return Err(Refusal::BadNumber);
+        }
+        return Ok((a - 128 + b * 128, at + 2));
     }
-    let (c, at) = read_byte(source, at)?;
+    if source.len() < at + 3 {
+        return Err(Refusal::RecordEnds);
+    }
+    let c = source[at + 2] as usize;
     if c == 0 || 128 <= c {
         return Err(Refusal::BadNumber);
     }
-    Ok((a - 128 + (b - 128) * 128 + c * 16384, at))
+    Ok((a - 128 + (b - 128) * 128 + c * 16384, at + 3))
 }
 
 // The number at a place where a number is known to stand, and the place after it.

@@ -1,58 +1,59 @@
--- `number::read_number` meets its contract: each return gives what the definition says after the bytes read. Assumes nothing.
-use Rattle.std.proofs.Common.{lt-ltb, le-ltb, ne_eqb}
-use Rattle.answer.proofs.Refusals.{passed_on}
-use Rattle.number.specs.Number.{read_number, last_group}
+-- `number::read_number` meets its contract: one law for each return. Assumes nothing.
+use Rattle.std.proofs.Common.{arith, refl, ℕ, ◌+◌, ◌≡◌, List}
+use mathlib.Core.Path.{ap}
+use lib.ListN.{get_or}
+use Rattle.number.proofs.Steps.{ends_0, value_0, ends_1, zero_1, value_1, ends_2, zero_2, value_2, top_bit}
 use Rattle.number.proofs.read_number.Goals as goal
 use Rattle.number.proofs.read_number.Goals.{then-c-eq0-via-then-c-eq0, then-c-eq0-via-else-c-eq0+then-c-ge128}
 
-pub returns-in_err-a : goal.returns-in_err-a
-unfolding read_number
-returns-in_err-a c = rw (passed_on c.from_residual.result c.from_residual.ensures.1, ← c.in_err-a.ensures.value)
+-- the places of the third byte and after it, as the definition counts them
+third : (at : ℕ) → at + 2 ≡ at + 1 + 1
+third at = omega arith
+
+fourth : (at : ℕ) → at + 3 ≡ at + 1 + 1 + 1
+fourth at = omega arith
+
+third-byte : (s : List ℕ) (at : ℕ) → get_or s (at + 2) 0 ≡ get_or s (at + 1 + 1) 0
+third-byte s at = ap (λ (n : ℕ). get_or s n 0) (third at)
+
+pub returns-then-source-at : goal.returns-then-source-at
+returns-then-source-at c = ends_0 _ _ c.if-source-at.true
 
 pub returns-then-a-lt128 : goal.returns-then-a-lt128
-unfolding read_number
-returns-then-a-lt128 c = simp (← c.in_ok-a.ensures.value, lt-ltb _ _ c.if-a-lt128.true)
+returns-then-a-lt128 c = value_0 _ _ c.if-source-at.false refl c.if-a-lt128.true
 
-pub returns-in_err-b : goal.returns-in_err-b
-unfolding read_number
-returns-in_err-b c =
-    rw (passed_on c.from_residual-in_err-b.result c.from_residual-in_err-b.ensures.1)
-    (simp (← c.in_ok-a.ensures.value, le-ltb _ _ c.if-a-lt128.false, ← c.in_err-b.ensures.value))
+pub returns-then-source-at-2 : goal.returns-then-source-at-2
+returns-then-source-at-2 c = ends_1 _ _ c.if-source-at.false refl c.if-a-lt128.false (omega (arith, c.if-source-at-2.true))
 
 pub returns-then-b-eq0 : goal.returns-then-b-eq0
-unfolding read_number last_group
 returns-then-b-eq0 c =
-    simp (← c.in_ok-a.ensures.value, le-ltb _ _ c.if-a-lt128.false, ← c.in_ok-b.ensures.value, c.if-b-eq0.true)
+    zero_1 _ _ c.if-source-at.false refl c.if-a-lt128.false (omega (arith, c.if-source-at-2.false)) refl c.if-b-lt128.true c.if-b-eq0.true
 
 pub returns-then-b-lt128 : goal.returns-then-b-lt128
-unfolding read_number last_group
 returns-then-b-lt128 c =
-    simp (← c.in_ok-a.ensures.value, le-ltb _ _ c.if-a-lt128.false, ← c.in_ok-b.ensures.value, lt-ltb _ _ c.if-b-lt128.true, ne_eqb _ _ c.if-b-eq0.false)
+    rw (third c.args.at)
+    (value_1 _ _ c.if-source-at.false refl c.if-a-lt128.false (omega (arith, c.if-source-at-2.false)) refl c.if-b-lt128.true c.if-b-eq0.false)
 
-pub returns-in_err-c : goal.returns-in_err-c
-unfolding read_number
-returns-in_err-c c =
-    rw (passed_on c.from_residual-in_err-c.result c.from_residual-in_err-c.ensures.1)
-    (simp (← c.in_ok-a.ensures.value, le-ltb _ _ c.if-a-lt128.false, ← c.in_ok-b.ensures.value, le-ltb _ _ c.if-b-lt128.false, ← c.in_err-c.ensures.value))
+pub returns-then-source-at-3 : goal.returns-then-source-at-3
+returns-then-source-at-3 c =
+    ends_2 _ _ c.if-source-at.false refl c.if-a-lt128.false (omega (arith, c.if-source-at-2.false)) refl c.if-b-lt128.false
+    (omega (arith, c.if-source-at-3.true))
 
 pub returns-then-c-eq0 : goal.returns-then-c-eq0
-unfolding read_number last_group
 returns-then-c-eq0 c =
-    simp (← c.in_ok-a.ensures.value, le-ltb _ _ c.if-a-lt128.false, ← c.in_ok-b.ensures.value, le-ltb _ _ c.if-b-lt128.false, ← c.in_ok-c.ensures.value)
-    (elim c.then-c-eq0.branch [
-      | then-c-eq0-via-then-c-eq0 w ↦ simp (w.if-c-eq0.true)
-      | then-c-eq0-via-else-c-eq0+then-c-ge128 w ↦ simp (le-ltb _ _ w.if-c-ge128.true)
-    ])
+    let h = c.if-source-at-3.false in
+    elim c.then-c-eq0.branch [
+      | then-c-eq0-via-then-c-eq0 w ↦
+          zero_2 _ _ c.if-source-at.false refl c.if-a-lt128.false (omega (arith, h)) refl c.if-b-lt128.false (omega (arith, h)) (third-byte c.args.source.now c.args.at)
+          (omega (arith, w.if-c-eq0.true)) w.if-c-eq0.true
+      | then-c-eq0-via-else-c-eq0+then-c-ge128 w ↦
+          top_bit _ _ c.if-source-at.false refl c.if-a-lt128.false (omega (arith, h)) refl c.if-b-lt128.false (omega (arith, h)) (third-byte c.args.source.now c.args.at)
+          w.if-c-ge128.true
+    ]
 
 pub returns : goal.returns
-unfolding read_number last_group
 returns c =
-    simp (
-      ← c.in_ok-a.ensures.value,
-      le-ltb _ _ c.if-a-lt128.false,
-      ← c.in_ok-b.ensures.value,
-      le-ltb _ _ c.if-b-lt128.false,
-      ← c.in_ok-c.ensures.value,
-      lt-ltb _ _ c.if-c-ge128.false,
-      ne_eqb _ _ c.if-c-eq0.false,
-    )
+    let h = c.if-source-at-3.false in
+    rw (fourth c.args.at)
+    (value_2 _ _ c.if-source-at.false refl c.if-a-lt128.false (omega (arith, h)) refl c.if-b-lt128.false (omega (arith, h)) (third-byte c.args.source.now c.args.at)
+    c.if-c-ge128.false c.if-c-eq0.false)
